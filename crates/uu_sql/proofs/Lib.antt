@@ -1,0 +1,5 @@
+pub mod Asks
+pub mod Writes
+pub mod Steps
+pub mod Rows
+pub mod Answers
