@@ -1,10 +1,15 @@
 -- From the answer of a query over one table to THE sorted list of what the table holds.
 use Rattle.std.proofs.Common.{◌≡◌, ℕ, List, [], ◌∷◌, map, Bool, Ordering, Less, refl, sym, ap, subst, ◌∙◌}
-use Rattle.std.specs.Prelude.{filter, OnOk}
+use Rattle.std.specs.Prelude.{filter, OnOk, IfOk, IfErr, IsTrue, Result, Ok, Err, Vec, ◌⊎◌, false}
+use Rattle.std.proofs.Common.{inl, inr}
+use Rattle.std.specs.declared.alloc.Global.{Global}
+use Rattle.sqlite.specs.declared.error.Error.{Error}
+use Rattle.sqlite.specs.Clock.{timed}
 use Rattle.std.specs.List.{list_all}
 use Rattle.std.specs.List.Sorted.{IsPermutation}
 use Rattle.std.proofs.lemmas.List.Sorted.{IsPermutation-map, IsPermutation-trans}
 use Rattle.sqlite.specs.Order.{Row}
+use Rattle.sqlite.specs.declared.types.Value.{Value}
 use Rattle.sqlite.specs.declared.types.Value.TheVariants.{Null}
 use Rattle.sqlite.specs.Tree.{Trees, IsAscending}
 use Rattle.sqlite.specs.Schema.{Schema}
@@ -12,13 +17,14 @@ use Rattle.sqlite.specs.Term.{Term, eval_all, holds}
 use Rattle.sqlite.specs.Query.{Query, IsAnswer, Output, output, output_cmp}
 use Rattle.sqlite.specs.Program.{overlay}
 use Rattle.sqlite.specs.Listing.{understood}
-use Rattle.sqlite.specs.State.{State, Shown, IsUnchanged, Survives, CommitsShowing}
+use Rattle.sqlite.specs.State.{State, HasCleanDisk, Shown, IsUnchanged, IsRolledBack, IsNotRun, FailsToQuery, FailsToShow, Survives, CommitsShowing}
 use Rattle.sqlite.proofs.StateLemmas.{survives_weaker}
 use Rattle.sqlite.proofs.Callers.{IsPlain, reads_as, never_commits}
 use Rattle.sqlite_sql.proofs.QueryLemmas.{output_cmp_total}
 use Rattle.sqlite_value.specs.declared.keys.Key.{Key}
 use Rattle.sqlite_keyed.proofs.ListLemmas.{map-map}
 use Rattle.sqlite_keyed.proofs.SortLemmas.{sorted_unique}
+use Rattle.uu_sql.specs.Steps.{Rests, Asked, Told}
 use Rattle.uu_sql.proofs.Asks.{Means, ordered}
 use Rattle.uu_sql.proofs.Rows.{matched}
 
@@ -36,6 +42,48 @@ module _ (site : Schema) (sql : List ℕ) (q : Query) (names : List (List ℕ)) 
   same_read rows h =
       let bare = subst IsPlain (sym (sym h.1.is ∙ ap (λ s. understood s sql) has)) means.plain in
       (rw (bare.0) at h.2).3
+
+  not_run : (e : Error) → IsNotRun old new sql params e → IsUnchanged old new ⊎ IsRolledBack old new
+  unfolding IsNotRun
+  not_run e (inl none) = inl none.1
+  not_run e (inr failed) = inr failed.3
+
+  -- a question that is refused changes nothing, or ends in a rollback
+  refused : (e : Error) → FailsToQuery sql params old new e → IsUnchanged old new ⊎ IsRolledBack old new
+  unfolding FailsToQuery
+  refused e (inl none) = not_run e none
+  refused e (inr failed) =
+      let bare = subst IsPlain (sym (sym failed.1.is ∙ ap (λ s. understood s sql) has)) means.plain in
+      inl (rw bare.0 at failed.2).3
+
+  was : IsUnchanged old new ⊎ IsRolledBack old new → IsTrue new.is_open → IsTrue old.is_open
+  was (inl same) is_open = same.0.was_open
+  was (inr back) is_open = back.was_open is_open
+
+  rests : IsUnchanged old new ⊎ IsRolledBack old new → Rests old → IsTrue new.is_open → Rests new × (new.now ≡ old.now)
+  rests (inl same) r is_open = (record { is_open = is_open; idle = same.0.mode ∙ r.idle; settled = same.0.now_is ∙ r.settled ∙ sym same.0.committed_is }, same.0.now_is)
+  rests (inr back) r is_open =
+      let undone = back.undone is_open in
+      (record { is_open = is_open; idle = back.autocommit; settled = undone.0 ∙ sym undone.1 }, undone.0 ∙ sym r.settled)
+
+  pub told : (r : Result (Vec (List Value) Global) Error) → (HasCleanDisk new → IfOk r (λ rows. Shown sql params old new rows.items)) → (HasCleanDisk new → IfErr r (FailsToQuery sql params old new))
+      → Survives old new (CommitsShowing sql params old) → Told old new r
+  told (Ok rows) ok err survives = record {
+    asked = record {
+      was_open = λ clean is_open. (same_read rows.items (ok clean)).0.was_open;
+      same = λ clean r is_open. rests (inl (same_read rows.items (ok clean))) r is_open;
+      survives = survives_read survives;
+    };
+    is_open = λ clean. (same_read rows.items (ok clean)).0.is_open;
+  }
+  told (Err e) ok err survives = record {
+    asked = record {
+      was_open = λ clean is_open. was (refused e (err clean)) is_open;
+      same = λ clean r is_open. rests (refused e (err clean)) r is_open;
+      survives = survives_read survives;
+    };
+    is_open = λ clean. tt;
+  }
 
 module _ (t : ℕ) (tests project : List Term) (order : List (Term × Key)) (db : Trees) (params : Row) (rows : List Row) (bare : overlay db [] t ≡ db t)
     (a : IsAnswer (ordered t tests project order) (overlay db []) params rows) where

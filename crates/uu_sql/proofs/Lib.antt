@@ -3,3 +3,4 @@ pub mod Writes
 pub mod Steps
 pub mod Rows
 pub mod Answers
+pub mod Sorted

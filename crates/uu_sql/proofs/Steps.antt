@@ -95,6 +95,7 @@ module _ (site : Schema) {S : Type 0} (g : Ghosts S) (A : Trees → Trees → Ty
         let b = back clean in
         let kept = h.kept (omega (arith, over.clean)) refl stands (b.was_open is_open) in ((b.undone is_open).0 ∙ kept, (b.undone is_open).1 ∙ kept)) clean);
     survives = survives_then was last end (λ _. ⊥) (λ _. ⊥) After (λ _ db none. absurd none) (λ _ db none. absurd none) (survives_begin g old last (λ _. ⊥) h.survives) over;
+    idle = ended;
   }
 
   pub committed : (r : Result (Unit {0}) Error) → Inside site A begun last → Survives last end (λ db. db ≡ last.now.trees)
@@ -105,6 +106,7 @@ module _ (site : Schema) {S : Type 0} (g : Ghosts S) (A : Trees → Trees → Ty
     survives = survives_then was last end (λ _. ⊥) (λ db. db ≡ last.now.trees) After (λ _ db none. absurd none)
         (λ clean db is. let went = h.goes (omega (arith, over.clean)) refl stands in (subst (A was.now.trees) (sym is) went.step, subst (IsSound site) (sym is) went.stands.sound))
         (survives_begin g old last (λ _. ⊥) h.survives) over;
+    idle = ended;
   }
     where
       each : (r : Result (Unit {0}) Error) → Went site A begun last → OnOk r (IsTrue last.in_transaction × Shows last end last.now last.now false × KeepsCounts last end × (end.marks ≡ []))

@@ -1,5 +1,5 @@
 -- What a call does inside a transaction, what a whole transaction does, and what a stop leaves of it.
-use Rattle.std.specs.Prelude.{◌≡◌, ◌⊎◌, true, false, IsTrue, Result, Ok, Err}
+use Rattle.std.specs.Prelude.{◌≡◌, ◌⊎◌, true, false, IsTrue, OnOk, Result, Ok, Err}
 use Rattle.sqlite.specs.Schema.{Schema}
 use Rattle.sqlite.specs.Tree.{Trees}
 use Rattle.sqlite.specs.Effect.{Database, IsDatabase}
@@ -64,3 +64,15 @@ Ends site Step old new (Err e) = Undid old new
 pub record Whole {T E : Type 0} (site : Schema) (Step : Trees → Trees → Type 0) (old new : State) (r : Result T E) : Type 0 where
   pub ends : HasCleanDisk new → Ends site Step old new r
   pub survives : Survives old new (λ db. Step old.now.trees db × IsSound site db)
+  pub idle : new.in_transaction ≡ false
+
+-- a question: it commits nothing, and while the connection answers it shows what it showed
+pub record Asked (old new : State) : Type 0 where
+  pub was_open : HasCleanDisk new → IsTrue new.is_open → IsTrue old.is_open
+  pub same : HasCleanDisk new → Rests old → IsTrue new.is_open → Rests new × (new.now ≡ old.now)
+  pub survives : Survives old new (λ _. ⊥)
+
+-- a question that was answered leaves the connection open
+pub record Told {T E : Type 0} (old new : State) (r : Result T E) : Type 0 where
+  pub asked : Asked old new
+  pub is_open : HasCleanDisk new → OnOk r (IsTrue new.is_open)
