@@ -1,2 +1,4 @@
 pub mod Texts
 pub mod Added
+pub mod States
+pub mod Answered

@@ -1,5 +1,5 @@
 -- What a database encodes, and what a spool shows.
-use Rattle.std.specs.Prelude.{◌≡◌, ◌⊎◌, ℕ, pos, List, [], ◌∷◌, ◌++◌, map}
+use Rattle.std.specs.Prelude.{◌≡◌, ◌⊎◌, ◌≤◌, ℕ, pos, List, [], ◌∷◌, ◌++◌, map, IsTrue, Result, IfOk, OnErr}
 use Rattle.std.specs.List.Sorted.{IsPermutation}
 use Rattle.sqlite.specs.declared.types.Value.TheVariants.{Int, Text, Blob}
 use Rattle.sqlite.specs.Order.{Row, column}
@@ -7,13 +7,17 @@ use Rattle.sqlite.specs.Tree.{Trees}
 use Rattle.sqlite.specs.Effect.{Database}
 use Rattle.sqlite.specs.State as db
 use Rattle.sqlite_catalog.specs.Listing.{IsSound}
-use Rattle.uu_sql.specs.Steps.{Stands}
+use Rattle.sqlite.specs.View.{doubt}
+use Rattle.sqlite.specs.declared.error.Error.{Error}
+use Rattle.uu_sql.specs.Steps.{Stands, Rests}
+use Rattle.uu_store.specs.declared.command.Command.{Command}
+use Rattle.uu_store.specs.declared.command.Reply.{Reply}
 use Rattle.uu_store.specs.declared.job.JobHead.{JobHead}
 use Rattle.uu_store.specs.declared.job.Kind.{Kind}
 use Rattle.uu_store.specs.declared.job.Kind.TheVariants.{Send, Request}
 use Rattle.uu_store.specs.Schema.{site}
 use Rattle.uu_store.specs.Rows.{JobRow, job_row, spool_row, system_cells}
-use Rattle.uu_store.specs.Machine.{Job, State, IsWellFormed}
+use Rattle.uu_store.specs.Machine.{Job, State, IsWellFormed, after, reply_of}
 
 -- ---- a job as a row
 
@@ -80,3 +84,12 @@ Leaves now s = (db : Trees) → now.may_leave db → IsSound site db × Holds db
 -- a stop may leave only what encodes the one state or the other
 abbrev pub LeavesEither : db.State → State → State → Type 0
 LeavesEither now s t = (db : Trees) → now.may_leave db → IsSound site db × (Holds db s ⊎ Holds db t)
+
+-- ---- what a call does
+
+-- a command is one step of the machine, or nothing; and what a stop may leave beside what it could leave before is the state after
+pub record Obeys (s : State) (command : Command) (old new : db.State) (r : Result Reply Error) : Type 0 where
+  pub ok : db.HasCleanDisk new → Rests old → Encodes old.now s → IfOk r (λ reply. (reply ≡ reply_of s command) × Rests new × Encodes new.now (after s command))
+  pub err : db.HasCleanDisk new → Rests old → Encodes old.now s → OnErr r (IsTrue new.is_open → Rests new × Encodes new.now s)
+  pub stop : db.HasCleanDisk new → Encodes old.now s → (trees : Trees) → new.may_leave trees → old.may_leave trees ⊎ (IsSound site trees × Holds trees (after s command))
+  pub clean : doubt old.is_clean ≤ doubt new.is_clean
