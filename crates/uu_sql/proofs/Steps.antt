@@ -140,6 +140,9 @@ module _ (site : Schema) {T E : Type 0} (a b : State) (r : Result T E) where
         (λ clean db never ready. never (told_same ok p (omega (arith, q.survives.clean)) ready).0) p.asked.survives q.survives;
   }
 
+  pub told_told : {U F : Type 0} (c : State) (s : Result U F) → IsOk r → Told site a b r → Told site b c s → Told site a c s
+  told_told c s ok p q = record { asked = told_then c ok p q.asked; is_open = λ clean ready. q.is_open clean (told_same ok p (omega (arith, q.asked.survives.clean)) ready).0 }
+
   -- the answer is read, or not
   pub told_also : {U F : Type 0} (s : Result U F) → IsOk r → Told site a b r → Told site a b s
   told_also (Ok y) ok told = record { asked = told.asked; is_open = λ clean ready. opened r (IsTrue b.is_open) ok (told.is_open clean ready) }

@@ -2,3 +2,4 @@ pub mod Texts
 pub mod Added
 pub mod States
 pub mod Answered
+pub mod Obeying

@@ -87,9 +87,10 @@ LeavesEither now s t = (db : Trees) → now.may_leave db → IsSound site db × 
 
 -- ---- what a call does
 
--- a command is one step of the machine, or nothing; and what a stop may leave beside what it could leave before is the state after
+-- A command is one step of the machine, or nothing. A stop at its end may leave what it could leave before, and beside
+-- that only the state after.
 pub record Obeys (s : State) (command : Command) (old new : db.State) (r : Result Reply Error) : Type 0 where
   pub ok : db.HasCleanDisk new → Rests old → Encodes old.now s → IfOk r (λ reply. (reply ≡ reply_of s command) × Rests new × Encodes new.now (after s command))
   pub err : db.HasCleanDisk new → Rests old → Encodes old.now s → OnErr r (IsTrue new.is_open → Rests new × Encodes new.now s)
-  pub stop : db.HasCleanDisk new → Encodes old.now s → (trees : Trees) → new.may_leave trees → old.may_leave trees ⊎ (IsSound site trees × Holds trees (after s command))
+  pub stop : db.HasCleanDisk new → Rests old → Encodes old.now s → (trees : Trees) → new.may_leave trees → old.may_leave trees ⊎ (IsSound site trees × Holds trees (after s command))
   pub clean : doubt old.is_clean ≤ doubt new.is_clean

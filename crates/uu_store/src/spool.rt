@@ -1,5 +1,12 @@
 // The spool over one connection.
-ghost use Rattle.std.specs.Prelude.{◌≡◌, false};
+ghost use Rattle.std.specs.Prelude.{◌≡◌, false, IfOk, ℕ, pos, [], ◌∷◌};
+ghost use Rattle.sqlite.specs.declared.types.Value.TheVariants.{Int};
+ghost use Rattle.sqlite.specs.Held.{state};
+ghost use Rattle.sqlite.specs.State.{HasCleanDisk};
+ghost use Rattle.uu_sql.specs.Steps.{Told};
+ghost use Rattle.uu_store.specs.Schema.{site};
+ghost use Rattle.uu_store.specs.Machine.{is_known};
+ghost use Rattle.uu_store.specs.Encoded.{Encodes, Obeys};
 
 use crate::command::{Command, Reply};
 use crate::decision::decide_queue;
@@ -8,7 +15,7 @@ use crate::job::{JobHead, NewJob};
 use crate::rows::{heads_in, job_in};
 use crate::statements::{add_job, add_system, ask_job, ask_jobs, ask_next, ask_system};
 use crate::times::SystemDef;
-use sqlite::{Alter, Connection, Error};
+use sqlite::{Alter, Connection, Error, Row};
 use std::alloc::Global;
 
 /// A spool, over a connection that it owns.
@@ -21,25 +28,37 @@ pub struct Spool<S: Alter> {
 // Whether a system of this name is there.
 fn is_known<S: Alter>(conn: &mut Connection<S>, name: &str) -> Result<bool, Error>
     ensures idle { conn.old.in_transaction ≡ false → conn.new.in_transaction ≡ false }
+    ensures told { Told site (state S.Store conn.old) (state S.Store conn.new) result }
+    ensures known { HasCleanDisk (state S.Store conn.new) → (s : _) → Encodes (state S.Store conn.old).now s → IfOk result (λ known. known ≡ is_known s name.now) }
 {
     let rows = ask_system(conn, name)?;
     Ok(!rows.is_empty())
 }
 
-// The next number. A table without it is no spool's.
-fn next_number<S: Alter>(conn: &mut Connection<S>) -> Result<u32, Error>
-    ensures idle { conn.old.in_transaction ≡ false → conn.new.in_transaction ≡ false }
+// The number that the rows of the question show. No row is no spool's.
+fn next_in(rows: &[Row]) -> Result<u32, Error>
+    ensures { IfOk result (λ next. (n : ℕ) → rows.now ≡ (Int (pos n) ∷ []) ∷ [] → next ≡ n) }
 {
-    let rows = ask_next(conn)?;
-    match rows.as_slice().first() {
+    match rows.first() {
         Some(row) => row.get(0),
         None => Err(Error::QueryReturnedNoRows),
     }
 }
 
+// The next number.
+fn next_number<S: Alter>(conn: &mut Connection<S>) -> Result<u32, Error>
+    ensures idle { conn.old.in_transaction ≡ false → conn.new.in_transaction ≡ false }
+    ensures told { Told site (state S.Store conn.old) (state S.Store conn.new) result }
+    ensures next { HasCleanDisk (state S.Store conn.new) → (s : _) → Encodes (state S.Store conn.old).now s → IfOk result (λ next. next ≡ s.next) }
+{
+    let rows = ask_next(conn)?;
+    next_in(rows.as_slice())
+}
+
 fn define<S: Alter>(conn: &mut Connection<S>, system: &SystemDef) -> Result<Reply, Error>
     requires { conn.old.in_transaction ≡ false }
     ensures idle { conn.new.in_transaction ≡ false }
+    ensures obeys { (s : _) → Obeys s (Command.Define system.now) (state S.Store conn.old) (state S.Store conn.new) result }
 {
     if !is_known(conn, system.name.as_str())? {
         add_system(conn, system.name.as_str())?;
@@ -50,6 +69,7 @@ fn define<S: Alter>(conn: &mut Connection<S>, system: &SystemDef) -> Result<Repl
 fn queue<S: Alter>(conn: &mut Connection<S>, job: &NewJob) -> Result<Reply, Error>
     requires { conn.old.in_transaction ≡ false }
     ensures idle { conn.new.in_transaction ≡ false }
+    ensures obeys { (s : _) → Obeys s (Command.Queue job.now) (state S.Store conn.old) (state S.Store conn.new) result }
 {
     let known = is_known(conn, job.system.as_str())?;
     let next = next_number(conn)?;
