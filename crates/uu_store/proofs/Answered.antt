@@ -66,9 +66,9 @@ system_rows old new s name rows enc h =
     let same : filter p (map system_cells (trees 1)) ≡ map system_cells (filter passes (trees 1)) = filter-map p system_cells (trees 1) in
     let from : filter p (map cells s.systems) ≡ map cells (filter (λ n. p (cells n)) s.systems) = filter-map p cells s.systems in
     let lengths : length rows ≡ length (filter (λ n. bytes_eq n name) s.systems) =
-        length_permutation _ _ moved ∙ length-map (filter passes (trees 1)) _ ∙ sym (length-map (filter passes (trees 1)) system_cells) ∙ ap length (sym same)
-        ∙ length_permutation _ _ (IsPermutation-filter p _ _ enc.holds.systems) ∙ ap length from ∙ length-map (filter (λ n. p (cells n)) s.systems) cells
-        ∙ ap length (filter_same (λ n. p (cells n)) (λ n. bytes_eq n name) test s.systems) in
+    length_permutation _ _ moved ∙ length-map (filter passes (trees 1)) _ ∙ sym (length-map (filter passes (trees 1)) system_cells) ∙ ap length (sym same)
+    ∙ length_permutation _ _ (IsPermutation-filter p _ _ enc.holds.systems) ∙ ap length from ∙ length-map (filter (λ n. p (cells n)) s.systems) cells
+    ∙ ap length (filter_same (λ n. p (cells n)) (λ n. bytes_eq n name) test s.systems) in
     ap (λ n. nat_eq n 0) lengths ∙ none_counted (λ n. bytes_eq n name) s.systems
 
 -- ---- the jobs
@@ -102,8 +102,8 @@ jobs_rows old new s rows enc h =
     let order = up (col 1 3) ∷ up (col 1 0) ∷ [] in
     let q : Query = ordered 3 [] head_terms order in
     let is : (x y : Job) → output_cmp q (output q ([] ∷ row_of x ∷ [])) (output q ([] ∷ row_of y ∷ [])) ≡ by_rank x y = λ x y.
-        then_key (value_cmp-Int (pos x.head.grade) (pos y.head.grade)) (last_key (value_cmp-Int (pos x.head.number) (pos y.head.number)))
-        ∙ ap₂ ordering_then (int_cmp-nat x.head.grade y.head.grade) (int_cmp-nat x.head.number y.head.number) in
+    then_key (value_cmp-Int (pos x.head.grade) (pos y.head.grade)) (last_key (value_cmp-Int (pos x.head.number) (pos y.head.number)))
+    ∙ ap₂ ordering_then (int_cmp-nat x.head.grade y.head.grade) (int_cmp-nat x.head.number y.head.number) in
     answer_sorted 3 [] head_terms order trees [] rows refl a s.jobs row_of by_rank is (ascending_weaker _ (λ x y. is_eq (by_rank x y) ≡ false) apart s.jobs enc.holds.good.rises) (subst (IsPermutation (map row_of s.jobs)) (all_stay (trees 3)) enc.holds.jobs)
 
 int_eq-nat : (a b : ℕ) → int_eq (pos a) (pos b) ≡ (a == b)
@@ -122,10 +122,10 @@ job_rows old new s n rows enc h =
     let test : (j : Job) → passes (row_of j) ≡ has_number n j = λ j. last_term (at_ints false Eq (pos j.head.number) (pos n)) ∙ int_eq-nat j.head.number n in
     let found : filter passes (map row_of s.jobs) ≡ map row_of (filter (has_number n) s.jobs) = filter-map passes row_of s.jobs ∙ ap (map row_of) (filter_same (λ j. passes (row_of j)) (has_number n) test s.jobs) in
     let less : (x y : Job) → x.head.number < y.head.number → output_cmp q (out x) (out y) ≡ Less = λ x y h.
-        last_key (value_cmp-Int (pos x.head.number) (pos y.head.number)) ∙ int_cmp-nat x.head.number y.head.number ∙ below_is x.head.number y.head.number h in
+    last_key (value_cmp-Int (pos x.head.number) (pos y.head.number)) ∙ int_cmp-nat x.head.number y.head.number ∙ below_is x.head.number y.head.number h in
     let strict : IsAscending (λ x y. output_cmp q x y ≡ Less) (map out (filter (has_number n) s.jobs)) =
-        ascending-map (λ x y. output_cmp q x y ≡ Less) out _ (ascending_weaker _ (λ x y. output_cmp q (out x) (out y) ≡ Less) less _ (ascending-filter _ (has_number n) s.jobs enc.holds.good.rises)) in
+    ascending-map (λ x y. output_cmp q x y ≡ Less) out _ (ascending_weaker _ (λ x y. output_cmp q (out x) (out y) ≡ Less) less _ (ascending-filter _ (has_number n) s.jobs enc.holds.good.rises)) in
     let rows_same : IsPermutation (map row_of (filter (has_number n) s.jobs)) (filter passes (trees 3)) = subst (λ l. IsPermutation l (filter passes (trees 3))) found (IsPermutation-filter passes _ _ enc.holds.jobs) in
     let same : IsPermutation (map out (filter (has_number n) s.jobs)) (map (λ r. output q (params ∷ r ∷ [])) (filter passes (trees 3))) =
-        subst (λ l. IsPermutation l (map (λ r. output q (params ∷ r ∷ [])) (filter passes (trees 3)))) (map-map (λ r. output q (params ∷ r ∷ [])) row_of _) (IsPermutation-map (λ r. output q (params ∷ r ∷ [])) _ _ rows_same) in
+    subst (λ l. IsPermutation l (map (λ r. output q (params ∷ r ∷ [])) (filter passes (trees 3)))) (map-map (λ r. output q (params ∷ r ∷ [])) row_of _) (IsPermutation-map (λ r. output q (params ∷ r ∷ [])) _ _ rows_same) in
     answer_only 3 tests whole_terms order trees params rows refl a (map out (filter (has_number n) s.jobs)) strict same ∙ map-map (λ (o : Output). o.1) out (filter (has_number n) s.jobs)

@@ -3,3 +3,5 @@ pub mod Added
 pub mod States
 pub mod Answered
 pub mod Obeying
+pub mod Turning
+pub mod Shown

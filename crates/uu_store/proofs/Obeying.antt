@@ -24,10 +24,10 @@ use Rattle.uu_store.specs.Machine.{State, after, reply_of, is_known, with_name, 
 use Rattle.uu_store.specs.Encoded.{stored, Holds, Encodes, Obeys}
 use Rattle.uu_store.proofs.States.{holds_queue}
 
-ready : (s : State) (a : db.State) → Rests a → Encodes a.now s → Ready site a
+pub ready : (s : State) (a : db.State) → Rests a → Encodes a.now s → Ready site a
 ready s a rests enc = record { rests = rests; stands = enc.stands }
 
-moved : (s : State) (a b : Database) → b ≡ a → Encodes a s → Encodes b s
+pub moved : (s : State) (a b : Database) → b ≡ a → Encodes a s → Encodes b s
 moved s a b same enc = subst (λ d. Encodes d s) (sym same) enc
 
 module _ (s : State) (command : Command) (a b : db.State) where

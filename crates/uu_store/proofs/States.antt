@@ -79,7 +79,7 @@ holds_system s name old db h new added =
     let one : IsPermutation (map name_cells (with_name name s.systems)) (map name_cells (name ∷ s.systems)) = IsPermutation-map name_cells _ _ (IsPermutation-insert_sorted by_bytes name s.systems) in
     let two : IsPermutation (name_cells name ∷ map name_cells s.systems) (name_cells name ∷ map system_cells (old 1)) = IsPermutation-cons (name_cells name) _ _ h.systems in
     let three : IsPermutation (map system_cells (added.id ∷ old 1)) (map system_cells (db 1)) =
-        subst (λ rs. IsPermutation (map system_cells (added.id ∷ old 1)) (map system_cells rs)) (sym added.systems) (IsPermutation-map system_cells _ _ (put_permutes added.id (old 1) added.fresh)) in
+    subst (λ rs. IsPermutation (map system_cells (added.id ∷ old 1)) (map system_cells rs)) (sym added.systems) (IsPermutation-map system_cells _ _ (put_permutes added.id (old 1) added.fresh)) in
     record {
       spool = added.spool ∙ h.spool;
       systems = IsPermutation-trans _ _ _ one (IsPermutation-trans _ _ _ two (subst (λ c. IsPermutation (c ∷ map system_cells (old 1)) (map system_cells (db 1))) added.row three));

@@ -2,7 +2,7 @@ use Rattle.std.proofs.Common.{◌≡◌, refl, ap, ◌∙◌, sym, ℕ, Bool, tr
 use Rattle.std.specs.Prelude.{not}
 use Rattle.sqlite.specs.Held.{state}
 use Rattle.uu_store.proofs.Answered.{system_rows}
-use Rattle.uu_store.proofs.spool.is_known.Goals as goal
+use Rattle.uu_store.proofs.asked.is_known.Goals as goal
 
 not_not : (b : Bool) → not (not b) ≡ b
 not_not true = refl

@@ -10,7 +10,7 @@ use Rattle.uu_store.specs.Machine.{State, is_known, after}
 use Rattle.uu_store.specs.Encoded.{Encodes, Holds}
 use Rattle.uu_store.proofs.States.{holds_system}
 use Rattle.uu_store.proofs.Obeying.{obeys_wrote, obeys_unwritten, answered, failed, unknown, defined}
-use Rattle.uu_store.proofs.spool.define.Goals as goal
+use Rattle.uu_store.proofs.asked.define.Goals as goal
 
 pub returns-in_err-add_system-clause-obeys : goal.returns-in_err-add_system-clause-obeys
 returns-in_err-add_system-clause-obeys g c s =
@@ -18,7 +18,7 @@ returns-in_err-add_system-clause-obeys g c s =
     let a = state g.S.Store c.args.conn.now in
     let b = state g.S.Store c.is_known.new.conn in
     let new : HasCleanDisk b → Encodes a.now s → is_known s system.name ≡ false = λ clean enc.
-        unknown c.in_ok-is_known.field-0 (is_known s system.name) c.if-not-branch.true (c.in_ok-is_known.ensures.known clean s enc ∙ ap (is_known s) c.as_str.ensures.text) in
+    unknown c.in_ok-is_known.field-0 (is_known s system.name) c.if-not-branch.true (c.in_ok-is_known.ensures.known clean s enc ∙ ap (is_known s) c.as_str.ensures.text) in
     obeys_unwritten s (Define system) a b (state g.S.Store c.add_system.new.conn) c.is_known.result (answered _ _ c.in_ok-is_known.was) c.is_known.ensures.told (SystemAdded system.name) c.add_system.result
     (rw c.as_str-then-not-branch.ensures.text at c.add_system.ensures.whole)
     (λ clean rests enc next step. defined s system next (new clean enc) (holds_system s system.name a.now.trees next enc.holds (new clean enc) step))
@@ -30,7 +30,7 @@ returns-in_ok-add_system-clause-obeys g c s =
     let a = state g.S.Store c.args.conn.now in
     let b = state g.S.Store c.is_known.new.conn in
     let new : HasCleanDisk b → Encodes a.now s → is_known s system.name ≡ false = λ clean enc.
-        unknown c.in_ok-is_known.field-0 (is_known s system.name) c.if-not-branch.true (c.in_ok-is_known.ensures.known clean s enc ∙ ap (is_known s) c.as_str.ensures.text) in
+    unknown c.in_ok-is_known.field-0 (is_known s system.name) c.if-not-branch.true (c.in_ok-is_known.ensures.known clean s enc ∙ ap (is_known s) c.as_str.ensures.text) in
     obeys_wrote s (Define system) a b (state g.S.Store c.add_system.new.conn) c.is_known.result (answered _ _ c.in_ok-is_known.was) c.is_known.ensures.told (SystemAdded system.name) c.add_system.result
     (rw c.as_str-then-not-branch.ensures.text at c.add_system.ensures.whole)
     (λ clean rests enc next step. defined s system next (new clean enc) (holds_system s system.name a.now.trees next enc.holds (new clean enc) step))

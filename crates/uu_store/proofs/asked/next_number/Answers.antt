@@ -2,7 +2,7 @@ use Rattle.std.proofs.Common.{◌≡◌, ◌∙◌}
 use Rattle.std.proofs.lemmas.Result.{IfOk-weaker}
 use Rattle.sqlite.specs.Held.{state}
 use Rattle.uu_store.proofs.Answered.{next_rows}
-use Rattle.uu_store.proofs.spool.next_number.Goals as goal
+use Rattle.uu_store.proofs.asked.next_number.Goals as goal
 
 pub returns-clause-next : goal.returns-clause-next
 returns-clause-next g c clean s enc =
