@@ -12,10 +12,10 @@ pub record Stands (site : Schema) (db : Database) : Type 0 where
   pub sound : IsSound site db.trees
 
 -- the transaction goes on, and its trees took this step
-pub record Went (site : Schema) (Step : Trees → Trees → Type 0) (old new : State) : Type 0 where
+pub record Went (to : Schema) (Step : Trees → Trees → Type 0) (old new : State) : Type 0 where
   pub inside : new.in_transaction ≡ true
   pub committed : new.committed ≡ old.committed
-  pub stands : Stands site new.now
+  pub stands : Stands to new.now
   pub step : Step old.now.trees new.now.trees
 
 -- one step and then another
@@ -24,19 +24,19 @@ pub record Both (First Second : Trees → Trees → Type 0) (old new : Trees) : 
   pub first : First old mid
   pub second : Second mid new
 
--- inside a transaction on such a database the call took the step, and it committed nothing
-pub record Inside (site : Schema) (Step : Trees → Trees → Type 0) (old new : State) : Type 0 where
-  pub goes : HasCleanDisk new → IsTrue old.in_transaction → Stands site old.now → Went site Step old new
+-- inside a transaction on a database of the first schema the call took the step, to one of the second, and it committed nothing
+pub record Inside (from to : Schema) (Step : Trees → Trees → Type 0) (old new : State) : Type 0 where
+  pub goes : HasCleanDisk new → IsTrue old.in_transaction → Stands from old.now → Went to Step old new
   pub survives : Survives old new (λ _. ⊥)
 
 -- the call was refused, and what was committed stays
-pub record Halted (site : Schema) (old new : State) : Type 0 where
-  pub kept : HasCleanDisk new → IsTrue old.in_transaction → Stands site old.now → IsTrue new.is_open → new.committed ≡ old.committed
+pub record Halted (from : Schema) (old new : State) : Type 0 where
+  pub kept : HasCleanDisk new → IsTrue old.in_transaction → Stands from old.now → IsTrue new.is_open → new.committed ≡ old.committed
   pub survives : Survives old new (λ _. ⊥)
 
-abbrev pub Outcome : {T E : Type 0} → Schema → (Trees → Trees → Type 0) → State → State → Result T E → Type 0
-Outcome site Step old new (Ok x) = Inside site Step old new
-Outcome site Step old new (Err e) = Halted site old new
+abbrev pub Outcome : {T E : Type 0} → Schema → Schema → (Trees → Trees → Type 0) → State → State → Result T E → Type 0
+Outcome from to Step old new (Ok x) = Inside from to Step old new
+Outcome from to Step old new (Err e) = Halted from old new
 
 -- no transaction is open, the connection answers, and what it shows is what was committed
 pub record Rests (s : State) : Type 0 where
@@ -45,9 +45,9 @@ pub record Rests (s : State) : Type 0 where
   pub settled : s.now ≡ s.committed
 
 -- the step is committed, and a stop leaves that alone
-pub record Did (site : Schema) (Step : Trees → Trees → Type 0) (old new : State) : Type 0 where
+pub record Did (to : Schema) (Step : Trees → Trees → Type 0) (old new : State) : Type 0 where
   pub rests : Rests new
-  pub stands : Stands site new.now
+  pub stands : Stands to new.now
   pub step : Step old.now.trees new.now.trees
   pub left : (db : Trees) → new.may_leave db → db ≡ new.now.trees
 
@@ -57,13 +57,13 @@ pub record Undid (old new : State) : Type 0 where
   pub left : IsTrue new.is_open → (db : Trees) → new.may_leave db → db ≡ old.committed.trees
 
 abbrev pub Ends : {T E : Type 0} → Schema → (Trees → Trees → Type 0) → State → State → Result T E → Type 0
-Ends site Step old new (Ok x) = Did site Step old new
-Ends site Step old new (Err e) = Undid old new
+Ends to Step old new (Ok x) = Did to Step old new
+Ends to Step old new (Err e) = Undid old new
 
 -- a whole transaction: how it ends, and what a stop at its end may leave beside what it could leave before
-pub record Whole {T E : Type 0} (site : Schema) (Step : Trees → Trees → Type 0) (old new : State) (r : Result T E) : Type 0 where
-  pub ends : HasCleanDisk new → Stands site old.now → Ends site Step old new r
-  pub survives : Survives old new (λ db. Stands site old.now → Step old.now.trees db × IsSound site db)
+pub record Whole {T E : Type 0} (from to : Schema) (Step : Trees → Trees → Type 0) (old new : State) (r : Result T E) : Type 0 where
+  pub ends : HasCleanDisk new → Stands from old.now → Ends to Step old new r
+  pub survives : Survives old new (λ db. Stands from old.now → Step old.now.trees db × IsSound to db)
   pub idle : new.in_transaction ≡ false
 
 -- a connection at rest on a database of this schema

@@ -1,5 +1,6 @@
 pub mod Texts
 pub mod Added
+pub mod Made
 pub mod States
 pub mod Answered
 pub mod Obeying

@@ -52,7 +52,7 @@ module _ (s : State) (command : Command) (a b : db.State) where
     clean = told.asked.survives.clean;
   }
 
-  module _ (c : db.State) {T E : Type 0} (q : Result T E) (ok : IsOk q) (told : Told site a b q) (Step : Trees → Trees → Type 0) {U F : Type 0} (w : Result U F) (whole : Whole site Step b c w)
+  module _ (c : db.State) {T E : Type 0} (q : Result T E) (ok : IsOk q) (told : Told site a b q) (Step : Trees → Trees → Type 0) {U F : Type 0} (w : Result U F) (whole : Whole site site Step b c w)
       (means : db.HasCleanDisk b → Rests a → Encodes a.now s → (next : Trees) → Step a.now.trees next → Holds next (after s command)) where
     between : db.HasCleanDisk c → db.HasCleanDisk b
     between clean = omega (arith, whole.survives.clean)
