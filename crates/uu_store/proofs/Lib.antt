@@ -7,3 +7,4 @@ pub mod Obeying
 pub mod Turning
 pub mod Shown
 pub mod Ending
+pub mod Begun
