@@ -1,0 +1,119 @@
+-- From the answer of a query over one table to THE sorted list of what the table holds.
+use Rattle.std.proofs.Common.{◌≡◌, ℕ, List, [], ◌∷◌, map, Bool, Ordering, Less, refl, sym, ap, subst, ◌∙◌}
+use Rattle.std.specs.Prelude.{filter, OnOk, IfOk, IfErr, IsTrue, Result, Ok, Err, Vec, ◌⊎◌, false}
+use Rattle.std.proofs.Common.{inl, inr}
+use Rattle.std.specs.declared.alloc.Global.{Global}
+use Rattle.sqlite.specs.declared.error.Error.{Error}
+use Rattle.sqlite.specs.Clock.{timed}
+use Rattle.std.specs.List.{list_all}
+use Rattle.std.specs.List.Sorted.{IsPermutation}
+use Rattle.std.proofs.lemmas.List.Sorted.{IsPermutation-map, IsPermutation-trans}
+use Rattle.sqlite.specs.Order.{Row}
+use Rattle.sqlite.specs.declared.types.Value.{Value}
+use Rattle.sqlite.specs.declared.types.Value.TheVariants.{Null}
+use Rattle.sqlite.specs.Tree.{Trees, IsAscending}
+use Rattle.sqlite.specs.Schema.{Schema}
+use Rattle.sqlite.specs.Term.{Term, eval_all, holds}
+use Rattle.sqlite.specs.Query.{Query, IsAnswer, Output, output, output_cmp}
+use Rattle.sqlite.specs.Program.{overlay}
+use Rattle.sqlite.specs.Listing.{understood}
+use Rattle.sqlite.specs.State.{State, HasCleanDisk, Shown, IsUnchanged, IsRolledBack, IsNotRun, FailsToQuery, FailsToShow, Survives, CommitsShowing}
+use Rattle.sqlite.proofs.StateLemmas.{survives_weaker}
+use Rattle.sqlite.proofs.Callers.{IsPlain, reads_as, never_commits}
+use Rattle.sqlite_sql.proofs.QueryLemmas.{output_cmp_total}
+use Rattle.sqlite_value.specs.declared.keys.Key.{Key}
+use Rattle.sqlite_keyed.proofs.ListLemmas.{map-map}
+use Rattle.sqlite_keyed.proofs.SortLemmas.{sorted_unique}
+use Rattle.uu_sql.specs.Steps.{Rests, Asked, Told}
+use Rattle.uu_sql.proofs.Asks.{Means, ordered}
+use Rattle.uu_sql.proofs.Rows.{matched}
+
+module _ (site : Schema) (sql : List ℕ) (q : Query) (names : List (List ℕ)) (params : Row) (old new : State) (means : Means site sql q names) (has : old.now.schema ≡ site) where
+  -- what a query by text answers, as its meaning
+  pub answer_of : (rows : List Row) → Shown sql params old new rows → IsAnswer q (overlay old.now.trees []) params rows
+  answer_of rows h = let it = reads_as sql params old new site has _ means.command means.plain means.listing rows h in it.answer Null
+
+  -- it commits nothing, and changes nothing
+  pub survives_read : Survives old new (CommitsShowing sql params old) → Survives old new (λ _. ⊥)
+  survives_read = survives_weaker old new _ _ (λ _ db. never_commits sql params old db (subst (λ s. IsPlain (understood s sql)) (sym has) means.plain))
+
+  pub same_read : (rows : List Row) → Shown sql params old new rows → IsUnchanged old new
+  unfolding Shown
+  same_read rows h =
+      let bare = subst IsPlain (sym (sym h.1.is ∙ ap (λ s. understood s sql) has)) means.plain in
+      (rw (bare.0) at h.2).3
+
+  not_run : (e : Error) → IsNotRun old new sql params e → IsUnchanged old new ⊎ IsRolledBack old new
+  unfolding IsNotRun
+  not_run e (inl none) = inl none.1
+  not_run e (inr failed) = inr failed.3
+
+  -- a question that is refused changes nothing, or ends in a rollback
+  refused : (e : Error) → FailsToQuery sql params old new e → IsUnchanged old new ⊎ IsRolledBack old new
+  unfolding FailsToQuery
+  refused e (inl none) = not_run e none
+  refused e (inr failed) =
+      let bare = subst IsPlain (sym (sym failed.1.is ∙ ap (λ s. understood s sql) has)) means.plain in
+      inl (rw bare.0 at failed.2).3
+
+  was : IsUnchanged old new ⊎ IsRolledBack old new → IsTrue new.is_open → IsTrue old.is_open
+  was (inl same) is_open = same.0.was_open
+  was (inr back) is_open = back.was_open is_open
+
+  rests : IsUnchanged old new ⊎ IsRolledBack old new → Rests old → IsTrue new.is_open → Rests new × (new.now ≡ old.now)
+  rests (inl same) r is_open = (record { is_open = is_open; idle = same.0.mode ∙ r.idle; settled = same.0.now_is ∙ r.settled ∙ sym same.0.committed_is }, same.0.now_is)
+  rests (inr back) r is_open =
+      let undone = back.undone is_open in
+      (record { is_open = is_open; idle = back.autocommit; settled = undone.0 ∙ sym undone.1 }, undone.0 ∙ sym r.settled)
+
+  pub told : (r : Result (Vec (List Value) Global) Error) → (HasCleanDisk new → IfOk r (λ rows. Shown sql params old new rows.items)) → (HasCleanDisk new → IfErr r (FailsToQuery sql params old new))
+      → Survives old new (CommitsShowing sql params old) → Told old new r
+  told (Ok rows) ok err survives = record {
+    asked = record {
+      was_open = λ clean is_open. (same_read rows.items (ok clean)).0.was_open;
+      same = λ clean r is_open. rests (inl (same_read rows.items (ok clean))) r is_open;
+      survives = survives_read survives;
+    };
+    is_open = λ clean. (same_read rows.items (ok clean)).0.is_open;
+  }
+  told (Err e) ok err survives = record {
+    asked = record {
+      was_open = λ clean is_open. was (refused e (err clean)) is_open;
+      same = λ clean r is_open. rests (refused e (err clean)) r is_open;
+      survives = survives_read survives;
+    };
+    is_open = λ clean. tt;
+  }
+
+module _ (t : ℕ) (tests project : List Term) (order : List (Term × Key)) (db : Trees) (params : Row) (rows : List Row) (bare : overlay db [] t ≡ db t)
+    (a : IsAnswer (ordered t tests project order) (overlay db []) params rows) where
+  abbrev q : Query
+  q = ordered t tests project order
+
+  abbrev passes : Row → Bool
+  passes r = list_all (holds (params ∷ r ∷ [])) tests
+
+  -- the row that is shown, with what it is sorted by
+  abbrev out : Row → Output
+  out r = output q (params ∷ r ∷ [])
+
+  abbrev second : Output → Row
+  second o = o.1
+
+  kept_is : a.kept ≡ map out (filter passes (db t))
+  kept_is =
+      a.distinct ∙ ap (map (output q)) (a.grouped ∙ matched passes (λ r. params ∷ r ∷ []) (overlay db [] t) ∙ ap (λ rs. map (λ r. params ∷ r ∷ []) (filter passes rs)) bare)
+      ∙ map-map (output q) (λ r. params ∷ r ∷ []) (filter passes (db t))
+
+  arranged : IsPermutation (map out (filter passes (db t))) a.ordered
+  arranged = subst (λ l. IsPermutation l a.ordered) kept_is a.same
+
+  -- the answer is what the rows that pass show, in some order
+  pub answer_moved : IsPermutation (map (λ r. eval_all project (params ∷ r ∷ [])) (filter passes (db t))) rows
+  answer_moved =
+      subst (λ l. IsPermutation l rows) (map-map second out (filter passes (db t)))
+      (subst (IsPermutation (map second (map out (filter passes (db t))))) (sym a.shown) (IsPermutation-map second _ _ arranged))
+
+  -- a list that rises strictly and has these rows is the answer
+  pub answer_only : (xs : List Output) → IsAscending (λ x y. output_cmp q x y ≡ Less) xs → IsPermutation xs (map out (filter passes (db t))) → rows ≡ map second xs
+  answer_only xs strict same = a.shown ∙ ap (map second) (sorted_unique (output_cmp q) (output_cmp_total q) xs a.ordered strict (IsPermutation-trans _ _ _ same arranged) a.sorted)

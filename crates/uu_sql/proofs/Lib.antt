@@ -1,0 +1,6 @@
+pub mod Asks
+pub mod Writes
+pub mod Steps
+pub mod Rows
+pub mod Answers
+pub mod Sorted

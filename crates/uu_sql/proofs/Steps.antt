@@ -1,0 +1,121 @@
+-- Calls inside a transaction, one after the other, and its end.
+use Rattle.std.proofs.Common.{OnOk, Result, Ok, Err, ◌≡◌, ◌⊎◌, inl, inr, true, false, refl, sym, ap, subst, ◌∙◌, arith, ℕ, List, []}
+use Rattle.std.specs.Prelude.{IsTrue, IfErr, IsErr}
+use Rattle.sqlite.specs.Tree.{Trees}
+use Rattle.sqlite.specs.Order.{Row}
+use Rattle.sqlite.specs.Effect.{Database}
+use Rattle.sqlite.specs.Schema.{Schema}
+use Rattle.sqlite.specs.Store.{Ghosts}
+use Rattle.sqlite.specs.declared.error.Error.{Error}
+use Rattle.sqlite.specs.Steps.{FailsToCommit}
+use Rattle.sqlite.specs.State.{State, HasCleanDisk, Survives, Shows, KeepsCounts, IsUnchanged, IsRolledBack, Executes, ExecutesInside}
+use Rattle.sqlite.specs.Held.{Held, state}
+use Rattle.sqlite.proofs.StateLemmas.{survives_then}
+use Rattle.sqlite.proofs.Callers.{survives_begin}
+use Rattle.sqlite_catalog.specs.Listing.{IsSound}
+use Rattle.uu_sql.specs.Steps.{Stands, Rests, Went, Inside, Halted, Outcome, Both, Did, Undid, Ends, Whole}
+
+still : (a b c : State) → Survives a b (λ _. ⊥) → Survives b c (λ _. ⊥) → Survives a c (λ _. ⊥)
+still a b c p q = survives_then a b c (λ _. ⊥) (λ _. ⊥) (λ _. ⊥) (λ _ db none. none) (λ _ db none. none) p q
+
+-- ---- one statement
+
+kept_by : (old new : State) → IsUnchanged old new ⊎ IsRolledBack old new → IsTrue new.is_open → new.committed ≡ old.committed
+kept_by old new (inl same) is_open = same.0.committed_is
+kept_by old new (inr back) is_open = (back.undone is_open).1
+
+kept_inside : (sql : List ℕ) (params : Row) (old new : State) (e : Error) → ExecutesInside 0 sql params old new (Err e) → IsTrue new.is_open → new.committed ≡ old.committed
+kept_inside sql params old new e (inl ran) is_open = kept_by old new ran.1 is_open
+kept_inside sql params old new e (inr held) is_open = held.2.0.committed_is
+
+module _ (site : Schema) where
+  pub inside_then : {A B : Trees → Trees → Type 0} (a b c : State) → Inside site A a b → Inside site B b c → Inside site (Both A B) a c
+  inside_then a b c p q = record {
+    goes = λ clean inside stands.
+        let one = p.goes (omega (arith, q.survives.clean)) inside stands in
+        let two = q.goes clean (rw one.inside) one.stands in
+        record { inside = two.inside; committed = two.committed ∙ one.committed; stands = two.stands; step = record { mid = b.now.trees; first = one.step; second = two.step } };
+    survives = still a b c p.survives q.survives;
+  }
+
+  pub halted_then : {A : Trees → Trees → Type 0} (a b c : State) → Inside site A a b → Halted site b c → Halted site a c
+  halted_then a b c p q = record {
+    kept = λ clean inside stands is_open. let one = p.goes (omega (arith, q.survives.clean)) inside stands in q.kept clean (rw one.inside) one.stands is_open ∙ one.committed;
+    survives = still a b c p.survives q.survives;
+  }
+
+  pub outcome_then : {T E : Type 0} {A : Trees → Trees → Type 0} (B : Trees → Trees → Type 0) (a b c : State) (r : Result T E) → Inside site A a b → Outcome site B b c r → Outcome site (Both A B) a c r
+  outcome_then B a b c (Ok x) p q = inside_then a b c p q
+  outcome_then B a b c (Err e) p q = halted_then a b c p q
+
+  pub halted_as : {T E : Type 0} (A : Trees → Trees → Type 0) (a b : State) (r : Result T E) → IsErr r → Halted site a b → Outcome site A a b r
+  halted_as A a b (Ok x) fails h = absurd (cc)
+  halted_as A a b (Err e) fails h = h
+
+  pub weaker : {A : Trees → Trees → Type 0} (B : Trees → Trees → Type 0) (a b : State) → ((x y : Trees) → A x y → B x y) → Inside site A a b → Inside site B a b
+  weaker B a b f p = record {
+    goes = λ clean inside stands. let w = p.goes clean inside stands in record { inside = w.inside; committed = w.committed; stands = w.stands; step = f _ _ w.step };
+    survives = p.survives;
+  }
+
+  pub statement : (Step : Trees → Trees → Type 0) (sql : List ℕ) (params : Row) (old new : State) (r : Result ℕ Error) → Survives old new (λ _. ⊥)
+      → (HasCleanDisk new → IsTrue old.in_transaction → ExecutesInside 0 sql params old new r)
+      → ((count : ℕ) → Stands site old.now → Executes sql params old new (Ok count) → Stands site new.now × Step old.now.trees new.now.trees) → Outcome site Step old new r
+  statement Step sql params old new (Ok count) survives runs means = record {
+    goes = λ clean inside stands. let ran = runs clean inside in let made = means count stands ran.0 in
+        record { inside = ran.1.mode; committed = ran.1.committed_is; stands = made.0; step = made.1 };
+    survives = survives;
+  }
+  statement Step sql params old new (Err e) survives runs means = record { kept = λ clean inside stands is_open. kept_inside sql params old new e (runs clean inside) is_open; survives = survives }
+
+-- ---- the whole transaction
+
+module _ (site : Schema) {S : Type 0} (g : Ghosts S) (A : Trees → Trees → Type 0) (old : Held S) (last end : State) (stands : Stands site (state g old).now) (ended : end.in_transaction ≡ false)
+    (settled : (db : Trees) → IsTrue end.is_open → end.may_leave db → db ≡ end.committed.trees) where
+  abbrev pub begun : State
+  begun = state g (record old { in_transaction = true })
+
+  abbrev pub was : State
+  was = state g old
+
+  -- a stop leaves the trees after the step, which list and obey the schema
+  abbrev pub After : Trees → Type 0
+  After db = A was.now.trees db × IsSound site db
+
+  undid : (HasCleanDisk end → IsTrue end.is_open → (end.now ≡ was.committed) × (end.committed ≡ was.committed)) → HasCleanDisk end → Undid was end
+  undid back clean = record { undone = back clean; left = λ is_open db may. settled db is_open may ∙ ap (λ (d : Database). d.trees) (back clean is_open).1 }
+
+  ends_err : {T E : Type 0} (r : Result T E) → IsErr r → Undid was end → Ends site A was end r
+  ends_err (Ok x) fails u = absurd (cc)
+  ends_err (Err e) fails u = u
+
+  pub abandoned : {T E : Type 0} (r : Result T E) → IsErr r → Halted site begun last → (HasCleanDisk end → IsRolledBack last end) → Survives last end (λ _. ⊥) → Whole site A was end r
+  abandoned r fails h back over = record {
+    ends = λ clean. ends_err r fails (undid (λ clean is_open.
+        let b = back clean in
+        let kept = h.kept (omega (arith, over.clean)) refl stands (b.was_open is_open) in ((b.undone is_open).0 ∙ kept, (b.undone is_open).1 ∙ kept)) clean);
+    survives = survives_then was last end (λ _. ⊥) (λ _. ⊥) After (λ _ db none. absurd none) (λ _ db none. absurd none) (survives_begin g old last (λ _. ⊥) h.survives) over;
+    idle = ended;
+  }
+
+  pub committed : (r : Result (Unit {0}) Error) → Inside site A begun last → Survives last end (λ db. db ≡ last.now.trees)
+      → (HasCleanDisk end → OnOk r (IsTrue last.in_transaction × Shows last end last.now last.now false × KeepsCounts last end × (end.marks ≡ [])))
+      → (HasCleanDisk end → IfErr r (FailsToCommit last end)) → Whole site A was end r
+  committed r h over ok err = record {
+    ends = λ clean. each r (h.goes (omega (arith, over.clean)) refl stands) (ok clean) (err clean) clean;
+    survives = survives_then was last end (λ _. ⊥) (λ db. db ≡ last.now.trees) After (λ _ db none. absurd none)
+        (λ clean db is. let went = h.goes (omega (arith, over.clean)) refl stands in (subst (A was.now.trees) (sym is) went.step, subst (IsSound site) (sym is) went.stands.sound))
+        (survives_begin g old last (λ _. ⊥) h.survives) over;
+    idle = ended;
+  }
+    where
+      each : (r : Result (Unit {0}) Error) → Went site A begun last → OnOk r (IsTrue last.in_transaction × Shows last end last.now last.now false × KeepsCounts last end × (end.marks ≡ []))
+          → IfErr r (FailsToCommit last end) → HasCleanDisk end → Ends site A was end r
+      each (Ok x) went ok err clean = record {
+        rests = record { is_open = ok.1.is_open; idle = ended; settled = ok.1.now_is ∙ sym ok.1.committed_is };
+        stands = subst (Stands site) (sym ok.1.now_is) went.stands;
+        step = subst (λ (d : Database). A was.now.trees d.trees) (sym ok.1.now_is) went.step;
+        left = λ db may. settled db ok.1.is_open may ∙ ap (λ (d : Database). d.trees) (ok.1.committed_is ∙ sym ok.1.now_is);
+      }
+      each (Err e) went ok (inl failed) clean = undid (λ clean is_open. ((failed.3.undone is_open).0 ∙ went.committed, (failed.3.undone is_open).1 ∙ went.committed)) clean
+      each (Err e) went ok (inr late) clean = absurd (let a = went.inside in let b = late.1 in cc)
