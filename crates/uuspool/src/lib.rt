@@ -1,0 +1,18 @@
+//! The spool program of a UUCP site as a library: its settings, its command line, the run of one
+//! line over a spool, its reports and its faults. The program itself is a thin crate over this one.
+#![tactic(auto)]
+
+pub mod fault;
+pub mod input;
+pub mod line;
+pub mod report;
+pub mod serving;
+pub mod settings;
+pub mod systems;
+
+pub use fault::{Fault, fault_line, fault_status};
+pub use input::{INPUT_LIMIT, READ_LIMIT, read_input};
+pub use line::{CallLine, LAST_SECOND, Task, line_of, moment_of};
+pub use report::report_jobs;
+pub use serving::serve;
+pub use settings::{Settings, fixed_settings};
