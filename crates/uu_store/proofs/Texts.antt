@@ -1,0 +1,88 @@
+-- What each text means under the schema.
+use Rattle.std.proofs.Common.{◌≡◌, ◌∷◌, [], refl, List, ℕ, pos, codes, Ok}
+use Rattle.sqlite.specs.declared.types.Value.TheVariants.{Null, Int}
+use Rattle.sqlite.specs.Term.{Term, lit, col}
+use Rattle.sqlite.specs.Query.{Query}
+use Rattle.sqlite.specs.Source.TheVariants.{Values}
+use Rattle.sqlite.specs.Command.TheVariants.{Insert, Update, CreateTable}
+use Rattle.sqlite.specs.Compile.{table_defined_by}
+use Rattle.sqlite.specs.Change.{created}
+use Rattle.sqlite_tied.specs.Compute.{everything}
+use Rattle.sqlite.specs.Listing.{understood}
+use Rattle.sqlite.specs.Schema.{Schema}
+use Rattle.sqlite.proofs.Callers.{IsPlain, command_of, statement_of}
+use Rattle.uu_sql.specs.Layout.{over, where_is, equal_terms}
+use Rattle.uu_sql.proofs.Asks.{Means, ordered, up}
+use Rattle.uu_store.specs.Schema.{site, no_schema, spool, systems, jobs, create_spool, create_systems, create_jobs, insert_spool, insert_system, insert_job, update_next, ask_version, ask_next, ask_system, ask_jobs, ask_job}
+
+-- ---- writes
+
+abbrev pub system_terms : List Term
+system_terms = lit Null ∷ col 0 0 ∷ []
+
+pub insert_system_is : command_of (understood site insert_system) ≡ Insert 1 (Values system_terms 2)
+unfolding understood everything
+insert_system_is = refl
+
+pub insert_system_plain : IsPlain (understood site insert_system)
+unfolding understood everything
+insert_system_plain = (refl, refl)
+
+abbrev pub job_terms : List Term
+job_terms = col 0 0 ∷ lit Null ∷ col 0 1 ∷ col 0 2 ∷ col 0 3 ∷ col 0 4 ∷ col 0 5 ∷ col 0 6 ∷ col 0 7 ∷ col 0 8 ∷ col 0 9 ∷ []
+
+pub insert_job_is : command_of (understood site insert_job) ≡ Insert 2 (Values job_terms 11)
+unfolding understood everything
+insert_job_is = refl
+
+pub insert_job_plain : IsPlain (understood site insert_job)
+unfolding understood everything
+insert_job_plain = (refl, refl)
+
+abbrev pub next_terms : List Term
+next_terms = col 1 0 ∷ col 1 0 ∷ lit Null ∷ col 1 2 ∷ col 0 0 ∷ []
+
+pub update_next_is : command_of (understood site update_next) ≡ Update 0 (record { lets = []; body = over 0 [] next_terms })
+unfolding understood everything
+update_next_is = refl
+
+pub update_next_plain : IsPlain (understood site update_next)
+unfolding understood everything
+update_next_plain = (refl, refl)
+
+-- ---- questions
+
+abbrev pub is_first : Term
+is_first = equal_terms (col 1 0) (lit (Int (pos 1)))
+
+pub version_means : Means site ask_version (over 0 (is_first ∷ []) (col 1 2 ∷ [])) (codes "version" ∷ [])
+unfolding understood everything
+version_means = record { command = refl; plain = (refl, refl); listing = refl }
+
+pub next_means : Means site ask_next (over 0 (is_first ∷ []) (col 1 3 ∷ [])) (codes "next" ∷ [])
+unfolding understood everything
+next_means = record { command = refl; plain = (refl, refl); listing = refl }
+
+pub system_means : Means site ask_system (over 1 (where_is 1 0 ∷ []) (col 1 1 ∷ [])) (codes "name" ∷ [])
+unfolding understood everything
+system_means = record { command = refl; plain = (refl, refl); listing = refl }
+
+abbrev pub head_terms : List Term
+head_terms = col 1 0 ∷ col 1 2 ∷ col 1 3 ∷ col 1 4 ∷ col 1 5 ∷ col 1 6 ∷ col 1 7 ∷ col 1 8 ∷ col 1 9 ∷ []
+
+abbrev pub head_names : List (List ℕ)
+head_names = codes "number" ∷ codes "system" ∷ codes "rank" ∷ codes "user" ∷ codes "kind" ∷ codes "queued" ∷ codes "first_word" ∷ codes "second_word" ∷ codes "size" ∷ []
+
+pub jobs_means : Means site ask_jobs (ordered 3 [] head_terms (up (col 1 3) ∷ up (col 1 0) ∷ [])) head_names
+unfolding understood everything
+jobs_means = record { command = refl; plain = (refl, refl); listing = refl }
+
+abbrev pub whole_terms : List Term
+whole_terms = col 1 0 ∷ col 1 2 ∷ col 1 3 ∷ col 1 4 ∷ col 1 5 ∷ col 1 6 ∷ col 1 7 ∷ col 1 8 ∷ col 1 9 ∷ col 1 10 ∷ []
+
+abbrev pub whole_names : List (List ℕ)
+whole_names = codes "number" ∷ codes "system" ∷ codes "rank" ∷ codes "user" ∷ codes "kind" ∷ codes "queued" ∷ codes "first_word" ∷ codes "second_word" ∷ codes "size" ∷ codes "bytes" ∷ []
+
+pub job_means : Means site ask_job (ordered 3 (where_is 0 0 ∷ []) whole_terms (up (col 1 0) ∷ [])) whole_names
+unfolding understood everything
+job_means = record { command = refl; plain = (refl, refl); listing = refl }

@@ -1,0 +1,82 @@
+-- What a database encodes, and what a spool shows.
+use Rattle.std.specs.Prelude.{◌≡◌, ◌⊎◌, ℕ, pos, List, [], ◌∷◌, ◌++◌, map}
+use Rattle.std.specs.List.Sorted.{IsPermutation}
+use Rattle.sqlite.specs.declared.types.Value.TheVariants.{Int, Text, Blob}
+use Rattle.sqlite.specs.Order.{Row, column}
+use Rattle.sqlite.specs.Tree.{Trees}
+use Rattle.sqlite.specs.Effect.{Database}
+use Rattle.sqlite.specs.State as db
+use Rattle.sqlite_catalog.specs.Listing.{IsSound}
+use Rattle.uu_sql.specs.Steps.{Stands}
+use Rattle.uu_store.specs.declared.job.JobHead.{JobHead}
+use Rattle.uu_store.specs.declared.job.Kind.{Kind}
+use Rattle.uu_store.specs.declared.job.Kind.TheVariants.{Send, Request}
+use Rattle.uu_store.specs.Schema.{site}
+use Rattle.uu_store.specs.Rows.{JobRow, job_row, spool_row, system_cells}
+use Rattle.uu_store.specs.Machine.{Job, State, IsWellFormed}
+
+-- ---- a job as a row
+
+abbrev pub kind_number : Kind → ℕ
+kind_number (Send source target) = 0
+kind_number (Request source target) = 1
+
+abbrev pub first_word : Kind → List ℕ
+first_word (Send source target) = source
+first_word (Request source target) = source
+
+abbrev pub second_word : Kind → List ℕ
+second_word (Send source target) = target
+second_word (Request source target) = target
+
+abbrev pub stored : Job → JobRow
+stored j = record {
+  number = j.head.number;
+  system = j.head.system;
+  rank = j.head.grade;
+  user = j.head.user;
+  kind = kind_number j.head.kind;
+  queued = j.head.queued;
+  first_word = first_word j.head.kind;
+  second_word = second_word j.head.kind;
+  size = j.head.size;
+  bytes = j.bytes;
+}
+
+-- ---- what a question shows of a job
+
+abbrev pub head_cells : JobHead → Row
+head_cells h =
+    Int (pos h.number) ∷ Text h.system ∷ Int (pos h.grade) ∷ Text h.user ∷ Int (pos (kind_number h.kind)) ∷ Int (pos h.queued) ∷ Text (first_word h.kind) ∷ Text (second_word h.kind) ∷ Int (pos h.size) ∷ []
+
+abbrev pub job_cells : Job → Row
+job_cells j = head_cells j.head ++ Blob j.bytes ∷ []
+
+-- the columns of a head, at the front of a row
+abbrev pub cells_at : Row → Row
+cells_at r = column r 0 ∷ column r 1 ∷ column r 2 ∷ column r 3 ∷ column r 4 ∷ column r 5 ∷ column r 6 ∷ column r 7 ∷ column r 8 ∷ []
+
+abbrev pub kind_of : Row → Row
+kind_of r = column r 4 ∷ column r 6 ∷ column r 7 ∷ []
+
+-- ---- the tables
+
+-- the rows of the three tables are those of the state, in any order
+pub record Holds (db : Trees) (s : State) : Type 0 where
+  pub spool : db 0 ≡ spool_row 0 s.next ∷ []
+  pub systems : IsPermutation (map (λ name. Text name ∷ []) s.systems) (map system_cells (db 1))
+  pub jobs : IsPermutation (map (λ j. job_row (stored j)) s.jobs) (db 3)
+  pub good : IsWellFormed s
+
+-- the database has the spool's tables, and their rows are those of the state
+pub record Encodes (database : Database) (s : State) : Type 0 where
+  pub stands : Stands site database
+  pub holds : Holds database.trees s
+
+-- a stop may leave only what encodes the state
+abbrev pub Leaves : db.State → State → Type 0
+Leaves now s = (db : Trees) → now.may_leave db → IsSound site db × Holds db s
+
+-- a stop may leave only what encodes the one state or the other
+abbrev pub LeavesEither : db.State → State → State → Type 0
+LeavesEither now s t = (db : Trees) → now.may_leave db → IsSound site db × (Holds db s ⊎ Holds db t)

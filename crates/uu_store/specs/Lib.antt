@@ -1,0 +1,5 @@
+pub mod Schema
+pub mod Rows
+pub mod Codes
+pub mod Machine
+pub mod Encoded

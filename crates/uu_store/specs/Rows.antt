@@ -1,0 +1,62 @@
+-- The rows of the spool's tables.
+use Rattle.std.specs.Prelude.{◌≡◌, ℕ, pos, List, [], ◌∷◌, length, false}
+use Rattle.sqlite.specs.declared.types.Value.TheVariants.{Null, Int, Text, Blob}
+use Rattle.sqlite.specs.Order.{Row, column}
+use Rattle.sqlite.specs.Tree.{Trees, put_row}
+use Rattle.sqlite.specs.Edit.{is_taken}
+
+-- a job as its table holds it
+pub record JobRow : Type 0 where
+  pub number : ℕ
+  pub system : List ℕ
+  pub rank : ℕ
+  pub user : List ℕ
+  pub kind : ℕ
+  pub queued : ℕ
+  pub first_word : List ℕ
+  pub second_word : List ℕ
+  pub size : ℕ
+  pub bytes : List ℕ
+
+-- rows as the port keeps them: the rowid, and then the columns, where an INTEGER PRIMARY KEY is kept as Null
+abbrev pub spool_row : ℕ → ℕ → Row
+spool_row version next = Int (pos 1) ∷ Null ∷ Int (pos version) ∷ Int (pos next) ∷ []
+
+abbrev pub job_row : JobRow → Row
+job_row j =
+    Int (pos j.number) ∷ Null ∷ Text j.system ∷ Int (pos j.rank) ∷ Text j.user ∷ Int (pos j.kind) ∷ Int (pos j.queued) ∷ Text j.first_word ∷ Text j.second_word ∷ Int (pos j.size) ∷ Blob j.bytes ∷ []
+
+-- what a statement is given of a job
+abbrev pub job_cells : JobRow → Row
+job_cells j = Int (pos j.number) ∷ Text j.system ∷ Int (pos j.rank) ∷ Text j.user ∷ Int (pos j.kind) ∷ Int (pos j.queued) ∷ Text j.first_word ∷ Text j.second_word ∷ Int (pos j.size) ∷ Blob j.bytes ∷ []
+
+-- the columns of a system's row, whose rowid the port picks
+abbrev pub system_cells : Row → Row
+system_cells r = column r 1 ∷ []
+
+-- ---- steps
+
+-- the row of a job is there, and nothing else differs
+pub record JobAdded (j : JobRow) (old new : Trees) : Type 0 where
+  pub jobs : new 3 ≡ put_row (job_row j) (old 3)
+  pub fresh : is_taken (old 3) (job_row j) ≡ false
+  pub spool : new 0 ≡ old 0
+  pub systems : new 1 ≡ old 1
+
+-- the row of a system is there, and nothing else differs
+pub record SystemAdded (name : List ℕ) (old new : Trees) : Type 0 where
+  pub id : Row
+  pub row : system_cells id ≡ Text name ∷ []
+  pub systems : new 1 ≡ put_row id (old 1)
+  pub fresh : is_taken (old 1) id ≡ false
+  pub spool : new 0 ≡ old 0
+  pub jobs : new 3 ≡ old 3
+
+-- the next number is this one, and nothing else differs
+pub record NextIs (version next : ℕ) (old new : Trees) : Type 0 where
+  pub spool : new 0 ≡ spool_row version next ∷ []
+  pub systems : new 1 ≡ old 1
+  pub jobs : new 3 ≡ old 3
+
+abbrev pub NextSet : ℕ → Trees → Trees → Type 0
+NextSet next old new = (version was : ℕ) → old 0 ≡ spool_row version was ∷ [] → NextIs version next old new

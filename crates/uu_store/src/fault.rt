@@ -1,0 +1,94 @@
+// Why the store gives no answer.
+ghost use Rattle.std.specs.Prelude.{◌≡◌, false};
+ghost use Rattle.uu_store.specs.Codes.{fault_code};
+ghost use Rattle.uu_store.specs.declared.fault.StoreFault.TheVariants.{Memory};
+
+use sqlite::{Alter, Connection, Error as SqlError, ErrorCode};
+use std::alloc::{AllocError, AllocFailed};
+use thiserror::Error;
+use uu_sql::{is_alive, is_memory};
+
+/// Which part of the store failed.
+#[derive(Clone, Copy, Debug, PartialEq, Eq)]
+pub enum StoreKind {
+    /// The device failed, or returned other bytes than were written.
+    Disk,
+    /// A row or the file is too big, or the device is full.
+    Size,
+    /// Any other refusal of the database.
+    Database,
+}
+
+/// Why the store gives no answer.
+#[derive(Clone, Copy, Debug, PartialEq, Eq, Error)]
+pub enum StoreFault {
+    /// Memory was refused. Nothing changed, and the spool can be used.
+    #[error("out of memory")]
+    Memory,
+    /// The database failed. The command in hand may stand in the file or not; from then on every call answers `Failed`.
+    #[error("the store failed")]
+    Store(StoreKind),
+    /// An earlier call answered `Store`. The file is to be opened again.
+    #[error("the store failed before")]
+    Failed,
+    /// The database is not that of a spool.
+    #[error("not a spool")]
+    Foreign,
+    /// The database is that of a later version of this program.
+    #[error("a spool of a later version")]
+    Newer,
+}
+
+impl StoreFault {
+    /// The fault's number, from 1 for `Memory` to 5 for `Newer`.
+    pub fn code(&self) -> u8
+        ensures { result ≡ fault_code self.now }
+    {
+        match self {
+            StoreFault::Memory => 1,
+            StoreFault::Store(_) => 2,
+            StoreFault::Failed => 3,
+            StoreFault::Foreign => 4,
+            StoreFault::Newer => 5,
+        }
+    }
+}
+
+impl From<AllocError> for StoreFault {
+    ghost from_gives = { λ _ fault. fault ≡ Memory };
+
+    fn from(_refused: AllocError) -> StoreFault {
+        StoreFault::Memory
+    }
+}
+
+impl<T: Drop> From<AllocFailed<T>> for StoreFault {
+    ghost from_gives = { λ _ fault. fault ≡ Memory };
+
+    fn from(_refused: AllocFailed<T>) -> StoreFault {
+        StoreFault::Memory
+    }
+}
+
+/// Which part of the store an error of the database tells of.
+pub(crate) fn kind_of(error: &SqlError) -> StoreKind {
+    match error {
+        SqlError::SqliteFailure(ErrorCode::SystemIoFailure)
+        | SqlError::SqliteFailure(ErrorCode::DatabaseCorrupt)
+        | SqlError::SqliteFailure(ErrorCode::DiskFull) => StoreKind::Disk,
+        SqlError::SqliteFailure(ErrorCode::TooBig) => StoreKind::Size,
+        _ => StoreKind::Database,
+    }
+}
+
+/// What an error of the database means for the caller. It is want of memory only where the connection still answers.
+pub(crate) fn store_fault<S: Alter>(conn: &mut Connection<S>, error: &SqlError) -> StoreFault
+    requires { conn.old.in_transaction ≡ false }
+    ensures idle { conn.new.in_transaction ≡ false }
+{
+    if is_memory(error) && is_alive(conn) {
+        StoreFault::Memory
+    } else {
+        StoreFault::Store(kind_of(error))
+    }
+}
