@@ -1,7 +1,7 @@
 -- A report grows by the line of the next job.
 use Rattle.std.proofs.Common.{◌≡◌, ℕ, ℤ, List, [], ◌∷◌, ◌++◌, refl, sym, ap, ◌∙◌, append_assoc, append-nil}
 use Rattle.uuspool.specs.Reports.{IsReport, IsJobLine}
-use Rattle.uu_store.specs.declared.JobHead.{JobHead}
+use Rattle.uu_store.specs.declared.job.JobHead.{JobHead}
 
 pub IsReport-append : (offset : ℤ) (jobs : List JobHead) (job : JobHead) (report line : List ℕ)
     → IsReport offset jobs report → IsJobLine offset job line → IsReport offset (jobs ++ job ∷ []) (report ++ line)

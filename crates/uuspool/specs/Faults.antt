@@ -4,8 +4,8 @@ use Rattle.std.specs.Prelude.{ℕ, ◌++◌, ◌∷◌, [], true, false, List, c
 use Rattle.std.specs.String.{string_bytes}
 use Rattle.uuspool.specs.declared.fault.Fault.{Fault}
 use Rattle.uuspool.specs.declared.fault.Fault.TheVariants as fault
-use Rattle.uu_store.specs.declared.StoreFault.{StoreFault}
-use Rattle.uu_store.specs.declared.StoreFault.TheVariants as store
+use Rattle.uu_store.specs.declared.fault.StoreFault.{StoreFault}
+use Rattle.uu_store.specs.declared.fault.StoreFault.TheVariants as store
 
 -- the number of a fault
 abbrev pub code_of : Fault → ℕ

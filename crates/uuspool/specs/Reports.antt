@@ -4,9 +4,9 @@ use Rattle.std.specs.Fmt.{decimal}
 use Rattle.jiff.specs.Words.{civil_nanos, nanos_of_seconds, date_text, time_text}
 use Rattle.jiff.specs.declared.civil.datetimes.DateTime.{DateTime}
 use Rattle.uu_names.specs.Grade.{grade_bytes}
-use Rattle.uu_store.specs.declared.JobHead.{JobHead}
-use Rattle.uu_store.specs.declared.Kind.{Kind}
-use Rattle.uu_store.specs.declared.Kind.TheVariants.{Send, Request}
+use Rattle.uu_store.specs.declared.job.JobHead.{JobHead}
+use Rattle.uu_store.specs.declared.job.Kind.{Kind}
+use Rattle.uu_store.specs.declared.job.Kind.TheVariants.{Send, Request}
 
 -- what a clock that is `offset` minutes ahead of UTC shows at a second
 abbrev pub IsLocalTime : ℤ → ℕ → DateTime → Type 0

@@ -7,9 +7,6 @@ use std::alloc::{AllocError, Global};
 use uu_names::NameFault;
 use uu_store::{Moment, SiteName, Word};
 
-/// The last second that a moment may have: 2100-01-01 00:00:00 UTC.
-pub const LAST_SECOND: u64 = 4_102_444_800;
-
 /// One line of the program.
 #[derive(Debug, Drop)]
 pub struct CallLine {
@@ -69,12 +66,12 @@ pub fn line_of(alloc: Global, words: &[String]) -> Result<CallLine, Fault> {
 /// The moment of this second.
 ///
 /// # Errors
-/// `Words` exactly past `LAST_SECOND`, else `Memory` for want of it.
+/// `Words` exactly past the last second of a moment, else `Memory` for want of it.
 pub fn moment_of(alloc: Global, second: u64) -> Result<Moment, Fault> {
-    if second > LAST_SECOND {
-        return Err(bad_text(alloc, "seconds past 4102444800"));
+    match Moment::new(second) {
+        Some(moment) => Ok(moment),
+        None => Err(bad_text(alloc, "the moment is past the last second, 4102444800")),
     }
-    Ok(Moment { second })
 }
 
 fn command<'a>(alloc: Global) -> Result<Command<'a>, AllocError> {

@@ -6,13 +6,12 @@ ghost use Rattle.uuspool.specs.Offsets.{IsOffset};
 ghost use Rattle.uuspool.specs.Reports.{IsLocalTime, IsMoment, IsJobLine, IsReport, grade_text, work_text};
 
 use crate::fault::Fault;
-use crate::line::LAST_SECOND;
 use crate::settings::Settings;
 use jiff::Timestamp;
 use jiff::civil::DateTime;
 use jiff::tz::Offset;
 use std::alloc::{AllocError, Global};
-use uu_store::{Grade, JobHead, Kind};
+use uu_store::{Grade, JobHead, Kind, LAST_SECOND};
 
 /// The report of these jobs, in their order, a line for each:
 /// `NUMBER SYSTEM USER GRADE MOMENT SIZE KIND WORDS`, the moment as `yyyy-mm-dd hh:mm:ss` at the

@@ -2,14 +2,14 @@
 
 use crate::fault::Fault;
 use crate::input::INPUT_LIMIT;
-use crate::line::{Task, line_of, moment_of};
+use crate::line::{CallLine, Task, line_of, moment_of};
 use crate::report::report_jobs;
 use crate::settings::Settings;
 use crate::systems::systems_of;
 use sqlite::Alter;
 use std::alloc::{AllocError, Global};
 use std::io::Write;
-use uu_store::{Command, Grade, Kind, NewJob, Refusal, Reply, Spool};
+use uu_store::{Command, Grade, Kind, LAST_SECOND, NewJob, Refusal, Reply, Spool, StoreFault, StoreKind};
 
 /// Runs the line that the words after the program's name mean, at the second `now` where the line
 /// gives none, with this input. Writes its output to `out` and answers its status: 0 done, 1 refused.
@@ -26,12 +26,12 @@ pub fn serve<S: Alter, W: Write>(
     spool: &mut Spool<S>,
     out: &mut W,
 ) -> Result<u8, Fault> {
-    let line = line_of(alloc, words)?;
-    let at = moment_of(alloc, line.at.unwrap_or(now))?;
-    if line.task.has_input() && input.len() > INPUT_LIMIT {
+    let CallLine { at, user, task } = line_of(alloc, words)?;
+    let at = moment_of(alloc, at.unwrap_or(now))?;
+    if task.has_input() && input.len() > INPUT_LIMIT {
         return Err(Fault::Input);
     }
-    match line.task {
+    match task {
         Task::Load => load(alloc, input, spool, out),
         Task::Send {
             system,
@@ -41,7 +41,7 @@ pub fn serve<S: Alter, W: Write>(
             let job = NewJob {
                 system,
                 grade: Grade::default(),
-                user: line.user,
+                user,
                 kind: Kind::Send { source, target },
                 bytes: Vec::from_slice(alloc, input)?,
                 at,
@@ -61,7 +61,7 @@ fn load<S: Alter, W: Write>(
     let mut status = 0;
     for system in systems_of(alloc, input)? {
         let name = String::from_str(alloc, system.name.as_str())?;
-        let reply = ask(alloc, Command::Define(system), spool)?;
+        let reply = ask(Command::Define(system), spool)?;
         let answer = reply_text(alloc, reply)?;
         write(out, format!(in alloc; "{name} {answer}\n")?.as_bytes())?;
         status = status.max(status_of(reply));
@@ -75,7 +75,7 @@ fn queue<S: Alter, W: Write>(
     spool: &mut Spool<S>,
     out: &mut W,
 ) -> Result<u8, Fault> {
-    let reply = ask(alloc, Command::Queue(job), spool)?;
+    let reply = ask(Command::Queue(job), spool)?;
     let answer = reply_text(alloc, reply)?;
     write(out, format!(in alloc; "{answer}\n")?.as_bytes())?;
     Ok(status_of(reply))
@@ -88,13 +88,16 @@ fn list<S: Alter, W: Write>(
     out: &mut W,
 ) -> Result<u8, Fault> {
     let jobs = spool.jobs(alloc).map_err(Fault::Store)?;
+    if jobs.iter().any(|job| job.queued > LAST_SECOND) {
+        return Err(Fault::Store(StoreFault::Store(StoreKind::Database)));
+    }
     let report = report_jobs(alloc, &jobs, settings)?;
     write(out, &report)?;
     Ok(0)
 }
 
-fn ask<S: Alter>(alloc: Global, command: Command, spool: &mut Spool<S>) -> Result<Reply, Fault> {
-    spool.command(alloc, command).map_err(Fault::Store)
+fn ask<S: Alter>(command: Command, spool: &mut Spool<S>) -> Result<Reply, Fault> {
+    spool.command(command).map_err(Fault::Store)
 }
 
 // What the program prints of an answer: `done`, `job N` or `refused NAME`.

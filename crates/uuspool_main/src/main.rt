@@ -6,7 +6,7 @@ use std::io::Write;
 use std::process::ExitCode;
 use std::time::SystemTime;
 use std::{env, io};
-use uu_store::start::start;
+use uu_store::start;
 use uuspool::{
     CallLine, Fault, fault_line, fault_status, fixed_settings, line_of, moment_of, read_input, serve,
 };
