@@ -8,6 +8,7 @@ use crate::tables::{Found, found_in};
 use sqlite::{Alter, Connection, Error};
 
 /// Why a database was not taken, and the connection to it, with no transaction open.
+#[derive(Drop)]
 pub struct AdoptFault<S: Alter> {
     pub fault: StoreFault,
     pub conn: Connection<S>,

@@ -12,6 +12,7 @@ use sqlite::{Alter, Connection, Error};
 use std::alloc::Global;
 
 /// A spool, over a connection that it owns.
+#[derive(Drop)]
 pub struct Spool<S: Alter> {
     conn: Connection<S>,
     failed: bool,

@@ -2,3 +2,4 @@ pub mod Faults
 pub mod Input
 pub mod Reports
 pub mod Offsets
+pub mod Commands

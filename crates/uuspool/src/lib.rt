@@ -2,6 +2,7 @@
 //! line over a spool, its reports and its faults. The program itself is a thin crate over this one.
 #![tactic(auto)]
 
+mod commands;
 pub mod fault;
 pub mod input;
 pub mod line;

@@ -1,9 +1,10 @@
 //! The command line: from words to a line of typed values.
 
 use crate::fault::Fault;
+use crate::commands::program_command;
+use clap::ArgMatches;
 use clap::error::ErrorKind;
-use clap::{Arg, ArgAction, ArgMatches, Command};
-use std::alloc::{AllocError, Global};
+use std::alloc::Global;
 use uu_names::NameFault;
 use uu_store::{Moment, SiteName, Word};
 
@@ -52,8 +53,7 @@ impl Task {
 /// `Words` where they are no line of the program, or where the user, a name or a word is none; with
 /// `help` where they ask for help. Else `Memory`.
 pub fn line_of(alloc: Global, words: &[String]) -> Result<CallLine, Fault> {
-    let command = command(alloc)?;
-    let matches = match command.try_get_matches_from(words) {
+    let matches = match program_command(alloc)?.try_get_matches_from(words) {
         Ok(matches) => matches,
         Err(error) => return Err(refused(alloc, &error)),
     };
@@ -72,56 +72,6 @@ pub fn moment_of(alloc: Global, second: u64) -> Result<Moment, Fault> {
         Some(moment) => Ok(moment),
         None => Err(bad_text(alloc, "the moment is past the last second, 4102444800")),
     }
-}
-
-fn command<'a>(alloc: Global) -> Result<Command<'a>, AllocError> {
-    let at = Arg::new(alloc, "at")
-        .long("at")
-        .value_name("SECONDS")
-        .value_parser(clap::value_parser!(u64).range(0..=9_999_999_999))
-        .help("The second of the call, UTC, in place of the clock's");
-    let user = Arg::new(alloc, "as")
-        .long("as")
-        .value_name("USER")
-        .default_value("uucp")
-        .help("The user who calls");
-    Command::new(alloc, "uuspool")
-        .about("The job spool of a UUCP site")
-        .no_binary_name(true)
-        .subcommand_required(true)
-        .arg(at)?
-        .arg(user)?
-        .subcommand(load_command(alloc))?
-        .subcommand(send_command(alloc)?)?
-        .subcommand(list_command(alloc))
-}
-
-fn load_command<'a>(alloc: Global) -> Command<'a> {
-    Command::new(alloc, "load").about("Defines the systems of the sys file on standard input")
-}
-
-fn send_command<'a>(alloc: Global) -> Result<Command<'a>, AllocError> {
-    let system = Arg::new(alloc, "system")
-        .value_name("SYSTEM")
-        .required(true)
-        .help("The neighbour that the file is for");
-    let source = Arg::new(alloc, "from")
-        .value_name("FROM")
-        .required(true)
-        .help("The file's name here");
-    let target = Arg::new(alloc, "to")
-        .value_name("TO")
-        .required(true)
-        .help("The file's name there");
-    Command::new(alloc, "send")
-        .about("Queues standard input as a file for a system")
-        .arg(system)?
-        .arg(source)?
-        .arg(target)
-}
-
-fn list_command<'a>(alloc: Global) -> Command<'a> {
-    Command::new(alloc, "list").about("Lists the jobs, those of the highest grade first")
 }
 
 fn task_of(alloc: Global, matches: &ArgMatches<'_>) -> Result<Task, Fault> {

@@ -36,8 +36,9 @@ fn run(rt: &HostRuntime) -> Result<u8, Fault> {
     };
     let mut spool = start(rt, settings.spool.as_str()).map_err(Fault::Store)?;
     let mut out = io::writer(rt);
-    let status = serve(alloc, &words, &settings, now, &input, &mut spool, &mut out)?;
-    Ok(status)
+    let answer = serve(alloc, &words, &settings, now, &input, &mut spool, &mut out);
+    drop(spool.release());
+    answer
 }
 
 // The words after the program's name.
