@@ -1,2 +1,4 @@
 pub mod Letters
 pub mod ReportLemmas
+pub mod ProgramLemmas
+pub mod LineLemmas

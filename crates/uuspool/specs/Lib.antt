@@ -3,3 +3,4 @@ pub mod Input
 pub mod Reports
 pub mod Offsets
 pub mod Commands
+pub mod Lines

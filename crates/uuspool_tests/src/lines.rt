@@ -24,7 +24,7 @@ fn a_system_a_job_and_its_listing(rt: HostRuntime) -> Result<(), Fail> {
     assert!(rt; head.system.as_str() == "duke" && head.user.as_str() == "ann");
     assert_eq!(rt; head.grade.as_byte(), b'N');
     assert!(rt; bytes.is_empty());
-    let Kind::Send { source, target } = head.kind else {
+    let Kind::Send { source, target } = &head.kind else {
         return Err(Fail::from("another kind"));
     };
     assert!(rt; source.as_str() == "/tmp/a" && target.as_str() == "~/a");
