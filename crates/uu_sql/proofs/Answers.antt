@@ -22,24 +22,22 @@ use Rattle.sqlite.proofs.StateLemmas.{survives_weaker}
 use Rattle.sqlite.proofs.Callers.{IsPlain, reads_as, never_commits}
 use Rattle.sqlite_sql.proofs.QueryLemmas.{output_cmp_total}
 use Rattle.sqlite_value.specs.declared.keys.Key.{Key}
-use Rattle.sqlite_keyed.proofs.ListLemmas.{map-map}
-use Rattle.sqlite_keyed.proofs.SortLemmas.{sorted_unique}
-use Rattle.uu_sql.specs.Steps.{Rests, Asked, Told}
+use Rattle.sqlite_keyed.specs.Lists.{sort_by}
+use Rattle.sqlite_keyed.proofs.ListLemmas.{map-map, ascending-map, ascending_weaker}
+use Rattle.std.specs.Ordering.{is_eq}
+use Rattle.sqlite_keyed.proofs.SortLemmas.{sorted_unique, sorted_is-sort_by, sort_by-map}
+use Rattle.uu_sql.specs.Steps.{Stands, Rests, Ready, Asked, Told}
 use Rattle.uu_sql.proofs.Asks.{Means, ordered}
 use Rattle.uu_sql.proofs.Rows.{matched}
 
-module _ (site : Schema) (sql : List ℕ) (q : Query) (names : List (List ℕ)) (params : Row) (old new : State) (means : Means site sql q names) (has : old.now.schema ≡ site) where
+module _ (site : Schema) (sql : List ℕ) (q : Query) (names : List (List ℕ)) (params : Row) (old new : State) (means : Means site sql q names) where
   -- what a query by text answers, as its meaning
-  pub answer_of : (rows : List Row) → Shown sql params old new rows → IsAnswer q (overlay old.now.trees []) params rows
-  answer_of rows h = let it = reads_as sql params old new site has _ means.command means.plain means.listing rows h in it.answer Null
+  pub answer_of : old.now.schema ≡ site → (rows : List Row) → Shown sql params old new rows → IsAnswer q (overlay old.now.trees []) params rows
+  answer_of has rows h = let it = reads_as sql params old new site has _ means.command means.plain means.listing rows h in it.answer Null
 
-  -- it commits nothing, and changes nothing
-  pub survives_read : Survives old new (CommitsShowing sql params old) → Survives old new (λ _. ⊥)
-  survives_read = survives_weaker old new _ _ (λ _ db. never_commits sql params old db (subst (λ s. IsPlain (understood s sql)) (sym has) means.plain))
-
-  pub same_read : (rows : List Row) → Shown sql params old new rows → IsUnchanged old new
+  same_read : old.now.schema ≡ site → (rows : List Row) → Shown sql params old new rows → IsUnchanged old new
   unfolding Shown
-  same_read rows h =
+  same_read has rows h =
       let bare = subst IsPlain (sym (sym h.1.is ∙ ap (λ s. understood s sql) has)) means.plain in
       (rw (bare.0) at h.2).3
 
@@ -49,16 +47,12 @@ module _ (site : Schema) (sql : List ℕ) (q : Query) (names : List (List ℕ)) 
   not_run e (inr failed) = inr failed.3
 
   -- a question that is refused changes nothing, or ends in a rollback
-  refused : (e : Error) → FailsToQuery sql params old new e → IsUnchanged old new ⊎ IsRolledBack old new
+  refused : old.now.schema ≡ site → (e : Error) → FailsToQuery sql params old new e → IsUnchanged old new ⊎ IsRolledBack old new
   unfolding FailsToQuery
-  refused e (inl none) = not_run e none
-  refused e (inr failed) =
+  refused has e (inl none) = not_run e none
+  refused has e (inr failed) =
       let bare = subst IsPlain (sym (sym failed.1.is ∙ ap (λ s. understood s sql) has)) means.plain in
       inl (rw bare.0 at failed.2).3
-
-  was : IsUnchanged old new ⊎ IsRolledBack old new → IsTrue new.is_open → IsTrue old.is_open
-  was (inl same) is_open = same.0.was_open
-  was (inr back) is_open = back.was_open is_open
 
   rests : IsUnchanged old new ⊎ IsRolledBack old new → Rests old → IsTrue new.is_open → Rests new × (new.now ≡ old.now)
   rests (inl same) r is_open = (record { is_open = is_open; idle = same.0.mode ∙ r.idle; settled = same.0.now_is ∙ r.settled ∙ sym same.0.committed_is }, same.0.now_is)
@@ -66,23 +60,23 @@ module _ (site : Schema) (sql : List ℕ) (q : Query) (names : List (List ℕ)) 
       let undone = back.undone is_open in
       (record { is_open = is_open; idle = back.autocommit; settled = undone.0 ∙ sym undone.1 }, undone.0 ∙ sym r.settled)
 
+  asked : (HasCleanDisk new → old.now.schema ≡ site → IsUnchanged old new ⊎ IsRolledBack old new) → Survives old new (CommitsShowing sql params old) → Asked site old new
+  asked left survives = record {
+    same = λ clean ready is_open.
+        let it = rests (left clean ready.stands.schema) ready.rests is_open in
+        (record { rests = it.0; stands = subst (Stands site) (sym it.1) ready.stands }, it.1);
+    survives = survives_weaker old new _ _ (λ _ db commits ready. never_commits sql params old db (subst (λ s. IsPlain (understood s sql)) (sym ready.stands.schema) means.plain) commits) survives;
+  }
+
   pub told : (r : Result (Vec (List Value) Global) Error) → (HasCleanDisk new → IfOk r (λ rows. Shown sql params old new rows.items)) → (HasCleanDisk new → IfErr r (FailsToQuery sql params old new))
-      → Survives old new (CommitsShowing sql params old) → Told old new r
+      → Survives old new (CommitsShowing sql params old) → Told site old new r
   told (Ok rows) ok err survives = record {
-    asked = record {
-      was_open = λ clean is_open. (same_read rows.items (ok clean)).0.was_open;
-      same = λ clean r is_open. rests (inl (same_read rows.items (ok clean))) r is_open;
-      survives = survives_read survives;
-    };
-    is_open = λ clean. (same_read rows.items (ok clean)).0.is_open;
+    asked = asked (λ clean has. inl (same_read has rows.items (ok clean))) survives;
+    is_open = λ clean ready. (same_read ready.stands.schema rows.items (ok clean)).0.is_open;
   }
   told (Err e) ok err survives = record {
-    asked = record {
-      was_open = λ clean is_open. was (refused e (err clean)) is_open;
-      same = λ clean r is_open. rests (refused e (err clean)) r is_open;
-      survives = survives_read survives;
-    };
-    is_open = λ clean. tt;
+    asked = asked (λ clean has. refused has e (err clean)) survives;
+    is_open = λ clean ready. tt;
   }
 
 module _ (t : ℕ) (tests project : List Term) (order : List (Term × Key)) (db : Trees) (params : Row) (rows : List Row) (bare : overlay db [] t ≡ db t)
@@ -117,3 +111,14 @@ module _ (t : ℕ) (tests project : List Term) (order : List (Term × Key)) (db 
   -- a list that rises strictly and has these rows is the answer
   pub answer_only : (xs : List Output) → IsAscending (λ x y. output_cmp q x y ≡ Less) xs → IsPermutation xs (map out (filter passes (db t))) → rows ≡ map second xs
   answer_only xs strict same = a.shown ∙ ap (map second) (sorted_unique (output_cmp q) (output_cmp_total q) xs a.ordered strict (IsPermutation-trans _ _ _ same arranged) a.sorted)
+
+  -- THE sorted list of the state is the answer: its rows are those that pass, and no two of them tie
+  pub answer_sorted : {A : Type 0} (xs : List A) (f : A → Row) (order : A → A → Ordering) → ((a b : A) → output_cmp q (out (f a)) (out (f b)) ≡ order a b)
+      → IsAscending (λ a b. is_eq (order a b) ≡ false) xs → IsPermutation (map f xs) (filter passes (db t)) → rows ≡ map (λ x. eval_all project (params ∷ f x ∷ [])) (sort_by order xs)
+  answer_sorted {A} xs f order is apart same =
+      let shown : A → Output = λ x. out (f x) in
+      let far = ascending-map (λ x y. is_eq (output_cmp q x y) ≡ false) shown xs (ascending_weaker _ (λ x y. is_eq (output_cmp q (shown x) (shown y)) ≡ false) (λ x y h. ap is_eq (is x y) ∙ h) xs apart) in
+      let moved = IsPermutation-trans _ _ _ (subst (λ l. IsPermutation l (map out (filter passes (db t)))) (map-map out f xs) (IsPermutation-map out _ _ same)) arranged in
+      let all = sorted_is-sort_by (output_cmp q) (output_cmp_total q) (map shown xs) a.ordered far moved a.sorted
+      ∙ sort_by-map (output_cmp q) shown xs ∙ (λ i. map shown (sort_by (λ x y. is x y i) xs)) in
+      a.shown ∙ ap (map second) all ∙ map-map second shown (sort_by order xs)

@@ -93,7 +93,7 @@ filter_both p q (x ∷ xs) = elim (cases_Bool (p x)) [
 abbrev pub lacks : List ℤ → Row → Bool
 lacks ids r = list_all (λ id. not (has_rowid id r)) ids
 
-all_stay : (rows : List Row) → rows ≡ filter (λ r. true) rows
+pub all_stay : (rows : List Row) → rows ≡ filter (λ r. true) rows
 all_stay [] = refl
 all_stay (r ∷ rows) = ap (λ l. r ∷ l) (all_stay rows)
 

@@ -1,6 +1,6 @@
 -- Calls inside a transaction, one after the other, and its end.
 use Rattle.std.proofs.Common.{OnOk, Result, Ok, Err, ◌≡◌, ◌⊎◌, inl, inr, true, false, refl, sym, ap, subst, ◌∙◌, arith, ℕ, List, []}
-use Rattle.std.specs.Prelude.{IsTrue, IfErr, IsErr}
+use Rattle.std.specs.Prelude.{IsTrue, IfErr, IsErr, IsOk}
 use Rattle.sqlite.specs.Tree.{Trees}
 use Rattle.sqlite.specs.Order.{Row}
 use Rattle.sqlite.specs.Effect.{Database}
@@ -13,7 +13,7 @@ use Rattle.sqlite.specs.Held.{Held, state}
 use Rattle.sqlite.proofs.StateLemmas.{survives_then}
 use Rattle.sqlite.proofs.Callers.{survives_begin}
 use Rattle.sqlite_catalog.specs.Listing.{IsSound}
-use Rattle.uu_sql.specs.Steps.{Stands, Rests, Went, Inside, Halted, Outcome, Both, Did, Undid, Ends, Whole}
+use Rattle.uu_sql.specs.Steps.{Stands, Rests, Ready, Asked, Told, Went, Inside, Halted, Outcome, Both, Did, Undid, Ends, Whole}
 
 still : (a b c : State) → Survives a b (λ _. ⊥) → Survives b c (λ _. ⊥) → Survives a c (λ _. ⊥)
 still a b c p q = survives_then a b c (λ _. ⊥) (λ _. ⊥) (λ _. ⊥) (λ _ db none. none) (λ _ db none. none) p q
@@ -70,7 +70,7 @@ module _ (site : Schema) where
 
 -- ---- the whole transaction
 
-module _ (site : Schema) {S : Type 0} (g : Ghosts S) (A : Trees → Trees → Type 0) (old : Held S) (last end : State) (stands : Stands site (state g old).now) (ended : end.in_transaction ≡ false)
+module _ (site : Schema) {S : Type 0} (g : Ghosts S) (A : Trees → Trees → Type 0) (old : Held S) (last end : State) (ended : end.in_transaction ≡ false)
     (settled : (db : Trees) → IsTrue end.is_open → end.may_leave db → db ≡ end.committed.trees) where
   abbrev pub begun : State
   begun = state g (record old { in_transaction = true })
@@ -80,7 +80,7 @@ module _ (site : Schema) {S : Type 0} (g : Ghosts S) (A : Trees → Trees → Ty
 
   -- a stop leaves the trees after the step, which list and obey the schema
   abbrev pub After : Trees → Type 0
-  After db = A was.now.trees db × IsSound site db
+  After db = Stands site was.now → A was.now.trees db × IsSound site db
 
   undid : (HasCleanDisk end → IsTrue end.is_open → (end.now ≡ was.committed) × (end.committed ≡ was.committed)) → HasCleanDisk end → Undid was end
   undid back clean = record { undone = back clean; left = λ is_open db may. settled db is_open may ∙ ap (λ (d : Database). d.trees) (back clean is_open).1 }
@@ -91,7 +91,7 @@ module _ (site : Schema) {S : Type 0} (g : Ghosts S) (A : Trees → Trees → Ty
 
   pub abandoned : {T E : Type 0} (r : Result T E) → IsErr r → Halted site begun last → (HasCleanDisk end → IsRolledBack last end) → Survives last end (λ _. ⊥) → Whole site A was end r
   abandoned r fails h back over = record {
-    ends = λ clean. ends_err r fails (undid (λ clean is_open.
+    ends = λ clean stands. ends_err r fails (undid (λ clean is_open.
         let b = back clean in
         let kept = h.kept (omega (arith, over.clean)) refl stands (b.was_open is_open) in ((b.undone is_open).0 ∙ kept, (b.undone is_open).1 ∙ kept)) clean);
     survives = survives_then was last end (λ _. ⊥) (λ _. ⊥) After (λ _ db none. absurd none) (λ _ db none. absurd none) (survives_begin g old last (λ _. ⊥) h.survives) over;
@@ -102,9 +102,9 @@ module _ (site : Schema) {S : Type 0} (g : Ghosts S) (A : Trees → Trees → Ty
       → (HasCleanDisk end → OnOk r (IsTrue last.in_transaction × Shows last end last.now last.now false × KeepsCounts last end × (end.marks ≡ [])))
       → (HasCleanDisk end → IfErr r (FailsToCommit last end)) → Whole site A was end r
   committed r h over ok err = record {
-    ends = λ clean. each r (h.goes (omega (arith, over.clean)) refl stands) (ok clean) (err clean) clean;
+    ends = λ clean stands. each r (h.goes (omega (arith, over.clean)) refl stands) (ok clean) (err clean) clean;
     survives = survives_then was last end (λ _. ⊥) (λ db. db ≡ last.now.trees) After (λ _ db none. absurd none)
-        (λ clean db is. let went = h.goes (omega (arith, over.clean)) refl stands in (subst (A was.now.trees) (sym is) went.step, subst (IsSound site) (sym is) went.stands.sound))
+        (λ clean db is stands. let went = h.goes (omega (arith, over.clean)) refl stands in (subst (A was.now.trees) (sym is) went.step, subst (IsSound site) (sym is) went.stands.sound))
         (survives_begin g old last (λ _. ⊥) h.survives) over;
     idle = ended;
   }
@@ -119,3 +119,35 @@ module _ (site : Schema) {S : Type 0} (g : Ghosts S) (A : Trees → Trees → Ty
       }
       each (Err e) went ok (inl failed) clean = undid (λ clean is_open. ((failed.3.undone is_open).0 ∙ went.committed, (failed.3.undone is_open).1 ∙ went.committed)) clean
       each (Err e) went ok (inr late) clean = absurd (let a = went.inside in let b = late.1 in cc)
+
+-- ---- questions, one after the other
+
+module _ (site : Schema) {T E : Type 0} (a b : State) (r : Result T E) where
+  opened : (r : Result T E) (P : Type 0) → IsOk r → OnOk r P → P
+  opened (Ok x) P ok h = h
+  opened (Err e) P ok h = absurd (cc)
+
+  -- after an answer the connection shows what it showed
+  pub told_same : IsOk r → Told site a b r → HasCleanDisk b → Ready site a → Ready site b × (b.now ≡ a.now)
+  told_same ok told clean ready = told.asked.same clean ready (opened r (IsTrue b.is_open) ok (told.is_open clean ready))
+
+  pub told_then : (c : State) → IsOk r → Told site a b r → Asked site b c → Asked site a c
+  told_then c ok p q = record {
+    same = λ clean ready is_open.
+        let one = told_same ok p (omega (arith, q.survives.clean)) ready in
+        let two = q.same clean one.0 is_open in (two.0, two.1 ∙ one.1);
+    survives = survives_then a b c (λ _. ¬ Ready site a) (λ _. ¬ Ready site b) (λ _. ¬ Ready site a) (λ clean db never. never)
+        (λ clean db never ready. never (told_same ok p (omega (arith, q.survives.clean)) ready).0) p.asked.survives q.survives;
+  }
+
+  pub told_told : {U F : Type 0} (c : State) (s : Result U F) → IsOk r → Told site a b r → Told site b c s → Told site a c s
+  told_told c s ok p q = record { asked = told_then c ok p q.asked; is_open = λ clean ready. q.is_open clean (told_same ok p (omega (arith, q.asked.survives.clean)) ready).0 }
+
+  -- the answer is read, or not
+  pub told_also : {U F : Type 0} (s : Result U F) → IsOk r → Told site a b r → Told site a b s
+  told_also (Ok y) ok told = record { asked = told.asked; is_open = λ clean ready. opened r (IsTrue b.is_open) ok (told.is_open clean ready) }
+  told_also (Err e) ok told = record { asked = told.asked; is_open = λ clean ready. tt }
+
+  pub told_not : {U F : Type 0} (s : Result U F) → IsErr s → Told site a b r → Told site a b s
+  told_not (Ok y) fails told = absurd (cc)
+  told_not (Err e) fails told = record { asked = told.asked; is_open = λ clean ready. tt }

@@ -62,17 +62,21 @@ Ends site Step old new (Err e) = Undid old new
 
 -- a whole transaction: how it ends, and what a stop at its end may leave beside what it could leave before
 pub record Whole {T E : Type 0} (site : Schema) (Step : Trees → Trees → Type 0) (old new : State) (r : Result T E) : Type 0 where
-  pub ends : HasCleanDisk new → Ends site Step old new r
-  pub survives : Survives old new (λ db. Step old.now.trees db × IsSound site db)
+  pub ends : HasCleanDisk new → Stands site old.now → Ends site Step old new r
+  pub survives : Survives old new (λ db. Stands site old.now → Step old.now.trees db × IsSound site db)
   pub idle : new.in_transaction ≡ false
 
+-- a connection at rest on a database of this schema
+pub record Ready (site : Schema) (s : State) : Type 0 where
+  pub rests : Rests s
+  pub stands : Stands site s.now
+
 -- a question: it commits nothing, and while the connection answers it shows what it showed
-pub record Asked (old new : State) : Type 0 where
-  pub was_open : HasCleanDisk new → IsTrue new.is_open → IsTrue old.is_open
-  pub same : HasCleanDisk new → Rests old → IsTrue new.is_open → Rests new × (new.now ≡ old.now)
-  pub survives : Survives old new (λ _. ⊥)
+pub record Asked (site : Schema) (old new : State) : Type 0 where
+  pub same : HasCleanDisk new → Ready site old → IsTrue new.is_open → Ready site new × (new.now ≡ old.now)
+  pub survives : Survives old new (λ _. ¬ Ready site old)
 
 -- a question that was answered leaves the connection open
-pub record Told {T E : Type 0} (old new : State) (r : Result T E) : Type 0 where
-  pub asked : Asked old new
-  pub is_open : HasCleanDisk new → OnOk r (IsTrue new.is_open)
+pub record Told {T E : Type 0} (site : Schema) (old new : State) (r : Result T E) : Type 0 where
+  pub asked : Asked site old new
+  pub is_open : HasCleanDisk new → Ready site old → OnOk r (IsTrue new.is_open)

@@ -1,5 +1,6 @@
 -- What a database encodes, and what a spool shows.
-use Rattle.std.specs.Prelude.{◌≡◌, ◌⊎◌, ℕ, pos, List, [], ◌∷◌, ◌++◌, map}
+use Rattle.std.specs.Prelude.{◌≡◌, ◌⊎◌, ◌≤◌, ℕ, pos, List, [], ◌∷◌, ◌++◌, map, IsTrue, Result, Err, IfOk, OnErr, ⊤, Vec}
+use Rattle.std.specs.declared.alloc.Global.{Global}
 use Rattle.std.specs.List.Sorted.{IsPermutation}
 use Rattle.sqlite.specs.declared.types.Value.TheVariants.{Int, Text, Blob}
 use Rattle.sqlite.specs.Order.{Row, column}
@@ -7,13 +8,19 @@ use Rattle.sqlite.specs.Tree.{Trees}
 use Rattle.sqlite.specs.Effect.{Database}
 use Rattle.sqlite.specs.State as db
 use Rattle.sqlite_catalog.specs.Listing.{IsSound}
-use Rattle.uu_sql.specs.Steps.{Stands}
+use Rattle.sqlite.specs.View.{doubt}
+use Rattle.sqlite.specs.declared.error.Error.{Error}
+use Rattle.uu_sql.specs.Steps.{Stands, Rests}
+use Rattle.uu_store.specs.declared.command.Command.{Command}
+use Rattle.uu_store.specs.declared.command.Reply.{Reply}
+use Rattle.uu_store.specs.declared.fault.StoreFault.{StoreFault}
+use Rattle.uu_store.specs.declared.fault.StoreFault.TheVariants.{Memory, Store, Failed, Foreign, Newer}
 use Rattle.uu_store.specs.declared.job.JobHead.{JobHead}
 use Rattle.uu_store.specs.declared.job.Kind.{Kind}
 use Rattle.uu_store.specs.declared.job.Kind.TheVariants.{Send, Request}
 use Rattle.uu_store.specs.Schema.{site}
 use Rattle.uu_store.specs.Rows.{JobRow, job_row, spool_row, system_cells}
-use Rattle.uu_store.specs.Machine.{Job, State, IsWellFormed}
+use Rattle.uu_store.specs.Machine.{Job, State, IsWellFormed, after, reply_of}
 
 -- ---- a job as a row
 
@@ -52,6 +59,10 @@ head_cells h =
 abbrev pub job_cells : Job → Row
 job_cells j = head_cells j.head ++ Blob j.bytes ∷ []
 
+-- a job as the spool hands it out
+abbrev pub job_shown : JobHead × Vec ℕ Global → Job
+job_shown job = record { head = job.0; bytes = job.1.items }
+
 -- the columns of a head, at the front of a row
 abbrev pub cells_at : Row → Row
 cells_at r = column r 0 ∷ column r 1 ∷ column r 2 ∷ column r 3 ∷ column r 4 ∷ column r 5 ∷ column r 6 ∷ column r 7 ∷ column r 8 ∷ []
@@ -80,3 +91,33 @@ Leaves now s = (db : Trees) → now.may_leave db → IsSound site db × Holds db
 -- a stop may leave only what encodes the one state or the other
 abbrev pub LeavesEither : db.State → State → State → Type 0
 LeavesEither now s t = (db : Trees) → now.may_leave db → IsSound site db × (Holds db s ⊎ Holds db t)
+
+-- ---- what a call does
+
+-- A command is one step of the machine, or nothing. A stop at its end may leave what it could leave before, and beside
+-- that only the state after.
+pub record Obeys (s : State) (command : Command) (old new : db.State) (r : Result Reply Error) : Type 0 where
+  pub ok : db.HasCleanDisk new → Rests old → Encodes old.now s → IfOk r (λ reply. (reply ≡ reply_of s command) × Rests new × Encodes new.now (after s command))
+  pub err : db.HasCleanDisk new → Rests old → Encodes old.now s → OnErr r (IsTrue new.is_open → Rests new × Encodes new.now s)
+  pub stop : db.HasCleanDisk new → Rests old → Encodes old.now s → (trees : Trees) → new.may_leave trees → old.may_leave trees ⊎ (IsSound site trees × Holds trees (after s command))
+  pub clean : doubt old.is_clean ≤ doubt new.is_clean
+
+-- a fault of the store beside those that only an opening or an earlier failure gives
+abbrev pub IsFresh : StoreFault → Type 0
+IsFresh Memory = ⊤
+IsFresh (Store kind) = ⊤
+IsFresh Failed = ⊥
+IsFresh Foreign = ⊥
+IsFresh Newer = ⊥
+
+-- the same of a whole command, with the fault that the caller is told
+pub record Turns (s : State) (command : Command) (old new : db.State) (r : Result Reply StoreFault) : Type 0 where
+  pub ok : db.HasCleanDisk new → Rests old → Encodes old.now s → IfOk r (λ reply. (reply ≡ reply_of s command) × Rests new × Encodes new.now (after s command))
+  pub memory : db.HasCleanDisk new → Rests old → Encodes old.now s → r ≡ Err Memory → Rests new × Encodes new.now s
+  pub stop : db.HasCleanDisk new → Rests old → Encodes old.now s → (trees : Trees) → new.may_leave trees → old.may_leave trees ⊎ (IsSound site trees × Holds trees (after s command))
+
+-- A question is answered by what is shown, and changes nothing, whatever it answers.
+pub record Replies {T : Type 0} (IsAnswer : State → T → Type 0) (old new : db.State) (r : Result T StoreFault) : Type 0 where
+  pub ok : db.HasCleanDisk new → (s : State) → Rests old → Encodes old.now s → IfOk r (λ answer. IsAnswer s answer × Rests new × Encodes new.now s)
+  pub memory : db.HasCleanDisk new → (s : State) → Rests old → Encodes old.now s → r ≡ Err Memory → Rests new × Encodes new.now s
+  pub stop : db.HasCleanDisk new → (s : State) → Rests old → Encodes old.now s → (trees : Trees) → new.may_leave trees → old.may_leave trees

@@ -3,3 +3,4 @@ pub mod Rows
 pub mod Codes
 pub mod Machine
 pub mod Encoded
+pub mod Spool

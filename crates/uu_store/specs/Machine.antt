@@ -7,7 +7,7 @@ use Rattle.std.specs.Ordering.{nat_cmp, ordering_then}
 use Rattle.std.specs.declared.cmp.Ordering.{Ordering}
 use Rattle.std.specs.declared.cmp.Ordering.TheVariants.{Less}
 use Rattle.sqlite.specs.Tree.{IsAscending}
-use Rattle.sqlite_keyed.specs.Lists.{sort_by}
+use Rattle.sqlite_keyed.specs.Lists.{insert_sorted, sort_by}
 use Rattle.uu_store.specs.declared.job.JobHead.{JobHead}
 use Rattle.uu_store.specs.declared.job.NewJob.{NewJob}
 use Rattle.uu_store.specs.declared.command.Command.{Command}
@@ -39,7 +39,7 @@ abbrev pub by_bytes : List ℕ → List ℕ → Ordering
 by_bytes = slice_cmp nat_cmp
 
 abbrev pub is_known : State → List ℕ → Bool
-is_known s name = list_any (bytes_eq name) s.systems
+is_known s name = list_any (λ known. bytes_eq known name) s.systems
 
 abbrev pub max_bytes : ℕ
 max_bytes = 1048576
@@ -67,7 +67,7 @@ verdict s (Queue new) = queue_refusal (is_known s new.system) s.next new
 
 -- the names with one more, in byte order
 abbrev pub with_name : List ℕ → List (List ℕ) → List (List ℕ)
-with_name name names = sort_by by_bytes (name ∷ names)
+with_name name names = insert_sorted by_bytes name names
 
 -- what an accepted command leaves
 abbrev pub accepted : State → Command → State

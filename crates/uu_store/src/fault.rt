@@ -1,5 +1,8 @@
 // Why the store gives no answer.
-ghost use Rattle.std.specs.Prelude.{◌≡◌, false};
+ghost use Rattle.std.specs.Prelude.{◌≡◌, false, IsTrue};
+ghost use Rattle.sqlite.specs.Held.{state};
+ghost use Rattle.sqlite.specs.State.{HasCleanDisk, Survives, IsUnchanged};
+ghost use Rattle.uu_store.specs.Encoded.{IsFresh};
 ghost use Rattle.uu_store.specs.Codes.{fault_code};
 ghost use Rattle.uu_store.specs.declared.fault.StoreFault.TheVariants.{Memory};
 
@@ -85,6 +88,9 @@ pub(crate) fn kind_of(error: &SqlError) -> StoreKind {
 pub(crate) fn store_fault<S: Alter>(conn: &mut Connection<S>, error: &SqlError) -> StoreFault
     requires { conn.old.in_transaction ≡ false }
     ensures idle { conn.new.in_transaction ≡ false }
+    ensures fresh { IsFresh result }
+    ensures memory { HasCleanDisk (state S.Store conn.new) → result ≡ Memory → IsTrue (state S.Store conn.old).is_open × IsUnchanged (state S.Store conn.old) (state S.Store conn.new) }
+    ensures survives { Survives (state S.Store conn.old) (state S.Store conn.new) (λ _. ⊥) }
 {
     if is_memory(error) && is_alive(conn) {
         StoreFault::Memory

@@ -2,6 +2,7 @@
 #![tactic(auto)]
 
 mod adopt;
+mod asked;
 mod command;
 mod decision;
 mod fault;

@@ -1,14 +1,15 @@
 // Jobs as rows of their table, and back.
-ghost use Rattle.std.specs.Prelude.{◌≡◌, IfOk, pos, map, string_bytes, [], ◌∷◌};
+ghost use Rattle.std.specs.Prelude.{◌≡◌, IfOk, pos, map, string_bytes, [], ◌∷◌, ◌++◌, option_map, slice_get};
 ghost use Rattle.sqlite.specs.Order.{column};
 ghost use Rattle.sqlite.specs.declared.types.Value.TheVariants.{Int, Text, Blob};
-ghost use Rattle.uu_store.specs.Encoded.{kind_number, first_word, second_word, head_cells, cells_at, kind_of};
+ghost use Rattle.uu_store.specs.declared.rows.RowFault.TheVariants.{Memory};
+ghost use Rattle.uu_store.specs.Encoded.{kind_number, first_word, second_word, head_cells, cells_at, kind_of, IsFresh};
 
 use crate::fault::{StoreFault, StoreKind};
 use crate::job::{JobHead, Kind};
 use sqlite::types::FromSql;
 use sqlite::{Error, Row};
-use std::alloc::Global;
+use std::alloc::{AllocFailed, Global};
 use uu_names::{Grade, NameFault, SiteName, Word};
 use uu_sql::is_memory;
 
@@ -16,8 +17,34 @@ const SEND: u32 = 0;
 
 const REQUEST: u32 = 1;
 
-// A row that the tables do not allow.
-const BAD_ROW: StoreFault = StoreFault::Store(StoreKind::Database);
+/// Why a row is not read.
+#[derive(Clone, Copy, Debug, PartialEq, Eq)]
+pub(crate) enum RowFault {
+    /// Memory was refused.
+    Memory,
+    /// The tables do not allow the row.
+    Bad,
+}
+
+impl RowFault {
+    /// What the caller is told of it.
+    pub(crate) fn told(self) -> StoreFault
+        ensures { IsFresh result }
+    {
+        match self {
+            RowFault::Memory => StoreFault::Memory,
+            RowFault::Bad => StoreFault::Store(StoreKind::Database),
+        }
+    }
+}
+
+impl<T: Drop> From<AllocFailed<T>> for RowFault {
+    ghost from_gives = { λ _ fault. fault ≡ Memory };
+
+    fn from(_refused: AllocFailed<T>) -> RowFault {
+        RowFault::Memory
+    }
+}
 
 /// The number by which a row names the kind.
 pub(crate) fn kind_number(kind: &Kind) -> u32
@@ -47,22 +74,22 @@ pub(crate) fn second_word(kind: &Kind) -> &str
     }
 }
 
-fn read_fault(error: &Error) -> StoreFault {
+fn read_fault(error: &Error) -> RowFault {
     if is_memory(error) {
-        StoreFault::Memory
+        RowFault::Memory
     } else {
-        BAD_ROW
+        RowFault::Bad
     }
 }
 
-fn name_fault(fault: NameFault) -> StoreFault {
+fn name_fault(fault: NameFault) -> RowFault {
     match fault {
-        NameFault::Memory => StoreFault::Memory,
-        _ => BAD_ROW,
+        NameFault::Memory => RowFault::Memory,
+        _ => RowFault::Bad,
     }
 }
 
-fn number_in(row: &Row, at: usize) -> Result<u32, StoreFault>
+fn number_in(row: &Row, at: usize) -> Result<u32, RowFault>
     ensures { IfOk result (λ number. column row.now at ≡ Int (pos number)) }
 {
     match row.get(at) {
@@ -71,7 +98,7 @@ fn number_in(row: &Row, at: usize) -> Result<u32, StoreFault>
     }
 }
 
-fn text_in(row: &Row, at: usize) -> Result<String, StoreFault>
+fn text_in(row: &Row, at: usize) -> Result<String, RowFault>
     ensures { IfOk result (λ text. column row.now at ≡ Text (string_bytes text)) }
 {
     match row.get(at) {
@@ -81,7 +108,7 @@ fn text_in(row: &Row, at: usize) -> Result<String, StoreFault>
 }
 
 /// The bytes in this column.
-pub(crate) fn bytes_in(row: &Row, at: usize) -> Result<Vec<u8>, StoreFault>
+pub(crate) fn bytes_in(row: &Row, at: usize) -> Result<Vec<u8>, RowFault>
     ensures { IfOk result (λ bytes. column row.now at ≡ Blob bytes.items) }
 {
     match row.get(at) {
@@ -90,7 +117,7 @@ pub(crate) fn bytes_in(row: &Row, at: usize) -> Result<Vec<u8>, StoreFault>
     }
 }
 
-fn name_in(alloc: Global, row: &Row, at: usize) -> Result<SiteName, StoreFault>
+fn name_in(alloc: Global, row: &Row, at: usize) -> Result<SiteName, RowFault>
     ensures { IfOk result (λ name. column row.now at ≡ Text name) }
 {
     let text = text_in(row, at)?;
@@ -100,7 +127,7 @@ fn name_in(alloc: Global, row: &Row, at: usize) -> Result<SiteName, StoreFault>
     }
 }
 
-fn word_in(alloc: Global, row: &Row, at: usize) -> Result<Word, StoreFault>
+fn word_in(alloc: Global, row: &Row, at: usize) -> Result<Word, RowFault>
     ensures { IfOk result (λ word. column row.now at ≡ Text word) }
 {
     let text = text_in(row, at)?;
@@ -110,17 +137,17 @@ fn word_in(alloc: Global, row: &Row, at: usize) -> Result<Word, StoreFault>
     }
 }
 
-fn grade_in(row: &Row, at: usize) -> Result<Grade, StoreFault>
+fn grade_in(row: &Row, at: usize) -> Result<Grade, RowFault>
     ensures { IfOk result (λ grade. column row.now at ≡ Int (pos grade)) }
 {
     let rank = number_in(row, at)?;
     match u8::try_from(rank) {
-        Ok(rank) => Grade::of_rank(rank).ok_or(BAD_ROW),
-        Err(_) => Err(BAD_ROW),
+        Ok(rank) => Grade::of_rank(rank).ok_or(RowFault::Bad),
+        Err(_) => Err(RowFault::Bad),
     }
 }
 
-fn kind_in(alloc: Global, row: &Row) -> Result<Kind, StoreFault>
+fn kind_in(alloc: Global, row: &Row) -> Result<Kind, RowFault>
     ensures { IfOk result (λ kind. kind_of row.now ≡ Int (pos (kind_number kind)) ∷ Text (first_word kind) ∷ Text (second_word kind) ∷ []) }
 {
     let number = number_in(row, 4)?;
@@ -129,12 +156,12 @@ fn kind_in(alloc: Global, row: &Row) -> Result<Kind, StoreFault>
     match number {
         SEND => Ok(Kind::Send { source, target }),
         REQUEST => Ok(Kind::Request { source, target }),
-        _ => Err(BAD_ROW),
+        _ => Err(RowFault::Bad),
     }
 }
 
 /// The head of a job, of a row that begins with its columns.
-pub(crate) fn head_in(alloc: Global, row: &Row) -> Result<JobHead, StoreFault>
+pub(crate) fn head_in(alloc: Global, row: &Row) -> Result<JobHead, RowFault>
     ensures { IfOk result (λ head. cells_at row.now ≡ head_cells head) }
 {
     let number = number_in(row, 0)?;
@@ -156,7 +183,7 @@ pub(crate) fn head_in(alloc: Global, row: &Row) -> Result<JobHead, StoreFault>
 }
 
 /// The heads of jobs, of rows that begin with their columns.
-pub(crate) fn heads_in(alloc: Global, rows: &[Row]) -> Result<Vec<JobHead>, StoreFault>
+pub(crate) fn heads_in(alloc: Global, rows: &[Row]) -> Result<Vec<JobHead>, RowFault>
     ensures { IfOk result (λ heads. map cells_at rows.now ≡ map head_cells heads.items) }
 {
     let mut heads = Vec::new(alloc);
@@ -167,10 +194,9 @@ pub(crate) fn heads_in(alloc: Global, rows: &[Row]) -> Result<Vec<JobHead>, Stor
 }
 
 /// The first of the rows as a job with its bytes, if there is one.
-pub(crate) fn job_in(
-    alloc: Global,
-    rows: &[Row],
-) -> Result<Option<(JobHead, Vec<u8>)>, StoreFault> {
+pub(crate) fn job_in(alloc: Global, rows: &[Row]) -> Result<Option<(JobHead, Vec<u8>)>, RowFault>
+    ensures { IfOk result (λ found. option_map (λ job. head_cells job.0 ++ Blob job.1.items ∷ []) found ≡ option_map (λ row. cells_at row ++ column row 9 ∷ []) (slice_get rows.now 0)) }
+{
     match rows.first() {
         Some(row) => {
             let head = head_in(alloc, row)?;

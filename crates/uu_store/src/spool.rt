@@ -1,17 +1,17 @@
 // The spool over one connection.
 ghost use Rattle.std.specs.Prelude.{◌≡◌, false};
 
+use crate::asked::{carry_out, find, list, next};
 use crate::command::{Command, Reply};
-use crate::decision::decide_queue;
-use crate::fault::{StoreFault, store_fault};
-use crate::job::{JobHead, NewJob};
-use crate::rows::{heads_in, job_in};
-use crate::statements::{add_job, add_system, ask_job, ask_jobs, ask_next, ask_system};
-use crate::times::SystemDef;
-use sqlite::{Alter, Connection, Error};
+use crate::fault::StoreFault;
+use crate::job::JobHead;
+use sqlite::{Alter, Connection};
 use std::alloc::Global;
 
 /// A spool, over a connection that it owns.
+///
+/// While nobody else writes the file and the disk returns what was written, a spool shows one state of the plain
+/// machine (`specs/Machine.antt`). A command is one step of the machine, and it is in the file once it is answered.
 #[derive(Drop)]
 pub struct Spool<S: Alter> {
     conn: Connection<S>,
@@ -19,54 +19,19 @@ pub struct Spool<S: Alter> {
     ghost idle: { conn.in_transaction ≡ false },
 }
 
-// Whether a system of this name is there.
-fn is_known<S: Alter>(conn: &mut Connection<S>, name: &str) -> Result<bool, Error>
-    ensures idle { conn.old.in_transaction ≡ false → conn.new.in_transaction ≡ false }
-{
-    let rows = ask_system(conn, name)?;
-    Ok(!rows.is_empty())
-}
-
-// The next number. A table without it is no spool's.
-fn next_number<S: Alter>(conn: &mut Connection<S>) -> Result<u32, Error>
-    ensures idle { conn.old.in_transaction ≡ false → conn.new.in_transaction ≡ false }
-{
-    let rows = ask_next(conn)?;
-    match rows.as_slice().first() {
-        Some(row) => row.get(0),
-        None => Err(Error::QueryReturnedNoRows),
-    }
-}
-
-fn define<S: Alter>(conn: &mut Connection<S>, system: &SystemDef) -> Result<Reply, Error>
-    requires { conn.old.in_transaction ≡ false }
-    ensures idle { conn.new.in_transaction ≡ false }
-{
-    if !is_known(conn, system.name.as_str())? {
-        add_system(conn, system.name.as_str())?;
-    }
-    Ok(Reply::Done)
-}
-
-fn queue<S: Alter>(conn: &mut Connection<S>, job: &NewJob) -> Result<Reply, Error>
-    requires { conn.old.in_transaction ≡ false }
-    ensures idle { conn.new.in_transaction ≡ false }
-{
-    let known = is_known(conn, job.system.as_str())?;
-    let next = next_number(conn)?;
-    match decide_queue(known, next, job) {
-        Ok(number) => {
-            add_job(conn, number, job)?;
-            Ok(Reply::Number(number))
-        }
-        Err(refusal) => Ok(Reply::Refused(refusal)),
-    }
-}
-
 impl<S: Alter> Spool<S> {
+    ghost use Rattle.std.specs.Prelude.{IsTrue, IfOk, IfErr, Err, MatchResult, option_map};
+    ghost use Rattle.sqlite.specs.State.{HasCleanDisk};
+    ghost use Rattle.sqlite.specs.Held.{state};
+    ghost use Rattle.uu_store.specs.Machine.{after, reply_of, listed_heads, job_at};
+    ghost use Rattle.uu_store.specs.Encoded.{Leaves, LeavesEither, IsFresh, job_shown};
+    ghost use Rattle.uu_store.specs.Spool.{connection_of, disk, has_failed, Shows, Marks};
+
     /// A spool over a connection whose tables are those of one.
     pub(crate) fn over(conn: Connection<S>) -> Spool<S>
         requires { conn.in_transaction ≡ false }
+        ensures connection { connection_of result ≡ conn }
+        ensures usable { has_failed result ≡ false }
     {
         Spool {
             conn,
@@ -74,81 +39,50 @@ impl<S: Alter> Spool<S> {
         }
     }
 
-    /// Gives the connection back.
-    pub fn release(self) -> Connection<S> {
+    /// Gives the connection back, with no transaction open on it. It takes no memory.
+    pub fn release(self) -> Connection<S>
+        ensures connection { result ≡ connection_of self }
+        ensures idle { result.in_transaction ≡ false }
+    {
         let Spool { conn, failed: _ } = self;
         conn
     }
 
-    // What an error of the database means for the caller. Only where the connection still answers is it want of memory.
-    fn fault_of(&mut self, error: &Error) -> StoreFault {
-        let fault = store_fault(&mut self.conn, error);
-        self.noted(fault)
-    }
-
-    // A fault that the spool found in what the database gave.
-    fn noted(&mut self, fault: StoreFault) -> StoreFault {
+    // After a fault of the store no statement is given any more.
+    fn noted(&mut self, fault: StoreFault) -> StoreFault
+        requires usable { has_failed self.old ≡ false }
+        ensures same { result ≡ fault }
+        ensures connection { connection_of self.new ≡ connection_of self.old }
+        ensures marked { IsFresh fault → Marks (has_failed self.old) (has_failed self.new) fault }
+    {
         if fault != StoreFault::Memory {
             self.failed = true;
         }
         fault
     }
 
-    /// Carries out one command.
-    pub fn command(&mut self, command: Command) -> Result<Reply, StoreFault> {
+    /// Carries out one command. Its last call of the database is the commit.
+    pub fn command(&mut self, command: Command) -> Result<Reply, StoreFault>
+        ensures marked { MatchResult result (λ _. (has_failed self.old ≡ false) × (has_failed self.new ≡ false)) (Marks (has_failed self.old) (has_failed self.new)) }
+
+        // On a clean store a command is one step of the machine.
+        ensures step { HasCleanDisk (disk self.new) → (s : _) → Shows self.old s → IfOk result (λ reply. (reply ≡ reply_of s command) × Shows self.new (after s command)) }
+        ensures memory { HasCleanDisk (disk self.new) → (s : _) → Shows self.old s → result ≡ Err StoreFault.Memory → Shows self.new s }
+
+        // What a stop at its end leaves.
+        ensures stop_ok { HasCleanDisk (disk self.new) → (s : _) → Shows self.old s → IfOk result (λ _. Leaves (disk self.new) (after s command)) }
+        ensures stop_memory { HasCleanDisk (disk self.new) → (s : _) → Shows self.old s → result ≡ Err StoreFault.Memory → Leaves (disk self.new) s }
+        ensures stop_store { HasCleanDisk (disk self.new) → (s : _) → Shows self.old s → LeavesEither (disk self.new) s (after s command) }
+
+        // A spool that failed is left as it was.
+        ensures failed { IsTrue (has_failed self.old) → (result ≡ Err StoreFault.Failed) × (self.new ≡ self.old) }
+    {
         if self.failed {
             return Err(StoreFault::Failed);
         }
-        let answer = match &command {
-            Command::Define(system) => define(&mut self.conn, system),
-            Command::Queue(job) => queue(&mut self.conn, job),
-        };
-        match answer {
+        match carry_out(&mut self.conn, &command) {
             Ok(reply) => Ok(reply),
-            Err(error) => Err(self.fault_of(&error)),
-        }
-    }
-
-    /// The heads of all jobs, by grade, the highest first, and in one grade by number.
-    pub fn jobs(&mut self, alloc: Global) -> Result<Vec<JobHead>, StoreFault> {
-        if self.failed {
-            return Err(StoreFault::Failed);
-        }
-        match ask_jobs(&mut self.conn) {
-            Ok(rows) => match heads_in(alloc, &rows) {
-                Ok(heads) => Ok(heads),
-                Err(fault) => Err(self.noted(fault)),
-            },
-            Err(error) => Err(self.fault_of(&error)),
-        }
-    }
-
-    /// The job of this number with all its bytes, if it is there.
-    pub fn job(
-        &mut self,
-        alloc: Global,
-        number: u32,
-    ) -> Result<Option<(JobHead, Vec<u8>)>, StoreFault> {
-        if self.failed {
-            return Err(StoreFault::Failed);
-        }
-        match ask_job(&mut self.conn, number) {
-            Ok(rows) => match job_in(alloc, &rows) {
-                Ok(job) => Ok(job),
-                Err(fault) => Err(self.noted(fault)),
-            },
-            Err(error) => Err(self.fault_of(&error)),
-        }
-    }
-
-    /// The number that the next job gets.
-    pub fn next(&mut self) -> Result<u32, StoreFault> {
-        if self.failed {
-            return Err(StoreFault::Failed);
-        }
-        match next_number(&mut self.conn) {
-            Ok(next) => Ok(next),
-            Err(error) => Err(self.fault_of(&error)),
+            Err(fault) => Err(self.noted(fault)),
         }
     }
 }

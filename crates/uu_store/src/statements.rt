@@ -1,8 +1,10 @@
 // The statements of the spool, one a function.
-ghost use Rattle.std.specs.Prelude.{◌≡◌, ◌<◌, ◌^◌, ◌-◌, ◌+◌, false, vec_len};
+ghost use Rattle.std.specs.Prelude.{◌≡◌, ◌<◌, ◌^◌, ◌-◌, ◌+◌, false, vec_len, pos, [], ◌∷◌, IfOk};
 ghost use Rattle.sqlite.specs.Held.{state};
-ghost use Rattle.uu_sql.specs.Steps.{Stands, Outcome, Both, Whole};
-ghost use Rattle.uu_store.specs.Schema.{site};
+ghost use Rattle.sqlite.specs.State.{HasCleanDisk, Shown};
+ghost use Rattle.sqlite.specs.declared.types.Value.TheVariants.{Int, Text};
+ghost use Rattle.uu_sql.specs.Steps.{Outcome, Both, Whole, Told};
+ghost use Rattle.uu_store.specs.Schema.{site, ask_version, ask_next, ask_system, ask_jobs, ask_job};
 ghost use Rattle.uu_store.specs.Rows.{JobAdded, SystemAdded, NextSet};
 ghost use Rattle.uu_store.specs.Machine.{job_of};
 ghost use Rattle.uu_store.specs.Encoded.{stored};
@@ -71,7 +73,7 @@ fn insert_job_and_next<S: Alter>(
 pub(crate) fn add_system<S: Alter>(conn: &mut Connection<S>, name: &str) -> Result<(), Error>
     requires { conn.old.in_transaction ≡ false }
     ensures idle { conn.new.in_transaction ≡ false }
-    ensures whole { Stands site (state S.Store conn.old).now → Whole site (SystemAdded name.now) (state S.Store conn.old) (state S.Store conn.new) result }
+    ensures whole { Whole site (SystemAdded name.now) (state S.Store conn.old) (state S.Store conn.new) result }
 {
     let mut tx = conn.transaction();
     insert_system(&mut tx, name)?;
@@ -88,7 +90,7 @@ pub(crate) fn add_job<S: Alter>(
     requires number { number < 2 ^ 32 - 1 }
     requires idle { conn.old.in_transaction ≡ false }
     ensures idle { conn.new.in_transaction ≡ false }
-    ensures whole { Stands site (state S.Store conn.old).now → Whole site (Both (JobAdded (stored (job_of number job.now))) (NextSet (number + 1))) (state S.Store conn.old) (state S.Store conn.new) result }
+    ensures whole { Whole site (Both (JobAdded (stored (job_of number job.now))) (NextSet (number + 1))) (state S.Store conn.old) (state S.Store conn.new) result }
 {
     let mut tx = conn.transaction();
     insert_job_and_next(&mut tx, number, job)?;
@@ -100,6 +102,8 @@ pub(crate) fn add_job<S: Alter>(
 /// The version in the row of `id` 1, if it is there.
 pub(crate) fn ask_version<S: Alter>(conn: &mut Connection<S>) -> Result<Vec<Row>, Error>
     ensures idle { conn.old.in_transaction ≡ false → conn.new.in_transaction ≡ false }
+    ensures told { Told site (state S.Store conn.old) (state S.Store conn.new) result }
+    ensures rows { HasCleanDisk (state S.Store conn.new) → IfOk result (λ rows. Shown ask_version [] (state S.Store conn.old) (state S.Store conn.new) rows.items) }
 {
     conn.query_all("SELECT version FROM spool WHERE id = 1", &[])
 }
@@ -107,6 +111,8 @@ pub(crate) fn ask_version<S: Alter>(conn: &mut Connection<S>) -> Result<Vec<Row>
 /// The next number.
 pub(crate) fn ask_next<S: Alter>(conn: &mut Connection<S>) -> Result<Vec<Row>, Error>
     ensures idle { conn.old.in_transaction ≡ false → conn.new.in_transaction ≡ false }
+    ensures told { Told site (state S.Store conn.old) (state S.Store conn.new) result }
+    ensures rows { HasCleanDisk (state S.Store conn.new) → IfOk result (λ rows. Shown ask_next [] (state S.Store conn.old) (state S.Store conn.new) rows.items) }
 {
     conn.query_all("SELECT next FROM spool WHERE id = 1", &[])
 }
@@ -114,6 +120,8 @@ pub(crate) fn ask_next<S: Alter>(conn: &mut Connection<S>) -> Result<Vec<Row>, E
 /// The system of this name, if it is there.
 pub(crate) fn ask_system<S: Alter>(conn: &mut Connection<S>, name: &str) -> Result<Vec<Row>, Error>
     ensures idle { conn.old.in_transaction ≡ false → conn.new.in_transaction ≡ false }
+    ensures told { Told site (state S.Store conn.old) (state S.Store conn.new) result }
+    ensures rows { HasCleanDisk (state S.Store conn.new) → IfOk result (λ rows. Shown ask_system (Text name.now ∷ []) (state S.Store conn.old) (state S.Store conn.new) rows.items) }
 {
     conn.query_all("SELECT name FROM systems WHERE name = ?1", params![name])
 }
@@ -121,6 +129,8 @@ pub(crate) fn ask_system<S: Alter>(conn: &mut Connection<S>, name: &str) -> Resu
 /// The heads of all jobs by (rank, number).
 pub(crate) fn ask_jobs<S: Alter>(conn: &mut Connection<S>) -> Result<Vec<Row>, Error>
     ensures idle { conn.old.in_transaction ≡ false → conn.new.in_transaction ≡ false }
+    ensures told { Told site (state S.Store conn.old) (state S.Store conn.new) result }
+    ensures rows { HasCleanDisk (state S.Store conn.new) → IfOk result (λ rows. Shown ask_jobs [] (state S.Store conn.old) (state S.Store conn.new) rows.items) }
 {
     conn.query_all(
         "SELECT number, system, rank, user, kind, queued, first_word, second_word, size FROM jobs ORDER BY rank, number",
@@ -131,6 +141,8 @@ pub(crate) fn ask_jobs<S: Alter>(conn: &mut Connection<S>) -> Result<Vec<Row>, E
 /// The job of this number, if it is there.
 pub(crate) fn ask_job<S: Alter>(conn: &mut Connection<S>, number: u32) -> Result<Vec<Row>, Error>
     ensures idle { conn.old.in_transaction ≡ false → conn.new.in_transaction ≡ false }
+    ensures told { Told site (state S.Store conn.old) (state S.Store conn.new) result }
+    ensures rows { HasCleanDisk (state S.Store conn.new) → IfOk result (λ rows. Shown ask_job (Int (pos number) ∷ []) (state S.Store conn.old) (state S.Store conn.new) rows.items) }
 {
     conn.query_all(
         "SELECT number, system, rank, user, kind, queued, first_word, second_word, size, bytes FROM jobs WHERE number = ?1 ORDER BY number",

@@ -1,0 +1,16 @@
+use Rattle.std.proofs.Common.{◌≡◌, ◌∙◌, sym, ap}
+use Rattle.sqlite.specs.Held.{state}
+use Rattle.uu_store.specs.Machine.{listed_heads}
+use Rattle.uu_store.specs.Encoded.{cells_at}
+use Rattle.uu_store.proofs.Obeying.{answered}
+use Rattle.uu_store.proofs.Answered.{jobs_rows}
+use Rattle.uu_store.proofs.Turning.{replies_ok}
+use Rattle.uu_store.proofs.Shown.{heads_are}
+use Rattle.uu_store.proofs.asked.list.Goals as goal
+
+pub returns-in-Ok-heads_in-clause-replies : goal.returns-in-Ok-heads_in-clause-replies
+returns-in-Ok-heads_in-clause-replies g c =
+    let a = state g.S.Store c.args.conn.now in
+    let b = state g.S.Store c.ask_jobs.new.conn in
+    replies_ok (λ s heads. heads.items ≡ listed_heads s) a b c.ask_jobs.result (answered _ _ c.in-Ok.is) c.ask_jobs.ensures.told _
+    (λ clean s enc. heads_are s c.in-Ok.rows.items c.in-Ok-heads_in.heads.items (jobs_rows a b s c.in-Ok.rows.items enc (c.in-Ok.ensures.rows clean)) (rw c.deref.ensures.value at c.in-Ok-heads_in.ensures))

@@ -1,0 +1,11 @@
+use Rattle.std.proofs.Common.{[]}
+use Rattle.sqlite.specs.Held.{state}
+use Rattle.uu_sql.proofs.Answers.{told}
+use Rattle.uu_store.specs.Schema.{site, ask_next}
+use Rattle.uu_store.proofs.Texts.{next_means}
+use Rattle.uu_store.proofs.statements.ask_next.Goals as goal
+
+pub returns-clause-told : goal.returns-clause-told
+returns-clause-told g c =
+    told site ask_next _ _ [] (state g.S.Store c.args.conn.now) (state g.S.Store c.query_all.new.self) next_means c.query_all.result
+    (c.query_all.ensures.ok) (c.query_all.ensures.err) (c.query_all.ensures.survives)

@@ -1,0 +1,37 @@
+-- What a spool shows.
+use Rattle.std.specs.Prelude.{◌≡◌, Bool, true, false}
+use Rattle.sqlite.specs.Store.{Ghosts}
+use Rattle.sqlite.specs.Held.{Held, state}
+use Rattle.sqlite.specs.State as db
+use Rattle.uu_sql.specs.Steps.{Rests}
+use Rattle.uu_store.specs.declared.spool.Spool.{Spool}
+use Rattle.uu_store.specs.declared.fault.StoreFault.{StoreFault}
+use Rattle.uu_store.specs.declared.fault.StoreFault.TheVariants.{Memory, Store, Failed, Foreign, Newer}
+use Rattle.uu_store.specs.Machine.{State}
+use Rattle.uu_store.specs.Encoded.{Encodes}
+
+-- the connection that it owns
+abbrev pub connection_of : {S : Type 0} {g : Ghosts S} → Spool S g → Held S
+connection_of spool = spool.conn
+
+-- what its connection shows, and what a stop may leave of it
+abbrev pub disk : {S : Type 0} {g : Ghosts S} → Spool S g → db.State
+disk {g} spool = state g (connection_of spool)
+
+-- a call answered that the store failed
+abbrev pub has_failed : {S : Type 0} {g : Ghosts S} → Spool S g → Bool
+has_failed spool = spool.failed
+
+-- the spool can be used, and its database encodes the state
+pub record Shows {S : Type 0} {g : Ghosts S} (spool : Spool S g) (s : State) : Type 0 where
+  pub usable : has_failed spool ≡ false
+  pub rests : Rests (disk spool)
+  pub encodes : Encodes (disk spool).now s
+
+-- which fault a call gives, by whether the spool had failed before and has afterwards
+abbrev pub Marks : Bool → Bool → StoreFault → Type 0
+Marks before afterwards Memory = (before ≡ false) × (afterwards ≡ false)
+Marks before afterwards (Store kind) = (before ≡ false) × (afterwards ≡ true)
+Marks before afterwards Failed = (before ≡ true) × (afterwards ≡ true)
+Marks before afterwards Foreign = ⊥
+Marks before afterwards Newer = ⊥
