@@ -5,3 +5,4 @@ pub mod Answered
 pub mod Obeying
 pub mod Turning
 pub mod Shown
+pub mod Ending

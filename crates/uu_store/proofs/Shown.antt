@@ -51,7 +51,7 @@ pub heads_are : (s : State) (rows : List Row) (heads : List JobHead) → rows �
 heads_are s rows heads is read =
     let sorted = sort_by by_rank s.jobs in
     let cells : map head_cells heads ≡ map head_cells (map (λ (j : Job). j.head) sorted) =
-        sym read ∙ ap (map cells_at) is ∙ map-map cells_at (λ (j : Job). head_cells j.head) sorted ∙ sym (map-map head_cells (λ (j : Job). j.head) sorted) in
+    sym read ∙ ap (map cells_at) is ∙ map-map cells_at (λ (j : Job). head_cells j.head) sorted ∙ sym (map-map head_cells (λ (j : Job). j.head) sorted) in
     sym (map_back head_cells head_back head_returns heads) ∙ ap (map head_back) cells ∙ map_back head_cells head_back head_returns (map (λ (j : Job). j.head) sorted)
 
 -- ---- a job with its bytes

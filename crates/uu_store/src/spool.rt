@@ -85,4 +85,59 @@ impl<S: Alter> Spool<S> {
             Err(fault) => Err(self.noted(fault)),
         }
     }
+
+    /// The heads of all jobs, by grade, the highest first, and in one grade by number.
+    pub fn jobs(&mut self, alloc: Global) -> Result<Vec<JobHead>, StoreFault>
+        ensures marked { MatchResult result (λ _. (has_failed self.old ≡ false) × (has_failed self.new ≡ false)) (Marks (has_failed self.old) (has_failed self.new)) }
+        ensures answer { HasCleanDisk (disk self.new) → (s : _) → Shows self.old s → IfOk result (λ heads. (heads.items ≡ listed_heads s) × Shows self.new s) }
+        ensures memory { HasCleanDisk (disk self.new) → (s : _) → Shows self.old s → result ≡ Err StoreFault.Memory → Shows self.new s }
+        ensures stop { HasCleanDisk (disk self.new) → (s : _) → Shows self.old s → Leaves (disk self.new) s }
+        ensures failed { IsTrue (has_failed self.old) → (result ≡ Err StoreFault.Failed) × (self.new ≡ self.old) }
+    {
+        if self.failed {
+            return Err(StoreFault::Failed);
+        }
+        match list(alloc, &mut self.conn) {
+            Ok(answer) => Ok(answer),
+            Err(fault) => Err(self.noted(fault)),
+        }
+    }
+
+    /// The job of this number with all its bytes, if it is there.
+    pub fn job(
+        &mut self,
+        alloc: Global,
+        number: u32,
+    ) -> Result<Option<(JobHead, Vec<u8>)>, StoreFault>
+        ensures marked { MatchResult result (λ _. (has_failed self.old ≡ false) × (has_failed self.new ≡ false)) (Marks (has_failed self.old) (has_failed self.new)) }
+        ensures answer { HasCleanDisk (disk self.new) → (s : _) → Shows self.old s → IfOk result (λ found. (option_map job_shown found ≡ job_at s number) × Shows self.new s) }
+        ensures memory { HasCleanDisk (disk self.new) → (s : _) → Shows self.old s → result ≡ Err StoreFault.Memory → Shows self.new s }
+        ensures stop { HasCleanDisk (disk self.new) → (s : _) → Shows self.old s → Leaves (disk self.new) s }
+        ensures failed { IsTrue (has_failed self.old) → (result ≡ Err StoreFault.Failed) × (self.new ≡ self.old) }
+    {
+        if self.failed {
+            return Err(StoreFault::Failed);
+        }
+        match find(alloc, &mut self.conn, number) {
+            Ok(answer) => Ok(answer),
+            Err(fault) => Err(self.noted(fault)),
+        }
+    }
+
+    /// The number that the next job gets.
+    pub fn next(&mut self) -> Result<u32, StoreFault>
+        ensures marked { MatchResult result (λ _. (has_failed self.old ≡ false) × (has_failed self.new ≡ false)) (Marks (has_failed self.old) (has_failed self.new)) }
+        ensures answer { HasCleanDisk (disk self.new) → (s : _) → Shows self.old s → IfOk result (λ next. (next ≡ s.next) × Shows self.new s) }
+        ensures memory { HasCleanDisk (disk self.new) → (s : _) → Shows self.old s → result ≡ Err StoreFault.Memory → Shows self.new s }
+        ensures stop { HasCleanDisk (disk self.new) → (s : _) → Shows self.old s → Leaves (disk self.new) s }
+        ensures failed { IsTrue (has_failed self.old) → (result ≡ Err StoreFault.Failed) × (self.new ≡ self.old) }
+    {
+        if self.failed {
+            return Err(StoreFault::Failed);
+        }
+        match next(&mut self.conn) {
+            Ok(answer) => Ok(answer),
+            Err(fault) => Err(self.noted(fault)),
+        }
+    }
 }

@@ -1,0 +1,48 @@
+-- What a stop leaves, by the law that while a connection is open it leaves the last commit.
+use Rattle.std.proofs.Common.{◌≡◌, Bool, false, ◌⊎◌, inl, inr, ap, sym, subst, ◌∙◌}
+use Rattle.std.specs.Prelude.{IsTrue}
+use Rattle.sqlite.specs.Tree.{Trees}
+use Rattle.sqlite.specs.Effect.{Database}
+use Rattle.sqlite.specs.State as db
+use Rattle.sqlite_catalog.specs.Listing.{IsSound}
+use Rattle.uu_sql.specs.Steps.{Rests}
+use Rattle.sqlite.specs.Store.{Ghosts}
+use Rattle.sqlite.specs.Held.{Held, state}
+use Rattle.uu_store.specs.declared.spool.Spool.{Spool}
+use Rattle.uu_store.specs.declared.fault.StoreFault.{StoreFault}
+use Rattle.uu_store.specs.declared.fault.StoreFault.TheVariants.{Memory}
+use Rattle.uu_store.specs.Spool.{connection_of, disk, has_failed, Shows, Marks}
+use Rattle.uu_store.specs.Schema.{site}
+use Rattle.uu_store.specs.Machine.{State}
+use Rattle.uu_store.specs.Encoded.{Holds, Encodes, Leaves, LeavesEither}
+
+-- the law of the store
+abbrev pub Settles : db.State → Type 0
+Settles a = (trees : Trees) → IsTrue a.is_open → a.may_leave trees → trees ≡ a.committed.trees
+
+pub leaves : (s : State) (a : db.State) → Settles a → Rests a → Encodes a.now s → Leaves a s
+leaves s a settles rests enc trees may =
+    let is : trees ≡ a.now.trees = settles trees rests.is_open may ∙ sym (ap (λ (d : Database). d.trees) rests.settled) in
+    (subst (IsSound site) (sym is) enc.stands.sound, subst (λ t. Holds t s) (sym is) enc.holds)
+
+pub leaves_either : (s t : State) (a b : db.State) → Settles a → Rests a → Encodes a.now s
+    → ((trees : Trees) → b.may_leave trees → a.may_leave trees ⊎ (IsSound site trees × Holds trees t)) → LeavesEither b s t
+leaves_either s t a b settles rests enc stop trees may = elim (stop trees may) [
+  | inl was ↦ (let it = leaves s a settles rests enc trees was in (it.0, inl it.1))
+  | inr made ↦ (made.0, inr made.1)
+]
+
+-- ---- after a fault was noted
+
+pub noted_memory : (before afterwards : Bool) (fault : StoreFault) → Marks before afterwards fault → fault ≡ Memory → afterwards ≡ false
+noted_memory before afterwards fault marks is = (subst (Marks before afterwards) is marks).1
+
+pub shows_again : {S : Type 0} {g : Ghosts S} (spool : Spool S g) (h : Held S) (s : State) → connection_of spool ≡ h → has_failed spool ≡ false → Rests (state g h) → Encodes (state g h).now s → Shows spool s
+shows_again {g} spool h s same usable rests enc = record {
+  usable = usable;
+  rests = subst (λ x. Rests (state g x)) (sym same) rests;
+  encodes = subst (λ x. Encodes (state g x).now s) (sym same) enc;
+}
+
+pub clean_before : {S : Type 0} {g : Ghosts S} (spool : Spool S g) (h : Held S) → connection_of spool ≡ h → db.HasCleanDisk (disk spool) → db.HasCleanDisk (state g h)
+clean_before {g} spool h same clean = subst (λ x. db.HasCleanDisk (state g x)) same clean
