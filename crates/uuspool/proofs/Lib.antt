@@ -2,3 +2,4 @@ pub mod Letters
 pub mod ReportLemmas
 pub mod ProgramLemmas
 pub mod LineLemmas
+pub mod ServedLemmas

@@ -4,3 +4,4 @@ pub mod Reports
 pub mod Offsets
 pub mod Commands
 pub mod Lines
+pub mod Served

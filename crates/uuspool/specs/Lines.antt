@@ -1,6 +1,6 @@
 -- What the words of a line mean. The forms of words are those of `clap`; the lines themselves are this
 -- project's choice.
-use Rattle.std.specs.Prelude.{◌≡◌, ℕ, ◌^◌, ◌<◌, ◌⊎◌, List, [], Option, Some, None, IsTrue, IsSomeAnd, ⊤, codes}
+use Rattle.std.specs.Prelude.{◌≡◌, Bool, true, false, ℕ, ◌^◌, ◌<◌, ◌⊎◌, List, [], Option, Some, None, IsTrue, IsSomeAnd, ⊤, codes}
 use Rattle.std.specs.Str.Parse.{IsNumeral, digits_value, without_leading_plus}
 use Rattle.clap.specs.Words.{Row, Text, first_of, one_of, matches_of, subcommand_of, fault_of}
 use Rattle.clap.specs.Words.{found_of, rows_of, subcommand_rows_of}
@@ -46,6 +46,12 @@ MeansTask name rows (task.Send system source target) =
     (name ≡ codes "send") × IsSiteAt (codes "system") rows system
     × IsWordAt (codes "from") rows source × IsWordAt (codes "to") rows target
 MeansTask name rows task.List = name ≡ codes "list"
+
+-- a task takes an input
+abbrev pub takes_input : Task → Bool
+takes_input task.Load = true
+takes_input (task.Send system source target) = true
+takes_input task.List = false
 
 -- the words, those after the program's name, mean this line
 pub record MeansLine (words : List Text) (line : CallLine) : Type 0 where

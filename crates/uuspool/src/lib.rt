@@ -3,13 +3,13 @@
 #![tactic(auto)]
 
 mod commands;
-pub mod fault;
-pub mod input;
-pub mod line;
-pub mod report;
-pub mod serving;
-pub mod settings;
-pub mod systems;
+mod fault;
+mod input;
+mod line;
+mod report;
+mod serving;
+mod settings;
+mod systems;
 
 pub use fault::{Fault, fault_line, fault_status};
 pub use input::{INPUT_LIMIT, READ_LIMIT, read_input};

@@ -6,7 +6,7 @@ ghost use Rattle.clap.specs.Words.{rows_of, found_of, one_of, kind_of, fault_of}
 ghost use Rattle.uuspool.specs.declared.line.CallLine.{CallLine};
 ghost use Rattle.uuspool.specs.declared.line.Task.{Task};
 ghost use Rattle.uuspool.specs.Commands.{program};
-ghost use Rattle.uuspool.specs.Lines.{HasEntriesOf, IsSecond, IsWordAt, IsSiteAt, MeansTask, MeansLine, IsWordsWhere};
+ghost use Rattle.uuspool.specs.Lines.{takes_input, HasEntriesOf, IsSecond, IsWordAt, IsSiteAt, MeansTask, MeansLine, IsWordsWhere};
 
 use crate::fault::Fault;
 use crate::commands::program_command;
@@ -47,7 +47,9 @@ pub enum Task {
 
 impl Task {
     /// Whether the task takes an input.
-    pub fn has_input(&self) -> bool {
+    pub fn has_input(&self) -> bool
+        ensures { result ≡ takes_input self.now }
+    {
         match self {
             Task::Load | Task::Send { .. } => true,
             Task::List => false,
@@ -200,7 +202,7 @@ pub fn moment_of(alloc: Global, second: u64) -> Result<Moment, Fault>
 }
 
 /// The fault of words whose form is right and whose meaning is not.
-pub fn bad_text(alloc: Global, what: &str) -> Fault
+pub(crate) fn bad_text(alloc: Global, what: &str) -> Fault
     ensures { IsWordsWhere ⊤ result }
 {
     match format!(in alloc; "error: {what}\n") {

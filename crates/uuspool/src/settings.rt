@@ -1,5 +1,7 @@
 //! What a site sets for the program.
 
+ghost use Rattle.std.specs.Prelude.{◌≡◌, pos, [], ◌∷◌, IfOk, IfErr, codes};
+ghost use Rattle.std.specs.String.{string_bytes};
 ghost use Rattle.uuspool.specs.Offsets.{IsOffset};
 
 use crate::fault::Fault;
@@ -23,7 +25,13 @@ pub struct Settings {
 
 /// The settings of the site `mysite`, which the program uses as long as it reads no file of settings:
 /// UTC, the spool `spool.db`, the administrator `root`.
-pub fn fixed_settings(alloc: Global) -> Result<Settings, Fault> {
+pub fn fixed_settings(alloc: Global) -> Result<Settings, Fault>
+    ensures name { IfOk result (λ settings. settings.name ≡ codes "mysite") }
+    ensures offset { IfOk result (λ settings. settings.offset ≡ pos 0) }
+    ensures spool { IfOk result (λ settings. string_bytes settings.spool ≡ codes "spool.db") }
+    ensures admins { IfOk result (λ settings. settings.admins.items ≡ codes "root" ∷ []) }
+    ensures memory { IfErr result (λ fault. fault ≡ Fault.Memory) }
+{
     let name = SiteName::parse(alloc, "mysite").map_err(memory)?;
     let root = Word::parse(alloc, "root").map_err(memory)?;
     let mut admins = Vec::new(alloc);
@@ -37,6 +45,8 @@ pub fn fixed_settings(alloc: Global) -> Result<Settings, Fault> {
 }
 
 // A fault of a text that is a name: only memory is left.
-fn memory(_fault: NameFault) -> Fault {
+fn memory(_fault: NameFault) -> Fault
+    ensures { result ≡ Fault.Memory }
+{
     Fault::Memory
 }

@@ -1,6 +1,9 @@
 //! The systems of a sys file, as far as the program knows its lines: blank ones, `system NAME` and
 //! `time Any`.
 
+ghost use Rattle.std.specs.Prelude.{⊤, IfErr};
+ghost use Rattle.uuspool.specs.Lines.{IsWordsWhere};
+
 use crate::fault::Fault;
 use crate::line::bad_text;
 use std::alloc::Global;
@@ -12,7 +15,9 @@ use uu_store::{SiteName, SystemDef};
 ///
 /// # Errors
 /// `Words` where a line is none of those that are known, else `Memory`.
-pub fn systems_of(alloc: Global, text: &[u8]) -> Result<Vec<SystemDef>, Fault> {
+pub(crate) fn systems_of(alloc: Global, text: &[u8]) -> Result<Vec<SystemDef>, Fault>
+    ensures { IfErr result (IsWordsWhere ⊤) }
+{
     let Ok(text) = str::from_utf8(text) else {
         return Err(bad_line(alloc));
     };
@@ -26,7 +31,9 @@ pub fn systems_of(alloc: Global, text: &[u8]) -> Result<Vec<SystemDef>, Fault> {
 }
 
 // The system that a line begins, if it begins one.
-fn system_in(alloc: Global, line: &str) -> Result<Option<SiteName>, Fault> {
+fn system_in(alloc: Global, line: &str) -> Result<Option<SiteName>, Fault>
+    ensures { IfErr result (IsWordsWhere ⊤) }
+{
     let mut words = line.split(is_blank).filter(|word| !word.is_empty());
     match (words.next(), words.next(), words.next()) {
         (None, _, _) => Ok(None),
@@ -44,6 +51,8 @@ fn is_blank(character: char) -> bool {
     character == ' ' || character == '\t'
 }
 
-fn bad_line(alloc: Global) -> Fault {
+fn bad_line(alloc: Global) -> Fault
+    ensures { IsWordsWhere ⊤ result }
+{
     bad_text(alloc, "a line of the sys file is not known")
 }
