@@ -14,6 +14,7 @@ use sqlite::{Alter, Connection, Error, Row};
 use uu_sql::is_memory;
 
 /// Why a database was not taken, and the connection to it, with no transaction open.
+#[derive(Drop)]
 pub struct AdoptFault<S: Alter> {
     pub fault: StoreFault,
     pub conn: Connection<S>,

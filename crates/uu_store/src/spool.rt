@@ -12,6 +12,7 @@ use std::alloc::Global;
 ///
 /// While nobody else writes the file and the disk returns what was written, a spool shows one state of the plain
 /// machine (`specs/Machine.antt`). A command is one step of the machine, and it is in the file once it is answered.
+#[derive(Drop)]
 pub struct Spool<S: Alter> {
     conn: Connection<S>,
     failed: bool,

@@ -1,0 +1,5 @@
+pub mod Letters
+pub mod ReportLemmas
+pub mod ProgramLemmas
+pub mod LineLemmas
+pub mod ServedLemmas

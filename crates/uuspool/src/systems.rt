@@ -1,0 +1,58 @@
+//! The systems of a sys file, as far as the program knows its lines: blank ones, `system NAME` and
+//! `time Any`.
+
+ghost use Rattle.std.specs.Prelude.{⊤, IfErr};
+ghost use Rattle.uuspool.specs.Lines.{IsWordsWhere};
+
+use crate::fault::Fault;
+use crate::line::bad_text;
+use std::alloc::Global;
+use std::str;
+use uu_names::NameFault;
+use uu_store::{SiteName, SystemDef};
+
+/// The definitions of the text, in its order.
+///
+/// # Errors
+/// `Words` where a line is none of those that are known, else `Memory`.
+pub(crate) fn systems_of(alloc: Global, text: &[u8]) -> Result<Vec<SystemDef>, Fault>
+    ensures { IfErr result (IsWordsWhere ⊤) }
+{
+    let Ok(text) = str::from_utf8(text) else {
+        return Err(bad_line(alloc));
+    };
+    let mut systems = Vec::new(alloc);
+    for line in text.lines() {
+        if let Some(name) = system_in(alloc, line)? {
+            systems.push(SystemDef { name })?;
+        }
+    }
+    Ok(systems)
+}
+
+// The system that a line begins, if it begins one.
+fn system_in(alloc: Global, line: &str) -> Result<Option<SiteName>, Fault>
+    ensures { IfErr result (IsWordsWhere ⊤) }
+{
+    let mut words = line.split(is_blank).filter(|word| !word.is_empty());
+    match (words.next(), words.next(), words.next()) {
+        (None, _, _) => Ok(None),
+        (Some("time"), Some("Any"), None) => Ok(None),
+        (Some("system"), Some(name), None) => match SiteName::parse(alloc, name) {
+            Ok(name) => Ok(Some(name)),
+            Err(NameFault::Memory) => Err(Fault::Memory),
+            Err(_) => Err(bad_line(alloc)),
+        },
+        _ => Err(bad_line(alloc)),
+    }
+}
+
+fn is_blank(character: char) -> bool {
+    character == ' ' || character == '\t'
+}
+
+fn bad_line(alloc: Global) -> Fault
+    ensures { IsWordsWhere ⊤ result }
+{
+    bad_text(alloc, "a line of the sys file is not known")
+}
