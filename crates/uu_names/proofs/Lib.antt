@@ -1,2 +1,4 @@
 pub mod NameLemmas
 pub mod GradeTables
+pub mod PathParts
+pub mod PathScan

@@ -1,3 +1,4 @@
 pub mod Fault
 pub mod Grade
 pub mod Name
+pub mod Path

@@ -3,11 +3,13 @@
 
 mod fault;
 mod grade;
+mod path;
 mod site_name;
 mod text;
 mod word;
 
 pub use fault::NameFault;
 pub use grade::Grade;
+pub use path::Path;
 pub use site_name::SiteName;
 pub use word::Word;

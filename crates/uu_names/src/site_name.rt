@@ -29,9 +29,9 @@ impl Model for SiteName {
 }
 
 /// The most bytes of a site name.
-const MAX_LEN: usize = 63;
+pub(crate) const MAX_LEN: usize = 63;
 
-fn is_site_byte(byte: u8) -> bool
+pub(crate) fn is_site_byte(byte: u8) -> bool
     ensures { result ≡ is_site_byte byte }
 {
     byte.is_ascii_alphanumeric() || matches!(byte, b'-' | b'_' | b'.')
