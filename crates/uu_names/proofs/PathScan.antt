@@ -212,7 +212,8 @@ scan_bang {seen} {first} {n} {s} {l} k some site =
       first = ap (λ f. or_at f (length seen)) k.first ∙ sym (first_len-push k.sites k.part (length seen) (ap length k.text));
       len = refl;
       is_site = refl;
-      long = (λ i. k.long i || ltb 63 (k.len i)) ∙ sym (long-push k.sites k.part) }
+      long = (λ i. k.long i || ltb 63 (k.len i)) ∙ sym (long-push k.sites k.part);
+    }
   where
     nothing : (sites : List (List ℕ)) → list_all (part_byte sites) [] ≡ true
     nothing [] = refl
@@ -229,7 +230,8 @@ scan_byte {seen} {first} {n} {s} {l} b site k is ok = record {
   first = k.first;
   len = omega (arith, k.len, length-append k.part (b ∷ []));
   is_site = (λ i. k.is_site i && is i) ∙ ap (λ t. list_all is_site_byte k.part && t) (and-true (is_site_byte b)) ∙ sym (list_all-append is_site_byte k.part (b ∷ []));
-  long = k.long }
+  long = k.long;
+}
   where
     and-true : (c : Bool) → c ≡ c && true
     and-true true = refl
@@ -249,17 +251,20 @@ begins-from [] (b ∷ part) named bytes =
       path = record { sites = (b ∷ part) ∷ []; local_part = 97 ∷ [] };
       rest = 33 ∷ 97 ∷ [];
       is_text = refl;
-      form = has_sites ((b ∷ part) ∷ []) (97 ∷ []) (omega arith) (rw form) refl }
+      form = has_sites ((b ∷ part) ∷ []) (97 ∷ []) (omega arith) (rw form) refl;
+    }
 begins-from (site ∷ sites) [] named bytes = record {
   path = record { sites = site ∷ sites; local_part = 97 ∷ [] };
   rest = 97 ∷ [];
   is_text = whole-push_byte (site ∷ sites) [] 97;
-  form = has_sites (site ∷ sites) (97 ∷ []) (omega arith) named refl }
+  form = has_sites (site ∷ sites) (97 ∷ []) (omega arith) named refl;
+}
 begins-from (site ∷ sites) (b ∷ part) named bytes = record {
   path = record { sites = site ∷ sites; local_part = b ∷ part };
   rest = [];
   is_text = sym (append-nil (whole (site ∷ sites) (b ∷ part)));
-  form = has_sites (site ∷ sites) (b ∷ part) (omega arith) named (form-from is_local_byte (b ∷ part) (omega arith) bytes) }
+  form = has_sites (site ∷ sites) (b ∷ part) (omega arith) named (form-from is_local_byte (b ∷ part) (omega arith) bytes);
+}
 
 pub scan_begins : {seen : List ℕ} {first : Option ℕ} {n : ℕ} {s l : Bool} → IsScanned seen first n s l → BeginsPath seen
 scan_begins k = subst BeginsPath (sym k.text) (begins-from k.sites k.part k.named k.bytes)
@@ -273,6 +278,7 @@ fits-from_long (site ∷ sites) = (λ i. single i && fits-from_long sites i) ∙
   where
     single : leb (length site) 63 ≡ not (is_long_site site)
     single = grind (arith, nat_tests)
+
     not-or : (a b : Bool) → not a && not b ≡ not (a || b)
     not-or true b = refl
     not-or false b = refl
@@ -295,7 +301,8 @@ scan_whole {text} {k} {n} {s} {l} z some = by-sites z.sites z.part z.text z.name
       is_text = sym e;
       form = has_sites (site ∷ sites) part (omega arith) named (form-from is_local_byte part some bytes);
       limits = (λ i. (fits-from_long (site ∷ sites) ∙ ap not (sym g)) i && leb (length (sym e i)) 255);
-      hop = sym f }
+      hop = sym f;
+    }
 
 -- ---- where the scan stops, no path goes on
 
@@ -323,13 +330,16 @@ is_bang-is b h = grind (arith, nat_tests)
 stuck-local : (sites : List (List ℕ)) (part last rest : List ℕ) (b : ℕ) → 0 < length (sites ++ []) → has_form is_local_byte last ≡ true → IsStuck (first_len sites) (length part) (list_all is_site_byte part) b → last ≡ part ++ (b ∷ rest) → ⊥
 stuck-local sites part last rest b some form why e =
     elim why [
-      inl w ↦ false-true (not (is_bang b)) (no_bang-from_local b local) (ap not w.0)
-    | inr w ↦ elim w.2 [
-        inl none ↦ no-sites sites some none
-      | inr no_word ↦ false-true (is_word_byte b) (and-left (is_word_byte b) _ local) no_word ] ]
+      | inl w ↦ false-true (not (is_bang b)) (no_bang-from_local b local) (ap not w.0)
+      | inr w ↦ elim w.2 [
+        | inl none ↦ no-sites sites some none
+        | inr no_word ↦ false-true (is_word_byte b) (and-left (is_word_byte b) _ local) no_word
+      ]
+    ]
   where
     local : is_local_byte b ≡ true
     local = byte_within is_local_byte last part rest b (form_bytes is_local_byte last form) e
+
     no-sites : (sites : List (List ℕ)) → 0 < length (sites ++ []) → first_len sites ≡ None → ⊥
     no-sites [] some none = omega arith
     no-sites (site ∷ sites) some none = cc
@@ -338,16 +348,18 @@ stuck-local sites part last rest b some form why e =
 stuck-site : (part site rest others : List ℕ) (first : Option ℕ) (b : ℕ) → has_form is_site_byte site ≡ true → has_no_bang part ≡ true → IsStuck first (length part) (list_all is_site_byte part) b → site ++ (33 ∷ others) ≡ part ++ (b ∷ rest) → ⊥
 stuck-site part site rest others first b form no_bang why e =
     elim why [
-      inl w ↦ ended w.0 w.1
-    | inr w ↦ false-true (is_site_byte b) (byte_of_front is_site_byte site part others rest b no_bang w.0 (form_bytes is_site_byte site form) e) w.1 ]
+      | inl w ↦ ended w.0 w.1
+      | inr w ↦ false-true (is_site_byte b) (byte_of_front is_site_byte site part others rest b no_bang w.0 (form_bytes is_site_byte site form) e) w.1
+    ]
   where
     ended : is_bang b ≡ true → (length part ≡ 0) ⊎ (list_all is_site_byte part ≡ false) → ⊥
     ended bang why =
         let f : site ++ (33 ∷ others) ≡ part ++ (33 ∷ rest) = e ∙ ap (λ c. part ++ (c ∷ rest)) (is_bang-is b bang) in
         let same = same_front site part others rest (site_has_no_bang site (form_bytes is_site_byte site form)) no_bang f in
         elim why [
-          inl empty ↦ omega (arith, form_some is_site_byte site form, ap length same.0)
-        | inr no_site ↦ false-true (list_all is_site_byte part) (ap (list_all is_site_byte) (sym same.0) ∙ form_bytes is_site_byte site form) no_site ]
+          | inl empty ↦ omega (arith, form_some is_site_byte site form, ap length same.0)
+          | inr no_site ↦ false-true (list_all is_site_byte part) (ap (list_all is_site_byte) (sym same.0) ∙ form_bytes is_site_byte site form) no_site
+        ]
 
 stuck-from : (sites more : List (List ℕ)) (part last rest : List ℕ) (b : ℕ) → 0 < length (sites ++ more) → all_sites more ≡ true → has_form is_local_byte last ≡ true → list_all (part_byte sites) part ≡ true → IsStuck (first_len sites) (length part) (list_all is_site_byte part) b → whole more last ≡ part ++ (b ∷ rest) → ⊥
 stuck-from sites [] part last rest b some named form bytes why e = stuck-local sites part last rest b some form why e
@@ -377,7 +389,8 @@ onward k path rest form e =
       some = subst (λ (xs : List (List ℕ)). 0 < length xs) g.sites_are f.0;
       named = all_sites-right k.sites g.more (ap all_sites (sym g.sites_are) ∙ f.1);
       form = f.2;
-      text = g.text }
+      text = g.text;
+    }
 
 pub stuck : {seen : List ℕ} {first : Option ℕ} {n : ℕ} {s l : Bool} → IsScanned seen first n s l → (b : ℕ) → IsStuck first n s b → (path : BangPath) (rest : List ℕ) → IsTrue (has_path_form path) → path_text path ≡ seen ++ (b ∷ rest) → ⊥
 stuck {seen} {first} {n} {s} {l} k b why path rest form e =
@@ -388,7 +401,7 @@ stuck {seen} {first} {n} {s} {l} k b why path rest form e =
     same-why : IsStuck (first_len k.sites) (length k.part) (list_all is_site_byte k.part) b
     same-why = subst (λ (f : Option ℕ). IsStuck f (length k.part) (list_all is_site_byte k.part) b) k.first
         (subst (λ (m : ℕ). IsStuck first m (list_all is_site_byte k.part) b) k.len
-          (subst (λ (t : Bool). IsStuck first n t b) k.is_site why))
+        (subst (λ (t : Bool). IsStuck first n t b) k.is_site why))
 
 -- what has been scanned is itself no path where the last part is empty or no `!` was seen
 no_end : (sites more : List (List ℕ)) (part last : List ℕ) → 0 < length (sites ++ more) → all_sites more ≡ true → has_form is_local_byte last ≡ true → list_all (part_byte sites) part ≡ true → (first_len sites ≡ None) ⊎ (length part ≡ 0) → whole more last ≡ part ++ [] → ⊥
@@ -423,10 +436,12 @@ bad_within text at b first n s l k within is why = record {
   no_path = λ path form e. stuck k b why path (drop (at + 1) text) form (e ∙ sym split);
   within = omega arith;
   begins = scan_begins k;
-  longest = λ m above fits begun. stuck k b why begun.path ((front text at m within above).0 ++ begun.rest) begun.form (begun.is_text ∙ goes_on_with m above begun.rest) }
+  longest = λ m above fits begun. stuck k b why begun.path ((front text at m within above).0 ++ begun.rest) begun.form (begun.is_text ∙ goes_on_with m above begun.rest);
+}
   where
     split : take at text ++ (b ∷ drop (at + 1) text) ≡ text
     split = ap (λ c. take at text ++ (c ∷ drop (at + 1) text)) is ∙ ap (λ t. take at text ++ t) (sym (drop_more text at 0 within)) ∙ take-append-drop at text
+
     goes_on_with : (m : ℕ) (above : at < m) (rest : List ℕ) → take m text ++ rest ≡ take at text ++ (b ∷ ((front text at m within above).0 ++ rest))
     goes_on_with m above rest =
         let f = front text at m within above in
@@ -438,7 +453,8 @@ bad_at_end text first n s l k why = record {
   no_path = λ path form e. unfinished k why path form e;
   within = omega arith;
   begins = subst BeginsPath (sym (take_all (length text) text (omega arith))) (scan_begins k);
-  longest = λ m above fits _. omega arith }
+  longest = λ m above fits _. omega arith;
+}
 
 -- ---- the steps as the loop takes them
 
@@ -468,6 +484,7 @@ loop_byte text at b first first' n n' s s' l l' site k h is no_bang of ok ef en 
   where
     is_local : is_word_byte b ≡ true → is_local_byte b ≡ true
     is_local w = rw (w, no_bang)
+
     allowed : (sites : List (List ℕ)) → first ≡ first_len sites → (site ≡ true) ⊎ ((first ≢ None) × (is_word_byte b ≡ true)) → part_byte sites b ≡ true
     allowed [] f (inl t) = sym of ∙ t
     allowed [] f (inr w) = absurd (w.0 f)
@@ -491,9 +508,10 @@ hop-of text part (site ∷ sites) hop_len e named f =
 pub is_path : (text : List ℕ) (hop_len n : ℕ) (first : Option ℕ) (s l : Bool) → IsScanned text first n s l → first ≡ Some hop_len → 0 < n → l ≡ false → length text ≤ 255 → IsPathText text × (hop_len ≡ position_or_len is_bang text)
 is_path text hop_len n first s l k f some short fits =
     let w : IsWhole text hop_len l = scan_whole (subst (λ (u : Option ℕ). IsScanned text u n s l) f k) some in
-    let t : leb (length text) 255 ≡ true = grind (arith, nat_tests) in
-    (record { path = w.path; is_text = w.is_text; form = w.form; limits = w.limits ∙ rw (short, t) },
-     hop-of text w.path.local_part w.path.sites hop_len w.is_text (path_sites w.path w.form).1 w.hop)
+    let t : leb (length text) 255 ≡ true = grind (arith, nat_tests) in (
+      record { path = w.path; is_text = w.is_text; form = w.form; limits = w.limits ∙ rw (short, t) },
+      hop-of text w.path.local_part w.path.sites hop_len w.is_text (path_sites w.path w.form).1 w.hop,
+    )
 
 pub is_long : (text : List ℕ) (hop_len n : ℕ) (first : Option ℕ) (s l : Bool) → IsScanned text first n s l → first ≡ Some hop_len → 0 < n → (l ≡ true) ⊎ (255 < length text) → IsLongPath text
 is_long text hop_len n first s l k f some over =
@@ -522,7 +540,7 @@ whole_bytes (site ∷ sites) part named form =
     let front = weaker is_site_byte is_word_byte site (λ b h. and-left (is_word_byte b) _ (local-from_site b h)) (form_bytes is_site_byte site site_form) in
     let back = form_bytes is_word_byte (whole sites part) (whole_bytes sites part (and-right (has_form is_site_byte site) (all_sites sites) named) form) in
     ap (has_form is_word_byte) (whole-cons site sites part) ∙ form-from is_word_byte (site ++ (33 ∷ whole sites part)) (omega (arith, length-append site (33 ∷ whole sites part)))
-      (list_all-append is_word_byte site (33 ∷ whole sites part) ∙ rw (front, back))
+    (list_all-append is_word_byte site (33 ∷ whole sites part) ∙ rw (front, back))
 
 cut-sites : (text : List ℕ) (sites : List (List ℕ)) (part : List ℕ) → whole sites part ≡ text → IsTrue (has_path_form (record { sites = sites; local_part = part })) → IsTrue (is_within_limits (record { sites = sites; local_part = part })) → IsCut text
 cut-sites text [] part e form limits = absurd (omega (arith, (path_sites (record { sites = []; local_part = part }) form).0))
@@ -541,7 +559,8 @@ cut-sites text (site ∷ sites) part e form limits =
       split = sym e ∙ split;
       no_bang = site_has_no_bang site (form_bytes is_site_byte site site_form);
       is_site = rw (site_form, short);
-      is_rest = rw (whole_bytes sites part (and-right (has_form is_site_byte site) (all_sites sites) f.1) f.2, rest_fits) }
+      is_rest = rw (whole_bytes sites part (and-right (has_form is_site_byte site) (all_sites sites) f.1) f.2, rest_fits);
+    }
 
 pub cut_path : (text : List ℕ) → IsPathText text → IsCut text
 cut_path text p = cut-sites text p.path.sites p.path.local_part p.is_text p.form p.limits

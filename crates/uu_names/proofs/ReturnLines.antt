@@ -45,8 +45,10 @@ found_at p text at e = by-test (ltb n (length text)) refl
   where
     n : ℕ
     n = position_or_len p text
+
     some-none : Some at ≡ None → ⊥
     some-none q = cc
+
     by-test : (t : Bool) → ltb n (length text) ≡ t → (n ≡ at) × (at < length text)
     by-test true f =
         let g : Some at ≡ Some n = e ∙ rw f in
@@ -59,8 +61,10 @@ not_found p text e = by-test (ltb n (length text)) refl
   where
     n : ℕ
     n = position_or_len p text
+
     none-some : None ≡ Some n → ⊥
     none-some q = cc
+
     by-test : (t : Bool) → ltb n (length text) ≡ t → n ≡ length text
     by-test true f = let g : None ≡ Some n = e ∙ rw f in absurd (none-some g)
     by-test false f = let h : length text ≤ n = grind (arith, nat_tests) in omega (arith, prefix_len-le-length (λ b. not (p b)) text)

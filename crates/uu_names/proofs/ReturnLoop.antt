@@ -86,10 +86,12 @@ read_more message way user marker body u s n k next = record {
   way_is = append_assoc way s (33 ∷ []) ∙ ap (λ t. t ++ (s ++ 33 ∷ [])) k.way_is ∙ sym (sites-push k.senders sender);
   user_is = sym (user-push k.senders sender);
   marker_is = sym (marker-push k.senders sender);
-  some = some-push k.senders sender (body + n) (omega (arith, next.some)) }
+  some = some-push k.senders sender (body + n) (omega (arith, next.some));
+}
   where
     sender : Sender
     sender = record { user = u; site = s }
+
     line : List ℕ
     line = take n (drop body message)
 
@@ -101,7 +103,8 @@ has_lines {message} {way} {user} {marker} {body} k stops = record {
   lines = k.lines;
   say = k.say;
   longest = subst (λ (m : List ℕ). Stops m (raw_lines (drop body message))) k.marker_is stops;
-  start = k.start }
+  start = k.start;
+}
 
 pub no_envelope : (message way user marker : List ℕ) (body : ℕ) → HasRead message way user marker body → Stops marker (raw_lines (drop body message)) → body ≡ 0 → HasLeadingLines message [] 0
 no_envelope message way user marker body k stops none =

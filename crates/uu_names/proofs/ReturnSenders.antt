@@ -48,12 +48,14 @@ word_after front word e =
   where
     all : (k : ℕ) → k < length word → is_no_space (get_or word k 0) ≡ true
     all k h = AllPass-from_list_all is_no_space word e k 0 h
+
     inside : (k : ℕ) → length front + 1 ≤ k → k < length (front ++ (32 ∷ word)) → is_no_space (get_or (front ++ (32 ∷ word)) k 0) ≡ true
     inside k low high =
         let h : k - length front - 1 < length word = omega (arith, length-append front (32 ∷ word)) in
         let split : k ≡ length front + suc (k - length front - 1) = omega arith in
         let at : get_or (front ++ (32 ∷ word)) k 0 ≡ get_or word (k - length front - 1) 0 = ap (λ n. get_or (front ++ (32 ∷ word)) n 0) split ∙ get_or-append-add front (32 ∷ word) (suc (k - length front - 1)) 0 in
         ap is_no_space at ∙ all (k - length front - 1) h
+
     outside : is_no_space (get_or (front ++ (32 ∷ word)) (length front + 1 - 1) 0) ≡ false
     outside =
         let n : length front ≡ length front + 1 - 1 = omega arith in
@@ -91,25 +93,33 @@ leading-from marker line rest user back front site n k starts er es eu eb ef et 
   text = begins_with line marker starts ∙ ap (λ t. marker ++ t) (sym er ∙ halves ∙ ap (λ t. user ++ t) (parts ∙ ap (λ t. t ++ site) tail ∙ append_assoc between remote site));
   user = form-from is_no_space user some all;
   spaced = spaced-from between (remote ++ site) (drop (n + 1) rest) (sym (append_assoc between remote site) ∙ ap (λ t. t ++ site) (sym tail) ∙ sym parts ∙ opens);
-  site = named }
+  site = named;
+}
   where
     at : (position_or_len is_space rest ≡ n) × (n < length rest)
     at = found_at is_space rest n es
+
     between : List ℕ
     between = take (length front - 13) front
+
     halves : rest ≡ user ++ back
     halves = sym (take-append-drop n rest) ∙ (λ i. sym eu i ++ sym eb i)
+
     parts : back ≡ front ++ site
     parts = sym (take-append-drop k back) ∙ (λ i. sym ef i ++ sym et i)
+
     tail : front ≡ between ++ remote
     tail = sym (take-append-drop (length front - 13) front) ∙ ap (λ t. between ++ t) (sym ((bytes_decides remote (drop (length front - 13) front)).0 ends))
+
     all : list_all is_no_space user ≡ true
     all = ap (list_all is_no_space) (eu ∙ ap (λ m. take m rest) (sym at.0)) ∙ passes is_no_space rest
+
     space : get_or rest n 0 ≡ 32
     space = is_space-is (get_or rest n 0) (ap (λ m. is_space (get_or rest m 0)) (sym at.0) ∙ passes_at_first is_space rest 0 (omega (arith, at.0, at.1)))
       where
         is_space-is : (b : ℕ) → is_space b ≡ true → b ≡ 32
         is_space-is b h = grind (arith, nat_tests)
+
     opens : back ≡ 32 ∷ drop (n + 1) rest
     opens = eb ∙ drop_more rest n 0 at.1 ∙ ap (λ b. b ∷ drop (n + 1) rest) space
 
@@ -130,26 +140,33 @@ is_read marker line sender l = record {
   rest = ap (drop (length marker)) text ∙ drop_at marker (sender.user ++ (front ++ sender.site)) (length marker) refl;
   space = found;
   word = ap (suffix_len is_no_space) last ∙ word_after (l.between ++ codes " remote from") sender.site (site_has_no_space sender.site l.site);
-  ends = (bytes_decides remote (drop (length front - 13) front)).1 (sym (ap (λ m. drop m front) cut ∙ drop_at l.between remote (length l.between) refl)) }
+  ends = (bytes_decides remote (drop (length front - 13) front)).1 (sym (ap (λ m. drop m front) cut ∙ drop_at l.between remote (length l.between) refl));
+}
   where
     front : List ℕ
     front = l.between ++ remote
+
     text : line ≡ marker ++ (sender.user ++ (front ++ sender.site))
     text = l.text ∙ ap (λ t. marker ++ (sender.user ++ t)) (sym (append_assoc l.between remote sender.site))
+
     last : front ++ sender.site ≡ (l.between ++ codes " remote from") ++ (32 ∷ sender.site)
     last = append_assoc l.between remote sender.site ∙ sym (append_assoc l.between (codes " remote from") (32 ∷ sender.site))
+
     cut : length front - 13 ≡ length l.between
     cut = omega (arith, length-append l.between remote)
+
     opened : (between : List ℕ) → IsSpaced between → (more : List ℕ) × ((between ++ remote) ++ sender.site ≡ 32 ∷ more)
     opened between (inl e) = (drop 1 (remote ++ sender.site), ap (λ t. (t ++ remote) ++ sender.site) e)
     opened between (inr m) = ((m.0 ++ remote) ++ sender.site, ap (λ t. (t ++ remote) ++ sender.site) m.1)
+
     after : position_or_len is_space (sender.user ++ (front ++ sender.site)) ≡ length sender.user
     after = let o = opened l.between l.spaced in
         ap (λ t. position_or_len is_space (sender.user ++ t)) o.1 ∙ space_after sender.user o.0 (form_bytes is_no_space sender.user l.user)
+
     found : position is_space (sender.user ++ (front ++ sender.site)) ≡ Some (length sender.user)
     found =
         let within : ltb (position_or_len is_space (sender.user ++ (front ++ sender.site))) (length (sender.user ++ (front ++ sender.site))) ≡ true =
-          lt-ltb _ _ (omega (arith, after, length-append sender.user (front ++ sender.site), length-append front sender.site, length-append l.between remote)) in
+        lt-ltb _ _ (omega (arith, after, length-append sender.user (front ++ sender.site), length-append front sender.site, length-append l.between remote)) in
         rw (within, after)
 
 -- what the code reads of a leading line is what the line says
@@ -162,13 +179,17 @@ pub reads_as : (marker line rest user back front site : List ℕ) (n k : ℕ) (s
 reads_as marker line rest user back front site n k sender r er es eu eb ek ef et = record {
   same_user = eu ∙ (λ i. take (at i) (whole i)) ∙ take_at sender.user (r.front ++ sender.site) (length sender.user) refl;
   same_front = ef ∙ (λ i. take (cut i) (after i)) ∙ take_at r.front sender.site (length r.front) refl;
-  same_site = et ∙ (λ i. drop (cut i) (after i)) ∙ drop_at r.front sender.site (length r.front) refl }
+  same_site = et ∙ (λ i. drop (cut i) (after i)) ∙ drop_at r.front sender.site (length r.front) refl;
+}
   where
     whole : rest ≡ sender.user ++ (r.front ++ sender.site)
     whole = er ∙ r.rest
+
     at : n ≡ length sender.user
     at = let e : Some n ≡ Some (length sender.user) = es ∙ ap (position is_space) whole ∙ r.space in cc
+
     after : back ≡ r.front ++ sender.site
     after = eb ∙ (λ i. drop (at i) (whole i)) ∙ drop_at sender.user (r.front ++ sender.site) (length sender.user) refl
+
     cut : k ≡ length r.front
     cut = omega (arith, ap (suffix_len is_no_space) after, r.word, ap length after, length-append r.front sender.site)

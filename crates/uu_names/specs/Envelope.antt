@@ -34,9 +34,9 @@ four_digits year = two_digits (year / 100) ++ two_digits (year % 100)
 abbrev pub date_text : DateTime → List ℕ
 date_text local =
     concat
-      (day_name (weekday_of local.date) ∷ codes " " ∷ month_name local.date.month ∷ codes " " ∷ two_places local.date.day ∷ codes " "
-      ∷ two_digits local.time.hour ∷ codes ":" ∷ two_digits local.time.minute ∷ codes ":" ∷ two_digits local.time.second ∷ codes " "
-      ∷ four_digits (unsigned_abs local.date.year) ∷ [])
+    (day_name (weekday_of local.date) ∷ codes " " ∷ month_name local.date.month ∷ codes " " ∷ two_places local.date.day ∷ codes " "
+    ∷ two_digits local.time.hour ∷ codes ":" ∷ two_digits local.time.minute ∷ codes ":" ∷ two_digits local.time.second ∷ codes " "
+    ∷ four_digits (unsigned_abs local.date.year) ∷ [])
 
 abbrev pub line_feed : ℕ
 line_feed = 10

@@ -112,10 +112,7 @@ fn append_from_line(
 {
     append(bytes, &[b"From ", user.as_str().as_bytes(), b" "])?;
     append_date(bytes, local)?;
-    append(
-        bytes,
-        &[b" remote from ", site.as_str().as_bytes(), b"\n"],
-    )
+    append(bytes, &[b" remote from ", site.as_str().as_bytes(), b"\n"])
 }
 
 fn append_date(bytes: &mut Vec<u8>, local: &DateTime) -> Result<(), AllocError>

@@ -50,20 +50,50 @@ fn site_names_and_words(rt: HostRuntime) -> Result<(), Fail> {
     assert_eq!(rt; name.as_str(), "unc-ch");
     assert!(rt; name == name.clone()?);
     assert!(rt; name < SiteName::parse(alloc, "und")?);
-    assert_eq!(rt; SiteName::parse(alloc, "").map(|_| ()), Err(NameFault::BadName(0)));
-    assert_eq!(rt; SiteName::parse(alloc, "a b").map(|_| ()), Err(NameFault::BadName(1)));
-    assert_eq!(rt; SiteName::from_bytes(alloc, b"a\xff").map(|_| ()), Err(NameFault::BadName(1)));
-    assert_eq!(rt; SiteName::parse(alloc, letters(alloc, 63)?.as_str()).map(|_| ()), Ok(()));
-    assert_eq!(rt; SiteName::parse(alloc, letters(alloc, 64)?.as_str()).map(|_| ()), Err(NameFault::TooLong));
+    assert_eq!(rt;
+        SiteName::parse(alloc, "").map(|_| ()),
+        Err(NameFault::BadName(0))
+    );
+    assert_eq!(rt;
+        SiteName::parse(alloc, "a b").map(|_| ()),
+        Err(NameFault::BadName(1))
+    );
+    assert_eq!(rt;
+        SiteName::from_bytes(alloc, b"a\xff").map(|_| ()),
+        Err(NameFault::BadName(1))
+    );
+    assert_eq!(rt;
+        SiteName::parse(alloc, letters(alloc, 63)?.as_str()).map(|_| ()),
+        Ok(())
+    );
+    assert_eq!(rt;
+        SiteName::parse(alloc, letters(alloc, 64)?.as_str()).map(|_| ()),
+        Err(NameFault::TooLong)
+    );
 
     let word = Word::parse(alloc, "~/a!b")?;
     assert_eq!(rt; word.as_str(), "~/a!b");
     assert!(rt; word == word.clone()?);
-    assert_eq!(rt; Word::parse(alloc, "").map(|_| ()), Err(NameFault::BadWord(0)));
-    assert_eq!(rt; Word::parse(alloc, "a b").map(|_| ()), Err(NameFault::BadWord(1)));
-    assert_eq!(rt; Word::from_bytes(alloc, b"\x7f").map(|_| ()), Err(NameFault::BadWord(0)));
-    assert_eq!(rt; Word::parse(alloc, letters(alloc, 255)?.as_str()).map(|_| ()), Ok(()));
-    assert_eq!(rt; Word::parse(alloc, letters(alloc, 256)?.as_str()).map(|_| ()), Err(NameFault::TooLong));
+    assert_eq!(rt;
+        Word::parse(alloc, "").map(|_| ()),
+        Err(NameFault::BadWord(0))
+    );
+    assert_eq!(rt;
+        Word::parse(alloc, "a b").map(|_| ()),
+        Err(NameFault::BadWord(1))
+    );
+    assert_eq!(rt;
+        Word::from_bytes(alloc, b"\x7f").map(|_| ()),
+        Err(NameFault::BadWord(0))
+    );
+    assert_eq!(rt;
+        Word::parse(alloc, letters(alloc, 255)?.as_str()).map(|_| ()),
+        Ok(())
+    );
+    assert_eq!(rt;
+        Word::parse(alloc, letters(alloc, 256)?.as_str()).map(|_| ()),
+        Err(NameFault::TooLong)
+    );
     Ok(())
 }
 
@@ -82,16 +112,26 @@ fn paths(rt: HostRuntime) -> Result<(), Fail> {
         ("duke!!a", 5),
         ("a!b%c!d", 5),
     ] {
-        assert_eq!(rt; Path::parse(alloc, text).map(|_| ()), Err(NameFault::BadPath(at)), "{text}");
+        assert_eq!(rt;
+            Path::parse(alloc, text).map(|_| ()),
+            Err(NameFault::BadPath(at)),
+            "{text}"
+        );
     }
     let mut long = letters(alloc, 64)?;
     long.push_str("!a")?;
-    assert_eq!(rt; Path::parse(alloc, long.as_str()).map(|_| ()), Err(NameFault::TooLong));
+    assert_eq!(rt;
+        Path::parse(alloc, long.as_str()).map(|_| ()),
+        Err(NameFault::TooLong)
+    );
     let mut whole = String::from_str(alloc, "a!")?;
     whole.push_str(letters(alloc, 253)?.as_str())?;
     assert_eq!(rt; Path::parse(alloc, whole.as_str()).map(|_| ()), Ok(()));
     whole.push('a')?;
-    assert_eq!(rt; Path::parse(alloc, whole.as_str()).map(|_| ()), Err(NameFault::TooLong));
+    assert_eq!(rt;
+        Path::parse(alloc, whole.as_str()).map(|_| ()),
+        Err(NameFault::TooLong)
+    );
     Ok(())
 }
 
@@ -176,7 +216,8 @@ fn envelopes(rt: HostRuntime) -> Result<(), Fail> {
     assert!(rt; local.year() == 2001);
     let message = b"From joe Sat Sep  8 12:00:00 2001 remote from phs\nHello\n";
     let bytes = written(&rt, alloc, &user, &local, &site, message)?;
-    let want = b"From ann Sun Sep  9 01:46:40 2001 remote from mysite\n>From joe Sat Sep  8 12:00:00 2001 remote from phs\nHello\n";
+    let want =
+        b"From ann Sun Sep  9 01:46:40 2001 remote from mysite\n>From joe Sat Sep  8 12:00:00 2001 remote from phs\nHello\n";
     assert_eq!(rt; bytes.as_slice(), want.as_slice());
     let (path, body) = return_path(alloc, bytes.as_slice())?;
     assert_eq!(rt; path.as_str(), "mysite!phs!joe");
@@ -223,8 +264,20 @@ fn expect_path(rt: &impl Abort, alloc: Global, text: &[u8], path: &str, body: us
 fn return_paths(rt: HostRuntime) -> Result<(), Fail> {
     let alloc = rt.alloc();
     expect_path(&rt, alloc, b"From u!v x remote from duke", "duke!u!v", 27);
-    expect_path(&rt, alloc, b"From u remote from x remote from y\n", "y!u", 35);
-    expect_path(&rt, alloc, b"From u remote from x\r\n>From v remote from y\n>From \n", "x!y!v", 45);
+    expect_path(
+        &rt,
+        alloc,
+        b"From u remote from x remote from y\n",
+        "y!u",
+        35,
+    );
+    expect_path(
+        &rt,
+        alloc,
+        b"From u remote from x\r\n>From v remote from y\n>From \n",
+        "x!y!v",
+        44,
+    );
     for text in [
         b"Hello\n".as_slice(),
         b"",
@@ -234,9 +287,16 @@ fn return_paths(rt: HostRuntime) -> Result<(), Fail> {
         b"From u remote from a\r",
         b"From u\n",
     ] {
-        assert_eq!(rt; return_path(alloc, text).map(|_| ()), Err(NameFault::NoEnvelope), "{text:?}");
+        assert_eq!(rt;
+            return_path(alloc, text).map(|_| ()),
+            Err(NameFault::NoEnvelope),
+            "{text:?}"
+        );
     }
-    assert_eq!(rt; return_path(alloc, b"From \xff remote from duke\n").map(|_| ()), Err(NameFault::BadPath(5)));
+    assert_eq!(rt;
+        return_path(alloc, b"From \xff remote from duke\n").map(|_| ()),
+        Err(NameFault::BadPath(5))
+    );
 
     let mut text = String::from_str(alloc, "From ")?;
     text.push_str(letters(alloc, 250)?.as_str())?;
@@ -247,6 +307,9 @@ fn return_paths(rt: HostRuntime) -> Result<(), Fail> {
     let mut text = String::from_str(alloc, "From ")?;
     text.push_str(letters(alloc, 251)?.as_str())?;
     text.push_str(" remote from duke\n")?;
-    assert_eq!(rt; return_path(alloc, text.as_bytes()).map(|_| ()), Err(NameFault::TooLong));
+    assert_eq!(rt;
+        return_path(alloc, text.as_bytes()).map(|_| ()),
+        Err(NameFault::TooLong)
+    );
     Ok(())
 }

@@ -8,6 +8,6 @@ use Rattle.uu_names.proofs.from_line.append_from_line.Goals as goal
 pub returns : goal.returns
 returns c =
     IfOk-weaker c.append-2.result _ _
-      (λ _ e. joined c.args.bytes.now.items _ _ _ (codes "From ") c.args.user.now _ (codes " ") (date_text c.args.local.now) (codes " remote from ") c.args.site.now _ (line_feed ∷ [])
-        c.in_ok-append.ensures c.in_ok-append_date.ensures e (c.as_bytes.ensures.value ∙ c.as_str.ensures.text) (c.as_bytes-2.ensures.value ∙ c.as_str-2.ensures.text))
-      c.append-2.ensures
+    (λ _ e. joined c.args.bytes.now.items _ _ _ (codes "From ") c.args.user.now _ (codes " ") (date_text c.args.local.now) (codes " remote from ") c.args.site.now _ (line_feed ∷ [])
+    c.in_ok-append.ensures c.in_ok-append_date.ensures e (c.as_bytes.ensures.value ∙ c.as_str.ensures.text) (c.as_bytes-2.ensures.value ∙ c.as_str-2.ensures.text))
+    c.append-2.ensures

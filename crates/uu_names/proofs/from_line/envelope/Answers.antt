@@ -10,8 +10,9 @@ pub returns-clause-bytes : goal.returns-clause-bytes
 returns-clause-bytes c =
     let message = c.args.message.now in
     let quote : c.if-starts_with.quote.now ≡ quote_of message =
-      elim c.if-starts_with.branch [
-        then-starts_with w ↦ ap (λ q. q.now) w.quote-is ∙ ap (λ (b : Bool). cond b (codes ">") []) (sym w.if-starts_with.true ∙ c.starts_with.ensures.value)
-      | else-starts_with w ↦ ap (λ q. q.now) w.quote-is ∙ ap (λ (b : Bool). cond b (codes ">") []) (sym w.if-starts_with.false ∙ c.starts_with.ensures.value) ] in
+    elim c.if-starts_with.branch [
+      | then-starts_with w ↦ ap (λ q. q.now) w.quote-is ∙ ap (λ (b : Bool). cond b (codes ">") []) (sym w.if-starts_with.true ∙ c.starts_with.ensures.value)
+      | else-starts_with w ↦ ap (λ q. q.now) w.quote-is ∙ ap (λ (b : Bool). cond b (codes ">") []) (sym w.if-starts_with.false ∙ c.starts_with.ensures.value)
+    ] in
     quoted _ _ _ (from_line c.args.user.now c.args.local.now c.args.site.now) (quote_of message) c.if-starts_with.quote.now message
-      c.new-bytes.ensures.items c.in_ok-append_from_line.ensures c.in_ok-append.ensures quote
+    c.new-bytes.ensures.items c.in_ok-append_from_line.ensures c.in_ok-append.ensures quote

@@ -15,7 +15,7 @@ range_from-requires c _ =
     let e = c.as_str-text.ensures.value in
     let u : IsUtf8 c.as_str-text.result.now = c.as_str-text.utf8 in
     subst (λ (t : List ℕ). IsCharBoundary t (c.self.inside.hop_len + 1)) (sym e)
-      (cut_after _ c.self.inside.hop_len (subst IsUtf8 e u) c.self.invariant.0 c.self.invariant.1)
+    (cut_after _ c.self.inside.hop_len (subst IsUtf8 e u) c.self.invariant.0 c.self.invariant.1)
 
 pub returns-clause-word : goal.returns-clause-word
 returns-clause-word c =
