@@ -13,7 +13,7 @@ use Rattle.sqlite.specs.Held.{Held, state}
 use Rattle.sqlite.proofs.StateLemmas.{survives_then}
 use Rattle.sqlite.proofs.Callers.{survives_begin}
 use Rattle.sqlite_catalog.specs.Listing.{IsSound}
-use Rattle.uu_sql.specs.Steps.{Stands, Rests, Ready, Asked, Told, Went, Inside, Halted, Outcome, Both, Did, Undid, Ends, Whole}
+use Rattle.uu_sql.specs.Steps.{Stands, Ready, Asked, Told, Went, Inside, Halted, Outcome, Both, Undid, Ends, Whole}
 
 still : (a b c : State) → Survives a b (λ _. ⊥) → Survives b c (λ _. ⊥) → Survives a c (λ _. ⊥)
 still a b c p q = survives_then a b c (λ _. ⊥) (λ _. ⊥) (λ _. ⊥) (λ _ db none. none) (λ _ db none. none) p q

@@ -1,10 +1,10 @@
 -- The tables of an empty spool, and the version of one that is there.
-use Rattle.std.proofs.Common.{◌≡◌, ◌≢◌, true≢false, IfErr, ◌⊎◌, inl, inr, ◌≤◌, ℕ, pos, List, [], ◌∷◌, Bool, true, false, map, filter, Result, Ok, Err, refl, sym, ap, subst, ◌∙◌, arith}
-use Rattle.std.specs.Prelude.{IsTrue, OnOk, IsOk, IsErr, nat_le}
+use Rattle.std.proofs.Common.{◌≡◌, ◌≢◌, true≢false, IfErr, inl, inr, pos, List, [], ◌∷◌, Bool, true, false, map, filter, Result, Ok, Err, refl, sym, ap, subst, ◌∙◌, arith}
+use Rattle.std.specs.Prelude.{IsTrue, IsOk, IsErr}
 use Rattle.std.specs.List.{list_all}
 use Rattle.std.specs.List.Sorted.{IsPermutation}
 use Rattle.std.proofs.lemmas.List.Sorted.{IsPermutation-refl}
-use Rattle.sqlite.specs.declared.types.Value.TheVariants.{Null, Int, Text}
+use Rattle.sqlite.specs.declared.types.Value.TheVariants.{Int}
 use Rattle.sqlite.specs.declared.error.Error.{Error}
 use Rattle.sqlite.specs.Order.{Row}
 use Rattle.sqlite.specs.Tree.{Trees}
@@ -13,7 +13,7 @@ use Rattle.sqlite.specs.State as db
 use Rattle.sqlite_sql.specs.declared.ops.CompareOp.TheVariants.{Eq}
 use Rattle.sqlite.proofs.Callers.{one_permutation}
 use Rattle.sqlite_typed.proofs.TestLemmas.{at_ints, last_term}
-use Rattle.uu_sql.specs.Steps.{Stands, Rests, Whole, Did, Ends}
+use Rattle.uu_sql.specs.Steps.{Rests, Whole, Did, Ends}
 use Rattle.uu_sql.proofs.Answers.{answer_of, answer_moved}
 use Rattle.uu_store.specs.declared.fault.StoreFault.{StoreFault}
 use Rattle.uu_store.specs.declared.fault.StoreFault.TheVariants.{Memory, Foreign, Newer}
@@ -23,9 +23,9 @@ use Rattle.uu_store.specs.declared.tables.Found.{Found}
 use Rattle.uu_store.specs.declared.tables.Found.TheVariants.{Nothing, Spool, Other}
 use Rattle.uu_store.specs.Tables.{found_of}
 use Rattle.uu_store.specs.Schema.{site, no_schema, ask_version}
-use Rattle.uu_store.specs.Rows.{spool_row, job_row, system_cells, TablesMade}
-use Rattle.uu_store.specs.Machine.{Job, State, empty}
-use Rattle.uu_store.specs.Encoded.{stored, Holds, Encodes, Begins, Replies}
+use Rattle.uu_store.specs.Rows.{spool_row, system_cells, TablesMade}
+use Rattle.uu_store.specs.Machine.{State, empty}
+use Rattle.uu_store.specs.Encoded.{Holds, Encodes, Begins, Replies}
 use Rattle.uu_store.proofs.Texts.{is_first, version_means}
 
 pub version_rows : (old new : db.State) (s : State) (rows : List Row) → Encodes old.now s → db.Shown ask_version [] old new rows → rows ≡ (Int (pos 0) ∷ []) ∷ []

@@ -1,19 +1,15 @@
 -- What the statements that make the tables make of the trees.
-use Rattle.std.proofs.Common.{◌≡◌, ◌⊎◌, inl, inr, ℕ, ℤ, pos, List, [], ◌∷◌, Bool, true, false, cond, Ok, Err, Result, None, Some, refl, sym, ap, subst, ◌∙◌, arith}
-use Rattle.std.specs.Prelude.{not}
-use Rattle.std.proofs.lemmas.Bool.{and_parts}
-use Rattle.sqlite.specs.declared.types.Value.TheVariants.{Null, Int, Text, Blob}
-use Rattle.sqlite.specs.Order.{Row}
+use Rattle.std.proofs.Common.{◌≡◌, ℕ, pos, List, [], ◌∷◌, false, Ok, Result, None, refl, sym, ap, subst, ◌∙◌, arith}
 use Rattle.sqlite.specs.Table.{Table}
 use Rattle.sqlite.specs.Schema.{Schema}
 use Rattle.sqlite.specs.Source.TheVariants.{Values}
 use Rattle.sqlite.specs.Command.TheVariants.{Insert, CreateTable}
 use Rattle.sqlite.specs.Compile.{table_defined_by}
-use Rattle.sqlite.specs.Change.{created, next_tree}
-use Rattle.sqlite.specs.Does.{Tally, Does, lacks_sequence}
-use Rattle.sqlite.specs.Tree.{Trees, put_row}
-use Rattle.sqlite.specs.Edit.{Edit, is_taken, Applies}
-use Rattle.sqlite.specs.Effect.{Database, IsDatabase}
+use Rattle.sqlite.specs.Change.{created}
+use Rattle.sqlite.specs.Does.{Tally, lacks_sequence}
+use Rattle.sqlite.specs.Tree.{put_row}
+use Rattle.sqlite.specs.Edit.{Edit, Applies}
+use Rattle.sqlite.specs.Effect.{Database}
 use Rattle.sqlite_schema.specs.declared.schema.Keys.TheVariants.{Enforced}
 use Rattle.sqlite_catalog.specs.Listing.{IsSound}
 use Rattle.sqlite_catalog.specs.Calls.{CreatesTable}
@@ -21,7 +17,7 @@ use Rattle.sqlite.specs.Listing.{understood}
 use Rattle.sqlite.specs.State.{State, Writes, Executes}
 use Rattle.sqlite.proofs.Callers.{IsPlain, command_of, statement_of, runs_as}
 use Rattle.uu_sql.specs.Steps.{Stands}
-use Rattle.uu_sql.proofs.Rows.{cast_int, cast_null, not_false}
+use Rattle.uu_sql.proofs.Rows.{cast_int, cast_null}
 use Rattle.uu_sql.proofs.Writes.{went, same_value, insert_ran, insert_applies, inserted}
 use Rattle.uu_store.specs.Schema.{site, no_schema, with_spool, with_systems, spool, systems, jobs, create_spool, create_systems, create_jobs, insert_spool}
 use Rattle.uu_store.specs.Rows.{spool_row, SpoolMade, SystemsMade, JobsMade, SpoolBegun}

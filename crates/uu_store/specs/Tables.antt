@@ -1,5 +1,5 @@
 -- Which of the spool's tables a database has, by their names and those of their columns, compared without regard to ASCII case as SQLite does.
-use Rattle.std.specs.Prelude.{ℕ, Bool, true, false, not, ◌&&◌, ◌||◌, if◌then◌else◌, List, [], ◌∷◌, codes, find, Option, Some, None, is_some}
+use Rattle.std.specs.Prelude.{ℕ, Bool, false, ◌&&◌, ◌||◌, if◌then◌else◌, List, [], ◌∷◌, codes, find, Option, Some, None, is_some}
 use Rattle.std.specs.List.{list_any, list_all}
 use Rattle.std.specs.Option.{option_map_or}
 use Rattle.sqlite.specs.Schema.{Schema}

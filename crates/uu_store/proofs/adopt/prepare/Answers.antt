@@ -1,7 +1,5 @@
-use Rattle.std.proofs.Common.{◌≡◌, sym, ◌∙◌}
+use Rattle.std.proofs.Common.{sym, ◌∙◌}
 use Rattle.sqlite.specs.Held.{state}
-use Rattle.uu_store.specs.Machine.{State}
-use Rattle.uu_store.specs.Encoded.{Encodes}
 use Rattle.uu_store.proofs.Begun.{all_found, not_nothing, not_other, not_half, replies_never}
 use Rattle.uu_store.proofs.adopt.prepare.Goals as goal
 
@@ -9,7 +7,7 @@ pub returns-in-Nothing-clause-replies : goal.returns-in-Nothing-clause-replies
 returns-in-Nothing-clause-replies g c =
     let a = state g.S.Store c.args.conn.now in
     replies_never _ a (state g.S.Store c.begin.new.conn) c.begin.result (λ s enc.
-        not_nothing (sym c.in-Nothing.is ∙ all_found s a c.schema.result.now c.found_in.result c.schema.ensures.value c.found_in.ensures enc))
+    not_nothing (sym c.in-Nothing.is ∙ all_found s a c.schema.result.now c.found_in.result c.schema.ensures.value c.found_in.ensures enc))
 
 pub returns-in-Nothing-clause-taken : goal.returns-in-Nothing-clause-taken
 returns-in-Nothing-clause-taken g c clean s enc =

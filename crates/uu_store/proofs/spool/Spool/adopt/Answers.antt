@@ -1,4 +1,3 @@
-use Rattle.sqlite.specs.Held.{state}
 use Rattle.uu_store.specs.Machine.{empty}
 use Rattle.uu_store.proofs.Ending.{shows_again, clean_before}
 use Rattle.uu_store.proofs.spool.Spool.adopt.Goals as goal
