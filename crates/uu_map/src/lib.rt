@@ -1,0 +1,10 @@
+//! Entries of UUCP maps: neighbours, links and their costs.
+#![tactic(auto)]
+
+mod entry;
+mod fault;
+mod listed;
+
+pub use entry::{Cost, Entry, EntryText, Link};
+pub use fault::MapFault;
+pub use listed::Listed;
