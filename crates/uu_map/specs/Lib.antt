@@ -1,1 +1,5 @@
 pub mod Fault
+pub mod Token
+pub mod Expression
+pub mod Reading
+pub mod Laws

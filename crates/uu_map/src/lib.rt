@@ -2,8 +2,10 @@
 #![tactic(auto)]
 
 mod entry;
+mod expression;
 mod fault;
 mod listed;
+mod token;
 
 pub use entry::{Cost, Entry, EntryText, Link};
 pub use fault::MapFault;

@@ -1,0 +1,3 @@
+pub mod Accepted
+pub mod Expressions
+pub mod Tokens
