@@ -2,4 +2,3 @@ pub mod Fault
 pub mod Token
 pub mod Expression
 pub mod Reading
-pub mod Laws

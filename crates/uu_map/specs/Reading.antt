@@ -1,5 +1,5 @@
 -- Reading an expression from left to right, token by token, up to the parenthesis that closes it.
-use Rattle.std.specs.Prelude.{ℕ, zero, suc, Bool, true, false, not, List, [], ◌∷◌, Option, Some, None, option_map, option_and_then, ℤ, pos, negsuc, if◌then◌else◌}
+use Rattle.std.specs.Prelude.{ℕ, zero, suc, Bool, true, false, not, List, [], ◌∷◌, Option, Some, None, option_map, option_and_then, reverse, ℤ, pos, negsuc, if◌then◌else◌}
 use Rattle.uu_map.specs.declared.entry.Cost.{Cost}
 use Rattle.uu_map.specs.declared.entry.Cost.TheVariants.{Value, Dead}
 use Rattle.uu_map.specs.declared.token.Additive.{Additive}
@@ -8,6 +8,7 @@ use Rattle.uu_map.specs.declared.token.Multiplicative.{Multiplicative}
 use Rattle.uu_map.specs.declared.token.Token.{Token}
 use Rattle.uu_map.specs.declared.token.Token.TheVariants as tokens
 use Rattle.uu_map.specs.declared.expression.Level.{Level}
+use Rattle.uu_map.specs.declared.expression.Reading.{Reading}
 use Rattle.uu_map.specs.declared.expression.Stage.{Stage}
 use Rattle.uu_map.specs.declared.expression.Stage.TheVariants.{Operand, Operator, Done}
 use Rattle.uu_map.specs.Expression.{kept, sum_of, product_of, both, with_sign, negated, cost_of}
@@ -38,6 +39,10 @@ flipped Minus negative = not negative
 abbrev pub one_less : ℕ → Option ℕ
 one_less zero = None
 one_less (suc n) = Some n
+
+-- a reading as a state
+abbrev pub state_of : Reading → State
+state_of r = record { outer = reverse r.outer.items; level = r.level; stage = r.stage; dead = r.dead }
 
 -- a level in which nothing was read
 abbrev pub fresh : ℕ → Level
