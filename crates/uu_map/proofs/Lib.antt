@@ -1,3 +1,4 @@
 pub mod Accepted
 pub mod Expressions
+pub mod Parts
 pub mod Tokens

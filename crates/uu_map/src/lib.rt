@@ -5,6 +5,7 @@ mod entry;
 mod expression;
 mod fault;
 mod listed;
+mod statement;
 mod token;
 
 pub use entry::{Cost, Entry, EntryText, Link};
