@@ -1,4 +1,5 @@
 pub mod Accepted
 pub mod Expressions
+pub mod Lines
 pub mod Parts
 pub mod Tokens

@@ -5,3 +5,6 @@ pub mod Expression
 pub mod Reading
 pub mod Statement
 pub mod StatementReading
+pub mod Text
+pub mod Entry
+pub mod Heard

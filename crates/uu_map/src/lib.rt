@@ -5,7 +5,9 @@ mod entry;
 mod expression;
 mod fault;
 mod listed;
+mod reader;
 mod statement;
+mod text;
 mod token;
 
 pub use entry::{Cost, Entry, EntryText, Link};

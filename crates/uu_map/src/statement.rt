@@ -1,6 +1,6 @@
 // The statements of an entry.
 ghost use Rattle.std.specs.Prelude.{◌≡◌, ◌<◌, ◌≤◌, ◌∷◌, [], length, take, drop, option_map, IfOk};
-ghost use Rattle.std.specs.List.{prefix_len, position_or_len};
+ghost use Rattle.std.specs.List.{prefix_len};
 ghost use Rattle.uu_names.specs.Name.{is_site_byte};
 ghost use Rattle.uu_map.specs.Token.{is_blank, tokens};
 ghost use Rattle.uu_map.specs.Statement.{is_mark, all_blank, cut, is_comma};
@@ -8,6 +8,7 @@ ghost use Rattle.uu_map.specs.StatementReading.{skip, skip_mark, cost_behind, si
 
 use crate::entry::{Cost, Link};
 use crate::expression::cost;
+use crate::text::len_before;
 use crate::token::{Token, blanks_len, is_blank, next_token};
 use std::alloc::{AllocError, Global};
 use uu_names::{NameFault, SiteName};
@@ -129,26 +130,13 @@ fn alias_of(alloc: Global, text: &[u8]) -> Result<Option<SiteName>, AllocError>
     named_alias(alloc, skip_blanks(text))
 }
 
-// How much of the text stands before its first comma.
-fn part_len(text: &[u8]) -> usize
-    ensures value { result ≡ position_or_len is_comma text.now }
-    ensures bound { result ≤ length text.now }
-{
-    for (i, byte) in text.iter().enumerate() {
-        if *byte == b',' {
-            return i;
-        }
-    }
-    text.len()
-}
-
 // The text before the first comma, and the text behind it.
 fn first_part(text: &[u8]) -> (&[u8], &[u8])
     requires { 0 < length text.now }
     ensures parts { cut is_comma text.now ≡ result.0.now ∷ cut is_comma result.1.now }
     ensures shorter { length result.1.now < length text.now }
 {
-    let (part, rest) = text.split_at(part_len(text));
+    let (part, rest) = text.split_at(len_before(text, b','));
     match rest {
         [] => (part, rest),
         [_, rest @ ..] => (part, rest),

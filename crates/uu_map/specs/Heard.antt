@@ -1,0 +1,39 @@
+-- Hearing one statement after another.
+use Rattle.std.specs.Prelude.{◌≡◌, ℕ, List, [], ◌∷◌, ◌++◌, Option, Some, None, Result, Ok, Err, ⊤, is_ok}
+use Rattle.uu_map.specs.declared.entry.Link.{Link}
+use Rattle.uu_map.specs.declared.reader.Hearing.{Hearing}
+use Rattle.uu_map.specs.declared.reader.Open.{Open}
+use Rattle.uu_map.specs.Statement.{Meaning}
+use Rattle.uu_map.specs.StatementReading.{statement_of}
+use Rattle.uu_map.specs.Text.{Numbered}
+
+-- what the statements said so far
+pub record Heard : Type 0 where
+  pub aliases : List (List ℕ)
+  pub links : List Link
+  pub skipped : List ℕ
+
+abbrev pub nothing : Heard
+nothing = record { aliases = []; links = []; skipped = [] }
+
+-- one after the other
+abbrev pub then_heard : Heard → Heard → Heard
+then_heard a b = record { aliases = a.aliases ++ b.aliases; links = a.links ++ b.links; skipped = a.skipped ++ b.skipped }
+
+-- what one statement said
+abbrev pub of_one : ℕ → Option Meaning → Heard
+of_one line None = record { aliases = []; links = []; skipped = line ∷ [] }
+of_one line (Some m) = record { aliases = m.aliases; links = m.links; skipped = [] }
+
+-- what the statements say, in order
+abbrev pub heard : List ℕ → List Numbered → Heard
+heard host [] = nothing
+heard host (s ∷ ss) = then_heard (of_one s.line (statement_of host s.text)) (heard host ss)
+
+abbrev pub as_heard : Hearing → Heard
+as_heard h = record { aliases = h.aliases.items; links = h.links.items; skipped = h.skipped.items }
+
+-- the statement that may still be continued
+abbrev pub open_list : Option Open → List Numbered
+open_list None = []
+open_list (Some o) = record { line = o.line; text = o.text.items } ∷ []
