@@ -2,4 +2,5 @@ pub mod Accepted
 pub mod Expressions
 pub mod Lines
 pub mod Parts
+pub mod Statements
 pub mod Tokens

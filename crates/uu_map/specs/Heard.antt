@@ -2,10 +2,10 @@
 use Rattle.std.specs.Prelude.{◌≡◌, ℕ, List, [], ◌∷◌, ◌++◌, Option, Some, None, Result, Ok, Err, ⊤, is_ok}
 use Rattle.uu_map.specs.declared.entry.Link.{Link}
 use Rattle.uu_map.specs.declared.reader.Hearing.{Hearing}
-use Rattle.uu_map.specs.declared.reader.Open.{Open}
+use Rattle.uu_map.specs.declared.reader.Pending.{Pending}
 use Rattle.uu_map.specs.Statement.{Meaning}
 use Rattle.uu_map.specs.StatementReading.{statement_of}
-use Rattle.uu_map.specs.Text.{Numbered}
+use Rattle.uu_map.specs.Text.{Numbered, statements}
 
 -- what the statements said so far
 pub record Heard : Type 0 where
@@ -33,7 +33,14 @@ heard host (s ∷ ss) = then_heard (of_one s.line (statement_of host s.text)) (h
 abbrev pub as_heard : Hearing → Heard
 as_heard h = record { aliases = h.aliases.items; links = h.links.items; skipped = h.skipped.items }
 
+abbrev pub numbered_of : Pending → Numbered
+numbered_of o = record { line = o.line; text = o.text.items }
+
 -- the statement that may still be continued
-abbrev pub open_list : Option Open → List Numbered
-open_list None = []
-open_list (Some o) = record { line = o.line; text = o.text.items } ∷ []
+abbrev pub pending_list : Option Pending → List Numbered
+pending_list None = []
+pending_list (Some o) = numbered_of o ∷ []
+
+-- what was heard, and what is to be heard of a list of lines
+abbrev pub in_all : List ℕ → Heard → List Numbered → Heard
+in_all host h lines = then_heard h (heard host (statements lines))
