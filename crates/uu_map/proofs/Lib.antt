@@ -2,5 +2,4 @@ pub mod Accepted
 pub mod Expressions
 pub mod Lines
 pub mod Parts
-pub mod Statements
 pub mod Tokens
