@@ -8,3 +8,4 @@ pub mod StatementReading
 pub mod Text
 pub mod Entry
 pub mod Heard
+pub mod Listing

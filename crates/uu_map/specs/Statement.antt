@@ -4,7 +4,7 @@
 --     link      := [ mark ] name [ mark ] blanks* [ "(" sum ")" ]
 --     mark      := "!" | "@" | ":" | "%"
 use Rattle.std.specs.Prelude.{◌≡◌, ℕ, Bool, not, ◌||◌, List, [], ◌∷◌, ◌++◌, Some, ◌==◌, IsTrue, filter, ◌⊎◌, ⊤}
-use Rattle.std.specs.List.{list_all, onto_first}
+use Rattle.std.specs.List.{list_all, onto_first, AllZip}
 use Rattle.std.specs.Str.{byte}
 use Rattle.std.specs.Prelude.{if◌then◌else◌}
 use Rattle.uu_names.specs.Name.{is_site_name}
@@ -69,13 +69,6 @@ pub record IsAlias (text : List ℕ) (name : List ℕ) : Type 0 where
   pub is_name : IsTrue (is_site_name name)
   pub after : IsTrue (all_blank behind)
 
--- one for one
-abbrev pub AreEach : {X Y : Type 0} → (X → Y → Type 0) → List X → List Y → Type 0
-AreEach R [] [] = ⊤
-AreEach R [] (y ∷ ys) = ⊥
-AreEach R (x ∷ xs) [] = ⊥
-AreEach R (x ∷ xs) (y ∷ ys) = R x y × AreEach R xs ys
-
 -- what a statement says of its host
 pub record Meaning : Type 0 where
   pub aliases : List (List ℕ)
@@ -83,5 +76,5 @@ pub record Meaning : Type 0 where
 
 pub data IsStatement (host : List ℕ) : List ℕ → Meaning → Type 0 where
   alone : IsStatement host host (record { aliases = []; links = [] })
-  with_links : (blank : ℕ) (list : List ℕ) (links : List Link) → IsTrue (is_blank blank) → AreEach IsLink (elements list) links → IsStatement host (host ++ blank ∷ list) (record { aliases = []; links = links })
-  with_aliases : (blanks : List ℕ) (list : List ℕ) (aliases : List (List ℕ)) → IsTrue (all_blank blanks) → AreEach IsAlias (elements list) aliases → IsStatement host (host ++ (blanks ++ byte "=" ∷ list)) (record { aliases = aliases; links = [] })
+  with_links : (blank : ℕ) (list : List ℕ) (links : List Link) → IsTrue (is_blank blank) → AllZip IsLink (elements list) links → IsStatement host (host ++ blank ∷ list) (record { aliases = []; links = links })
+  with_aliases : (blanks : List ℕ) (list : List ℕ) (aliases : List (List ℕ)) → IsTrue (all_blank blanks) → AllZip IsAlias (elements list) aliases → IsStatement host (host ++ (blanks ++ byte "=" ∷ list)) (record { aliases = aliases; links = [] })

@@ -4,6 +4,7 @@
 mod entry;
 mod expression;
 mod fault;
+mod least;
 mod listed;
 mod reader;
 mod statement;
