@@ -40,7 +40,7 @@ cost_congr (Value a) Dead z p = absurd cc
 cost_congr Dead (Value b) z p = absurd cc
 cost_congr Dead Dead z p = refl
 
-cost_total : IsTotalOrder cost_cmp
+pub cost_total : IsTotalOrder cost_cmp
 cost_total = record { antisymm = cost_antisymm; trans = cost_trans; congr = cost_congr }
 
 pub by_name_total : IsTotalOrder by_name_cmp
@@ -64,7 +64,7 @@ at_most_both Dead Dead p q = refl
 
 -- ---- names
 
-same_name : (x y : List ℕ) → slice_cmp nat_cmp x y ≡ Equal → x ≡ y
+pub same_name : (x y : List ℕ) → slice_cmp nat_cmp x y ≡ Equal → x ≡ y
 same_name x y e = (bytes_eq-Decides x y).0 (texts_ties x y ∙ ap is_eq e)
 
 not_below_both : (x y : List ℕ) → is_lt (slice_cmp nat_cmp x y) ≡ false → is_lt (slice_cmp nat_cmp y x) ≡ false → x ≡ y

@@ -3,4 +3,5 @@ pub mod Expressions
 pub mod LeastCosts
 pub mod Lines
 pub mod Parts
+pub mod Ranks
 pub mod Tokens

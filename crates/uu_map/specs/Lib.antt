@@ -9,3 +9,4 @@ pub mod Text
 pub mod Entry
 pub mod Heard
 pub mod Listing
+pub mod Split

@@ -1,10 +1,13 @@
 -- How the links of an entry are listed.
 use Rattle.std.specs.Prelude.{◌≡◌, ◌↔◌, ⊤, Bool, false, List, [], ◌∷◌, Option, Some, None, Contains, if◌then◌else◌}
+use Rattle.std.specs.declared.cmp.Ordering.{Ordering}
+use Rattle.std.specs.Ordering.{nat_cmp, ordering_then}
+use Rattle.std.specs.Cmp.Lexicographic.{slice_cmp}
 use Rattle.std.specs.Str.{bytes_eq}
 use Rattle.std.specs.List.Sorted.{IsStrictlySortedBy}
 use Rattle.uu_map.specs.declared.entry.Link.{Link}
 use Rattle.uu_map.specs.declared.least.Ranked.{Ranked}
-use Rattle.uu_map.specs.Entry.{IsLeast, listing_cmp}
+use Rattle.uu_map.specs.Entry.{IsLeast, cost_cmp, listing_cmp}
 
 -- The links of an entry are those that cost least for their name, each once, in order of cost and then of the name's bytes.
 pub record IsListing (links listed : List Link) : Type 0 where
@@ -14,6 +17,9 @@ pub record IsListing (links listed : List Link) : Type 0 where
 -- a ranked link as a link
 abbrev pub as_link : Ranked → Link
 as_link r = record { to = r.to; cost = r.cost }
+
+abbrev pub ranked_cmp : Ranked → Ranked → Ordering
+ranked_cmp a b = ordering_then (cost_cmp a.cost b.cost) (slice_cmp nat_cmp a.to b.to)
 
 abbrev pub has_name_of : Option Link → Link → Bool
 has_name_of None link = false

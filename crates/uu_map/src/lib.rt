@@ -7,6 +7,7 @@ mod fault;
 mod least;
 mod listed;
 mod reader;
+mod split;
 mod statement;
 mod text;
 mod token;
