@@ -4,4 +4,5 @@ pub mod LeastCosts
 pub mod Lines
 pub mod Parts
 pub mod Ranks
+pub mod Splits
 pub mod Tokens

@@ -10,3 +10,4 @@ pub mod Entry
 pub mod Heard
 pub mod Listing
 pub mod Split
+pub mod Splitting

@@ -15,3 +15,4 @@ mod token;
 pub use entry::{Cost, Entry, EntryText, Link};
 pub use fault::MapFault;
 pub use listed::Listed;
+pub use split::split;
