@@ -2,6 +2,7 @@ pub mod Accepted
 pub mod Expressions
 pub mod LeastCosts
 pub mod Lines
+pub mod LinkTexts
 pub mod Parts
 pub mod Ranks
 pub mod Splits

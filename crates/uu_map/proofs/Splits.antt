@@ -5,7 +5,7 @@ use Rattle.std.proofs.lemmas.Bool.Decides.{nat_tests}
 use Rattle.std.proofs.lemmas.List.{append-nil}
 use Rattle.std.proofs.lemmas.List.Sums.{count_by_more_yes, count_by_more_no}
 use Rattle.uu_map.specs.declared.entry.EntryText.{EntryText}
-use Rattle.uu_map.specs.declared.split.Start.{Start}
+use Rattle.uu_map.specs.declared.splitter.Start.{Start}
 use Rattle.uu_map.specs.Split.{is_newline, begins_line, begins_entry, entries_from, line_of}
 use Rattle.uu_map.specs.Splitting.{ended, starts_from, start_list, HasItsLine, FoundUpTo}
 

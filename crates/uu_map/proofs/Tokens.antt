@@ -81,7 +81,7 @@ words-cons b bs blank = go (is_ascii_digit b) (is_ascii_uppercase b) refl refl
 
 -- ---- tokens
 
-from_word : (u : List ℕ) → begins is_blank u ≡ false → 0 < length u → tokens u ≡ word_token (take (word_len u) u) ∷ tokens (drop (word_len u) u)
+pub from_word : (u : List ℕ) → begins is_blank u ≡ false → 0 < length u → tokens u ≡ word_token (take (word_len u) u) ∷ tokens (drop (word_len u) u)
 from_word [] stops some = absurd (omega arith)
 from_word (b ∷ bs) stops some = ap (map word_token) (words-cons b bs stops)
 

@@ -2,7 +2,7 @@
 use Rattle.std.specs.Prelude.{◌≡◌, ℕ, ◌+◌, ◌-◌, Bool, ◌&&◌, List, [], ◌∷◌, ◌++◌, length, drop, Option, Some, None, ⊤, filter}
 use Rattle.std.specs.List.{range_with_len}
 use Rattle.uu_map.specs.declared.entry.EntryText.{EntryText}
-use Rattle.uu_map.specs.declared.split.Start.{Start}
+use Rattle.uu_map.specs.declared.splitter.Start.{Start}
 use Rattle.uu_map.specs.Split.{begins_line, begins_entry, entries_from, line_of}
 
 -- the entry that began there and ends here

@@ -2,8 +2,8 @@ use Rattle.std.proofs.Common.{◌≡◌, ◌&&◌, ◌==◌, ap, sym, ◌∙◌,
 use Rattle.std.proofs.lemmas.Bool.Decides.{nat_tests}
 use Rattle.uu_map.specs.Split.{is_newline, begins_line, begins_entry}
 use Rattle.uu_map.proofs.Splits.{found_goes_on, found_begins, line-next, line-same, begins_line-next}
-use Rattle.uu_map.proofs.split.entries_of.Goals as goal
-use Rattle.uu_map.proofs.split.entries_of.Goals.{then-begins_line+then-begins_entry+in_ok-end_entry, else-begins_line, else-begins_line-via-then-begins_line+else-begins_entry, else-begins_line-via-else-begins_line, then-begins_line-2, else-begins_line-2}
+use Rattle.uu_map.proofs.splitter.entries_of.Goals as goal
+use Rattle.uu_map.proofs.splitter.entries_of.Goals.{then-begins_line+then-begins_entry+in_ok-end_entry, else-begins_line, else-begins_line-via-then-begins_line+else-begins_entry, else-begins_line-via-else-begins_line, then-begins_line-2, else-begins_line-2}
 
 pub loop-at-preserved : goal.loop-at-preserved
 loop-at-preserved c =

@@ -1,7 +1,7 @@
 use Rattle.std.proofs.Common.{◌≡◌, ◌≤◌, length}
 use Rattle.uu_map.specs.Split.{begins_line, line_of}
 use Rattle.uu_map.specs.Splitting.{FoundUpTo}
-use Rattle.uu_map.proofs.split.entries_of.Given as goal
+use Rattle.uu_map.proofs.splitter.entries_of.Given as goal
 
 abbrev pub invariant-loop-at : goal.invariant-loop-at
 invariant-loop-at l = record {
