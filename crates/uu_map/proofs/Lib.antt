@@ -6,4 +6,5 @@ pub mod LinkTexts
 pub mod Parts
 pub mod Ranks
 pub mod Splits
+pub mod StatementTexts
 pub mod Tokens

@@ -25,7 +25,7 @@ use Rattle.uu_map.proofs.Accepted.{accepted_expression}
 
 -- ---- fronts
 
-one_more : (n : ℕ) → 1 + n ≡ suc n
+pub one_more : (n : ℕ) → 1 + n ≡ suc n
 one_more n = omega arith
 
 pub front_passes : (p : ℕ → Bool) (xs : List ℕ) → list_all p (take (prefix_len p xs) xs) ≡ true
@@ -51,6 +51,15 @@ skip-front p xs rest all stops = ap (λ n. drop n (xs ++ rest)) (prefix_len-fron
 
 pub take-front : (p : ℕ → Bool) (xs rest : List ℕ) → list_all p xs ≡ true → begins p rest ≡ false → take (prefix_len p (xs ++ rest)) (xs ++ rest) ≡ xs
 take-front p xs rest all stops = ap (λ n. take n (xs ++ rest)) (prefix_len-front p xs rest all stops) ∙ take_at xs rest (length xs) refl
+
+-- ---- answers
+
+pub some_same : {A : Type 0} (x y : A) → Some x ≡ Some y → x ≡ y
+some_same x y e = cc
+
+when_fits : (t : Bool) (o : Option Cost) (cost : Cost) → cond t o None ≡ Some cost → (t ≡ true) × (o ≡ Some cost)
+when_fits true o cost e = (refl, e)
+when_fits false o cost e = absurd cc
 
 -- ---- bytes
 
@@ -155,5 +164,182 @@ cost_begins (b ∷ bs) cost h = go (is_blank b) refl h
     go false e (inl (none_left, _)) = let (w, ws, f) = first_word b bs e in absurd (nothing_first w ws f none_left)
     go false e (inr (sum, priced)) = let (w, ws, f) = first_word b bs e in open_first w ws f (sum_text sum ++ tokens.Close ∷ []) priced.written
 
-pub cost_law : (text : List ℕ) (cost : Cost) → IsCost text cost → begins is_site_byte text ≡ false
-cost_law text cost h = (cost_begins text cost h).no_site_byte
+-- ---- costs
+
+cost_tokens : (text : List ℕ) (cost : Cost) (ts : List Token) → token.tokens text ≡ ts → cost_behind ts ≡ Some cost → IsCost text cost
+cost_tokens text cost [] e h = inl (e, sym (some_same (Value 4000) cost h))
+cost_tokens text cost (tokens.Open ∷ ts) e h =
+    let (tree, et) = accepted_expression 32 ts cost h in
+    inr (tree, priced tree et)
+  where
+    priced : (tree : Sum) → ts ≡ sum_text tree ++ tokens.Close ∷ [] → IsPriced text cost tree
+    priced tree et =
+        let (fits, price) = when_fits (sum_fits 32 tree) (cost_of (sum_is_dead tree) (sum_value tree)) cost (sym (reads_expression 32 tree) ∙ (ap (run (start 32)) (sym et) ∙ h)) in
+        record { written = e ∙ ap (λ r. tokens.Open ∷ r) et; fits = fits; price = price }
+cost_tokens text cost (tokens.Amount v ∷ ts) e h = absurd cc
+cost_tokens text cost (tokens.Dead ∷ ts) e h = absurd cc
+cost_tokens text cost (tokens.Close ∷ ts) e h = absurd cc
+cost_tokens text cost (tokens.Additive op ∷ ts) e h = absurd cc
+cost_tokens text cost (tokens.Multiplicative op ∷ ts) e h = absurd cc
+cost_tokens text cost (tokens.Other ∷ ts) e h = absurd cc
+
+cost_is_read : (text : List ℕ) (cost : Cost) → IsCost text cost → cost_behind (token.tokens text) ≡ Some cost
+cost_is_read text cost (inl (e, is)) = ap cost_behind e ∙ ap Some (sym is)
+cost_is_read text cost (inr (tree, priced)) =
+    ap cost_behind priced.written ∙ (reads_expression 32 tree ∙ (ap (λ b. cond b (cost_of (sum_is_dead tree) (sum_value tree)) None) priced.fits ∙ priced.price))
+
+-- ---- links
+
+front_mark : (text : List ℕ) → (mark : List ℕ) × IsMarkAtMost mark × (text ≡ mark ++ skip_mark text)
+front_mark [] = ([], tt, refl)
+front_mark (b ∷ bs) = go (is_mark b) refl
+  where
+    go : (t : Bool) → is_mark b ≡ t → (mark : List ℕ) × IsMarkAtMost mark × (b ∷ bs ≡ mark ++ cond t bs (b ∷ bs))
+    go true e = (b ∷ [], e, refl)
+    go false e = ([], tt, refl)
+
+site_name_is : (text name : List ℕ) → site_name text ≡ Some name → (IsTrue (is_site_name name)) × (text ≡ name)
+site_name_is text name = go (is_site_name text) refl
+  where
+    go : (t : Bool) → is_site_name text ≡ t → cond t (Some text) None ≡ Some name → (IsTrue (is_site_name name)) × (text ≡ name)
+    go true e h = let same : text ≡ name = some_same text name h in (ap is_site_name (sym same) ∙ e, same)
+    go false e h = absurd cc
+
+record Named (text : List ℕ) (link : Link) : Type 0 where
+  written : text ≡ link.to ++ skip is_site_byte text
+  name : IsTrue (is_site_name link.to)
+  cost : cost_behind (token.tokens (skip_mark (skip is_site_byte text))) ≡ Some link.cost
+
+named : (text : List ℕ) (link : Link) → named_link text ≡ Some link → Named text link
+unfolding named_link
+named text link h = go (cost_behind (token.tokens (skip_mark (skip is_site_byte text)))) refl (site_name (take (prefix_len is_site_byte text) text)) refl h
+  where
+    go : (c : Option Cost) → cost_behind (token.tokens (skip_mark (skip is_site_byte text))) ≡ c → (n : Option (List ℕ)) → site_name (take (prefix_len is_site_byte text) text) ≡ n → option_and_then (λ cost. option_map (λ name. record { to = name; cost = cost }) n) c ≡ Some link → Named text link
+    go None ec n en h = absurd cc
+    go (Some cost) ec None en h = absurd cc
+    go (Some cost) ec (Some name) en h =
+        let is : record { to = name; cost = cost } ≡ link = some_same (record { to = name; cost = cost }) link h in
+        let (good, same) = site_name_is (take (prefix_len is_site_byte text) text) name en in
+        let to : name ≡ link.to = ap (λ (l : Link). l.to) is in
+        record {
+          written = sym (take-append-drop (prefix_len is_site_byte text) text) ∙ ap (λ n. n ++ skip is_site_byte text) (same ∙ to);
+          name = ap is_site_name (sym to) ∙ good;
+          cost = ec ∙ ap Some (ap (λ (l : Link). l.cost) is);
+        }
+
+-- what is read as a link is one
+pub link_is : (text : List ℕ) (link : Link) → link_of text ≡ Some link → IsLink text link
+unfolding link_of
+link_is text link h =
+    let rest : List ℕ = skip is_blank text in
+    let n : Named (skip_mark rest) link = named (skip_mark rest) link h in
+    let (front, is_front, ef) = front_mark rest in
+    let (back, is_back, eb) = front_mark (skip is_site_byte (skip_mark rest)) in
+    record {
+      blanks = take (prefix_len is_blank text) text;
+      front = front;
+      back = back;
+      behind = skip_mark (skip is_site_byte (skip_mark rest));
+      written = sym (take-append-drop (prefix_len is_blank text) text)
+          ∙ ap (λ r. take (prefix_len is_blank text) text ++ r) (ef ∙ ap (λ r. front ++ r) (n.written ∙ ap (λ r. link.to ++ r) eb));
+      before = front_passes is_blank text;
+      front_mark = is_front;
+      name = n.name;
+      back_mark = is_back;
+      cost = cost_tokens (skip_mark (skip is_site_byte (skip_mark rest))) link.cost (token.tokens (skip_mark (skip is_site_byte (skip_mark rest)))) refl n.cost;
+    }
+
+-- a name that is followed by something begins neither with a blank nor with a mark
+name_begins : (name rest : List ℕ) → is_site_name name ≡ true → (begins is_blank (name ++ rest) ≡ false) × (skip_mark (name ++ rest) ≡ name ++ rest)
+name_begins [] rest h = absurd (empty_is_no_name h)
+name_begins (b ∷ bs) rest h =
+    let passes : is_site_byte b ≡ true = and_left (is_site_byte b) (list_all is_site_byte bs) (name_passes (b ∷ bs) h) in
+    (site_byte_is_not_blank b passes, ap (λ t. cond t (bs ++ rest) (b ∷ (bs ++ rest))) (site_byte_is_no_mark b passes))
+
+behind_mark : (mark text : List ℕ) → IsMarkAtMost mark → begins is_mark text ≡ false → skip_mark (mark ++ text) ≡ text
+behind_mark [] [] m h = refl
+behind_mark [] (b ∷ bs) m h = ap (λ t. cond t bs (b ∷ bs)) h
+behind_mark (b ∷ []) text m h = ap (λ t. cond t text (b ∷ text)) m
+behind_mark (b ∷ c ∷ mark) text m h = absurd m
+
+mark_stops : (mark text : List ℕ) → IsMarkAtMost mark → begins is_site_byte text ≡ false → begins is_site_byte (mark ++ text) ≡ false
+mark_stops [] text m h = h
+mark_stops (b ∷ []) text m h = mark_is_no_site_byte b m
+mark_stops (b ∷ c ∷ mark) text m h = absurd m
+
+front_begins : (front name rest : List ℕ) → IsMarkAtMost front → is_site_name name ≡ true → (begins is_blank (front ++ (name ++ rest)) ≡ false) × (skip_mark (front ++ (name ++ rest)) ≡ name ++ rest)
+front_begins [] name rest m h = name_begins name rest h
+front_begins (b ∷ []) name rest m h = (mark_is_not_blank b m, ap (λ t. cond t (name ++ rest) (b ∷ (name ++ rest))) m)
+front_begins (b ∷ c ∷ front) name rest m h = absurd m
+
+named_is_read : (link : Link) (back behind : List ℕ) → IsTrue (is_site_name link.to) → IsMarkAtMost back → IsCost behind link.cost → named_link (link.to ++ (back ++ behind)) ≡ Some link
+unfolding named_link
+named_is_read link back behind name mark cost =
+    let starts : BehindName behind = cost_begins behind link.cost cost in
+    let all : list_all is_site_byte link.to ≡ true = name_passes link.to name in
+    let stops : begins is_site_byte (back ++ behind) ≡ false = mark_stops back behind mark starts.no_site_byte in
+    let front : take (prefix_len is_site_byte (link.to ++ (back ++ behind))) (link.to ++ (back ++ behind)) ≡ link.to = take-front is_site_byte link.to (back ++ behind) all stops in
+    let rest : skip is_site_byte (link.to ++ (back ++ behind)) ≡ back ++ behind = skip-front is_site_byte link.to (back ++ behind) all stops in
+    let after : skip_mark (back ++ behind) ≡ behind = behind_mark back behind mark starts.no_mark in
+    ap (λ t. option_and_then (λ cost. option_map (λ name. let l : Link = record { to = name; cost = cost } in l) (site_name (take (prefix_len is_site_byte (link.to ++ (back ++ behind))) (link.to ++ (back ++ behind))))) (cost_behind (token.tokens (skip_mark t)))) rest
+    ∙ (ap (λ t. option_and_then (λ cost. option_map (λ name. let l : Link = record { to = name; cost = cost } in l) (site_name (take (prefix_len is_site_byte (link.to ++ (back ++ behind))) (link.to ++ (back ++ behind))))) (cost_behind (token.tokens t))) after
+    ∙ (ap (λ c. option_and_then (λ cost. option_map (λ name. let l : Link = record { to = name; cost = cost } in l) (site_name (take (prefix_len is_site_byte (link.to ++ (back ++ behind))) (link.to ++ (back ++ behind))))) c) (cost_is_read behind link.cost cost)
+    ∙ (ap (λ n. option_map (λ name. let l : Link = record { to = name; cost = link.cost } in l) (site_name n)) front
+    ∙ ap (λ b. option_map (λ name. let l : Link = record { to = name; cost = link.cost } in l) (cond b (Some link.to) None)) name)))
+
+-- a link is read as it is
+pub link_is_read : (text : List ℕ) (link : Link) → IsLink text link → link_of text ≡ Some link
+unfolding link_of
+link_is_read text link l =
+    let (stops, after) = front_begins l.front link.to (l.back ++ l.behind) l.front_mark l.name in
+    ap (λ t. named_link (skip_mark (skip is_blank t))) l.written
+    ∙ (ap (λ t. named_link (skip_mark t)) (skip-front is_blank l.blanks (l.front ++ (link.to ++ (l.back ++ l.behind))) l.before stops)
+    ∙ (ap named_link after
+    ∙ named_is_read link l.back l.behind l.name l.back_mark l.cost))
+
+-- ---- aliases
+
+named_alias_is : (text name : List ℕ) → named_alias text ≡ Some name → (IsTrue (is_site_name name)) × (text ≡ name ++ skip is_site_byte text) × IsTrue (all_blank (skip is_site_byte text))
+unfolding named_alias
+named_alias_is text name = go (all_blank (skip is_site_byte text)) refl
+  where
+    go : (t : Bool) → all_blank (skip is_site_byte text) ≡ t → cond t (site_name (take (prefix_len is_site_byte text) text)) None ≡ Some name → (IsTrue (is_site_name name)) × (text ≡ name ++ skip is_site_byte text) × IsTrue (all_blank (skip is_site_byte text))
+    go true e h =
+        let (good, same) = site_name_is (take (prefix_len is_site_byte text) text) name h in
+        (good, sym (take-append-drop (prefix_len is_site_byte text) text) ∙ ap (λ n. n ++ skip is_site_byte text) same, e)
+    go false e h = absurd cc
+
+pub alias_is : (text name : List ℕ) → alias_of text ≡ Some name → IsAlias text name
+unfolding alias_of
+alias_is text name h =
+    let (good, written, blank) = named_alias_is (skip is_blank text) name h in
+    record {
+      blanks = take (prefix_len is_blank text) text;
+      behind = skip is_site_byte (skip is_blank text);
+      written = sym (take-append-drop (prefix_len is_blank text) text) ∙ ap (λ r. take (prefix_len is_blank text) text ++ r) written;
+      before = front_passes is_blank text;
+      is_name = good;
+      after = blank;
+    }
+
+blanks_stop : (text : List ℕ) → all_blank text ≡ true → begins is_site_byte text ≡ false
+blanks_stop [] h = refl
+blanks_stop (b ∷ bs) h = blank_is_no_site_byte b (and_left (is_blank b) (all_blank bs) h)
+
+named_alias_is_read : (name behind : List ℕ) → IsTrue (is_site_name name) → IsTrue (all_blank behind) → named_alias (name ++ behind) ≡ Some name
+unfolding named_alias
+named_alias_is_read name behind good blank =
+    let all : list_all is_site_byte name ≡ true = name_passes name good in
+    let stops : begins is_site_byte behind ≡ false = blanks_stop behind blank in
+    ap (λ t. cond (all_blank t) (site_name (take (prefix_len is_site_byte (name ++ behind)) (name ++ behind))) None) (skip-front is_site_byte name behind all stops)
+    ∙ (ap (λ b. cond b (site_name (take (prefix_len is_site_byte (name ++ behind)) (name ++ behind))) None) blank
+    ∙ (ap site_name (take-front is_site_byte name behind all stops)
+    ∙ ap (λ b. cond b (Some name) None) good))
+
+pub alias_is_read : (text name : List ℕ) → IsAlias text name → alias_of text ≡ Some name
+unfolding alias_of
+alias_is_read text name a =
+    let (stops, _) = name_begins name a.behind a.is_name in
+    ap (λ t. named_alias (skip is_blank t)) a.written
+    ∙ (ap named_alias (skip-front is_blank a.blanks (name ++ a.behind) a.before stops)
+    ∙ named_alias_is_read name a.behind a.is_name a.after)

@@ -3,10 +3,8 @@ ghost use Rattle.std.specs.Prelude.{◌≡◌, ◌<◌, ◌≤◌, ◌∷◌, []
 ghost use Rattle.std.specs.List.{prefix_len};
 ghost use Rattle.uu_names.specs.Name.{is_site_byte};
 ghost use Rattle.uu_map.specs.Token.{is_blank, tokens};
-ghost use Rattle.std.specs.Prelude.{List, ℕ};
-ghost use Rattle.uu_map.specs.declared.entry.Cost.{Cost};
-ghost use Rattle.uu_map.specs.Token.{begins};
-ghost use Rattle.uu_map.specs.Statement.{IsCost, is_mark, all_blank, cut, is_comma};
+ghost use Rattle.std.specs.Prelude.{List, ℕ, Some, ◌↔◌};
+ghost use Rattle.uu_map.specs.Statement.{Meaning, IsStatement, is_mark, all_blank, cut, is_comma};
 ghost use Rattle.uu_map.specs.StatementReading.{skip, skip_mark, cost_behind, site_name, named_link, link_of, named_alias, alias_of, list_of, meaning_of, said_by, statement_of};
 
 use crate::entry::{Cost, Link};
@@ -225,6 +223,6 @@ pub(crate) fn statement_of(alloc: Global, host: &[u8], text: &[u8]) -> Result<Op
 }
 
 fn law()
-    ensures { (text : List ℕ) (cost : Cost) → IsCost text cost → begins is_site_byte text ≡ false }
+    ensures { (host text : List ℕ) (m : Meaning) → (statement_of host text ≡ Some m) ↔ IsStatement host text m }
 {
 }

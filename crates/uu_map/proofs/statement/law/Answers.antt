@@ -1,5 +1,5 @@
-use Rattle.uu_map.proofs.LinkTexts.{cost_law}
+use Rattle.uu_map.proofs.StatementTexts.{statement_is, statement_is_read}
 use Rattle.uu_map.proofs.statement.law.Goals as goal
 
 pub returns : goal.returns
-returns c = cost_law
+returns c = λ host text m. (statement_is host text m, statement_is_read host text m)
