@@ -14,8 +14,8 @@ use Rattle.std.proofs.lemmas.Slice.Eq.{bytes_eq-Decides}
 use Rattle.uu_map.specs.declared.entry.Cost.{Cost}
 use Rattle.uu_map.specs.declared.entry.Cost.TheVariants.{Value, Dead}
 use Rattle.uu_map.specs.declared.entry.Link.{Link}
-use Rattle.uu_map.specs.Entry.{CostsAtMost, IsLeast, cost_cmp, by_name_cmp}
-use Rattle.uu_map.specs.Listing.{has_name_of, firsts_after}
+use Rattle.uu_map.specs.Listing.{CostsAtMost, IsLeast, cost_cmp}
+use Rattle.uu_map.specs.Ranking.{by_name_cmp, has_name_of, firsts_after}
 
 -- ---- costs
 

@@ -17,8 +17,8 @@ use Rattle.uu_map.specs.declared.entry.Cost.{Cost}
 use Rattle.uu_map.specs.declared.entry.Cost.TheVariants.{Value, Dead}
 use Rattle.uu_map.specs.declared.entry.Link.{Link}
 use Rattle.uu_map.specs.declared.least.Ranked.{Ranked}
-use Rattle.uu_map.specs.Entry.{IsLeast, cost_cmp, listing_cmp, by_name_cmp}
-use Rattle.uu_map.specs.Listing.{IsListing, as_link, ranked_cmp, firsts_after}
+use Rattle.uu_map.specs.Listing.{IsLeast, cost_cmp, listing_cmp, IsListing}
+use Rattle.uu_map.specs.Ranking.{by_name_cmp, as_link, ranked_cmp, firsts_after}
 use Rattle.uu_map.proofs.LeastCosts.{cost_total, same_name, firsts_least}
 
 -- ---- the order of ranked links

@@ -1,11 +1,13 @@
 -- Hearing one statement after another.
 use Rattle.std.specs.Prelude.{◌≡◌, ℕ, List, [], ◌∷◌, ◌++◌, Option, Some, None, Result, Ok, Err, ⊤, is_ok}
 use Rattle.uu_map.specs.declared.entry.Link.{Link}
+use Rattle.uu_map.specs.declared.entry.Entry.{Entry}
 use Rattle.uu_map.specs.declared.reader.Hearing.{Hearing}
 use Rattle.uu_map.specs.declared.reader.Pending.{Pending}
 use Rattle.uu_map.specs.Statement.{Meaning}
 use Rattle.uu_map.specs.StatementReading.{statement_of}
 use Rattle.uu_map.specs.Text.{Numbered, statements}
+use Rattle.uu_map.specs.Listing.{IsListing}
 
 -- what the statements said so far
 pub record Heard : Type 0 where
@@ -44,3 +46,10 @@ pending_list (Some o) = numbered_of o ∷ []
 -- what was heard, and what is to be heard of a list of lines
 abbrev pub in_all : List ℕ → Heard → List Numbered → Heard
 in_all host h lines = then_heard h (heard host (statements lines))
+
+-- the entry says of this host what was heard
+pub record Says (h : Heard) (host : List ℕ) (entry : Entry) : Type 0 where
+  pub host_is : entry.host ≡ host
+  pub aliases : entry.aliases ≡ h.aliases
+  pub links : IsListing h.links entry.links
+  pub skipped : entry.skipped ≡ h.skipped

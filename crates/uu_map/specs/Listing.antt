@@ -1,31 +1,37 @@
--- How the links of an entry are listed.
-use Rattle.std.specs.Prelude.{◌≡◌, ◌↔◌, ⊤, Bool, false, List, [], ◌∷◌, Option, Some, None, Contains, if◌then◌else◌}
+-- How the links of an entry are listed (this project's choice).
+use Rattle.std.specs.Prelude.{◌≡◌, ◌↔◌, ⊤, ◌≤◌, List, Contains}
 use Rattle.std.specs.declared.cmp.Ordering.{Ordering}
+use Rattle.std.specs.declared.cmp.Ordering.TheVariants.{Less, Equal, Greater}
 use Rattle.std.specs.Ordering.{nat_cmp, ordering_then}
 use Rattle.std.specs.Cmp.Lexicographic.{slice_cmp}
-use Rattle.std.specs.Str.{bytes_eq}
 use Rattle.std.specs.List.Sorted.{IsStrictlySortedBy}
+use Rattle.uu_map.specs.declared.entry.Cost.{Cost}
+use Rattle.uu_map.specs.declared.entry.Cost.TheVariants.{Value, Dead}
 use Rattle.uu_map.specs.declared.entry.Link.{Link}
-use Rattle.uu_map.specs.declared.least.Ranked.{Ranked}
-use Rattle.uu_map.specs.Entry.{IsLeast, cost_cmp, listing_cmp}
 
--- The links of an entry are those that cost least for their name, each once, in order of cost and then of the name's bytes.
+-- one cost is at most another: Dead is above every value
+abbrev pub CostsAtMost : Cost → Cost → Type 0
+CostsAtMost (Value a) (Value b) = a ≤ b
+CostsAtMost (Value a) Dead = ⊤
+CostsAtMost Dead (Value b) = ⊥
+CostsAtMost Dead Dead = ⊤
+
+-- the link is among these links, and none of them to the same name costs less
+abbrev pub IsLeast : List Link → Link → Type 0
+IsLeast links link = Contains links link × ((other : Link) → Contains links other → other.to ≡ link.to → CostsAtMost link.cost other.cost)
+
+-- costs in order, Dead last
+abbrev pub cost_cmp : Cost → Cost → Ordering
+cost_cmp (Value a) (Value b) = nat_cmp a b
+cost_cmp (Value a) Dead = Less
+cost_cmp Dead (Value b) = Greater
+cost_cmp Dead Dead = Equal
+
+-- links in order of their costs, and then of the bytes of their names
+abbrev pub listing_cmp : Link → Link → Ordering
+listing_cmp a b = ordering_then (cost_cmp a.cost b.cost) (slice_cmp nat_cmp a.to b.to)
+
+-- Listed are the links that cost least for their name, each once, in this order.
 pub record IsListing (links listed : List Link) : Type 0 where
   pub least : (link : Link) → Contains listed link ↔ IsLeast links link
   pub in_order : IsStrictlySortedBy listing_cmp listed
-
--- a ranked link as a link
-abbrev pub as_link : Ranked → Link
-as_link r = record { to = r.to; cost = r.cost }
-
-abbrev pub ranked_cmp : Ranked → Ranked → Ordering
-ranked_cmp a b = ordering_then (cost_cmp a.cost b.cost) (slice_cmp nat_cmp a.to b.to)
-
-abbrev pub has_name_of : Option Link → Link → Bool
-has_name_of None link = false
-has_name_of (Some before) link = bytes_eq link.to before.to
-
--- the links whose name isn't that of the link before them
-abbrev pub firsts_after : Option Link → List Link → List Link
-firsts_after before [] = []
-firsts_after before (link ∷ links) = if has_name_of before link then firsts_after (Some link) links else link ∷ firsts_after (Some link) links

@@ -1,9 +1,9 @@
 // Each name's least cost.
 ghost use Rattle.std.specs.Prelude.{◌≡◌, ◌↔◌, None, IfOk, Contains, IsPermutation, IsSorted, map, option_copied};
 ghost use Rattle.std.specs.List.Sorted.{IsStrictlySortedBy};
-ghost use Rattle.uu_map.specs.Listing.{IsListing, as_link, ranked_cmp, has_name_of, firsts_after};
+ghost use Rattle.uu_map.specs.Listing.{IsListing};
+ghost use Rattle.uu_map.specs.Ranking.{by_name_cmp, as_link, ranked_cmp, has_name_of, firsts_after};
 ghost use Rattle.uu_map.specs.declared.least.Ranked.{Ranked};
-ghost use Rattle.uu_map.specs.Entry.{by_name_cmp};
 
 use crate::entry::{Cost, Link};
 use std::alloc::{AllocError, Global};

@@ -15,4 +15,5 @@ mod token;
 pub use entry::{Cost, Entry, EntryText, Link};
 pub use fault::MapFault;
 pub use listed::Listed;
+pub use reader::read_entry;
 pub use splitter::split;

@@ -1,20 +1,29 @@
 // Entries, read line by line.
-ghost use Rattle.std.specs.Prelude.{◌≡◌, ◌≤◌, List, ◌∷◌, ◌++◌, length, IfOk, option_copied, find};
+ghost use Rattle.std.specs.Prelude.{◌≡◌, ◌≤◌, List, ◌∷◌, ◌++◌, length, IfOk, IfSome, Ok, option_copied, find};
 ghost use Rattle.std.specs.Str.Lines.{lines};
-ghost use Rattle.uu_map.specs.Text.{is_name_line, Numbered, joined, statements_of};
+ghost use Rattle.uu_map.specs.Text.{is_name_line, host_by, Numbered, joined, statements_of};
+ghost use Rattle.uu_map.specs.declared.entry.Entry.{Entry};
+ghost use Rattle.uu_map.specs.Entry.{IsEntry, IsAnswer, AnswersUnlessMemory};
 ghost use Rattle.uu_map.specs.Token.{begins, is_blank};
-ghost use Rattle.uu_map.specs.Heard.{heard, nothing, as_heard};
+ghost use Rattle.uu_map.specs.Heard.{heard, nothing, as_heard, Says};
 
-use crate::entry::Link;
-use crate::statement::{is_all_blank, statement_of};
-use crate::text::{before_comment, first_line, is_name_line};
+use crate::entry::{Entry, Link};
+use crate::fault::MapFault;
+use crate::least::listed;
+use crate::listed::Listed;
+use crate::statement::{is_all_blank, site_name, statement_of};
+use crate::text::{before_comment, first_line, is_name_line, named_by};
 use crate::token::is_blank;
 use std::alloc::{AllocError, Global};
 use uu_names::SiteName;
 
+/// The most bytes of an entry.
+const MAX_LEN: usize = 65_536;
+
 // The first line that names a host.
 fn name_line(text: &[u8]) -> Option<&[u8]>
     ensures value { option_copied result ≡ find is_name_line (lines text.now) }
+    ensures long { IfSome result (λ line. 2 ≤ length line.now) }
 {
     let mut rest = text;
     while !rest.is_empty() {
@@ -25,6 +34,23 @@ fn name_line(text: &[u8]) -> Option<&[u8]>
         rest = after;
     }
     None
+}
+
+// The host of an entry of at most 65,536 bytes.
+fn host(alloc: Global, text: &[u8]) -> Result<SiteName, MapFault>
+    ensures { AnswersUnlessMemory result (host_by (find is_name_line (lines text.now))) }
+{
+    let Some(line) = name_line(text) else {
+        return Err(MapFault::NoName);
+    };
+    let name = named_by(line);
+    if name.is_empty() {
+        return Err(MapFault::NoName);
+    }
+    match site_name(alloc, name)? {
+        Some(host) => Ok(host),
+        None => Err(MapFault::BadHost),
+    }
 }
 
 /// What the statements said so far.
@@ -143,4 +169,36 @@ impl Hearing {
         }
         Ok(hearing)
     }
+}
+
+// What an entry of at most 65,536 bytes says of this host.
+fn entry_of(alloc: Global, host: SiteName, text: &[u8]) -> Result<Entry, AllocError>
+    requires { length text.now ≤ 65536 }
+    ensures { IfOk result (Says (heard host (statements_of text.now)) host) }
+{
+    let hearing = Hearing::of_entry(alloc, host.as_str().as_bytes(), text)?;
+    let links = listed(alloc, hearing.links)?;
+    Ok(Entry {
+        host,
+        aliases: Listed::from_vec(hearing.aliases),
+        links: Listed::from_vec(links),
+        skipped: Listed::from_vec(hearing.skipped),
+    })
+}
+
+/// Reads a map entry: the host that its first `#N` line names, its aliases, its links and what was skipped.
+///
+/// A text of more than 65,536 bytes is [`MapFault::TooLarge`], then one that names no host [`MapFault::NoName`], and then
+/// one whose host is no site name [`MapFault::BadHost`]. A statement that can't be read is skipped whole.
+pub fn read_entry(alloc: Global, text: &[u8]) -> Result<Entry, MapFault>
+    // What is kept is in the grammar and has that meaning; what is skipped is not; each fault has its cause.
+    ensures answer { IsAnswer text.now result }
+    // No other entry is that of the text.
+    ensures only { (entry : Entry) → IsEntry text.now entry → AnswersUnlessMemory result (Ok entry) }
+{
+    if text.len() > MAX_LEN {
+        return Err(MapFault::TooLarge);
+    }
+    let host = host(alloc, text)?;
+    Ok(entry_of(alloc, host, text)?)
 }

@@ -3,8 +3,7 @@ ghost use Rattle.std.specs.Prelude.{◌≡◌, ◌<◌, ◌≤◌, ◌∷◌, []
 ghost use Rattle.std.specs.List.{prefix_len};
 ghost use Rattle.uu_names.specs.Name.{is_site_byte};
 ghost use Rattle.uu_map.specs.Token.{is_blank, tokens};
-ghost use Rattle.std.specs.Prelude.{List, ℕ, Some, ◌↔◌};
-ghost use Rattle.uu_map.specs.Statement.{Meaning, IsStatement, is_mark, all_blank, cut, is_comma};
+ghost use Rattle.uu_map.specs.Statement.{is_mark, all_blank, cut, is_comma};
 ghost use Rattle.uu_map.specs.StatementReading.{skip, skip_mark, cost_behind, site_name, named_link, link_of, named_alias, alias_of, list_of, meaning_of, said_by, statement_of};
 
 use crate::entry::{Cost, Link};
@@ -81,7 +80,7 @@ fn cost_behind(alloc: Global, text: &[u8]) -> Result<Option<Cost>, AllocError>
     }
 }
 
-fn site_name(alloc: Global, text: &[u8]) -> Result<Option<SiteName>, AllocError>
+pub(crate) fn site_name(alloc: Global, text: &[u8]) -> Result<Option<SiteName>, AllocError>
     ensures { IfOk result (λ name. name ≡ site_name text.now) }
 {
     match SiteName::from_bytes(alloc, text) {
@@ -220,9 +219,4 @@ pub(crate) fn statement_of(alloc: Global, host: &[u8], text: &[u8]) -> Result<Op
         Some(rest) => said_by(alloc, rest),
         None => Ok(None),
     }
-}
-
-fn law()
-    ensures { (host text : List ℕ) (m : Meaning) → (statement_of host text ≡ Some m) ↔ IsStatement host text m }
-{
 }
