@@ -101,7 +101,7 @@ name_between x y z h k e =
 
 -- ---- lists by recursion
 
-abbrev In : List Link → Link → Type 0
+abbrev pub In : List Link → Link → Type 0
 In [] l = ⊥
 In (x ∷ xs) l = (x ≡ l) ⊎ In xs l
 
@@ -195,12 +195,12 @@ least_are_firsts (x ∷ xs) l rises (inr i) least = go (bytes_eq l.to x.to) refl
 
 -- ---- the words of std
 
-in_from_contains : (xs : List Link) (l : Link) (k : ℕ) → k < length xs → get_or xs k l ≡ l → In xs l
+pub in_from_contains : (xs : List Link) (l : Link) (k : ℕ) → k < length xs → get_or xs k l ≡ l → In xs l
 in_from_contains [] l k h e = absurd (omega arith)
 in_from_contains (x ∷ xs) l zero h e = inl e
 in_from_contains (x ∷ xs) l (suc k) h e = inr (in_from_contains xs l k (omega arith) e)
 
-contains_from_in : (xs : List Link) (l : Link) → In xs l → Contains xs l
+pub contains_from_in : (xs : List Link) (l : Link) → In xs l → Contains xs l
 contains_from_in [] l i = absurd i
 contains_from_in (x ∷ xs) l (inl e) = (0, omega arith, e)
 contains_from_in (x ∷ xs) l (inr i) = let (k, h, e) = contains_from_in xs l i in (suc k, omega arith, e)

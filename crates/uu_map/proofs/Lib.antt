@@ -1,4 +1,5 @@
 pub mod Accepted
+pub mod EntryTexts
 pub mod Expressions
 pub mod LeastCosts
 pub mod Lines
