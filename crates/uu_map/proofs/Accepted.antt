@@ -87,6 +87,7 @@ operand_grows outer l d (tokens.Additive op) t (o, u, before, (a, b, ops, in_sum
   where
     regroup : (a b c k : List Token) → (o ++ (a ++ (b ++ c))) ++ k ≡ o ++ (a ++ (b ++ (c ++ k)))
     regroup a b c k = simp append_assoc
+
     go : (n : ℕ) → Grown (option_map (λ room. record { outer = outer; level = record l { negative = flipped op l.negative; room = room }; stage = Operand; dead = d }) (one_less n)) (t ++ tokens.Additive op ∷ [])
     go zero = tt
     go (suc n) = (o, a ++ (b ++ signs_text (ops ++ op ∷ [])), before, (a, b, ops ++ op ∷ [], in_sum, in_product, refl), ap (λ x. x ++ tokens.Additive op ∷ []) (e ∙ ap (λ x. o ++ x) eu) ∙ (regroup a b (signs_text ops) (tokens.Additive op ∷ []) ∙ ap (λ x. o ++ (a ++ (b ++ x))) (sym (signs_more ops op))))
@@ -102,19 +103,27 @@ closed_grows [] l d v o a t p before in_sum e =
 closed_grows (m ∷ outer) l d v o a t p (o', u, before, here, eo) in_sum e =
     let (s, es) = sum_to l.sum a p in_sum in
     factor_grows outer m d v o' u _ (group s) before here
-        (ap (λ x. x ++ tokens.Close ∷ []) (e ∙ (ap (λ x. x ++ (a ++ product_text p)) eo ∙ ap (λ x. (o' ++ (u ++ tokens.Open ∷ [])) ++ x) (sym es))) ∙ regroup o' u (sum_text s))
+    (ap (λ x. x ++ tokens.Close ∷ []) (e ∙ (ap (λ x. x ++ (a ++ product_text p)) eo ∙ ap (λ x. (o' ++ (u ++ tokens.Open ∷ [])) ++ x) (sym es))) ∙ regroup o' u (sum_text s))
   where
     regroup : (x y z : List Token) → ((x ++ (y ++ tokens.Open ∷ [])) ++ z) ++ tokens.Close ∷ [] ≡ x ++ (y ++ tokens.Open ∷ (z ++ tokens.Close ∷ []))
     regroup x y z = simp append_assoc
 
 operator_grows : (outer : List Level) (l : Level) (d : Bool) (v : Option ℤ) (k : Token) (t : List Token) → StageBefore outer l (Operator v) t → Grown (at_operator outer l d v k) (t ++ k ∷ [])
 operator_grows outer l d v (tokens.Additive op) t (o, a, p, before, in_sum, none, e) =
-    let (s, es) = sum_to l.sum a p in_sum in
-    (o, sum_text s ++ tokens.Additive op ∷ [], before, (sum_text s ++ tokens.Additive op ∷ [], [], [], (s, refl), none, sym (append-nil (sum_text s ++ tokens.Additive op ∷ []))),
-     ap (λ x. x ++ tokens.Additive op ∷ []) e ∙ (append_assoc o (a ++ product_text p) (tokens.Additive op ∷ []) ∙ ap (λ x. o ++ (x ++ tokens.Additive op ∷ [])) (sym es)))
-operator_grows outer l d v (tokens.Multiplicative op) t (o, a, p, before, in_sum, none, e) =
-    (o, a ++ (product_text p ++ tokens.Multiplicative op ∷ []), before, (a, product_text p ++ tokens.Multiplicative op ∷ [], [], in_sum, (p, refl), ap (λ x. a ++ x) (sym (append-nil (product_text p ++ tokens.Multiplicative op ∷ [])))),
-     ap (λ x. x ++ tokens.Multiplicative op ∷ []) e ∙ regroup o a (product_text p) (tokens.Multiplicative op ∷ []))
+    let (s, es) = sum_to l.sum a p in_sum in (
+      o,
+      sum_text s ++ tokens.Additive op ∷ [],
+      before,
+      (sum_text s ++ tokens.Additive op ∷ [], [], [], (s, refl), none, sym (append-nil (sum_text s ++ tokens.Additive op ∷ []))),
+      ap (λ x. x ++ tokens.Additive op ∷ []) e ∙ (append_assoc o (a ++ product_text p) (tokens.Additive op ∷ []) ∙ ap (λ x. o ++ (x ++ tokens.Additive op ∷ [])) (sym es)),
+    )
+operator_grows outer l d v (tokens.Multiplicative op) t (o, a, p, before, in_sum, none, e) = (
+  o,
+  a ++ (product_text p ++ tokens.Multiplicative op ∷ []),
+  before,
+  (a, product_text p ++ tokens.Multiplicative op ∷ [], [], in_sum, (p, refl), ap (λ x. a ++ x) (sym (append-nil (product_text p ++ tokens.Multiplicative op ∷ [])))),
+  ap (λ x. x ++ tokens.Multiplicative op ∷ []) e ∙ regroup o a (product_text p) (tokens.Multiplicative op ∷ []),
+)
   where
     regroup : (a b c d : List Token) → (a ++ (b ++ c)) ++ d ≡ a ++ (b ++ (c ++ d))
     regroup a b c d = simp append_assoc

@@ -130,8 +130,8 @@ same_members (x ∷ xs) (y ∷ ys) sx sy into back =
 one_listing : (links a b : List Link) → IsListing links a → IsListing links b → a ≡ b
 one_listing links a b la lb =
     same_members a b la.in_order lb.in_order
-        (λ l i. let (k, h, e) = (lb.least l).1 ((la.least l).0 (contains_from_in a l i)) in in_from_contains b l k h e)
-        (λ l i. let (k, h, e) = (la.least l).1 ((lb.least l).0 (contains_from_in b l i)) in in_from_contains a l k h e)
+    (λ l i. let (k, h, e) = (lb.least l).1 ((la.least l).0 (contains_from_in a l i)) in in_from_contains b l k h e)
+    (λ l i. let (k, h, e) = (la.least l).1 ((lb.least l).0 (contains_from_in b l i)) in in_from_contains a l k h e)
 
 ok_same : (x y : List ℕ) → (let r : Result (List ℕ) MapFault = Ok x in r) ≡ Ok y → x ≡ y
 ok_same x y e = cc

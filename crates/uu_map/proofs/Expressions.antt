@@ -57,9 +57,11 @@ mutual
   kept_sum : (s : Sum) → option_and_then kept (sum_value s) ≡ sum_value s
   kept_sum (one_product p) = kept_product p
   kept_sum (added s op p) = kept_both (sum_of op) (kept_sum_of op) (sum_value s) (product_value p)
+
   kept_product : (p : Product) → option_and_then kept (product_value p) ≡ product_value p
   kept_product (one_factor f) = kept_factor f
   kept_product (scaled p op f) = kept_both (product_of op) (kept_product_of op) (product_value p) (factor_value f)
+
   kept_factor : (f : Factor) → option_and_then kept (factor_value f) ≡ factor_value f
   kept_factor (amount v) = kept_and_then v
   kept_factor dead = refl
@@ -149,6 +151,7 @@ mutual
       ∙ (ap (λ r. cond (sum_fits base s) r None) (reads_product p outer (Some (sum_value s, op)) base (d || sum_is_dead s) rest)
       ∙ (ap (λ e. cond (sum_fits base s) (cond (product_fits base p) (run (at outer (plain (Some (sum_value s, op)) base) (Operator (product_value p)) e) rest) None) None) (or_or d (sum_is_dead s) (product_is_dead p))
       ∙ sym (cond_and (sum_fits base s) (product_fits base p) _ _)))))
+
   reads_product : (p : Product) (outer : List Level) (sum : Option (Option ℤ × Additive)) (base : ℕ) (d : Bool) (rest : List Token) → run (at outer (plain sum base) Operand d) (product_text p ++ rest) ≡ cond (product_fits base p) (run (at outer (plain sum base) (Operator (product_value p)) (d || product_is_dead p)) rest) None
   reads_product (one_factor f) outer sum base d rest = reads_factor f outer sum None false base base d rest
   reads_product (scaled p op f) outer sum base d rest =
@@ -157,6 +160,7 @@ mutual
       ∙ (ap (λ r. cond (product_fits base p) r None) (reads_factor f outer sum (Some (product_value p, op)) false base base (d || product_is_dead p) rest)
       ∙ (ap (λ e. cond (product_fits base p) (cond (factor_fits base f) (run (at outer (plain sum base) (Operator (both (product_of op) (product_value p) (factor_value f))) e) rest) None) None) (or_or d (product_is_dead p) (factor_is_dead f))
       ∙ sym (cond_and (product_fits base p) (factor_fits base f) _ _))))
+
   reads_factor : (f : Factor) (outer : List Level) (sum : Option (Option ℤ × Additive)) (product : Option (Option ℤ × Multiplicative)) (negative : Bool) (room base : ℕ) (d : Bool) (rest : List Token) → run (at outer (level_of sum product negative room base) Operand d) (factor_text f ++ rest) ≡ cond (factor_fits room f) (run (at outer (plain sum base) (Operator (product_with product (negated_if negative (factor_value f)))) (d || factor_is_dead f)) rest) None
   reads_factor (amount v) outer sum product negative room base d rest = ap (λ e. run (at outer (plain sum base) (Operator (product_with product (negated_if negative (option_and_then kept v)))) e) rest) (sym (or_false d))
   reads_factor dead outer sum product negative room base d rest = ap (λ e. run (at outer (plain sum base) (Operator (product_with product (negated_if negative None))) e) rest) (sym (or_true d))

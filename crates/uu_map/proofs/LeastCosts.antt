@@ -207,15 +207,17 @@ contains_from_in (x ∷ xs) l (inr i) = let (k, h, e) = contains_from_in xs l i 
 
 rises_from_far : (xs : List Link) → ((i j : ℕ) (d : Link) → i ≤ j → j < length xs → is_lt (by_name_cmp (get_or xs j d) (get_or xs i d)) ≡ false) → Rises xs
 rises_from_far [] far = tt
-rises_from_far (x ∷ xs) far =
-    (λ l i. let (k, h, e) = contains_from_in xs l i in subst (λ (w : Link). NotAbove x w) e (far 0 (suc k) l (omega arith) (omega arith)),
-     rises_from_far xs (λ i j d h k. far (suc i) (suc j) d (omega arith) (omega arith)))
+rises_from_far (x ∷ xs) far = (
+  λ l i. let (k, h, e) = contains_from_in xs l i in subst (λ (w : Link). NotAbove x w) e (far 0 (suc k) l (omega arith) (omega arith)),
+  rises_from_far xs (λ i j d h k. far (suc i) (suc j) d (omega arith) (omega arith)),
+)
 
 rises : (xs : List Link) → IsSorted by_name_cmp xs → Rises xs
 rises xs up = rises_from_far xs (sorted_far (λ x y. is_lt (by_name_cmp x y)) (ranks_by by_name_total (λ l. l)) xs up)
 
 pub firsts_least : (xs : List Link) → IsSorted by_name_cmp xs → (l : Link) → Contains (firsts_after None xs) l ↔ IsLeast xs l
-firsts_least xs up l =
-    (λ h. let (i, least) = firsts_are_least xs l (rises xs up) (in_from_contains (firsts_after None xs) l h.0 h.1 h.2) in
-          (contains_from_in xs l i, λ m c same. least m (in_from_contains xs m c.0 c.1 c.2) same),
-     λ h. contains_from_in (firsts_after None xs) l (least_are_firsts xs l (rises xs up) (in_from_contains xs l h.0.0 h.0.1 h.0.2) (λ m i same. h.1 m (contains_from_in xs m i) same)))
+firsts_least xs up l = (
+  λ h. let (i, least) = firsts_are_least xs l (rises xs up) (in_from_contains (firsts_after None xs) l h.0 h.1 h.2) in
+      (contains_from_in xs l i, λ m c same. least m (in_from_contains xs m c.0 c.1 c.2) same),
+  λ h. contains_from_in (firsts_after None xs) l (least_are_firsts xs l (rises xs up) (in_from_contains xs l h.0.0 h.0.1 h.0.2) (λ m i same. h.1 m (contains_from_in xs m i) same)),
+)

@@ -157,8 +157,10 @@ cost_begins (b ∷ bs) cost h = go (is_blank b) refl h
         let first : word_token (b ∷ w) ∷ map word_token ws ≡ tokens.Open ∷ ts = sym (ap (map word_token) e) ∙ f in
         let is : word_token (b ∷ w) ≡ tokens.Open = cc in
         record { no_site_byte = parenthesis_is_no_site_byte b (open_begins b w is); no_mark = parenthesis_is_no_mark b (open_begins b w is) }
+
     nothing_first : (w : List ℕ) (ws : List (List ℕ)) → words (b ∷ bs) ≡ (b ∷ w) ∷ ws → token.tokens (b ∷ bs) ≡ [] → ⊥
     nothing_first w ws e f = let none_left : word_token (b ∷ w) ∷ map word_token ws ≡ [] = sym (ap (map word_token) e) ∙ f in cc
+
     go : (t : Bool) → is_blank b ≡ t → IsCost (b ∷ bs) cost → BehindName (b ∷ bs)
     go true e h = record { no_site_byte = blank_is_no_site_byte b e; no_mark = blank_is_no_mark b e }
     go false e (inl (none_left, _)) = let (w, ws, f) = first_word b bs e in absurd (nothing_first w ws f none_left)

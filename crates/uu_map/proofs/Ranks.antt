@@ -102,9 +102,10 @@ deduped E tells xs ys f = dedup_is E xs ys f ∙ ap (λ (E : Ranked → Ranked �
 
 pub ordered_same : (E : Ranked → Ranked → Bool) → ((a b : Ranked) → E a b ≡ ranked_eq a b) → (xs ys zs : List Ranked) → IsPermutation xs ys → IsFiltered (DiffersFromLast E) [] ys zs → (r : Ranked) → Contains zs r ↔ Contains xs r
 ordered_same E tells xs ys zs p f r =
-    let e : zs ≡ dedup (eq_by_cmp ranked_cmp) ys = deduped E tells ys zs f in
-    (λ c. Contains-permutation ys xs r (IsPermutation-sym xs ys p) (Contains-from_dedup (eq_by_cmp ranked_cmp) ys r (subst (λ l. Contains l r) e c)),
-     λ c. subst (λ l. Contains l r) (sym e) (Contains-dedup ranked_equivalence ranked_same ys r (Contains-permutation xs ys r p c)))
+    let e : zs ≡ dedup (eq_by_cmp ranked_cmp) ys = deduped E tells ys zs f in (
+      λ c. Contains-permutation ys xs r (IsPermutation-sym xs ys p) (Contains-from_dedup (eq_by_cmp ranked_cmp) ys r (subst (λ l. Contains l r) e c)),
+      λ c. subst (λ l. Contains l r) (sym e) (Contains-dedup ranked_equivalence ranked_same ys r (Contains-permutation xs ys r p c)),
+    )
 
 pub ordered_strictly : (E : Ranked → Ranked → Bool) → ((a b : Ranked) → E a b ≡ ranked_eq a b) → (ys zs : List Ranked) → IsSorted ranked_cmp ys → IsFiltered (DiffersFromLast E) [] ys zs → IsStrictlySortedBy ranked_cmp zs
 ordered_strictly E tells ys zs up f = subst (λ l. IsStrictlySortedBy ranked_cmp l) (sym (deduped E tells ys zs f)) (IsStrictlySortedBy-dedup ranked_total (λ x y. refl) ys up)
@@ -137,8 +138,9 @@ least_permuted xs ys l p h = (Contains-permutation xs ys l p h.0, λ m c same. h
 
 pub listing : (links sorted listed : List Link) (firsts ranked : List Ranked) → IsPermutation links sorted → IsSorted by_name_cmp sorted → map as_link firsts ≡ firsts_after None sorted → ((r : Ranked) → Contains ranked r ↔ Contains firsts r) → IsStrictlySortedBy ranked_cmp ranked → listed ≡ map as_link ranked → IsListing links listed
 listing links sorted listed firsts ranked p up ef same order el = record {
-  least = λ l.
-    (λ c. least_permuted sorted links l (IsPermutation-sym links sorted p) ((firsts_least sorted up l).0 (subst (λ ls. Contains ls l) ef (contains_ranked firsts l ((same (rank l)).0 (contains_link ranked l (subst (λ ls. Contains ls l) el c)))))),
-     λ h. subst (λ ls. Contains ls l) (sym el) (contains_ranked ranked l ((same (rank l)).1 (contains_link firsts l (subst (λ ls. Contains ls l) (sym ef) ((firsts_least sorted up l).1 (least_permuted links sorted l p h)))))));
+  least = λ l. (
+    λ c. least_permuted sorted links l (IsPermutation-sym links sorted p) ((firsts_least sorted up l).0 (subst (λ ls. Contains ls l) ef (contains_ranked firsts l ((same (rank l)).0 (contains_link ranked l (subst (λ ls. Contains ls l) el c)))))),
+    λ h. subst (λ ls. Contains ls l) (sym el) (contains_ranked ranked l ((same (rank l)).1 (contains_link firsts l (subst (λ ls. Contains ls l) (sym ef) ((firsts_least sorted up l).1 (least_permuted links sorted l p h)))))),
+  );
   in_order = subst (λ ls. IsStrictlySortedBy listing_cmp ls) (sym el) (links_in_order ranked order);
 }

@@ -103,6 +103,7 @@ first_part (b ∷ bs) h = go (is_blank b) refl (λ k. first_part bs k)
       is = ap (λ t. cond t ([] ∷ cut is_comma bs) (onto_first b (cut is_comma bs))) (blank_is_no_comma b e) ∙ ap (onto_first b) f.is;
       begins_so = ap (begins is_equals) (skip-blank b f.part e) ∙ f.begins_so;
     }
+
     here : is_blank b ≡ false → is_equals b ≡ true → (ps : List (List ℕ)) → cut is_comma bs ≡ ps → FirstPart (b ∷ bs)
     here e q [] c = record {
       part = b ∷ [];
@@ -116,6 +117,7 @@ first_part (b ∷ bs) h = go (is_blank b) refl (λ k. first_part bs k)
       is = ap (λ t. cond t ([] ∷ cut is_comma bs) (onto_first b (cut is_comma bs))) (equals_is_no_comma b q) ∙ ap (onto_first b) c;
       begins_so = ap (begins is_equals) (skip-other b p e) ∙ q;
     }
+
     go : (t : Bool) → is_blank b ≡ t → (begins is_equals (skip is_blank bs) ≡ true → FirstPart bs) → FirstPart (b ∷ bs)
     go true e rec = after_blank e (rec (sym (ap (begins is_equals) (skip-blank b bs e)) ∙ h))
     go false e rec = here e (sym (ap (begins is_equals) (skip-other b bs e)) ∙ h) (cut is_comma bs) refl
@@ -127,6 +129,7 @@ no_link (b ∷ bs) h = ap (λ t. named_of (cond t bs (b ∷ bs))) (equals_is_no_
   where
     named_of : List ℕ → Option Link
     named_of text = named_link text
+
     go : (t : Bool) → t ≡ false → (c : Option Cost) → option_and_then (λ cost. option_map (λ name. let l : Link = record { to = name; cost = cost } in l) (site_name (take (cond t (1 + prefix_len is_site_byte bs) 0) (b ∷ bs)))) c ≡ None
     go true e c = absurd cc
     go false e None = refl
@@ -160,17 +163,20 @@ module _ (host : List ℕ) where
       as_links : is_blank b ≡ true → (o : Option (List Link)) → list_of link_of bs ≡ o → option_map of_links o ≡ Some m → IsStatement host (host ++ b ∷ bs) m
       as_links blank None eo e = absurd cc
       as_links blank (Some links) eo e = subst (λ n. IsStatement host (host ++ b ∷ bs) n) (some_same (of_links links) m e) (with_links b bs links blank (links_are bs links eo))
+
       equals_rest : (u : List ℕ) → begins is_equals u ≡ true → u ≡ byte "=" ∷ drop 1 u
       equals_rest [] h = absurd cc
       equals_rest (x ∷ xs) h = ap (λ y. y ∷ xs) (equals_is x h)
+
       as_aliases : begins is_equals (skip is_blank (b ∷ bs)) ≡ true → (o : Option (List (List ℕ))) → list_of alias_of (drop 1 (skip is_blank (b ∷ bs))) ≡ o → option_map of_aliases o ≡ Some m → IsStatement host (host ++ b ∷ bs) m
       as_aliases h None eo e = absurd cc
       as_aliases h (Some aliases) eo e =
           let text : b ∷ bs ≡ take (prefix_len is_blank (b ∷ bs)) (b ∷ bs) ++ (byte "=" ∷ drop 1 (skip is_blank (b ∷ bs))) =
-              sym (take-append-drop (prefix_len is_blank (b ∷ bs)) (b ∷ bs)) ∙ ap (λ r. take (prefix_len is_blank (b ∷ bs)) (b ∷ bs) ++ r) (equals_rest (skip is_blank (b ∷ bs)) h) in
+          sym (take-append-drop (prefix_len is_blank (b ∷ bs)) (b ∷ bs)) ∙ ap (λ r. take (prefix_len is_blank (b ∷ bs)) (b ∷ bs) ++ r) (equals_rest (skip is_blank (b ∷ bs)) h) in
           subst (λ t. IsStatement host (host ++ t) m) (sym text)
-              (subst (λ n. IsStatement host (host ++ (take (prefix_len is_blank (b ∷ bs)) (b ∷ bs) ++ (byte "=" ∷ drop 1 (skip is_blank (b ∷ bs))))) n) (some_same (of_aliases aliases) m e)
-                  (with_aliases (take (prefix_len is_blank (b ∷ bs)) (b ∷ bs)) (drop 1 (skip is_blank (b ∷ bs))) aliases (front_passes is_blank (b ∷ bs)) (aliases_are (drop 1 (skip is_blank (b ∷ bs))) aliases eo)))
+          (subst (λ n. IsStatement host (host ++ (take (prefix_len is_blank (b ∷ bs)) (b ∷ bs) ++ (byte "=" ∷ drop 1 (skip is_blank (b ∷ bs))))) n) (some_same (of_aliases aliases) m e)
+          (with_aliases (take (prefix_len is_blank (b ∷ bs)) (b ∷ bs)) (drop 1 (skip is_blank (b ∷ bs))) aliases (front_passes is_blank (b ∷ bs)) (aliases_are (drop 1 (skip is_blank (b ∷ bs))) aliases eo)))
+
       go : (t : Bool) → begins is_equals (skip is_blank (b ∷ bs)) ≡ t → (w : Bool) → is_blank b ≡ w → cond t (option_map of_aliases (list_of alias_of (drop 1 (skip is_blank (b ∷ bs))))) (cond w (option_map of_links (list_of link_of bs)) None) ≡ Some m → IsStatement host (host ++ b ∷ bs) m
       go true h w blank e = as_aliases h (list_of alias_of (drop 1 (skip is_blank (b ∷ bs)))) refl e
       go false h true blank e = as_links blank (list_of link_of bs) refl e

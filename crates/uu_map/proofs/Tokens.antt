@@ -74,6 +74,7 @@ words-cons b bs blank = go (is_ascii_digit b) (is_ascii_uppercase b) refl refl
     single true d u e f g = absurd cc
     single false true u e f g = absurd cc
     single false false true e f g = absurd cc
+
     go : (d u : Bool) → is_ascii_digit b ≡ d → is_ascii_uppercase b ≡ u → words (b ∷ bs) ≡ take (cond d (prefix_len is_ascii_digit (b ∷ bs)) (cond u (prefix_len is_ascii_uppercase (b ∷ bs)) 1)) (b ∷ bs) ∷ words (drop (cond d (prefix_len is_ascii_digit (b ∷ bs)) (cond u (prefix_len is_ascii_uppercase (b ∷ bs)) 1)) (b ∷ bs))
     go true u e f = run_from is_ascii_digit each_digit b bs e
     go false true e f = run_from is_ascii_uppercase each_capital b bs f

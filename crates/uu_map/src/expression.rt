@@ -179,7 +179,12 @@ impl Reading {
     }
 
     // A parenthesis was opened.
-    fn opened(mut outer: Vec<Level>, level: Level, dead: bool, room: u32) -> Result<Reading, AllocError>
+    fn opened(
+        mut outer: Vec<Level>,
+        level: Level,
+        dead: bool,
+        room: u32,
+    ) -> Result<Reading, AllocError>
         ensures { IfOk result (λ r. state_of r ≡ record { outer = level ∷ reverse outer.items; level = fresh room; stage = Stage.Operand; dead = dead }) }
     {
         outer.push(level)?;
@@ -192,7 +197,12 @@ impl Reading {
     }
 
     // Takes a token where a factor is wanted.
-    fn at_operand(outer: Vec<Level>, level: Level, dead: bool, token: Token) -> Result<Option<Reading>, AllocError>
+    fn at_operand(
+        outer: Vec<Level>,
+        level: Level,
+        dead: bool,
+        token: Token,
+    ) -> Result<Option<Reading>, AllocError>
         ensures { IfOk result (λ r. option_map state_of r ≡ at_operand (reverse outer.items) level dead token) }
     {
         match token {
@@ -244,7 +254,13 @@ impl Reading {
     }
 
     // Takes a token after a product of this value.
-    fn at_operator(outer: Vec<Level>, level: Level, dead: bool, value: Option<i64>, token: Token) -> Option<Reading>
+    fn at_operator(
+        outer: Vec<Level>,
+        level: Level,
+        dead: bool,
+        value: Option<i64>,
+        token: Token,
+    ) -> Option<Reading>
         ensures { option_map state_of result ≡ at_operator (reverse outer.items) level dead value token }
     {
         let level = match token {

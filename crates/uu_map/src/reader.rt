@@ -128,10 +128,17 @@ impl Hearing {
     }
 
     // Takes what a line says: it continues the pending statement, or it ends that and another begins.
-    fn take_line(&mut self, alloc: Global, host: &[u8], pending: Option<Pending>, line: u32, text: &[u8]) -> Result<Pending, AllocError>
+    fn take_line(
+        &mut self,
+        alloc: Global,
+        host: &[u8],
+        pending: Option<Pending>,
+        line: u32,
+        text: &[u8],
+    ) -> Result<Pending, AllocError>
         ensures { IfOk result (λ next. (rest : List Numbered) →
             in_all host.now (as_heard self.new) (numbered_of next ∷ rest)
-                ≡ in_all host.now (as_heard self.old) (pending_list pending ++ record { line = line; text = text.now } ∷ rest)) }
+            ≡ in_all host.now (as_heard self.old) (pending_list pending ++ record { line = line; text = text.now } ∷ rest)) }
     {
         match pending {
             None => Pending::new(alloc, line, text),

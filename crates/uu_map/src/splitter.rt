@@ -27,7 +27,11 @@ pub(crate) struct Start {
 }
 
 // Ends the entry that began here, if one did.
-fn end_entry(entries: &mut Vec<EntryText>, start: Option<Start>, end: usize) -> Result<(), AllocError>
+fn end_entry(
+    entries: &mut Vec<EntryText>,
+    start: Option<Start>,
+    end: usize,
+) -> Result<(), AllocError>
     ensures { OnOk result (entries.new.items ≡ entries.old.items ++ ended start end) }
 {
     if let Some(start) = start {

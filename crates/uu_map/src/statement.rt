@@ -212,7 +212,11 @@ fn said_by(alloc: Global, text: &[u8]) -> Result<Option<Statement>, AllocError>
 
 /// What a statement of the host says, or none where it is skipped.
 #[tactic(auto, unfolding(crate::specs::StatementReading::statement_of))]
-pub(crate) fn statement_of(alloc: Global, host: &[u8], text: &[u8]) -> Result<Option<Statement>, AllocError>
+pub(crate) fn statement_of(
+    alloc: Global,
+    host: &[u8],
+    text: &[u8],
+) -> Result<Option<Statement>, AllocError>
     ensures { IfOk result (λ said. option_map meaning_of said ≡ statement_of host.now text.now) }
 {
     match text.strip_prefix(host) {

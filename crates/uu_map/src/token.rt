@@ -87,7 +87,11 @@ fn number(digits: &[u8]) -> Option<i64>
     for digit in digits {
         number = (10 * number + u64::from(digit.saturating_sub(b'0'))).min(LIMIT + 1);
     }
-    if number > LIMIT { None } else { Some(number as i64) }
+    if number > LIMIT {
+        None
+    } else {
+        Some(number as i64)
+    }
 }
 
 fn symbol(name: &[u8]) -> Token

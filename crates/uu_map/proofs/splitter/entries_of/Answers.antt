@@ -14,14 +14,14 @@ loop-at-preserved c =
       found = elim c.if-begins_line.branch [
         | then-begins_line+then-begins_entry+in_ok-end_entry w ↦
             let here : (begins_line text at && begins_entry (drop at text)) ≡ true =
-                ap (λ b. b && begins_entry (drop at text)) (sym old.begins ∙ w.if-begins_line.true) ∙ (sym (w.begins_entry.ensures ∙ ap begins_entry c.split_at.ensures.back) ∙ w.if-begins_entry.true) in
+            ap (λ b. b && begins_entry (drop at text)) (sym old.begins ∙ w.if-begins_line.true) ∙ (sym (w.begins_entry.ensures ∙ ap begins_entry c.split_at.ensures.back) ∙ w.if-begins_entry.true) in
             rw (w.entries-is, w.start-is, w.in_ok-end_entry.ensures) (found_begins text c.loop-at.entries.items c.loop-at.start at c.loop-at.line c.loop-at-test.true here old.line old.found)
         | else-begins_line w ↦
             let not_here : (begins_line text at && begins_entry (drop at text)) ≡ false =
-                elim w.else-begins_line.branch [
-                  | else-begins_line-via-then-begins_line+else-begins_entry w' ↦ ap (λ b. b && begins_entry (drop at text)) (sym old.begins ∙ w'.if-begins_line.true) ∙ (sym (w'.begins_entry.ensures ∙ ap begins_entry c.split_at.ensures.back) ∙ w'.if-begins_entry.false)
-                  | else-begins_line-via-else-begins_line w' ↦ ap (λ b. b && begins_entry (drop at text)) (sym old.begins ∙ w'.if-begins_line.false)
-                ] in
+            elim w.else-begins_line.branch [
+              | else-begins_line-via-then-begins_line+else-begins_entry w' ↦ ap (λ b. b && begins_entry (drop at text)) (sym old.begins ∙ w'.if-begins_line.true) ∙ (sym (w'.begins_entry.ensures ∙ ap begins_entry c.split_at.ensures.back) ∙ w'.if-begins_entry.false)
+              | else-begins_line-via-else-begins_line w' ↦ ap (λ b. b && begins_entry (drop at text)) (sym old.begins ∙ w'.if-begins_line.false)
+            ] in
             rw (w.entries-is, w.start-is) (found_goes_on text c.loop-at.entries.items c.loop-at.start at c.loop-at-test.true not_here old.found)
       ];
       line = elim c.if-begins_line-2.branch [
