@@ -1,25 +1,23 @@
 -- What is heard of an entry's statements is the one entry of the text.
-use Rattle.std.proofs.Common.{◌≡◌, ◌≢◌, ◌↔◌, ℕ, ◌≤◌, ◌<◌, Bool, true, false, cond, ◌⊎◌, List, [], ◌∷◌, ◌++◌, length, get_or, map, Option, Some, None, Result, Ok, Err, Ordering, refl, sym, ap, ◌∙◌, subst, inl, inr, find, nat_lt, arith}
+use Rattle.std.proofs.Common.{◌≡◌, ℕ, ◌≤◌, false, cond, ◌⊎◌, List, [], ◌∷◌, ◌++◌, length, map, Option, Some, None, Result, Ok, Err, refl, sym, ap, ◌∙◌, subst, inl, inr, find, nat_lt, arith}
 use Rattle.std.specs.declared.cmp.Ordering.TheVariants.{Less, Equal, Greater}
 use Rattle.std.specs.Ordering.{ordering_reverse}
 use Rattle.std.specs.Cmp.{IsTotalOrder}
-use Rattle.std.specs.List.{AllZip, AllByRecursion, Contains, flat_map}
+use Rattle.std.specs.List.{AllZip, AllByRecursion, flat_map}
 use Rattle.std.specs.List.Sorted.{IsStrictlySortedBy}
 use Rattle.std.specs.Str.Lines.{lines}
 use Rattle.std.proofs.lemmas.Bool.Decides.{nat_tests}
 use Rattle.std.proofs.lemmas.Cmp.{nat_list_cmp_total, then_total, on_total, tied_itself}
-use Rattle.uu_map.specs.declared.entry.Cost.{Cost}
 use Rattle.uu_map.specs.declared.entry.Link.{Link}
 use Rattle.uu_map.specs.declared.entry.Entry.{Entry}
 use Rattle.uu_map.specs.declared.fault.MapFault.{MapFault}
 use Rattle.uu_map.specs.declared.fault.MapFault.TheVariants.{TooLarge}
-use Rattle.uu_map.specs.Statement.{Meaning, IsStatement}
+use Rattle.uu_map.specs.Statement.{Meaning}
 use Rattle.uu_map.specs.StatementReading.{statement_of}
 use Rattle.uu_map.specs.Text.{Numbered, is_name_line, host_by, host_of, statements_of}
-use Rattle.uu_map.specs.Listing.{IsLeast, listing_cmp, IsListing}
+use Rattle.uu_map.specs.Listing.{listing_cmp, IsListing}
 use Rattle.uu_map.specs.Entry.{IsHeard, aliases_in, links_in, skipped_lines, IsEntry}
-use Rattle.uu_map.specs.Heard.{Heard, then_heard, of_one, heard, Says}
-use Rattle.uu_map.proofs.LinkTexts.{some_same}
+use Rattle.uu_map.specs.Heard.{of_one, heard, Says}
 use Rattle.uu_map.proofs.LeastCosts.{cost_total, In, in_from_contains, contains_from_in}
 use Rattle.uu_map.proofs.StatementTexts.{statement_is, statement_is_read}
 

@@ -1,7 +1,6 @@
 -- Reading an expression token by token gives its tree's value.
-use Rattle.std.proofs.Common.{◌≡◌, ℕ, zero, suc, ◌^◌, Bool, true, false, cond, ◌||◌, ◌&&◌, not, List, [], ◌∷◌, ◌++◌, Option, Some, None, option_and_then, ℤ, pos, negsuc, ◌+ℤ◌, ◌-ℤ◌, ◌*ℤ◌, neg_ℤ, unsigned_abs, nat_le, refl, sym, ap, ◌∙◌, append_assoc}
+use Rattle.std.proofs.Common.{◌≡◌, ℕ, zero, suc, ◌^◌, Bool, true, false, cond, ◌||◌, ◌&&◌, List, [], ◌∷◌, ◌++◌, Option, Some, None, option_and_then, ℤ, pos, negsuc, ◌+ℤ◌, ◌-ℤ◌, ◌*ℤ◌, neg_ℤ, unsigned_abs, nat_le, refl, sym, ap, ◌∙◌, append_assoc}
 use Rattle.std.specs.Int.RustNames.{int_div}
-use Rattle.uu_map.specs.declared.entry.Cost.{Cost}
 use Rattle.uu_map.specs.declared.token.Additive.{Additive}
 use Rattle.uu_map.specs.declared.token.Additive.TheVariants.{Plus, Minus}
 use Rattle.uu_map.specs.declared.token.Multiplicative.{Multiplicative}
@@ -10,9 +9,9 @@ use Rattle.uu_map.specs.declared.token.Token.{Token}
 use Rattle.uu_map.specs.declared.token.Token.TheVariants as tokens
 use Rattle.uu_map.specs.declared.expression.Level.{Level}
 use Rattle.uu_map.specs.declared.expression.Stage.{Stage}
-use Rattle.uu_map.specs.declared.expression.Stage.TheVariants.{Operand, Operator, Done}
-use Rattle.uu_map.specs.Expression.{Sum, Product, Factor, one_product, added, one_factor, scaled, amount, dead, group, signed, sum_text, product_text, factor_text, kept, sum_of, quotient_of, product_of, both, negated, with_sign, sum_value, product_value, factor_value, sum_fits, product_fits, factor_fits, sum_is_dead, product_is_dead, factor_is_dead, cost_of}
-use Rattle.uu_map.specs.Reading.{State, sum_with, product_with, negated_if, flipped, with_factor, run, start}
+use Rattle.uu_map.specs.declared.expression.Stage.TheVariants.{Operand, Operator}
+use Rattle.uu_map.specs.Expression.{Sum, Product, Factor, one_product, added, one_factor, scaled, amount, dead, group, signed, sum_text, product_text, factor_text, kept, sum_of, product_of, both, negated, with_sign, sum_value, product_value, factor_value, sum_fits, product_fits, factor_fits, sum_is_dead, product_is_dead, factor_is_dead, cost_of}
+use Rattle.uu_map.specs.Reading.{State, sum_with, product_with, negated_if, flipped, run, start}
 
 -- ---- values on the way are kept
 

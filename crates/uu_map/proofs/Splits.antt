@@ -1,13 +1,13 @@
 -- A map text is cut offset by offset.
-use Rattle.std.proofs.Common.{◌≡◌, ℕ, zero, suc, ◌+◌, ◌-◌, ◌<◌, Bool, true, false, cond, ◌&&◌, ◌||◌, ◌==◌, List, [], ◌∷◌, ◌++◌, length, get_or, take, drop, Option, Some, None, refl, sym, ap, ◌∙◌, append_assoc, arith}
-use Rattle.std.specs.List.{filter, range_with_len, count_by}
+use Rattle.std.proofs.Common.{◌≡◌, ℕ, suc, ◌+◌, ◌-◌, ◌<◌, Bool, true, false, cond, ◌&&◌, ◌||◌, ◌==◌, List, ◌∷◌, ◌++◌, length, get_or, drop, Option, Some, None, sym, ap, ◌∙◌, append_assoc, arith}
+use Rattle.std.specs.List.{filter, range_with_len}
 use Rattle.std.proofs.lemmas.Bool.Decides.{nat_tests}
 use Rattle.std.proofs.lemmas.List.{append-nil}
 use Rattle.std.proofs.lemmas.List.Sums.{count_by_more_yes, count_by_more_no}
 use Rattle.uu_map.specs.declared.entry.EntryText.{EntryText}
 use Rattle.uu_map.specs.declared.splitter.Start.{Start}
 use Rattle.uu_map.specs.Split.{is_newline, begins_line, begins_entry, entries_from, line_of}
-use Rattle.uu_map.specs.Splitting.{ended, starts_from, start_list, HasItsLine, FoundUpTo}
+use Rattle.uu_map.specs.Splitting.{ended, starts_from, start_list, FoundUpTo}
 
 starts_at : List ℕ → ℕ → Bool
 starts_at text k = begins_line text k && begins_entry (drop k text)

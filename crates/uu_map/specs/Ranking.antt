@@ -1,4 +1,4 @@
--- Listing links by two sorts.
+-- How the code lists links: by two sorts. No public clause cites this file.
 use Rattle.std.specs.Prelude.{Bool, false, List, [], ◌∷◌, Option, Some, None, if◌then◌else◌}
 use Rattle.std.specs.declared.cmp.Ordering.{Ordering}
 use Rattle.std.specs.Ordering.{nat_cmp, ordering_then}

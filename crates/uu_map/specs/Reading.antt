@@ -1,7 +1,7 @@
--- Reading an expression from left to right, token by token, up to the parenthesis that closes it.
-use Rattle.std.specs.Prelude.{ℕ, zero, suc, Bool, true, false, not, List, [], ◌∷◌, Option, Some, None, option_map, option_and_then, reverse, ℤ, pos, negsuc, if◌then◌else◌}
+-- How the code reads an expression: from left to right, token by token, up to the parenthesis that closes it. No public
+-- clause cites this file.
+use Rattle.std.specs.Prelude.{ℕ, zero, suc, Bool, true, false, not, List, [], ◌∷◌, Option, Some, None, option_map, option_and_then, reverse, ℤ}
 use Rattle.uu_map.specs.declared.entry.Cost.{Cost}
-use Rattle.uu_map.specs.declared.entry.Cost.TheVariants.{Value, Dead}
 use Rattle.uu_map.specs.declared.token.Additive.{Additive}
 use Rattle.uu_map.specs.declared.token.Additive.TheVariants.{Plus, Minus}
 use Rattle.uu_map.specs.declared.token.Multiplicative.{Multiplicative}
@@ -11,7 +11,7 @@ use Rattle.uu_map.specs.declared.expression.Level.{Level}
 use Rattle.uu_map.specs.declared.expression.Reading.{Reading}
 use Rattle.uu_map.specs.declared.expression.Stage.{Stage}
 use Rattle.uu_map.specs.declared.expression.Stage.TheVariants.{Operand, Operator, Done}
-use Rattle.uu_map.specs.Expression.{kept, sum_of, product_of, both, with_sign, negated, cost_of}
+use Rattle.uu_map.specs.Expression.{kept, sum_of, product_of, both, negated, cost_of}
 
 -- the levels around the one that is read, the innermost first; that level; what comes next; whether `DEAD` was read
 pub record State : Type 0 where

@@ -1,7 +1,7 @@
 -- How a map text is cut into entries (UUCP Mapping Project README, on `#N` lines).
-use Rattle.std.specs.Prelude.{ℕ, ◌+◌, ◌-◌, Bool, true, false, not, ◌&&◌, ◌||◌, List, [], ◌∷◌, length, take, drop, ◌==◌, codes, filter, count_by, slice_index, if◌then◌else◌}
-use Rattle.std.specs.List.{range_with_len, before_first}
-use Rattle.std.specs.Str.{byte, bytes_eq}
+use Rattle.std.specs.Prelude.{ℕ, ◌+◌, ◌-◌, Bool, true, ◌&&◌, ◌||◌, List, [], ◌∷◌, length, take, drop, ◌==◌, codes, filter, count_by, slice_index}
+use Rattle.std.specs.List.{range_with_len}
+use Rattle.std.specs.Str.{bytes_eq}
 use Rattle.uu_map.specs.declared.entry.EntryText.{EntryText}
 use Rattle.uu_map.specs.Token.{is_blank, begins}
 

@@ -1,5 +1,5 @@
--- Cutting a map text from left to right.
-use Rattle.std.specs.Prelude.{◌≡◌, ℕ, ◌+◌, ◌-◌, Bool, ◌&&◌, List, [], ◌∷◌, ◌++◌, length, drop, Option, Some, None, ⊤, filter}
+-- How the code cuts a map text: from left to right. No public clause cites this file.
+use Rattle.std.specs.Prelude.{◌≡◌, ℕ, ◌-◌, ◌&&◌, List, [], ◌∷◌, ◌++◌, length, drop, Option, Some, None, ⊤, filter}
 use Rattle.std.specs.List.{range_with_len}
 use Rattle.uu_map.specs.declared.entry.EntryText.{EntryText}
 use Rattle.uu_map.specs.declared.splitter.Start.{Start}

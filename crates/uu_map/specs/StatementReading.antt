@@ -1,5 +1,5 @@
--- Reading a statement from left to right.
-use Rattle.std.specs.Prelude.{ℕ, ◌+◌, Bool, true, false, not, ◌&&◌, List, [], ◌∷◌, take, drop, length, Option, Some, None, option_map, option_and_then, ◌==◌, if◌then◌else◌}
+-- How the code reads a statement: from left to right. No public clause cites this file.
+use Rattle.std.specs.Prelude.{ℕ, Bool, List, [], ◌∷◌, take, drop, length, Option, Some, None, option_map, option_and_then, ◌==◌, if◌then◌else◌}
 use Rattle.std.specs.List.{prefix_len}
 use Rattle.std.specs.Str.{byte, bytes_eq}
 use Rattle.uu_names.specs.Name.{is_site_byte, is_site_name}

@@ -1,6 +1,6 @@
 -- The lines of a map text, and what they say of entries and statements (UUCP Mapping Project README, on `#N` lines and
 -- comments; continued lines are this project's choice).
-use Rattle.std.specs.Prelude.{ℕ, ◌+◌, Bool, true, false, not, ◌&&◌, ◌||◌, List, [], ◌∷◌, ◌++◌, length, take, drop, Option, Some, None, Result, Ok, Err, nat_lt, ◌==◌, codes, find, if◌then◌else◌}
+use Rattle.std.specs.Prelude.{ℕ, ◌+◌, Bool, true, not, ◌&&◌, ◌||◌, List, [], ◌∷◌, ◌++◌, length, take, drop, Option, Some, None, Result, Ok, Err, nat_lt, ◌==◌, codes, find, if◌then◌else◌}
 use Rattle.std.specs.List.{prefix_len, before_first, take_while}
 use Rattle.std.specs.Str.{byte, bytes_eq}
 use Rattle.std.specs.Str.Lines.{lines}

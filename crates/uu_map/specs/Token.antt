@@ -1,5 +1,5 @@
 -- What an expression is made of: the words of its text (blanks only part them), and what each stands for.
-use Rattle.std.specs.Prelude.{ℕ, ◌+◌, ◌-◌, ◌*◌, Bool, true, false, ◌||◌, List, [], ◌∷◌, Option, Some, None, option_map, ℤ, pos, negsuc, ◌==◌, codes, map, find, fold, if◌then◌else◌}
+use Rattle.std.specs.Prelude.{ℕ, ◌+◌, ◌-◌, ◌*◌, Bool, false, ◌||◌, List, [], ◌∷◌, Option, Some, None, option_map, ℤ, pos, negsuc, ◌==◌, codes, map, find, fold, if◌then◌else◌}
 use Rattle.std.specs.List.{prefix_len, onto_first}
 use Rattle.std.specs.Char.{is_ascii_digit, is_ascii_uppercase}
 use Rattle.std.specs.Str.{byte, bytes_eq}

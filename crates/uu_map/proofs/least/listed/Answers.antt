@@ -1,4 +1,4 @@
-use Rattle.std.proofs.Common.{◌≡◌, ◌∙◌, ap, None, map, IfOk}
+use Rattle.std.proofs.Common.{◌≡◌, ◌∙◌, ap, None, map}
 use Rattle.std.proofs.lemmas.Result.{IfOk-weaker}
 use Rattle.uu_map.specs.Listing.{IsListing}
 use Rattle.uu_map.specs.Ranking.{as_link, firsts_after}

@@ -1,5 +1,4 @@
-use Rattle.std.proofs.Common.{◌≡◌, ◌&&◌, ◌==◌, ap, sym, ◌∙◌, true, false, refl, arith, rules, get_or, drop}
-use Rattle.std.proofs.lemmas.Bool.Decides.{nat_tests}
+use Rattle.std.proofs.Common.{◌≡◌, ◌&&◌, ap, sym, ◌∙◌, true, false, rules, drop}
 use Rattle.uu_map.specs.Split.{is_newline, begins_line, begins_entry}
 use Rattle.uu_map.proofs.Splits.{found_goes_on, found_begins, line-next, line-same, begins_line-next}
 use Rattle.uu_map.proofs.splitter.entries_of.Goals as goal

@@ -1,4 +1,4 @@
-use Rattle.std.proofs.Common.{◌≡◌, ◌≤◌, length}
+use Rattle.std.proofs.Common.{◌≡◌}
 use Rattle.uu_map.specs.Split.{begins_line, line_of}
 use Rattle.uu_map.specs.Splitting.{FoundUpTo}
 use Rattle.uu_map.proofs.splitter.entries_of.Given as goal

@@ -1,4 +1,4 @@
-use Rattle.std.proofs.Common.{ap, sym, ◌∙◌, ◌∷◌, length, take, drop, arith}
+use Rattle.std.proofs.Common.{ap, sym, ◌∙◌, ◌∷◌, take, drop}
 use Rattle.std.specs.Str.Lines.{lines}
 use Rattle.std.proofs.lemmas.List.{take_rest}
 use Rattle.uu_map.proofs.Lines.{lines_first, lines_last}
