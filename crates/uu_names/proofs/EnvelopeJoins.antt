@@ -1,5 +1,5 @@
 -- Pieces that were appended one after another are one text.
-use Rattle.std.proofs.Common.{◌≡◌, ◌++◌, ℕ, List, refl, [], append_assoc, append-nil}
+use Rattle.std.proofs.Common.{◌≡◌, ◌++◌, ℕ, List, [], append_assoc, append-nil}
 
 pub joined : (old one two three f u u' s d r t t' e : List ℕ) → one ≡ old ++ (f ++ (u' ++ s)) → two ≡ one ++ d → three ≡ two ++ (r ++ (t' ++ e)) → u' ≡ u → t' ≡ t → three ≡ old ++ (f ++ (u ++ (s ++ (d ++ (r ++ (t ++ e))))))
 joined old one two three f u u' s d r t t' e p q h a b = rw (h, q, p, a, b) (simp append_assoc)

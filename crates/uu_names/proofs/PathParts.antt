@@ -1,11 +1,11 @@
 -- What a path's text is made of, and where it may be cut.
-use Rattle.std.proofs.Common.{◌≡◌, ℕ, ◌+◌, ◌<◌, ◌≤◌, Bool, true, List, [], ◌∷◌, ◌++◌, length, take, drop, get_or, IsTrue, IsUtf8, IsAscii, IsCharBoundary, refl, ap, sym, ◌∙◌, subst, arith, append_assoc, length-append}
+use Rattle.std.proofs.Common.{◌≡◌, ℕ, ◌+◌, ◌<◌, true, List, [], ◌∷◌, ◌++◌, length, take, drop, get_or, IsTrue, IsUtf8, IsAscii, IsCharBoundary, refl, ap, sym, ◌∙◌, arith, append_assoc, length-append}
 use Rattle.std.specs.List.{list_all, position_or_len}
 use Rattle.std.proofs.lemmas.Bool.Decides.{nat_tests}
 use Rattle.std.proofs.lemmas.List.{take_at, drop_at, get_or_at, length_push}
 use Rattle.std.proofs.lemmas.Str.{IsCharBoundary-before_ascii, IsCharBoundary-after_ascii}
 use Rattle.std.proofs.lemmas.Str.Ascii.{IsAscii-nil, IsAscii-cons}
-use Rattle.uu_names.specs.Name.{is_word_byte, has_form, is_site_name, is_word}
+use Rattle.uu_names.specs.Name.{is_word_byte, is_site_name, is_word}
 use Rattle.uu_names.specs.Path.{IsPathText, is_bang, first_hop, rest_of}
 use Rattle.uu_names.proofs.PathScan.{IsCut, cut_path, position-front, path_bytes, path_fits, and-left, and-right}
 

@@ -1,5 +1,5 @@
 -- What a line says, read from its ends: a sender is in a line in one way.
-use Rattle.std.proofs.Common.{◌≡◌, ◌≢◌, ℕ, zero, suc, ◌+◌, ◌-◌, ◌<◌, ◌≤◌, Bool, true, false, not, cond, eqb, ltb, leb, ◌&&◌, List, [], ◌∷◌, ◌++◌, length, take, drop, get_or, Option, Some, None, position, refl, ap, sym, ◌∙◌, subst, inl, inr, ◌⊎◌, IsTrue, codes, arith, append_assoc, append-nil, length-append, nat_eq}
+use Rattle.std.proofs.Common.{◌≡◌, ℕ, suc, ◌+◌, ◌-◌, ◌<◌, ◌≤◌, Bool, true, false, cond, eqb, ltb, List, [], ◌∷◌, ◌++◌, length, take, drop, get_or, Some, position, refl, ap, sym, ◌∙◌, inl, inr, IsTrue, codes, arith, append_assoc, length-append, nat_eq}
 use Rattle.std.specs.Cmp.Lexicographic.{pointwise, bytes_decides}
 use Rattle.std.specs.List.{list_all, position_or_len, prefix_len, suffix_len}
 use Rattle.std.proofs.lemmas.Bool.Decides.{nat_tests}
@@ -9,7 +9,7 @@ use borrow.Author.Tests.{lt-ltb}
 use Rattle.uu_names.proofs.ReturnLines.{found_at}
 use Rattle.uu_names.specs.Name.{is_site_byte, has_form, is_site_name}
 use Rattle.uu_names.specs.ReturnPath.{is_no_space, Sender, IsSpaced, IsLeadingLine}
-use Rattle.uu_names.proofs.PathScan.{and-left, and-right, weaker, form_bytes, form_some, form-from}
+use Rattle.uu_names.proofs.PathScan.{and-left, and-right, weaker, form_bytes, form-from}
 
 -- a text that begins with another
 pub begins_with : (xs p : List ℕ) → pointwise nat_eq (take (length p) xs) p ≡ true → xs ≡ p ++ drop (length p) xs

@@ -1,6 +1,5 @@
 -- The line, the quote and the message in a row.
-use Rattle.std.proofs.Common.{◌≡◌, ◌∷◌, [], List, ℕ, Bool, sym, ◌∙◌, nat_eq, cond, codes, ap}
-use Rattle.std.specs.List.{starts_with}
+use Rattle.std.proofs.Common.{◌≡◌, [], Bool, sym, ◌∙◌, cond, codes, ap}
 use Rattle.uu_names.specs.Envelope.{from_line, quote_of}
 use Rattle.uu_names.proofs.EnvelopeJoins.{quoted}
 use Rattle.uu_names.proofs.from_line.envelope.Goals as goal

@@ -1,6 +1,6 @@
 -- Where the first line is no leading line, the run stops.
-use Rattle.std.proofs.Common.{List, ℕ, subst, sym, ap, ◌≡◌}
-use Rattle.uu_names.specs.ReturnPath.{Stops, Sender, IsLeadingLine}
+use Rattle.std.proofs.Common.{List, ℕ, subst, sym}
+use Rattle.uu_names.specs.ReturnPath.{IsLeadingLine}
 use Rattle.uu_names.proofs.leading_lines.next_sender.Goals as goal
 
 pub returns-in_err-user : goal.returns-in_err-user

@@ -1,5 +1,5 @@
 -- Each line adds its site to the way; where the run stops, the way is whole.
-use Rattle.std.proofs.Common.{◌≡◌, ◌+◌, ◌<◌, ◌∷◌, ◌++◌, [], List, ℕ, drop, subst, sym, ap, ◌∙◌, refl, arith, take, length, ◌-◌}
+use Rattle.std.proofs.Common.{◌≡◌, ◌+◌, ◌∷◌, ◌++◌, [], List, ℕ, drop, subst, sym, ap, ◌∙◌, refl, arith, take, length, ◌-◌}
 use Rattle.std.proofs.lemmas.List.{take_rest}
 use Rattle.std.proofs.lemmas.Result.{err_from_is_err_and}
 use Rattle.uu_names.specs.ReturnPath.{raw_lines, Stops, BeginsWithSender, first_marker, later_marker}

@@ -1,13 +1,12 @@
 -- What is read is a leading line, and a leading line is read as what it says.
-use Rattle.std.proofs.Common.{◌≡◌, ◌++◌, ◌+◌, ◌-◌, ◌<◌, ◌≤◌, ◌==◌, ℕ, Bool, true, false, not, List, length, take, drop, nat_eq, refl, sym, ap, ◌∙◌, Option, Some, None, position, arith}
-use Rattle.std.specs.Cmp.Lexicographic.{pointwise}
+use Rattle.std.proofs.Common.{◌≡◌, ◌+◌, ◌-◌, ◌<◌, ◌==◌, ℕ, Bool, true, false, length, nat_eq, sym, ap, ◌∙◌, Some, None, position, arith}
 use Rattle.std.specs.List.{suffix_len, ends_with}
 use Rattle.std.proofs.lemmas.Bool.Decides.{nat_tests}
 use Rattle.std.proofs.lemmas.List.Sums.{suffix_len-le-length}
 use Rattle.uu_names.specs.Name.{is_site_name}
-use Rattle.uu_names.specs.ReturnPath.{is_no_space, Sender, IsLeadingLine}
+use Rattle.uu_names.specs.ReturnPath.{is_no_space}
 use Rattle.uu_names.proofs.PathScan.{form_some}
-use Rattle.uu_names.proofs.ReturnSenders.{leading-from, is_read, IsRead, ReadsAs, reads_as, remote}
+use Rattle.uu_names.proofs.ReturnSenders.{leading-from, is_read, ReadsAs, reads_as, remote}
 use Rattle.uu_names.proofs.leading_lines.sender.Goals as goal
 use Rattle.uu_names.proofs.leading_lines.sender.Goals.{then-is_empty-via-then-is_empty, then-is_empty-via-else-is_empty+then-not-ends_with, then-is_empty-via-else-is_empty+else-not-ends_with+then-not-is_site_name}
 

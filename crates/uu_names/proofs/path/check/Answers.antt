@@ -1,6 +1,6 @@
 -- The scan's variables say what has been passed, and each return what follows from them.
-use Rattle.std.proofs.Common.{◌≡◌, ◌≢◌, ℕ, not, ◌+◌, ◌<◌, ◌⊎◌, ◌||◌, ◌&&◌, Bool, Option, true, false, get_or, Some, None, inl, inr, refl, sym, ◌∙◌, ap, arith, rules, take, length, ltb}
-use Rattle.std.specs.Option.{option_or, is_some}
+use Rattle.std.proofs.Common.{◌≡◌, ◌≢◌, ℕ, not, ◌<◌, ◌⊎◌, ◌||◌, ◌&&◌, Bool, Option, true, false, get_or, Some, None, inl, inr, refl, sym, ◌∙◌, arith, ltb}
+use Rattle.std.specs.Option.{is_some}
 use Rattle.std.proofs.lemmas.Bool.Decides.{nat_tests}
 use Rattle.uu_names.specs.Name.{is_site_byte, is_word_byte}
 use Rattle.uu_names.specs.Path.{is_bang}
