@@ -1,0 +1,4 @@
+-- What the contracts of this crate cite.
+pub mod Fault
+pub mod Moment
+pub mod Ranges

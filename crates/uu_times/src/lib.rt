@@ -1,0 +1,11 @@
+//! Moments, time strings, timetables and sys files of a UUCP site.
+#![tactic(auto)]
+
+pub mod fault;
+
+pub mod moment;
+pub mod windows;
+
+pub use fault::TimeFault;
+pub use moment::Moment;
+pub use windows::Windows;
