@@ -2,3 +2,4 @@
 pub mod Fault
 pub mod Moment
 pub mod Ranges
+pub mod System

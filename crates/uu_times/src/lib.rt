@@ -2,10 +2,11 @@
 #![tactic(auto)]
 
 pub mod fault;
-
 pub mod moment;
+pub mod system;
 pub mod windows;
 
 pub use fault::TimeFault;
 pub use moment::Moment;
+pub use system::{Line, LineNumbers, Lines, SysFile, SystemDef, Systems};
 pub use windows::Windows;
