@@ -62,8 +62,9 @@ fn week_minute(second: u64, offset: i32) -> u16
     ensures value { pos result ≡ week_minute (local_second second offset) }
     ensures in_week { result < 10080 }
 {
-    let shown = second as i64 + 60 * offset as i64;
-    (shown.div_euclid(60) + 5760).rem_euclid(10_080) as u16
+    // Counted from 1969-12-31 on, since the clock may show that day.
+    let shown = (second as i64 + 60 * offset as i64 + 86_400) as u64;
+    ((shown / 60 + 4320) % 10_080) as u16
 }
 
 // What a clock so many minutes from UTC shows at the second.
