@@ -1,5 +1,8 @@
 -- What the contracts of this crate cite.
+pub mod Days
 pub mod Fault
+pub mod Listed
 pub mod Moment
 pub mod Ranges
+pub mod Scan
 pub mod System

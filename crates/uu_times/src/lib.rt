@@ -1,9 +1,11 @@
 //! Moments, time strings, timetables and sys files of a UUCP site.
 #![tactic(auto)]
 
+mod days;
 pub mod fault;
 pub mod laws;
 pub mod moment;
+mod scan;
 pub mod system;
 pub mod windows;
 
