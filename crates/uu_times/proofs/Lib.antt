@@ -1,2 +1,4 @@
 pub mod Clock
 pub mod Runs
+pub mod ScanSteps
+pub mod UnionLemmas

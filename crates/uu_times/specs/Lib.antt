@@ -6,3 +6,4 @@ pub mod Moment
 pub mod Ranges
 pub mod Scan
 pub mod System
+pub mod Union

@@ -6,6 +6,7 @@ use Rattle.std.specs.Str.{byte}
 use Rattle.uu_times.specs.declared.days.Days.{Days}
 use Rattle.uu_times.specs.declared.days.Simple.{Simple}
 use Rattle.uu_times.specs.declared.scan.Place.{Place}
+use Rattle.uu_times.specs.declared.scan.Found.{Found}
 use Rattle.uu_times.specs.declared.scan.Place.TheVariants.{Start, Letter, An, Named, From, Dash, To, Whole}
 use Rattle.uu_times.specs.Days.{no_days, with_days}
 
@@ -98,10 +99,10 @@ after front count (Ok simples) = Ok (front ++ simples)
 after front count (Err at) = Err (count + at)
 
 -- where the reading goes on behind a byte, with the simple string that ended there
-abbrev pub step : Place → ℕ → Option (Option Simple × Place)
+abbrev pub step : Place → ℕ → Option Found
 step place letter =
-    if is_separator letter then option_map (λ simple. (Some simple, Start)) (simple_at place)
-    else option_map (λ next. (None, next)) (next_place place letter)
+    if is_separator letter then option_map (λ simple. record { simple = Some simple; next = Start }) (simple_at place)
+    else option_map (λ next. record { simple = None; next = next }) (next_place place letter)
 
 -- a last simple string
 abbrev pub ending : Option Simple → Result (List Simple) ℕ
@@ -109,9 +110,9 @@ ending None = Err 0
 ending (Some simple) = Ok (simple ∷ [])
 
 -- behind a byte: nothing goes on, or the simple strings of the rest follow
-abbrev pub going_on : Option (Option Simple × Place) → (Place → Result (List Simple) ℕ) → Result (List Simple) ℕ
+abbrev pub going_on : Option Found → (Place → Result (List Simple) ℕ) → Result (List Simple) ℕ
 going_on None rest = Err 0
-going_on (Some found) rest = after (option_to_list found.0) 1 (rest found.1)
+going_on (Some found) rest = after (option_to_list found.simple) 1 (rest found.next)
 
 -- the simple strings that the bytes spell from here on, or how many of the bytes could begin some
 unfoldable pub scan : Place → List ℕ → Result (List Simple) ℕ

@@ -7,6 +7,7 @@ pub mod laws;
 pub mod moment;
 mod scan;
 pub mod system;
+mod union;
 pub mod windows;
 
 pub use fault::TimeFault;

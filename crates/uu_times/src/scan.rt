@@ -172,6 +172,13 @@ fn is_separator(letter: u8) -> bool
     letter == b'|' || letter == b','
 }
 
+/// Where the reading goes on behind a byte, with the simple string that ended there.
+#[derive(Clone, Copy)]
+pub struct Found {
+    pub simple: Option<Simple>,
+    pub next: Place,
+}
+
 /// Why there is no list of simple strings.
 #[derive(Drop)]
 pub enum Unlisted {
@@ -200,14 +207,15 @@ pub fn list_of(alloc: Global, text: &[u8]) -> Result<Vec<Simple>, Unlisted>
     let mut place = Place::Start;
     for (at, byte) in text.iter().enumerate() {
         let letter = byte.to_ascii_lowercase();
-        match step(place, letter) {
+        let found = match step(place, letter) {
             None => return Err(Unlisted::At(at)),
-            Some((None, next)) => place = next,
-            Some((Some(simple), next)) => {
-                simples.push(simple)?;
-                place = next;
-            }
+            Some(found) => found,
+        };
+        match found.simple {
+            None => {}
+            Some(simple) => simples.push(simple)?,
         }
+        place = found.next;
     }
     match simple_at(place) {
         None => Err(Unlisted::At(text.len())),
@@ -218,14 +226,17 @@ pub fn list_of(alloc: Global, text: &[u8]) -> Result<Vec<Simple>, Unlisted>
     }
 }
 
-// Where the reading goes on behind a byte, with the simple string that ended there.
-fn step(place: Place, letter: u8) -> Option<(Option<Simple>, Place)>
+// Where the reading goes on behind a byte.
+fn step(place: Place, letter: u8) -> Option<Found>
     ensures { result ≡ step place letter }
 {
     if is_separator(letter) {
         let simple = simple_at(place)?;
-        return Some((Some(simple), Place::Start));
+        return Some(Found {
+            simple: Some(simple),
+            next: Place::Start,
+        });
     }
     let next = next_place(place, letter)?;
-    Some((None, next))
+    Some(Found { simple: None, next })
 }

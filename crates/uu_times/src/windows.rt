@@ -66,6 +66,17 @@ impl Windows {
     }
 }
 
+impl Windows {
+    /// The set of these runs.
+    pub(crate) fn from_runs(alloc: Global, runs: Vec<(u16, u16)>) -> Result<Windows, AllocError>
+        requires { AreRuns runs.items }
+        ensures { IfOk result (λ windows. windows ≡ runs.items) }
+    {
+        let runs = Rc::new(alloc, runs)?;
+        Ok(Windows { runs })
+    }
+}
+
 // Whether the ranges are in order, within the week and apart.
 fn are_runs(ranges: &[(u16, u16)]) -> bool
     ensures { IsTrue result ↔ AreRuns ranges.now }
