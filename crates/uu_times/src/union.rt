@@ -31,6 +31,7 @@ fn week_ranges(alloc: Global, simples: &[Simple]) -> Result<Vec<(u16, u16)>, All
 }
 
 // Adds the ranges of a simple string.
+#[tactic(auto, unfolding(crate::specs::Union::days_ranges))]
 fn push_simple(ranges: &mut Vec<(u16, u16)>, simple: &Simple) -> Result<(), AllocError>
     requires { IsDaily simple.now }
     ensures { OnOk result (ranges.new.items ≡ ranges.old.items ++ days_ranges simple.now 7) }
