@@ -6,4 +6,5 @@ pub mod Moment
 pub mod Ranges
 pub mod Scan
 pub mod System
+pub mod Tables
 pub mod Union

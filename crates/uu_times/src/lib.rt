@@ -7,10 +7,12 @@ pub mod laws;
 pub mod moment;
 mod scan;
 pub mod system;
+pub mod timetable;
 mod union;
 pub mod windows;
 
 pub use fault::TimeFault;
 pub use moment::Moment;
 pub use system::{Line, LineNumbers, Lines, SysFile, SystemDef, Systems};
+pub use timetable::{Timetables, read_time};
 pub use windows::Windows;

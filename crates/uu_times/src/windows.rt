@@ -1,5 +1,5 @@
 //! Sets of week minutes.
-ghost use Rattle.std.specs.Prelude.{◌≡◌, ◌↔◌, IfOk, IsNone, IfSome, IsTrue};
+ghost use Rattle.std.specs.Prelude.{◌≡◌, ◌↔◌, IfOk, IsNone, IfSome, IsTrue, []};
 ghost use Rattle.uu_times.specs.Ranges.{holds, AreRuns, maximal_runs};
 
 use std::alloc::{AllocError, Global};
@@ -73,6 +73,25 @@ impl Windows {
         ensures { IfOk result (λ windows. windows ≡ runs.items) }
     {
         let runs = Rc::new(alloc, runs)?;
+        Ok(Windows { runs })
+    }
+
+    /// No minute.
+    pub(crate) fn never(alloc: Global) -> Result<Windows, AllocError>
+        ensures { IfOk result (λ windows. windows ≡ []) }
+    {
+        Windows::from_runs(alloc, Vec::new(alloc))
+    }
+}
+
+impl Clone for Windows {
+    ghost use Rattle.std.specs.Prelude.{◌≡◌};
+
+    ghost is_clone = { λ windows copy. copy ≡ windows };
+
+    /// The same set, which shares the runs.
+    fn clone(&self) -> Result<Windows, AllocError> {
+        let runs = self.runs.clone()?;
         Ok(Windows { runs })
     }
 }
