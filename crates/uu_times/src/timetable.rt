@@ -1,12 +1,12 @@
 //! Timetables, and the time strings that may name them.
-ghost use Rattle.std.specs.Prelude.{◌≡◌, Err, IfOk, IfErr, IsTrue, map, OnOk, slice_index};
+ghost use Rattle.std.specs.Prelude.{◌≡◌, Ok, Err, IfOk, IfErr, IsTrue, map, OnOk, slice_index};
 ghost use Rattle.std.specs.Char.{to_ascii_lowercase};
 ghost use Rattle.std.specs.List.{list_all};
 ghost use Rattle.std.specs.Str.{bytes_eq};
 ghost use Rattle.uu_names.specs.Name.{is_site_name};
 ghost use Rattle.uu_times.specs.Fault.{AnswersUnlessMemory};
 ghost use Rattle.uu_times.specs.Scan.{lower};
-ghost use Rattle.uu_times.specs.Tables.{is_table_byte, is_table_rest, is_table_name, table_at, with_table, begins_with_day, unreadable, windows_in, time_of, predefined_tables};
+ghost use Rattle.uu_times.specs.Tables.{is_table_byte, is_table_rest, is_table_name, table_at, with_table, with_list, begins_with_day, unreadable, windows_in, time_of, predefined_tables};
 
 use crate::scan::{Unlisted, list_of, two_letters};
 use crate::union::windows_of;
@@ -30,14 +30,35 @@ impl Model for Timetables {
     ghost view = { λ t. t.tables.entries };
 }
 
-/// The names and the strings of the timetables that are there from the start.
-const PREDEFINED: [(&str, &str); 3] = [
-    ("Evening", "Wk1705-0755,Sa,Su"),
-    ("Night", "Wk2305-0755,Sa,Su2305-1655"),
-    ("NonPeak", "Wk1805-0655,Sa,Su"),
-];
-
 impl Timetables {
+    /// The timetables that are there from the start: `Evening`, `Night` and `NonPeak`.
+    ///
+    /// `Memory` is the only fault.
+    #[tactic(auto, unfolding(crate::specs::Tables::predefined_tables))]
+    pub fn predefined(alloc: Global) -> Result<Timetables, TimeFault>
+        ensures { AnswersUnlessMemory result (Ok predefined_tables) }
+    {
+        let mut tables = Timetables {
+            tables: BTreeMap::new(alloc),
+        };
+        tables.insert_list(alloc, b"Evening", b"Wk1705-0755,Sa,Su")?;
+        tables.insert_list(alloc, b"Night", b"Wk2305-0755,Sa,Su2305-1655")?;
+        tables.insert_list(alloc, b"NonPeak", b"Wk1805-0655,Sa,Su")?;
+        Ok(tables)
+    }
+
+    // Sets the timetable of a name to a list of simple strings; another text changes nothing.
+    fn insert_list(&mut self, alloc: Global, name: &[u8], text: &[u8]) -> Result<(), AllocError>
+        requires { IsTrue (is_table_name name.now) }
+        ensures { OnOk result (self.new ≡ with_list self.old name.now text.now) }
+    {
+        match list_of(alloc, text) {
+            Ok(simples) => self.insert(alloc, name, windows_of(alloc, &simples)?),
+            Err(Unlisted::At(_)) => Ok(()),
+            Err(Unlisted::Memory) => Err(AllocError),
+        }
+    }
+
     /// The timetable of a name, whatever its case.
     pub(crate) fn find(&self, alloc: Global, name: &[u8]) -> Result<Option<Windows>, AllocError>
         ensures { IfOk result (λ found. found ≡ table_at self.now name.now) }
