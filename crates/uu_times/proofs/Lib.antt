@@ -1,4 +1,5 @@
 pub mod Clock
+pub mod LineLemmas
 pub mod Runs
 pub mod ScanDaily
 pub mod ScanSteps

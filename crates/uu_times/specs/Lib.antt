@@ -1,6 +1,7 @@
 -- What the contracts of this crate cite.
 pub mod Days
 pub mod Fault
+pub mod Lines
 pub mod Listed
 pub mod Moment
 pub mod Ranges

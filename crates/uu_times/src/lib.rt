@@ -4,6 +4,7 @@
 mod days;
 pub mod fault;
 pub mod laws;
+mod lines;
 pub mod moment;
 mod scan;
 pub mod system;
