@@ -1,6 +1,6 @@
 -- The lines of a sys file and their words (Taylor UUCP 1.07 manual, "Configuration File Overview"; that lines are joined before
 -- comments are cut is this project's choice).
-use Rattle.std.specs.Prelude.{ℕ, zero, suc, ◌+◌, ◌-◌, Bool, ◌&&◌, ◌||◌, nat_lt, ◌==◌, if◌then◌else◌, List, [], ◌∷◌, ◌++◌, length, take, slice_index, filter, map}
+use Rattle.std.specs.Prelude.{ℕ, zero, suc, ◌+◌, ◌-◌, Bool, ◌&&◌, ◌||◌, nat_lt, ◌==◌, if◌then◌else◌, List, [], ◌∷◌, ◌++◌, length, take, slice_index, filter, Option, None, Some}
 use Rattle.std.specs.List.{slice_split}
 use Rattle.std.specs.Str.{byte}
 use Rattle.std.specs.Str.Lines.{lines}
@@ -46,6 +46,19 @@ uncommented (letter ∷ next ∷ more) =
 abbrev pub is_blank : ℕ → Bool
 is_blank letter = letter == 32 || letter == 9
 
--- the words of a line are separated by blanks
-abbrev pub words_of : List ℕ → List (List ℕ)
-words_of line = filter (λ word. nat_lt 0 (length word)) (slice_split is_blank (uncommented line))
+-- the words of a text are separated by blanks
+unfoldable pub words_of : List ℕ → List (List ℕ)
+words_of text = filter (λ word. nat_lt 0 (length word)) (slice_split is_blank text)
+
+-- the only word
+abbrev pub one_word : List (List ℕ) → Option (List ℕ)
+one_word [] = None
+one_word (word ∷ []) = Some word
+one_word (word ∷ second ∷ more) = None
+
+-- a word, and one that may stand behind it
+abbrev pub one_or_two : List (List ℕ) → Option (List ℕ × Option (List ℕ))
+one_or_two [] = None
+one_or_two (word ∷ []) = Some (word, None)
+one_or_two (word ∷ second ∷ []) = Some (word, Some second)
+one_or_two (word ∷ second ∷ third ∷ more) = None

@@ -2,11 +2,13 @@
 #![tactic(auto)]
 
 mod days;
+mod deed;
 pub mod fault;
 pub mod laws;
 mod lines;
 pub mod moment;
 mod scan;
+mod section;
 pub mod system;
 pub mod timetable;
 mod union;

@@ -1,8 +1,8 @@
 // The lines of a sys file and their words.
-ghost use Rattle.std.specs.Prelude.{◌≡◌, ◌+◌, ◌<◌, ◌≤◌, ℕ, [], ◌∷◌, length, ◌≢◌, ◌&&◌, map, filter, drop, slice_index, nat_lt, IfOk, IfSome, IfNone};
-ghost use Rattle.std.specs.List.{slice_split};
+ghost use Rattle.std.specs.Prelude.{◌≡◌, ◌+◌, ◌<◌, ◌≤◌, ℕ, [], ◌∷◌, length, ◌≢◌, ◌&&◌, ◌-◌, true, false, drop, slice_index, nat_lt, option_map, MatchOption, IfOk, IfSome, IfNone};
+ghost use Rattle.std.specs.Option.{option_copied};
 ghost use Rattle.std.specs.Str.Lines.{lines, strip_carriage_return};
-ghost use Rattle.uu_times.specs.Lines.{goes_on, kept_part, joined, uncommented, is_blank, words_of};
+ghost use Rattle.uu_times.specs.Lines.{goes_on, kept_part, joined, uncommented, is_blank, words_of, one_word, one_or_two};
 
 use std::alloc::{AllocError, Global};
 
@@ -119,8 +119,8 @@ fn kept_at(line: &[u8], at: usize) -> usize
     }
 }
 
-// The line up to a comment.
-fn uncommented(alloc: Global, line: &[u8]) -> Result<Vec<u8>, AllocError>
+/// The line up to a comment.
+pub fn uncommented(alloc: Global, line: &[u8]) -> Result<Vec<u8>, AllocError>
     ensures { IfOk result (λ clean. clean.items ≡ uncommented line.now) }
 {
     let mut clean = Vec::new(alloc);
@@ -143,12 +143,68 @@ fn is_blank(letter: u8) -> bool
     letter == b' ' || letter == b'\t'
 }
 
-// The words of a line without comments.
-fn split_words(alloc: Global, line: &[u8]) -> Result<Vec<&[u8]>, AllocError>
-    ensures { IfOk result (λ words. map (λ word. word.now) words.items
-        ≡ filter (λ word. nat_lt 0 (length word)) (slice_split is_blank line.now)) }
+// How many bytes at the front are blanks.
+fn blanks(text: &[u8]) -> usize
+    ensures front { (k : ℕ) → k < result → is_blank (slice_index text.now k) ≡ true }
+    ensures bound { result ≤ length text.now }
+    ensures behind { result < length text.now → is_blank (slice_index text.now result) ≡ false }
 {
-    line.split(|letter| is_blank(*letter))
-        .filter(|word| !word.is_empty())
-        .collect(alloc)
+    for (at, letter) in text.iter().enumerate() {
+        if !is_blank(*letter) {
+            return at;
+        }
+    }
+    text.len()
+}
+
+// How many bytes at the front are no blanks.
+fn letters(text: &[u8]) -> usize
+    ensures front { (k : ℕ) → k < result → is_blank (slice_index text.now k) ≡ false }
+    ensures bound { result ≤ length text.now }
+    ensures behind { result < length text.now → is_blank (slice_index text.now result) ≡ true }
+{
+    for (at, letter) in text.iter().enumerate() {
+        if is_blank(*letter) {
+            return at;
+        }
+    }
+    text.len()
+}
+
+/// The first word of a text, and the text behind it.
+pub fn next_word(text: &[u8]) -> Option<(&[u8], &[u8])>
+    ensures { MatchOption result (words_of text.now ≡ [])
+        (λ found. words_of text.now ≡ found.0.now ∷ words_of found.1.now) }
+{
+    let start = blanks(text);
+    if start == text.len() {
+        return None;
+    }
+    let (_, word) = text.split_at(start);
+    Some(word.split_at(letters(word)))
+}
+
+/// The word of a text that has exactly one.
+pub fn one_word(text: &[u8]) -> Option<&[u8]>
+    ensures { option_copied result ≡ one_word (words_of text.now) }
+{
+    let (word, rest) = next_word(text)?;
+    match next_word(rest) {
+        None => Some(word),
+        Some(_) => None,
+    }
+}
+
+/// The words of a text that has one or two.
+pub fn one_or_two(text: &[u8]) -> Option<(&[u8], Option<&[u8]>)>
+    ensures { option_map (λ words. (words.0.now, option_copied words.1)) result ≡ one_or_two (words_of text.now) }
+{
+    let (word, rest) = next_word(text)?;
+    match next_word(rest) {
+        None => Some((word, None)),
+        Some((second, behind)) => match next_word(behind) {
+            None => Some((word, Some(second))),
+            Some(_) => None,
+        },
+    }
 }

@@ -3,6 +3,7 @@ ghost use Rattle.std.specs.Prelude.{◌≡◌, ◌↔◌, IsTrue, IsSome, IfSome
 ghost use Rattle.uu_times.specs.System.{AreWithinLimits, HasRetry};
 
 use crate::Windows;
+use std::alloc::AllocError;
 use std::marker::Model;
 use uu_names::{Grade, SiteName};
 
@@ -27,6 +28,21 @@ pub struct Line {
     pub windows: Windows,
     /// The minutes to wait after a failure, 1 to 525,600.
     pub retry: Option<u32>,
+}
+
+impl Clone for Line {
+    ghost use Rattle.std.specs.Prelude.{◌≡◌};
+
+    ghost is_clone = { λ line copy. copy ≡ line };
+
+    /// The same line, which shares the runs.
+    fn clone(&self) -> Result<Line, AllocError> {
+        Ok(Line {
+            grade: self.grade,
+            windows: self.windows.clone()?,
+            retry: self.retry,
+        })
+    }
 }
 
 /// The time lines of a system in the order of the text, seen as a list.

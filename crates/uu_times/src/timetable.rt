@@ -98,8 +98,8 @@ fn lower(alloc: Global, text: &[u8]) -> Result<Vec<u8>, AllocError>
         .collect(alloc)
 }
 
-// The key of a timetable's name, which has the form of a site's.
-fn key_of(alloc: Global, name: &[u8]) -> Result<SiteName, AllocError>
+/// The key of a timetable's name, which has the form of a site's.
+pub(crate) fn key_of(alloc: Global, name: &[u8]) -> Result<SiteName, AllocError>
     requires { IsTrue (is_table_name name.now) }
     ensures { IfOk result (λ key. key ≡ lower name.now) }
 {
@@ -110,7 +110,7 @@ fn key_of(alloc: Global, name: &[u8]) -> Result<SiteName, AllocError>
     }
 }
 
-// Whether the bytes are the word, whatever their case.
+/// Whether the bytes are the word, whatever their case.
 pub(crate) fn is_word(bytes: &[u8], word: &[u8]) -> bool
     ensures { result ≡ bytes_eq (lower bytes.now) (lower word.now) }
 {
