@@ -1,6 +1,6 @@
 -- What a line of a sys file says (Taylor UUCP 1.07 manual, "The Sys File"; that a timetable is defined here is this project's
 -- choice).
-use Rattle.std.specs.Prelude.{ℕ, zero, ◌+◌, ◌-◌, ◌*◌, Bool, ◌&&◌, nat_le, ◌==◌, if◌then◌else◌, Option, None, Some, option_map, Result, Ok, Err, List, [], ◌∷◌, length, codes, position}
+use Rattle.std.specs.Prelude.{ℕ, zero, ◌+◌, ◌-◌, ◌*◌, Bool, ◌&&◌, nat_le, ◌==◌, if◌then◌else◌, Option, None, Some, option_map, Result, Ok, Err, List, [], ◌∷◌, length, codes, ◌≤◌, ⊤}
 use Rattle.std.specs.List.{list_all}
 use Rattle.std.specs.Char.{is_ascii_digit}
 use Rattle.std.specs.Str.{bytes_eq}
@@ -13,6 +13,7 @@ use Rattle.uu_times.specs.declared.fault.TimeFault.{TimeFault}
 use Rattle.uu_times.specs.declared.fault.TimeFault.TheVariants.{BadNumber, BadSystem, BadWords}
 use Rattle.uu_times.specs.Lines.{one_word, one_or_two, words_of, uncommented}
 use Rattle.uu_times.specs.Scan.{lower}
+use Rattle.uu_times.specs.System.{HasRetry}
 use Rattle.uu_times.specs.Tables.{Tables, is_table_name, time_of}
 
 -- what follows where there was no fault
@@ -112,3 +113,11 @@ said tables line (keyword ∷ arguments) = deed_of tables line keyword arguments
 -- what a joined line says
 abbrev pub line_says : Tables → ℕ → List ℕ → Result (Option Deed) TimeFault
 line_says tables line text = said tables line (words_of (uncommented text))
+
+-- numbers are within their limits
+abbrev pub IsValid : Deed → Type 0
+IsValid (Begin name) = ⊤
+IsValid (Time line) = HasRetry line
+IsValid (Retries number) = number ≤ 1000000
+IsValid (Table name windows) = ⊤
+IsValid (Skip line) = ⊤

@@ -6,6 +6,7 @@ pub mod Lines
 pub mod Listed
 pub mod Moment
 pub mod Ranges
+pub mod Reading
 pub mod Scan
 pub mod Section
 pub mod System

@@ -1,6 +1,7 @@
 // What a line of a sys file says.
-ghost use Rattle.std.specs.Prelude.{◌≡◌, ◌≤◌, ◌∷◌, Ok, Err, IfOk};
-ghost use Rattle.uu_times.specs.Deeds.{value_behind, number_of, retry_of, system_deed, timed, time_deed, grade_of, timegrade_deed, retries_deed, timetable_deed, deed_of, line_says};
+ghost use Rattle.std.specs.Prelude.{◌≡◌, ◌≤◌, ◌∷◌, Ok, Err, IfOk, IfSome};
+ghost use Rattle.uu_times.specs.Deeds.{value_behind, number_of, retry_of, system_deed, timed, time_deed, grade_of, timegrade_deed, retries_deed, timetable_deed, deed_of, line_says, IsValid};
+ghost use Rattle.uu_times.specs.System.{IsRetry};
 ghost use Rattle.uu_times.specs.Fault.{AnswersUnlessMemory};
 ghost use Rattle.uu_times.specs.Lines.{words_of};
 ghost use Rattle.std.specs.Option.{option_copied};
@@ -33,7 +34,8 @@ const LOWEST: u8 = 61;
 // The number of a word, where it is one within the limit.
 fn number_of(limit: u32, text: &[u8]) -> Option<u32>
     requires { limit ≤ 1000000 }
-    ensures { result ≡ number_of limit text.now }
+    ensures value { result ≡ number_of limit text.now }
+    ensures bound { IfSome result (λ number. number ≤ limit) }
 {
     if text.is_empty() || text.len() > 9 {
         return None;
@@ -53,7 +55,8 @@ fn number_of(limit: u32, text: &[u8]) -> Option<u32>
 
 // The retry number of a time line.
 fn retry_of(line: u32, text: Option<&[u8]>) -> Result<Option<u32>, TimeFault>
-    ensures { result ≡ retry_of line (option_copied text.entry) }
+    ensures value { result ≡ retry_of line (option_copied text.entry) }
+    ensures bound { IfOk result (λ retry. IfSome retry IsRetry) }
 {
     match text {
         None => Ok(None),
@@ -66,7 +69,8 @@ fn retry_of(line: u32, text: Option<&[u8]>) -> Result<Option<u32>, TimeFault>
 }
 
 fn system_deed(alloc: Global, line: u32, arguments: &[u8]) -> Result<Deed, TimeFault>
-    ensures { AnswersUnlessMemory result (system_deed line (words_of arguments.now)) }
+    ensures value { AnswersUnlessMemory result (system_deed line (words_of arguments.now)) }
+    ensures valid { IfOk result IsValid }
 {
     let Some(name) = one_word(arguments) else {
         return Err(TimeFault::BadSystem(line));
@@ -87,7 +91,8 @@ fn timed(
     string: &[u8],
     minutes: Option<&[u8]>,
 ) -> Result<Deed, TimeFault>
-    ensures { AnswersUnlessMemory result (timed tables.now line grade (string.now, option_copied minutes.entry)) }
+    ensures value { AnswersUnlessMemory result (timed tables.now line grade (string.now, option_copied minutes.entry)) }
+    ensures valid { IfOk result IsValid }
 {
     let windows = time_of(alloc, tables, line, string)?;
     let retry = retry_of(line, minutes)?;
@@ -104,7 +109,8 @@ fn time_deed(
     line: u32,
     arguments: &[u8],
 ) -> Result<Deed, TimeFault>
-    ensures { AnswersUnlessMemory result (time_deed tables.now line (words_of arguments.now)) }
+    ensures value { AnswersUnlessMemory result (time_deed tables.now line (words_of arguments.now)) }
+    ensures valid { IfOk result IsValid }
 {
     let Some((string, minutes)) = one_or_two(arguments) else {
         return Err(TimeFault::BadWords(line));
@@ -135,7 +141,8 @@ fn timegrade_deed(
     line: u32,
     arguments: &[u8],
 ) -> Result<Deed, TimeFault>
-    ensures { AnswersUnlessMemory result (timegrade_deed tables.now line (words_of arguments.now)) }
+    ensures value { AnswersUnlessMemory result (timegrade_deed tables.now line (words_of arguments.now)) }
+    ensures valid { IfOk result IsValid }
 {
     let Some((grade, rest)) = next_word(arguments) else {
         return Err(TimeFault::BadWords(line));
@@ -150,7 +157,8 @@ fn timegrade_deed(
 }
 
 fn retries_deed(line: u32, arguments: &[u8]) -> Result<Deed, TimeFault>
-    ensures { result ≡ retries_deed line (words_of arguments.now) }
+    ensures value { result ≡ retries_deed line (words_of arguments.now) }
+    ensures valid { IfOk result IsValid }
 {
     let Some(text) = one_word(arguments) else {
         return Err(TimeFault::BadWords(line));
@@ -167,7 +175,8 @@ fn timetable_deed(
     line: u32,
     arguments: &[u8],
 ) -> Result<Deed, TimeFault>
-    ensures { AnswersUnlessMemory result (timetable_deed tables.now line (words_of arguments.now)) }
+    ensures value { AnswersUnlessMemory result (timetable_deed tables.now line (words_of arguments.now)) }
+    ensures valid { IfOk result IsValid }
 {
     let Some((name, rest)) = next_word(arguments) else {
         return Err(TimeFault::BadWords(line));
@@ -192,7 +201,8 @@ fn deed_of(
     keyword: &[u8],
     arguments: &[u8],
 ) -> Result<Deed, TimeFault>
-    ensures { AnswersUnlessMemory result (deed_of tables.now line keyword.now (words_of arguments.now)) }
+    ensures value { AnswersUnlessMemory result (deed_of tables.now line keyword.now (words_of arguments.now)) }
+    ensures valid { IfOk result IsValid }
 {
     if is_word(keyword, b"system") {
         system_deed(alloc, line, arguments)
@@ -216,7 +226,8 @@ pub fn line_says(
     line: u32,
     text: &[u8],
 ) -> Result<Option<Deed>, TimeFault>
-    ensures { AnswersUnlessMemory result (line_says tables.now line text.now) }
+    ensures value { AnswersUnlessMemory result (line_says tables.now line text.now) }
+    ensures valid { IfOk result (λ said. IfSome said IsValid) }
 {
     let clean = uncommented(alloc, text)?;
     match next_word(&clean) {

@@ -9,6 +9,7 @@ mod lines;
 pub mod moment;
 mod scan;
 mod section;
+pub mod sys_file;
 pub mod system;
 pub mod timetable;
 mod union;
@@ -16,6 +17,7 @@ pub mod windows;
 
 pub use fault::TimeFault;
 pub use moment::Moment;
+pub use sys_file::read_sys;
 pub use system::{Line, LineNumbers, Lines, SysFile, SystemDef, Systems};
 pub use timetable::{Timetables, read_time};
 pub use windows::Windows;

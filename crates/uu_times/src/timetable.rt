@@ -1,6 +1,9 @@
 //! Timetables, and the time strings that may name them.
 ghost use Rattle.std.specs.Prelude.{◌≡◌, Ok, Err, IfOk, IfErr, IsTrue, map, OnOk, slice_index};
+ghost use Rattle.std.specs.BTreeMap.{insert_entry};
 ghost use Rattle.std.specs.Char.{to_ascii_lowercase};
+ghost use Rattle.std.specs.Cmp.Lexicographic.{slice_cmp};
+ghost use Rattle.std.specs.Ordering.{nat_cmp};
 ghost use Rattle.std.specs.List.{list_all};
 ghost use Rattle.std.specs.Str.{bytes_eq};
 ghost use Rattle.uu_names.specs.Name.{is_site_name};
@@ -84,7 +87,14 @@ impl Timetables {
         ensures { OnOk result (self.new ≡ with_table self.old name.now windows) }
     {
         let key = key_of(alloc, name)?;
-        self.tables.insert(key, windows)?;
+        self.set(key, windows)
+    }
+
+    /// The same, for a name in lower case.
+    pub(crate) fn set(&mut self, name: SiteName, windows: Windows) -> Result<(), AllocError>
+        ensures { OnOk result (self.new ≡ insert_entry (slice_cmp nat_cmp) self.old name windows) }
+    {
+        self.tables.insert(name, windows)?;
         Ok(())
     }
 }
