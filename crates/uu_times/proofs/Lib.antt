@@ -1,6 +1,7 @@
 pub mod Clock
 pub mod LineLemmas
 pub mod NumberLemmas
+pub mod ReadingLemmas
 pub mod Runs
 pub mod ScanDaily
 pub mod ScanSteps

@@ -9,6 +9,7 @@ pub mod Ranges
 pub mod Reading
 pub mod Scan
 pub mod Section
+pub mod SysFile
 pub mod System
 pub mod Tables
 pub mod Union

@@ -3,8 +3,10 @@ ghost use Rattle.std.specs.Prelude.{◌≡◌, ◌≤◌, [], Ok, Err, OnOk, IfO
 ghost use Rattle.uu_times.specs.Deeds.{IsValid};
 ghost use Rattle.uu_times.specs.System.{HasRetry};
 ghost use Rattle.uu_times.specs.declared.deed.Deed.TheVariants.{Begin, Time, Table};
+ghost use Rattle.std.specs.Str.Lines.{lines};
 ghost use Rattle.uu_times.specs.Fault.{AnswersUnlessMemory};
-ghost use Rattle.uu_times.specs.Reading.{has_seen, with_seen, no_reading, absorbed, line_read, file_of, file_read, Takes};
+ghost use Rattle.uu_times.specs.Lines.{joined};
+ghost use Rattle.uu_times.specs.Reading.{has_seen, with_seen, no_reading, absorbed, line_read, lines_read, file_of, file_read, Takes};
 
 use crate::deed::{Deed, line_says};
 use crate::lines::joined_line;
@@ -165,6 +167,26 @@ impl Reader {
     }
 }
 
+// Reads the lines of a sys file.
+fn read_lines(alloc: Global, text: &[u8]) -> Result<Reader, TimeFault>
+    requires { length text.now ≤ 4194304 }
+    ensures { AnswersUnlessMemory result (lines_read no_reading (joined 1 (lines text.now))) }
+{
+    let mut reader = Reader::new(alloc)?;
+    let mut rest = text;
+    let mut number = 1;
+    while !rest.is_empty() {
+        let first = joined_line(alloc, rest)?;
+        match reader.read_line(alloc, number, &first.line) {
+            Ok(()) => {}
+            Err(fault) => return Err(fault),
+        }
+        rest = first.rest;
+        number += first.count;
+    }
+    Ok(reader)
+}
+
 /// Reads a sys file of at most 4,194,304 bytes.
 ///
 /// The fault is that of the first faulty line, with its number.
@@ -172,14 +194,6 @@ pub fn read_sys(alloc: Global, text: &[u8]) -> Result<SysFile, TimeFault>
     requires { length text.now ≤ 4194304 }
     ensures { AnswersUnlessMemory result (file_read text.now) }
 {
-    let mut reader = Reader::new(alloc)?;
-    let mut rest = text;
-    let mut number = 1;
-    while !rest.is_empty() {
-        let first = joined_line(alloc, rest)?;
-        reader.read_line(alloc, number, &first.line)?;
-        rest = first.rest;
-        number += first.count;
-    }
+    let reader = read_lines(alloc, text)?;
     Ok(reader.into_file(alloc)?)
 }

@@ -6,8 +6,8 @@ use Rattle.uu_times.specs.Deeds.{value_behind, number_of}
 use Rattle.uu_times.proofs.NumberLemmas.{value-grows}
 use Rattle.uu_times.proofs.deed.number_of.Goals as goal
 
-pub returns-then-value-limit : goal.returns-then-value-limit
-returns-then-value-limit c =
+pub returns-then-value-limit-clause-value : goal.returns-then-value-limit-clause-value
+returns-then-value-limit-clause-value c =
     let text = c.args.text.now in
     let i = c.loop-digit.digit-index in
     let value = c.loop-digit.value * 10 + (get_or text i 0 - 48) in
