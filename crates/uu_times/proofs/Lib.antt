@@ -1,4 +1,5 @@
 pub mod Clock
+pub mod FileLemmas
 pub mod LineLemmas
 pub mod NumberLemmas
 pub mod ReadingLemmas

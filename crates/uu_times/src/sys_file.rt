@@ -1,6 +1,7 @@
 //! Sys files.
 ghost use Rattle.std.specs.Prelude.{◌≡◌, ◌≤◌, [], Ok, Err, OnOk, IfOk, IfSome, length, MatchResult};
 ghost use Rattle.uu_times.specs.Deeds.{IsValid};
+ghost use Rattle.uu_times.specs.SysFile.{sys_file_of};
 ghost use Rattle.uu_times.specs.System.{HasRetry};
 ghost use Rattle.uu_times.specs.declared.deed.Deed.TheVariants.{Begin, Time, Table};
 ghost use Rattle.std.specs.Str.Lines.{lines};
@@ -187,13 +188,23 @@ fn read_lines(alloc: Global, text: &[u8]) -> Result<Reader, TimeFault>
     Ok(reader)
 }
 
-/// Reads a sys file of at most 4,194,304 bytes.
-///
-/// The fault is that of the first faulty line, with its number.
-pub fn read_sys(alloc: Global, text: &[u8]) -> Result<SysFile, TimeFault>
+// Reads a sys file line by line.
+fn read_file(alloc: Global, text: &[u8]) -> Result<SysFile, TimeFault>
     requires { length text.now ≤ 4194304 }
     ensures { AnswersUnlessMemory result (file_read text.now) }
 {
     let reader = read_lines(alloc, text)?;
     Ok(reader.into_file(alloc)?)
+}
+
+/// Reads a sys file of at most 4,194,304 bytes: its systems in order, each with the time lines and the number of failures of its
+/// section or else the defaults, and the numbers of the lines that were skipped, since they begin with another keyword.
+///
+/// The fault is that of the first faulty line, with its number (Taylor UUCP 1.07 manual, "The Sys File"; a timetable may be
+/// defined here too). Time and memory grow as the text does, but for the search of names.
+pub fn read_sys(alloc: Global, text: &[u8]) -> Result<SysFile, TimeFault>
+    requires { length text.now ≤ 4194304 }
+    ensures { AnswersUnlessMemory result (sys_file_of text.now) }
+{
+    read_file(alloc, text)
 }
