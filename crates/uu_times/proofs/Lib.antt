@@ -1,5 +1,6 @@
 pub mod Clock
 pub mod FileLemmas
+pub mod GrammarLemmas
 pub mod LineLemmas
 pub mod NumberLemmas
 pub mod ReadingLemmas

@@ -2,6 +2,7 @@
 pub mod Days
 pub mod Deeds
 pub mod Fault
+pub mod Grammar
 pub mod Lines
 pub mod Listed
 pub mod Moment

@@ -48,7 +48,7 @@ impl Clone for Line {
 /// The time lines of a system in the order of the text, seen as a list.
 #[derive(Debug, Drop)]
 pub struct Lines {
-    lines: Vec<Line>,
+    entries: Vec<Line>,
 }
 
 impl Model for Lines {
@@ -57,7 +57,7 @@ impl Model for Lines {
 
     ghost Value = { List Line };
 
-    ghost view = { λ l. l.lines.items };
+    ghost view = { λ l. l.entries.items };
 }
 
 impl Lines {
@@ -65,21 +65,22 @@ impl Lines {
     pub fn new(lines: Vec<Line>) -> Lines
         ensures { result ≡ lines.items }
     {
-        Lines { lines }
+        Lines { entries: lines }
     }
 
     /// The lines in order.
     pub fn as_slice(&self) -> &[Line]
         ensures { result.now ≡ self.now }
     {
-        self.lines.as_slice()
+        self.entries.as_slice()
     }
 
     /// The lines, given back.
     pub fn into_vec(self) -> Vec<Line>
         ensures { result.items ≡ self }
     {
-        self.lines
+        let Lines { entries } = self;
+        entries
     }
 }
 
@@ -186,7 +187,8 @@ impl Systems {
     pub fn into_vec(self) -> Vec<SystemDef>
         ensures { result.items ≡ self }
     {
-        self.systems
+        let Systems { systems } = self;
+        systems
     }
 }
 
@@ -223,7 +225,8 @@ impl LineNumbers {
     pub fn into_vec(self) -> Vec<u32>
         ensures { result.items ≡ self }
     {
-        self.numbers
+        let LineNumbers { numbers } = self;
+        numbers
     }
 }
 
