@@ -1,6 +1,8 @@
 pub mod Clock
 pub mod FileLemmas
 pub mod GrammarLemmas
+pub mod GrammarFronts
+pub mod GrammarReads
 pub mod LineLemmas
 pub mod NumberLemmas
 pub mod ReadingLemmas
