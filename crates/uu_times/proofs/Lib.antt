@@ -1,0 +1,13 @@
+pub mod Clock
+pub mod FileLemmas
+pub mod GrammarLemmas
+pub mod GrammarFronts
+pub mod GrammarReads
+pub mod LineLemmas
+pub mod NumberLemmas
+pub mod ReadingLemmas
+pub mod Runs
+pub mod ScanDaily
+pub mod ScanSteps
+pub mod UnionLemmas
+pub mod WordLemmas

@@ -1,0 +1,8 @@
+-- The value of digits.
+use Rattle.std.proofs.Common.{ℕ, ◌+◌, ◌-◌, ◌*◌, ◌≤◌, List, [], ◌∷◌, arith}
+use Rattle.uu_times.specs.Deeds.{value_behind}
+
+-- more digits don't lessen it
+pub value-grows : (value : ℕ) (digits : List ℕ) → value ≤ value_behind value digits
+value-grows value [] = omega arith
+value-grows value (digit ∷ digits) = omega (arith, value-grows (value * 10 + (digit - 48)) digits)

@@ -1,0 +1,184 @@
+// The sections of a sys file, as they are read.
+ghost use Rattle.std.specs.Prelude.{◌≡◌, ◌≤◌, ◌<◌, ◌++◌, ◌∷◌, [], Some, OnOk, IfOk, length, nat_le, option_map};
+ghost use Rattle.uu_times.specs.Section.{no_part, no_parts, lines_or, number_or, system_of, begin_part, with_line, with_retries, all_systems};
+ghost use Rattle.uu_times.specs.System.{HasRetry};
+
+use crate::system::{DEFAULT_MAX_RETRIES, LINE_LIMIT, Lines};
+use crate::{Line, SystemDef};
+use std::alloc::{AllocError, Global};
+use std::marker::Model;
+use std::mem;
+use uu_names::SiteName;
+
+/// The time lines of a section, and its last number of failures.
+#[derive(Drop)]
+pub struct Section {
+    lines: Vec<Line>,
+    max_retries: Option<u32>,
+}
+
+impl Model for Section {
+    ghost use Rattle.uu_times.specs.Section.{Part, IsWithin};
+
+    ghost Value = { Part };
+
+    ghost view = { λ s. record { lines = s.lines.items; max_retries = s.max_retries } };
+
+    ghost invariant = { λ s. IsWithin s.lines.items s.max_retries };
+}
+
+// Copies of time lines, which share their runs.
+fn copy_lines(alloc: Global, lines: &[Line]) -> Result<Vec<Line>, AllocError>
+    ensures { IfOk result (λ copies. copies.items ≡ lines.now) }
+{
+    let mut copies = Vec::new(alloc);
+    for line in lines {
+        copies.push(line.clone()?)?;
+    }
+    Ok(copies)
+}
+
+impl Section {
+    fn new(alloc: Global) -> Section
+        ensures { result ≡ no_part }
+    {
+        Section {
+            lines: Vec::new(alloc),
+            max_retries: None,
+        }
+    }
+
+    // Whether no further time line may stand in the section.
+    fn is_full(&self) -> bool
+        ensures { result ≡ nat_le 32 (length self.now.lines) }
+    {
+        self.lines.len() >= LINE_LIMIT
+    }
+
+    fn push(&mut self, line: Line) -> Result<(), AllocError>
+        requires room { length self.old.lines < 32 }
+        requires line { HasRetry line }
+        ensures { OnOk result (self.new ≡ record { lines = self.old.lines ++ line ∷ []; max_retries = self.old.max_retries }) }
+    {
+        self.lines.push(line)?;
+        Ok(())
+    }
+
+    fn set_retries(&mut self, number: u32)
+        requires { number ≤ 1000000 }
+        ensures { self.new ≡ record { lines = self.old.lines; max_retries = Some number } }
+    {
+        self.max_retries = Some(number);
+    }
+
+    // The system of the section.
+    fn into_system(
+        self,
+        alloc: Global,
+        name: SiteName,
+        defaults: &Section,
+    ) -> Result<SystemDef, AllocError>
+        ensures { IfOk result (λ system. system ≡ system_of name self defaults.now) }
+    {
+        let Section { lines, max_retries } = self;
+        let lines = if lines.is_empty() {
+            copy_lines(alloc, &defaults.lines)?
+        } else {
+            lines
+        };
+        let max_retries = max_retries
+            .or(defaults.max_retries)
+            .unwrap_or(DEFAULT_MAX_RETRIES);
+        Ok(SystemDef {
+            name,
+            lines: Lines::new(lines),
+            max_retries,
+        })
+    }
+}
+
+/// The sections so far.
+#[derive(Drop)]
+pub struct Sections {
+    done: Vec<SystemDef>,
+    name: Option<SiteName>,
+    section: Section,
+    defaults: Section,
+}
+
+impl Model for Sections {
+    ghost use Rattle.uu_times.specs.Section.{Parts};
+
+    ghost Value = { Parts };
+
+    ghost view = { λ s. record { done = s.done.items; name = s.name; part = s.section; defaults = s.defaults } };
+}
+
+impl Sections {
+    /// No section yet.
+    pub fn new(alloc: Global) -> Sections
+        ensures { result ≡ no_parts }
+    {
+        Sections {
+            done: Vec::new(alloc),
+            name: None,
+            section: Section::new(alloc),
+            defaults: Section::new(alloc),
+        }
+    }
+
+    /// Whether no further time line may stand in the present section.
+    pub fn is_full(&self) -> bool
+        ensures { result ≡ nat_le 32 (length self.now.part.lines) }
+    {
+        self.section.is_full()
+    }
+
+    /// Adds a time line to the present section.
+    pub fn push(&mut self, line: Line) -> Result<(), AllocError>
+        requires room { length self.old.part.lines < 32 }
+        requires line { HasRetry line }
+        ensures { OnOk result (self.new ≡ with_line self.old line) }
+    {
+        self.section.push(line)
+    }
+
+    /// Sets the number of failures of the present section.
+    pub fn set_retries(&mut self, number: u32)
+        requires { number ≤ 1000000 }
+        ensures { self.new ≡ with_retries self.old number }
+    {
+        self.section.set_retries(number);
+    }
+
+    /// Begins the section of a system.
+    pub fn begin(&mut self, alloc: Global, name: SiteName) -> Result<(), AllocError>
+        ensures { OnOk result (self.new ≡ begin_part self.old name) }
+    {
+        let section = mem::replace(&mut self.section, Section::new(alloc));
+        match mem::replace(&mut self.name, Some(name)) {
+            None => self.defaults = section,
+            Some(previous) => {
+                let system = section.into_system(alloc, previous, &self.defaults)?;
+                self.done.push(system)?;
+            }
+        }
+        Ok(())
+    }
+
+    /// The systems of all sections.
+    pub fn into_systems(self, alloc: Global) -> Result<Vec<SystemDef>, AllocError>
+        ensures { IfOk result (λ systems. systems.items ≡ all_systems self.done self.name self.part self.defaults) }
+    {
+        let Sections {
+            mut done,
+            name,
+            section,
+            defaults,
+        } = self;
+        if let Some(name) = name {
+            done.push(section.into_system(alloc, name, &defaults)?)?;
+        }
+        Ok(done)
+    }
+}
