@@ -1,10 +1,11 @@
 -- What the first byte that does not pass says of a text's form.
-use Rattle.std.proofs.Common.{◌≡◌, ℕ, ◌+◌, ◌<◌, ◌≤◌, Bool, true, false, not, cond, ltb, leb, ◌&&◌, List, [], ◌∷◌, length, Some, None, Ok, Err, position, refl, ap, ◌∙◌, inl, inr, ◌⊎◌, arith}
+use Rattle.std.proofs.Common.{◌≡◌, ℕ, ◌+◌, ◌<◌, ◌≤◌, Bool, true, false, not, cond, ltb, leb, ◌&&◌, List, [], ◌∷◌, length, Some, None, Result, Ok, Err, position, refl, ap, sym, ◌∙◌, inl, inr, ◌⊎◌, arith}
+use Rattle.std.specs.Prelude.{is_ok, MatchResult, if◌then◌else◌}
 use Rattle.std.specs.List.{list_all, prefix_len}
 use Rattle.std.proofs.lemmas.Bool.Decides.{nat_tests}
 use Rattle.uu_names.specs.declared.fault.NameFault.{NameFault}
-use Rattle.uu_names.specs.declared.fault.NameFault.TheVariants.{TooLong}
-use Rattle.uu_names.specs.Name.{checked_text}
+use Rattle.uu_names.specs.declared.fault.NameFault.TheVariants.{TooLong, BadName, BadWord}
+use Rattle.uu_names.specs.Name.{has_form, checked_text, is_site_byte, is_word_byte, is_site_name, is_word, site_name_of, word_of}
 
 prefix_len-not_not : (p : ℕ → Bool) (xs : List ℕ) → prefix_len (λ x. not (not (p x))) xs ≡ prefix_len p xs
 prefix_len-not_not p [] = refl
@@ -73,3 +74,24 @@ checked_text-long p limit bad_at text e some long = by-length p limit bad_at tex
 
 pub checked_text-ok : (p : ℕ → Bool) (limit : ℕ) (bad_at : ℕ → NameFault) (text : List ℕ) → None ≡ position (λ x. not (p x)) text → 0 < length text → length text ≤ limit → checked_text p limit bad_at text ≡ Ok text
 checked_text-ok p limit bad_at text e some fits = by-length p limit bad_at text true e some (grind (arith, nat_tests))
+
+-- reading a text as a site name succeeds exactly where it is one
+pub is_ok-site_name_of : (text : List ℕ) → is_ok (site_name_of text) ≡ is_site_name text
+is_ok-site_name_of text = by-form (has_form is_site_byte text) (leb (length text) 63)
+  where
+    by-form : (form fits : Bool) → is_ok (if form then (if fits then Ok text else Err TooLong) else Err (BadName (prefix_len is_site_byte text))) ≡ form && fits
+    by-form true true = refl
+    by-form true false = refl
+    by-form false fits = refl
+
+pub is_ok-word_of : (text : List ℕ) → is_ok (word_of text) ≡ is_word text
+is_ok-word_of text = by-form (has_form is_word_byte text) (leb (length text) 255)
+  where
+    by-form : (form fits : Bool) → is_ok (if form then (if fits then Ok text else Err TooLong) else Err (BadWord (prefix_len is_word_byte text))) ≡ form && fits
+    by-form true true = refl
+    by-form true false = refl
+    by-form false fits = refl
+
+pub name_or_fault : (text : List ℕ) (answer : Result (Unit {0}) NameFault) → MatchResult answer (λ _. site_name_of text ≡ Ok text) (λ fault. site_name_of text ≡ Err fault) → is_ok answer ≡ is_site_name text
+name_or_fault text (Ok u) h = sym (ap is_ok h) ∙ is_ok-site_name_of text
+name_or_fault text (Err fault) h = sym (ap is_ok h) ∙ is_ok-site_name_of text

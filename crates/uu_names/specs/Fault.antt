@@ -17,3 +17,8 @@ fault_code Memory = 7
 abbrev pub AnswersUnlessMemory : {V : Type 0} → Result V NameFault → Result V NameFault → Type 0
 AnswersUnlessMemory (Err Memory) expected = ⊤
 AnswersUnlessMemory answer expected = answer ≡ expected
+
+-- the fact, unless the fault is want of memory
+abbrev pub UnlessMemory : NameFault → Type 0 → Type 0
+UnlessMemory Memory fact = ⊤
+UnlessMemory fault fact = fact

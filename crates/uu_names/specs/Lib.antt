@@ -1,3 +1,6 @@
+pub mod Envelope
 pub mod Fault
 pub mod Grade
 pub mod Name
+pub mod Path
+pub mod ReturnPath

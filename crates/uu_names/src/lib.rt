@@ -2,12 +2,20 @@
 #![tactic(auto)]
 
 mod fault;
+mod from_line;
 mod grade;
+mod leading_lines;
+mod path;
 mod site_name;
+#[cfg(test)]
+mod tests;
 mod text;
 mod word;
 
 pub use fault::NameFault;
+pub use from_line::envelope;
 pub use grade::Grade;
+pub use leading_lines::return_path;
+pub use path::Path;
 pub use site_name::SiteName;
 pub use word::Word;

@@ -29,9 +29,9 @@ impl Model for SiteName {
 }
 
 /// The most bytes of a site name.
-const MAX_LEN: usize = 63;
+pub(crate) const MAX_LEN: usize = 63;
 
-fn is_site_byte(byte: u8) -> bool
+pub(crate) fn is_site_byte(byte: u8) -> bool
     ensures { result ≡ is_site_byte byte }
 {
     byte.is_ascii_alphanumeric() || matches!(byte, b'-' | b'_' | b'.')
@@ -44,7 +44,7 @@ fn first_refused(bytes: &[u8]) -> Option<usize>
 }
 
 // Whether the bytes are a site name, and if not, why.
-pub(crate) fn check(bytes: &[u8]) -> Result<(), NameFault>
+fn check(bytes: &[u8]) -> Result<(), NameFault>
     ensures { MatchResult result (λ _. site_name_of bytes.now ≡ Ok bytes.now)
         (λ fault. site_name_of bytes.now ≡ Err fault) }
 {
@@ -54,6 +54,12 @@ pub(crate) fn check(bytes: &[u8]) -> Result<(), NameFault>
         None if bytes.len() > MAX_LEN => Err(NameFault::TooLong),
         None => Ok(()),
     }
+}
+
+pub(crate) fn is_site_name(bytes: &[u8]) -> bool
+    ensures { result ≡ is_site_name bytes.now }
+{
+    check(bytes).is_ok()
 }
 
 impl SiteName {

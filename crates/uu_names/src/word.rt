@@ -32,7 +32,7 @@ impl Model for Word {
 /// The most bytes of a word.
 const MAX_LEN: usize = 255;
 
-fn is_word_byte(byte: u8) -> bool
+pub(crate) fn is_word_byte(byte: u8) -> bool
     ensures { result ≡ is_word_byte byte }
 {
     byte.is_ascii_graphic()

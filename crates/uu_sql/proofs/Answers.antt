@@ -1,10 +1,9 @@
 -- From the answer of a query over one table to THE sorted list of what the table holds.
-use Rattle.std.proofs.Common.{◌≡◌, ℕ, List, [], ◌∷◌, map, Bool, Ordering, Less, refl, sym, ap, subst, ◌∙◌}
-use Rattle.std.specs.Prelude.{filter, OnOk, IfOk, IfErr, IsTrue, Result, Ok, Err, Vec, ◌⊎◌, false}
+use Rattle.std.proofs.Common.{◌≡◌, ℕ, List, [], ◌∷◌, map, Bool, Ordering, Less, sym, ap, subst, ◌∙◌}
+use Rattle.std.specs.Prelude.{filter, IfOk, IfErr, IsTrue, Result, Ok, Err, Vec, ◌⊎◌, false}
 use Rattle.std.proofs.Common.{inl, inr}
 use Rattle.std.specs.declared.alloc.Global.{Global}
 use Rattle.sqlite.specs.declared.error.Error.{Error}
-use Rattle.sqlite.specs.Clock.{timed}
 use Rattle.std.specs.List.{list_all}
 use Rattle.std.specs.List.Sorted.{IsPermutation}
 use Rattle.std.proofs.lemmas.List.Sorted.{IsPermutation-map, IsPermutation-trans}
@@ -17,7 +16,7 @@ use Rattle.sqlite.specs.Term.{Term, eval_all, holds}
 use Rattle.sqlite.specs.Query.{Query, IsAnswer, Output, output, output_cmp}
 use Rattle.sqlite.specs.Program.{overlay}
 use Rattle.sqlite.specs.Listing.{understood}
-use Rattle.sqlite.specs.State.{State, HasCleanDisk, Shown, IsUnchanged, IsRolledBack, IsNotRun, FailsToQuery, FailsToShow, Survives, CommitsShowing}
+use Rattle.sqlite.specs.State.{State, HasCleanDisk, Shown, IsUnchanged, IsRolledBack, IsNotRun, FailsToQuery, Survives, CommitsShowing}
 use Rattle.sqlite.proofs.StateLemmas.{survives_weaker}
 use Rattle.sqlite.proofs.Callers.{IsPlain, reads_as, never_commits}
 use Rattle.sqlite_sql.proofs.QueryLemmas.{output_cmp_total}
@@ -26,7 +25,7 @@ use Rattle.sqlite_keyed.specs.Lists.{sort_by}
 use Rattle.sqlite_keyed.proofs.ListLemmas.{map-map, ascending-map, ascending_weaker}
 use Rattle.std.specs.Ordering.{is_eq}
 use Rattle.sqlite_keyed.proofs.SortLemmas.{sorted_unique, sorted_is-sort_by, sort_by-map}
-use Rattle.uu_sql.specs.Steps.{Stands, Rests, Ready, Asked, Told}
+use Rattle.uu_sql.specs.Steps.{Stands, Rests, Asked, Told}
 use Rattle.uu_sql.proofs.Asks.{Means, ordered}
 use Rattle.uu_sql.proofs.Rows.{matched}
 

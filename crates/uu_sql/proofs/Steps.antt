@@ -13,7 +13,7 @@ use Rattle.sqlite.specs.Held.{Held, state}
 use Rattle.sqlite.proofs.StateLemmas.{survives_then}
 use Rattle.sqlite.proofs.Callers.{survives_begin}
 use Rattle.sqlite_catalog.specs.Listing.{IsSound}
-use Rattle.uu_sql.specs.Steps.{Stands, Rests, Ready, Asked, Told, Went, Inside, Halted, Outcome, Both, Did, Undid, Ends, Whole}
+use Rattle.uu_sql.specs.Steps.{Stands, Ready, Asked, Told, Went, Inside, Halted, Outcome, Both, Undid, Ends, Whole}
 
 still : (a b c : State) → Survives a b (λ _. ⊥) → Survives b c (λ _. ⊥) → Survives a c (λ _. ⊥)
 still a b c p q = survives_then a b c (λ _. ⊥) (λ _. ⊥) (λ _. ⊥) (λ _ db none. none) (λ _ db none. none) p q
@@ -28,8 +28,8 @@ kept_inside : (sql : List ℕ) (params : Row) (old new : State) (e : Error) → 
 kept_inside sql params old new e (inl ran) is_open = kept_by old new ran.1 is_open
 kept_inside sql params old new e (inr held) is_open = held.2.0.committed_is
 
-module _ (site : Schema) where
-  pub inside_then : {A B : Trees → Trees → Type 0} (a b c : State) → Inside site A a b → Inside site B b c → Inside site (Both A B) a c
+module _ (from mid to : Schema) where
+  pub inside_then : {A B : Trees → Trees → Type 0} (a b c : State) → Inside from mid A a b → Inside mid to B b c → Inside from to (Both A B) a c
   inside_then a b c p q = record {
     goes = λ clean inside stands.
         let one = p.goes (omega (arith, q.survives.clean)) inside stands in
@@ -38,21 +38,22 @@ module _ (site : Schema) where
     survives = still a b c p.survives q.survives;
   }
 
-  pub halted_then : {A : Trees → Trees → Type 0} (a b c : State) → Inside site A a b → Halted site b c → Halted site a c
+  pub halted_then : {A : Trees → Trees → Type 0} (a b c : State) → Inside from mid A a b → Halted mid b c → Halted from a c
   halted_then a b c p q = record {
     kept = λ clean inside stands is_open. let one = p.goes (omega (arith, q.survives.clean)) inside stands in q.kept clean (rw one.inside) one.stands is_open ∙ one.committed;
     survives = still a b c p.survives q.survives;
   }
 
-  pub outcome_then : {T E : Type 0} {A : Trees → Trees → Type 0} (B : Trees → Trees → Type 0) (a b c : State) (r : Result T E) → Inside site A a b → Outcome site B b c r → Outcome site (Both A B) a c r
+  pub outcome_then : {T E : Type 0} {A : Trees → Trees → Type 0} (B : Trees → Trees → Type 0) (a b c : State) (r : Result T E) → Inside from mid A a b → Outcome mid to B b c r → Outcome from to (Both A B) a c r
   outcome_then B a b c (Ok x) p q = inside_then a b c p q
   outcome_then B a b c (Err e) p q = halted_then a b c p q
 
-  pub halted_as : {T E : Type 0} (A : Trees → Trees → Type 0) (a b : State) (r : Result T E) → IsErr r → Halted site a b → Outcome site A a b r
+module _ (from to : Schema) where
+  pub halted_as : {T E : Type 0} (A : Trees → Trees → Type 0) (a b : State) (r : Result T E) → IsErr r → Halted from a b → Outcome from to A a b r
   halted_as A a b (Ok x) fails h = absurd (cc)
   halted_as A a b (Err e) fails h = h
 
-  pub weaker : {A : Trees → Trees → Type 0} (B : Trees → Trees → Type 0) (a b : State) → ((x y : Trees) → A x y → B x y) → Inside site A a b → Inside site B a b
+  pub weaker : {A : Trees → Trees → Type 0} (B : Trees → Trees → Type 0) (a b : State) → ((x y : Trees) → A x y → B x y) → Inside from to A a b → Inside from to B a b
   weaker B a b f p = record {
     goes = λ clean inside stands. let w = p.goes clean inside stands in record { inside = w.inside; committed = w.committed; stands = w.stands; step = f _ _ w.step };
     survives = p.survives;
@@ -60,7 +61,7 @@ module _ (site : Schema) where
 
   pub statement : (Step : Trees → Trees → Type 0) (sql : List ℕ) (params : Row) (old new : State) (r : Result ℕ Error) → Survives old new (λ _. ⊥)
       → (HasCleanDisk new → IsTrue old.in_transaction → ExecutesInside 0 sql params old new r)
-      → ((count : ℕ) → Stands site old.now → Executes sql params old new (Ok count) → Stands site new.now × Step old.now.trees new.now.trees) → Outcome site Step old new r
+      → ((count : ℕ) → Stands from old.now → Executes sql params old new (Ok count) → Stands to new.now × Step old.now.trees new.now.trees) → Outcome from to Step old new r
   statement Step sql params old new (Ok count) survives runs means = record {
     goes = λ clean inside stands. let ran = runs clean inside in let made = means count stands ran.0 in
         record { inside = ran.1.mode; committed = ran.1.committed_is; stands = made.0; step = made.1 };
@@ -70,7 +71,7 @@ module _ (site : Schema) where
 
 -- ---- the whole transaction
 
-module _ (site : Schema) {S : Type 0} (g : Ghosts S) (A : Trees → Trees → Type 0) (old : Held S) (last end : State) (ended : end.in_transaction ≡ false)
+module _ (from to : Schema) {S : Type 0} (g : Ghosts S) (A : Trees → Trees → Type 0) (old : Held S) (last end : State) (ended : end.in_transaction ≡ false)
     (settled : (db : Trees) → IsTrue end.is_open → end.may_leave db → db ≡ end.committed.trees) where
   abbrev pub begun : State
   begun = state g (record old { in_transaction = true })
@@ -80,16 +81,16 @@ module _ (site : Schema) {S : Type 0} (g : Ghosts S) (A : Trees → Trees → Ty
 
   -- a stop leaves the trees after the step, which list and obey the schema
   abbrev pub After : Trees → Type 0
-  After db = Stands site was.now → A was.now.trees db × IsSound site db
+  After db = Stands from was.now → A was.now.trees db × IsSound to db
 
   undid : (HasCleanDisk end → IsTrue end.is_open → (end.now ≡ was.committed) × (end.committed ≡ was.committed)) → HasCleanDisk end → Undid was end
   undid back clean = record { undone = back clean; left = λ is_open db may. settled db is_open may ∙ ap (λ (d : Database). d.trees) (back clean is_open).1 }
 
-  ends_err : {T E : Type 0} (r : Result T E) → IsErr r → Undid was end → Ends site A was end r
+  ends_err : {T E : Type 0} (r : Result T E) → IsErr r → Undid was end → Ends to A was end r
   ends_err (Ok x) fails u = absurd (cc)
   ends_err (Err e) fails u = u
 
-  pub abandoned : {T E : Type 0} (r : Result T E) → IsErr r → Halted site begun last → (HasCleanDisk end → IsRolledBack last end) → Survives last end (λ _. ⊥) → Whole site A was end r
+  pub abandoned : {T E : Type 0} (r : Result T E) → IsErr r → Halted from begun last → (HasCleanDisk end → IsRolledBack last end) → Survives last end (λ _. ⊥) → Whole from to A was end r
   abandoned r fails h back over = record {
     ends = λ clean stands. ends_err r fails (undid (λ clean is_open.
         let b = back clean in
@@ -98,22 +99,22 @@ module _ (site : Schema) {S : Type 0} (g : Ghosts S) (A : Trees → Trees → Ty
     idle = ended;
   }
 
-  pub committed : (r : Result (Unit {0}) Error) → Inside site A begun last → Survives last end (λ db. db ≡ last.now.trees)
+  pub committed : (r : Result (Unit {0}) Error) → Inside from to A begun last → Survives last end (λ db. db ≡ last.now.trees)
       → (HasCleanDisk end → OnOk r (IsTrue last.in_transaction × Shows last end last.now last.now false × KeepsCounts last end × (end.marks ≡ [])))
-      → (HasCleanDisk end → IfErr r (FailsToCommit last end)) → Whole site A was end r
+      → (HasCleanDisk end → IfErr r (FailsToCommit last end)) → Whole from to A was end r
   committed r h over ok err = record {
     ends = λ clean stands. each r (h.goes (omega (arith, over.clean)) refl stands) (ok clean) (err clean) clean;
     survives = survives_then was last end (λ _. ⊥) (λ db. db ≡ last.now.trees) After (λ _ db none. absurd none)
-        (λ clean db is stands. let went = h.goes (omega (arith, over.clean)) refl stands in (subst (A was.now.trees) (sym is) went.step, subst (IsSound site) (sym is) went.stands.sound))
+        (λ clean db is stands. let went = h.goes (omega (arith, over.clean)) refl stands in (subst (A was.now.trees) (sym is) went.step, subst (IsSound to) (sym is) went.stands.sound))
         (survives_begin g old last (λ _. ⊥) h.survives) over;
     idle = ended;
   }
     where
-      each : (r : Result (Unit {0}) Error) → Went site A begun last → OnOk r (IsTrue last.in_transaction × Shows last end last.now last.now false × KeepsCounts last end × (end.marks ≡ []))
-          → IfErr r (FailsToCommit last end) → HasCleanDisk end → Ends site A was end r
+      each : (r : Result (Unit {0}) Error) → Went to A begun last → OnOk r (IsTrue last.in_transaction × Shows last end last.now last.now false × KeepsCounts last end × (end.marks ≡ []))
+          → IfErr r (FailsToCommit last end) → HasCleanDisk end → Ends to A was end r
       each (Ok x) went ok err clean = record {
         rests = record { is_open = ok.1.is_open; idle = ended; settled = ok.1.now_is ∙ sym ok.1.committed_is };
-        stands = subst (Stands site) (sym ok.1.now_is) went.stands;
+        stands = subst (Stands to) (sym ok.1.now_is) went.stands;
         step = subst (λ (d : Database). A was.now.trees d.trees) (sym ok.1.now_is) went.step;
         left = λ db may. settled db ok.1.is_open may ∙ ap (λ (d : Database). d.trees) (ok.1.committed_is ∙ sym ok.1.now_is);
       }

@@ -1,13 +1,12 @@
 -- What each statement of a command makes of the trees.
-use Rattle.std.proofs.Common.{◌≡◌, ℕ, ℤ, pos, List, [], ◌∷◌, Bool, true, false, cond, Ok, refl, sym, ap, subst, ◌∙◌, arith}
+use Rattle.std.proofs.Common.{◌≡◌, ℕ, pos, List, [], ◌∷◌, true, Ok, refl, subst, arith}
 use Rattle.std.specs.Prelude.{not}
 use Rattle.std.proofs.lemmas.Bool.{and_parts}
-use Rattle.sqlite.specs.declared.types.Value.TheVariants.{Null, Int, Text, Blob}
+use Rattle.sqlite.specs.declared.types.Value.TheVariants.{Null, Int, Text}
 use Rattle.sqlite.specs.Order.{Row}
 use Rattle.sqlite.specs.Source.TheVariants.{Values}
 use Rattle.sqlite.specs.Command.TheVariants.{Insert, Update}
-use Rattle.sqlite.specs.Tree.{Trees, put_row}
-use Rattle.sqlite.specs.Edit.{Edit, edit_of, is_taken, taken_by, Applies, next_rowid}
+use Rattle.sqlite.specs.Edit.{Edit, edit_of, is_taken, Applies, next_rowid}
 use Rattle.sqlite.specs.Rowids.TheVariants.{Given}
 use Rattle.sqlite_schema.specs.declared.program.Program.{Program}
 use Rattle.sqlite_rules.specs.Action.{Writes as WritesTrees}
@@ -25,7 +24,7 @@ use Rattle.uu_sql.proofs.Rows.{cast_int, cast_null, not_false, over_rows}
 use Rattle.uu_sql.proofs.Writes.{insert_ran, insert_applies, inserted, update_ran, update_writes}
 use Rattle.uu_sql.specs.Layout.{over}
 use Rattle.uu_store.specs.Schema.{site, spool, systems, jobs, insert_system, insert_job, update_next}
-use Rattle.uu_store.specs.Rows.{JobRow, job_row, job_cells, spool_row, system_cells, JobAdded, SystemAdded, NextIs, NextSet}
+use Rattle.uu_store.specs.Rows.{JobRow, job_row, job_cells, spool_row, JobAdded, SystemAdded, NextSet}
 use Rattle.uu_store.proofs.Texts.{insert_system_is, insert_system_plain, system_terms, insert_job_is, insert_job_plain, job_terms, update_next_is, update_next_plain, next_terms}
 
 pub job_added : (old new : State) (j : JobRow) (count : ℕ) → Stands site old.now → Executes insert_job (job_cells j) old new (Ok count) → Stands site new.now × JobAdded j old.now.trees new.now.trees

@@ -1,27 +1,25 @@
 -- What the answers of questions say of the state.
-use Rattle.std.proofs.Common.{◌≡◌, ℕ, pos, List, [], ◌∷◌, Bool, true, false, not, ◌||◌, nat_eq, length, map, filter, find, slice_get, Option, Some, None, refl, sym, ap, ap₂, subst, ◌∙◌, arith, Less, int_cmp, nat_cmp, ◌<◌, Ordering, Equal, Greater}
-use Rattle.std.specs.List.{list_any, list_all, AllByRecursion}
+use Rattle.std.proofs.Common.{◌≡◌, ℕ, pos, List, [], ◌∷◌, Bool, true, false, not, ◌||◌, nat_eq, length, map, filter, refl, sym, ap, ap₂, subst, ◌∙◌, arith, Less, int_cmp, nat_cmp, ◌<◌, Ordering, Equal, Greater}
+use Rattle.std.specs.List.{list_any, list_all}
 use Rattle.std.specs.Str.{bytes_eq}
 use Rattle.std.specs.Ordering.{is_eq, ordering_then, int_eq, MatchOrdering}
 use Rattle.std.specs.Prelude.{◌<ℤ◌, ◌==◌}
 use Rattle.std.specs.Cmp.{ranked, nat_cmp_is, int_cmp_is, unsigned_tied}
 use Rattle.std.specs.List.Sorted.{IsPermutation}
 use Rattle.std.proofs.lemmas.Int.{ints}
-use Rattle.std.proofs.lemmas.Bool.Decides.{nat_tests}
 use Rattle.std.proofs.lemmas.List.{length-map}
 use Rattle.std.proofs.lemmas.List.Sorted.{length_permutation, IsPermutation-map}
 use Rattle.std.proofs.lemmas.Map.Text.{is_eq-slice_cmp}
 use Rattle.sqlite.specs.declared.types.Value.TheVariants.{Null, Int, Text}
-use Rattle.sqlite.specs.Order.{Row, column}
-use Rattle.sqlite.specs.Tree.{Trees, IsAscending}
-use Rattle.sqlite.specs.Term.{Term, col, eval_all, holds}
+use Rattle.sqlite.specs.Order.{Row}
+use Rattle.sqlite.specs.Tree.{IsAscending}
+use Rattle.sqlite.specs.Term.{col, eval_all, holds}
 use Rattle.sqlite.specs.Query.{Query, Output, output, output_cmp}
-use Rattle.sqlite.specs.Program.{overlay}
 use Rattle.sqlite.specs.State as db
 use Rattle.sqlite_sql.specs.declared.ops.CompareOp.TheVariants.{Eq}
 use Rattle.sqlite.proofs.Callers.{one_permutation}
 use Rattle.sqlite_keyed.specs.Lists.{sort_by}
-use Rattle.sqlite_keyed.proofs.ListLemmas.{map-map, filter-map, filter_same, IsPermutation-filter, none_counted, ascending_weaker, ascending-filter, ascending-map, slice_get-filter}
+use Rattle.sqlite_keyed.proofs.ListLemmas.{map-map, filter-map, filter_same, IsPermutation-filter, none_counted, ascending_weaker, ascending-filter, ascending-map}
 use Rattle.sqlite_typed.proofs.TestLemmas.{at_ints, at_texts, last_term, then_key, last_key}
 use Rattle.sqlite_value.proofs.OrderLemmas.{value_cmp-Int}
 use Rattle.uu_sql.specs.Layout.{where_is}
@@ -31,7 +29,7 @@ use Rattle.uu_sql.proofs.Answers.{answer_of, answer_moved, answer_only, answer_s
 use Rattle.uu_store.specs.Schema.{site, ask_next, ask_system, ask_jobs, ask_job}
 use Rattle.uu_store.specs.Rows.{job_row, spool_row, system_cells}
 use Rattle.uu_store.specs.Machine.{Job, State, is_known, by_rank, has_number}
-use Rattle.uu_store.specs.Encoded.{stored, Holds, Encodes, head_cells, job_cells}
+use Rattle.uu_store.specs.Encoded.{stored, Encodes, head_cells, job_cells}
 use Rattle.uu_store.proofs.Texts.{is_first, next_means, system_means, jobs_means, head_terms, job_means, whole_terms}
 
 -- ---- the next number

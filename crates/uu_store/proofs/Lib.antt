@@ -1,8 +1,10 @@
 pub mod Texts
 pub mod Added
+pub mod Made
 pub mod States
 pub mod Answered
 pub mod Obeying
 pub mod Turning
 pub mod Shown
 pub mod Ending
+pub mod Begun

@@ -1,6 +1,6 @@
 -- How a command ends.
-use Rattle.std.proofs.Common.{◌≡◌, ◌≢◌, ◌⊎◌, inl, inr, ◌+◌, ◌≤◌, ◌<◌, ℕ, Bool, true, false, not, nat_lt, ◌==◌, cond, Option, Some, None, Result, Ok, Err, unwrap_or, option_map, refl, sym, ap, subst, ◌∙◌, arith}
-use Rattle.std.specs.Prelude.{IsTrue, IsOk, IsErr, IfOk, OnErr, vec_len, is_ok}
+use Rattle.std.proofs.Common.{◌≡◌, ◌≢◌, ◌⊎◌, inl, inr, ◌+◌, ℕ, Bool, true, false, not, nat_lt, ◌==◌, cond, Option, Some, None, Result, Ok, Err, unwrap_or, option_map, refl, sym, ap, subst, ◌∙◌, arith}
+use Rattle.std.specs.Prelude.{IsTrue, IsOk, IsErr, vec_len, is_ok}
 use Rattle.std.specs.Result.{is_err}
 use Rattle.std.proofs.lemmas.Bool.Decides.{nat_tests}
 use Rattle.sqlite.specs.Tree.{Trees}
@@ -8,7 +8,7 @@ use Rattle.sqlite.specs.Effect.{Database}
 use Rattle.sqlite.specs.State as db
 use Rattle.sqlite.specs.declared.error.Error.{Error}
 use Rattle.sqlite_catalog.specs.Listing.{IsSound}
-use Rattle.uu_sql.specs.Steps.{Stands, Rests, Ready, Asked, Told, Both, Whole, Did, Ends}
+use Rattle.uu_sql.specs.Steps.{Rests, Ready, Asked, Told, Both, Whole, Did, Ends}
 use Rattle.uu_sql.proofs.Steps.{told_same}
 use Rattle.uu_store.specs.declared.command.Command.{Command}
 use Rattle.uu_store.specs.declared.command.Command.TheVariants.{Define, Queue}
@@ -52,7 +52,7 @@ module _ (s : State) (command : Command) (a b : db.State) where
     clean = told.asked.survives.clean;
   }
 
-  module _ (c : db.State) {T E : Type 0} (q : Result T E) (ok : IsOk q) (told : Told site a b q) (Step : Trees → Trees → Type 0) {U F : Type 0} (w : Result U F) (whole : Whole site Step b c w)
+  module _ (c : db.State) {T E : Type 0} (q : Result T E) (ok : IsOk q) (told : Told site a b q) (Step : Trees → Trees → Type 0) {U F : Type 0} (w : Result U F) (whole : Whole site site Step b c w)
       (means : db.HasCleanDisk b → Rests a → Encodes a.now s → (next : Trees) → Step a.now.trees next → Holds next (after s command)) where
     between : db.HasCleanDisk c → db.HasCleanDisk b
     between clean = omega (arith, whole.survives.clean)

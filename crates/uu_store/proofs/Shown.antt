@@ -1,10 +1,9 @@
 -- From rows to what is shown of them.
-use Rattle.std.proofs.Common.{◌≡◌, ℕ, ℤ, pos, negsuc, zero, suc, Bool, true, false, cond, List, [], ◌∷◌, ◌++◌, map, filter, find, slice_get, Option, Some, None, option_map, Vec, refl, sym, ap, subst, ◌∙◌}
-use Rattle.std.specs.Prelude.{◌==◌}
+use Rattle.std.proofs.Common.{◌≡◌, ℕ, pos, zero, suc, List, [], ◌∷◌, ◌++◌, map, filter, slice_get, Option, Some, None, option_map, Vec, refl, sym, ap, ◌∙◌}
 use Rattle.std.specs.declared.alloc.Global.{Global}
 use Rattle.std.proofs.lemmas.Option.{slice_get-map}
 use Rattle.sqlite.specs.declared.types.Value.{Value}
-use Rattle.sqlite.specs.declared.types.Value.TheVariants.{Null, Int, Real, Text, Blob}
+use Rattle.sqlite.specs.declared.types.Value.TheVariants.{Int, Text, Blob}
 use Rattle.sqlite.specs.Order.{Row, column}
 use Rattle.sqlite_keyed.specs.Lists.{sort_by}
 use Rattle.sqlite_keyed.proofs.ListLemmas.{map-map, map_back, slice_get-filter}
@@ -12,7 +11,7 @@ use Rattle.uu_store.specs.declared.job.JobHead.{JobHead}
 use Rattle.uu_store.specs.declared.job.Kind.{Kind}
 use Rattle.uu_store.specs.declared.job.Kind.TheVariants.{Send, Request}
 use Rattle.uu_store.specs.Machine.{Job, State, listed_heads, job_at, by_rank, has_number}
-use Rattle.uu_store.specs.Encoded.{head_cells, job_cells, cells_at, job_shown, kind_number}
+use Rattle.uu_store.specs.Encoded.{head_cells, job_cells, cells_at, job_shown}
 
 -- ---- cells back to heads
 

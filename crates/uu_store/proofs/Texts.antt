@@ -2,18 +2,16 @@
 use Rattle.std.proofs.Common.{◌≡◌, ◌∷◌, [], refl, List, ℕ, pos, codes, Ok}
 use Rattle.sqlite.specs.declared.types.Value.TheVariants.{Null, Int}
 use Rattle.sqlite.specs.Term.{Term, lit, col}
-use Rattle.sqlite.specs.Query.{Query}
 use Rattle.sqlite.specs.Source.TheVariants.{Values}
 use Rattle.sqlite.specs.Command.TheVariants.{Insert, Update, CreateTable}
 use Rattle.sqlite.specs.Compile.{table_defined_by}
 use Rattle.sqlite.specs.Change.{created}
 use Rattle.sqlite_tied.specs.Compute.{everything}
 use Rattle.sqlite.specs.Listing.{understood}
-use Rattle.sqlite.specs.Schema.{Schema}
 use Rattle.sqlite.proofs.Callers.{IsPlain, command_of, statement_of}
 use Rattle.uu_sql.specs.Layout.{over, where_is, equal_terms}
 use Rattle.uu_sql.proofs.Asks.{Means, ordered, up}
-use Rattle.uu_store.specs.Schema.{site, no_schema, spool, systems, jobs, create_spool, create_systems, create_jobs, insert_spool, insert_system, insert_job, update_next, ask_version, ask_next, ask_system, ask_jobs, ask_job}
+use Rattle.uu_store.specs.Schema.{site, no_schema, with_spool, with_systems, spool, systems, jobs, create_spool, create_systems, create_jobs, insert_spool, insert_system, insert_job, update_next, ask_version, ask_next, ask_system, ask_jobs, ask_job}
 
 -- ---- writes
 
@@ -86,3 +84,49 @@ whole_names = codes "number" ∷ codes "system" ∷ codes "rank" ∷ codes "user
 pub job_means : Means site ask_job (ordered 3 (where_is 0 0 ∷ []) whole_terms (up (col 1 0) ∷ [])) whole_names
 unfolding understood everything
 job_means = record { command = refl; plain = (refl, refl); listing = refl }
+
+-- ---- the tables
+
+pub create_spool_is : (command_of (understood no_schema create_spool) ≡ CreateTable) × (statement_of create_spool (understood no_schema create_spool) ≡ create_spool) × (table_defined_by create_spool ≡ Ok spool)
+unfolding understood everything
+create_spool_is = (refl, refl, refl)
+
+pub create_spool_plain : IsPlain (understood no_schema create_spool)
+unfolding understood everything
+create_spool_plain = (refl, refl)
+
+pub create_systems_is : (command_of (understood with_spool create_systems) ≡ CreateTable) × (statement_of create_systems (understood with_spool create_systems) ≡ create_systems) × (table_defined_by create_systems ≡ Ok (record systems { tree = 0 }))
+unfolding understood everything
+create_systems_is = (refl, refl, refl)
+
+pub create_systems_plain : IsPlain (understood with_spool create_systems)
+unfolding understood everything
+create_systems_plain = (refl, refl)
+
+pub create_jobs_is : (command_of (understood with_systems create_jobs) ≡ CreateTable) × (statement_of create_jobs (understood with_systems create_jobs) ≡ create_jobs) × (table_defined_by create_jobs ≡ Ok (record jobs { tree = 0 }))
+unfolding understood everything
+create_jobs_is = (refl, refl, refl)
+
+pub create_jobs_plain : IsPlain (understood with_systems create_jobs)
+unfolding understood everything
+create_jobs_plain = (refl, refl)
+
+pub created_spool : created no_schema spool ≡ with_spool
+created_spool = refl
+
+pub created_systems : created with_spool (record systems { tree = 0 }) ≡ with_systems
+created_systems = refl
+
+pub created_jobs : created with_systems (record jobs { tree = 0 }) ≡ site
+created_jobs = refl
+
+abbrev pub spool_terms : List Term
+spool_terms = lit (Int (pos 1)) ∷ lit Null ∷ lit (Int (pos 0)) ∷ lit (Int (pos 1)) ∷ []
+
+pub insert_spool_is : command_of (understood site insert_spool) ≡ Insert 0 (Values spool_terms 4)
+unfolding understood everything
+insert_spool_is = refl
+
+pub insert_spool_plain : IsPlain (understood site insert_spool)
+unfolding understood everything
+insert_spool_plain = (refl, refl)

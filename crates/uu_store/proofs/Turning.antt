@@ -1,10 +1,9 @@
 -- How a call over a connection ends, with the fault that the caller is told.
-use Rattle.std.proofs.Common.{◌≡◌, ◌⊎◌, inl, inr, ◌≤◌, Result, Ok, Err, refl, sym, ap, subst, ◌∙◌, arith}
-use Rattle.std.specs.Prelude.{IsTrue, IsOk, IsErr, IfOk, OnErr}
-use Rattle.sqlite.specs.Tree.{Trees}
+use Rattle.std.proofs.Common.{◌≡◌, inl, inr, Result, Ok, Err, sym, ◌∙◌, arith}
+use Rattle.std.specs.Prelude.{IsTrue, IsOk, IfOk}
 use Rattle.sqlite.specs.State as db
 use Rattle.sqlite.specs.declared.error.Error.{Error}
-use Rattle.uu_sql.specs.Steps.{Stands, Rests, Ready, Asked, Told}
+use Rattle.uu_sql.specs.Steps.{Rests, Asked, Told}
 use Rattle.uu_sql.proofs.Steps.{told_same}
 use Rattle.uu_store.specs.declared.command.Command.{Command}
 use Rattle.uu_store.specs.declared.command.Reply.{Reply}

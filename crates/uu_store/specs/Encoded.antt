@@ -1,5 +1,5 @@
 -- What a database encodes, and what a spool shows.
-use Rattle.std.specs.Prelude.{◌≡◌, ◌⊎◌, ◌≤◌, ℕ, pos, List, [], ◌∷◌, ◌++◌, map, IsTrue, Result, Err, IfOk, OnErr, ⊤, Vec}
+use Rattle.std.specs.Prelude.{◌≡◌, ◌⊎◌, ◌≤◌, ℕ, pos, List, [], ◌∷◌, ◌++◌, map, IsTrue, Result, Err, IfOk, OnOk, OnErr, ⊤, Vec}
 use Rattle.std.specs.declared.alloc.Global.{Global}
 use Rattle.std.specs.List.Sorted.{IsPermutation}
 use Rattle.sqlite.specs.declared.types.Value.TheVariants.{Int, Text, Blob}
@@ -18,9 +18,9 @@ use Rattle.uu_store.specs.declared.fault.StoreFault.TheVariants.{Memory, Store, 
 use Rattle.uu_store.specs.declared.job.JobHead.{JobHead}
 use Rattle.uu_store.specs.declared.job.Kind.{Kind}
 use Rattle.uu_store.specs.declared.job.Kind.TheVariants.{Send, Request}
-use Rattle.uu_store.specs.Schema.{site}
+use Rattle.uu_store.specs.Schema.{site, no_schema}
 use Rattle.uu_store.specs.Rows.{JobRow, job_row, spool_row, system_cells}
-use Rattle.uu_store.specs.Machine.{Job, State, IsWellFormed, after, reply_of}
+use Rattle.uu_store.specs.Machine.{Job, State, empty, IsWellFormed, after, reply_of}
 
 -- ---- a job as a row
 
@@ -121,3 +121,9 @@ pub record Replies {T : Type 0} (IsAnswer : State → T → Type 0) (old new : d
   pub ok : db.HasCleanDisk new → (s : State) → Rests old → Encodes old.now s → IfOk r (λ answer. IsAnswer s answer × Rests new × Encodes new.now s)
   pub memory : db.HasCleanDisk new → (s : State) → Rests old → Encodes old.now s → r ≡ Err Memory → Rests new × Encodes new.now s
   pub stop : db.HasCleanDisk new → (s : State) → Rests old → Encodes old.now s → (trees : Trees) → new.may_leave trees → old.may_leave trees
+
+-- The tables are made, or nothing is: an empty spool is there, and a stop may leave that or what it could leave before.
+pub record Begins (old new : db.State) (r : Result (Unit {0}) StoreFault) : Type 0 where
+  pub ok : db.HasCleanDisk new → Rests old → Stands no_schema old.now → OnOk r (Rests new × Encodes new.now empty)
+  pub memory : db.HasCleanDisk new → Rests old → Stands no_schema old.now → r ≡ Err Memory → Rests new × (new.now ≡ old.now)
+  pub stop : db.HasCleanDisk new → Rests old → Stands no_schema old.now → (trees : Trees) → new.may_leave trees → old.may_leave trees ⊎ (IsSound site trees × Holds trees empty)

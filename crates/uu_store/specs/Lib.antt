@@ -3,4 +3,5 @@ pub mod Rows
 pub mod Codes
 pub mod Machine
 pub mod Encoded
+pub mod Tables
 pub mod Spool

@@ -1,9 +1,10 @@
 -- The rows of the spool's tables.
-use Rattle.std.specs.Prelude.{◌≡◌, ℕ, pos, List, [], ◌∷◌, length, false}
+use Rattle.std.specs.Prelude.{◌≡◌, ℕ, pos, List, [], ◌∷◌, false}
 use Rattle.sqlite.specs.declared.types.Value.TheVariants.{Null, Int, Text, Blob}
 use Rattle.sqlite.specs.Order.{Row, column}
 use Rattle.sqlite.specs.Tree.{Trees, put_row}
 use Rattle.sqlite.specs.Edit.{is_taken}
+use Rattle.uu_sql.specs.Steps.{Both}
 
 -- a job as its table holds it
 pub record JobRow : Type 0 where
@@ -60,3 +61,25 @@ pub record NextIs (version next : ℕ) (old new : Trees) : Type 0 where
 
 abbrev pub NextSet : ℕ → Trees → Trees → Type 0
 NextSet next old new = (version was : ℕ) → old 0 ≡ spool_row version was ∷ [] → NextIs version next old new
+
+-- the tables that were there keep their rows, and the new one has none
+pub record SpoolMade (old new : Trees) : Type 0 where
+  pub none : new 0 ≡ []
+
+pub record SystemsMade (old new : Trees) : Type 0 where
+  pub none : new 1 ≡ []
+  pub spool : new 0 ≡ old 0
+
+pub record JobsMade (old new : Trees) : Type 0 where
+  pub none : new 3 ≡ []
+  pub spool : new 0 ≡ old 0
+  pub systems : new 1 ≡ old 1
+
+-- the one row of `spool` is there, and nothing else differs
+pub record SpoolBegun (old new : Trees) : Type 0 where
+  pub spool : old 0 ≡ [] → new 0 ≡ spool_row 0 1 ∷ []
+  pub systems : new 1 ≡ old 1
+  pub jobs : new 3 ≡ old 3
+
+abbrev pub TablesMade : Trees → Trees → Type 0
+TablesMade = Both SpoolMade (Both SystemsMade (Both JobsMade SpoolBegun))

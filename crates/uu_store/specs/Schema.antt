@@ -23,6 +23,14 @@ jobs = by_number (codes "jobs") 3
 abbrev pub no_schema : Schema
 no_schema = record { tables = []; indexes = []; views = [] }
 
+-- on the way from no tables to all of them
+abbrev pub with_spool : Schema
+with_spool = record { tables = spool ∷ []; indexes = []; views = [] }
+
+abbrev pub with_systems : Schema
+with_systems = record { tables = spool ∷ systems ∷ []; indexes = automatic systems 0 (1 ∷ []) 2 ∷ []; views = [] }
+
+-- the whole
 abbrev pub site : Schema
 site = record { tables = spool ∷ systems ∷ jobs ∷ []; indexes = automatic systems 0 (1 ∷ []) 2 ∷ []; views = [] }
 

@@ -1,11 +1,17 @@
 // Taking a database as a spool.
-ghost use Rattle.std.specs.Prelude.{◌≡◌, false};
+ghost use Rattle.std.specs.Prelude.{◌≡◌, ◌≢◌, false, IfErr, [], ◌∷◌, pos, ⊤};
+ghost use Rattle.sqlite.specs.declared.types.Value.TheVariants.{Int};
+ghost use Rattle.sqlite.specs.Held.{state};
+ghost use Rattle.sqlite.specs.State.{HasCleanDisk};
+ghost use Rattle.uu_sql.specs.Steps.{Rests};
+ghost use Rattle.uu_store.specs.Encoded.{Encodes, Begins, Replies};
 
 use crate::fault::{StoreFault, store_fault};
 use crate::spool::Spool;
 use crate::statements::{ask_version, create};
 use crate::tables::{Found, found_in};
-use sqlite::{Alter, Connection, Error};
+use sqlite::{Alter, Connection, Error, Row};
+use uu_sql::is_memory;
 
 /// Why a database was not taken, and the connection to it, with no transaction open.
 #[derive(Drop)]
@@ -18,46 +24,86 @@ pub struct AdoptFault<S: Alter> {
 /// The version of the tables that this program makes and reads.
 const VERSION: i64 = 0;
 
-// Whether the version is ours. A later one is told before anything else is looked at.
-fn check_version<S: Alter>(conn: &mut Connection<S>, whole: bool) -> Result<(), StoreFault>
-    requires { conn.old.in_transaction ≡ false }
-    ensures idle { conn.new.in_transaction ≡ false }
+// Whether the rows of the question on the version show ours. A later one is told by its name.
+fn judge_version(rows: &[Row]) -> Result<(), StoreFault>
+    ensures { rows.now ≡ (Int (pos 0) ∷ []) ∷ [] → IfErr result (λ fault. fault ≡ StoreFault.Memory) }
 {
-    let rows = match ask_version(conn) {
-        Ok(rows) => rows,
-        Err(error) => return Err(store_fault(conn, &error)),
+    let Some(row) = rows.first() else {
+        return Err(StoreFault::Foreign);
     };
-    let version: Result<i64, Error> = match rows.as_slice().first() {
-        Some(row) => row.get(0),
-        None => return Err(StoreFault::Foreign),
-    };
+    let version: Result<i64, Error> = row.get(0);
     match version {
         Ok(version) if version > VERSION => Err(StoreFault::Newer),
-        Ok(version) if version == VERSION && whole => Ok(()),
+        Ok(version) if version == VERSION => Ok(()),
+        Err(error) if is_memory(&error) => Err(StoreFault::Memory),
         _ => Err(StoreFault::Foreign),
+    }
+}
+
+// Whether the version is ours.
+fn check_version<S: Alter>(conn: &mut Connection<S>) -> Result<(), StoreFault>
+    requires { conn.old.in_transaction ≡ false }
+    ensures idle { conn.new.in_transaction ≡ false }
+    ensures replies { Replies (λ s _. ⊤) (state S.Store conn.old) (state S.Store conn.new) result }
+    ensures taken { HasCleanDisk (state S.Store conn.new) → (s : _) → Encodes (state S.Store conn.old).now s → IfErr result (λ fault. (fault ≢ StoreFault.Foreign) × (fault ≢ StoreFault.Newer)) }
+{
+    match ask_version(conn) {
+        Ok(rows) => judge_version(&rows),
+        Err(error) => Err(store_fault(conn, &error)),
+    }
+}
+
+// An empty spool in a database that has none of its tables.
+fn begin<S: Alter>(conn: &mut Connection<S>) -> Result<(), StoreFault>
+    requires { conn.old.in_transaction ≡ false }
+    ensures idle { conn.new.in_transaction ≡ false }
+    ensures begins { Begins (state S.Store conn.old) (state S.Store conn.new) result }
+{
+    match create(conn) {
+        Ok(()) => Ok(()),
+        Err(error) => Err(store_fault(conn, &error)),
     }
 }
 
 fn prepare<S: Alter>(conn: &mut Connection<S>) -> Result<(), StoreFault>
     requires { conn.old.in_transaction ≡ false }
     ensures idle { conn.new.in_transaction ≡ false }
+    ensures replies { Replies (λ s _. ⊤) (state S.Store conn.old) (state S.Store conn.new) result }
+    ensures taken { HasCleanDisk (state S.Store conn.new) → (s : _) → Encodes (state S.Store conn.old).now s → IfErr result (λ fault. (fault ≢ StoreFault.Foreign) × (fault ≢ StoreFault.Newer)) }
+    ensures begins { Begins (state S.Store conn.old) (state S.Store conn.new) result }
 {
     match found_in(conn.schema()) {
-        Found::Nothing => match create(conn) {
-            Ok(()) => Ok(()),
-            Err(error) => Err(store_fault(conn, &error)),
+        Found::Nothing => begin(conn),
+        Found::Spool { whole: true } => check_version(conn),
+        Found::Spool { whole: false } => match check_version(conn) {
+            Ok(()) => Err(StoreFault::Foreign),
+            Err(fault) => Err(fault),
         },
-        Found::Spool { whole } => check_version(conn, whole),
         Found::Other => Err(StoreFault::Foreign),
     }
 }
 
 impl<S: Alter> Spool<S> {
+    ghost use Rattle.std.specs.Prelude.{IfOk, Err};
+    ghost use Rattle.uu_sql.specs.Steps.{Stands};
+    ghost use Rattle.uu_store.specs.Schema.{no_schema};
+    ghost use Rattle.uu_store.specs.Machine.{empty};
+    ghost use Rattle.uu_store.specs.Encoded.{Leaves, LeavesEither};
+    ghost use Rattle.uu_store.specs.Spool.{disk, Shows};
+
     /// Takes the database as a spool: one without the spool's tables gets them, in one transaction.
-    /// Otherwise the tables and their columns have to be there, by name, under this program's version.
-    /// Where it is refused, the connection is handed back.
+    /// Otherwise the tables and their columns have to be there, by name, under this program's version: a later version is
+    /// `Newer`, which is asked before the rest, and anything else under one of the names is `Foreign`.
+    /// Where it is refused, the connection is handed back with no transaction open.
     pub fn adopt(conn: Connection<S>) -> Result<Spool<S>, AdoptFault<S>>
         requires { conn.in_transaction ≡ false }
+
+        // A database that encodes a state is taken as it is.
+        ensures kept { IfOk result (λ spool. HasCleanDisk (disk spool) → (s : _) → Rests (state S.Store conn) → Encodes (state S.Store conn).now s → Shows spool s) }
+        ensures taken { IfErr result (λ e. HasCleanDisk (state S.Store e.conn) → (s : _) → Encodes (state S.Store conn).now s → (e.fault ≢ StoreFault.Foreign) × (e.fault ≢ StoreFault.Newer)) }
+
+        // An empty one becomes an empty spool.
+        ensures begun { IfOk result (λ spool. HasCleanDisk (disk spool) → Rests (state S.Store conn) → Stands no_schema (state S.Store conn).now → Shows spool empty) }
     {
         let mut conn = conn;
         match prepare(&mut conn) {

@@ -4,8 +4,8 @@ ghost use Rattle.sqlite.specs.Held.{state};
 ghost use Rattle.sqlite.specs.State.{HasCleanDisk, Shown};
 ghost use Rattle.sqlite.specs.declared.types.Value.TheVariants.{Int, Text};
 ghost use Rattle.uu_sql.specs.Steps.{Outcome, Both, Whole, Told};
-ghost use Rattle.uu_store.specs.Schema.{site, ask_version, ask_next, ask_system, ask_jobs, ask_job};
-ghost use Rattle.uu_store.specs.Rows.{JobAdded, SystemAdded, NextSet};
+ghost use Rattle.uu_store.specs.Schema.{site, no_schema, with_spool, with_systems, ask_version, ask_next, ask_system, ask_jobs, ask_job};
+ghost use Rattle.uu_store.specs.Rows.{JobAdded, SystemAdded, NextSet, SpoolMade, SystemsMade, JobsMade, SpoolBegun, TablesMade};
 ghost use Rattle.uu_store.specs.Machine.{job_of};
 ghost use Rattle.uu_store.specs.Encoded.{stored};
 
@@ -17,7 +17,7 @@ use sqlite::{Alter, Connection, Error, Row, Transaction, params};
 
 fn insert_system<S: Alter>(tx: &mut Transaction<'_, S>, name: &str) -> Result<usize, Error>
     ensures same_reference { tx.new.conn.ghost_name ≡ tx.old.conn.ghost_name }
-    ensures outcome { Outcome site (SystemAdded name.now) (state S.Store tx.old.conn.now) (state S.Store tx.new.conn.now) result }
+    ensures outcome { Outcome site site (SystemAdded name.now) (state S.Store tx.old.conn.now) (state S.Store tx.new.conn.now) result }
 {
     tx.execute("INSERT INTO systems (name) VALUES (?1)", params![name])
 }
@@ -29,7 +29,7 @@ fn insert_job<S: Alter>(
 ) -> Result<usize, Error>
     requires { vec_len job.now.bytes < 2 ^ 32 }
     ensures same_reference { tx.new.conn.ghost_name ≡ tx.old.conn.ghost_name }
-    ensures outcome { Outcome site (JobAdded (stored (job_of number job.now))) (state S.Store tx.old.conn.now) (state S.Store tx.new.conn.now) result }
+    ensures outcome { Outcome site site (JobAdded (stored (job_of number job.now))) (state S.Store tx.old.conn.now) (state S.Store tx.new.conn.now) result }
 {
     tx.execute(
         "INSERT INTO jobs (number, system, rank, user, kind, queued, first_word, second_word, size, bytes) VALUES (?1, ?2, ?3, ?4, ?5, ?6, ?7, ?8, ?9, ?10)",
@@ -50,7 +50,7 @@ fn insert_job<S: Alter>(
 
 fn update_next<S: Alter>(tx: &mut Transaction<'_, S>, next: u32) -> Result<usize, Error>
     ensures same_reference { tx.new.conn.ghost_name ≡ tx.old.conn.ghost_name }
-    ensures outcome { Outcome site (NextSet next) (state S.Store tx.old.conn.now) (state S.Store tx.new.conn.now) result }
+    ensures outcome { Outcome site site (NextSet next) (state S.Store tx.old.conn.now) (state S.Store tx.new.conn.now) result }
 {
     tx.execute("UPDATE spool SET next = ?1", params![next])
 }
@@ -63,7 +63,7 @@ fn insert_job_and_next<S: Alter>(
     requires size { vec_len job.now.bytes < 2 ^ 32 }
     requires number { number < 2 ^ 32 - 1 }
     ensures same_reference { tx.new.conn.ghost_name ≡ tx.old.conn.ghost_name }
-    ensures outcome { Outcome site (Both (JobAdded (stored (job_of number job.now))) (NextSet (number + 1))) (state S.Store tx.old.conn.now) (state S.Store tx.new.conn.now) result }
+    ensures outcome { Outcome site site (Both (JobAdded (stored (job_of number job.now))) (NextSet (number + 1))) (state S.Store tx.old.conn.now) (state S.Store tx.new.conn.now) result }
 {
     insert_job(tx, number, job)?;
     update_next(tx, number + 1)
@@ -73,7 +73,7 @@ fn insert_job_and_next<S: Alter>(
 pub(crate) fn add_system<S: Alter>(conn: &mut Connection<S>, name: &str) -> Result<(), Error>
     requires { conn.old.in_transaction ≡ false }
     ensures idle { conn.new.in_transaction ≡ false }
-    ensures whole { Whole site (SystemAdded name.now) (state S.Store conn.old) (state S.Store conn.new) result }
+    ensures whole { Whole site site (SystemAdded name.now) (state S.Store conn.old) (state S.Store conn.new) result }
 {
     let mut tx = conn.transaction();
     insert_system(&mut tx, name)?;
@@ -90,7 +90,7 @@ pub(crate) fn add_job<S: Alter>(
     requires number { number < 2 ^ 32 - 1 }
     requires idle { conn.old.in_transaction ≡ false }
     ensures idle { conn.new.in_transaction ≡ false }
-    ensures whole { Whole site (Both (JobAdded (stored (job_of number job.now))) (NextSet (number + 1))) (state S.Store conn.old) (state S.Store conn.new) result }
+    ensures whole { Whole site site (Both (JobAdded (stored (job_of number job.now))) (NextSet (number + 1))) (state S.Store conn.old) (state S.Store conn.new) result }
 {
     let mut tx = conn.transaction();
     insert_job_and_next(&mut tx, number, job)?;
@@ -154,6 +154,7 @@ pub(crate) fn ask_job<S: Alter>(conn: &mut Connection<S>, number: u32) -> Result
 
 fn create_spool<S: Alter>(tx: &mut Transaction<'_, S>) -> Result<usize, Error>
     ensures same_reference { tx.new.conn.ghost_name ≡ tx.old.conn.ghost_name }
+    ensures outcome { Outcome no_schema with_spool (SpoolMade) (state S.Store tx.old.conn.now) (state S.Store tx.new.conn.now) result }
 {
     tx.execute(
         "CREATE TABLE spool (id INTEGER PRIMARY KEY, version INTEGER NOT NULL, next INTEGER NOT NULL) STRICT",
@@ -163,6 +164,7 @@ fn create_spool<S: Alter>(tx: &mut Transaction<'_, S>) -> Result<usize, Error>
 
 fn create_systems<S: Alter>(tx: &mut Transaction<'_, S>) -> Result<usize, Error>
     ensures same_reference { tx.new.conn.ghost_name ≡ tx.old.conn.ghost_name }
+    ensures outcome { Outcome with_spool with_systems (SystemsMade) (state S.Store tx.old.conn.now) (state S.Store tx.new.conn.now) result }
 {
     tx.execute(
         "CREATE TABLE systems (name TEXT NOT NULL PRIMARY KEY) STRICT",
@@ -172,6 +174,7 @@ fn create_systems<S: Alter>(tx: &mut Transaction<'_, S>) -> Result<usize, Error>
 
 fn create_jobs<S: Alter>(tx: &mut Transaction<'_, S>) -> Result<usize, Error>
     ensures same_reference { tx.new.conn.ghost_name ≡ tx.old.conn.ghost_name }
+    ensures outcome { Outcome with_systems site (JobsMade) (state S.Store tx.old.conn.now) (state S.Store tx.new.conn.now) result }
 {
     tx.execute(
         "CREATE TABLE jobs (number INTEGER PRIMARY KEY, system TEXT NOT NULL REFERENCES systems (name), rank INTEGER NOT NULL, user TEXT NOT NULL, kind INTEGER NOT NULL, queued INTEGER NOT NULL, first_word TEXT NOT NULL, second_word TEXT NOT NULL, size INTEGER NOT NULL, bytes BLOB NOT NULL) STRICT",
@@ -181,6 +184,7 @@ fn create_jobs<S: Alter>(tx: &mut Transaction<'_, S>) -> Result<usize, Error>
 
 fn insert_spool<S: Alter>(tx: &mut Transaction<'_, S>) -> Result<usize, Error>
     ensures same_reference { tx.new.conn.ghost_name ≡ tx.old.conn.ghost_name }
+    ensures outcome { Outcome site site (SpoolBegun) (state S.Store tx.old.conn.now) (state S.Store tx.new.conn.now) result }
 {
     tx.execute(
         "INSERT INTO spool (id, version, next) VALUES (1, 0, 1)",
@@ -188,19 +192,36 @@ fn insert_spool<S: Alter>(tx: &mut Transaction<'_, S>) -> Result<usize, Error>
     )
 }
 
-fn create_tables<S: Alter>(tx: &mut Transaction<'_, S>) -> Result<usize, Error>
+// The last table, and the row of `spool`.
+fn create_from_jobs<S: Alter>(tx: &mut Transaction<'_, S>) -> Result<usize, Error>
     ensures same_reference { tx.new.conn.ghost_name ≡ tx.old.conn.ghost_name }
+    ensures outcome { Outcome with_systems site (Both JobsMade SpoolBegun) (state S.Store tx.old.conn.now) (state S.Store tx.new.conn.now) result }
 {
-    create_spool(tx)?;
-    create_systems(tx)?;
     create_jobs(tx)?;
     insert_spool(tx)
+}
+
+fn create_from_systems<S: Alter>(tx: &mut Transaction<'_, S>) -> Result<usize, Error>
+    ensures same_reference { tx.new.conn.ghost_name ≡ tx.old.conn.ghost_name }
+    ensures outcome { Outcome with_spool site (Both SystemsMade (Both JobsMade SpoolBegun)) (state S.Store tx.old.conn.now) (state S.Store tx.new.conn.now) result }
+{
+    create_systems(tx)?;
+    create_from_jobs(tx)
+}
+
+fn create_tables<S: Alter>(tx: &mut Transaction<'_, S>) -> Result<usize, Error>
+    ensures same_reference { tx.new.conn.ghost_name ≡ tx.old.conn.ghost_name }
+    ensures outcome { Outcome no_schema site (TablesMade) (state S.Store tx.old.conn.now) (state S.Store tx.new.conn.now) result }
+{
+    create_spool(tx)?;
+    create_from_systems(tx)
 }
 
 /// The tables of an empty spool in one transaction.
 pub(crate) fn create<S: Alter>(conn: &mut Connection<S>) -> Result<(), Error>
     requires { conn.old.in_transaction ≡ false }
     ensures idle { conn.new.in_transaction ≡ false }
+    ensures whole { Whole no_schema site TablesMade (state S.Store conn.old) (state S.Store conn.new) result }
 {
     let mut tx = conn.transaction();
     create_tables(&mut tx)?;

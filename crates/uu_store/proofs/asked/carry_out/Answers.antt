@@ -1,6 +1,4 @@
-use Rattle.std.proofs.Common.{◌≡◌, subst, Ok, Err}
 use Rattle.sqlite.specs.Held.{state}
-use Rattle.uu_store.specs.Encoded.{Obeys}
 use Rattle.uu_store.proofs.Turning.{turns_ok, turns_err}
 use Rattle.uu_store.proofs.asked.carry_out.Goals as goal
 

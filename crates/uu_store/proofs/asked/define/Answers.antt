@@ -1,13 +1,11 @@
 use Rattle.std.proofs.Common.{◌≡◌, refl, false, ◌∙◌, ap}
 use Rattle.sqlite.specs.State.{HasCleanDisk}
 use Rattle.sqlite.specs.Held.{state}
-use Rattle.sqlite.specs.Tree.{Trees}
-use Rattle.uu_sql.specs.Steps.{Rests}
 use Rattle.uu_store.specs.declared.command.Command.TheVariants.{Define}
 use Rattle.uu_store.specs.declared.command.Reply.TheVariants.{Done}
 use Rattle.uu_store.specs.Rows.{SystemAdded}
-use Rattle.uu_store.specs.Machine.{State, is_known, after}
-use Rattle.uu_store.specs.Encoded.{Encodes, Holds}
+use Rattle.uu_store.specs.Machine.{is_known}
+use Rattle.uu_store.specs.Encoded.{Encodes}
 use Rattle.uu_store.proofs.States.{holds_system}
 use Rattle.uu_store.proofs.Obeying.{obeys_wrote, obeys_unwritten, answered, failed, unknown, defined}
 use Rattle.uu_store.proofs.asked.define.Goals as goal

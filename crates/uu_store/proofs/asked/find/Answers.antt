@@ -1,4 +1,4 @@
-use Rattle.std.proofs.Common.{◌≡◌, ◌∙◌, sym, ap, option_map}
+use Rattle.std.proofs.Common.{◌≡◌, option_map}
 use Rattle.sqlite.specs.Held.{state}
 use Rattle.uu_store.specs.Machine.{job_at}
 use Rattle.uu_store.specs.Encoded.{job_shown}

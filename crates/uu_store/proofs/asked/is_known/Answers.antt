@@ -1,4 +1,4 @@
-use Rattle.std.proofs.Common.{◌≡◌, refl, ap, ◌∙◌, sym, ℕ, Bool, true, false, nat_eq}
+use Rattle.std.proofs.Common.{◌≡◌, refl, ap, ◌∙◌, Bool, true, false, nat_eq}
 use Rattle.std.specs.Prelude.{not}
 use Rattle.sqlite.specs.Held.{state}
 use Rattle.uu_store.proofs.Answered.{system_rows}

@@ -1,7 +1,6 @@
-use Rattle.std.proofs.Common.{◌≡◌, ◌∙◌, sym, ap}
+use Rattle.std.proofs.Common.{◌≡◌}
 use Rattle.sqlite.specs.Held.{state}
 use Rattle.uu_store.specs.Machine.{listed_heads}
-use Rattle.uu_store.specs.Encoded.{cells_at}
 use Rattle.uu_store.proofs.Obeying.{answered}
 use Rattle.uu_store.proofs.Answered.{jobs_rows}
 use Rattle.uu_store.proofs.Turning.{replies_ok}

@@ -1,4 +1,4 @@
-use Rattle.std.proofs.Common.{◌≡◌, refl, ◌∙◌, ap, sym, ◌+◌}
+use Rattle.std.proofs.Common.{◌≡◌, ◌∙◌, ap, sym, ◌+◌}
 use Rattle.sqlite.specs.State.{HasCleanDisk}
 use Rattle.sqlite.specs.Held.{state}
 use Rattle.uu_sql.specs.Steps.{Rests, Both}
@@ -7,7 +7,7 @@ use Rattle.uu_store.specs.declared.command.Command.TheVariants.{Queue}
 use Rattle.uu_store.specs.declared.command.Reply.TheVariants.{Number, Refused}
 use Rattle.uu_store.specs.Schema.{site}
 use Rattle.uu_store.specs.Rows.{JobAdded, NextSet}
-use Rattle.uu_store.specs.Machine.{State, is_known, job_of}
+use Rattle.uu_store.specs.Machine.{is_known, job_of}
 use Rattle.uu_store.specs.Encoded.{stored, Encodes}
 use Rattle.uu_store.proofs.Obeying.{obeys_wrote, obeys_unwritten, obeys_same, answered, failed, both_told, queued_holds, queued_reply, refused_same}
 use Rattle.uu_store.proofs.asked.queue.Goals as goal

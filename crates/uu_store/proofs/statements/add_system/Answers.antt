@@ -13,8 +13,8 @@ returns g c =
     let Step = SystemAdded c.args.name.now in
     record {
       idle = subst (λ h. (state g.S.Store h).in_transaction ≡ false) same c.commit.ensures.ended;
-      whole = subst (λ h. Whole site Step (state g.S.Store c.args.conn.now) (state g.S.Store h) c.commit.result) same
-          (committed site g.S.Store Step c.args.conn.now (state g.S.Store c.insert_system.new.tx.conn.now) (state g.S.Store end) c.commit.ensures.ended (g.met.S.Store.settled end.store) c.commit.result
+      whole = subst (λ h. Whole site site Step (state g.S.Store c.args.conn.now) (state g.S.Store h) c.commit.result) same
+          (committed site site g.S.Store Step c.args.conn.now (state g.S.Store c.insert_system.new.tx.conn.now) (state g.S.Store end) c.commit.ensures.ended (g.met.S.Store.settled end.store) c.commit.result
           (rw c.transaction-tx.ensures.begun at c.in_ok-insert_system.ensures.outcome) c.commit.ensures.survives c.commit.ensures.ok c.commit.ensures.err);
     }
 
@@ -25,7 +25,7 @@ returns-in_err-insert_system g c =
     let Step = SystemAdded c.args.name.now in
     record {
       idle = subst (λ h. (state g.S.Store h).in_transaction ≡ false) same c.drop-tx.ensures.ended;
-      whole = subst (λ h. Whole site Step (state g.S.Store c.args.conn.now) (state g.S.Store h) c.from_residual.result) same
-          (abandoned site g.S.Store Step c.args.conn.now (state g.S.Store c.insert_system.new.tx.conn.now) (state g.S.Store end) c.drop-tx.ensures.ended (g.met.S.Store.settled end.store) c.from_residual.result c.from_residual.ensures.0
+      whole = subst (λ h. Whole site site Step (state g.S.Store c.args.conn.now) (state g.S.Store h) c.from_residual.result) same
+          (abandoned site site g.S.Store Step c.args.conn.now (state g.S.Store c.insert_system.new.tx.conn.now) (state g.S.Store end) c.drop-tx.ensures.ended (g.met.S.Store.settled end.store) c.from_residual.result c.from_residual.ensures.0
           (rw c.transaction-tx.ensures.begun at c.in_err-insert_system.ensures.outcome) c.drop-tx.ensures.undone c.drop-tx.ensures.survives);
     }

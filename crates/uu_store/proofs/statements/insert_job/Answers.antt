@@ -12,7 +12,7 @@ returns-clause-outcome g c =
     let old = state g.S.Store c.args.tx.now.conn.now in
     let new = state g.S.Store c.execute.new.self.conn.now in
     let row = stored (job_of c.args.number c.args.job.now) in
-    statement site (JobAdded row) insert_job _ old new c.execute.result c.execute.ensures.survives c.execute.ensures.runs
+    statement site site (JobAdded row) insert_job _ old new c.execute.result c.execute.ensures.survives c.execute.ensures.runs
     (λ count stands ran. job_added old new row count stands (rw (
       c.params-to_sql.ensures,
       c.params-to_sql-2.ensures,

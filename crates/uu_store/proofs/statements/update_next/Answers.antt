@@ -9,5 +9,5 @@ pub returns-clause-outcome : goal.returns-clause-outcome
 returns-clause-outcome g c =
     let old = state g.S.Store c.args.tx.now.conn.now in
     let new = state g.S.Store c.execute.new.self.conn.now in
-    statement site (NextSet c.args.next) update_next _ old new c.execute.result c.execute.ensures.survives c.execute.ensures.runs
+    statement site site (NextSet c.args.next) update_next _ old new c.execute.result c.execute.ensures.survives c.execute.ensures.runs
     (λ count stands ran. next_set old new c.args.next count stands (rw (c.params-to_sql.ensures) at ran))

@@ -1,7 +1,6 @@
 use Rattle.std.proofs.Common.{◌≡◌, Result, Err, ap, sym, subst, ◌∙◌}
 use Rattle.sqlite.specs.Held.{state}
 use Rattle.uu_store.specs.declared.fault.StoreFault.{StoreFault}
-use Rattle.uu_store.specs.declared.fault.StoreFault.TheVariants.{Memory}
 use Rattle.uu_store.specs.Machine.{after}
 use Rattle.uu_store.specs.Encoded.{Leaves, LeavesEither}
 use Rattle.uu_store.proofs.Ending.{leaves, leaves_either, noted_memory, shows_again, clean_before}

@@ -1,0 +1,149 @@
+-- What is heard of an entry's statements is the one entry of the text.
+use Rattle.std.proofs.Common.{◌≡◌, ℕ, ◌≤◌, false, cond, ◌⊎◌, List, [], ◌∷◌, ◌++◌, length, map, Option, Some, None, Result, Ok, Err, refl, sym, ap, ◌∙◌, subst, inl, inr, find, nat_lt, arith}
+use Rattle.std.specs.declared.cmp.Ordering.TheVariants.{Less, Equal, Greater}
+use Rattle.std.specs.Ordering.{ordering_reverse}
+use Rattle.std.specs.Cmp.{IsTotalOrder}
+use Rattle.std.specs.List.{AllZip, AllByRecursion, flat_map}
+use Rattle.std.specs.List.Sorted.{IsStrictlySortedBy}
+use Rattle.std.specs.Str.Lines.{lines}
+use Rattle.std.proofs.lemmas.Bool.Decides.{nat_tests}
+use Rattle.std.proofs.lemmas.Cmp.{nat_list_cmp_total, then_total, on_total, tied_itself}
+use Rattle.uu_map.specs.declared.entry.Link.{Link}
+use Rattle.uu_map.specs.declared.entry.Entry.{Entry}
+use Rattle.uu_map.specs.declared.fault.MapFault.{MapFault}
+use Rattle.uu_map.specs.declared.fault.MapFault.TheVariants.{TooLarge}
+use Rattle.uu_map.specs.Statement.{Meaning}
+use Rattle.uu_map.specs.StatementReading.{statement_of}
+use Rattle.uu_map.specs.Text.{Numbered, is_name_line, host_by, host_of, statements_of}
+use Rattle.uu_map.specs.Listing.{listing_cmp, IsListing}
+use Rattle.uu_map.specs.Entry.{IsHeard, aliases_in, links_in, skipped_lines, IsEntry}
+use Rattle.uu_map.specs.Heard.{of_one, heard, Says}
+use Rattle.uu_map.proofs.LeastCosts.{cost_total, In, in_from_contains, contains_from_in}
+use Rattle.uu_map.proofs.StatementTexts.{statement_is, statement_is_read}
+
+-- ---- each statement
+
+abbrev meanings : List ℕ → List Numbered → List (Option Meaning)
+meanings host ss = map (λ s. statement_of host s.text) ss
+
+heard_one : (host : List ℕ) (s : Numbered) (o : Option Meaning) → statement_of host s.text ≡ o → IsHeard host s o
+heard_one host s (Some m) e = statement_is host s.text m e
+heard_one host s None e = λ m is. let impossible : None ≡ Some m = sym e ∙ statement_is_read host s.text m is in cc
+
+each_heard : (host : List ℕ) (ss : List Numbered) → AllZip (IsHeard host) ss (meanings host ss)
+each_heard host [] = tt
+each_heard host (s ∷ ss) = (heard_one host s (statement_of host s.text) refl, each_heard host ss)
+
+heard_as : (host : List ℕ) (s : Numbered) (o : Option Meaning) → IsHeard host s o → o ≡ statement_of host s.text
+heard_as host s (Some m) is = sym (statement_is_read host s.text m is)
+heard_as host s None nothing = go (statement_of host s.text) refl
+  where
+    go : (o : Option Meaning) → statement_of host s.text ≡ o → None ≡ o
+    go None e = refl
+    go (Some m) e = absurd (nothing m (statement_is host s.text m e))
+
+heard_once : (host : List ℕ) (ss : List Numbered) (os : List (Option Meaning)) → AllZip (IsHeard host) ss os → os ≡ meanings host ss
+heard_once host [] [] h = refl
+heard_once host [] (o ∷ os) h = absurd h
+heard_once host (s ∷ ss) [] h = absurd h
+heard_once host (s ∷ ss) (o ∷ os) h = ap (λ p. p ∷ os) (heard_as host s o h.0) ∙ ap (λ ps. statement_of host s.text ∷ ps) (heard_once host ss os h.1)
+
+-- ---- all statements
+
+aliases_of_one : (line : ℕ) (o : Option Meaning) → (of_one line o).aliases ≡ aliases_in o
+aliases_of_one line None = refl
+aliases_of_one line (Some m) = refl
+
+links_of_one : (line : ℕ) (o : Option Meaning) → (of_one line o).links ≡ links_in o
+links_of_one line None = refl
+links_of_one line (Some m) = refl
+
+heard-aliases : (host : List ℕ) (ss : List Numbered) → (heard host ss).aliases ≡ flat_map aliases_in (meanings host ss)
+heard-aliases host [] = refl
+heard-aliases host (s ∷ ss) = ap (λ a. a ++ (heard host ss).aliases) (aliases_of_one s.line (statement_of host s.text)) ∙ ap (λ r. aliases_in (statement_of host s.text) ++ r) (heard-aliases host ss)
+
+heard-links : (host : List ℕ) (ss : List Numbered) → (heard host ss).links ≡ flat_map links_in (meanings host ss)
+heard-links host [] = refl
+heard-links host (s ∷ ss) = ap (λ a. a ++ (heard host ss).links) (links_of_one s.line (statement_of host s.text)) ∙ ap (λ r. links_in (statement_of host s.text) ++ r) (heard-links host ss)
+
+skipped_more : (s : Numbered) (ss : List Numbered) (o : Option Meaning) (os : List (Option Meaning)) (rest : List ℕ) → rest ≡ skipped_lines ss os → (of_one s.line o).skipped ++ rest ≡ skipped_lines (s ∷ ss) (o ∷ os)
+skipped_more s ss None os rest e = ap (λ r. s.line ∷ r) e
+skipped_more s ss (Some m) os rest e = e
+
+heard-skipped : (host : List ℕ) (ss : List Numbered) → (heard host ss).skipped ≡ skipped_lines ss (meanings host ss)
+heard-skipped host [] = refl
+heard-skipped host (s ∷ ss) = skipped_more s ss (statement_of host s.text) (meanings host ss) (heard host ss).skipped (heard-skipped host ss)
+
+small_host : (text : List ℕ) → length text ≤ 65536 → host_of text ≡ host_by (find is_name_line (lines text))
+small_host text small = let fits : nat_lt 65536 (length text) ≡ false = grind (arith, nat_tests) in ap (λ b. cond b (Err TooLarge) (host_by (find is_name_line (lines text)))) fits
+
+-- what was heard of the host that a text names is the entry of the text
+pub entry_is : (text host : List ℕ) (entry : Entry) → length text ≤ 65536 → Ok host ≡ host_by (find is_name_line (lines text)) → Says (heard host (statements_of text)) host entry → IsEntry text entry
+entry_is text host entry small eh says = record {
+  heard = meanings host (statements_of text);
+  host = small_host text small ∙ (sym eh ∙ ap Ok (sym says.host_is));
+  each = subst (λ (h : List ℕ). AllZip (IsHeard h) (statements_of text) (meanings host (statements_of text))) (sym says.host_is) (each_heard host (statements_of text));
+  aliases = says.aliases ∙ heard-aliases host (statements_of text);
+  links = subst (λ (ls : List Link). IsListing ls entry.links) (heard-links host (statements_of text)) says.links;
+  skipped = says.skipped ∙ heard-skipped host (statements_of text);
+}
+
+-- ---- one listing
+
+listing_total : IsTotalOrder listing_cmp
+listing_total = then_total (on_total (λ (l : Link). l.cost) cost_total) (on_total (λ (l : Link). l.to) nat_list_cmp_total)
+
+not_both : (x y : Link) → listing_cmp x y ≡ Less → listing_cmp y x ≡ Less → ⊥
+not_both x y p q = let turned : Less ≡ Greater = sym p ∙ (listing_total.antisymm x y ∙ ap ordering_reverse q) in cc
+
+not_below_itself : (x : Link) → listing_cmp x x ≡ Less → ⊥
+not_below_itself x p = let tied : Equal ≡ Less = sym (tied_itself listing_total x) ∙ p in cc
+
+below_all : (x : Link) (ys : List Link) (l : Link) → AllByRecursion (λ y. listing_cmp x y ≡ Less) ys → In ys l → listing_cmp x l ≡ Less
+below_all x [] l h i = absurd i
+below_all x (y ∷ ys) l h (inl e) = subst (λ (w : Link). listing_cmp x w ≡ Less) e h.0
+below_all x (y ∷ ys) l h (inr i) = below_all x ys l h.1 i
+
+tail_in : (x y l : Link) (xs ys : List Link) → x ≡ y → AllByRecursion (λ z. listing_cmp x z ≡ Less) xs → ((m : Link) → In (x ∷ xs) m → In (y ∷ ys) m) → In xs l → In ys l
+tail_in x y l xs ys e below into i = go (into l (inr i))
+  where
+    go : (y ≡ l) ⊎ In ys l → In ys l
+    go (inl f) = absurd (not_below_itself x (subst (λ (w : Link). listing_cmp x w ≡ Less) (sym (e ∙ f)) (below_all x xs l below i)))
+    go (inr j) = j
+
+heads_same : (x y : Link) (xs ys : List Link) → AllByRecursion (λ z. listing_cmp x z ≡ Less) xs → AllByRecursion (λ z. listing_cmp y z ≡ Less) ys → (y ≡ x) ⊎ In ys x → (x ≡ y) ⊎ In xs y → x ≡ y
+heads_same x y xs ys bx by (inl e) j = sym e
+heads_same x y xs ys bx by (inr i) (inl f) = f
+heads_same x y xs ys bx by (inr i) (inr j) = absurd (not_both x y (below_all x xs y bx j) (below_all y ys x by i))
+
+same_members : (xs ys : List Link) → IsStrictlySortedBy listing_cmp xs → IsStrictlySortedBy listing_cmp ys → ((l : Link) → In xs l → In ys l) → ((l : Link) → In ys l → In xs l) → xs ≡ ys
+unfolding IsStrictlySortedBy
+same_members [] [] sx sy into back = refl
+same_members [] (y ∷ ys) sx sy into back = absurd (back y (inl refl))
+same_members (x ∷ xs) [] sx sy into back = absurd (into x (inl refl))
+same_members (x ∷ xs) (y ∷ ys) sx sy into back =
+    let e : x ≡ y = heads_same x y xs ys sx.0 sy.0 (into x (inl refl)) (back y (inl refl)) in
+    ap (λ z. z ∷ xs) e ∙ ap (λ zs. y ∷ zs) (same_members xs ys sx.1 sy.1 (λ l i. tail_in x y l xs ys e sx.0 into i) (λ l i. tail_in y x l ys xs (sym e) sy.0 back i))
+
+one_listing : (links a b : List Link) → IsListing links a → IsListing links b → a ≡ b
+one_listing links a b la lb =
+    same_members a b la.in_order lb.in_order
+    (λ l i. let (k, h, e) = (lb.least l).1 ((la.least l).0 (contains_from_in a l i)) in in_from_contains b l k h e)
+    (λ l i. let (k, h, e) = (la.least l).1 ((lb.least l).0 (contains_from_in b l i)) in in_from_contains a l k h e)
+
+ok_same : (x y : List ℕ) → (let r : Result (List ℕ) MapFault = Ok x in r) ≡ Ok y → x ≡ y
+ok_same x y e = cc
+
+-- a text has one entry
+pub one_entry : (text : List ℕ) (a b : Entry) → IsEntry text a → IsEntry text b → a ≡ b
+one_entry text a b ea eb =
+    let hosts : a.host ≡ b.host = ok_same a.host b.host (sym ea.host ∙ eb.host) in
+    let ss : List Numbered = statements_of text in
+    let same : ea.heard ≡ eb.heard = heard_once a.host ss ea.heard ea.each ∙ (ap (λ h. meanings h ss) hosts ∙ sym (heard_once b.host ss eb.heard eb.each)) in
+    let aliases : a.aliases ≡ b.aliases = ea.aliases ∙ (ap (flat_map aliases_in) same ∙ sym eb.aliases) in
+    let skipped : a.skipped ≡ b.skipped = ea.skipped ∙ (ap (skipped_lines ss) same ∙ sym eb.skipped) in
+    let links : a.links ≡ b.links = one_listing (flat_map links_in eb.heard) a.links b.links (subst (λ (os : List (Option Meaning)). IsListing (flat_map links_in os) a.links) same ea.links) eb.links in
+    ap (λ (h : List ℕ). let e : Entry = record { host = h; aliases = a.aliases; links = a.links; skipped = a.skipped } in e) hosts
+    ∙ (ap (λ (x : List (List ℕ)). let e : Entry = record { host = b.host; aliases = x; links = a.links; skipped = a.skipped } in e) aliases
+    ∙ (ap (λ (x : List Link). let e : Entry = record { host = b.host; aliases = b.aliases; links = x; skipped = a.skipped } in e) links
+    ∙ ap (λ (x : List ℕ). let e : Entry = record { host = b.host; aliases = b.aliases; links = b.links; skipped = x } in e) skipped))

@@ -1,0 +1,11 @@
+pub mod Accepted
+pub mod EntryTexts
+pub mod Expressions
+pub mod LeastCosts
+pub mod Lines
+pub mod LinkTexts
+pub mod Parts
+pub mod Ranks
+pub mod Splits
+pub mod StatementTexts
+pub mod Tokens

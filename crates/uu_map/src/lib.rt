@@ -1,0 +1,22 @@
+//! Entries of UUCP maps: neighbours, links and their costs.
+#![tactic(auto)]
+
+mod entry;
+mod expression;
+mod fault;
+mod least;
+mod listed;
+mod reader;
+mod splitter;
+mod statement;
+mod text;
+mod token;
+
+pub use entry::{Cost, Entry, EntryText, Link};
+pub use fault::MapFault;
+pub use listed::Listed;
+pub use reader::read_entry;
+pub use splitter::split;
+
+#[cfg(test)]
+mod tests;

@@ -1,0 +1,211 @@
+// Entries, read line by line.
+ghost use Rattle.std.specs.Prelude.{◌≡◌, ◌≤◌, List, ◌∷◌, ◌++◌, length, IfOk, IfSome, Ok, option_copied, find};
+ghost use Rattle.std.specs.Str.Lines.{lines};
+ghost use Rattle.uu_map.specs.Text.{is_name_line, host_by, Numbered, joined, statements_of};
+ghost use Rattle.uu_map.specs.declared.entry.Entry.{Entry};
+ghost use Rattle.uu_map.specs.Entry.{IsEntry, IsAnswer, AnswersUnlessMemory};
+ghost use Rattle.uu_map.specs.Token.{begins, is_blank};
+ghost use Rattle.uu_map.specs.Heard.{heard, nothing, as_heard, Says};
+
+use crate::entry::{Entry, Link};
+use crate::fault::MapFault;
+use crate::least::listed;
+use crate::listed::Listed;
+use crate::statement::{is_all_blank, site_name, statement_of};
+use crate::text::{before_comment, first_line, is_name_line, named_by};
+use crate::token::is_blank;
+use std::alloc::{AllocError, Global};
+use uu_names::SiteName;
+
+/// The most bytes of an entry.
+const MAX_LEN: usize = 65_536;
+
+// The first line that names a host.
+fn name_line(text: &[u8]) -> Option<&[u8]>
+    ensures value { option_copied result ≡ find is_name_line (lines text.now) }
+    ensures long { IfSome result (λ line. 2 ≤ length line.now) }
+{
+    let mut rest = text;
+    while !rest.is_empty() {
+        let (line, after) = first_line(rest);
+        if is_name_line(line) {
+            return Some(line);
+        }
+        rest = after;
+    }
+    None
+}
+
+// The host of an entry of at most 65,536 bytes.
+fn host(alloc: Global, text: &[u8]) -> Result<SiteName, MapFault>
+    ensures { AnswersUnlessMemory result (host_by (find is_name_line (lines text.now))) }
+{
+    let Some(line) = name_line(text) else {
+        return Err(MapFault::NoName);
+    };
+    let name = named_by(line);
+    if name.is_empty() {
+        return Err(MapFault::NoName);
+    }
+    match site_name(alloc, name)? {
+        Some(host) => Ok(host),
+        None => Err(MapFault::BadHost),
+    }
+}
+
+/// What the statements said so far.
+#[derive(Drop)]
+pub(crate) struct Hearing {
+    pub(crate) aliases: Vec<SiteName>,
+    pub(crate) links: Vec<Link>,
+    pub(crate) skipped: Vec<u32>,
+}
+
+/// A statement that the next line may continue.
+#[derive(Drop)]
+pub(crate) struct Pending {
+    line: u32,
+    text: Vec<u8>,
+}
+
+impl Pending {
+    ghost use Rattle.uu_map.specs.Heard.{numbered_of};
+
+    fn new(alloc: Global, line: u32, text: &[u8]) -> Result<Pending, AllocError>
+        ensures { IfOk result (λ pending. numbered_of pending ≡ record { line = line; text = text.now }) }
+    {
+        Ok(Pending {
+            line,
+            text: Vec::from_slice(alloc, text)?,
+        })
+    }
+
+    // The statement with a line more.
+    fn continued(mut self, line: u32, text: &[u8]) -> Result<Pending, AllocError>
+        ensures { IfOk result (λ pending. numbered_of pending ≡ joined (numbered_of self) (record { line = line; text = text.now })) }
+    {
+        self.text.push(b' ')?;
+        self.text.extend_from_slice(text)?;
+        Ok(self)
+    }
+}
+
+fn begins_with_blank(text: &[u8]) -> bool
+    ensures { result ≡ begins is_blank text.now }
+{
+    match text {
+        [first, ..] => is_blank(*first),
+        [] => false,
+    }
+}
+
+impl Hearing {
+    ghost use Rattle.uu_map.specs.Heard.{then_heard, of_one, numbered_of, pending_list, in_all};
+    ghost use Rattle.uu_map.specs.StatementReading.{statement_of};
+
+    fn new(alloc: Global) -> Hearing
+        ensures { as_heard result ≡ nothing }
+    {
+        Hearing {
+            aliases: Vec::new(alloc),
+            links: Vec::new(alloc),
+            skipped: Vec::new(alloc),
+        }
+    }
+
+    // Hears one statement.
+    fn hear(&mut self, alloc: Global, host: &[u8], statement: &Pending) -> Result<(), AllocError>
+        ensures { IfOk result (λ _. as_heard self.new ≡ then_heard (as_heard self.old) (of_one statement.now.line (statement_of host.now statement.now.text.items))) }
+    {
+        match statement_of(alloc, host, &statement.text)? {
+            None => self.skipped.push(statement.line)?,
+            Some(mut said) => {
+                self.aliases.append(&mut said.aliases)?;
+                self.links.append(&mut said.links)?;
+            }
+        }
+        Ok(())
+    }
+
+    // Takes what a line says: it continues the pending statement, or it ends that and another begins.
+    fn take_line(
+        &mut self,
+        alloc: Global,
+        host: &[u8],
+        pending: Option<Pending>,
+        line: u32,
+        text: &[u8],
+    ) -> Result<Pending, AllocError>
+        ensures { IfOk result (λ next. (rest : List Numbered) →
+            in_all host.now (as_heard self.new) (numbered_of next ∷ rest)
+            ≡ in_all host.now (as_heard self.old) (pending_list pending ++ record { line = line; text = text.now } ∷ rest)) }
+    {
+        match pending {
+            None => Pending::new(alloc, line, text),
+            Some(pending) => {
+                if begins_with_blank(text) {
+                    pending.continued(line, text)
+                } else {
+                    self.hear(alloc, host, &pending)?;
+                    Pending::new(alloc, line, text)
+                }
+            }
+        }
+    }
+
+    /// What the statements of an entry say of the host.
+    pub(crate) fn of_entry(alloc: Global, host: &[u8], text: &[u8]) -> Result<Hearing, AllocError>
+        requires { length text.now ≤ 65536 }
+        ensures { IfOk result (λ hearing. as_heard hearing ≡ heard host.now (statements_of text.now)) }
+    {
+        let mut hearing = Hearing::new(alloc);
+        let mut pending = None;
+        let mut line = 0;
+        let mut rest = text;
+        while !rest.is_empty() {
+            let (whole, after) = first_line(rest);
+            rest = after;
+            line += 1;
+            let said = before_comment(whole);
+            if !is_all_blank(said) {
+                pending = Some(hearing.take_line(alloc, host, pending, line, said)?);
+            }
+        }
+        if let Some(last) = pending {
+            hearing.hear(alloc, host, &last)?;
+        }
+        Ok(hearing)
+    }
+}
+
+// What an entry of at most 65,536 bytes says of this host.
+fn entry_of(alloc: Global, host: SiteName, text: &[u8]) -> Result<Entry, AllocError>
+    requires { length text.now ≤ 65536 }
+    ensures { IfOk result (Says (heard host (statements_of text.now)) host) }
+{
+    let hearing = Hearing::of_entry(alloc, host.as_str().as_bytes(), text)?;
+    let links = listed(alloc, hearing.links)?;
+    Ok(Entry {
+        host,
+        aliases: Listed::from_vec(hearing.aliases),
+        links: Listed::from_vec(links),
+        skipped: Listed::from_vec(hearing.skipped),
+    })
+}
+
+/// Reads a map entry: the host that its first `#N` line names, its aliases, its links and what was skipped.
+///
+/// A text of more than 65,536 bytes is [`MapFault::TooLarge`], then one that names no host [`MapFault::NoName`], and then
+/// one whose host is no site name [`MapFault::BadHost`]. A statement that can't be read is skipped whole.
+pub fn read_entry(alloc: Global, text: &[u8]) -> Result<Entry, MapFault>
+    // What is kept is in the grammar and has that meaning; what is skipped is not; each fault has its cause.
+    ensures answer { IsAnswer text.now result }
+    // No other entry is that of the text.
+    ensures only { (entry : Entry) → IsEntry text.now entry → AnswersUnlessMemory result (Ok entry) }
+{
+    if text.len() > MAX_LEN {
+        return Err(MapFault::TooLarge);
+    }
+    let host = host(alloc, text)?;
+    Ok(entry_of(alloc, host, text)?)
+}
