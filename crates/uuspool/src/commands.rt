@@ -57,7 +57,12 @@ fn send_command<'a>(alloc: Global) -> Result<Command<'a>, AllocError>
 {
     Command::new(alloc, "send")
         .about("Queues standard input as a file for a system")
-        .arg(argument(alloc, "system", "SYSTEM", "The neighbour that the file is for"))?
+        .arg(argument(
+            alloc,
+            "system",
+            "SYSTEM",
+            "The neighbour that the file is for",
+        ))?
         .arg(argument(alloc, "from", "FROM", "The file's name here"))?
         .arg(argument(alloc, "to", "TO", "The file's name there"))
 }

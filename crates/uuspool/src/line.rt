@@ -8,8 +8,8 @@ ghost use Rattle.uuspool.specs.declared.line.Task.{Task};
 ghost use Rattle.uuspool.specs.Commands.{program};
 ghost use Rattle.uuspool.specs.Lines.{takes_input, HasEntriesOf, IsSecond, IsWordAt, IsSiteAt, MeansTask, MeansLine, IsWordsWhere};
 
-use crate::fault::Fault;
 use crate::commands::program_command;
+use crate::fault::Fault;
 use clap::ArgMatches;
 use clap::error::ErrorKind;
 use std::alloc::Global;

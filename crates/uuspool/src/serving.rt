@@ -144,7 +144,9 @@ fn define<S: Alter, W: Write>(
     let mut status = 0;
     for system in systems {
         let name = String::from_str(alloc, system.name.as_str())?;
-        let reply = spool.command(Command::Define(system)).map_err(Fault::Store)?;
+        let reply = spool
+            .command(Command::Define(system))
+            .map_err(Fault::Store)?;
         let answer = reply_line(alloc, reply)?;
         write(out, format!(in alloc; "{name} {answer}")?.as_bytes())?;
         status = status.max(status_of(reply));

@@ -8,7 +8,8 @@ use std::time::SystemTime;
 use std::{env, io};
 use uu_store::start;
 use uuspool::{
-    CallLine, Fault, fault_line, fault_status, fixed_settings, line_of, moment_of, read_input, serve,
+    CallLine, Fault, fault_line, fault_status, fixed_settings, line_of, moment_of, read_input,
+    serve,
 };
 
 fn main(rt: HostRuntime) -> ExitCode {

@@ -21,11 +21,36 @@ fn each_fault_has_its_line_its_status_and_its_number(rt: HostRuntime) -> Result<
         (words, "error: so\n", 2, 1),
         (help, "Usage\n", 0, 1),
         (Fault::Input, "uuspool: too much input\n", 2, 6),
-        (Fault::Store(StoreFault::Memory), "uuspool: out of memory\n", 4, 7),
-        (Fault::Store(StoreFault::Store(StoreKind::Disk)), "uuspool: spool: store\n", 3, 7),
-        (Fault::Store(StoreFault::Failed), "uuspool: spool: failed\n", 3, 7),
-        (Fault::Store(StoreFault::Foreign), "uuspool: spool: foreign\n", 3, 7),
-        (Fault::Store(StoreFault::Newer), "uuspool: spool: newer\n", 3, 7),
+        (
+            Fault::Store(StoreFault::Memory),
+            "uuspool: out of memory\n",
+            4,
+            7,
+        ),
+        (
+            Fault::Store(StoreFault::Store(StoreKind::Disk)),
+            "uuspool: spool: store\n",
+            3,
+            7,
+        ),
+        (
+            Fault::Store(StoreFault::Failed),
+            "uuspool: spool: failed\n",
+            3,
+            7,
+        ),
+        (
+            Fault::Store(StoreFault::Foreign),
+            "uuspool: spool: foreign\n",
+            3,
+            7,
+        ),
+        (
+            Fault::Store(StoreFault::Newer),
+            "uuspool: spool: newer\n",
+            3,
+            7,
+        ),
         (Fault::Read, "uuspool: cannot read\n", 5, 8),
         (Fault::Write, "uuspool: cannot write\n", 5, 9),
         (Fault::Memory, "uuspool: out of memory\n", 4, 10),
@@ -63,10 +88,16 @@ fn words_that_are_no_line_change_nothing(rt: HostRuntime) -> Result<(), Fail> {
         ("load", b"time Never\n"),
     ] {
         let answer = serve_into(alloc, &mut spool, line, input, &mut out)?;
-        assert!(rt; matches!(answer, Err(Fault::Words { help: false, .. })), "{line}");
+        assert!(rt;
+            matches!(answer, Err(Fault::Words { help: false, .. })),
+            "{line}"
+        );
     }
     assert!(rt; out.is_empty());
-    assert_eq!(rt; serve_into(alloc, &mut spool, "send duke a b", b"", &mut out)??, 1);
+    assert_eq!(rt;
+        serve_into(alloc, &mut spool, "send duke a b", b"", &mut out)??,
+        1
+    );
     Ok(())
 }
 
@@ -76,7 +107,10 @@ fn help_is_asked_for_and_not_a_mistake(rt: HostRuntime) -> Result<(), Fail> {
     for line in ["-h", "--help", "help", "send -h", "help send"] {
         let words = words_of(alloc, line)?;
         let answer = line_of(alloc, &words);
-        assert!(rt; matches!(answer, Err(Fault::Words { help: true, .. })), "{line}");
+        assert!(rt;
+            matches!(answer, Err(Fault::Words { help: true, .. })),
+            "{line}"
+        );
     }
     Ok(())
 }
@@ -92,7 +126,8 @@ fn the_last_moment_is_taken(rt: HostRuntime) -> Result<(), Fail> {
     }
     out.clear();
     assert_eq!(rt; serve_into(alloc, &mut spool, "list", b"", &mut out)??, 0);
-    let wanted = "1 duke uucp N 2100-01-01 00:00:00 0 send a b\n2 duke uucp N 1970-01-01 00:00:00 0 send a b\n";
+    let wanted =
+        "1 duke uucp N 2100-01-01 00:00:00 0 send a b\n2 duke uucp N 1970-01-01 00:00:00 0 send a b\n";
     assert_eq!(rt; out.as_slice(), wanted.as_bytes());
     Ok(())
 }

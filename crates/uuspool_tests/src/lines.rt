@@ -12,15 +12,30 @@ fn a_system_a_job_and_its_listing(rt: HostRuntime) -> Result<(), Fail> {
     let mut out = Vec::new(alloc);
     for (line, input, output) in [
         ("load", DUKE, "duke done\n"),
-        ("--at 1000000000 --as ann send duke /tmp/a ~/a", b"".as_slice(), "job 1\n"),
-        ("list", b"", "1 duke ann N 2001-09-09 01:46:40 0 send /tmp/a ~/a\n"),
+        (
+            "--at 1000000000 --as ann send duke /tmp/a ~/a",
+            b"".as_slice(),
+            "job 1\n",
+        ),
+        (
+            "list",
+            b"",
+            "1 duke ann N 2001-09-09 01:46:40 0 send /tmp/a ~/a\n",
+        ),
     ] {
         out.clear();
-        assert_eq!(rt; serve_into(alloc, &mut spool, line, input, &mut out)??, 0, "{line}");
+        assert_eq!(rt;
+            serve_into(alloc, &mut spool, line, input, &mut out)??,
+            0,
+            "{line}"
+        );
         assert_eq!(rt; out.as_slice(), output.as_bytes(), "{line}");
     }
     let (head, bytes) = spool.job(alloc, 1)?.ok_or("no job")?;
-    assert_eq!(rt; (head.number, head.queued, head.size), (1, 1_000_000_000, 0));
+    assert_eq!(rt;
+        (head.number, head.queued, head.size),
+        (1, 1_000_000_000, 0)
+    );
     assert!(rt; head.system.as_str() == "duke" && head.user.as_str() == "ann");
     assert_eq!(rt; head.grade.as_byte(), b'N');
     assert!(rt; bytes.is_empty());
@@ -59,7 +74,11 @@ fn refused_commands_have_status_1_and_use_no_number(rt: HostRuntime) -> Result<(
         ("send unc a b", b"", 1, "refused NoSystem\n"),
     ] {
         out.clear();
-        assert_eq!(rt; serve_into(alloc, &mut spool, line, input, &mut out)??, status, "{line}");
+        assert_eq!(rt;
+            serve_into(alloc, &mut spool, line, input, &mut out)??,
+            status,
+            "{line}"
+        );
         assert_eq!(rt; out.as_slice(), output.as_bytes(), "{line}");
     }
     assert_eq!(rt; spool.next()?, 3);

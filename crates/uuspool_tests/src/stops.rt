@@ -116,7 +116,12 @@ fn run(
 }
 
 /// What is shown after the stop: the job whole, where it was acknowledged, or else whole or not at all.
-fn shown(alloc: Global, files: Files<Fuse<Memory>>, ending: Ending, bytes: &[u8]) -> Result<bool, Fail> {
+fn shown(
+    alloc: Global,
+    files: Files<Fuse<Memory>>,
+    ending: Ending,
+    bytes: &[u8],
+) -> Result<bool, Fail> {
     let Ok(mut spool) = opened(alloc, files)? else {
         return Err(Fail::from("the files do not open again"));
     };
@@ -124,11 +129,13 @@ fn shown(alloc: Global, files: Files<Fuse<Memory>>, ending: Ending, bytes: &[u8]
     let next = spool.next()?;
     let job = spool.job(alloc, 1)?;
     match job {
-        Some((head, kept)) => Ok(heads == 1
-            && next == 2
-            && head.system.as_str() == "duke"
-            && head.user.as_str() == "ann"
-            && kept.as_slice() == bytes),
+        Some((head, kept)) => Ok(
+            heads == 1
+                && next == 2
+                && head.system.as_str() == "duke"
+                && head.user.as_str() == "ann"
+                && kept.as_slice() == bytes,
+        ),
         None => Ok(heads == 0 && next == 1 && ending == Ending::Stopped),
     }
 }

@@ -14,8 +14,8 @@ returns c =
     let nameless : Command-F Command → Command-F Command = λ f. record f { no_binary_name = true } in
     let settings = c.subcommand_required.ensures ∙ ap wanting (c.no_binary_name.ensures ∙ ap nameless c.about.ensures) in
     let bare : app_of c.subcommand_required.result ≡ without_options =
-      ap app_of_fields settings
-      ∙ ap (on_top (λ s. record s { no_binary_name = true; subcommand_required = true })) c.new.ensures.app in
+    ap app_of_fields settings
+    ∙ ap (on_top (λ s. record s { no_binary_name = true; subcommand_required = true })) c.new.ensures.app in
     let one = c.in_ok-arg.ensures.shape c.second_option.ensures.local ∙ ap₂ with_rule bare c.second_option.ensures.rule in
     let two = c.in_ok-arg-2.ensures.shape c.user_option.ensures.local ∙ ap₂ with_rule one c.user_option.ensures.rule in
     let three = c.in_ok-subcommand.ensures.shape c.load_command.ensures.local
