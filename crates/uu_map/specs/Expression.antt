@@ -51,6 +51,7 @@ abbrev mutual
 abbrev pub kept : ℤ → Option ℤ
 kept z = if nat_le (unsigned_abs z) (10 ^ 12) then Some z else None
 
+-- a sum or a difference, a product or a quotient, and a number after a minus sign
 abbrev pub sum_of : Additive → ℤ → ℤ → Option ℤ
 sum_of Plus x y = kept (x +ℤ y)
 sum_of Minus x y = kept (x -ℤ y)

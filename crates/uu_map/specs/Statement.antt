@@ -3,10 +3,9 @@
 --     statement := host | host blanks list of links | host blanks* "=" list of names
 --     link      := [ mark ] name [ mark ] blanks* [ "(" sum ")" ]
 --     mark      := "!" | "@" | ":" | "%"
-use Rattle.std.specs.Prelude.{◌≡◌, ℕ, Bool, not, ◌||◌, List, [], ◌∷◌, ◌++◌, Some, ◌==◌, IsTrue, filter, ◌⊎◌, ⊤}
+use Rattle.std.specs.Prelude.{◌≡◌, ℕ, Bool, not, ◌||◌, List, [], ◌∷◌, ◌++◌, Some, ◌==◌, IsTrue, filter, ◌⊎◌, ⊤, if◌then◌else◌}
 use Rattle.std.specs.List.{list_all, onto_first, AllZip}
 use Rattle.std.specs.Str.{byte}
-use Rattle.std.specs.Prelude.{if◌then◌else◌}
 use Rattle.uu_names.specs.Name.{is_site_name}
 use Rattle.uu_map.specs.declared.entry.Cost.{Cost}
 use Rattle.uu_map.specs.declared.entry.Cost.TheVariants.{Value}
@@ -49,6 +48,7 @@ pub record IsPriced (text : List ℕ) (cost : Cost) (sum : Sum) : Type 0 where
 abbrev pub IsCost : List ℕ → Cost → Type 0
 IsCost text cost = ((tokens text ≡ []) × (cost ≡ Value 4000)) ⊎ ((sum : Sum) × IsPriced text cost sum)
 
+-- a link as an element of a list: blanks, a mark or nothing, the name, a mark or nothing, and what says its cost
 pub record IsLink (text : List ℕ) (link : Link) : Type 0 where
   pub blanks : List ℕ
   pub front : List ℕ
@@ -61,6 +61,7 @@ pub record IsLink (text : List ℕ) (link : Link) : Type 0 where
   pub back_mark : IsMarkAtMost back
   pub cost : IsCost behind link.cost
 
+-- a name as an element of a list, with blanks around it
 pub record IsAlias (text : List ℕ) (name : List ℕ) : Type 0 where
   pub blanks : List ℕ
   pub behind : List ℕ
@@ -74,6 +75,7 @@ pub record Meaning : Type 0 where
   pub aliases : List (List ℕ)
   pub links : List Link
 
+-- The host alone; the host, a blank and a list of links; the host, blanks or nothing, an equals sign and a list of names.
 pub data IsStatement (host : List ℕ) : List ℕ → Meaning → Type 0 where
   alone : IsStatement host host (record { aliases = []; links = [] })
   with_links : (blank : ℕ) (list : List ℕ) (links : List Link) → IsTrue (is_blank blank) → AllZip IsLink (elements list) links → IsStatement host (host ++ blank ∷ list) (record { aliases = []; links = links })
