@@ -1,0 +1,11 @@
+use Rattle.std.proofs.Common.{refl}
+use Rattle.uu_times.specs.Ranges.{holds}
+use Rattle.uu_times.proofs.Runs.{holds-maximal_runs, runs-maximal_runs, maximal_runs-runs}
+use Rattle.uu_times.proofs.laws.sets_are_their_runs.Goals as goal
+
+pub returns : goal.returns
+returns c = record {
+  union = holds-maximal_runs;
+  apart = runs-maximal_runs;
+  accepted = λ ranges runs. maximal_runs-runs (holds ranges) ranges runs (λ minute below. refl);
+}

@@ -1,0 +1,17 @@
+use Rattle.std.proofs.Common.{◌≡◌, ◌<◌, sym, refl, ap, subst, ◌∙◌, arith, pos, ◌+ℤ◌, ◌*ℤ◌, FitsSigned, w32, w64, ℤ, IfOk}
+use Rattle.std.proofs.lemmas.Int.{ints, to_z-of_z, to_z_pos}
+use Rattle.jiff.specs.Words.{civil_nanos, epoch_day, time_nanos}
+use Rattle.uu_times.specs.Moment.{local_second}
+use Rattle.uu_times.proofs.Clock.{day_time}
+use Rattle.uu_times.proofs.moment.local_time.Goals as goal
+
+pub returns : goal.returns
+unfolding civil_nanos
+returns c =
+    let t = rw c.unwrap-timestamp.ensures at c.from_second.ensures.value in
+    let o = rw c.unwrap-offset.ensures at c.from_seconds.ensures.value in
+    let dt = c.to_datetime.result in
+    let below : time_nanos dt.time < 86_400_000_000_000 = omega (arith, dt.time.hour_in, dt.time.minute_in, dt.time.second_in, dt.time.subsec_in) in
+    let same : (epoch_day dt.date *ℤ pos 86_400_000_000_000) +ℤ pos (time_nanos dt.time) ≡ local_second c.args.second c.args.offset *ℤ pos 1_000_000_000 = omega (arith, ints, c.to_datetime.ensures, t, o) in
+    let parts = day_time (epoch_day dt.date) (local_second c.args.second c.args.offset) (time_nanos dt.time) below same in
+    record { day = parts.0; time = parts.1 }

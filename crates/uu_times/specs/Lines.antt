@@ -1,0 +1,51 @@
+-- The lines of a sys file and their words (Taylor UUCP 1.07 manual, "Configuration File Overview"; that lines are joined before
+-- comments are cut is this project's choice).
+use Rattle.std.specs.Prelude.{ℕ, zero, suc, ◌+◌, ◌-◌, Bool, ◌&&◌, ◌||◌, nat_lt, ◌==◌, if◌then◌else◌, List, [], ◌∷◌, ◌++◌, length, take, slice_index, filter, map}
+use Rattle.std.specs.List.{slice_split}
+use Rattle.std.specs.Str.{byte}
+use Rattle.std.specs.Str.Lines.{lines}
+
+-- a line with its number
+pub record Numbered : Type 0 where
+  pub number : ℕ
+  pub line : List ℕ
+
+-- a line that ends with a backslash is joined with the next
+abbrev pub goes_on : List ℕ → Bool
+goes_on line = slice_index line (length line - 1) == byte "\\"
+
+-- the line without that backslash
+abbrev pub without_last : List ℕ → List ℕ
+without_last line = take (length line - 1) line
+
+-- what is kept of a line where lines are joined
+abbrev pub kept_part : List ℕ → List ℕ
+kept_part line = if goes_on line then without_last line else line
+
+-- a front, and what it is joined with; the whole has the number of its first line
+abbrev pub joined_onto : ℕ → List ℕ → List Numbered → List Numbered
+joined_onto number front [] = record { number = number; line = front } ∷ []
+joined_onto number front (next ∷ more) = record { number = number; line = front ++ next.line } ∷ more
+
+-- lines joined, the first of them with the number; nothing is joined with a last one
+unfoldable pub joined : ℕ → List (List ℕ) → List Numbered
+joined number [] = []
+joined number (line ∷ more) =
+    if goes_on line then joined_onto number (without_last line) (joined (number + 1) more)
+    else record { number = number; line = line } ∷ joined (number + 1) more
+
+-- Up to a `#` that begins a comment, which has no backslash directly before it; a backslash directly before a `#` goes.
+abbrev pub uncommented : List ℕ → List ℕ
+uncommented [] = []
+uncommented (letter ∷ []) = if letter == byte "#" then [] else letter ∷ []
+uncommented (letter ∷ next ∷ more) =
+    if letter == byte "#" then []
+    else (if letter == byte "\\" && next == byte "#" then next ∷ uncommented more else letter ∷ uncommented (next ∷ more))
+
+-- a space or a tab
+abbrev pub is_blank : ℕ → Bool
+is_blank letter = letter == 32 || letter == 9
+
+-- the words of a line are separated by blanks
+abbrev pub words_of : List ℕ → List (List ℕ)
+words_of line = filter (λ word. nat_lt 0 (length word)) (slice_split is_blank (uncommented line))

@@ -1,0 +1,21 @@
+-- What a sys file says of a system (Taylor UUCP 1.07 manual, "The Sys File"; the limits are this project's choice).
+use Rattle.std.specs.Prelude.{ℕ, ◌≤◌, List, length, Option, IfSome, All}
+use Rattle.uu_times.specs.declared.system.Line.{Line}
+
+-- a system, the lines that say when it may be called, and after how many failures in a row calls become rare
+pub record System : Type 0 where
+  pub name : List ℕ
+  pub lines : List Line
+  pub max_retries : ℕ
+
+-- a minute to a year
+abbrev pub IsRetry : ℕ → Type 0
+IsRetry minutes = (1 ≤ minutes) × (minutes ≤ 525600)
+
+-- a line's retry number, where it has one, is within its limits
+abbrev pub HasRetry : Line → Type 0
+HasRetry line = IfSome line.retry IsRetry
+
+-- at most 32 lines, each retry number within its limits, and at most a million failures
+abbrev pub AreWithinLimits : List Line → ℕ → Type 0
+AreWithinLimits lines max_retries = (length lines ≤ 32) × All HasRetry lines × (max_retries ≤ 1000000)

@@ -1,0 +1,72 @@
+-- Time strings and the timetables that they may name (Taylor UUCP 1.07 manual, "Time Strings"; how a timetable is named
+-- and the predefined ones are this project's choice).
+use Rattle.std.specs.Prelude.{ℕ, Bool, false, ◌&&◌, ◌||◌, not, nat_le, ◌==◌, if◌then◌else◌, Option, None, Some, is_some, Result, Ok, Err, List, [], ◌∷◌, length, slice_index, codes}
+use Rattle.std.specs.Cmp.Lexicographic.{slice_cmp}
+use Rattle.std.specs.Ordering.{nat_cmp}
+use Rattle.std.specs.BTreeMap.{insert_entry, is_at}
+use Rattle.std.specs.Map.{lookup}
+use Rattle.std.specs.List.{list_all}
+use Rattle.std.specs.Char.{is_ascii_alphabetic, is_ascii_alphanumeric}
+use Rattle.std.specs.Str.{byte, bytes_eq}
+use Rattle.uu_times.specs.declared.fault.TimeFault.{TimeFault}
+use Rattle.uu_times.specs.declared.fault.TimeFault.TheVariants.{BadTime, UnknownTable}
+use Rattle.uu_times.specs.Days.{any_has}
+use Rattle.uu_times.specs.Ranges.{maximal_runs}
+use Rattle.uu_times.specs.Scan.{lower, list_of, two_letters}
+
+-- timetables: their names in lower case, in order, and the runs of their minutes
+abbrev pub Tables : Type 0
+Tables = List (List ℕ × List (ℕ × ℕ))
+
+-- a byte of a timetable's name behind the first
+abbrev pub is_table_byte : ℕ → Bool
+is_table_byte letter = is_ascii_alphanumeric letter || letter == byte "-" || letter == byte "_"
+
+abbrev pub is_table_rest : List ℕ → Bool
+is_table_rest rest = nat_le (length rest) 31 && list_all is_table_byte rest
+
+-- a timetable's name is a letter and 0 to 31 letters, digits, `-` or `_` behind it
+abbrev pub is_table_name : List ℕ → Bool
+is_table_name [] = false
+is_table_name (first ∷ rest) = is_ascii_alphabetic first && is_table_rest rest
+
+-- the timetable of a name, whatever its case
+abbrev pub table_at : Tables → List ℕ → Option (List (ℕ × ℕ))
+table_at tables name = if is_table_name name then lookup (is_at (slice_cmp nat_cmp (lower name))) tables else None
+
+-- a timetable that takes the place of one of that name
+abbrev pub with_table : Tables → List ℕ → List (ℕ × ℕ) → Tables
+with_table tables name windows = insert_entry (slice_cmp nat_cmp) tables (lower name) windows
+
+-- the text, in lower case, begins with a day word
+abbrev pub begins_with_day : List ℕ → Bool
+begins_with_day text =
+    is_some (two_letters (slice_index text 0) (slice_index text 1))
+    || (slice_index text 0 == byte "a" && slice_index text 1 == byte "n" && slice_index text 2 == byte "y")
+
+-- a text that is no time string, of which so many bytes begin a list of simple strings
+abbrev pub unreadable : ℕ → List ℕ → ℕ → TimeFault
+unreadable line text at =
+    if is_table_name text && not (begins_with_day (lower text)) then UnknownTable line else BadTime line at
+
+-- the runs of a list of simple strings
+abbrev pub windows_in : ℕ → List ℕ → Result (List (ℕ × ℕ)) TimeFault
+windows_in line text = elim (list_of text) [ Ok simples ↦ Ok (maximal_runs (any_has simples)) | Err at ↦ Err (unreadable line text at) ]
+
+-- The set of a time string on a line: none for `Never`, that of a timetable for its name, and else that of a list of simple
+-- strings. The whole text is compared, in this order.
+abbrev pub time_of : Tables → ℕ → List ℕ → Result (List (ℕ × ℕ)) TimeFault
+time_of tables line text =
+    if bytes_eq (lower text) (codes "never") then Ok []
+    else elim (table_at tables text) [ Some windows ↦ Ok windows | None ↦ windows_in line text ]
+
+-- a timetable of simple strings
+abbrev pub with_list : Tables → List ℕ → List ℕ → Tables
+with_list tables name text = elim (list_of text) [ Ok simples ↦ with_table tables name (maximal_runs (any_has simples)) | Err at ↦ tables ]
+
+-- the timetables that are there from the start
+unfoldable pub predefined_tables : Tables
+predefined_tables =
+    with_list (with_list (with_list [] (codes "Evening") (codes "Wk1705-0755,Sa,Su"))
+      (codes "Night") (codes "Wk2305-0755,Sa,Su2305-1655"))
+      (codes "NonPeak") (codes "Wk1805-0655,Sa,Su")

@@ -1,0 +1,19 @@
+//! Moments, time strings, timetables and sys files of a UUCP site.
+#![tactic(auto)]
+
+mod days;
+pub mod fault;
+pub mod laws;
+mod lines;
+pub mod moment;
+mod scan;
+pub mod system;
+pub mod timetable;
+mod union;
+pub mod windows;
+
+pub use fault::TimeFault;
+pub use moment::Moment;
+pub use system::{Line, LineNumbers, Lines, SysFile, SystemDef, Systems};
+pub use timetable::{Timetables, read_time};
+pub use windows::Windows;

@@ -1,0 +1,221 @@
+//! What a sys file says: systems, and when each may be called.
+ghost use Rattle.std.specs.Prelude.{◌≡◌, ◌↔◌, IsTrue, IsSome, IfSome};
+ghost use Rattle.uu_times.specs.System.{AreWithinLimits, HasRetry};
+
+use crate::Windows;
+use std::marker::Model;
+use uu_names::{Grade, SiteName};
+
+/// The most time lines of a system.
+pub const LINE_LIMIT: usize = 32;
+
+/// The most minutes to wait before a call is tried again: a year.
+pub const RETRY_LIMIT: u32 = 525_600;
+
+/// The most failures in a row that a system may be given.
+pub const MAX_RETRIES_LIMIT: u32 = 1_000_000;
+
+/// The failures in a row after which calls become rare, where a sys file doesn't say.
+pub const DEFAULT_MAX_RETRIES: u32 = 26;
+
+/// When jobs of a grade and above may be sent.
+#[derive(Debug, Drop)]
+pub struct Line {
+    /// The lowest grade for which a call is made.
+    pub grade: Grade,
+    /// The minutes of the week at which it is made.
+    pub windows: Windows,
+    /// The minutes to wait after a failure, 1 to 525,600.
+    pub retry: Option<u32>,
+}
+
+/// The time lines of a system in the order of the text, seen as a list.
+#[derive(Debug, Drop)]
+pub struct Lines {
+    lines: Vec<Line>,
+}
+
+impl Model for Lines {
+    ghost use Rattle.std.specs.Prelude.{List};
+    ghost use Rattle.uu_times.specs.declared.system.Line.{Line};
+
+    ghost Value = { List Line };
+
+    ghost view = { λ l. l.lines.items };
+}
+
+impl Lines {
+    /// These lines.
+    pub fn new(lines: Vec<Line>) -> Lines
+        ensures { result ≡ lines.items }
+    {
+        Lines { lines }
+    }
+
+    /// The lines in order.
+    pub fn as_slice(&self) -> &[Line]
+        ensures { result.now ≡ self.now }
+    {
+        self.lines.as_slice()
+    }
+
+    /// The lines, given back.
+    pub fn into_vec(self) -> Vec<Line>
+        ensures { result.items ≡ self }
+    {
+        self.lines
+    }
+}
+
+/// A system that may be called, seen as its three parts, which are within their limits.
+#[derive(Debug, Drop)]
+pub struct SystemDef {
+    /// The system's name.
+    pub name: SiteName,
+    /// When it may be called, at most 32 lines; never, where there is none.
+    pub lines: Lines,
+    /// After how many failures in a row calls become rare, at most 1,000,000.
+    pub max_retries: u32,
+}
+
+impl Model for SystemDef {
+    ghost use Rattle.uu_times.specs.System.{System, AreWithinLimits};
+
+    ghost Value = { System };
+
+    ghost view = { λ d. record { name = d.name; lines = d.lines; max_retries = d.max_retries } };
+
+    ghost invariant = { λ d. AreWithinLimits d.lines d.max_retries };
+}
+
+impl SystemDef {
+    /// A system of these parts, and `None` where there are more than 32 lines, a retry number isn't 1 to
+    /// 525,600, or `max_retries` is over 1,000,000.
+    pub fn new(name: SiteName, lines: Lines, max_retries: u32) -> Option<SystemDef>
+        ensures within { IsSome result ↔ AreWithinLimits lines max_retries }
+        ensures name { IfSome result (λ system. system.name ≡ name) }
+        ensures lines { IfSome result (λ system. system.lines ≡ lines) }
+        ensures max_retries { IfSome result (λ system. system.max_retries ≡ max_retries) }
+    {
+        if are_within_limits(lines.as_slice(), max_retries) {
+            Some(SystemDef {
+                name,
+                lines,
+                max_retries,
+            })
+        } else {
+            None
+        }
+    }
+
+    /// When the system may be called.
+    pub fn lines(&self) -> &[Line]
+        ensures value { result.now ≡ self.now.lines }
+        ensures within { AreWithinLimits self.now.lines self.now.max_retries }
+    {
+        self.lines.as_slice()
+    }
+}
+
+// Whether the lines and the number of failures are within their limits.
+fn are_within_limits(lines: &[Line], max_retries: u32) -> bool
+    ensures { IsTrue result ↔ AreWithinLimits lines.now max_retries }
+{
+    lines.len() <= LINE_LIMIT
+        && max_retries <= MAX_RETRIES_LIMIT
+        && lines.iter().all(|line| has_retry(line))
+}
+
+// Whether the line's retry number, if it has one, is within its limits.
+fn has_retry(line: &Line) -> bool
+    ensures { IsTrue result ↔ HasRetry line.now }
+{
+    match line.retry {
+        None => true,
+        Some(minutes) => 1 <= minutes && minutes <= RETRY_LIMIT,
+    }
+}
+
+/// The systems of a sys file in the order of the text, seen as a list.
+#[derive(Debug, Drop)]
+pub struct Systems {
+    systems: Vec<SystemDef>,
+}
+
+impl Model for Systems {
+    ghost use Rattle.std.specs.Prelude.{List};
+    ghost use Rattle.uu_times.specs.System.{System};
+
+    ghost Value = { List System };
+
+    ghost view = { λ s. s.systems.items };
+}
+
+impl Systems {
+    /// These systems.
+    pub fn new(systems: Vec<SystemDef>) -> Systems
+        ensures { result ≡ systems.items }
+    {
+        Systems { systems }
+    }
+
+    /// The systems in order.
+    pub fn as_slice(&self) -> &[SystemDef]
+        ensures { result.now ≡ self.now }
+    {
+        self.systems.as_slice()
+    }
+
+    /// The systems, given back.
+    pub fn into_vec(self) -> Vec<SystemDef>
+        ensures { result.items ≡ self }
+    {
+        self.systems
+    }
+}
+
+/// Numbers of lines, counted from 1, seen as a list.
+#[derive(Debug, Drop)]
+pub struct LineNumbers {
+    numbers: Vec<u32>,
+}
+
+impl Model for LineNumbers {
+    ghost use Rattle.std.specs.Prelude.{List, ℕ};
+
+    ghost Value = { List ℕ };
+
+    ghost view = { λ n. n.numbers.items };
+}
+
+impl LineNumbers {
+    /// These numbers.
+    pub fn new(numbers: Vec<u32>) -> LineNumbers
+        ensures { result ≡ numbers.items }
+    {
+        LineNumbers { numbers }
+    }
+
+    /// The numbers in order.
+    pub fn as_slice(&self) -> &[u32]
+        ensures { result.now ≡ self.now }
+    {
+        self.numbers.as_slice()
+    }
+
+    /// The numbers, given back.
+    pub fn into_vec(self) -> Vec<u32>
+        ensures { result.items ≡ self }
+    {
+        self.numbers
+    }
+}
+
+/// What a sys file says.
+#[derive(Debug, Drop)]
+pub struct SysFile {
+    /// Its systems, in the order of their sections.
+    pub systems: Systems,
+    /// The lines that were skipped, since they begin with another keyword.
+    pub skipped: LineNumbers,
+}

@@ -1,0 +1,226 @@
+//! Timetables, and the time strings that may name them.
+ghost use Rattle.std.specs.Prelude.{◌≡◌, Ok, Err, IfOk, IfErr, IsTrue, map, OnOk, slice_index};
+ghost use Rattle.std.specs.Char.{to_ascii_lowercase};
+ghost use Rattle.std.specs.List.{list_all};
+ghost use Rattle.std.specs.Str.{bytes_eq};
+ghost use Rattle.uu_names.specs.Name.{is_site_name};
+ghost use Rattle.uu_times.specs.Fault.{AnswersUnlessMemory};
+ghost use Rattle.uu_times.specs.Scan.{lower};
+ghost use Rattle.uu_times.specs.Tables.{is_table_byte, is_table_rest, is_table_name, table_at, with_table, with_list, begins_with_day, unreadable, windows_in, time_of, predefined_tables};
+
+use crate::scan::{Unlisted, list_of, two_letters};
+use crate::union::windows_of;
+use crate::{TimeFault, Windows};
+use std::alloc::{AllocError, Global};
+use std::collections::BTreeMap;
+use std::marker::Model;
+use uu_names::{NameFault, SiteName};
+
+/// Timetables by their names, in lower case, seen as the list of names and runs in order of the names.
+#[derive(Drop)]
+pub struct Timetables {
+    tables: BTreeMap<SiteName, Windows>,
+}
+
+impl Model for Timetables {
+    ghost use Rattle.std.specs.Prelude.{List, ℕ};
+
+    ghost Value = { List (List ℕ × List (ℕ × ℕ)) };
+
+    ghost view = { λ t. t.tables.entries };
+}
+
+impl Timetables {
+    /// The timetables that are there from the start: `Evening`, `Night` and `NonPeak`.
+    ///
+    /// `Memory` is the only fault.
+    #[tactic(auto, unfolding(crate::specs::Tables::predefined_tables))]
+    pub fn predefined(alloc: Global) -> Result<Timetables, TimeFault>
+        ensures { AnswersUnlessMemory result (Ok predefined_tables) }
+    {
+        let mut tables = Timetables {
+            tables: BTreeMap::new(alloc),
+        };
+        tables.insert_list(alloc, b"Evening", b"Wk1705-0755,Sa,Su")?;
+        tables.insert_list(alloc, b"Night", b"Wk2305-0755,Sa,Su2305-1655")?;
+        tables.insert_list(alloc, b"NonPeak", b"Wk1805-0655,Sa,Su")?;
+        Ok(tables)
+    }
+
+    // Sets the timetable of a name to a list of simple strings; another text changes nothing.
+    fn insert_list(&mut self, alloc: Global, name: &[u8], text: &[u8]) -> Result<(), AllocError>
+        requires { IsTrue (is_table_name name.now) }
+        ensures { OnOk result (self.new ≡ with_list self.old name.now text.now) }
+    {
+        match list_of(alloc, text) {
+            Ok(simples) => self.insert(alloc, name, windows_of(alloc, &simples)?),
+            Err(Unlisted::At(_)) => Ok(()),
+            Err(Unlisted::Memory) => Err(AllocError),
+        }
+    }
+
+    /// The timetable of a name, whatever its case.
+    pub(crate) fn find(&self, alloc: Global, name: &[u8]) -> Result<Option<Windows>, AllocError>
+        ensures { IfOk result (λ found. found ≡ table_at self.now name.now) }
+    {
+        if !is_table_name(name) {
+            return Ok(None);
+        }
+        let key = key_of(alloc, name)?;
+        match self.tables.get(&key) {
+            None => Ok(None),
+            Some(windows) => Ok(Some(windows.clone()?)),
+        }
+    }
+
+    /// Sets the timetable of a name, in place of one of that name.
+    pub(crate) fn insert(
+        &mut self,
+        alloc: Global,
+        name: &[u8],
+        windows: Windows,
+    ) -> Result<(), AllocError>
+        requires { IsTrue (is_table_name name.now) }
+        ensures { OnOk result (self.new ≡ with_table self.old name.now windows) }
+    {
+        let key = key_of(alloc, name)?;
+        self.tables.insert(key, windows)?;
+        Ok(())
+    }
+}
+
+// The bytes in lower case.
+fn lower(alloc: Global, text: &[u8]) -> Result<Vec<u8>, AllocError>
+    ensures { IfOk result (λ letters. letters.items ≡ lower text.now) }
+{
+    text.iter()
+        .map(|letter| letter.to_ascii_lowercase())
+        .collect(alloc)
+}
+
+// The key of a timetable's name, which has the form of a site's.
+fn key_of(alloc: Global, name: &[u8]) -> Result<SiteName, AllocError>
+    requires { IsTrue (is_table_name name.now) }
+    ensures { IfOk result (λ key. key ≡ lower name.now) }
+{
+    let letters = lower(alloc, name)?;
+    match SiteName::from_bytes(alloc, &letters) {
+        Ok(key) => Ok(key),
+        Err(_) => Err(AllocError),
+    }
+}
+
+// Whether the bytes are the word, whatever their case.
+pub(crate) fn is_word(bytes: &[u8], word: &[u8]) -> bool
+    ensures { result ≡ bytes_eq (lower bytes.now) (lower word.now) }
+{
+    bytes.eq_ignore_ascii_case(word)
+}
+
+// Whether the byte may stand in a timetable's name behind the first.
+fn is_table_byte(letter: u8) -> bool
+    ensures { result ≡ is_table_byte letter }
+{
+    letter.is_ascii_alphanumeric() || letter == b'-' || letter == b'_'
+}
+
+// Whether each byte may.
+fn are_table_bytes(rest: &[u8]) -> bool
+    ensures { result ≡ list_all is_table_byte rest.now }
+{
+    rest.iter().all(|letter| is_table_byte(*letter))
+}
+
+// Whether the bytes may stand in a timetable's name behind the first.
+fn is_table_rest(rest: &[u8]) -> bool
+    ensures { result ≡ is_table_rest rest.now }
+{
+    rest.len() <= 31 && are_table_bytes(rest)
+}
+
+/// Whether the text has the form of a timetable's name.
+pub(crate) fn is_table_name(text: &[u8]) -> bool
+    ensures { result ≡ is_table_name text.now }
+{
+    match text.split_first() {
+        None => false,
+        Some((first, rest)) => first.is_ascii_alphabetic() && is_table_rest(rest),
+    }
+}
+
+// The letter at a place in lower case, and 0 behind the end.
+fn letter_at(text: &[u8], at: usize) -> u8
+    ensures { result ≡ slice_index (lower text.now) at }
+{
+    if at < text.len() {
+        text[at].to_ascii_lowercase()
+    } else {
+        0
+    }
+}
+
+// Whether the text begins with a day word.
+fn begins_with_day(text: &[u8]) -> bool
+    ensures { result ≡ begins_with_day (lower text.now) }
+{
+    let first = letter_at(text, 0);
+    let second = letter_at(text, 1);
+    two_letters(first, second).is_some()
+        || first == b'a' && second == b'n' && letter_at(text, 2) == b'y'
+}
+
+// The fault of a text that is no time string, of which so many bytes begin a list of simple strings.
+fn unreadable(line: u32, text: &[u8], at: usize) -> TimeFault
+    ensures { result ≡ unreadable line text.now at }
+{
+    if is_table_name(text) && !begins_with_day(text) {
+        TimeFault::UnknownTable(line)
+    } else {
+        TimeFault::BadTime(line, at)
+    }
+}
+
+// The set of a list of simple strings.
+fn windows_in(alloc: Global, line: u32, text: &[u8]) -> Result<Windows, TimeFault>
+    ensures { AnswersUnlessMemory result (windows_in line text.now) }
+{
+    match list_of(alloc, text) {
+        Ok(simples) => Ok(windows_of(alloc, &simples)?),
+        Err(Unlisted::At(at)) => Err(unreadable(line, text, at)),
+        Err(Unlisted::Memory) => Err(TimeFault::Memory),
+    }
+}
+
+/// The set of a time string on a line.
+pub(crate) fn time_of(
+    alloc: Global,
+    tables: &Timetables,
+    line: u32,
+    text: &[u8],
+) -> Result<Windows, TimeFault>
+    ensures { AnswersUnlessMemory result (time_of tables.now line text.now) }
+{
+    if is_word(text, b"never") {
+        return Ok(Windows::never(alloc)?);
+    }
+    match tables.find(alloc, text)? {
+        Some(windows) => Ok(windows),
+        None => windows_in(alloc, line, text),
+    }
+}
+
+/// The set of a time string.
+///
+/// It is empty for `Never`, that of a timetable for its name, and else that of a list of simple strings; case doesn't
+/// count. A text that is none of these is `UnknownTable(0)` where it has the form of a timetable's name and doesn't begin
+/// with a day word, and else `BadTime(0, at)`, where `at` is the length of the longest front of the text that begins a list of
+/// simple strings.
+pub fn read_time(
+    alloc: Global,
+    text: &str,
+    tables: &Timetables,
+) -> Result<Windows, TimeFault>
+    ensures { AnswersUnlessMemory result (time_of tables.now 0 text.now) }
+{
+    time_of(alloc, tables, 0, text.as_bytes())
+}
