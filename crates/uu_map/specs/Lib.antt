@@ -1,0 +1,11 @@
+pub use Rattle.uu_names.specs.Name
+pub mod Fault
+pub mod Token
+pub mod Expression
+pub mod Reading
+pub mod Statement
+pub mod StatementReading
+pub mod Text
+pub mod Entry
+pub mod Heard
+pub mod Listing

@@ -1,0 +1,45 @@
+// What a map says of a site.
+use crate::listed::Listed;
+use uu_names::SiteName;
+
+/// Where an entry stands in a map text.
+#[derive(Clone, Copy, Debug, PartialEq, Eq)]
+pub struct EntryText {
+    /// The line that begins the entry, counted from 1 in the whole text.
+    pub line: u32,
+    /// The offset of its first byte, counted from 0.
+    pub start: usize,
+    /// The offset after its last byte.
+    pub end: usize,
+}
+
+/// What a link costs. Each value is below [`Cost::Dead`].
+#[derive(Clone, Copy, Debug, PartialEq, Eq, PartialOrd, Ord)]
+pub enum Cost {
+    /// A number from 0 to 1,000,000,000,000.
+    Value(u64),
+    /// The link is not to be used.
+    Dead,
+}
+
+/// A link to a neighbour.
+#[derive(Debug, PartialEq, Eq, PartialOrd, Ord, Drop)]
+pub struct Link {
+    /// The neighbour.
+    pub to: SiteName,
+    /// What the link costs.
+    pub cost: Cost,
+}
+
+/// What a map entry says of its host.
+#[derive(Debug, Drop)]
+pub struct Entry {
+    /// The site that the entry is about.
+    pub host: SiteName,
+    /// Its other names, in the order of the text, with repeats.
+    pub aliases: Listed<SiteName>,
+    /// Its neighbours, each with its least cost, by cost and then by the bytes of the name.
+    pub links: Listed<Link>,
+    /// The lines on which skipped statements begin, counted from 1 within the entry.
+    pub skipped: Listed<u32>,
+}

@@ -1,0 +1,16 @@
+//! Entries of UUCP maps: neighbours, links and their costs.
+#![tactic(auto)]
+
+mod entry;
+mod expression;
+mod fault;
+mod least;
+mod listed;
+mod reader;
+mod statement;
+mod text;
+mod token;
+
+pub use entry::{Cost, Entry, EntryText, Link};
+pub use fault::MapFault;
+pub use listed::Listed;

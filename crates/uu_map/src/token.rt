@@ -1,0 +1,165 @@
+// What an expression is made of.
+ghost use Rattle.std.specs.Prelude.{◌≡◌, ◌<◌, ◌≤◌, ◌∷◌, [], length, pos, MatchOption, IfSome};
+ghost use Rattle.std.specs.List.{prefix_len};
+ghost use Rattle.std.specs.Char.{is_ascii_digit, is_ascii_uppercase};
+ghost use Rattle.uu_map.specs.Expression.{kept};
+ghost use Rattle.uu_map.specs.Token.{is_blank, words, symbol_token, decimal, sign_token, word_token, tokens, word_len};
+
+/// An operator between terms, or a sign.
+#[derive(Clone, Copy, Debug, PartialEq, Eq)]
+pub(crate) enum Additive {
+    Plus,
+    Minus,
+}
+
+/// An operator between factors.
+#[derive(Clone, Copy, Debug, PartialEq, Eq)]
+pub(crate) enum Multiplicative {
+    Times,
+    Over,
+}
+
+/// The least part of an expression.
+#[derive(Clone, Copy, Debug, PartialEq, Eq)]
+pub(crate) enum Token {
+    /// A number, or a symbol that stands for one; none where the number passes the limit.
+    Amount(Option<i64>),
+    /// The symbol `DEAD`.
+    Dead,
+    Open,
+    Close,
+    Additive(Additive),
+    Multiplicative(Multiplicative),
+    /// What no expression has in it.
+    Other,
+}
+
+/// The greatest value on the way of an expression.
+pub(crate) const LIMIT: u64 = 1_000_000_000_000;
+
+pub(crate) fn is_blank(byte: u8) -> bool
+    ensures { result ≡ is_blank byte }
+{
+    byte == b' ' || byte == b'\t'
+}
+
+pub(crate) fn blanks_len(text: &[u8]) -> usize
+    ensures value { result ≡ prefix_len is_blank text.now }
+    ensures bound { result ≤ length text.now }
+{
+    for (i, byte) in text.iter().enumerate() {
+        if !is_blank(*byte) {
+            return i;
+        }
+    }
+    text.len()
+}
+
+fn digits_len(text: &[u8]) -> usize
+    ensures value { result ≡ prefix_len is_ascii_digit text.now }
+    ensures bound { result ≤ length text.now }
+{
+    for (i, byte) in text.iter().enumerate() {
+        if !byte.is_ascii_digit() {
+            return i;
+        }
+    }
+    text.len()
+}
+
+fn capitals_len(text: &[u8]) -> usize
+    ensures value { result ≡ prefix_len is_ascii_uppercase text.now }
+    ensures bound { result ≤ length text.now }
+{
+    for (i, byte) in text.iter().enumerate() {
+        if !byte.is_ascii_uppercase() {
+            return i;
+        }
+    }
+    text.len()
+}
+
+// The number that digits are written for, or none past the limit.
+fn number(digits: &[u8]) -> Option<i64>
+    ensures { result ≡ kept (pos (decimal digits.now)) }
+{
+    let mut number: u64 = 0;
+    for digit in digits {
+        number = (10 * number + u64::from(digit.saturating_sub(b'0'))).min(LIMIT + 1);
+    }
+    if number > LIMIT { None } else { Some(number as i64) }
+}
+
+fn symbol(name: &[u8]) -> Token
+    ensures { result ≡ symbol_token name.now }
+{
+    match name {
+        b"LOCAL" => Token::Amount(Some(25)),
+        b"DEDICATED" => Token::Amount(Some(95)),
+        b"DIRECT" => Token::Amount(Some(200)),
+        b"DEMAND" => Token::Amount(Some(300)),
+        b"HOURLY" => Token::Amount(Some(500)),
+        b"EVENING" => Token::Amount(Some(1800)),
+        b"DAILY" => Token::Amount(Some(5000)),
+        b"WEEKLY" => Token::Amount(Some(30000)),
+        b"HIGH" => Token::Amount(Some(-5)),
+        b"LOW" => Token::Amount(Some(5)),
+        b"FAST" => Token::Amount(Some(-80)),
+        b"POLLED" => Token::Amount(Some(5000)),
+        b"DEAD" => Token::Dead,
+        _ => Token::Other,
+    }
+}
+
+fn sign(byte: u8) -> Token
+    ensures { result ≡ sign_token byte }
+{
+    match byte {
+        b'(' => Token::Open,
+        b')' => Token::Close,
+        b'+' => Token::Additive(Additive::Plus),
+        b'-' => Token::Additive(Additive::Minus),
+        b'*' => Token::Multiplicative(Multiplicative::Times),
+        b'/' => Token::Multiplicative(Multiplicative::Over),
+        _ => Token::Other,
+    }
+}
+
+fn word_token(word: &[u8]) -> Token
+    ensures { result ≡ word_token word.now }
+{
+    match word {
+        [] => Token::Other,
+        [first, ..] if first.is_ascii_digit() => Token::Amount(number(word)),
+        [first, ..] if first.is_ascii_uppercase() => symbol(word),
+        [first, ..] => sign(*first),
+    }
+}
+
+// How long the word is that a text begins with.
+fn word_len(text: &[u8]) -> usize
+    ensures value { result ≡ word_len text.now }
+    ensures some { 0 < length text.now → 0 < result }
+    ensures bound { result ≤ length text.now }
+{
+    match text {
+        [] => 0,
+        [first, ..] if first.is_ascii_digit() => digits_len(text),
+        [first, ..] if first.is_ascii_uppercase() => capitals_len(text),
+        _ => 1,
+    }
+}
+
+/// The first token of a text, and what stands behind it.
+pub(crate) fn next_token(text: &[u8]) -> Option<(Token, &[u8])>
+    ensures value { MatchOption result (tokens text.now ≡ [])
+        (λ found. tokens text.now ≡ found.0 ∷ tokens found.1.now) }
+    ensures shorter { IfSome result (λ found. length found.1.now < length text.now) }
+{
+    let (_, text) = text.split_at(blanks_len(text));
+    if text.is_empty() {
+        return None;
+    }
+    let (word, rest) = text.split_at(word_len(text));
+    Some((word_token(word), rest))
+}
