@@ -1,0 +1,7 @@
+pub mod After
+pub mod Due
+pub mod Refusal
+pub mod Run
+pub mod State
+pub mod Verdict
+pub mod Waiting
