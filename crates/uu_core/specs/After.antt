@@ -18,6 +18,7 @@ use Rattle.uu_core.specs.declared.system.Outcome.TheVariants.{Never, Failed as F
 use Rattle.uu_core.specs.declared.system.CallState.{CallState}
 use Rattle.uu_core.specs.declared.system.SystemRow.{SystemRow}
 use Rattle.uu_core.specs.declared.refusal.Refusal.{Refusal}
+use Rattle.uu_core.specs.declared.refusal.Refusal.TheVariants.{NoSystem}
 use Rattle.uu_core.specs.State.{State, Job, MapEntry, is_job, is_system, is_entry, system_at}
 use Rattle.uu_core.specs.Waiting.{one_more, wait_after}
 use Rattle.uu_core.specs.Verdict.{verdict}
@@ -31,6 +32,11 @@ never_called = record { last = 0; failures = 0; wait = 0; outcome = Never }
 abbrev pub failed_call : SystemRow → Moment → List ℕ → CallState
 failed_call row at why =
     record { last = at.second; failures = one_more row.call.failures; wait = wait_after row.def at.week (one_more row.call.failures); outcome = FailedFor why }
+
+-- the answer to the report of a failed call on a system, if it is known
+abbrev pub failed_decision : Option SystemRow → Moment → List ℕ → Result CallState Refusal
+failed_decision None at why = Err NoSystem
+failed_decision (Some row) at why = Ok (failed_call row at why)
 
 -- the call state after a call
 abbrev pub done_call : Moment → CallState

@@ -1,10 +1,16 @@
 // Whether a command is accepted, decided on the rows concerned.
-ghost use Rattle.std.specs.Prelude.{◌≡◌, option_copied};
+ghost use Rattle.std.specs.Prelude.{◌≡◌, ◌==◌, option_copied};
+ghost use Rattle.std.specs.List.{list_any};
 ghost use Rattle.uu_core.specs.Refusal.{decided};
-ghost use Rattle.uu_core.specs.Verdict.{drop_refusal, queue_refusal, job_refusal, has_many_arguments, is_too_large, may_touch};
+ghost use Rattle.uu_core.specs.Verdict.{drop_refusal, queue_refusal, job_refusal, has_many_arguments, is_too_large, may_touch, has_repeat, has_number, is_missing_one, has_other, done_refusal};
+ghost use Rattle.uu_core.specs.After.{failed_decision, done_call};
 
 use crate::job::{By, JobHead, Kind, NewJob};
 use crate::refusal::Refusal;
+use crate::system::{CallState, Outcome, SystemRow};
+use crate::waiting::{one_more, wait_after};
+use uu_names::{SiteName, Word};
+use uu_times::Moment;
 
 /// The most bytes of a job.
 pub const MAX_BYTES: usize = 1_048_576;
@@ -75,5 +81,92 @@ pub fn decide_job(job: Option<&JobHead>, by: &By) -> Result<(), Refusal>
         None => Err(Refusal::NoJob),
         Some(job) if may_touch(by, job) => Ok(()),
         Some(_) => Err(Refusal::NotYours),
+    }
+}
+
+/// The calls of a system, if it is known, after one that failed at this moment for this reason.
+pub fn decide_failed(
+    system: Option<&SystemRow>,
+    at: &Moment,
+    why: Word,
+) -> Result<CallState, Refusal>
+    ensures { result ≡ failed_decision (option_copied system.entry) at.now why }
+{
+    let Some(row) = system else {
+        return Err(Refusal::NoSystem);
+    };
+    let failures = one_more(row.call.failures);
+    Ok(CallState {
+        last: at.second,
+        failures,
+        wait: wait_after(&row.def, at.week, failures),
+        outcome: Outcome::Failed(why),
+    })
+}
+
+fn has_repeat(numbers: &[u32]) -> bool
+    ensures { result ≡ has_repeat numbers.now }
+{
+    for (i, number) in numbers.iter().enumerate() {
+        if numbers[i + 1..].contains(number) {
+            return true;
+        }
+    }
+    false
+}
+
+fn has_number(jobs: &[JobHead], number: u32) -> bool
+    ensures { result ≡ has_number jobs.now number }
+{
+    jobs.iter().any(|job| job.number == number)
+}
+
+fn is_missing_one(numbers: &[u32], jobs: &[JobHead]) -> bool
+    ensures { result ≡ is_missing_one numbers.now jobs.now }
+{
+    numbers.iter().any(|number| !has_number(jobs, *number))
+}
+
+fn is_among(numbers: &[u32], number: u32) -> bool
+    ensures { result ≡ list_any (λ other. other == number) numbers.now }
+{
+    numbers.iter().any(|other| *other == number)
+}
+
+fn has_other(system: &SiteName, numbers: &[u32], jobs: &[JobHead]) -> bool
+    ensures { result ≡ has_other system.now numbers.now jobs.now }
+{
+    jobs.iter()
+        .any(|job| is_among(numbers, job.number) && job.system != *system)
+}
+
+/// The calls of a system, known or not, after one at this moment in which the jobs of these numbers went through.
+/// `found` holds the jobs of the spool whose numbers are among them.
+pub fn decide_done(
+    known: bool,
+    system: &SiteName,
+    numbers: &[u32],
+    found: &[JobHead],
+    at: &Moment,
+) -> Result<CallState, Refusal>
+    ensures { result ≡ decided (done_refusal known system.now numbers.now found.now) (done_call at.now) }
+{
+    if numbers.len() > MAX_DONE {
+        Err(Refusal::TooLarge)
+    } else if !known {
+        Err(Refusal::NoSystem)
+    } else if is_missing_one(numbers, found) {
+        Err(Refusal::NoJob)
+    } else if has_repeat(numbers) {
+        Err(Refusal::JobTwice)
+    } else if has_other(system, numbers, found) {
+        Err(Refusal::OtherSystem)
+    } else {
+        Ok(CallState {
+            last: at.second,
+            failures: 0,
+            wait: 0,
+            outcome: Outcome::Done,
+        })
     }
 }

@@ -8,10 +8,12 @@ mod due;
 mod job;
 mod refusal;
 mod system;
+mod waiting;
 
 pub use command::{Command, Reply};
-pub use decide::{decide_drop, decide_job, decide_queue};
+pub use decide::{decide_done, decide_drop, decide_failed, decide_job, decide_queue};
 pub use due::Due;
 pub use job::{By, JobHead, Kind, NewJob};
 pub use refusal::Refusal;
 pub use system::{CallState, Outcome, SystemRow};
+pub use waiting::{held, limit};
