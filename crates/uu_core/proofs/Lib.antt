@@ -1,1 +1,4 @@
+pub mod JobLemmas
+pub mod Members
+pub mod RunLemmas
 pub mod WaitingLemmas

@@ -1,5 +1,6 @@
 pub mod After
 pub mod Due
+pub mod Laws
 pub mod Refusal
 pub mod Run
 pub mod State

@@ -6,6 +6,7 @@ mod command;
 mod decide;
 mod due;
 mod job;
+pub mod laws;
 mod refusal;
 mod system;
 mod waiting;
