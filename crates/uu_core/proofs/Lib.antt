@@ -1,3 +1,4 @@
+pub mod DueLemmas
 pub mod JobLemmas
 pub mod Members
 pub mod RunLemmas

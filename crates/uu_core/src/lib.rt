@@ -13,7 +13,7 @@ mod waiting;
 
 pub use command::{Command, Reply};
 pub use decide::{decide_done, decide_drop, decide_failed, decide_job, decide_queue};
-pub use due::Due;
+pub use due::{Due, choose};
 pub use job::{By, JobHead, Kind, NewJob};
 pub use refusal::Refusal;
 pub use system::{CallState, Outcome, SystemRow};
