@@ -1,0 +1,285 @@
+-- The walk along the jobs in order, step by step, and what it lists.
+use Rattle.std.proofs.Common.{◌≡◌, ◌≢◌, IsPermutation, All, Bor, nat_cmp, ℕ, zero, suc, ◌-◌, ◌+◌, ◌<◌, ◌≤◌, Bool, true, false, not, cond, ltb, leb, eqb, ◌==◌, ◌&&◌, ◌||◌, max, List, [], ◌∷◌, ◌++◌, length, take, drop, map, filter, get_or, Contains, AllPairs, Option, Some, None, refl, ap, sym, ◌∙◌, subst, inl, inr, ◌⊎◌, arith, append_assoc, append-nil, nat_eq}
+use Rattle.std.specs.List.{list_any, list_all, IsDistinct}
+use Rattle.std.proofs.lemmas.Map.Keys.{apart_from_distinct, IsDistinct-IsPermutation}
+use Rattle.std.proofs.lemmas.List.Kept.{AllPairs-filter}
+use Rattle.std.proofs.lemmas.List.Elements.{All-head, All-tail, All-contains, Contains-append_right}
+use Rattle.std.specs.Ordering.{is_eq, is_lt, ordering_then}
+use Rattle.std.specs.Cmp.Lexicographic.{slice_cmp, pointwise, texts_ties, bytes_decides}
+use Rattle.std.proofs.lemmas.Bool.Decides.{nat_tests}
+use Rattle.std.proofs.lemmas.List.{take_more, drop_more, length-map}
+use Rattle.std.proofs.lemmas.List.Sorted.{IsPermutation-sym, IsPermutation-map, Contains-permutation, list_any-IsPermutation}
+use Rattle.uu_times.specs.declared.moment.Moment.{Moment}
+use Rattle.uu_core.specs.declared.job.JobHead.{JobHead}
+use Rattle.uu_core.specs.declared.system.SystemRow.{SystemRow}
+use Rattle.uu_core.specs.declared.due.Due.{Due}
+use Rattle.uu_core.specs.State.{same_text, is_system}
+use Rattle.uu_core.specs.Due.{limit_now, is_within, may_be_called, may_go, goes_before, is_due, due_of, ComesFirst, IsDue, AreDue, HaveNumbers, is_next, walk, walk_after, AreInOrder}
+use Rattle.uu_core.proofs.Members.{first_of, kept, from_filter, mapped, from_map}
+
+-- the greater of a limit that is there and another one
+abbrev pub with_limit : Option ℕ → ℕ → ℕ
+with_limit None lowest = lowest
+with_limit (Some other) lowest = max lowest other
+
+-- a job before was one for which this system may be called
+abbrev pub is_called_before : List SystemRow → Moment → List JobHead → List ℕ → Bool
+is_called_before rows at seen name = list_any (λ other. same_text other.system name && may_go rows at other) seen
+
+pub any-push : {X : Type 0} (p : X → Bool) (xs : List X) (x : X) → list_any p (xs ++ x ∷ []) ≡ list_any p xs || p x
+any-push p [] x = or-false (p x)
+  where
+    or-false : (b : Bool) → b || false ≡ b
+    or-false true = refl
+    or-false false = refl
+any-push p (y ∷ xs) x = ap (λ b. p y || b) (any-push p xs x) ∙ or-assoc (p y) _ _
+  where
+    or-assoc : (a b c : Bool) → a || (b || c) ≡ (a || b) || c
+    or-assoc true b c = refl
+    or-assoc false b c = refl
+
+-- the lower of two limits lets each through that one of them lets through
+pub within-max : (a b grade : ℕ) → is_within (Some (max a b)) grade ≡ is_within (Some b) grade || leb grade a
+within-max a b grade = grind (arith, nat_tests)
+
+-- ---- one more system
+
+pub limits_more : (rows : List SystemRow) (i : ℕ) (d : SystemRow) (at : Moment) (name : List ℕ) (grade : ℕ) → i < length rows → may_be_called (take (i + 1) rows) at name grade ≡ may_be_called (take i rows) at name grade || (is_system name (get_or rows i d) && is_within (limit_now (get_or rows i d) at) grade)
+limits_more rows i d at name grade h =
+    ap (λ t. may_be_called t at name grade) (take_more rows i d h) ∙ any-push (λ row. is_system name row && is_within (limit_now row at) grade) (take i rows) (get_or rows i d)
+
+-- ---- one more job
+
+pub same_is : (a b : List ℕ) → same_text a b ≡ true → a ≡ b
+same_is a b = (bytes_decides a b).0
+
+-- the system of a job that is listed is free no more
+pub free_listed : (rows : List SystemRow) (at : Moment) (seen : List JobHead) (job : JobHead) (name : List ℕ) (grade : ℕ) (old new : Option ℕ) → is_within old grade ≡ (may_be_called rows at name grade && not (is_called_before rows at seen name)) → new ≡ cond (same_text job.system name) None old → may_go rows at job ≡ true → is_within new grade ≡ (may_be_called rows at name grade && not (is_called_before rows at (seen ++ job ∷ []) name))
+free_listed rows at seen job name grade old new h e may =
+    ap (λ o. is_within o grade) e ∙ by-same (same_text job.system name) ∙ ap (λ b. may_be_called rows at name grade && not b) (sym pushed)
+  where
+    pushed : is_called_before rows at (seen ++ job ∷ []) name ≡ is_called_before rows at seen name || same_text job.system name
+    pushed = any-push (λ other. same_text other.system name && may_go rows at other) seen job ∙ ap (λ b. is_called_before rows at seen name || (same_text job.system name && b)) may ∙ ap (λ b. is_called_before rows at seen name || b) (and-true (same_text job.system name))
+      where
+        and-true : (b : Bool) → b && true ≡ b
+        and-true true = refl
+        and-true false = refl
+    by-same : (t : Bool) → is_within (cond t None old) grade ≡ (may_be_called rows at name grade && not (is_called_before rows at seen name || t))
+    by-same true = sym (never (may_be_called rows at name grade) (is_called_before rows at seen name))
+      where
+        never : (a b : Bool) → a && not (b || true) ≡ false
+        never true true = refl
+        never true false = refl
+        never false b = refl
+    by-same false = h ∙ ap (λ b. may_be_called rows at name grade && not b) (or-false (is_called_before rows at seen name))
+      where
+        or-false : (b : Bool) → b ≡ b || false
+        or-false true = refl
+        or-false false = refl
+
+-- a job that isn't listed leaves the systems as they are
+pub free_passed : (rows : List SystemRow) (at : Moment) (seen : List JobHead) (job : JobHead) (name : List ℕ) (grade : ℕ) → (may_go rows at job && not (is_called_before rows at seen job.system)) ≡ false → is_called_before rows at (seen ++ job ∷ []) name ≡ is_called_before rows at seen name
+free_passed rows at seen job name grade passed =
+    any-push (λ other. same_text other.system name && may_go rows at other) seen job ∙ by-same (same_text job.system name) refl
+  where
+    by-same : (t : Bool) → same_text job.system name ≡ t → is_called_before rows at seen name || (t && may_go rows at job) ≡ is_called_before rows at seen name
+    by-same false e = or-false (is_called_before rows at seen name)
+      where
+        or-false : (b : Bool) → b || false ≡ b
+        or-false true = refl
+        or-false false = refl
+    by-same true e = absorbed (may_go rows at job) (is_called_before rows at seen name) (subst (λ (n : List ℕ). (may_go rows at job && not (is_called_before rows at seen n)) ≡ false) (same_is job.system name e) passed)
+      where
+        absorbed : (may before : Bool) → (may && not before) ≡ false → before || may ≡ before
+        absorbed true true h = refl
+        absorbed true false h = h
+        absorbed false true h = refl
+        absorbed false false h = refl
+
+pub step_listed : (rows : List SystemRow) (at : Moment) (jobs : List JobHead) (i : ℕ) (d : JobHead) (dues : List Due) (whole : List Due) → i < length jobs → is_next rows at (take i jobs) (get_or jobs i d) ≡ true → dues ++ walk_after rows at (take i jobs) (drop i jobs) ≡ whole → (dues ++ due_of (get_or jobs i d) ∷ []) ++ walk_after rows at (take (i + 1) jobs) (drop (i + 1) jobs) ≡ whole
+step_listed rows at jobs i d dues whole h listed e =
+    append_assoc dues (due_of (get_or jobs i d) ∷ []) _ ∙ ap (λ t. dues ++ t) (sym (opened ∙ rw listed)) ∙ e
+  where
+    opened : walk_after rows at (take i jobs) (drop i jobs) ≡ cond (is_next rows at (take i jobs) (get_or jobs i d)) (due_of (get_or jobs i d) ∷ walk_after rows at (take (i + 1) jobs) (drop (i + 1) jobs)) (walk_after rows at (take (i + 1) jobs) (drop (i + 1) jobs))
+    opened = ap (walk_after rows at (take i jobs)) (drop_more jobs i d h) ∙ ap (λ t. cond (is_next rows at (take i jobs) (get_or jobs i d)) (due_of (get_or jobs i d) ∷ walk_after rows at t (drop (i + 1) jobs)) (walk_after rows at t (drop (i + 1) jobs))) (sym (take_more jobs i d h))
+
+pub step_passed : (rows : List SystemRow) (at : Moment) (jobs : List JobHead) (i : ℕ) (d : JobHead) (dues : List Due) (whole : List Due) → i < length jobs → is_next rows at (take i jobs) (get_or jobs i d) ≡ false → dues ++ walk_after rows at (take i jobs) (drop i jobs) ≡ whole → dues ++ walk_after rows at (take (i + 1) jobs) (drop (i + 1) jobs) ≡ whole
+step_passed rows at jobs i d dues whole h passed e =
+    ap (λ t. dues ++ t) (sym (opened ∙ rw passed)) ∙ e
+  where
+    opened : walk_after rows at (take i jobs) (drop i jobs) ≡ cond (is_next rows at (take i jobs) (get_or jobs i d)) (due_of (get_or jobs i d) ∷ walk_after rows at (take (i + 1) jobs) (drop (i + 1) jobs)) (walk_after rows at (take (i + 1) jobs) (drop (i + 1) jobs))
+    opened = ap (walk_after rows at (take i jobs)) (drop_more jobs i d h) ∙ ap (λ t. cond (is_next rows at (take i jobs) (get_or jobs i d)) (due_of (get_or jobs i d) ∷ walk_after rows at t (drop (i + 1) jobs)) (walk_after rows at t (drop (i + 1) jobs))) (sym (take_more jobs i d h))
+
+-- ---- what the walk lists
+
+all_first : {X : Type 0} (R : X → X → Type 0) (x : X) (xs : List X) → AllPairs R (x ∷ xs) → All (R x) xs
+all_first R x xs h k d within = h 0 (suc k) d (omega arith) (omega arith)
+
+all_rest : {X : Type 0} (R : X → X → Type 0) (x : X) (xs : List X) → AllPairs R (x ∷ xs) → AllPairs R xs
+all_rest R x xs h i j d below within = h (suc i) (suc j) d (omega arith) (omega arith)
+
+not_itself : (a : JobHead) → goes_before a a ≡ false
+not_itself a = grind (arith, nat_tests)
+
+not_back : (a b : JobHead) → goes_before a b ≡ true → goes_before b a ≡ false
+not_back a b h = grind (arith, nat_tests)
+
+abbrev not_after : List SystemRow → Moment → JobHead → JobHead → Bool
+not_after rows at job other = not (same_text other.system job.system && may_go rows at other && goes_before other job)
+
+-- no job that comes later goes before
+none_later : (rows : List SystemRow) (at : Moment) (job : JobHead) (later : List JobHead) → All (λ other. goes_before job other ≡ true) later → list_all (not_after rows at job) later ≡ true
+none_later rows at job [] h = refl
+none_later rows at job (other ∷ later) h =
+    let first = not_back job other (All-head (λ o. goes_before job o ≡ true) other later h) in
+    let rest = none_later rows at job later (All-tail (λ o. goes_before job o ≡ true) other later h) in
+    rw (first, rest) (closed (same_text other.system job.system && may_go rows at other))
+  where
+    closed : (b : Bool) → not (b && false) && true ≡ true
+    closed true = refl
+    closed false = refl
+
+-- the jobs before one in the order are those that go before it
+is_last : (rows : List SystemRow) (at : Moment) (seen later : List JobHead) (job : JobHead) → AreInOrder (seen ++ job ∷ later) → list_all (not_after rows at job) (seen ++ job ∷ later) ≡ not (is_called_before rows at seen job.system)
+is_last rows at [] later job order =
+    rw (not_itself job, none_later rows at job later (all_first (λ a b. goes_before a b ≡ true) job later order)) (closed (same_text job.system job.system && may_go rows at job))
+  where
+    closed : (b : Bool) → not (b && false) && true ≡ true
+    closed true = refl
+    closed false = refl
+is_last rows at (other ∷ seen) later job order =
+    let before : goes_before other job ≡ true = All-contains (λ o. goes_before other o ≡ true) (seen ++ job ∷ later) job (all_first (λ a b. goes_before a b ≡ true) other (seen ++ job ∷ later) order) (Contains-append_right seen (job ∷ later) job (first_of job later)) in
+    rw (before, is_last rows at seen later job (all_rest (λ a b. goes_before a b ≡ true) other (seen ++ job ∷ later) order)) (both (same_text other.system job.system && may_go rows at other) (is_called_before rows at seen job.system))
+  where
+    both : (a b : Bool) → not (a && true) && not b ≡ not (a || b)
+    both true b = refl
+    both false b = refl
+
+-- so the walk lists the jobs that are due
+walk_lists : (rows : List SystemRow) (at : Moment) (seen rest : List JobHead) → AreInOrder (seen ++ rest) → walk_after rows at seen rest ≡ map due_of (filter (is_due rows (seen ++ rest) at) rest)
+walk_lists rows at seen [] order = refl
+walk_lists rows at seen (job ∷ rest) order =
+    by-next (is_next rows at seen job) (walk_lists rows at (seen ++ job ∷ []) rest (subst AreInOrder (sym (append_assoc seen (job ∷ []) rest)) order) ∙ ap (λ (all : List JobHead). map due_of (filter (is_due rows all at) rest)) (append_assoc seen (job ∷ []) rest)) ∙ ap (λ t. map due_of (cond t (job ∷ filter p rest) (filter p rest))) next_is
+  where
+    p : JobHead → Bool
+    p = is_due rows (seen ++ job ∷ rest) at
+    next_is : is_next rows at seen job ≡ p job
+    next_is = ap (λ b. may_go rows at job && b) (sym (is_last rows at seen rest job order))
+    by-next : (t : Bool) → walk_after rows at (seen ++ job ∷ []) rest ≡ map due_of (filter p rest) → cond t (due_of job ∷ walk_after rows at (seen ++ job ∷ []) rest) (walk_after rows at (seen ++ job ∷ []) rest) ≡ map due_of (cond t (job ∷ filter p rest) (filter p rest))
+    by-next true again = ap (λ t. due_of job ∷ t) again
+    by-next false again = again
+
+-- a test of all elements is the same in another order
+not-any : {X : Type 0} (p : X → Bool) (zs : List X) → list_all p zs ≡ not (list_any (λ x. not (p x)) zs)
+not-any p [] = refl
+not-any p (z ∷ zs) = by-test (p z) (not-any p zs)
+  where
+    by-test : (t : Bool) → list_all p zs ≡ not (list_any (λ x. not (p x)) zs) → t && list_all p zs ≡ not (not t || list_any (λ x. not (p x)) zs)
+    by-test true e = e
+    by-test false e = refl
+
+all-permutation : {X : Type 0} (p : X → Bool) (xs ys : List X) → IsPermutation xs ys → list_all p xs ≡ list_all p ys
+all-permutation p xs ys same = not-any p xs ∙ ap not (list_any-IsPermutation (λ x. not (p x)) xs ys same) ∙ sym (not-any p ys)
+
+due_same : (rows : List SystemRow) (at : Moment) (jobs ordered : List JobHead) (job : JobHead) → IsPermutation jobs ordered → is_due rows jobs at job ≡ is_due rows ordered at job
+due_same rows at jobs ordered job same = ap (λ b. may_go rows at job && b) (all-permutation (not_after rows at job) jobs ordered same)
+
+pub map_at : {X Y : Type 0} (f : X → Y) (xs : List X) (k : ℕ) (d : Y) (e : X) → k < length xs → get_or (map f xs) k d ≡ f (get_or xs k e)
+map_at f [] k d e h = absurd (omega arith)
+map_at f (x ∷ xs) zero d e h = refl
+map_at f (x ∷ xs) (suc k) d e h = map_at f xs k d e (omega arith)
+
+pairs-map : (jobs : List JobHead) → AreInOrder jobs → AllPairs ComesFirst (map due_of jobs)
+pairs-map [] order i j d below within = absurd (omega arith)
+pairs-map (job ∷ jobs) order i j d below within =
+    let count : length (map due_of (job ∷ jobs)) ≡ length (job ∷ jobs) = length-map (job ∷ jobs) due_of in
+    let a = map_at due_of (job ∷ jobs) i d job (omega arith) in
+    let b = map_at due_of (job ∷ jobs) j d job (omega arith) in
+    rw (a, b) (order i j job below (omega arith))
+
+pub walk_is_due : (rows : List SystemRow) (at : Moment) (jobs ordered : List JobHead) → IsPermutation jobs ordered → AreInOrder ordered → AreDue rows jobs at (walk rows ordered at)
+walk_is_due rows at jobs ordered same order = subst (AreDue rows jobs at) (sym (walk_lists rows at [] ordered order)) (record {
+  sound = λ due h. let m = from_map due_of (filter p ordered) due h in let f = from_filter p ordered m.0 m.1 in
+    record { job = m.0; there = Contains-permutation ordered jobs m.0 (IsPermutation-sym jobs ordered same) f.0; first = due_same rows at jobs ordered m.0 same ∙ f.1; is = sym m.2 };
+  complete = λ due h. subst (Contains (map due_of (filter p ordered))) (sym h.is)
+    (mapped due_of (filter p ordered) h.job (kept p ordered h.job (Contains-permutation jobs ordered h.job same h.there) (sym (due_same rows at jobs ordered h.job same) ∙ h.first)));
+  in_order = pairs-map (filter p ordered) (AllPairs-filter (λ a b. goes_before a b ≡ true) p ordered order) })
+  where
+    p : JobHead → Bool
+    p = is_due rows ordered at
+
+-- ---- the order after a sort
+
+goes_on : (a b c : JobHead) → goes_before a b ≡ true → goes_before b c ≡ true → goes_before a c ≡ true
+goes_on a b c h k = grind (arith, nat_tests)
+
+far : (jobs : List JobHead) → ((k : ℕ) (d : JobHead) → k + 1 < length jobs → goes_before (get_or jobs k d) (get_or jobs (k + 1) d) ≡ true) → (n i : ℕ) (d : JobHead) → i + (n + 1) < length jobs → goes_before (get_or jobs i d) (get_or jobs (i + (n + 1)) d) ≡ true
+far jobs near zero i d h = near i d (omega arith)
+far jobs near (suc n) i d h =
+    let m : i + (suc n + 1) ≡ (i + (n + 1)) + 1 = omega arith in
+    rw m (goes_on (get_or jobs i d) (get_or jobs (i + (n + 1)) d) (get_or jobs ((i + (n + 1)) + 1) d) (far jobs near n i d (omega arith)) (near (i + (n + 1)) d (omega arith)))
+
+in_pairs : (jobs : List JobHead) → ((k : ℕ) (d : JobHead) → k + 1 < length jobs → goes_before (get_or jobs k d) (get_or jobs (k + 1) d) ≡ true) → AreInOrder jobs
+in_pairs jobs near i j d below within =
+    let m : j ≡ i + (j - i - 1 + 1) = omega arith in
+    rw m (far jobs near (j - i - 1) i d (omega arith))
+
+not_less : (a b : JobHead) → is_lt (ordering_then (nat_cmp b.grade a.grade) (nat_cmp b.number a.number)) ≡ false → nat_eq a.number b.number ≡ false → goes_before a b ≡ true
+not_less a b h distinct = grind (arith, nat_tests)
+
+pub order_from_sort : (items : List (Bor JobHead)) (jobs : List JobHead) → ((k : ℕ) (d : Bor JobHead) → 0 ≤ k → k + 1 < length items → is_lt (ordering_then (nat_cmp (get_or items (k + 1) d).now.grade (get_or items k d).now.grade) (nat_cmp (get_or items (k + 1) d).now.number (get_or items k d).now.number)) ≡ false) → IsPermutation jobs (map (λ job. job.now) items) → HaveNumbers jobs → AreInOrder (map (λ job. job.now) items)
+order_from_sort [] jobs sorted same distinct = λ i j d below within. absurd (omega arith)
+order_from_sort (item ∷ items) jobs sorted same distinct = in_pairs (map now (item ∷ items)) near
+  where
+    now : Bor JobHead → JobHead
+    now job = job.now
+    numbers : List ℕ
+    numbers = map (λ (job : JobHead). job.number) (map now (item ∷ items))
+    flips : (x y : ℕ) → nat_eq x y ≡ nat_eq y x
+    flips x y = grind (arith, nat_tests)
+    apart : IsDistinct nat_eq numbers
+    apart = IsDistinct-IsPermutation nat_eq flips _ _ (IsPermutation-map (λ (job : JobHead). job.number) jobs (map now (item ∷ items)) same) distinct
+    near : (k : ℕ) (d : JobHead) → k + 1 < length (map now (item ∷ items)) → goes_before (get_or (map now (item ∷ items)) k d) (get_or (map now (item ∷ items)) (k + 1) d) ≡ true
+    near k d h =
+        let count : length (map now (item ∷ items)) ≡ length (item ∷ items) = length-map (item ∷ items) now in
+        let all : length numbers ≡ length (map now (item ∷ items)) = length-map (map now (item ∷ items)) (λ (job : JobHead). job.number) in
+        let a = map_at now (item ∷ items) k d item (omega arith) in
+        let b = map_at now (item ∷ items) (k + 1) d item (omega arith) in
+        let differ = apart_from_distinct nat_eq numbers k (k + 1) 0 apart (omega arith) (omega arith) in
+        let na = map_at (λ (job : JobHead). job.number) (map now (item ∷ items)) k 0 d (omega arith) in
+        let nb = map_at (λ (job : JobHead). job.number) (map now (item ∷ items)) (k + 1) 0 d (omega arith) in
+        let e : nat_eq (get_or (map now (item ∷ items)) k d).number (get_or (map now (item ∷ items)) (k + 1) d).number ≡ false = (λ i. nat_eq (sym na i) (sym nb i)) ∙ differ in
+        let less = sorted k item (omega arith) (omega arith) in
+        not_less (get_or (map now (item ∷ items)) k d) (get_or (map now (item ∷ items)) (k + 1) d) ((λ i. is_lt (ordering_then (nat_cmp (b i).grade (a i).grade) (nat_cmp (b i).number (a i).number))) ∙ less) e
+
+-- ---- one more limit
+
+pub lowered : (old new : Option ℕ) (lowest now : ℕ) (same : Bool) (grade : ℕ) (found : Option ℕ) → new ≡ cond same (Some now) old → (same ≡ true → found ≡ old) → now ≡ with_limit found lowest → is_within new grade ≡ (is_within old grade || (same && leb grade lowest))
+lowered old new lowest now false grade found e f g = ap (λ o. is_within o grade) e ∙ or-false (is_within old grade)
+  where
+    or-false : (b : Bool) → b ≡ b || false
+    or-false true = refl
+    or-false false = refl
+lowered old new lowest now true grade found e f g =
+    ap (λ o. is_within o grade) e ∙ ap (λ n. leb grade n) (g ∙ ap (λ o. with_limit o lowest) (f refl)) ∙ by-old old
+  where
+    by-old : (o : Option ℕ) → leb grade (with_limit o lowest) ≡ (is_within o grade || leb grade lowest)
+    by-old None = refl
+    by-old (Some other) = grind (arith, nat_tests)
+
+-- a system that may not be called adds nothing
+pub not_more : (a b : Bool) (limit : Option ℕ) (grade : ℕ) → limit ≡ None → (a || (b && is_within limit grade)) ≡ a
+not_more a b limit grade e = ap (λ o. a || (b && is_within o grade)) e ∙ closed a b
+  where
+    closed : (a b : Bool) → (a || (b && false)) ≡ a
+    closed true b = refl
+    closed false true = refl
+    closed false false = refl
+
+pub and-left : (a b : Bool) → a && b ≡ true → a ≡ true
+and-left true b e = refl
+and-left false b e = e
+
+pub free_all : (may before : Bool) (within : Bool) → within ≡ may → before ≡ false → within ≡ (may && not before)
+free_all true before within e f = e ∙ ap not (sym f)
+free_all false before within e f = e

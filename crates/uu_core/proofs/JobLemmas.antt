@@ -1,0 +1,89 @@
+-- What a command does to the jobs.
+use Rattle.std.proofs.Common.{◌≡◌, ℕ, ◌+◌, ◌<◌, Bool, true, false, not, cond, eqb, ◌==◌, List, [], ◌∷◌, ◌++◌, map, filter, Contains, Option, Some, None, refl, ap, sym, ◌∙◌, inl, inr, ◌⊎◌, arith}
+use Rattle.std.specs.List.{list_any}
+use Rattle.std.proofs.lemmas.Bool.Decides.{nat_tests}
+use Rattle.std.proofs.lemmas.List.Elements.{Contains-append_left, Contains-push_cases}
+use Rattle.uu_core.specs.declared.command.Command.{Command}
+use Rattle.uu_core.specs.declared.command.Command.TheVariants.{Define, Remove, Queue, Kill, Regrade, Rejuvenate, Failed, Done, Entry}
+use Rattle.uu_core.specs.declared.refusal.Refusal.{Refusal}
+use Rattle.uu_core.specs.State.{State, Job, is_job}
+use Rattle.uu_core.specs.Verdict.{verdict}
+use Rattle.uu_core.specs.After.{after, after_verdict, accept, change_job, job_of, is_among}
+use Rattle.uu_core.specs.Laws.{lets_go, IsSameJob, IsAmong, IsHandedIn}
+use Rattle.uu_core.proofs.Members.{kept, from_filter, mapped, from_map}
+
+same_job : (job : Job) → IsSameJob job job
+same_job job = record { number = refl; system = refl; user = refl; kind = refl; bytes = refl }
+
+itself : (jobs : List Job) (job : Job) → Contains jobs job → IsAmong jobs job
+itself jobs job h = record { later = job; there = h; same = same_job job }
+
+stays_changed : (jobs : List Job) (number : ℕ) (change : Job → Job) (job : Job) → ((j : Job) → IsSameJob j (change j)) → Contains jobs job → IsAmong (change_job number change jobs) job
+stays_changed jobs number change job little h = by-test (is_job number job) refl
+  where
+    f : Job → Job
+    f other = cond (is_job number other) (change other) other
+    by-test : (t : Bool) → is_job number job ≡ t → IsAmong (change_job number change jobs) job
+    by-test true e = record { later = change job; there = ap-there (rw e) (mapped f jobs job h); same = little job }
+      where
+        ap-there : f job ≡ change job → Contains (map f jobs) (f job) → Contains (map f jobs) (change job)
+        ap-there q c = rw (← q) c
+    by-test false e = record { later = job; there = ap-there (rw e) (mapped f jobs job h); same = same_job job }
+      where
+        ap-there : f job ≡ job → Contains (map f jobs) (f job) → Contains (map f jobs) job
+        ap-there q c = rw q at c
+
+not-true : (t : Bool) → t ≡ false → not t ≡ true
+not-true t e = rw e
+
+pub stays-accept : (state : State) (command : Command) (job : Job) → Contains state.jobs job → lets_go command job.number ≡ false → IsAmong (accept state command).jobs job
+stays-accept state (Define def) job h e = itself state.jobs job h
+stays-accept state (Remove name) job h e = itself state.jobs job h
+stays-accept state (Queue new) job h e = itself _ job (Contains-append_left state.jobs (job_of state.next new ∷ []) job h)
+stays-accept state (Kill number by) job h e = itself _ job (kept (λ other. not (is_job number other)) state.jobs job h (not-true (is_job number job) e))
+stays-accept state (Regrade number grade by) job h e = stays_changed state.jobs number (λ other. record other { grade = grade }) job (λ j. record { number = refl; system = refl; user = refl; kind = refl; bytes = refl }) h
+stays-accept state (Rejuvenate number at by) job h e = stays_changed state.jobs number (λ other. record other { queued = at.second }) job (λ j. record { number = refl; system = refl; user = refl; kind = refl; bytes = refl }) h
+stays-accept state (Failed system at why) job h e = itself state.jobs job h
+stays-accept state (Done system at jobs) job h e = itself _ job (kept (λ j. not (is_among jobs j)) state.jobs job h (not-true (is_among jobs job) e))
+stays-accept state (Entry bytes) job h e = itself state.jobs job h
+
+pub stays : (state : State) (command : Command) (job : Job) → Contains state.jobs job → lets_go command job.number ≡ false → IsAmong (after state command).0.jobs job
+stays state command job h e = by-verdict (verdict state command)
+  where
+    by-verdict : (v : Option Refusal) → IsAmong (after_verdict v state command).0.jobs job
+    by-verdict None = stays-accept state command job h e
+    by-verdict (Some refusal) = itself state.jobs job h
+
+-- ---- nothing is made
+
+back : (job later : Job) → IsSameJob job later → IsSameJob later job
+back job later s = record { number = sym s.number; system = sym s.system; user = sym s.user; kind = sym s.kind; bytes = sym s.bytes }
+
+was_changed : (jobs : List Job) (number : ℕ) (change : Job → Job) (later : Job) → ((j : Job) → IsSameJob j (change j)) → Contains (change_job number change jobs) later → IsAmong jobs later
+was_changed jobs number change later little h =
+    let r = from_map (λ other. cond (is_job number other) (change other) other) jobs later h in
+    record { later = r.0; there = r.1; same = back r.0 later (by-test (is_job number r.0) r.2) }
+  where
+    by-test : {job : Job} (t : Bool) → cond t (change job) job ≡ later → IsSameJob job later
+    by-test {job} true e = rw (← e) (little job)
+    by-test {job} false e = rw (← e) (same_job job)
+
+pub handed_in-accept : (state : State) (command : Command) (later : Job) → Contains (accept state command).jobs later → IsAmong state.jobs later ⊎ IsHandedIn state command later
+handed_in-accept state (Define def) later h = inl (itself state.jobs later h)
+handed_in-accept state (Remove name) later h = inl (itself state.jobs later h)
+handed_in-accept state (Queue new) later h = elim (Contains-push_cases state.jobs (job_of state.next new) later h) [
+    inl there ↦ inl (itself state.jobs later there)
+  | inr same ↦ inr (record { new = new; command_is = refl; job_is = sym same }) ]
+handed_in-accept state (Kill number by) later h = inl (itself state.jobs later (from_filter (λ other. not (is_job number other)) state.jobs later h).0)
+handed_in-accept state (Regrade number grade by) later h = inl (was_changed state.jobs number (λ other. record other { grade = grade }) later (λ j. record { number = refl; system = refl; user = refl; kind = refl; bytes = refl }) h)
+handed_in-accept state (Rejuvenate number at by) later h = inl (was_changed state.jobs number (λ other. record other { queued = at.second }) later (λ j. record { number = refl; system = refl; user = refl; kind = refl; bytes = refl }) h)
+handed_in-accept state (Failed system at why) later h = inl (itself state.jobs later h)
+handed_in-accept state (Done system at jobs) later h = inl (itself state.jobs later (from_filter (λ j. not (is_among jobs j)) state.jobs later h).0)
+handed_in-accept state (Entry bytes) later h = inl (itself state.jobs later h)
+
+pub handed_in : (state : State) (command : Command) (later : Job) → Contains (after state command).0.jobs later → IsAmong state.jobs later ⊎ IsHandedIn state command later
+handed_in state command later h = by-verdict (verdict state command) h
+  where
+    by-verdict : (v : Option Refusal) → Contains (after_verdict v state command).0.jobs later → IsAmong state.jobs later ⊎ IsHandedIn state command later
+    by-verdict None h = handed_in-accept state command later h
+    by-verdict (Some refusal) h = inl (itself state.jobs later h)

@@ -1,0 +1,5 @@
+pub mod DueLemmas
+pub mod JobLemmas
+pub mod Members
+pub mod RunLemmas
+pub mod WaitingLemmas

@@ -1,0 +1,20 @@
+-- The references are to the jobs, in the order of the sort.
+use Rattle.std.proofs.Common.{◌≡◌, List, map, take, length, IsPermutation, subst, sym, ap, ◌∙◌, Bor, ℕ, arith, rules}
+use Rattle.std.proofs.lemmas.List.{take_all}
+use Rattle.std.proofs.lemmas.List.Sorted.{IsPermutation-map, answers_always}
+use Rattle.uu_core.specs.declared.job.JobHead.{JobHead}
+use Rattle.uu_core.proofs.DueLemmas.{order_from_sort}
+use Rattle.uu_core.proofs.due.in_order.Goals as goal
+
+pub returns-clause-same : goal.returns-clause-same
+returns-clause-same c =
+    let all : map (λ job. job.now) c.loop-job.ordered.items ≡ c.args.jobs.now = c.loop-job.invariant ∙ take_all c.loop-job.job-index c.args.jobs.now (omega arith) in
+    subst (λ (l : List JobHead). IsPermutation l (map (λ job. job.now) c.sort_by_key.new.self.items)) all (IsPermutation-map (λ (job : Bor JobHead). job.now) _ _ c.sort_by_key.ensures.permutation)
+
+pub returns-clause-order : goal.returns-clause-order
+returns-clause-order c =
+    let all : map (λ job. job.now) c.loop-job.ordered.items ≡ c.args.jobs.now = c.loop-job.invariant ∙ take_all c.loop-job.job-index c.args.jobs.now (omega arith) in
+    let same = subst (λ (l : List JobHead). IsPermutation l (map (λ job. job.now) c.sort_by_key.new.self.items)) all (IsPermutation-map (λ (job : Bor JobHead). job.now) _ _ c.sort_by_key.ensures.permutation) in
+    order_from_sort c.sort_by_key.new.self.items c.args.jobs.now
+      (c.in_ok-sort_by_key.ensures.sorted (λ job. (job.now.grade, job.now.number)) (answers_always _ _ _ (λ f a r q k. search rules)))
+      same

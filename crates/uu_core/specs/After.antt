@@ -1,0 +1,124 @@
+-- What a command makes of a state, and what it answers.
+use Rattle.std.specs.Prelude.{ℕ, ◌+◌, Bool, not, ◌==◌, List, [], ◌∷◌, ◌++◌, map, filter, Option, Some, None, Result, Ok, Err, if◌then◌else◌}
+use Rattle.std.specs.declared.cmp.Ordering.{Ordering}
+use Rattle.std.specs.declared.cmp.Ordering.TheVariants.{Less, Equal, Greater}
+use Rattle.std.specs.Ordering.{nat_cmp}
+use Rattle.std.specs.Cmp.Lexicographic.{slice_cmp}
+use Rattle.std.specs.List.{list_any}
+use Rattle.uu_times.specs.System.{System}
+use Rattle.uu_times.specs.declared.moment.Moment.{Moment}
+use Rattle.uu_map.specs.Text.{host_of}
+use Rattle.uu_map.specs.declared.fault.MapFault.{MapFault}
+use Rattle.uu_core.specs.declared.command.Command.{Command}
+use Rattle.uu_core.specs.declared.command.Command.TheVariants.{Define, Remove, Queue, Kill, Regrade, Rejuvenate, Failed, Done, Entry}
+use Rattle.uu_core.specs.declared.command.Reply.{Reply}
+use Rattle.uu_core.specs.declared.command.Reply.TheVariants.{Done as Carried, Number, Refused}
+use Rattle.uu_core.specs.declared.job.NewJob.{NewJob}
+use Rattle.uu_core.specs.declared.system.Outcome.TheVariants.{Never, Failed as FailedFor, Done as WasDone}
+use Rattle.uu_core.specs.declared.system.CallState.{CallState}
+use Rattle.uu_core.specs.declared.system.SystemRow.{SystemRow}
+use Rattle.uu_core.specs.declared.refusal.Refusal.{Refusal}
+use Rattle.uu_core.specs.declared.refusal.Refusal.TheVariants.{NoSystem}
+use Rattle.uu_core.specs.State.{State, Job, MapEntry, is_job, is_system, is_entry, system_at}
+use Rattle.uu_core.specs.Waiting.{one_more, wait_after}
+use Rattle.uu_core.specs.Verdict.{verdict}
+
+-- ---- calls
+
+abbrev pub never_called : CallState
+never_called = record { last = 0; failures = 0; wait = 0; outcome = Never }
+
+-- the call state after one more failure
+abbrev pub failed_call : SystemRow → Moment → List ℕ → CallState
+failed_call row at why =
+    record { last = at.second; failures = one_more row.call.failures; wait = wait_after row.def at.week (one_more row.call.failures); outcome = FailedFor why }
+
+-- the answer to the report of a failed call on a system, if it is known
+abbrev pub failed_decision : Option SystemRow → Moment → List ℕ → Result CallState Refusal
+failed_decision None at why = Err NoSystem
+failed_decision (Some row) at why = Ok (failed_call row at why)
+
+-- the call state after a call
+abbrev pub done_call : Moment → CallState
+done_call at = record { last = at.second; failures = 0; wait = 0; outcome = WasDone }
+
+-- ---- lists that are kept in the order of a name
+
+-- where a text comes in relation to that of the first of a list
+abbrev pub by_order : {V : Type 0} → Ordering → V → V → V → V
+by_order Less before same after = before
+by_order Equal before same after = same
+by_order Greater before same after = after
+
+-- the item in its place, instead of the one of its name if there is one
+abbrev pub put_by : {V : Type 0} → (V → List ℕ) → V → List V → List V
+put_by name item [] = item ∷ []
+put_by name item (other ∷ others) =
+    by_order (slice_cmp nat_cmp (name item) (name other)) (item ∷ other ∷ others) (item ∷ others) (other ∷ put_by name item others)
+
+abbrev pub put_system : SystemRow → List SystemRow → List SystemRow
+put_system = put_by (λ row. row.def.name)
+
+abbrev pub put_entry : MapEntry → List MapEntry → List MapEntry
+put_entry = put_by (λ entry. entry.host)
+
+-- the calls of a system so far, and those of a new one where it isn't known
+abbrev pub call_of : Option SystemRow → CallState
+call_of None = never_called
+call_of (Some row) = row.call
+
+-- ---- what an accepted command changes
+
+-- a job that is handed in, under its number
+abbrev pub job_of : ℕ → NewJob → Job
+job_of number job =
+    record { number = number; system = job.system; grade = job.grade; user = job.user; kind = job.kind; queued = job.at.second; bytes = job.bytes }
+
+-- one job changes, the others stay
+abbrev pub change_job : ℕ → (Job → Job) → List Job → List Job
+change_job number change jobs = map (λ job. if is_job number job then change job else job) jobs
+
+-- the calls of one system change, the other systems stay
+abbrev pub change_call : List ℕ → (SystemRow → CallState) → List SystemRow → List SystemRow
+change_call name change systems = map (λ row. if is_system name row then record row { call = change row } else row) systems
+
+abbrev pub is_among : List ℕ → Job → Bool
+is_among numbers job = list_any (λ number. number == job.number) numbers
+
+-- the bytes of an entry under its host
+abbrev pub keep_entry : Result (List ℕ) MapFault → List ℕ → List MapEntry → List MapEntry
+keep_entry (Ok host) bytes entries = put_entry (record { host = host; bytes = bytes }) entries
+keep_entry (Err fault) bytes entries = entries
+
+abbrev pub accept : State → Command → State
+accept state (Define def) =
+    record state { systems = put_system (record { def = def; call = call_of (system_at state def.name) }) state.systems }
+accept state (Remove name) = record state { systems = filter (λ row. not (is_system name row)) state.systems }
+accept state (Queue job) = record state { jobs = state.jobs ++ job_of state.next job ∷ []; next = state.next + 1 }
+accept state (Kill job by) = record state { jobs = filter (λ other. not (is_job job other)) state.jobs }
+accept state (Regrade job grade by) = record state { jobs = change_job job (λ other. record other { grade = grade }) state.jobs }
+accept state (Rejuvenate job at by) = record state { jobs = change_job job (λ other. record other { queued = at.second }) state.jobs }
+accept state (Failed system at why) = record state { systems = change_call system (λ row. failed_call row at why) state.systems }
+accept state (Done system at jobs) =
+    record state { jobs = filter (λ job. not (is_among jobs job)) state.jobs; systems = change_call system (λ row. done_call at) state.systems }
+accept state (Entry bytes) = record state { entries = keep_entry (host_of bytes) bytes state.entries }
+
+-- the answer to an accepted command: the number of a job that was added
+abbrev pub reply_to : State → Command → Reply
+reply_to state (Queue job) = Number state.next
+reply_to state (Define def) = Carried
+reply_to state (Remove name) = Carried
+reply_to state (Kill job by) = Carried
+reply_to state (Regrade job grade by) = Carried
+reply_to state (Rejuvenate job at by) = Carried
+reply_to state (Failed system at why) = Carried
+reply_to state (Done system at jobs) = Carried
+reply_to state (Entry bytes) = Carried
+
+-- the state after a command and its reply; a refused command leaves the state
+abbrev pub after_verdict : Option Refusal → State → Command → State × Reply
+after_verdict None state command = (accept state command, reply_to state command)
+after_verdict (Some refusal) state command = (state, Refused refusal)
+
+abbrev pub after : State → Command → State × Reply
+after state command = after_verdict (verdict state command) state command

@@ -1,0 +1,75 @@
+-- Which systems may be called now, and for which job.
+use Rattle.std.specs.Prelude.{◌≡◌, ℕ, nat_eq, [], ◌∷◌, ◌++◌, true, Contains, Bool, not, ◌&&◌, ◌||◌, ◌==◌, nat_le, nat_lt, List, map, filter, Option, Some, None, AllPairs, IsTrue, false, if◌then◌else◌}
+use Rattle.std.specs.List.{list_any, list_all, IsDistinct}
+use Rattle.uu_times.specs.declared.moment.Moment.{Moment}
+use Rattle.uu_core.specs.declared.job.JobHead.{JobHead}
+use Rattle.uu_core.specs.declared.system.SystemRow.{SystemRow}
+use Rattle.uu_core.specs.declared.due.Due.{Due}
+use Rattle.uu_core.specs.State.{same_text, is_system}
+use Rattle.uu_core.specs.Waiting.{limit_at, is_held}
+
+-- the lowest grade for which the system may be called now, if it may
+abbrev pub limit_now : SystemRow → Moment → Option ℕ
+limit_now row at = if is_held row.call at.second then None else limit_at row.def.lines at.week
+
+abbrev pub is_within : Option ℕ → ℕ → Bool
+is_within None grade = false
+is_within (Some limit) grade = nat_le grade limit
+
+-- the system of this name may be called now for this grade
+abbrev pub may_be_called : List SystemRow → Moment → List ℕ → ℕ → Bool
+may_be_called rows at name grade = list_any (λ row. is_system name row && is_within (limit_now row at) grade) rows
+
+-- the job's system may be called for it now
+abbrev pub may_go : List SystemRow → Moment → JobHead → Bool
+may_go rows at job = may_be_called rows at job.system job.grade
+
+-- by grade, the highest first, and within a grade by number
+abbrev pub goes_before : JobHead → JobHead → Bool
+goes_before a b = nat_lt a.grade b.grade || (a.grade == b.grade && nat_lt a.number b.number)
+
+-- the first of its system's jobs among those that may go
+abbrev pub is_due : List SystemRow → List JobHead → Moment → JobHead → Bool
+is_due rows jobs at job =
+    may_go rows at job && list_all (λ other. not (same_text other.system job.system && may_go rows at other && goes_before other job)) jobs
+
+abbrev pub due_of : JobHead → Due
+due_of job = record { system = job.system; grade = job.grade; number = job.number }
+
+-- the first of two comes before the second, by grade and number
+abbrev pub ComesFirst : Due → Due → Type 0
+ComesFirst a b = IsTrue (nat_lt a.grade b.grade || (a.grade == b.grade && nat_lt a.number b.number))
+
+-- it is that of one of the jobs for which a system is called now
+pub record IsDue (rows : List SystemRow) (jobs : List JobHead) (at : Moment) (due : Due) : Type 0 where
+  pub job : JobHead
+  pub there : Contains jobs job
+  pub first : is_due rows jobs at job ≡ true
+  pub is : due ≡ due_of job
+
+-- these and no others, one for each system that is called for a job, by grade and number
+pub record AreDue (rows : List SystemRow) (jobs : List JobHead) (at : Moment) (dues : List Due) : Type 0 where
+  pub sound : (due : Due) → Contains dues due → IsDue rows jobs at due
+  pub complete : (due : Due) → IsDue rows jobs at due → Contains dues due
+  pub in_order : AllPairs ComesFirst dues
+
+-- no two jobs have one number, as in every state
+abbrev pub HaveNumbers : List JobHead → Type 0
+HaveNumbers jobs = IsDistinct nat_eq (map (λ job. job.number) jobs)
+
+-- A walk along jobs in that order: a job is listed where its system may be called for it and is not listed yet.
+-- These of the jobs before it were looked at.
+abbrev pub is_next : List SystemRow → Moment → List JobHead → JobHead → Bool
+is_next rows at seen job = may_go rows at job && not (list_any (λ other. same_text other.system job.system && may_go rows at other) seen)
+
+abbrev pub walk_after : List SystemRow → Moment → List JobHead → List JobHead → List Due
+walk_after rows at seen [] = []
+walk_after rows at seen (job ∷ jobs) =
+    if is_next rows at seen job then due_of job ∷ walk_after rows at (seen ++ job ∷ []) jobs else walk_after rows at (seen ++ job ∷ []) jobs
+
+abbrev pub walk : List SystemRow → List JobHead → Moment → List Due
+walk rows jobs at = walk_after rows at [] jobs
+
+-- the jobs stand by grade and number
+abbrev pub AreInOrder : List JobHead → Type 0
+AreInOrder jobs = AllPairs (λ a b. goes_before a b ≡ true) jobs

@@ -1,0 +1,53 @@
+-- What follows from the definitions of the machine.
+use Rattle.std.specs.Prelude.{◌≡◌, ℕ, Bool, ◌==◌, List, [], ◌∷◌, Option, Some, None, Contains, false}
+use Rattle.std.specs.List.{list_any}
+use Rattle.uu_core.specs.declared.command.Command.{Command}
+use Rattle.uu_core.specs.declared.command.Command.TheVariants.{Define, Remove, Queue, Kill, Regrade, Rejuvenate, Failed, Done, Entry}
+use Rattle.uu_core.specs.declared.refusal.Refusal.{Refusal}
+use Rattle.uu_core.specs.declared.job.NewJob.{NewJob}
+use Rattle.uu_core.specs.State.{State, Job}
+use Rattle.uu_core.specs.Verdict.{verdict}
+use Rattle.uu_core.specs.After.{after, job_of}
+
+-- a command in front of others, if it is accepted
+abbrev pub unless_refused : Option Refusal → Command → List Command → List Command
+unless_refused None command commands = command ∷ commands
+unless_refused (Some refusal) command commands = commands
+
+-- those of the commands that are accepted as they are run, in order
+abbrev pub accepted_of : State → List Command → List Command
+accepted_of state [] = []
+accepted_of state (command ∷ commands) =
+    unless_refused (verdict state command) command (accepted_of (after state command).0 commands)
+
+-- the command makes the job of this number go, where it is accepted
+abbrev pub lets_go : Command → ℕ → Bool
+lets_go (Kill job by) number = number == job
+lets_go (Done system at jobs) number = list_any (λ other. other == number) jobs
+lets_go (Define def) number = false
+lets_go (Remove name) number = false
+lets_go (Queue job) number = false
+lets_go (Regrade job grade by) number = false
+lets_go (Rejuvenate job at by) number = false
+lets_go (Failed system at why) number = false
+lets_go (Entry bytes) number = false
+
+-- the same job, whose grade and time of queueing may have changed
+pub record IsSameJob (job later : Job) : Type 0 where
+  pub number : later.number ≡ job.number
+  pub system : later.system ≡ job.system
+  pub user : later.user ≡ job.user
+  pub kind : later.kind ≡ job.kind
+  pub bytes : later.bytes ≡ job.bytes
+
+-- the job is among these, with perhaps another grade or time of queueing
+pub record IsAmong (jobs : List Job) (job : Job) : Type 0 where
+  pub later : Job
+  pub there : Contains jobs later
+  pub same : IsSameJob job later
+
+-- the job is what a command hands in, under the next number
+pub record IsHandedIn (state : State) (command : Command) (job : Job) : Type 0 where
+  pub new : NewJob
+  pub command_is : command ≡ Queue new
+  pub job_is : job ≡ job_of state.next new

@@ -1,0 +1,26 @@
+-- Why a command is refused, and in which order the reasons are told.
+use Rattle.std.specs.Prelude.{ℕ, Bool, List, [], ◌∷◌, Option, Some, None, Result, Ok, Err, if◌then◌else◌}
+use Rattle.uu_core.specs.declared.refusal.Refusal.{Refusal}
+use Rattle.uu_core.specs.declared.refusal.Refusal.TheVariants.{NoSystem, NoJob, NotYours, JobTwice, OtherSystem, Busy, TooLarge, NumbersOut, BadEntry}
+
+-- the number of a refusal (this project's choice)
+abbrev pub refusal_code : Refusal → ℕ
+refusal_code NoSystem = 1
+refusal_code NoJob = 2
+refusal_code NotYours = 3
+refusal_code JobTwice = 4
+refusal_code OtherSystem = 5
+refusal_code Busy = 6
+refusal_code TooLarge = 7
+refusal_code NumbersOut = 8
+refusal_code BadEntry = 9
+
+-- the first of some reasons that applies; they stand in the order in which they are told
+abbrev pub first_reason : List (Bool × Refusal) → Option Refusal
+first_reason [] = None
+first_reason (reason ∷ reasons) = if reason.0 then Some reason.1 else first_reason reasons
+
+-- the value, unless there is a reason to refuse it
+abbrev pub decided : {V : Type 0} → Option Refusal → V → Result V Refusal
+decided None value = Ok value
+decided (Some refusal) value = Err refusal

@@ -1,0 +1,149 @@
+-- What a spool holds.
+use Rattle.std.specs.Prelude.{◌≡◌, ℕ, ◌+◌, ◌<◌, ◌≤◌, Bool, not, ◌==◌, List, [], ◌∷◌, ◌++◌, length, map, Option, Some, None, Ok, IsTrue, All, AllPairs, filter, find, is_some, nat_eq, ⊤}
+use Rattle.std.specs.declared.cmp.Ordering.TheVariants.{Less}
+use Rattle.std.specs.Ordering.{nat_cmp}
+use Rattle.std.specs.Cmp.Lexicographic.{pointwise, slice_cmp}
+use Rattle.std.specs.List.{list_any}
+use Rattle.uu_names.specs.Name.{is_site_name, is_word}
+use Rattle.uu_times.specs.System.{System, AreWithinLimits}
+use Rattle.uu_times.specs.Ranges.{AreRuns}
+use Rattle.uu_times.specs.declared.system.Line.{Line}
+use Rattle.uu_map.specs.Text.{host_of}
+use Rattle.uu_core.specs.declared.job.Kind.{Kind}
+use Rattle.uu_core.specs.declared.job.Kind.TheVariants.{Send, Request, Execute}
+use Rattle.uu_core.specs.declared.job.JobHead.{JobHead}
+use Rattle.uu_core.specs.declared.system.Outcome.{Outcome}
+use Rattle.uu_core.specs.declared.system.Outcome.TheVariants.{Never, Failed, Done}
+use Rattle.uu_core.specs.declared.system.CallState.{CallState}
+use Rattle.uu_core.specs.declared.system.SystemRow.{SystemRow}
+
+-- a job with all its bytes
+pub record Job : Type 0 where
+  pub number : ℕ
+  pub system : List ℕ
+  pub grade : ℕ
+  pub user : List ℕ
+  pub kind : Kind
+  pub queued : ℕ
+  pub bytes : List ℕ
+
+-- a map entry, kept under its host
+pub record MapEntry : Type 0 where
+  pub host : List ℕ
+  pub bytes : List ℕ
+
+-- The jobs in the order in which they were accepted, the systems in the order of their names, the entries in that of
+-- their hosts, and the number of the next job.
+pub record State : Type 0 where
+  pub jobs : List Job
+  pub systems : List SystemRow
+  pub entries : List MapEntry
+  pub next : ℕ
+
+-- a spool that holds nothing
+abbrev pub empty : State
+empty = record { jobs = []; systems = []; entries = []; next = 1 }
+
+-- two names, users or hosts are the same, byte for byte
+abbrev pub same_text : List ℕ → List ℕ → Bool
+same_text = pointwise nat_eq
+
+abbrev pub is_job : ℕ → Job → Bool
+is_job number job = job.number == number
+
+abbrev pub is_system : List ℕ → SystemRow → Bool
+is_system name row = same_text row.def.name name
+
+abbrev pub is_entry : List ℕ → MapEntry → Bool
+is_entry host entry = same_text entry.host host
+
+-- the job of a number, the system of a name, the entry of a host
+abbrev pub job_at : State → ℕ → Option Job
+job_at state number = find (is_job number) state.jobs
+
+abbrev pub system_at : State → List ℕ → Option SystemRow
+system_at state name = find (is_system name) state.systems
+
+abbrev pub entry_at : State → List ℕ → Option MapEntry
+entry_at state host = find (is_entry host) state.entries
+
+abbrev pub has_system : State → List ℕ → Bool
+has_system state name = list_any (is_system name) state.systems
+
+-- whether a job waits for the system
+abbrev pub is_waiting : State → List ℕ → Bool
+is_waiting state name = list_any (λ job. same_text job.system name) state.jobs
+
+-- a job without its bytes
+abbrev pub head_of : Job → JobHead
+head_of job = record { number = job.number; system = job.system; grade = job.grade; user = job.user; kind = job.kind; queued = job.queued; size = length job.bytes }
+
+-- ---- what is true of each state that a spool reaches
+
+-- the first second of the year 2100, the last that counts
+abbrev pub last_second : ℕ
+last_second = 4102444800
+
+-- the number after the last job number
+abbrev pub numbers_end : ℕ
+numbers_end = 4294967295
+
+abbrev pub most_bytes : ℕ
+most_bytes = 1048576
+
+abbrev pub most_arguments : ℕ
+most_arguments = 64
+
+abbrev pub most_failures : ℕ
+most_failures = 1000000
+
+abbrev pub IsKind : Kind → Type 0
+IsKind (Send source target) = IsTrue (is_word source) × IsTrue (is_word target)
+IsKind (Request source target) = IsTrue (is_word source) × IsTrue (is_word target)
+IsKind (Execute command arguments) = IsTrue (is_word command) × All (λ word. IsTrue (is_word word)) arguments × (length arguments ≤ most_arguments)
+
+pub record IsJob (job : Job) : Type 0 where
+  pub number : 1 ≤ job.number
+  pub system : IsTrue (is_site_name job.system)
+  pub grade : job.grade < 62
+  pub user : IsTrue (is_word job.user)
+  pub kind : IsKind job.kind
+  pub queued : job.queued ≤ last_second
+  pub bytes : length job.bytes ≤ most_bytes
+
+-- a system that was never called has zeros
+abbrev pub IsOutcome : Outcome → CallState → Type 0
+IsOutcome Never call = (call.last ≡ 0) × (call.failures ≡ 0) × (call.wait ≡ 0)
+IsOutcome (Failed why) call = IsTrue (is_word why)
+IsOutcome Done call = ⊤
+
+pub record IsCall (call : CallState) : Type 0 where
+  pub last : call.last ≤ last_second
+  pub failures : call.failures ≤ most_failures
+  pub wait : call.wait ≤ 31536000
+  pub outcome : IsOutcome call.outcome call
+
+abbrev pub IsLine : Line → Type 0
+IsLine line = (line.grade < 62) × AreRuns line.windows
+
+pub record IsDefinition (def : System) : Type 0 where
+  pub name : IsTrue (is_site_name def.name)
+  pub lines : All IsLine def.lines
+  pub limits : AreWithinLimits def.lines def.max_retries
+
+-- one text comes before another in the order of their bytes
+abbrev pub ComesBefore : List ℕ → List ℕ → Type 0
+ComesBefore a b = slice_cmp nat_cmp a b ≡ Less
+
+pub record IsWellFormed (state : State) : Type 0 where
+  pub some_next : 1 ≤ state.next
+  pub next : state.next ≤ numbers_end
+  pub jobs : All IsJob state.jobs
+  pub rising : AllPairs (λ a b. a.number < b.number) state.jobs
+  pub below_next : All (λ job. job.number < state.next) state.jobs
+  pub placed : All (λ job. IsTrue (has_system state job.system)) state.jobs
+  pub definitions : All (λ row. IsDefinition row.def) state.systems
+  pub calls : All (λ row. IsCall row.call) state.systems
+  pub by_name : AllPairs (λ a b. ComesBefore a.def.name b.def.name) state.systems
+  pub hosts : All (λ entry. host_of entry.bytes ≡ Ok entry.host) state.entries
+  pub by_host : AllPairs (λ a b. ComesBefore a.host b.host) state.entries

@@ -1,0 +1,74 @@
+-- Which commands are refused, and why.
+use Rattle.std.specs.Prelude.{ℕ, Bool, false, not, ◌==◌, ◌||◌, ◌&&◌, nat_lt, List, [], ◌∷◌, length, map, Option, Some, None, is_err, option_map, if◌then◌else◌}
+use Rattle.std.specs.List.{list_any}
+use Rattle.uu_map.specs.Text.{host_of}
+use Rattle.uu_core.specs.declared.command.Command.{Command}
+use Rattle.uu_core.specs.declared.command.Command.TheVariants.{Define, Remove, Queue, Kill, Regrade, Rejuvenate, Failed, Done, Entry}
+use Rattle.uu_core.specs.declared.job.By.{By}
+use Rattle.uu_core.specs.declared.job.JobHead.{JobHead}
+use Rattle.uu_core.specs.declared.job.NewJob.{NewJob}
+use Rattle.uu_core.specs.declared.job.Kind.{Kind}
+use Rattle.uu_core.specs.declared.job.Kind.TheVariants.{Send, Request, Execute}
+use Rattle.uu_core.specs.declared.refusal.Refusal.{Refusal}
+use Rattle.uu_core.specs.declared.refusal.Refusal.TheVariants.{NoSystem, NoJob, NotYours, JobTwice, OtherSystem, Busy, TooLarge, NumbersOut, BadEntry}
+use Rattle.uu_core.specs.Refusal.{first_reason}
+use Rattle.uu_core.specs.State.{State, same_text, has_system, is_waiting, job_at, head_of, most_bytes, most_arguments, numbers_end}
+
+-- a system may go where it is known and no job waits for it
+abbrev pub drop_refusal : Bool → Bool → Option Refusal
+drop_refusal known waiting = first_reason ((not known, NoSystem) ∷ (waiting, Busy) ∷ [])
+
+abbrev pub has_many_arguments : Kind → Bool
+has_many_arguments (Send source target) = nat_lt most_arguments 0
+has_many_arguments (Request source target) = nat_lt most_arguments 0
+has_many_arguments (Execute command arguments) = nat_lt most_arguments (length arguments)
+
+-- too many bytes or arguments
+abbrev pub is_too_large : NewJob → Bool
+is_too_large job = nat_lt most_bytes (length job.bytes) || has_many_arguments job.kind
+
+abbrev pub queue_refusal : Bool → ℕ → NewJob → Option Refusal
+queue_refusal known next job =
+    first_reason ((is_too_large job, TooLarge) ∷ (not known, NoSystem) ∷ (next == numbers_end, NumbersOut) ∷ [])
+
+-- an administrator may touch each job, anybody else the own ones
+abbrev pub may_touch : By → JobHead → Bool
+may_touch by job = by.admin || same_text by.user job.user
+
+abbrev pub job_refusal : Option JobHead → By → Option Refusal
+job_refusal None by = Some NoJob
+job_refusal (Some job) by = if may_touch by job then None else Some NotYours
+
+-- one of the numbers stands twice
+abbrev pub has_repeat : List ℕ → Bool
+has_repeat [] = false
+has_repeat (number ∷ numbers) = list_any (λ other. other == number) numbers || has_repeat numbers
+
+abbrev pub has_number : List JobHead → ℕ → Bool
+has_number jobs number = list_any (λ job. job.number == number) jobs
+
+-- one of the numbers has no job
+abbrev pub is_missing_one : List ℕ → List JobHead → Bool
+is_missing_one numbers jobs = list_any (λ number. not (has_number jobs number)) numbers
+
+-- one of the numbers has a job of another system
+abbrev pub has_other : List ℕ → List ℕ → List JobHead → Bool
+has_other system numbers jobs =
+    list_any (λ job. list_any (λ number. number == job.number) numbers && not (same_text job.system system)) jobs
+
+abbrev pub done_refusal : Bool → List ℕ → List ℕ → List JobHead → Option Refusal
+done_refusal known system numbers jobs =
+    first_reason ((nat_lt 256 (length numbers), TooLarge) ∷ (not known, NoSystem) ∷ (is_missing_one numbers jobs, NoJob)
+    ∷ (has_repeat numbers, JobTwice) ∷ (has_other system numbers jobs, OtherSystem) ∷ [])
+
+-- why a command is refused in a state, if it is
+abbrev pub verdict : State → Command → Option Refusal
+verdict state (Define def) = None
+verdict state (Remove name) = drop_refusal (has_system state name) (is_waiting state name)
+verdict state (Queue job) = queue_refusal (has_system state job.system) state.next job
+verdict state (Kill job by) = job_refusal (option_map head_of (job_at state job)) by
+verdict state (Regrade job grade by) = job_refusal (option_map head_of (job_at state job)) by
+verdict state (Rejuvenate job at by) = job_refusal (option_map head_of (job_at state job)) by
+verdict state (Failed system at why) = first_reason ((not (has_system state system), NoSystem) ∷ [])
+verdict state (Done system at jobs) = done_refusal (has_system state system) system jobs (map head_of state.jobs)
+verdict state (Entry bytes) = first_reason ((is_err (host_of bytes), BadEntry) ∷ [])

@@ -1,0 +1,73 @@
+// What a spool is told, and what it answers.
+use crate::job::{By, NewJob};
+use crate::refusal::Refusal;
+use uu_map::Listed;
+use uu_names::{Grade, SiteName, Word};
+use uu_times::{Moment, SystemDef};
+
+/// What a spool is told.
+#[derive(Debug, Drop)]
+pub enum Command {
+    /// The definition is added, or replaces the one of its name; the calls so far stay.
+    Define(SystemDef),
+    /// The system and its calls go.
+    Remove(SiteName),
+    /// The job is added under the next number.
+    Queue(NewJob),
+    /// The job goes.
+    Kill {
+        /// Its number.
+        job: u32,
+        /// Who says so.
+        by: By,
+    },
+    /// The job's grade changes.
+    Regrade {
+        /// Its number, which stays.
+        job: u32,
+        /// The new grade.
+        grade: Grade,
+        /// Who says so.
+        by: By,
+    },
+    /// The job counts as handed in now.
+    Rejuvenate {
+        /// Its number.
+        job: u32,
+        /// Now.
+        at: Moment,
+        /// Who says so.
+        by: By,
+    },
+    /// A call of the system failed.
+    Failed {
+        /// The system.
+        system: SiteName,
+        /// When it failed.
+        at: Moment,
+        /// For what reason.
+        why: Word,
+    },
+    /// The system was called, and these jobs went through.
+    Done {
+        /// The system.
+        system: SiteName,
+        /// When it was called.
+        at: Moment,
+        /// The numbers of the jobs, at most 256.
+        jobs: Listed<u32>,
+    },
+    /// The bytes of a map entry replace those of its host.
+    Entry(Listed<u8>),
+}
+
+/// What a spool answers.
+#[derive(Clone, Copy, Debug, PartialEq, Eq)]
+pub enum Reply {
+    /// The command was carried out.
+    Done,
+    /// The job was added under this number.
+    Number(u32),
+    /// The command was refused, and nothing changed.
+    Refused(Refusal),
+}

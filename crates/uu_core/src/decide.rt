@@ -1,0 +1,172 @@
+// Whether a command is accepted, decided on the rows concerned.
+ghost use Rattle.std.specs.Prelude.{◌≡◌, ◌==◌, option_copied};
+ghost use Rattle.std.specs.List.{list_any};
+ghost use Rattle.uu_core.specs.Refusal.{decided};
+ghost use Rattle.uu_core.specs.Verdict.{drop_refusal, queue_refusal, job_refusal, has_many_arguments, is_too_large, may_touch, has_repeat, has_number, is_missing_one, has_other, done_refusal};
+ghost use Rattle.uu_core.specs.After.{failed_decision, done_call};
+
+use crate::job::{By, JobHead, Kind, NewJob};
+use crate::refusal::Refusal;
+use crate::system::{CallState, Outcome, SystemRow};
+use crate::waiting::{one_more, wait_after};
+use uu_names::{SiteName, Word};
+use uu_times::Moment;
+
+/// The most bytes of a job.
+pub const MAX_BYTES: usize = 1_048_576;
+
+/// The most arguments of an execution.
+pub const MAX_ARGUMENTS: usize = 64;
+
+/// The most jobs in one report of a call.
+pub const MAX_DONE: usize = 256;
+
+/// The number after the last job number.
+pub const NUMBERS_END: u32 = 4_294_967_295;
+
+/// Whether a system may be removed, where it is known or not, and a job waits for it or not.
+pub fn decide_drop(known: bool, waiting: bool) -> Result<(), Refusal>
+    ensures { result ≡ decided (drop_refusal known waiting) tt }
+{
+    if !known {
+        Err(Refusal::NoSystem)
+    } else if waiting {
+        Err(Refusal::Busy)
+    } else {
+        Ok(())
+    }
+}
+
+fn has_many_arguments(kind: &Kind) -> bool
+    ensures { result ≡ has_many_arguments kind.now }
+{
+    match kind {
+        Kind::Execute { arguments, .. } => arguments.as_slice().len() > MAX_ARGUMENTS,
+        Kind::Send { .. } | Kind::Request { .. } => false,
+    }
+}
+
+fn is_too_large(job: &NewJob) -> bool
+    ensures { result ≡ is_too_large job.now }
+{
+    job.bytes.as_slice().len() > MAX_BYTES || has_many_arguments(&job.kind)
+}
+
+/// The number of a job that is handed in, where its system is known or not and `next` is the next number.
+pub fn decide_queue(known: bool, next: u32, job: &NewJob) -> Result<u32, Refusal>
+    ensures { result ≡ decided (queue_refusal known next job.now) next }
+{
+    if is_too_large(job) {
+        Err(Refusal::TooLarge)
+    } else if !known {
+        Err(Refusal::NoSystem)
+    } else if next == NUMBERS_END {
+        Err(Refusal::NumbersOut)
+    } else {
+        Ok(next)
+    }
+}
+
+fn may_touch(by: &By, job: &JobHead) -> bool
+    ensures { result ≡ may_touch by.now job.now }
+{
+    by.admin || by.user == job.user
+}
+
+/// Whether the job of a number, if there is one, may be killed, regraded or rejuvenated.
+pub fn decide_job(job: Option<&JobHead>, by: &By) -> Result<(), Refusal>
+    ensures { result ≡ decided (job_refusal (option_copied job.entry) by.now) tt }
+{
+    match job {
+        None => Err(Refusal::NoJob),
+        Some(job) if may_touch(by, job) => Ok(()),
+        Some(_) => Err(Refusal::NotYours),
+    }
+}
+
+/// The calls of a system, if it is known, after one that failed at this moment for this reason.
+pub fn decide_failed(
+    system: Option<&SystemRow>,
+    at: &Moment,
+    why: Word,
+) -> Result<CallState, Refusal>
+    ensures { result ≡ failed_decision (option_copied system.entry) at.now why }
+{
+    let Some(row) = system else {
+        return Err(Refusal::NoSystem);
+    };
+    let failures = one_more(row.call.failures);
+    Ok(CallState {
+        last: at.second,
+        failures,
+        wait: wait_after(&row.def, at.week, failures),
+        outcome: Outcome::Failed(why),
+    })
+}
+
+fn has_repeat(numbers: &[u32]) -> bool
+    ensures { result ≡ has_repeat numbers.now }
+{
+    for (i, number) in numbers.iter().enumerate() {
+        if numbers[i + 1..].contains(number) {
+            return true;
+        }
+    }
+    false
+}
+
+fn has_number(jobs: &[JobHead], number: u32) -> bool
+    ensures { result ≡ has_number jobs.now number }
+{
+    jobs.iter().any(|job| job.number == number)
+}
+
+fn is_missing_one(numbers: &[u32], jobs: &[JobHead]) -> bool
+    ensures { result ≡ is_missing_one numbers.now jobs.now }
+{
+    numbers.iter().any(|number| !has_number(jobs, *number))
+}
+
+fn is_among(numbers: &[u32], number: u32) -> bool
+    ensures { result ≡ list_any (λ other. other == number) numbers.now }
+{
+    numbers.iter().any(|other| *other == number)
+}
+
+fn has_other(system: &SiteName, numbers: &[u32], jobs: &[JobHead]) -> bool
+    ensures { result ≡ has_other system.now numbers.now jobs.now }
+{
+    jobs.iter()
+        .any(|job| is_among(numbers, job.number) && job.system != *system)
+}
+
+/// The calls of a system, known or not, after one at this moment in which the jobs of these numbers went through.
+/// `found` holds the jobs of the spool whose numbers are among them.
+pub fn decide_done(
+    known: bool,
+    system: &SiteName,
+    numbers: &[u32],
+    found: &[JobHead],
+    at: &Moment,
+) -> Result<CallState, Refusal>
+    ensures { result ≡ decided (done_refusal known system.now numbers.now found.now) (done_call at.now) }
+{
+    if numbers.len() > MAX_DONE {
+        Err(Refusal::TooLarge)
+    } else if !known {
+        Err(Refusal::NoSystem)
+    } else if is_missing_one(numbers, found) {
+        Err(Refusal::NoJob)
+    } else if has_repeat(numbers) {
+        Err(Refusal::JobTwice)
+    } else if has_other(system, numbers, found) {
+        Err(Refusal::OtherSystem)
+    } else {
+        Ok(CallState {
+            last: at.second,
+            failures: 0,
+            wait: 0,
+            outcome: Outcome::Done,
+        })
+    }
+}

@@ -1,0 +1,125 @@
+// Which systems may be called now, and for which job.
+ghost use Rattle.std.specs.Prelude.{◌≡◌, ◌&&◌, ◌||◌, ℕ, List, map, IfOk, OnOk, IsPermutation, nat_le, max};
+ghost use Rattle.std.specs.Ordering.{nat_cmp};
+ghost use Rattle.std.specs.Cmp.Lexicographic.{slice_cmp};
+ghost use Rattle.std.specs.BTreeMap.{get};
+ghost use Rattle.uu_core.specs.State.{same_text};
+ghost use Rattle.uu_core.specs.Due.{limit_now, is_within, may_be_called, AreDue, HaveNumbers, AreInOrder};
+
+use crate::job::JobHead;
+use crate::system::SystemRow;
+use crate::waiting::{held, limit};
+use std::alloc::{AllocError, Global};
+use std::collections::BTreeMap;
+use uu_names::{Grade, SiteName};
+use uu_times::Moment;
+
+/// A system that may be called now, and the job for which it is called.
+#[derive(Debug, Drop)]
+pub struct Due {
+    /// The system.
+    pub system: SiteName,
+    /// The job's grade.
+    pub grade: Grade,
+    /// The job's number.
+    pub number: u32,
+}
+
+fn limit_now(row: &SystemRow, at: &Moment) -> Option<Grade>
+    ensures { result ≡ limit_now row.now at.now }
+{
+    if held(&row.call, at) {
+        None
+    } else {
+        limit(row.def.lines.as_slice(), at.week)
+    }
+}
+
+fn lower_of(grade: Grade, other: Grade) -> Grade
+    ensures { result ≡ max grade other }
+{
+    grade.max(other)
+}
+
+// The system may be called for this grade too, and for each that is higher.
+fn lower(
+    limits: &mut BTreeMap<SiteName, Grade>,
+    name: &SiteName,
+    lowest: Grade,
+) -> Result<(), AllocError>
+    ensures { OnOk result ((other : List ℕ) (grade : ℕ) → is_within (get (slice_cmp nat_cmp) limits.new other) grade
+        ≡ (is_within (get (slice_cmp nat_cmp) limits.old other) grade || (same_text name.now other && nat_le grade lowest))) }
+{
+    let lowest = match limits.get(name).copied() {
+        Some(other) => lower_of(lowest, other),
+        None => lowest,
+    };
+    limits.insert(name.clone()?, lowest)?;
+    Ok(())
+}
+
+// The lowest grade for which each system may be called now; a system that may not be called isn't there.
+fn limits(
+    alloc: Global,
+    rows: &[SystemRow],
+    at: &Moment,
+) -> Result<BTreeMap<SiteName, Grade>, AllocError>
+    ensures { IfOk result (λ limits. (name : List ℕ) (grade : ℕ) → is_within (get (slice_cmp nat_cmp) limits name) grade ≡ may_be_called rows.now at.now name grade) }
+{
+    let mut limits = BTreeMap::new(alloc);
+    for row in rows {
+        if let Some(lowest) = limit_now(row, at) {
+            lower(&mut limits, &row.def.name, lowest)?;
+        }
+    }
+    Ok(limits)
+}
+
+fn is_free(free: &BTreeMap<SiteName, Grade>, job: &JobHead) -> bool
+    ensures { result ≡ is_within (get (slice_cmp nat_cmp) free.now job.now.system) job.now.grade }
+{
+    match free.get(&job.system) {
+        Some(lowest) => job.grade <= *lowest,
+        None => false,
+    }
+}
+
+// The jobs by grade and number.
+fn in_order(alloc: Global, jobs: &[JobHead]) -> Result<Vec<&JobHead>, AllocError>
+    ensures same { IfOk result (λ ordered. IsPermutation jobs.now (map (λ job. job.now) ordered.items)) }
+    ensures order { IfOk result (λ ordered. HaveNumbers jobs.now → AreInOrder (map (λ job. job.now) ordered.items)) }
+{
+    let mut ordered: Vec<&JobHead> = Vec::with_capacity(alloc, jobs.len())?;
+    for job in jobs {
+        ordered.push(job)?;
+    }
+    ordered.sort_by_key(|job| (job.grade.rank(), job.number))?;
+    Ok(ordered)
+}
+
+/// The systems that may be called at this moment and have a job to be called for: not held, and the first of the
+/// system's jobs by grade and number has a grade within its limit. They stand by grade and number of these jobs. For jobs of which
+/// no two have one number, as in every spool. Takes one sort, and for each job and system a look-up.
+pub fn choose(
+    alloc: Global,
+    rows: &[SystemRow],
+    jobs: &[JobHead],
+    at: &Moment,
+) -> Result<Vec<Due>, AllocError>
+    ensures { IfOk result (λ dues. HaveNumbers jobs.now → AreDue rows.now jobs.now at.now dues.items) }
+{
+    let mut free = limits(alloc, rows, at)?;
+    let ordered = in_order(alloc, jobs)?;
+    let mut dues = Vec::new(alloc);
+    for job in &ordered {
+        if is_free(&free, job) {
+            free.remove(&job.system);
+            dues.push(Due {
+                system: job.system.clone()?,
+                grade: job.grade,
+                number: job.number,
+            })?;
+        }
+    }
+    Ok(dues)
+}

@@ -1,0 +1,20 @@
+//! The spool of a UUCP site as a plain machine: its commands, what refuses them, how long a system is left alone after a
+//! failed call, and which job each system is called for next. No file, no clock, no store.
+#![tactic(auto)]
+
+mod command;
+mod decide;
+mod due;
+mod job;
+pub mod laws;
+mod refusal;
+mod system;
+mod waiting;
+
+pub use command::{Command, Reply};
+pub use decide::{decide_done, decide_drop, decide_failed, decide_job, decide_queue};
+pub use due::{Due, choose};
+pub use job::{By, JobHead, Kind, NewJob};
+pub use refusal::Refusal;
+pub use system::{CallState, Outcome, SystemRow};
+pub use waiting::{held, limit};
