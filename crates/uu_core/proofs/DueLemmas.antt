@@ -64,6 +64,7 @@ free_listed rows at seen job name grade old new h e may =
         and-true : (b : Bool) → b && true ≡ b
         and-true true = refl
         and-true false = refl
+
     by-same : (t : Bool) → is_within (cond t None old) grade ≡ (may_be_called rows at name grade && not (is_called_before rows at seen name || t))
     by-same true = sym (never (may_be_called rows at name grade) (is_called_before rows at seen name))
       where
@@ -163,8 +164,10 @@ walk_lists rows at seen (job ∷ rest) order =
   where
     p : JobHead → Bool
     p = is_due rows (seen ++ job ∷ rest) at
+
     next_is : is_next rows at seen job ≡ p job
     next_is = ap (λ b. may_go rows at job && b) (sym (is_last rows at seen rest job order))
+
     by-next : (t : Bool) → walk_after rows at (seen ++ job ∷ []) rest ≡ map due_of (filter p rest) → cond t (due_of job ∷ walk_after rows at (seen ++ job ∷ []) rest) (walk_after rows at (seen ++ job ∷ []) rest) ≡ map due_of (cond t (job ∷ filter p rest) (filter p rest))
     by-next true again = ap (λ t. due_of job ∷ t) again
     by-next false again = again
@@ -200,10 +203,11 @@ pairs-map (job ∷ jobs) order i j d below within =
 pub walk_is_due : (rows : List SystemRow) (at : Moment) (jobs ordered : List JobHead) → IsPermutation jobs ordered → AreInOrder ordered → AreDue rows jobs at (walk rows ordered at)
 walk_is_due rows at jobs ordered same order = subst (AreDue rows jobs at) (sym (walk_lists rows at [] ordered order)) (record {
   sound = λ due h. let m = from_map due_of (filter p ordered) due h in let f = from_filter p ordered m.0 m.1 in
-    record { job = m.0; there = Contains-permutation ordered jobs m.0 (IsPermutation-sym jobs ordered same) f.0; first = due_same rows at jobs ordered m.0 same ∙ f.1; is = sym m.2 };
+      record { job = m.0; there = Contains-permutation ordered jobs m.0 (IsPermutation-sym jobs ordered same) f.0; first = due_same rows at jobs ordered m.0 same ∙ f.1; is = sym m.2 };
   complete = λ due h. subst (Contains (map due_of (filter p ordered))) (sym h.is)
-    (mapped due_of (filter p ordered) h.job (kept p ordered h.job (Contains-permutation jobs ordered h.job same h.there) (sym (due_same rows at jobs ordered h.job same) ∙ h.first)));
-  in_order = pairs-map (filter p ordered) (AllPairs-filter (λ a b. goes_before a b ≡ true) p ordered order) })
+      (mapped due_of (filter p ordered) h.job (kept p ordered h.job (Contains-permutation jobs ordered h.job same h.there) (sym (due_same rows at jobs ordered h.job same) ∙ h.first)));
+  in_order = pairs-map (filter p ordered) (AllPairs-filter (λ a b. goes_before a b ≡ true) p ordered order);
+})
   where
     p : JobHead → Bool
     p = is_due rows ordered at
@@ -233,12 +237,16 @@ order_from_sort (item ∷ items) jobs sorted same distinct = in_pairs (map now (
   where
     now : Bor JobHead → JobHead
     now job = job.now
+
     numbers : List ℕ
     numbers = map (λ (job : JobHead). job.number) (map now (item ∷ items))
+
     flips : (x y : ℕ) → nat_eq x y ≡ nat_eq y x
     flips x y = grind (arith, nat_tests)
+
     apart : IsDistinct nat_eq numbers
     apart = IsDistinct-IsPermutation nat_eq flips _ _ (IsPermutation-map (λ (job : JobHead). job.number) jobs (map now (item ∷ items)) same) distinct
+
     near : (k : ℕ) (d : JobHead) → k + 1 < length (map now (item ∷ items)) → goes_before (get_or (map now (item ∷ items)) k d) (get_or (map now (item ∷ items)) (k + 1) d) ≡ true
     near k d h =
         let count : length (map now (item ∷ items)) ≡ length (item ∷ items) = length-map (item ∷ items) now in

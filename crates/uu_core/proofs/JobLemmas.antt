@@ -23,6 +23,7 @@ stays_changed jobs number change job little h = by-test (is_job number job) refl
   where
     f : Job → Job
     f other = cond (is_job number other) (change other) other
+
     by-test : (t : Bool) → is_job number job ≡ t → IsAmong (change_job number change jobs) job
     by-test true e = record { later = change job; there = ap-there (rw e) (mapped f jobs job h); same = little job }
       where
@@ -72,8 +73,9 @@ pub handed_in-accept : (state : State) (command : Command) (later : Job) → Con
 handed_in-accept state (Define def) later h = inl (itself state.jobs later h)
 handed_in-accept state (Remove name) later h = inl (itself state.jobs later h)
 handed_in-accept state (Queue new) later h = elim (Contains-push_cases state.jobs (job_of state.next new) later h) [
-    inl there ↦ inl (itself state.jobs later there)
-  | inr same ↦ inr (record { new = new; command_is = refl; job_is = sym same }) ]
+  | inl there ↦ inl (itself state.jobs later there)
+  | inr same ↦ inr (record { new = new; command_is = refl; job_is = sym same })
+]
 handed_in-accept state (Kill number by) later h = inl (itself state.jobs later (from_filter (λ other. not (is_job number other)) state.jobs later h).0)
 handed_in-accept state (Regrade number grade by) later h = inl (was_changed state.jobs number (λ other. record other { grade = grade }) later (λ j. record { number = refl; system = refl; user = refl; kind = refl; bytes = refl }) h)
 handed_in-accept state (Rejuvenate number at by) later h = inl (was_changed state.jobs number (λ other. record other { queued = at.second }) later (λ j. record { number = refl; system = refl; user = refl; kind = refl; bytes = refl }) h)

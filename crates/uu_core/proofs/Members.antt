@@ -24,6 +24,7 @@ kept p (y ∷ xs) x h e = by-test (p y) refl (first_or_later y x xs h) (λ later
   where
     true_false : {t : Bool} → t ≡ true → t ≡ false → ⊥
     true_false q r = cc
+
     by-test : (t : Bool) → p y ≡ t → (y ≡ x) ⊎ Contains xs x → (Contains xs x → Contains (filter p xs) x) → Contains (cond t (y ∷ filter p xs) (filter p xs)) x
     by-test true f (inl same) again = rw (← same) (first_of y (filter p xs))
     by-test true f (inr later) again = later_of y x (filter p xs) (again later)
@@ -36,21 +37,24 @@ from_filter p (y ∷ xs) x h = by-test (p y) refl h (from_filter p xs x)
   where
     by-test : (t : Bool) → p y ≡ t → Contains (cond t (y ∷ filter p xs) (filter p xs)) x → (Contains (filter p xs) x → Contains xs x × (p x ≡ true)) → Contains (y ∷ xs) x × (p x ≡ true)
     by-test true f h again = elim (first_or_later y x (filter p xs) h) [
-        inl same ↦ (rw same (first_of x xs), ap p (sym same) ∙ f)
-      | inr later ↦ let r = again later in (later_of y x xs r.0, r.1) ]
+      | inl same ↦ (rw same (first_of x xs), ap p (sym same) ∙ f)
+      | inr later ↦ let r = again later in (later_of y x xs r.0, r.1)
+    ]
     by-test false f h again = let r = again h in (later_of y x xs r.0, r.1)
 
 pub mapped : {X Y : Type 0} (f : X → Y) (xs : List X) (x : X) → Contains xs x → Contains (map f xs) (f x)
 mapped f [] x h = absurd (none_in x h)
 mapped f (y ∷ xs) x h = elim (first_or_later y x xs h) [
-    inl same ↦ rw (← same) (first_of (f y) (map f xs))
-  | inr later ↦ later_of (f y) (f x) (map f xs) (mapped f xs x later) ]
+  | inl same ↦ rw (← same) (first_of (f y) (map f xs))
+  | inr later ↦ later_of (f y) (f x) (map f xs) (mapped f xs x later)
+]
 
 pub from_map : {X Y : Type 0} (f : X → Y) (xs : List X) (y : Y) → Contains (map f xs) y → (x : X) × Contains xs x × (f x ≡ y)
 from_map f [] y h = absurd (none_in y h)
 from_map f (x ∷ xs) y h = elim (first_or_later (f x) y (map f xs) h) [
-    inl same ↦ (x, first_of x xs, same)
-  | inr later ↦ let r = from_map f xs y later in (r.0, later_of x r.0 xs r.1, r.2) ]
+  | inl same ↦ (x, first_of x xs, same)
+  | inr later ↦ let r = from_map f xs y later in (r.0, later_of x r.0 xs r.1, r.2)
+]
 
 -- an element passes, so some does
 pub some_passes : {X : Type 0} (p : X → Bool) (xs : List X) (x : X) → Contains xs x → p x ≡ true → list_any p xs ≡ true
@@ -59,6 +63,7 @@ some_passes p (y ∷ xs) x h e = by-test (p y) refl (first_or_later y x xs h) (�
   where
     true_false : {t : Bool} → t ≡ true → t ≡ false → ⊥
     true_false q r = cc
+
     by-test : (t : Bool) → p y ≡ t → (y ≡ x) ⊎ Contains xs x → (Contains xs x → list_any p xs ≡ true) → t || list_any p xs ≡ true
     by-test true f h again = refl
     by-test false f (inl same) again = absurd (true_false (ap p same ∙ e) f)

@@ -136,8 +136,7 @@ fn is_among(numbers: &[u32], number: u32) -> bool
 fn has_other(system: &SiteName, numbers: &[u32], jobs: &[JobHead]) -> bool
     ensures { result ≡ has_other system.now numbers.now jobs.now }
 {
-    jobs.iter()
-        .any(|job| is_among(numbers, job.number) && job.system != *system)
+    jobs.iter().any(|job| is_among(numbers, job.number) && job.system != *system)
 }
 
 /// The calls of a system, known or not, after one at this moment in which the jobs of these numbers went through.

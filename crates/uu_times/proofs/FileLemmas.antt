@@ -148,12 +148,12 @@ going-first deeds = part-same (filter_map time_in deeds) (filter_map time_in dee
 going-time : (part : Part) (line : Line) (deeds : List Deed) → going_on (record { lines = part.lines ++ line ∷ []; max_retries = part.max_retries }) deeds ≡ going_on part (Time line ∷ deeds)
 going-time part line deeds =
     part-same ((part.lines ++ line ∷ []) ++ filter_map time_in deeds) (part.lines ++ line ∷ filter_map time_in deeds) (number_or (last_of (filter_map number_in deeds)) part.max_retries) (number_or (last_of (filter_map number_in deeds)) part.max_retries)
-        (append_assoc part.lines (line ∷ []) (filter_map time_in deeds)) refl
+    (append_assoc part.lines (line ∷ []) (filter_map time_in deeds)) refl
 
 going-retries : (part : Part) (number : ℕ) (deeds : List Deed) → going_on (record { lines = part.lines; max_retries = Some number }) deeds ≡ going_on part (Retries number ∷ deeds)
 going-retries part number deeds =
     part-same (part.lines ++ filter_map time_in deeds) (part.lines ++ filter_map time_in deeds) (number_or (last_of (filter_map number_in deeds)) (Some number)) (number_or (number_or (last_of (filter_map number_in deeds)) (Some number)) part.max_retries)
-        refl (or-some (last_of (filter_map number_in deeds)) number part.max_retries)
+    refl (or-some (last_of (filter_map number_in deeds)) number part.max_retries)
 
 -- the systems of a run
 abbrev pub systems_in : Parts → List System
@@ -245,38 +245,38 @@ outcome : (reading : Reading) (before : List Deed) (line : ℕ) (deed : Deed) �
 outcome reading before line (Begin name) holds =
     let next : Reading = record { tables = reading.tables; tabled = reading.tabled; named = with_seen reading.named name; parts = begin_part reading.parts name; skipped = reading.skipped } in
     elim (cases_Bool (has_seen reading.named name)) [
-      inl seen ↦ fault (SystemTwice line)
-        (cond-true (has_seen reading.named name) (Err (SystemTwice line)) (Ok next) seen)
-        (cond-true (list_any (bytes_eq name) (filter_map name_in before)) (Err (SystemTwice line)) (Ok (Begin name)) (sym (holds.named name) ∙ seen))
-    | inr new ↦ taken next
-        (cond-false (has_seen reading.named name) (Err (SystemTwice line)) (Ok next) new)
-        (cond-false (list_any (bytes_eq name) (filter_map name_in before)) (Err (SystemTwice line)) (Ok (Begin name)) (sym (holds.named name) ∙ new))
-        (record {
-          tables = known-step reading before (Begin name) reading.tables holds.tables refl;
-          tabled = λ other. holds.tabled other ∙ ap (list_any (bytes_eq other)) (sym (same-names table_in before (Begin name) refl));
-          named = λ other. new-name name_in before (Begin name) reading.named name other refl holds.named;
-          parts = run-step reading before (Begin name) (begin_part reading.parts name) holds.parts refl;
-          skipped = holds.skipped ∙ sym (same-skips before (Begin name) refl);
-        })
+      | inl seen ↦ fault (SystemTwice line)
+          (cond-true (has_seen reading.named name) (Err (SystemTwice line)) (Ok next) seen)
+          (cond-true (list_any (bytes_eq name) (filter_map name_in before)) (Err (SystemTwice line)) (Ok (Begin name)) (sym (holds.named name) ∙ seen))
+      | inr new ↦ taken next
+          (cond-false (has_seen reading.named name) (Err (SystemTwice line)) (Ok next) new)
+          (cond-false (list_any (bytes_eq name) (filter_map name_in before)) (Err (SystemTwice line)) (Ok (Begin name)) (sym (holds.named name) ∙ new))
+          (record {
+            tables = known-step reading before (Begin name) reading.tables holds.tables refl;
+            tabled = λ other. holds.tabled other ∙ ap (list_any (bytes_eq other)) (sym (same-names table_in before (Begin name) refl));
+            named = λ other. new-name name_in before (Begin name) reading.named name other refl holds.named;
+            parts = run-step reading before (Begin name) (begin_part reading.parts name) holds.parts refl;
+            skipped = holds.skipped ∙ sym (same-skips before (Begin name) refl);
+          })
     ]
 outcome reading before line (Time time) holds =
     let next : Reading = record { tables = reading.tables; tabled = reading.tabled; named = reading.named; parts = with_line reading.parts time; skipped = reading.skipped } in
     let same : reading.parts.part.lines ≡ filter_map time_in (present [] before) = ap (λ (p : Parts). p.part.lines) holds.parts ∙ run-present no_parts [] before refl in
     let full : nat_le 32 (length reading.parts.part.lines) ≡ nat_le 32 (length (filter_map time_in (present [] before))) = ap (λ (ls : List Line). nat_le 32 (length ls)) same in
     elim (cases_Bool (nat_le 32 (length reading.parts.part.lines))) [
-      inl many ↦ fault (TooManyLines line)
-        (cond-true (nat_le 32 (length reading.parts.part.lines)) (Err (TooManyLines line)) (Ok next) many)
-        (cond-true (nat_le 32 (length (filter_map time_in (present [] before)))) (Err (TooManyLines line)) (Ok (Time time)) (sym full ∙ many))
-    | inr room ↦ taken next
-        (cond-false (nat_le 32 (length reading.parts.part.lines)) (Err (TooManyLines line)) (Ok next) room)
-        (cond-false (nat_le 32 (length (filter_map time_in (present [] before)))) (Err (TooManyLines line)) (Ok (Time time)) (sym full ∙ room))
-        (record {
-          tables = known-step reading before (Time time) reading.tables holds.tables refl;
-          tabled = λ other. holds.tabled other ∙ ap (list_any (bytes_eq other)) (sym (same-names table_in before (Time time) refl));
-          named = λ other. holds.named other ∙ ap (list_any (bytes_eq other)) (sym (same-names name_in before (Time time) refl));
-          parts = run-step reading before (Time time) (with_line reading.parts time) holds.parts refl;
-          skipped = holds.skipped ∙ sym (same-skips before (Time time) refl);
-        })
+      | inl many ↦ fault (TooManyLines line)
+          (cond-true (nat_le 32 (length reading.parts.part.lines)) (Err (TooManyLines line)) (Ok next) many)
+          (cond-true (nat_le 32 (length (filter_map time_in (present [] before)))) (Err (TooManyLines line)) (Ok (Time time)) (sym full ∙ many))
+      | inr room ↦ taken next
+          (cond-false (nat_le 32 (length reading.parts.part.lines)) (Err (TooManyLines line)) (Ok next) room)
+          (cond-false (nat_le 32 (length (filter_map time_in (present [] before)))) (Err (TooManyLines line)) (Ok (Time time)) (sym full ∙ room))
+          (record {
+            tables = known-step reading before (Time time) reading.tables holds.tables refl;
+            tabled = λ other. holds.tabled other ∙ ap (list_any (bytes_eq other)) (sym (same-names table_in before (Time time) refl));
+            named = λ other. holds.named other ∙ ap (list_any (bytes_eq other)) (sym (same-names name_in before (Time time) refl));
+            parts = run-step reading before (Time time) (with_line reading.parts time) holds.parts refl;
+            skipped = holds.skipped ∙ sym (same-skips before (Time time) refl);
+          })
     ]
 outcome reading before line (Retries number) holds =
     let next : Reading = record { tables = reading.tables; tabled = reading.tabled; named = reading.named; parts = with_retries reading.parts number; skipped = reading.skipped } in
@@ -291,19 +291,19 @@ outcome reading before line (Table name windows) holds =
     let tables = insert_entry (slice_cmp nat_cmp) reading.tables name windows in
     let next : Reading = record { tables = tables; tabled = with_seen reading.tabled name; named = reading.named; parts = reading.parts; skipped = reading.skipped } in
     elim (cases_Bool (has_seen reading.tabled name)) [
-      inl seen ↦ fault (TableTwice line)
-        (cond-true (has_seen reading.tabled name) (Err (TableTwice line)) (Ok next) seen)
-        (cond-true (list_any (bytes_eq name) (filter_map table_in before)) (Err (TableTwice line)) (Ok (Table name windows)) (sym (holds.tabled name) ∙ seen))
-    | inr new ↦ taken next
-        (cond-false (has_seen reading.tabled name) (Err (TableTwice line)) (Ok next) new)
-        (cond-false (list_any (bytes_eq name) (filter_map table_in before)) (Err (TableTwice line)) (Ok (Table name windows)) (sym (holds.tabled name) ∙ new))
-        (record {
-          tables = known-step reading before (Table name windows) tables holds.tables refl;
-          tabled = λ other. new-name table_in before (Table name windows) reading.tabled name other refl holds.tabled;
-          named = λ other. holds.named other ∙ ap (list_any (bytes_eq other)) (sym (same-names name_in before (Table name windows) refl));
-          parts = run-step reading before (Table name windows) reading.parts holds.parts refl;
-          skipped = holds.skipped ∙ sym (same-skips before (Table name windows) refl);
-        })
+      | inl seen ↦ fault (TableTwice line)
+          (cond-true (has_seen reading.tabled name) (Err (TableTwice line)) (Ok next) seen)
+          (cond-true (list_any (bytes_eq name) (filter_map table_in before)) (Err (TableTwice line)) (Ok (Table name windows)) (sym (holds.tabled name) ∙ seen))
+      | inr new ↦ taken next
+          (cond-false (has_seen reading.tabled name) (Err (TableTwice line)) (Ok next) new)
+          (cond-false (list_any (bytes_eq name) (filter_map table_in before)) (Err (TableTwice line)) (Ok (Table name windows)) (sym (holds.tabled name) ∙ new))
+          (record {
+            tables = known-step reading before (Table name windows) tables holds.tables refl;
+            tabled = λ other. new-name table_in before (Table name windows) reading.tabled name other refl holds.tabled;
+            named = λ other. holds.named other ∙ ap (list_any (bytes_eq other)) (sym (same-names name_in before (Table name windows) refl));
+            parts = run-step reading before (Table name windows) reading.parts holds.parts refl;
+            skipped = holds.skipped ∙ sym (same-skips before (Table name windows) refl);
+          })
     ]
 outcome reading before line (Skip number) holds =
     let next : Reading = record { tables = reading.tables; tabled = reading.tabled; named = reading.named; parts = reading.parts; skipped = reading.skipped ++ number ∷ [] } in
@@ -330,7 +330,7 @@ file-same systems others skipped other same equal =
 file-held : (reading : Reading) (before : List Deed) → Holds reading before → file_of reading ≡ file_with before
 file-held reading before holds =
     file-same (systems_in reading.parts) (systems_of (part_of (section before)) before) reading.skipped (filter_map skip_in before)
-        (ap systems_in holds.parts ∙ run-systems before) holds.skipped
+    (ap systems_in holds.parts ∙ run-systems before) holds.skipped
 
 -- what follows a line
 abbrev pub bind_file : Result Reading TimeFault → (Reading → Result SysFile TimeFault) → Result SysFile TimeFault
@@ -374,7 +374,7 @@ lines-agree (line ∷ more) reading before holds =
     bind-assoc_read (line_read reading line.number line.line) more
     ∙ ap (λ (t : Tables). bind_file (line_says t line.number line.line >>= λ s. absorbed_if reading line.number s) (λ next. answer_read (lines_read next more))) holds.tables
     ∙ with-said reading before line.number (line_says (known predefined_tables before) line.number line.line) (λ next. answer_read (lines_read next more)) (λ deeds. answer_said (deeds_of deeds more))
-        holds (λ next deeds held. lines-agree more next deeds held)
+    holds (λ next deeds held. lines-agree more next deeds held)
     ∙ sym (bind-assoc_said (line_says (known predefined_tables before) line.number line.line >>= λ s. checked_if before line.number s) more)
 
 pub file-agrees : (text : List ℕ) → file_read text ≡ sys_file_of text

@@ -69,11 +69,11 @@ live-next : (place : Place) (letter : ℕ) → Live place → IfSome (next_place
 live-next Start letter live = live-first no_days letter
 live-next (Letter days first) letter live =
     cond_both (nat_eq first 97 && nat_eq letter 110) (Some (An days)) (option_map (λ more. Named (with_days days more)) (two_letters first letter)) (λ o. IfSome o Live)
-        (λ yes. tt) (λ no. live-named (two_letters first letter) (λ more. with_days days more))
+    (λ yes. tt) (λ no. live-named (two_letters first letter) (λ more. with_days days more))
 live-next (An days) letter live = guarded (nat_eq letter 121) (Named (with_days days (0, 6))) Live (λ e. tt)
 live-next (Named days) letter live =
     cond_both (is_ascii_digit letter) (start_digit days 1000 0 letter) (first_letter days letter) (λ o. IfSome o Live)
-        (λ digit. live-start days 1000 0 letter thousand) (λ other. live-first days letter)
+    (λ digit. live-start days 1000 0 letter thousand) (λ other. live-first days letter)
 live-next (From days counts digits) letter live = live-start days counts digits letter live.0
 live-next (Dash days start) letter live = guarded (nat_eq letter 45) (To days start 1000 0) Live (λ e. (thousand, refl))
 live-next (To days start counts digits) letter live =
@@ -91,7 +91,7 @@ live-led (Some next) live = live
 live-step : (place : Place) (letter : ℕ) → Live place → IfSome (step place letter) (λ found. Live found.next)
 live-step place letter live =
     cond_both (is_separator letter) (option_map (λ s. record { simple = Some s; next = Start }) (simple_at place)) (option_map (λ n. record { simple = None; next = n }) (next_place place letter)) (λ o. IfSome o (λ f. Live f.next))
-        (λ yes. live-ended (simple_at place)) (λ no. live-led (next_place place letter) (live-next place letter live))
+    (λ yes. live-ended (simple_at place)) (λ no. live-led (next_place place letter) (live-next place letter live))
 
 -- a text that ends the list from a place
 abbrev pub Ends : Place → Type 0
@@ -99,17 +99,21 @@ Ends place = (tail : List ℕ) × (simples : List Simple) × (scan place tail �
 
 zero-from : (days : Days) (counts digits : ℕ) → is_time digits ≡ true → Ends (cond (nat_eq counts 1) (Dash days digits) (From days (counts / 10) digits)) → Ends (From days counts digits)
 zero-from days counts digits time ends =
-    let same : digits + 0 * counts ≡ digits = omega arith in
-    (48 ∷ ends.0, ends.1,
+    let same : digits + 0 * counts ≡ digits = omega arith in (
+      48 ∷ ends.0,
+      ends.1,
       scan-next (From days counts digits) (cond (nat_eq counts 1) (Dash days digits) (From days (counts / 10) digits)) 48 ends.0 ends.1 refl
-        (start-digit days counts digits 0 (lit< tt) (ap is_time same ∙ time) ∙ ap (λ (x : ℕ). Some (cond (nat_eq counts 1) (Dash days x) (From days (counts / 10) x))) same) ends.2)
+          (start-digit days counts digits 0 (lit< tt) (ap is_time same ∙ time) ∙ ap (λ (x : ℕ). Some (cond (nat_eq counts 1) (Dash days x) (From days (counts / 10) x))) same) ends.2,
+    )
 
 zero-to : (days : Days) (start counts digits : ℕ) → is_end digits ≡ true → Ends (cond (nat_eq counts 1) (Whole days start digits) (To days start (counts / 10) digits)) → Ends (To days start counts digits)
 zero-to days start counts digits time ends =
-    let same : digits + 0 * counts ≡ digits = omega arith in
-    (48 ∷ ends.0, ends.1,
+    let same : digits + 0 * counts ≡ digits = omega arith in (
+      48 ∷ ends.0,
+      ends.1,
       scan-next (To days start counts digits) (cond (nat_eq counts 1) (Whole days start digits) (To days start (counts / 10) digits)) 48 ends.0 ends.1 refl
-        (end-digit days start counts digits 0 (lit< tt) (ap is_end same ∙ time) ∙ ap (λ (x : ℕ). Some (cond (nat_eq counts 1) (Whole days start x) (To days start (counts / 10) x))) same) ends.2)
+          (end-digit days start counts digits 0 (lit< tt) (ap is_end same ∙ time) ∙ ap (λ (x : ℕ). Some (cond (nat_eq counts 1) (Whole days start x) (To days start (counts / 10) x))) same) ends.2,
+    )
 
 ends-whole : (days : Days) (start end : ℕ) → Ends (Whole days start end)
 ends-whole days start end =
@@ -156,12 +160,27 @@ at-letter days letter first same ends = subst (λ (l : ℕ). Ends (Letter days l
 
 ends-letter : (days : Days) (first : ℕ) → list_any (λ letter. nat_eq letter first) (115 ∷ 109 ∷ 116 ∷ 119 ∷ 102 ∷ 97 ∷ []) ≡ true → Ends (Letter days first)
 ends-letter days first is =
-    elim (or_cases (nat_eq 115 first) _ is) [ inl s ↦ at-letter days 115 first s (ends-word days 115 117 (0, 0) refl refl) | inr later ↦
-    elim (or_cases (nat_eq 109 first) _ later) [ inl m ↦ at-letter days 109 first m (ends-word days 109 111 (1, 1) refl refl) | inr later ↦
-    elim (or_cases (nat_eq 116 first) _ later) [ inl t ↦ at-letter days 116 first t (ends-word days 116 117 (2, 2) refl refl) | inr later ↦
-    elim (or_cases (nat_eq 119 first) _ later) [ inl w ↦ at-letter days 119 first w (ends-word days 119 101 (3, 3) refl refl) | inr later ↦
-    elim (or_cases (nat_eq 102 first) _ later) [ inl f ↦ at-letter days 102 first f (ends-word days 102 114 (5, 5) refl refl) | inr later ↦
-    elim (or_cases (nat_eq 97 first) false later) [ inl a ↦ at-letter days 97 first a (ends-a days) | inr never ↦ absurd (false≢true never) ] ] ] ] ] ]
+    elim (or_cases (nat_eq 115 first) _ is) [
+      | inl s ↦ at-letter days 115 first s (ends-word days 115 117 (0, 0) refl refl)
+      | inr later ↦
+          elim (or_cases (nat_eq 109 first) _ later) [
+            | inl m ↦ at-letter days 109 first m (ends-word days 109 111 (1, 1) refl refl)
+            | inr later ↦
+                elim (or_cases (nat_eq 116 first) _ later) [
+                  | inl t ↦ at-letter days 116 first t (ends-word days 116 117 (2, 2) refl refl)
+                  | inr later ↦
+                      elim (or_cases (nat_eq 119 first) _ later) [
+                        | inl w ↦ at-letter days 119 first w (ends-word days 119 101 (3, 3) refl refl)
+                        | inr later ↦
+                            elim (or_cases (nat_eq 102 first) _ later) [
+                              | inl f ↦ at-letter days 102 first f (ends-word days 102 114 (5, 5) refl refl)
+                              | inr later ↦
+                                  elim (or_cases (nat_eq 97 first) false later) [ inl a ↦ at-letter days 97 first a (ends-a days) | inr never ↦ absurd (false≢true never) ]
+                            ]
+                      ]
+                ]
+          ]
+    ]
 
 ends-start : Ends Start
 ends-start =
@@ -214,9 +233,14 @@ begun-step place letter letters at None is live ends same rest = begun-here plac
 begun-step place letter letters at (Some found) is live ends same rest =
     let read = after-err (option_to_list found.simple) (scan found.next letters) at same in
     let behind = rest found.next read.0 live read.1 in
-    subst (λ (n : ℕ). Begun place (letter ∷ letters) n) (sym read.2)
-      (omega (arith, behind.0), (behind.1.0, option_to_list found.simple ++ behind.1.1,
-        ap (λ (s : Option Found). going_on s (λ p. scan p (take read.0 letters ++ behind.1.0))) is ∙ ap (after (option_to_list found.simple) 1) behind.1.2))
+    subst (λ (n : ℕ). Begun place (letter ∷ letters) n) (sym read.2) (
+      omega (arith, behind.0),
+      (
+        behind.1.0,
+        option_to_list found.simple ++ behind.1.1,
+        ap (λ (s : Option Found). going_on s (λ p. scan p (take read.0 letters ++ behind.1.0))) is ∙ ap (after (option_to_list found.simple) 1) behind.1.2,
+      ),
+    )
 
 begun : (text : List ℕ) (place : Place) (at : ℕ) → Live place → scan place text ≡ Err at → Begun place text at
 unfolding scan
@@ -261,7 +285,7 @@ unread-longest text at same =
       within = omega (arith, front.0, lower-length text);
       begins = (front.1.0, written.spellings, subst (λ (t : List ℕ). Spells (t ++ front.1.0) written.spellings) (sym (lower-take text at)) written.spells);
       longest = λ count more within list.
-        longer (lower text) Start at count list.0 (map simple_of list.1) same more (omega (arith, lower-length text))
+          longer (lower text) Start at count list.0 (map simple_of list.1) same more (omega (arith, lower-length text))
           (ap (λ (t : List ℕ). scan Start (t ++ list.0)) (sym (lower-take text count)) ∙ lists-read (lower (take count text) ++ list.0) list.1 list.2);
     }
 
@@ -304,5 +328,5 @@ has-words (word ∷ words) days day below =
 pub spelled-minutes : (spelling : Spelling) (minute : ℕ) → minute < 10080 → has_minute minute (simple_of spelling) ≡ has_spelled minute spelling
 spelled-minutes spelling minute below =
     ap (λ b. b && in_hours (option_map minutes_of spelling.hours) (minute % 1440))
-      (has-words spelling.words no_days (minute / 1440) (omega arith)
-        ∙ ap (λ b. b || list_any (λ word. spans (word_days word) (minute / 1440)) spelling.words) (has-none (minute / 1440) (omega arith)))
+    (has-words spelling.words no_days (minute / 1440) (omega arith)
+    ∙ ap (λ b. b || list_any (λ word. spans (word_days word) (minute / 1440)) spelling.words) (has-none (minute / 1440) (omega arith)))

@@ -106,34 +106,36 @@ run-start days hour minute rest simples time read =
     let d1 = hour / 10 in let d2 = hour % 10 in let d3 = minute / 10 in let d4 = minute % 10 in
     let p1 = 0 + d1 * 1000 in let p2 = p1 + d2 * 100 in let p3 = p2 + d3 * 10 in
     scan-next (Named days) (From days 100 p1) (48 + d1) ((48 + d2) ∷ (two_digits minute ++ rest)) simples (plain-digit d1 (omega arith))
-      (cond-true (is_ascii_digit (48 + d1)) (start_digit days 1000 0 (48 + d1)) (first_letter days (48 + d1)) (is-digit d1 (omega arith)) ∙ start-digit days 1000 0 d1 (omega arith) (time-test p1 (omega arith) (omega arith)))
+    (cond-true (is_ascii_digit (48 + d1)) (start_digit days 1000 0 (48 + d1)) (first_letter days (48 + d1)) (is-digit d1 (omega arith)) ∙ start-digit days 1000 0 d1 (omega arith) (time-test p1 (omega arith) (omega arith)))
     (scan-next (From days 100 p1) (From days 10 p2) (48 + d2) (two_digits minute ++ rest) simples (plain-digit d2 (omega arith))
-      (start-digit days 100 p1 d2 (omega arith) (time-test p2 (omega arith) (omega arith)))
+    (start-digit days 100 p1 d2 (omega arith) (time-test p2 (omega arith) (omega arith)))
     (scan-next (From days 10 p2) (From days 1 p3) (48 + d3) ((48 + d4) ∷ rest) simples (plain-digit d3 (omega arith))
-      (start-digit days 10 p2 d3 (omega arith) (time-test p3 (omega arith) (omega arith)))
+    (start-digit days 10 p2 d3 (omega arith) (time-test p3 (omega arith) (omega arith)))
     (scan-next (From days 1 p3) (Dash days (written hour minute)) (48 + d4) rest simples (plain-digit d4 (omega arith))
-      (start-digit days 1 p3 d4 (omega arith) (time-test (written hour minute) (omega arith) (omega arith)))
+    (start-digit days 1 p3 d4 (omega arith) (time-test (written hour minute) (omega arith) (omega arith)))
     read)))
 
 -- the digits of an end
 end-parts : (hour minute : ℕ) → IsEnd hour minute
     → let p1 = 0 + hour / 10 * 1000 in let p2 = p1 + hour % 10 * 100 in let p3 = p2 + minute / 10 * 10 in
-      (hour < 100) × (minute < 100) × (is_end p1 ≡ true) × (is_end p2 ≡ true) × (is_end p3 ≡ true) × (is_end (written hour minute) ≡ true)
+    (hour < 100) × (minute < 100) × (is_end p1 ≡ true) × (is_end p2 ≡ true) × (is_end p3 ≡ true) × (is_end (written hour minute) ≡ true)
 end-parts hour minute (inl time) =
-    let p1 = 0 + hour / 10 * 1000 in let p2 = p1 + hour % 10 * 100 in let p3 = p2 + minute / 10 * 10 in
-    ( omega arith, omega arith
-    , end-test p1 (inl (omega arith, omega arith))
-    , end-test p2 (inl (omega arith, omega arith))
-    , end-test p3 (inl (omega arith, omega arith))
-    , end-test (written hour minute) (inl (omega arith, omega arith))
+    let p1 = 0 + hour / 10 * 1000 in let p2 = p1 + hour % 10 * 100 in let p3 = p2 + minute / 10 * 10 in (
+      omega arith,
+      omega arith,
+      end-test p1 (inl (omega arith, omega arith)),
+      end-test p2 (inl (omega arith, omega arith)),
+      end-test p3 (inl (omega arith, omega arith)),
+      end-test (written hour minute) (inl (omega arith, omega arith)),
     )
 end-parts hour minute (inr last) =
-    let p1 = 0 + hour / 10 * 1000 in let p2 = p1 + hour % 10 * 100 in let p3 = p2 + minute / 10 * 10 in
-    ( omega arith, omega arith
-    , end-test p1 (inl (omega arith, omega arith))
-    , end-test p2 (inr (omega arith))
-    , end-test p3 (inr (omega arith))
-    , end-test (written hour minute) (inr (omega arith))
+    let p1 = 0 + hour / 10 * 1000 in let p2 = p1 + hour % 10 * 100 in let p3 = p2 + minute / 10 * 10 in (
+      omega arith,
+      omega arith,
+      end-test p1 (inl (omega arith, omega arith)),
+      end-test p2 (inr (omega arith)),
+      end-test p3 (inr (omega arith)),
+      end-test (written hour minute) (inr (omega arith)),
     )
 
 run-end : (days : Days) (start hour minute : ℕ) (rest : List ℕ) (simples : List Simple) → IsEnd hour minute → scan (Whole days start (written hour minute)) rest ≡ Ok simples
@@ -145,13 +147,13 @@ run-end days start hour minute rest simples end read =
     let small : hour < 100 = parts.0 in
     let short : minute < 100 = parts.1 in
     scan-next (To days start 1000 0) (To days start 100 p1) (48 + d1) ((48 + d2) ∷ (two_digits minute ++ rest)) simples (plain-digit d1 (omega arith))
-      (end-digit days start 1000 0 d1 (omega arith) parts.2)
+    (end-digit days start 1000 0 d1 (omega arith) parts.2)
     (scan-next (To days start 100 p1) (To days start 10 p2) (48 + d2) (two_digits minute ++ rest) simples (plain-digit d2 (omega arith))
-      (end-digit days start 100 p1 d2 (omega arith) parts.3)
+    (end-digit days start 100 p1 d2 (omega arith) parts.3)
     (scan-next (To days start 10 p2) (To days start 1 p3) (48 + d3) ((48 + d4) ∷ rest) simples (plain-digit d3 (omega arith))
-      (end-digit days start 10 p2 d3 (omega arith) parts.4)
+    (end-digit days start 10 p2 d3 (omega arith) parts.4)
     (scan-next (To days start 1 p3) (Whole days start (written hour minute)) (48 + d4) rest simples (plain-digit d4 (omega arith))
-      (end-digit days start 1 p3 d4 (omega arith) parts.5)
+    (end-digit days start 1 p3 d4 (omega arith) parts.5)
     read)))
 
 -- where the reading stands behind a simple string
@@ -165,8 +167,8 @@ run-hours days None rest simples are read = read
 run-hours days (Some hours) rest simples are read =
     let start = written hours.from_hour hours.from_minute in
     run-start days hours.from_hour hours.from_minute (45 ∷ (two_digits hours.to_hour ++ (two_digits hours.to_minute ++ rest))) simples are.0
-      (scan-next (Dash days start) (To days start 1000 0) 45 (two_digits hours.to_hour ++ (two_digits hours.to_minute ++ rest)) simples refl refl
-        (run-end days start hours.to_hour hours.to_minute rest simples are.1 read))
+    (scan-next (Dash days start) (To days start 1000 0) 45 (two_digits hours.to_hour ++ (two_digits hours.to_minute ++ rest)) simples refl refl
+    (run-end days start hours.to_hour hours.to_minute rest simples are.1 read))
 
 -- the minutes of the hours
 minute-start : (hour minute : ℕ) → IsTime hour minute → minute_of (written hour minute) ≡ 60 * hour + minute
@@ -217,9 +219,9 @@ lists-read text [] spells = absurd spells
 lists-read text (spelling ∷ []) spells =
     ap (scan Start) (spells.1 ∙ sym (append-nil (spelled spelling)))
     ∙ run-spelling spelling [] (simple_of spelling ∷ []) spells.0
-        (scan-ending (place_behind (days_of no_days spelling.words) spelling.hours) (simple_of spelling) (simple-behind (days_of no_days spelling.words) spelling.hours spells.0.1))
+    (scan-ending (place_behind (days_of no_days spelling.words) spelling.hours) (simple_of spelling) (simple-behind (days_of no_days spelling.words) spelling.hours spells.0.1))
 lists-read text (spelling ∷ next ∷ more) (is, (letter, rest, cuts, same, spells)) =
     ap (scan Start) same
     ∙ run-spelling spelling (letter ∷ rest) (simple_of spelling ∷ map simple_of (next ∷ more)) is
-        (scan-separator (place_behind (days_of no_days spelling.words) spelling.hours) (simple_of spelling) letter rest (map simple_of (next ∷ more)) cuts
-          (simple-behind (days_of no_days spelling.words) spelling.hours is.1) (lists-read rest (next ∷ more) spells))
+    (scan-separator (place_behind (days_of no_days spelling.words) spelling.hours) (simple_of spelling) letter rest (map simple_of (next ∷ more)) cuts
+    (simple-behind (days_of no_days spelling.words) spelling.hours is.1) (lists-read rest (next ∷ more) spells))

@@ -52,15 +52,39 @@ pub record IsWord (a b : ℕ) (more : ℕ × ℕ) : Type 0 where
 
 two-word : (a b : ℕ) (more : ℕ × ℕ) → two_letters a b ≡ Some more → IsWord a b more
 two-word a b more same =
-    elim (choice (nat_eq a 115 && nat_eq b 117) (0, 0) more _ same) [ inl found ↦ record { word = su; days = found.1; text = both a b 115 117 found.0 } | inr later ↦
-    elim (choice (nat_eq a 109 && nat_eq b 111) (1, 1) more _ later) [ inl found ↦ record { word = mo; days = found.1; text = both a b 109 111 found.0 } | inr later ↦
-    elim (choice (nat_eq a 116 && nat_eq b 117) (2, 2) more _ later) [ inl found ↦ record { word = tu; days = found.1; text = both a b 116 117 found.0 } | inr later ↦
-    elim (choice (nat_eq a 119 && nat_eq b 101) (3, 3) more _ later) [ inl found ↦ record { word = we; days = found.1; text = both a b 119 101 found.0 } | inr later ↦
-    elim (choice (nat_eq a 116 && nat_eq b 104) (4, 4) more _ later) [ inl found ↦ record { word = th; days = found.1; text = both a b 116 104 found.0 } | inr later ↦
-    elim (choice (nat_eq a 102 && nat_eq b 114) (5, 5) more _ later) [ inl found ↦ record { word = fr; days = found.1; text = both a b 102 114 found.0 } | inr later ↦
-    elim (choice (nat_eq a 115 && nat_eq b 97) (6, 6) more _ later) [ inl found ↦ record { word = sa; days = found.1; text = both a b 115 97 found.0 } | inr later ↦
-    elim (choice (nat_eq a 119 && nat_eq b 107) (1, 5) more _ later) [ inl found ↦ record { word = wk; days = found.1; text = both a b 119 107 found.0 } | inr later ↦
-      absurd (none-some more None refl later) ] ] ] ] ] ] ] ]
+    elim (choice (nat_eq a 115 && nat_eq b 117) (0, 0) more _ same) [
+      | inl found ↦ record { word = su; days = found.1; text = both a b 115 117 found.0 }
+      | inr later ↦
+          elim (choice (nat_eq a 109 && nat_eq b 111) (1, 1) more _ later) [
+            | inl found ↦ record { word = mo; days = found.1; text = both a b 109 111 found.0 }
+            | inr later ↦
+                elim (choice (nat_eq a 116 && nat_eq b 117) (2, 2) more _ later) [
+                  | inl found ↦ record { word = tu; days = found.1; text = both a b 116 117 found.0 }
+                  | inr later ↦
+                      elim (choice (nat_eq a 119 && nat_eq b 101) (3, 3) more _ later) [
+                        | inl found ↦ record { word = we; days = found.1; text = both a b 119 101 found.0 }
+                        | inr later ↦
+                            elim (choice (nat_eq a 116 && nat_eq b 104) (4, 4) more _ later) [
+                              | inl found ↦ record { word = th; days = found.1; text = both a b 116 104 found.0 }
+                              | inr later ↦
+                                  elim (choice (nat_eq a 102 && nat_eq b 114) (5, 5) more _ later) [
+                                    | inl found ↦ record { word = fr; days = found.1; text = both a b 102 114 found.0 }
+                                    | inr later ↦
+                                        elim (choice (nat_eq a 115 && nat_eq b 97) (6, 6) more _ later) [
+                                          | inl found ↦ record { word = sa; days = found.1; text = both a b 115 97 found.0 }
+                                          | inr later ↦
+                                              elim (choice (nat_eq a 119 && nat_eq b 107) (1, 5) more _ later) [
+                                                | inl found ↦ record { word = wk; days = found.1; text = both a b 119 107 found.0 }
+                                                | inr later ↦
+                                                    absurd (none-some more None refl later)
+                                              ]
+                                        ]
+                                  ]
+                            ]
+                      ]
+                ]
+          ]
+    ]
 
 -- the words that were read, with their text
 pub record Words (days : Days) (text : List ℕ) : Type 0 where
@@ -138,15 +162,15 @@ digit-led : (test : ℕ → Bool) (place : ℕ → Place) (unit digits letter : 
     → option_and_then (λ more. cond (test more) (Some (place more)) None) (more_digits unit digits letter) ≡ Some next → Led test place unit digits letter next
 digit-led test place unit digits letter next same =
     elim (cases_Bool (is_ascii_digit letter)) [
-      inl is ↦
-        let value = digit-value letter is in
-        let read : more_digits unit digits letter ≡ Some (digits + value.0 * unit) =
+      | inl is ↦
+          let value = digit-value letter is in
+          let read : more_digits unit digits letter ≡ Some (digits + value.0 * unit) =
           cond-true (is_ascii_digit letter) (Some (digits + (letter - 48) * unit)) None is ∙ ap (λ (x : ℕ). Some (digits + x * unit)) (omega (arith, value.2)) in
-        let passed = guard-passed (test (digits + value.0 * unit)) (place (digits + value.0 * unit)) next
+          let passed = guard-passed (test (digits + value.0 * unit)) (place (digits + value.0 * unit)) next
           (sym (ap (option_and_then (λ more. cond (test more) (Some (place more)) None)) read) ∙ same) in
-        (value.0, value.1, value.2, passed.0, passed.1)
-    | inr other ↦
-        absurd (none-some next (option_and_then (λ more. cond (test more) (Some (place more)) None) (more_digits unit digits letter))
+          (value.0, value.1, value.2, passed.0, passed.1)
+      | inr other ↦
+          absurd (none-some next (option_and_then (λ more. cond (test more) (Some (place more)) None) (more_digits unit digits letter))
           (ap (option_and_then (λ more. cond (test more) (Some (place more)) None)) (cond-false (is_ascii_digit letter) (Some (digits + (letter - 48) * unit)) None other)) same)
     ]
 
@@ -165,13 +189,13 @@ step-second : (days : Days) (first letter : ℕ) (text front : List ℕ) (next :
 step-second days first letter text front next words is same =
     let whole : text ++ letter ∷ [] ≡ front ++ first ∷ letter ∷ [] = ap (λ t. t ++ letter ∷ []) is ∙ append_assoc front (first ∷ []) (letter ∷ []) in
     elim (choice (nat_eq first 97 && nat_eq letter 110) (An days) next (option_map (λ more. Named (with_days days more)) (two_letters first letter)) same) [
-      inl an ↦ there (An days) next (text ++ letter ∷ []) an.1 (front, words, whole ∙ ap (λ t. front ++ t) (sym (both first letter 97 110 an.0)))
-    | inr later ↦
-        let found = mapped (λ (more : ℕ × ℕ). Named (with_days days more)) (two_letters first letter) next later in
-        let word = two-word first letter found.0 found.1 in
-        there (Named (with_days days found.0)) next (text ++ letter ∷ []) found.2
+      | inl an ↦ there (An days) next (text ++ letter ∷ []) an.1 (front, words, whole ∙ ap (λ t. front ++ t) (sym (both first letter 97 110 an.0)))
+      | inr later ↦
+          let found = mapped (λ (more : ℕ × ℕ). Named (with_days days more)) (two_letters first letter) next later in
+          let word = two-word first letter found.0 found.1 in
+          there (Named (with_days days found.0)) next (text ++ letter ∷ []) found.2
           (subst (λ (t : List ℕ). Named' (with_days days found.0) t) (ap (λ t. front ++ t) word.text ∙ sym whole)
-            (subst (λ (more : ℕ × ℕ). Named' (with_days days more) (front ++ word_text word.word)) word.days (one-more days front word.word words)))
+          (subst (λ (more : ℕ × ℕ). Named' (with_days days more) (front ++ word_text word.word)) word.days (one-more days front word.word words)))
     ]
 
 -- digits of the time at which hours begin
@@ -188,10 +212,10 @@ clock-of a b c d digits text a_in b_in c_in d_in value is passes holds =
       is = holds;
       value = value ∙ omega arith;
       spelled = is
-        ∙ ap (λ (x : ℕ). let l : List ℕ = (48 + x) ∷ (48 + b) ∷ (48 + c) ∷ (48 + d) ∷ [] in l) (sym first)
-        ∙ ap (λ (x : ℕ). let l : List ℕ = (48 + (10 * a + b) / 10) ∷ (48 + x) ∷ (48 + c) ∷ (48 + d) ∷ [] in l) (sym second)
-        ∙ ap (λ (x : ℕ). let l : List ℕ = (48 + (10 * a + b) / 10) ∷ (48 + (10 * a + b) % 10) ∷ (48 + x) ∷ (48 + d) ∷ [] in l) (sym third)
-        ∙ ap (λ (x : ℕ). let l : List ℕ = (48 + (10 * a + b) / 10) ∷ (48 + (10 * a + b) % 10) ∷ (48 + (10 * c + d) / 10) ∷ (48 + x) ∷ [] in l) (sym fourth);
+          ∙ ap (λ (x : ℕ). let l : List ℕ = (48 + x) ∷ (48 + b) ∷ (48 + c) ∷ (48 + d) ∷ [] in l) (sym first)
+          ∙ ap (λ (x : ℕ). let l : List ℕ = (48 + (10 * a + b) / 10) ∷ (48 + x) ∷ (48 + c) ∷ (48 + d) ∷ [] in l) (sym second)
+          ∙ ap (λ (x : ℕ). let l : List ℕ = (48 + (10 * a + b) / 10) ∷ (48 + (10 * a + b) % 10) ∷ (48 + x) ∷ (48 + d) ∷ [] in l) (sym third)
+          ∙ ap (λ (x : ℕ). let l : List ℕ = (48 + (10 * a + b) / 10) ∷ (48 + (10 * a + b) % 10) ∷ (48 + (10 * c + d) / 10) ∷ (48 + x) ∷ [] in l) (sym fourth);
     }
 
 time-from : (a b c d digits : ℕ) → b < 10 → c < 10 → d < 10 → digits ≡ 0 + a * 1000 + b * 100 + c * 10 + d * 1 → is_time digits ≡ true → IsTime (10 * a + b) (10 * c + d)
@@ -204,8 +228,8 @@ time-from a b c d digits b_in c_in d_in value is =
 end-from : (a b c d digits : ℕ) → a < 10 → b < 10 → c < 10 → d < 10 → digits ≡ 0 + a * 1000 + b * 100 + c * 10 + d * 1 → is_end digits ≡ true → IsEnd (10 * a + b) (10 * c + d)
 end-from a b c d digits a_in b_in c_in d_in value is =
     elim (or_cases (is_time digits) (nat_eq digits 2400) is) [
-      inl time ↦ inl (time-from a b c d digits b_in c_in d_in value time)
-    | inr last ↦ let all : digits ≡ 2400 = eqb-true digits 2400 last in inr (omega arith, omega arith)
+      | inl time ↦ inl (time-from a b c d digits b_in c_in d_in value time)
+      | inr last ↦ let all : digits ≡ 2400 = eqb-true digits 2400 last in inr (omega arith, omega arith)
     ]
 
 -- the digits with one more: three, or the whole time
@@ -228,12 +252,12 @@ step-from days unit digits letter text front part next words so_far is same =
     let d = led.0 in
     let value = digits + d * unit in
     let whole : text ++ letter ∷ [] ≡ front ++ (part ++ (48 + d) ∷ []) =
-      ap (λ t. t ++ letter ∷ []) is ∙ append_assoc front part (letter ∷ []) ∙ ap (λ (l : ℕ). front ++ (part ++ l ∷ [])) led.2 in
+    ap (λ t. t ++ letter ∷ []) is ∙ append_assoc front part (letter ∷ []) ∙ ap (λ (l : ℕ). front ++ (part ++ l ∷ [])) led.2 in
     elim (grow IsTime unit digits part d so_far led.1 (λ a b c a_in b_in c_in sum. time-from a b c d value b_in c_in led.1 sum led.3)) [
-      inl grown ↦ there (From days (unit / 10) value) next (text ++ letter ∷ []) (sym (cond-false (nat_eq unit 1) (Dash days value) (From days (unit / 10) value) grown.0) ∙ led.4)
-        (front, part ++ (48 + d) ∷ [], words, grown.1, whole)
-    | inr all ↦ there (Dash days value) next (text ++ letter ∷ []) (sym (cond-true (nat_eq unit 1) (Dash days value) (From days (unit / 10) value) all.0) ∙ led.4)
-        (front, part ++ (48 + d) ∷ [], words, all.1, whole)
+      | inl grown ↦ there (From days (unit / 10) value) next (text ++ letter ∷ []) (sym (cond-false (nat_eq unit 1) (Dash days value) (From days (unit / 10) value) grown.0) ∙ led.4)
+          (front, part ++ (48 + d) ∷ [], words, grown.1, whole)
+      | inr all ↦ there (Dash days value) next (text ++ letter ∷ []) (sym (cond-true (nat_eq unit 1) (Dash days value) (From days (unit / 10) value) all.0) ∙ led.4)
+          (front, part ++ (48 + d) ∷ [], words, all.1, whole)
     ]
 
 step-to : (days : Days) (start unit digits letter : ℕ) (text front part last : List ℕ) (next : Place) → Named' days front → Clock IsTime start part → Digits unit digits last
@@ -243,13 +267,13 @@ step-to days start unit digits letter text front part last next words begun so_f
     let d = led.0 in
     let value = digits + d * unit in
     let whole : text ++ letter ∷ [] ≡ front ++ (part ++ 45 ∷ (last ++ (48 + d) ∷ [])) =
-      ap (λ t. t ++ letter ∷ []) is ∙ append_assoc front (part ++ 45 ∷ last) (letter ∷ []) ∙ ap (λ t. front ++ t) (append_assoc part (45 ∷ last) (letter ∷ []))
-      ∙ ap (λ (l : ℕ). front ++ (part ++ 45 ∷ (last ++ l ∷ []))) led.2 in
+    ap (λ t. t ++ letter ∷ []) is ∙ append_assoc front (part ++ 45 ∷ last) (letter ∷ []) ∙ ap (λ t. front ++ t) (append_assoc part (45 ∷ last) (letter ∷ []))
+    ∙ ap (λ (l : ℕ). front ++ (part ++ 45 ∷ (last ++ l ∷ []))) led.2 in
     elim (grow IsEnd unit digits last d so_far led.1 (λ a b c a_in b_in c_in sum. end-from a b c d value a_in b_in c_in led.1 sum led.3)) [
-      inl grown ↦ there (To days start (unit / 10) value) next (text ++ letter ∷ []) (sym (cond-false (nat_eq unit 1) (Whole days start value) (To days start (unit / 10) value) grown.0) ∙ led.4)
-        (front, part, last ++ (48 + d) ∷ [], words, begun, grown.1, whole)
-    | inr all ↦ there (Whole days start value) next (text ++ letter ∷ []) (sym (cond-true (nat_eq unit 1) (Whole days start value) (To days start (unit / 10) value) all.0) ∙ led.4)
-        (front, part, last ++ (48 + d) ∷ [], words, begun, all.1, whole)
+      | inl grown ↦ there (To days start (unit / 10) value) next (text ++ letter ∷ []) (sym (cond-false (nat_eq unit 1) (Whole days start value) (To days start (unit / 10) value) grown.0) ∙ led.4)
+          (front, part, last ++ (48 + d) ∷ [], words, begun, grown.1, whole)
+      | inr all ↦ there (Whole days start value) next (text ++ letter ∷ []) (sym (cond-true (nat_eq unit 1) (Whole days start value) (To days start (unit / 10) value) all.0) ∙ led.4)
+          (front, part, last ++ (48 + d) ∷ [], words, begun, all.1, whole)
     ]
 
 -- each byte keeps what was read
@@ -260,22 +284,28 @@ step-next (Letter days first) next letter text same (front, words, is) = step-se
 step-next (An days) next letter text same (front, words, is) =
     let passed = guard-passed (nat_eq letter 121) (Named (with_days days (0, 6))) next same in
     there (Named (with_days days (0, 6))) next (text ++ letter ∷ []) passed.1
-      (subst (λ (t : List ℕ). Named' (with_days days (0, 6)) t)
-        (sym (append_assoc front (97 ∷ 110 ∷ []) (121 ∷ [])) ∙ ap (λ t. t ++ 121 ∷ []) (sym is) ∙ ap (λ (l : ℕ). text ++ l ∷ []) (sym (eqb-true letter 121 passed.0)))
-        (one-more days front any words))
+    (subst (λ (t : List ℕ). Named' (with_days days (0, 6)) t)
+    (sym (append_assoc front (97 ∷ 110 ∷ []) (121 ∷ [])) ∙ ap (λ t. t ++ 121 ∷ []) (sym is) ∙ ap (λ (l : ℕ). text ++ l ∷ []) (sym (eqb-true letter 121 passed.0)))
+    (one-more days front any words))
 step-next (Named days) next letter text same pending =
     elim (cases_Bool (is_ascii_digit letter)) [
-      inl digit ↦ step-from days 1000 0 letter text text [] next pending none (sym (append-nil text))
-        (sym (cond-true (is_ascii_digit letter) (start_digit days 1000 0 letter) (first_letter days letter) digit) ∙ same)
-    | inr other ↦ step-first days text letter next pending.front
-        (sym (cond-false (is_ascii_digit letter) (start_digit days 1000 0 letter) (first_letter days letter) other) ∙ same)
+      | inl digit ↦ step-from days 1000 0 letter text text [] next pending none (sym (append-nil text))
+          (sym (cond-true (is_ascii_digit letter) (start_digit days 1000 0 letter) (first_letter days letter) digit) ∙ same)
+      | inr other ↦ step-first days text letter next pending.front
+          (sym (cond-false (is_ascii_digit letter) (start_digit days 1000 0 letter) (first_letter days letter) other) ∙ same)
     ]
 step-next (From days unit digits) next letter text same (front, part, words, so_far, is) = step-from days unit digits letter text front part next words so_far is same
 step-next (Dash days start) next letter text same (front, part, words, begun, is) =
     let passed = guard-passed (nat_eq letter 45) (To days start 1000 0) next same in
-    there (To days start 1000 0) next (text ++ letter ∷ []) passed.1
-      (front, part, [], words, begun, none,
-        ap (λ t. t ++ letter ∷ []) is ∙ append_assoc front part (letter ∷ []) ∙ ap (λ (l : ℕ). front ++ (part ++ l ∷ [])) (eqb-true letter 45 passed.0))
+    there (To days start 1000 0) next (text ++ letter ∷ []) passed.1 (
+      front,
+      part,
+      [],
+      words,
+      begun,
+      none,
+      ap (λ t. t ++ letter ∷ []) is ∙ append_assoc front part (letter ∷ []) ∙ ap (λ (l : ℕ). front ++ (part ++ l ∷ [])) (eqb-true letter 45 passed.0),
+    )
 step-next (To days start unit digits) next letter text same (front, part, last, words, begun, so_far, is) =
     step-to days start unit digits letter text front part last next words begun so_far is same
 step-next (Whole days start end) next letter text same pending = absurd (none-some next None refl same)
@@ -294,7 +324,7 @@ ended-with days hours front text simple are words is same = record {
   is = (words.some, are);
   text_is = is ∙ ap (λ t. t ++ hours_text hours) words.front.spelled;
   simple_is = sym (some-same (made days (option_map minutes_of hours)) simple (sym (simple-behind days hours are) ∙ same))
-    ∙ ap (λ (d : Days). made d (option_map minutes_of hours)) words.front.named;
+      ∙ ap (λ (d : Days). made d (option_map minutes_of hours)) words.front.named;
 }
 
 ends-at : (place : Place) (text : List ℕ) (simple : Simple) → Pending place text → simple_at place ≡ Some simple → Ended text simple
@@ -308,8 +338,8 @@ ends-at (To days start unit digits) text simple pending same = absurd (none-some
 ends-at (Whole days start end) text simple (front, part, last, words, begun, ended, is) same =
     let hours : Hours = record { from_hour = begun.hour; from_minute = begun.minute; to_hour = ended.hour; to_minute = ended.minute } in
     ended-with days (Some hours) front text simple (begun.is, ended.is) words
-      (is ∙ ap (λ p. front ++ (p ++ 45 ∷ last)) begun.spelled ∙ ap (λ l. front ++ ((two_digits begun.hour ++ two_digits begun.minute) ++ 45 ∷ l)) ended.spelled)
-      (ap (λ (s : ℕ). simple_at (Whole days s (written ended.hour ended.minute))) (sym begun.value) ∙ ap (λ (e : ℕ). simple_at (Whole days start e)) (sym ended.value) ∙ same)
+    (is ∙ ap (λ p. front ++ (p ++ 45 ∷ last)) begun.spelled ∙ ap (λ l. front ++ ((two_digits begun.hour ++ two_digits begun.minute) ++ 45 ∷ l)) ended.spelled)
+    (ap (λ (s : ℕ). simple_at (Whole days s (written ended.hour ended.minute))) (sym begun.value) ∙ ap (λ (e : ℕ). simple_at (Whole days start e)) (sym ended.value) ∙ same)
 
 -- the simple strings that were read are written so
 pub record Written (text : List ℕ) (simples : List Simple) : Type 0 where
@@ -353,7 +383,7 @@ cut-written letter letters place text simples (Some simple) is cuts pending read
     let rest = after-ok (simple ∷ []) (scan Start letters) simples same in
     let behind = read rest.0 rest.1 in
     subst (λ (all : List Simple). Written (text ++ letter ∷ letters) all) rest.2
-      (written-more text letter letters simple rest.0 cuts (ends-at place text simple pending is) behind behind.spellings behind.spells behind.are)
+    (written-more text letter letters simple rest.0 cuts (ends-at place text simple pending is) behind behind.spellings behind.spells behind.are)
 
 next-written : (letter : ℕ) (letters : List ℕ) (place : Place) (text : List ℕ) (simples : List Simple) (o : Option Place) → next_place place letter ≡ o
     → ((next : Place) → next_place place letter ≡ Some next → scan next letters ≡ Ok simples → Written ((text ++ letter ∷ []) ++ letters) simples)
@@ -369,12 +399,12 @@ scan-written [] place text simples pending same =
     subst (λ (t : List ℕ). Written t simples) (sym (append-nil text)) (ending-written place text simples (simple_at place) refl pending same)
 scan-written (letter ∷ letters) place text simples pending same =
     elim (cases_Bool (is_separator letter)) [
-      inl cuts ↦ cut-written letter letters place text simples (simple_at place) refl cuts pending
-        (λ more read. scan-written letters Start [] more refl read)
-        (sym (ap (λ b. going_on (cond b (option_map (λ s. a_step (Some s) Start) (simple_at place)) (option_map (λ n. a_step None n) (next_place place letter))) (λ p. scan p letters)) cuts) ∙ same)
-    | inr plain ↦ next-written letter letters place text simples (next_place place letter) refl
-        (λ next leads read. scan-written letters next (text ++ letter ∷ []) simples (step-next place next letter text leads pending) read)
-        (sym (ap (λ b. going_on (cond b (option_map (λ s. a_step (Some s) Start) (simple_at place)) (option_map (λ n. a_step None n) (next_place place letter))) (λ p. scan p letters)) plain) ∙ same)
+      | inl cuts ↦ cut-written letter letters place text simples (simple_at place) refl cuts pending
+          (λ more read. scan-written letters Start [] more refl read)
+          (sym (ap (λ b. going_on (cond b (option_map (λ s. a_step (Some s) Start) (simple_at place)) (option_map (λ n. a_step None n) (next_place place letter))) (λ p. scan p letters)) cuts) ∙ same)
+      | inr plain ↦ next-written letter letters place text simples (next_place place letter) refl
+          (λ next leads read. scan-written letters next (text ++ letter ∷ []) simples (step-next place next letter text leads pending) read)
+          (sym (ap (λ b. going_on (cond b (option_map (λ s. a_step (Some s) Start) (simple_at place)) (option_map (λ n. a_step None n) (next_place place letter))) (λ p. scan p letters)) plain) ∙ same)
     ]
 
 -- what is read is a list of simple strings

@@ -14,10 +14,13 @@ split-some [] = ([], [], refl)
 split-some (letter ∷ letters) =
     let rest = split-some letters in
     elim (cases_Bool (nat_eq letter 10)) [
-      inl newline ↦ ([], slice_split (λ b. nat_eq b 10) letters, cond-true (nat_eq letter 10) ([] ∷ slice_split (λ b. nat_eq b 10) letters) (onto_first letter (slice_split (λ b. nat_eq b 10) letters)) newline)
-    | inr other ↦ (letter ∷ rest.0, rest.1,
+      | inl newline ↦ ([], slice_split (λ b. nat_eq b 10) letters, cond-true (nat_eq letter 10) ([] ∷ slice_split (λ b. nat_eq b 10) letters) (onto_first letter (slice_split (λ b. nat_eq b 10) letters)) newline)
+      | inr other ↦ (
+        letter ∷ rest.0,
+        rest.1,
         cond-false (nat_eq letter 10) ([] ∷ slice_split (λ b. nat_eq b 10) letters) (onto_first letter (slice_split (λ b. nat_eq b 10) letters)) other
-        ∙ ap (onto_first letter) rest.2)
+            ∙ ap (onto_first letter) rest.2,
+      )
     ]
 
 -- a line before another
@@ -37,7 +40,7 @@ pub lines-first : (text : List ℕ) (at : ℕ) → at < length text → get_or t
     → lines text ≡ strip_carriage_return (take at text) ∷ lines (drop (at + 1) text)
 lines-first text at below newline none =
     let front : All (λ b. nat_eq b 10 ≡ false) (take at text) = All-from_get_or (λ b. nat_eq b 10 ≡ false) (take at text) 0
-      (λ k within. let less : k < at = omega (arith, length-take-le at text (omega arith)) in ne_eqb (get_or (take at text) k 0) 10 (λ is. none k less (sym (get_or-take at text k 0 less) ∙ is))) in
+    (λ k within. let less : k < at = omega (arith, length-take-le at text (omega arith)) in ne_eqb (get_or (take at text) k 0) 10 (λ is. none k less (sym (get_or-take at text k 0 less) ∙ is))) in
     let cut : text ≡ take at text ++ 10 ∷ drop (at + 1) text = sym (take-append-drop at text) ∙ ap (λ rest. take at text ++ rest) (drop-cons text at 0 below ∙ ap (λ x. x ∷ drop (suc at) text) newline ∙ ap (λ i. 10 ∷ drop i text) (sym (add-one at))) in
     ap (λ t. lines_of_parts (slice_split (λ b. nat_eq b 10) t)) cut
     ∙ ap lines_of_parts (slice_split_at (λ b. nat_eq b 10) (take at text) 10 (drop (at + 1) text) front refl)
@@ -55,9 +58,9 @@ unfolding joined
 joined-start number line rest =
     ap (λ n. joined_onto number [] (joined n (line ∷ rest))) (omega arith)
     ∙ cond_both (goes_on line) (joined_onto number (without_last line) (joined (number + 1) rest)) (record { number = number; line = line } ∷ joined (number + 1) rest)
-        (λ all. joined_onto number [] all ≡ all)
-        (λ on. joined_onto-twice number number [] (without_last line) (joined (number + 1) rest))
-        (λ whole. refl)
+    (λ all. joined_onto number [] all ≡ all)
+    (λ on. joined_onto-twice number number [] (without_last line) (joined (number + 1) rest))
+    (λ whole. refl)
 
 -- a line that goes on
 pub joined-more : (number count : ℕ) (front line : List ℕ) (rest : List (List ℕ)) → goes_on line ≡ true
@@ -75,15 +78,15 @@ pub joined-last : (number count : ℕ) (front line : List ℕ) (rest : List (Lis
 unfolding joined
 joined-last number count front line rest last =
     elim (cases_Bool (goes_on line)) [
-      inl on ↦
-        ap (joined_onto number front) (cond-true (goes_on line) (joined_onto (number + count) (without_last line) (joined (number + count + 1) rest)) (record { number = number + count; line = line } ∷ joined (number + count + 1) rest) on)
-        ∙ ap (λ (r : List (List ℕ)). joined_onto number front (joined_onto (number + count) (without_last line) (joined (number + count + 1) r))) (last on)
-        ∙ ap (λ kept. let first : Numbered = record { number = number; line = front ++ kept } in let none : List Numbered = [] in first ∷ none) (sym (cond-true (goes_on line) (without_last line) line on))
-        ∙ ap (λ (r : List (List ℕ)). let first : Numbered = record { number = number; line = front ++ kept_part line } in first ∷ joined (number + (count + 1)) r) (sym (last on))
-    | inr whole ↦
-        ap (joined_onto number front) (cond-false (goes_on line) (joined_onto (number + count) (without_last line) (joined (number + count + 1) rest)) (record { number = number + count; line = line } ∷ joined (number + count + 1) rest) whole)
-        ∙ ap (λ n. let first : Numbered = record { number = number; line = front ++ line } in first ∷ joined n rest) (omega arith)
-        ∙ ap (λ kept. let first : Numbered = record { number = number; line = front ++ kept } in first ∷ joined (number + (count + 1)) rest) (sym (cond-false (goes_on line) (without_last line) line whole))
+      | inl on ↦
+          ap (joined_onto number front) (cond-true (goes_on line) (joined_onto (number + count) (without_last line) (joined (number + count + 1) rest)) (record { number = number + count; line = line } ∷ joined (number + count + 1) rest) on)
+          ∙ ap (λ (r : List (List ℕ)). joined_onto number front (joined_onto (number + count) (without_last line) (joined (number + count + 1) r))) (last on)
+          ∙ ap (λ kept. let first : Numbered = record { number = number; line = front ++ kept } in let none : List Numbered = [] in first ∷ none) (sym (cond-true (goes_on line) (without_last line) line on))
+          ∙ ap (λ (r : List (List ℕ)). let first : Numbered = record { number = number; line = front ++ kept_part line } in first ∷ joined (number + (count + 1)) r) (sym (last on))
+      | inr whole ↦
+          ap (joined_onto number front) (cond-false (goes_on line) (joined_onto (number + count) (without_last line) (joined (number + count + 1) rest)) (record { number = number + count; line = line } ∷ joined (number + count + 1) rest) whole)
+          ∙ ap (λ n. let first : Numbered = record { number = number; line = front ++ line } in first ∷ joined n rest) (omega arith)
+          ∙ ap (λ kept. let first : Numbered = record { number = number; line = front ++ kept } in first ∷ joined (number + (count + 1)) rest) (sym (cond-false (goes_on line) (without_last line) line whole))
     ]
 
 -- nothing is left of a comment

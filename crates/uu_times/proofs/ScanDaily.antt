@@ -41,21 +41,21 @@ times-map days (Some more) f = tt
 times-second : (days : Days) (first letter : ℕ) → IfSome (second_letter days first letter) HasTimes
 times-second days first letter =
     cond_both (nat_eq first (byte "a") && nat_eq letter (byte "n")) (Some (An days)) (option_map (λ more. Named (with_days days more)) (two_letters first letter)) (λ o. IfSome o HasTimes)
-        (λ yes. tt) (λ no. times-map days (two_letters first letter) (λ more. with_days days more))
+    (λ yes. tt) (λ no. times-map days (two_letters first letter) (λ more. with_days days more))
 
 times-start_digits : (days : Days) (unit : ℕ) (found : Option ℕ)
     → IfSome (option_and_then (λ more. cond (is_time more) (Some (cond (nat_eq unit 1) (Dash days more) (From days (unit / 10) more))) None) found) HasTimes
 times-start_digits days unit None = tt
 times-start_digits days unit (Some more) =
     guarded (is_time more) (cond (nat_eq unit 1) (Dash days more) (From days (unit / 10) more)) HasTimes
-        (λ is. cond_both (nat_eq unit 1) (Dash days more) (From days (unit / 10) more) HasTimes (λ one. is) (λ more_units. tt))
+    (λ is. cond_both (nat_eq unit 1) (Dash days more) (From days (unit / 10) more) HasTimes (λ one. is) (λ more_units. tt))
 
 times-end_digits : (days : Days) (start unit : ℕ) (found : Option ℕ) → is_time start ≡ true
     → IfSome (option_and_then (λ more. cond (is_end more) (Some (cond (nat_eq unit 1) (Whole days start more) (To days start (unit / 10) more))) None) found) HasTimes
 times-end_digits days start unit None begins = tt
 times-end_digits days start unit (Some more) begins =
     guarded (is_end more) (cond (nat_eq unit 1) (Whole days start more) (To days start (unit / 10) more)) HasTimes
-        (λ is. cond_both (nat_eq unit 1) (Whole days start more) (To days start (unit / 10) more) HasTimes (λ one. (begins, is)) (λ more_units. begins))
+    (λ is. cond_both (nat_eq unit 1) (Whole days start more) (To days start (unit / 10) more) HasTimes (λ one. (begins, is)) (λ more_units. begins))
 
 -- each byte keeps it so
 times-next : (place : Place) (letter : ℕ) → HasTimes place → IfSome (next_place place letter) HasTimes
@@ -64,7 +64,7 @@ times-next (Letter days first) letter has = times-second days first letter
 times-next (An days) letter has = guarded (nat_eq letter (byte "y")) (Named (with_days days (0, 6))) HasTimes (λ e. tt)
 times-next (Named days) letter has =
     cond_both (is_ascii_digit letter) (start_digit days 1000 0 letter) (first_letter days letter) (λ o. IfSome o HasTimes)
-        (λ digit. times-start_digits days 1000 (more_digits 1000 0 letter)) (λ other. times-first days letter)
+    (λ digit. times-start_digits days 1000 (more_digits 1000 0 letter)) (λ other. times-first days letter)
 times-next (From days unit digits) letter has = times-start_digits days unit (more_digits unit digits letter)
 times-next (Dash days start) letter has = guarded (nat_eq letter (byte "-")) (To days start 1000 0) HasTimes (λ e. has)
 times-next (To days start unit digits) letter has = times-end_digits days start unit (more_digits unit digits letter) has
@@ -84,7 +84,7 @@ minute-time digits is =
 minute-end : (digits : ℕ) → is_end digits ≡ true → last_minute digits < 1440
 minute-end digits is =
     cond_both (nat_eq digits 2400) 1439 (minute_of digits) (λ m. m < 1440) (λ last. lit< tt)
-        (λ other. minute-time digits (or_left_only (is_time digits) (nat_eq digits 2400) is other))
+    (λ other. minute-time digits (or_left_only (is_time digits) (nat_eq digits 2400) is other))
 
 daily-at : (place : Place) → HasTimes place → IfSome (simple_at place) IsDaily
 daily-at Start has = tt
@@ -110,7 +110,7 @@ led (Some next) has = (tt, has)
 leads : (place : Place) (letter : ℕ) → HasTimes place → IfSome (step place letter) LeadsOn
 leads place letter has =
     cond_both (is_separator letter) (option_map (λ s. record { simple = Some s; next = Start }) (simple_at place)) (option_map (λ n. record { simple = None; next = n }) (next_place place letter)) (λ o. IfSome o LeadsOn)
-        (λ yes. ended (simple_at place) (daily-at place has)) (λ no. led (next_place place letter) (times-next place letter has))
+    (λ yes. ended (simple_at place) (daily-at place has)) (λ no. led (next_place place letter) (times-next place letter has))
 
 daily-ending : (simple : Option Simple) → IfSome simple IsDaily → IfOk (ending simple) (All IsDaily)
 daily-ending None daily = tt

@@ -29,8 +29,8 @@ pub stops_at : (front : List Simple) (place : Place) (text : List ℕ) (i letter
     → after front i (scan place (lower (drop i text))) ≡ all → letter ≡ to_ascii_lowercase (get_or text i 0) → None ≡ step place letter → all ≡ Err i
 stops_at front place text i letter all below whole is stop =
     sym whole ∙ ap (after front i) (scan-at place text i below
-        ∙ ap (λ b. going_on (step place b) (λ next. scan next (lower (drop (i + 1) text)))) (sym is)
-        ∙ ap (λ s. going_on s (λ next. scan next (lower (drop (i + 1) text)))) (sym stop))
+    ∙ ap (λ b. going_on (step place b) (λ next. scan next (lower (drop (i + 1) text)))) (sym is)
+    ∙ ap (λ s. going_on s (λ next. scan next (lower (drop (i + 1) text)))) (sym stop))
     ∙ ap Err (omega arith)
 
 -- and else it goes on
@@ -40,8 +40,8 @@ pub goes_on : (front : List Simple) (place : Place) (found : Found) (text : List
 goes_on front place found text i letter all below whole is go =
     after-after front found.simple i (scan found.next (lower (drop (i + 1) text)))
     ∙ ap (after front i) (sym (scan-at place text i below
-        ∙ ap (λ b. going_on (step place b) (λ next. scan next (lower (drop (i + 1) text)))) (sym is)
-        ∙ ap (λ s. going_on s (λ next. scan next (lower (drop (i + 1) text)))) (sym go)))
+    ∙ ap (λ b. going_on (step place b) (λ next. scan next (lower (drop (i + 1) text)))) (sym is)
+    ∙ ap (λ s. going_on s (λ next. scan next (lower (drop (i + 1) text)))) (sym go)))
     ∙ whole
 
 -- a text that ends too early

@@ -32,9 +32,9 @@ unnamed false has hours same = refl
 holds-on : (simple : Simple) (day minute : ℕ) → IsDaily simple → holds (ranges_on simple day) minute ≡ (nat_eq (minute / 1440) day && has_minute minute simple)
 holds-on simple day minute daily =
     cond_both (has_day simple.days day) (day_ranges (1440 * day) simple.hours) [] (λ rs. holds rs minute ≡ (nat_eq (minute / 1440) day && has_minute minute simple))
-        (λ yes. holds-day day minute simple.hours daily
-            ∙ named (nat_eq (minute / 1440) day) (has_day simple.days (minute / 1440)) (in_hours simple.hours (minute % 1440)) (λ here. ap (has_day simple.days) (eqb-true (minute / 1440) day here) ∙ yes))
-        (λ no. unnamed (nat_eq (minute / 1440) day) (has_day simple.days (minute / 1440)) (in_hours simple.hours (minute % 1440)) (λ here. ap (has_day simple.days) (eqb-true (minute / 1440) day here) ∙ no))
+    (λ yes. holds-day day minute simple.hours daily
+    ∙ named (nat_eq (minute / 1440) day) (has_day simple.days (minute / 1440)) (in_hours simple.hours (minute % 1440)) (λ here. ap (has_day simple.days) (eqb-true (minute / 1440) day here) ∙ yes))
+    (λ no. unnamed (nat_eq (minute / 1440) day) (has_day simple.days (minute / 1440)) (in_hours simple.hours (minute % 1440)) (λ here. ap (has_day simple.days) (eqb-true (minute / 1440) day here) ∙ no))
 
 -- one day more
 one_more : (at day : ℕ) (has : Bool) → ((nat_lt at day && has) || (nat_eq at day && has)) ≡ (nat_lt at (suc day) && has)
@@ -56,8 +56,8 @@ holds-week [] minute below daily = refl
 holds-week (simple ∷ simples) minute below daily =
     list_any-append (within minute) (days_ranges simple 7) (week_ranges simples)
     ∙ ap (λ b. b || holds (week_ranges simples) minute)
-        (holds-days simple 7 minute (All-head IsDaily simple simples daily)
-          ∙ ap (λ b. b && has_minute minute simple) (lt-ltb (minute / 1440) 7 (omega arith)))
+    (holds-days simple 7 minute (All-head IsDaily simple simples daily)
+    ∙ ap (λ b. b && has_minute minute simple) (lt-ltb (minute / 1440) 7 (omega arith)))
     ∙ ap (λ b. has_minute minute simple || b) (holds-week simples minute below (All-tail IsDaily simple simples daily))
 
 -- a range of week minutes
@@ -68,23 +68,23 @@ ranges-day : (day : ℕ) (hours : Option (ℕ × ℕ)) → day < 7 → IfSome ho
 ranges-day day None below daily = All-cons IsRange (1440 * day, 1440 * day + 1439) [] (omega arith, omega arith) (All-nil IsRange)
 ranges-day day (Some hours) below daily =
     cond_both (nat_le hours.0 hours.1) ((1440 * day + hours.0, 1440 * day + hours.1) ∷ []) ((1440 * day, 1440 * day + hours.1) ∷ (1440 * day + hours.0, 1440 * day + 1439) ∷ []) (All IsRange)
-        (λ rises. All-cons IsRange (1440 * day + hours.0, 1440 * day + hours.1) [] (omega (arith, leb-true hours.0 hours.1 rises), omega arith) (All-nil IsRange))
-        (λ crosses. All-cons IsRange (1440 * day, 1440 * day + hours.1) ((1440 * day + hours.0, 1440 * day + 1439) ∷ []) (omega arith, omega arith)
-            (All-cons IsRange (1440 * day + hours.0, 1440 * day + 1439) [] (omega arith, omega arith) (All-nil IsRange)))
+    (λ rises. All-cons IsRange (1440 * day + hours.0, 1440 * day + hours.1) [] (omega (arith, leb-true hours.0 hours.1 rises), omega arith) (All-nil IsRange))
+    (λ crosses. All-cons IsRange (1440 * day, 1440 * day + hours.1) ((1440 * day + hours.0, 1440 * day + 1439) ∷ []) (omega arith, omega arith)
+    (All-cons IsRange (1440 * day + hours.0, 1440 * day + 1439) [] (omega arith, omega arith) (All-nil IsRange)))
 
 ranges-days : (simple : Simple) (day : ℕ) → day ≤ 7 → IsDaily simple → All IsRange (days_ranges simple day)
 unfolding days_ranges
 ranges-days simple zero le daily = All-nil IsRange
 ranges-days simple (suc day) le daily =
     All-append IsRange (days_ranges simple day) (ranges_on simple day) (ranges-days simple day (omega arith) daily)
-        (cond_both (has_day simple.days day) (day_ranges (1440 * day) simple.hours) [] (All IsRange)
-            (λ yes. ranges-day day simple.hours (omega arith) daily) (λ no. All-nil IsRange))
+    (cond_both (has_day simple.days day) (day_ranges (1440 * day) simple.hours) [] (All IsRange)
+    (λ yes. ranges-day day simple.hours (omega arith) daily) (λ no. All-nil IsRange))
 
 pub ranges-week : (simples : List Simple) → All IsDaily simples → All IsRange (week_ranges simples)
 ranges-week [] daily = All-nil IsRange
 ranges-week (simple ∷ simples) daily =
     All-append IsRange (days_ranges simple 7) (week_ranges simples) (ranges-days simple 7 (lit≤ tt) (All-head IsDaily simple simples daily))
-        (ranges-week simples (All-tail IsDaily simple simples daily))
+    (ranges-week simples (All-tail IsDaily simple simples daily))
 
 -- ranges whose first minutes don't fall
 abbrev pub Rises : ℕ → List (ℕ × ℕ) → Type 0
@@ -115,8 +115,8 @@ runs-merged : (start : ℕ) (run : ℕ × ℕ) (ranges : List (ℕ × ℕ)) → 
 runs-merged start run [] after is each rises = (after, is.0, is.1, tt)
 runs-merged start run (range ∷ ranges) after is each rises =
     cond_both (nat_le range.0 (run.1 + 1)) (merged_from (run.0, max run.1 range.1) ranges) (run ∷ merged_from range ranges) (AreRunsFrom start)
-        (λ touch. runs-merged start (run.0, max run.1 range.1) ranges after (omega arith, omega arith) each.1 (rises-sooner range.0 run.0 ranges rises.0 rises.1))
-        (λ apart. (after, is.0, is.1, runs-merged (run.1 + 2) range ranges (omega (arith, leb-false range.0 (run.1 + 1) apart)) each.0 each.1 rises.1))
+    (λ touch. runs-merged start (run.0, max run.1 range.1) ranges after (omega arith, omega arith) each.1 (rises-sooner range.0 run.0 ranges rises.0 rises.1))
+    (λ apart. (after, is.0, is.1, runs-merged (run.1 + 2) range ranges (omega (arith, leb-false range.0 (run.1 + 1) apart)) each.0 each.1 rises.1))
 
 -- and hold what they held
 holds-merged : (run : ℕ × ℕ) (ranges : List (ℕ × ℕ)) (minute : ℕ) → IsRange run → AllByRecursion IsRange ranges → Rises run.0 ranges
@@ -124,11 +124,11 @@ holds-merged : (run : ℕ × ℕ) (ranges : List (ℕ × ℕ)) (minute : ℕ) �
 holds-merged run [] minute is each rises = refl
 holds-merged run (range ∷ ranges) minute is each rises =
     cond_both (nat_le range.0 (run.1 + 1)) (merged_from (run.0, max run.1 range.1) ranges) (run ∷ merged_from range ranges)
-        (λ rs. holds rs minute ≡ (within minute run || holds (range ∷ ranges) minute))
-        (λ touch. holds-merged (run.0, max run.1 range.1) ranges minute (omega arith, omega arith) each.1 (rises-sooner range.0 run.0 ranges rises.0 rises.1)
-            ∙ ap (λ b. b || holds ranges minute) (touching run range minute is.0 rises.0 each.0.0 (leb-true range.0 (run.1 + 1) touch))
-            ∙ or_assoc (within minute run) (within minute range) (holds ranges minute))
-        (λ apart. ap (λ b. within minute run || b) (holds-merged range ranges minute each.0 each.1 rises.1))
+    (λ rs. holds rs minute ≡ (within minute run || holds (range ∷ ranges) minute))
+    (λ touch. holds-merged (run.0, max run.1 range.1) ranges minute (omega arith, omega arith) each.1 (rises-sooner range.0 run.0 ranges rises.0 rises.1)
+    ∙ ap (λ b. b || holds ranges minute) (touching run range minute is.0 rises.0 each.0.0 (leb-true range.0 (run.1 + 1) touch))
+    ∙ or_assoc (within minute run) (within minute range) (holds ranges minute))
+    (λ apart. ap (λ b. within minute run || b) (holds-merged range ranges minute each.0 each.1 rises.1))
 
 -- the runs of sorted ranges
 pub merged-runs : (simples : List Simple) (sorted : List (ℕ × ℕ)) → All IsDaily simples → IsPermutation (week_ranges simples) sorted
@@ -137,13 +137,15 @@ merged-runs simples [] daily moved rises =
     (tt, maximal_runs-runs (any_has simples) [] tt (λ minute below. sym (holds-week simples minute below daily) ∙ list_any-IsPermutation (within minute) (week_ranges simples) [] moved))
 merged-runs simples (range ∷ ranges) daily moved rises =
     let each : AllByRecursion IsRange (range ∷ ranges) =
-      recursion_from_All IsRange (range ∷ ranges) (All-permutation IsRange (week_ranges simples) (range ∷ ranges) moved (ranges-week simples daily)) in
+    recursion_from_All IsRange (range ∷ ranges) (All-permutation IsRange (week_ranges simples) (range ∷ ranges) moved (ranges-week simples daily)) in
     let behind : Rises range.0 ranges = rises-behind range ranges rises in
-    let runs : AreRuns (merged_from range ranges) = runs-merged 0 range ranges (omega arith) each.0 each.1 behind in
-    (runs, maximal_runs-runs (any_has simples) (merged_from range ranges) runs (λ minute below.
-      sym (holds-week simples minute below daily)
-      ∙ list_any-IsPermutation (within minute) (week_ranges simples) (range ∷ ranges) moved
-      ∙ sym (holds-merged range ranges minute each.0 each.1 behind)))
+    let runs : AreRuns (merged_from range ranges) = runs-merged 0 range ranges (omega arith) each.0 each.1 behind in (
+      runs,
+      maximal_runs-runs (any_has simples) (merged_from range ranges) runs (λ minute below.
+          sym (holds-week simples minute below daily)
+          ∙ list_any-IsPermutation (within minute) (week_ranges simples) (range ∷ ranges) moved
+          ∙ sym (holds-merged range ranges minute each.0 each.1 behind)),
+    )
 
 -- one day more
 pub days_ranges-more : (simple : Simple) (day : ℕ) → days_ranges simple (day + 1) ≡ days_ranges simple day ++ ranges_on simple day

@@ -56,12 +56,12 @@ pub words-next : (text word : List ℕ) (start end : ℕ) → word ≡ drop star
 words-next text word start end is within blank first letters bound behind =
     let long : length word ≡ length text - start = ap length is ∙ length-drop start text in
     let some : 0 < end = positive end (λ zero_end. both_ways (is_blank (get_or text start 0)) first
-      (ap (λ i. is_blank (get_or text i 0)) (omega arith) ∙ ap is_blank (sym (get_or-drop start text end 0)) ∙ ap (λ w. is_blank (get_or w end 0)) (sym is) ∙ behind (omega arith))) in
+    (ap (λ i. is_blank (get_or text i 0)) (omega arith) ∙ ap is_blank (sym (get_or-drop start text end 0)) ∙ ap (λ w. is_blank (get_or w end 0)) (sym is) ∙ behind (omega arith))) in
     ap words_of (sym (take-append-drop start text))
     ∙ words-behind (take start text) (drop start text) (All-from_get_or (λ b. is_blank b ≡ true) (take start text) 0
-        (λ k below. let less : k < start = omega (arith, length-take-le start text (omega arith)) in ap is_blank (get_or-take start text k 0 less) ∙ blank k less))
+    (λ k below. let less : k < start = omega (arith, length-take-le start text (omega arith)) in ap is_blank (get_or-take start text k 0 less) ∙ blank k less))
     ∙ ap words_of (sym is ∙ sym (take-append-drop end word))
     ∙ words-first (take end word) (drop end word) (omega (arith, length-take-le end word bound))
-        (All-from_get_or (λ b. is_blank b ≡ false) (take end word) 0
-          (λ k below. let less : k < end = omega (arith, length-take-le end word bound) in ap is_blank (get_or-take end word k 0 less) ∙ letters k less))
-        (λ more. ap is_blank (get_or-drop end word 0 0 ∙ ap (λ i. get_or word i 0) (omega arith)) ∙ behind (omega (arith, length-drop end word)))
+    (All-from_get_or (λ b. is_blank b ≡ false) (take end word) 0
+    (λ k below. let less : k < end = omega (arith, length-take-le end word bound) in ap is_blank (get_or-take end word k 0 less) ∙ letters k less))
+    (λ more. ap is_blank (get_or-drop end word 0 0 ∙ ap (λ i. get_or word i 0) (omega arith)) ∙ behind (omega (arith, length-drop end word)))

@@ -57,15 +57,15 @@ more_digits unit digits letter = if is_ascii_digit letter then Some (digits + (l
 abbrev pub start_digit : Days → ℕ → ℕ → ℕ → Option Place
 start_digit days unit digits letter =
     option_and_then
-        (λ more. if is_time more then Some (if unit == 1 then Dash days more else From days (unit / 10) more) else None)
-        (more_digits unit digits letter)
+    (λ more. if is_time more then Some (if unit == 1 then Dash days more else From days (unit / 10) more) else None)
+    (more_digits unit digits letter)
 
 -- or at which they end
 abbrev pub end_digit : Days → ℕ → ℕ → ℕ → ℕ → Option Place
 end_digit days start unit digits letter =
     option_and_then
-        (λ more. if is_end more then Some (if unit == 1 then Whole days start more else To days start (unit / 10) more) else None)
-        (more_digits unit digits letter)
+    (λ more. if is_end more then Some (if unit == 1 then Whole days start more else To days start (unit / 10) more) else None)
+    (more_digits unit digits letter)
 
 -- where a byte of a simple string leads
 abbrev pub next_place : Place → ℕ → Option Place

@@ -68,5 +68,5 @@ with_list tables name text = elim (list_of text) [ Ok simples ↦ with_table tab
 unfoldable pub predefined_tables : Tables
 predefined_tables =
     with_list (with_list (with_list [] (codes "Evening") (codes "Wk1705-0755,Sa,Su"))
-      (codes "Night") (codes "Wk2305-0755,Sa,Su2305-1655"))
-      (codes "NonPeak") (codes "Wk1805-0655,Sa,Su")
+    (codes "Night") (codes "Wk2305-0755,Sa,Su2305-1655"))
+    (codes "NonPeak") (codes "Wk1805-0655,Sa,Su")

@@ -12,8 +12,7 @@ pub fn sets_are_their_runs()
     ensures union { (set : ℕ → Bool) (minute : ℕ) → minute < 10080 → holds (maximal_runs set) minute ≡ set minute }
     ensures apart { (set : ℕ → Bool) → AreRuns (maximal_runs set) }
     ensures accepted { (ranges : List (ℕ × ℕ)) → AreRuns ranges → maximal_runs (holds ranges) ≡ ranges }
-{
-}
+{}
 
 /// The simple strings that are read of a text are those that are written there, whatever its case, and their minutes are those of
 /// what is written. A text that is no list of simple strings is told by the length of its longest front that begins one.
@@ -23,5 +22,4 @@ pub fn lists_are_what_is_written()
         → (spellings : List Spelling) × Spells (lower text) spellings × (simples ≡ map simple_of spellings) }
     ensures minutes { (spelling : Spelling) (minute : ℕ) → minute < 10080 → has_minute minute (simple_of spelling) ≡ has_spelled minute spelling }
     ensures unread { (text : List ℕ) (at : ℕ) → list_of text ≡ Err at → IsLongestFront text at }
-{
-}
+{}

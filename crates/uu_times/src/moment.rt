@@ -3,9 +3,9 @@ ghost use Rattle.std.specs.Prelude.{◌≡◌, ◌⊎◌, ◌<◌, ◌≤◌, �
 ghost use Rattle.uu_times.specs.Moment.{IsPast, IsFarOff, local_second, week_minute, Shows};
 
 use crate::TimeFault;
+use jiff::Timestamp;
 use jiff::civil::DateTime;
 use jiff::tz::Offset;
-use jiff::Timestamp;
 
 /// The last second that a moment may have, counted from 1970-01-01 00:00:00 UTC: the first
 /// second of the year 2100.

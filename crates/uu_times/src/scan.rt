@@ -3,7 +3,6 @@ ghost use Rattle.std.specs.Prelude.{◌≡◌, Ok, Err, Some};
 ghost use Rattle.uu_times.specs.Scan.{is_time, is_end, minute_of, last_minute, two_letters, first_letter, second_letter, more_digits, start_digit, end_digit, next_place, simple_at, is_separator, step, list_of};
 ghost use Rattle.uu_times.specs.Listed.{Lists};
 
-
 use crate::days::{Days, NO_DAYS, Simple};
 use std::alloc::{AllocFailed, Global};
 

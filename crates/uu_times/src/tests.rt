@@ -35,8 +35,14 @@ fn moments(rt: HostRuntime) -> Result<(), Fail> {
     assert_eq!(rt; sunday.local.minute(), 46);
     assert_eq!(rt; sunday.local.second(), 40);
     assert_eq!(rt; Moment::new(4_102_444_800, 0)?.local.year(), 2100);
-    assert_eq!(rt; Moment::new(4_102_444_801, 0).err(), Some(TimeFault::MomentRange));
-    assert_eq!(rt; Moment::new(4_102_444_801, 1440).err(), Some(TimeFault::MomentRange));
+    assert_eq!(rt;
+        Moment::new(4_102_444_801, 0).err(),
+        Some(TimeFault::MomentRange)
+    );
+    assert_eq!(rt;
+        Moment::new(4_102_444_801, 1440).err(),
+        Some(TimeFault::MomentRange)
+    );
     assert_eq!(rt; Moment::new(0, 1440).err(), Some(TimeFault::OffsetRange));
     assert_eq!(rt; Moment::new(0, -1440).err(), Some(TimeFault::OffsetRange));
     Ok(())
@@ -57,18 +63,31 @@ fn minutes_of_time_strings(rt: HostRuntime) -> Result<(), Fail> {
 fn ranges_of_time_strings(rt: HostRuntime) -> Result<(), Fail> {
     let week = [(0, 10_079)];
     assert_eq!(rt; windows(rt.alloc(), "Any")?.ranges(), week.as_slice());
-    assert_eq!(rt; windows(rt.alloc(), "Any0000-2400")?.ranges(), week.as_slice());
+    assert_eq!(rt;
+        windows(rt.alloc(), "Any0000-2400")?.ranges(),
+        week.as_slice()
+    );
     assert!(rt; windows(rt.alloc(), "never")?.ranges().is_empty());
-    assert_eq!(rt; windows(rt.alloc(), "Su1200-1200")?.ranges(), [(720, 720)].as_slice());
-    assert_eq!(rt; windows(rt.alloc(), "MoTu0000-0100")?.ranges(), [(1440, 1500), (2880, 2940)].as_slice());
-    assert_eq!(rt; windows(rt.alloc(), "Wk2305-0755")?.ranges(), [
-        (1440, 1915),
-        (2825, 3355),
-        (4265, 4795),
-        (5705, 6235),
-        (7145, 7675),
-        (8585, 8639),
-    ].as_slice());
+    assert_eq!(rt;
+        windows(rt.alloc(), "Su1200-1200")?.ranges(),
+        [(720, 720)].as_slice()
+    );
+    assert_eq!(rt;
+        windows(rt.alloc(), "MoTu0000-0100")?.ranges(),
+        [(1440, 1500), (2880, 2940)].as_slice()
+    );
+    assert_eq!(rt;
+        windows(rt.alloc(), "Wk2305-0755")?.ranges(),
+        [
+            (1440, 1915),
+            (2825, 3355),
+            (4265, 4795),
+            (5705, 6235),
+            (7145, 7675),
+            (8585, 8639),
+        ]
+        .as_slice()
+    );
     let night = windows(rt.alloc(), "Wk2305-0755,Sa,Su2305-1655")?;
     assert_eq!(rt; windows(rt.alloc(), "night")?.ranges(), night.ranges());
     Ok(())
@@ -87,9 +106,16 @@ fn texts_that_are_no_time_strings(rt: HostRuntime) -> Result<(), Fail> {
         ("MoTuXx", 4),
         ("Wednesday", 2),
     ] {
-        assert_eq!(rt; time_fault(rt.alloc(), text), Some(TimeFault::BadTime(0, at)), "{text}");
+        assert_eq!(rt;
+            time_fault(rt.alloc(), text),
+            Some(TimeFault::BadTime(0, at)),
+            "{text}"
+        );
     }
-    assert_eq!(rt; time_fault(rt.alloc(), "Lunch"), Some(TimeFault::UnknownTable(0)));
+    assert_eq!(rt;
+        time_fault(rt.alloc(), "Lunch"),
+        Some(TimeFault::UnknownTable(0))
+    );
     Ok(())
 }
 
@@ -125,7 +151,8 @@ fn systems_within_limits(rt: HostRuntime) -> Result<(), Fail> {
 }
 
 /// A sys file with defaults, a timetable on two lines, a comment, other keywords and two systems.
-const DUKE_AND_UNC: &str = "# defaults\ntime Wk2305-0755\ntimetable Lunch Wk1200-\\\n1300\nsystem duke\n  time Lunch 15\n  port ser\\#1\n  alternate backup\n  timegrade C Any\nsystem unc\n  max-retries 2\n";
+const DUKE_AND_UNC: &str =
+    "# defaults\ntime Wk2305-0755\ntimetable Lunch Wk1200-\\\n1300\nsystem duke\n  time Lunch 15\n  port ser\\#1\n  alternate backup\n  timegrade C Any\nsystem unc\n  max-retries 2\n";
 
 // A line has this grade, these ranges and this retry number.
 fn expect_line(rt: &impl Abort, line: &Line, grade: u8, ranges: &[(u16, u16)], retry: Option<u32>) {
@@ -148,14 +175,26 @@ fn two_systems(rt: HostRuntime) -> Result<(), Fail> {
     let [lunch, any] = duke.lines() else {
         panic!(rt; "two lines");
     };
-    expect_line(&rt, lunch, b'z', windows(alloc, "Wk1200-1300")?.ranges(), Some(15));
+    expect_line(
+        &rt,
+        lunch,
+        b'z',
+        windows(alloc, "Wk1200-1300")?.ranges(),
+        Some(15),
+    );
     expect_line(&rt, any, b'C', [(0, 10_079)].as_slice(), None);
     assert_eq!(rt; unc.name.as_str(), "unc");
     assert_eq!(rt; unc.max_retries, 2);
     let [night] = unc.lines() else {
         panic!(rt; "one line");
     };
-    expect_line(&rt, night, b'z', windows(alloc, "Wk2305-0755")?.ranges(), None);
+    expect_line(
+        &rt,
+        night,
+        b'z',
+        windows(alloc, "Wk2305-0755")?.ranges(),
+        None,
+    );
     Ok(())
 }
 
@@ -182,12 +221,18 @@ fn faulty_lines(rt: HostRuntime) -> Result<(), Fail> {
         ("timegrade - Any", Some(TimeFault::BadWords(1))),
         ("system a!b", Some(TimeFault::BadSystem(1))),
         ("system a\nsystem a", Some(TimeFault::SystemTwice(2))),
-        ("timetable T Any\ntimetable t Any", Some(TimeFault::TableTwice(2))),
+        (
+            "timetable T Any\ntimetable t Any",
+            Some(TimeFault::TableTwice(2)),
+        ),
         ("time Any 525600", None),
         ("time Any 525601", Some(TimeFault::BadNumber(1))),
         ("max-retries 1000001", Some(TimeFault::BadNumber(1))),
         ("max-retries", Some(TimeFault::BadWords(1))),
-        ("time Lunch\ntimetable Lunch Any", Some(TimeFault::UnknownTable(1))),
+        (
+            "time Lunch\ntimetable Lunch Any",
+            Some(TimeFault::UnknownTable(1)),
+        ),
         ("time Su24", Some(TimeFault::BadTime(1, 3))),
         ("system \u{ff}", Some(TimeFault::BadSystem(1))),
         ("time Any\\", None),
@@ -206,16 +251,30 @@ fn a_section_with_too_many_lines(rt: HostRuntime) -> Result<(), Fail> {
     }
     assert_eq!(rt; sys_fault(rt.alloc(), text.as_bytes()), None);
     text.push_str("time Any\n")?;
-    assert_eq!(rt; sys_fault(rt.alloc(), text.as_bytes()), Some(TimeFault::TooManyLines(34)));
+    assert_eq!(rt;
+        sys_fault(rt.alloc(), text.as_bytes()),
+        Some(TimeFault::TooManyLines(34))
+    );
     Ok(())
 }
 
 #[test]
 fn any_bytes_are_read(rt: HostRuntime) -> Result<(), Fail> {
-    for text in [[0xff].as_slice(), [0].as_slice(), b"x\r\n".as_slice(), b"\\x\\".as_slice()] {
-        assert_eq!(rt; read_short(rt.alloc(), text)?.skipped.as_slice(), [1].as_slice());
+    for text in [
+        [0xff].as_slice(),
+        [0].as_slice(),
+        b"x\r\n".as_slice(),
+        b"\\x\\".as_slice(),
+    ] {
+        assert_eq!(rt;
+            read_short(rt.alloc(), text)?.skipped.as_slice(),
+            [1].as_slice()
+        );
     }
-    assert_eq!(rt; sys_fault(rt.alloc(), b"system \xff"), Some(TimeFault::BadSystem(1)));
+    assert_eq!(rt;
+        sys_fault(rt.alloc(), b"system \xff"),
+        Some(TimeFault::BadSystem(1))
+    );
     assert!(rt; read_short(rt.alloc(), b"")?.systems.as_slice().is_empty());
     Ok(())
 }

@@ -225,11 +225,7 @@ pub(crate) fn time_of(
 /// count. A text that is none of these is `UnknownTable(0)` where it has the form of a timetable's name and doesn't begin
 /// with a day word, and else `BadTime(0, at)`, where `at` is the length of the longest front of the text that begins a list of
 /// simple strings.
-pub fn read_time(
-    alloc: Global,
-    text: &str,
-    tables: &Timetables,
-) -> Result<Windows, TimeFault>
+pub fn read_time(alloc: Global, text: &str, tables: &Timetables) -> Result<Windows, TimeFault>
     ensures { AnswersUnlessMemory result (time_of tables.now 0 text.now) }
 {
     time_of(alloc, tables, 0, text.as_bytes())

@@ -43,11 +43,7 @@ fn push_simple(ranges: &mut Vec<(u16, u16)>, simple: &Simple) -> Result<(), Allo
 }
 
 // Adds the ranges of a simple string on a day.
-fn push_day(
-    ranges: &mut Vec<(u16, u16)>,
-    simple: &Simple,
-    day: u16,
-) -> Result<(), AllocError>
+fn push_day(ranges: &mut Vec<(u16, u16)>, simple: &Simple, day: u16) -> Result<(), AllocError>
     requires simple { IsDaily simple.now }
     requires day { day < 7 }
     ensures { OnOk result (ranges.new.items ≡ ranges.old.items ++ ranges_on simple.now day) }

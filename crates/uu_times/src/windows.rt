@@ -51,10 +51,7 @@ impl Windows {
 
     /// The set whose maximal runs these are, and `None` where a list is not of that form or
     /// passes the minute 10,079.
-    pub fn from_ranges(
-        alloc: Global,
-        ranges: &[(u16, u16)],
-    ) -> Result<Option<Windows>, AllocError>
+    pub fn from_ranges(alloc: Global, ranges: &[(u16, u16)]) -> Result<Option<Windows>, AllocError>
         ensures refused { IfOk result (λ windows. IsNone windows ↔ (¬ AreRuns ranges.now)) }
         ensures value { IfOk result (λ windows. IfSome windows (λ w. w ≡ ranges.now)) }
     {

@@ -27,29 +27,32 @@ loop-job-preserved c =
     let next_there : is_next rows at (take i all) (get_or all i job) ≡ c.is_free.result = ap (is_next rows at (take i all)) job_is ∙ next in
     let seen : take i all ++ job ∷ [] ≡ take (i + 1) all = ap (λ j. take i all ++ j ∷ []) (sym job_is) ∙ sym (take_more all i job within) in
     elim c.if-is_free.branch [
-      then-is_free+in_ok-clone+in_ok-push w ↦
-        let may : may_go rows at job ≡ true = and-left (may_go rows at job) _ (next ∙ w.if-is_free.true) in
-        let due : w.push.new.self.items ≡ c.loop-job.dues.items ++ due_of (get_or all i job) ∷ [] =
+      | then-is_free+in_ok-clone+in_ok-push w ↦
+          let may : may_go rows at job ≡ true = and-left (may_go rows at job) _ (next ∙ w.if-is_free.true) in
+          let due : w.push.new.self.items ≡ c.loop-job.dues.items ++ due_of (get_or all i job) ∷ [] =
           w.in_ok-push.ensures.items ∙ ap (λ s. c.loop-job.dues.items ++ (record { system = s; grade = job.grade; number = job.number }) ∷ []) w.in_ok-clone.ensures.cases ∙ ap (λ j. c.loop-job.dues.items ++ due_of j ∷ []) (sym job_is) in
-        record {
-          free = λ name grade.
-            let tied = ap (λ t. cond t None (get (slice_cmp nat_cmp) c.loop-job.free name)) (sym (texts_ties job.system name)) in
-            ap (λ m. is_within (get (slice_cmp nat_cmp) m name) grade) w.free-is
-            ∙ free_listed rows at (take i all) job name grade (get (slice_cmp nat_cmp) c.loop-job.free name) _ (c.loop-job.invariant.free name grade) (w.remove.ensures.updates.0 name ∙ tied) may
-            ∙ ap (λ s. may_be_called rows at name grade && not (is_called_before rows at s name)) seen;
-          listed =
-            ap (λ v. v.items ++ walk_after rows at (take (i + 1) all) (drop (i + 1) all)) w.dues-is
-            ∙ ap (λ d. d ++ walk_after rows at (take (i + 1) all) (drop (i + 1) all)) due
-            ∙ step_listed rows at all i job c.loop-job.dues.items (walk rows all at) within (next_there ∙ w.if-is_free.true) c.loop-job.invariant.listed }
-    | else-is_free w ↦ record {
+          record {
+            free = λ name grade.
+                let tied = ap (λ t. cond t None (get (slice_cmp nat_cmp) c.loop-job.free name)) (sym (texts_ties job.system name)) in
+                ap (λ m. is_within (get (slice_cmp nat_cmp) m name) grade) w.free-is
+                ∙ free_listed rows at (take i all) job name grade (get (slice_cmp nat_cmp) c.loop-job.free name) _ (c.loop-job.invariant.free name grade) (w.remove.ensures.updates.0 name ∙ tied) may
+                ∙ ap (λ s. may_be_called rows at name grade && not (is_called_before rows at s name)) seen;
+            listed =
+                ap (λ v. v.items ++ walk_after rows at (take (i + 1) all) (drop (i + 1) all)) w.dues-is
+                ∙ ap (λ d. d ++ walk_after rows at (take (i + 1) all) (drop (i + 1) all)) due
+                ∙ step_listed rows at all i job c.loop-job.dues.items (walk rows all at) within (next_there ∙ w.if-is_free.true) c.loop-job.invariant.listed;
+          }
+      | else-is_free w ↦ record {
         free = λ name grade.
-          ap (λ m. is_within (get (slice_cmp nat_cmp) m name) grade) w.free-is
-          ∙ c.loop-job.invariant.free name grade
-          ∙ ap (λ b. may_be_called rows at name grade && not b) (sym (free_passed rows at (take i all) job name grade (next ∙ w.if-is_free.false)))
-          ∙ ap (λ s. may_be_called rows at name grade && not (is_called_before rows at s name)) seen;
+            ap (λ m. is_within (get (slice_cmp nat_cmp) m name) grade) w.free-is
+            ∙ c.loop-job.invariant.free name grade
+            ∙ ap (λ b. may_be_called rows at name grade && not b) (sym (free_passed rows at (take i all) job name grade (next ∙ w.if-is_free.false)))
+            ∙ ap (λ s. may_be_called rows at name grade && not (is_called_before rows at s name)) seen;
         listed =
-          ap (λ v. v.items ++ walk_after rows at (take (i + 1) all) (drop (i + 1) all)) w.dues-is
-          ∙ step_passed rows at all i job c.loop-job.dues.items (walk rows all at) within (next_there ∙ w.if-is_free.false) c.loop-job.invariant.listed } ]
+            ap (λ v. v.items ++ walk_after rows at (take (i + 1) all) (drop (i + 1) all)) w.dues-is
+            ∙ step_passed rows at all i job c.loop-job.dues.items (walk rows all at) within (next_there ∙ w.if-is_free.false) c.loop-job.invariant.listed;
+      }
+    ]
 
 pub returns : goal.returns
 returns c distinct =
@@ -62,7 +65,7 @@ returns c distinct =
     let count : length all ≡ length items = length-map items now in
     let past : drop i all ≡ [] = drop_all i all (omega arith) in
     let walked : c.loop-job.dues.items ≡ walk rows all at =
-      sym (append-nil c.loop-job.dues.items) ∙ ap (λ t. c.loop-job.dues.items ++ walk_after rows at (take i all) t) (sym past) ∙ c.loop-job.invariant.listed in
+    sym (append-nil c.loop-job.dues.items) ∙ ap (λ t. c.loop-job.dues.items ++ walk_after rows at (take i all) t) (sym past) ∙ c.loop-job.invariant.listed in
     let same = subst (λ (l : List (Bor JobHead)). IsPermutation c.args.jobs.now (map now l)) (sym c.deref-job-items.ensures.value) c.in_ok-ordered.ensures.same in
     let order = subst (λ (l : List (Bor JobHead)). AreInOrder (map now l)) (sym c.deref-job-items.ensures.value) (c.in_ok-ordered.ensures.order distinct) in
     subst (AreDue rows c.args.jobs.now at) (sym walked) (walk_is_due rows at c.args.jobs.now all same order)

@@ -9,7 +9,7 @@ use Rattle.uu_core.proofs.due.choose.Given as goal
 abbrev pub invariant-loop-job : goal.invariant-loop-job
 invariant-loop-job l = record {
   free : (name : List ℕ) (grade : ℕ) → is_within (get (slice_cmp nat_cmp) l.free name) grade
-    ≡ (may_be_called l.rows l.at name grade && not (is_called_before l.rows l.at (take l.job-index (map (λ job. job.now) l.job-items)) name));
+      ≡ (may_be_called l.rows l.at name grade && not (is_called_before l.rows l.at (take l.job-index (map (λ job. job.now) l.job-items)) name));
   listed : l.dues.items ++ walk_after l.rows l.at (take l.job-index (map (λ job. job.now) l.job-items)) (drop l.job-index (map (λ job. job.now) l.job-items))
-    ≡ walk l.rows (map (λ job. job.now) l.job-items) l.at;
+      ≡ walk l.rows (map (λ job. job.now) l.job-items) l.at;
 }

@@ -16,5 +16,5 @@ returns-clause-order c =
     let all : map (λ job. job.now) c.loop-job.ordered.items ≡ c.args.jobs.now = c.loop-job.invariant ∙ take_all c.loop-job.job-index c.args.jobs.now (omega arith) in
     let same = subst (λ (l : List JobHead). IsPermutation l (map (λ job. job.now) c.sort_by_key.new.self.items)) all (IsPermutation-map (λ (job : Bor JobHead). job.now) _ _ c.sort_by_key.ensures.permutation) in
     order_from_sort c.sort_by_key.new.self.items c.args.jobs.now
-      (c.in_ok-sort_by_key.ensures.sorted (λ job. (job.now.grade, job.now.number)) (answers_always _ _ _ (λ f a r q k. search rules)))
-      same
+    (c.in_ok-sort_by_key.ensures.sorted (λ job. (job.now.grade, job.now.number)) (answers_always _ _ _ (λ f a r q k. search rules)))
+    same

@@ -16,6 +16,8 @@ returns c other grade =
     let found : c.copied.result ≡ get (slice_cmp nat_cmp) map name = c.copied.ensures ∙ c.get.ensures.value in
     let new = c.in_ok-insert.ensures.updates.0 other ∙ ap (λ t. cond t (Some c.match-copied.lowest) (get (slice_cmp nat_cmp) map other)) tied in
     let lowest : c.match-copied.lowest ≡ with_limit c.copied.result c.args.lowest =
-      elim c.match-copied.branch [
-        in-Some w ↦ w.lowest-is ∙ w.lower_of-lowest.ensures ∙ sym (ap (λ o. with_limit o c.args.lowest) w.in-Some.is) | in-None w ↦ w.lowest-is ∙ sym (ap (λ o. with_limit o c.args.lowest) w.in-None.is) ] in
+    elim c.match-copied.branch [
+      | in-Some w ↦ w.lowest-is ∙ w.lower_of-lowest.ensures ∙ sym (ap (λ o. with_limit o c.args.lowest) w.in-Some.is)
+      | in-None w ↦ w.lowest-is ∙ sym (ap (λ o. with_limit o c.args.lowest) w.in-None.is)
+    ] in
     lowered (get (slice_cmp nat_cmp) map other) _ c.args.lowest c.match-copied.lowest (same_text name other) grade c.copied.result new (λ same. found ∙ ap (get (slice_cmp nat_cmp) map) (same_is name other same)) lowest

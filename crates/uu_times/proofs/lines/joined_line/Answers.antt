@@ -8,12 +8,12 @@ use Rattle.uu_times.proofs.lines.joined_line.Goals as goal
 pub loop-line-init : goal.loop-line-init
 loop-line-init c =
     let next = c.next_line.result.0.now in
-    let rest = lines c.next_line.result.1.now in
-    ( λ number.
-        ap (λ (front : List ℕ). joined_onto number front (joined (number + 0) (next ∷ rest))) c.new-line.ensures.items
-        ∙ joined-start number next rest
-        ∙ ap (joined number) (sym c.next_line.ensures.lines)
-    , omega arith
+    let rest = lines c.next_line.result.1.now in (
+      λ number.
+          ap (λ (front : List ℕ). joined_onto number front (joined (number + 0) (next ∷ rest))) c.new-line.ensures.items
+          ∙ joined-start number next rest
+          ∙ ap (joined number) (sym c.next_line.ensures.lines),
+      omega arith,
     )
 
 pub loop-line-preserved : goal.loop-line-preserved
@@ -23,14 +23,14 @@ loop-line-preserved c =
     let next = c.loop-line.next.now in
     let following = c.next_line-in-loop-line.result.0.now in
     let behind = lines c.next_line-in-loop-line.result.1.now in
-    let on : goes_on next ≡ true = (and_parts (goes_on next) (nat_lt 0 (length c.loop-line.rest.now)) (sym c.is_joined.ensures ∙ c.loop-line-test.true)).0 in
-    ( λ number.
-        ap (λ (items : List ℕ). joined_onto number items (joined (number + (before + 1)) (following ∷ behind)))
+    let on : goes_on next ≡ true = (and_parts (goes_on next) (nat_lt 0 (length c.loop-line.rest.now)) (sym c.is_joined.ensures ∙ c.loop-line-test.true)).0 in (
+      λ number.
+          ap (λ (items : List ℕ). joined_onto number items (joined (number + (before + 1)) (following ∷ behind)))
           (c.in_ok-extend_from_slice.ensures.items ∙ ap (λ kept. front ++ kept) c.kept_part.ensures)
-        ∙ ap (λ (rest : List (List ℕ)). joined_onto number (front ++ kept_part next) (joined (number + (before + 1)) rest)) (sym c.next_line-in-loop-line.ensures.lines)
-        ∙ joined-more number before front next (lines c.loop-line.rest.now) on
-        ∙ c.loop-line.invariant.0 number
-    , omega arith
+          ∙ ap (λ (rest : List (List ℕ)). joined_onto number (front ++ kept_part next) (joined (number + (before + 1)) rest)) (sym c.next_line-in-loop-line.ensures.lines)
+          ∙ joined-more number before front next (lines c.loop-line.rest.now) on
+          ∙ c.loop-line.invariant.0 number,
+      omega arith,
     )
 
 pub returns-clause-line : goal.returns-clause-line
@@ -42,4 +42,4 @@ returns-clause-line c = λ number.
     sym (c.loop-line.invariant.0 number)
     ∙ joined-last number before front next (lines rest) (free-last next rest (sym c.is_joined.ensures ∙ c.loop-line-test.false))
     ∙ ap (λ (items : List ℕ). let first : Numbered = record { number = number; line = items } in first ∷ joined (number + (before + 1)) (lines rest))
-        (sym (c.in_ok-extend_from_slice-2.ensures.items ∙ ap (λ kept. front ++ kept) c.kept_part-2.ensures))
+    (sym (c.in_ok-extend_from_slice-2.ensures.items ∙ ap (λ kept. front ++ kept) c.kept_part-2.ensures))

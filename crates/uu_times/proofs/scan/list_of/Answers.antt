@@ -7,30 +7,30 @@ use Rattle.uu_times.proofs.scan.list_of.Goals.{in-None-simple, in-Some-simple+in
 pub returns-in-None : goal.returns-in-None
 returns-in-None c =
     stops_at c.loop-at.simples.items c.loop-at.place c.args.text.now c.loop-at.at c.to_ascii_lowercase-letter.result (list_of c.args.text.now)
-        (omega arith) c.loop-at.invariant c.to_ascii_lowercase-letter.ensures.value c.in-None.ensures
+    (omega arith) c.loop-at.invariant c.to_ascii_lowercase-letter.ensures.value c.in-None.ensures
 
 pub loop-at-preserved : goal.loop-at-preserved
 loop-at-preserved c =
     let rest = goes_on c.loop-at.simples.items c.loop-at.place c.in-Some.found c.args.text.now c.loop-at.at c.to_ascii_lowercase-letter.result (list_of c.args.text.now)
-        (omega arith) c.loop-at.invariant c.to_ascii_lowercase-letter.ensures.value c.in-Some.ensures in
+    (omega arith) c.loop-at.invariant c.to_ascii_lowercase-letter.ensures.value c.in-Some.ensures in
     let items = c.loop-at.simples.items in
     let front = items ++ option_to_list c.in-Some.found.simple in
     let left = lower (drop (c.loop-at.at + 1) c.args.text.now) in
     elim c.match-found.branch [
-      in-None-simple w ↦
-        resumes front c.match-found.simples.items c.match-found.place c.in-Some.found.next (c.loop-at.at + 1) left (list_of c.args.text.now)
+      | in-None-simple w ↦
+          resumes front c.match-found.simples.items c.match-found.place c.in-Some.found.next (c.loop-at.at + 1) left (list_of c.args.text.now)
           (ap (λ v. v.items) w.simples-is ∙ kept items c.in-Some.found.simple w.in-None-simple.is) w.place-is rest
-    | in-Some-simple+in_ok-push-in-Some-simple w ↦
-        resumes front c.match-found.simples.items c.match-found.place c.in-Some.found.next (c.loop-at.at + 1) left (list_of c.args.text.now)
+      | in-Some-simple+in_ok-push-in-Some-simple w ↦
+          resumes front c.match-found.simples.items c.match-found.place c.in-Some.found.next (c.loop-at.at + 1) left (list_of c.args.text.now)
           (ap (λ v. v.items) w.simples-is ∙ w.in_ok-push-in-Some-simple.ensures.items ∙ pushed items c.in-Some.found.simple w.in-Some-simple.simple w.in-Some-simple.is) w.place-is rest
     ]
 
 pub returns-in-None-simple_at : goal.returns-in-None-simple_at
 returns-in-None-simple_at c =
     ends_without c.loop-at.simples.items c.loop-at.place c.args.text.now c.loop-at.at (list_of c.args.text.now) c.loop-at-test.false (omega arith)
-        c.loop-at.invariant c.in-None-simple_at.ensures
+    c.loop-at.invariant c.in-None-simple_at.ensures
 
 pub returns-in_ok-push-in-Some-simple_at : goal.returns-in_ok-push-in-Some-simple_at
 returns-in_ok-push-in-Some-simple_at c =
     ends_with c.loop-at.simples.items c.loop-at.place c.args.text.now c.loop-at.at c.in-Some-simple_at.simple (list_of c.args.text.now) c.loop-at-test.false
-        c.loop-at.invariant c.in-Some-simple_at.ensures ∙ ap Ok (sym c.in_ok-push-in-Some-simple_at.ensures.items)
+    c.loop-at.invariant c.in-Some-simple_at.ensures ∙ ap Ok (sym c.in_ok-push-in-Some-simple_at.ensures.items)

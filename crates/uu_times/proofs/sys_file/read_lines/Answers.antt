@@ -11,22 +11,22 @@ returns-in-Err c =
     let all = joined number (lines c.loop-rest.rest.now) in
     let more = joined (number + c.in_ok-first.first.count) (lines c.in_ok-first.first.rest.now) in
     takes-fault c.in-Err.fault c.loop-rest.reader c.read_line.new.self number c.deref.result.now all more (lines_read no_reading (joined 1 (lines c.args.text.now)))
-        (c.in_ok-first.ensures.line number ∙ ap (λ (line : List ℕ). let first : Numbered = record { number = number; line = line } in first ∷ more) (sym c.deref.ensures.value))
-        c.in-Err.ensures c.loop-rest.invariant.0
+    (c.in_ok-first.ensures.line number ∙ ap (λ (line : List ℕ). let first : Numbered = record { number = number; line = line } in first ∷ more) (sym c.deref.ensures.value))
+    c.in-Err.ensures c.loop-rest.invariant.0
 
 pub loop-rest-preserved : goal.loop-rest-preserved
 loop-rest-preserved c =
     let number = c.loop-rest.number in
     let all = joined number (lines c.loop-rest.rest.now) in
-    let more = joined (number + c.in_ok-first.first.count) (lines c.in_ok-first.first.rest.now) in
-    ( reads-on c.loop-rest.reader c.read_line.new.self number c.deref.result.now all more (lines_read no_reading (joined 1 (lines c.args.text.now)))
-        (c.in_ok-first.ensures.line number ∙ ap (λ (line : List ℕ). let first : Numbered = record { number = number; line = line } in first ∷ more) (sym c.deref.ensures.value))
-        c.in-Ok.ensures c.loop-rest.invariant.0
-    , omega (arith, c.in_ok-first.ensures.shorter)
-    , omega arith
+    let more = joined (number + c.in_ok-first.first.count) (lines c.in_ok-first.first.rest.now) in (
+      reads-on c.loop-rest.reader c.read_line.new.self number c.deref.result.now all more (lines_read no_reading (joined 1 (lines c.args.text.now)))
+          (c.in_ok-first.ensures.line number ∙ ap (λ (line : List ℕ). let first : Numbered = record { number = number; line = line } in first ∷ more) (sym c.deref.ensures.value))
+          c.in-Ok.ensures c.loop-rest.invariant.0,
+      omega (arith, c.in_ok-first.ensures.shorter),
+      omega arith,
     )
 
 pub returns : goal.returns
 returns c =
     reads-end c.loop-rest.reader c.loop-rest.number c.loop-rest.rest.now (lines_read no_reading (joined 1 (lines c.args.text.now)))
-        (empty_if c.loop-rest.rest.now (sym c.is_empty.ensures ∙ c.loop-rest-test.false)) c.loop-rest.invariant.0
+    (empty_if c.loop-rest.rest.now (sym c.is_empty.ensures ∙ c.loop-rest-test.false)) c.loop-rest.invariant.0

@@ -23,4 +23,4 @@ returns c =
     let moved : IsPermutation (week_ranges c.args.simples.now) sorted = subst (λ xs. IsPermutation xs sorted) c.in_ok-ranges.ensures c.in_ok-sort_by_key.ensures.permutation in
     let runs : c.in_ok-merged.field-0.items ≡ merged sorted = c.in_ok-merged.ensures ∙ ap merged c.deref.ensures.value in
     IfOk-weaker c.from_runs.result (λ windows. windows ≡ c.in_ok-merged.field-0.items) (λ windows. windows ≡ maximal_runs (any_has c.args.simples.now))
-        (λ windows same. same ∙ runs ∙ sym (merged-runs c.args.simples.now sorted c.requires moved rises).1) c.from_runs.ensures
+    (λ windows same. same ∙ runs ∙ sym (merged-runs c.args.simples.now sorted c.requires moved rises).1) c.from_runs.ensures
