@@ -1,5 +1,5 @@
 -- The letters and digits of grades are ASCII.
-use Rattle.std.proofs.Common.{◌≡◌, ℕ, zero, suc, ◌<◌, Bool, true, false, ◌&&◌, nat_lt, List, [], ◌∷◌, Some, None, arith, refl, slice_get}
+use Rattle.std.proofs.Common.{◌≡◌, ℕ, zero, suc, ◌<◌, Bool, true, nat_lt, List, [], ◌∷◌, Some, arith, refl, slice_get}
 use Rattle.std.specs.List.{list_all}
 use Rattle.uu_names.specs.Grade.{grade_bytes}
 

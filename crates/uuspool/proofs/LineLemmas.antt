@@ -1,5 +1,5 @@
 -- The readings of a line's parts, and when they fail.
-use Rattle.std.proofs.Common.{◌≡◌, ◌≢◌, ℕ, ◌^◌, ◌<◌, ◌&&◌, List, [], ◌∷◌, Option, Some, None, Result, Ok, Err, Bool, true, false, IsTrue, if◌then◌else◌, codes, slice_index, option_map, length, nat_le, refl, sym, ap, ◌∙◌, subst, arith, rules}
+use Rattle.std.proofs.Common.{◌≡◌, ◌≢◌, ℕ, ◌&&◌, List, Option, Some, None, Result, Ok, Err, Bool, true, false, IsTrue, if◌then◌else◌, codes, slice_index, option_map, length, nat_le, refl, sym, ap, ◌∙◌, subst, arith}
 use Rattle.std.specs.Box.{box_value}
 use Rattle.std.specs.Prelude.{Box}
 use Rattle.std.specs.Str.Parse.{ExplainsUnsignedError, HasUnsignedDigitsIfOk, ParsesUnsigned}

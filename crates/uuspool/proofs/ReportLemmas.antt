@@ -1,5 +1,5 @@
 -- A report grows by the line of the next job.
-use Rattle.std.proofs.Common.{◌≡◌, ℕ, ℤ, List, [], ◌∷◌, ◌++◌, refl, sym, ap, ◌∙◌, append_assoc, append-nil}
+use Rattle.std.proofs.Common.{ℕ, ℤ, List, [], ◌∷◌, ◌++◌, refl, sym, append_assoc, append-nil}
 use Rattle.uuspool.specs.Reports.{IsReport, IsJobLine}
 use Rattle.uu_store.specs.declared.job.JobHead.{JobHead}
 

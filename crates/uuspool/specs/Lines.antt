@@ -1,6 +1,6 @@
 -- What the words of a line mean. The forms of words are those of `clap`; the lines themselves are this
 -- project's choice.
-use Rattle.std.specs.Prelude.{◌≡◌, Bool, true, false, ℕ, ◌^◌, ◌<◌, ◌⊎◌, List, [], Option, Some, None, IsTrue, IsSomeAnd, ⊤, codes}
+use Rattle.std.specs.Prelude.{◌≡◌, Bool, true, false, ℕ, ◌^◌, ◌<◌, List, [], Option, Some, None, IsTrue, IsSomeAnd, ⊤, codes}
 use Rattle.std.specs.Str.Parse.{IsNumeral, digits_value, without_leading_plus}
 use Rattle.clap.specs.Words.{Row, Text, first_of, one_of, matches_of, subcommand_of, fault_of}
 use Rattle.clap.specs.Words.{found_of, rows_of, subcommand_rows_of}

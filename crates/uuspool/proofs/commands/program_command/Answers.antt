@@ -1,4 +1,4 @@
-use Rattle.std.proofs.Common.{◌≡◌, ap₂, ap, ◌∙◌, codes, true}
+use Rattle.std.proofs.Common.{◌≡◌, ap₂, ap, ◌∙◌, true}
 use Rattle.std.proofs.lemmas.Result.{IfOk-weaker}
 use Rattle.clap.specs.Words.{App, app_of, with_rule, with_subcommand}
 use Rattle.clap.specs.Simple.{app_of_fields, on_top}

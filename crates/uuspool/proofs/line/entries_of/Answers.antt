@@ -1,6 +1,6 @@
-use Rattle.std.proofs.Common.{◌≡◌, ◌∙◌, ap, sym, subst, inl, inr, map}
+use Rattle.std.proofs.Common.{◌∙◌, ap, sym, subst, inl, inr, map}
 use Rattle.std.specs.String.{string_bytes}
-use Rattle.clap.specs.Words.{App, app_of, is_simple, is_simple_and_free, fault_of, matches_of, subcommand_of, kind_of}
+use Rattle.clap.specs.Words.{App, is_simple, is_simple_and_free, fault_of, matches_of, subcommand_of, kind_of}
 use Rattle.clap.specs.Kinds.{IsAmong}
 use Rattle.uuspool.proofs.ProgramLemmas.{program_is_simple, program_is_free}
 use Rattle.uuspool.proofs.LineLemmas.{IsWordsWhere-weaker}

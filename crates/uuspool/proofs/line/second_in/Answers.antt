@@ -1,4 +1,4 @@
-use Rattle.std.proofs.Common.{◌≡◌, ◌∙◌, None, Ok, rules, codes}
+use Rattle.std.proofs.Common.{◌∙◌, codes}
 use Rattle.clap.specs.Words.{found_of, one_of, rows_of}
 use Rattle.clap.proofs.WalkLemmas.{one_text-rows}
 use Rattle.uuspool.proofs.LineLemmas.{IsWordsWhere-weaker, second_is_read, second_is_not_read}

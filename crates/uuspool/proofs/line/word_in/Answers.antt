@@ -1,4 +1,3 @@
-use Rattle.std.proofs.Common.{◌≡◌, ◌∙◌, sym, Some, None, rules}
 use Rattle.clap.specs.Words.{found_of}
 use Rattle.uuspool.proofs.LineLemmas.{IsWordsWhere-weaker, no_word, word_given, word_refused}
 use Rattle.uuspool.proofs.line.word_in.Goals as goal

@@ -1,4 +1,4 @@
-use Rattle.std.proofs.Common.{rules, arith, encode_utf8, ◌<◌}
+use Rattle.std.proofs.Common.{◌<◌}
 use Rattle.std.proofs.lemmas.Str.{encode_ascii}
 use Rattle.uuspool.proofs.Letters.{letter_below}
 use Rattle.uuspool.proofs.report.letter.Goals as goal

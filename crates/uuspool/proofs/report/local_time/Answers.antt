@@ -1,4 +1,4 @@
-use Rattle.std.proofs.Common.{rules, arith, FitsSigned, w32, w64, ◌∙◌, ◌≡◌, ℤ, ◌*ℤ◌, ◌+ℤ◌, pos}
+use Rattle.std.proofs.Common.{arith, FitsSigned, w32, w64, ◌∙◌, ◌≡◌, ℤ, ◌*ℤ◌, ◌+ℤ◌, pos}
 use Rattle.std.proofs.Math.Facts.{to_z_pos, to_z-of_z}
 use Rattle.jiff.proofs.SpanFacts.{signed_arith}
 use Rattle.uuspool.proofs.report.local_time.Goals as goal

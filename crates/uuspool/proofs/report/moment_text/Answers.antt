@@ -1,4 +1,4 @@
-use Rattle.std.proofs.Common.{rules, arith, FitsSigned, w32, ◌∙◌, refl}
+use Rattle.std.proofs.Common.{FitsSigned, w32, ◌∙◌, refl}
 use Rattle.std.proofs.Math.Facts.{to_z-of_z}
 use Rattle.std.proofs.lemmas.Result.{IfOk-weaker}
 use Rattle.uuspool.specs.Reports.{clock_text}
