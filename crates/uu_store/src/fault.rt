@@ -14,9 +14,9 @@ use uu_sql::{is_alive, is_memory};
 /// Which part of the store failed.
 #[derive(Clone, Copy, Debug, PartialEq, Eq)]
 pub enum StoreKind {
-    /// The device failed, or returned other bytes than were written.
+    /// The device failed or is full, or it returned other bytes than were written.
     Disk,
-    /// A row or the file is too big, or the device is full.
+    /// A row or the file is too big.
     Size,
     /// Any other refusal of the database.
     Database,
@@ -28,7 +28,7 @@ pub enum StoreFault {
     /// Memory was refused. Nothing changed, and the spool can be used.
     #[error("out of memory")]
     Memory,
-    /// The database failed. The command in hand may stand in the file or not; from then on every call answers `Failed`.
+    /// The database failed. The command in hand may stand in the file or not; from then on every call but `release` answers `Failed`.
     #[error("the store failed")]
     Store(StoreKind),
     /// An earlier call answered `Store`. The file is to be opened again.

@@ -11,7 +11,7 @@ use std::alloc::Global;
 /// A spool, over a connection that it owns.
 ///
 /// While nobody else writes the file and the disk returns what was written, a spool shows one state of the plain
-/// machine (`specs/Machine.antt`). A command is one step of the machine, and it is in the file once it is answered.
+/// machine (`specs/Machine.antt`). A command is one step of the machine, and it is in the file once it is answered `Done` or `Number`.
 #[derive(Drop)]
 pub struct Spool<S: Alter> {
     conn: Connection<S>,
