@@ -2,6 +2,12 @@
 use Rattle.std.specs.Prelude.{ℕ}
 use Rattle.uu_store.specs.declared.command.Refusal.{Refusal}
 use Rattle.uu_store.specs.declared.command.Refusal.TheVariants.{NoSystem, TooLarge, NumbersOut}
+use Rattle.sqlite.specs.declared.error.ErrorCode.{ErrorCode}
+use Rattle.sqlite.specs.declared.error.ErrorCode.TheVariants.{SystemIoFailure, DatabaseCorrupt, DiskFull, TooBig}
+use Rattle.sqlite.specs.declared.error.Error.{Error}
+use Rattle.sqlite.specs.declared.error.Error.TheVariants.{SqliteFailure}
+use Rattle.uu_store.specs.declared.fault.StoreKind.{StoreKind}
+use Rattle.uu_store.specs.declared.fault.StoreKind.TheVariants.{Disk, Size, Database}
 use Rattle.uu_store.specs.declared.fault.StoreFault.{StoreFault}
 use Rattle.uu_store.specs.declared.fault.StoreFault.TheVariants.{Memory, Store, Failed, Foreign, Newer}
 
@@ -9,6 +15,18 @@ abbrev pub refusal_code : Refusal → ℕ
 refusal_code NoSystem = 1
 refusal_code TooLarge = 7
 refusal_code NumbersOut = 8
+
+-- which part of the store an error of the database tells of
+abbrev pub kind_of_code : ErrorCode → StoreKind
+kind_of_code SystemIoFailure = Disk
+kind_of_code DatabaseCorrupt = Disk
+kind_of_code DiskFull = Disk
+kind_of_code TooBig = Size
+kind_of_code _ = Database
+
+abbrev pub kind_of_error : Error → StoreKind
+kind_of_error (SqliteFailure code) = kind_of_code code
+kind_of_error _ = Database
 
 abbrev pub fault_code : StoreFault → ℕ
 fault_code Memory = 1

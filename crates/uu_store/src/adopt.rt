@@ -1,5 +1,5 @@
 // Taking a database as a spool.
-ghost use Rattle.std.specs.Prelude.{◌≡◌, ◌≢◌, false, IfErr, [], ◌∷◌, pos, ⊤};
+ghost use Rattle.std.specs.Prelude.{◌≡◌, ◌≢◌, ◌⊎◌, ◌<◌, ℕ, false, Err, IfErr, IsErrAnd, [], ◌∷◌, pos, ⊤};
 ghost use Rattle.sqlite.specs.declared.types.Value.TheVariants.{Int};
 ghost use Rattle.sqlite.specs.Held.{state};
 ghost use Rattle.sqlite.specs.State.{HasCleanDisk};
@@ -26,7 +26,10 @@ const VERSION: i64 = 0;
 
 // Whether the rows of the question on the version show ours. A later one is told by its name.
 fn judge_version(rows: &[Row]) -> Result<(), StoreFault>
-    ensures { rows.now ≡ (Int (pos 0) ∷ []) ∷ [] → IfErr result (λ fault. fault ≡ StoreFault.Memory) }
+    ensures ours { rows.now ≡ (Int (pos 0) ∷ []) ∷ [] → IfErr result (λ fault. fault ≡ StoreFault.Memory) }
+    ensures newer { (version : ℕ) → 0 < version → rows.now ≡ (Int (pos version) ∷ []) ∷ [] → IsErrAnd result (λ fault. (fault ≡ StoreFault.Newer) ⊎ (fault ≡ StoreFault.Memory)) }
+    ensures none { rows.now ≡ [] → result ≡ Err StoreFault.Foreign }
+    ensures fresh { IfErr result (λ fault. fault ≢ StoreFault.Failed) }
 {
     let Some(row) = rows.first() else {
         return Err(StoreFault::Foreign);
@@ -43,6 +46,7 @@ fn judge_version(rows: &[Row]) -> Result<(), StoreFault>
 // Whether the version is ours.
 fn check_version<S: Alter>(conn: &mut Connection<S>) -> Result<(), StoreFault>
     requires { conn.old.in_transaction ≡ false }
+    ensures fresh { IfErr result (λ fault. fault ≢ StoreFault.Failed) }
     ensures idle { conn.new.in_transaction ≡ false }
     ensures replies { Replies (λ s _. ⊤) (state S.Store conn.old) (state S.Store conn.new) result }
     ensures taken { HasCleanDisk (state S.Store conn.new) → (s : _) → Encodes (state S.Store conn.old).now s → IfErr result (λ fault. (fault ≢ StoreFault.Foreign) × (fault ≢ StoreFault.Newer)) }
@@ -56,6 +60,7 @@ fn check_version<S: Alter>(conn: &mut Connection<S>) -> Result<(), StoreFault>
 // An empty spool in a database that has none of its tables.
 fn begin<S: Alter>(conn: &mut Connection<S>) -> Result<(), StoreFault>
     requires { conn.old.in_transaction ≡ false }
+    ensures fresh { IfErr result (λ fault. fault ≢ StoreFault.Failed) }
     ensures idle { conn.new.in_transaction ≡ false }
     ensures begins { Begins (state S.Store conn.old) (state S.Store conn.new) result }
 {
@@ -67,6 +72,7 @@ fn begin<S: Alter>(conn: &mut Connection<S>) -> Result<(), StoreFault>
 
 fn prepare<S: Alter>(conn: &mut Connection<S>) -> Result<(), StoreFault>
     requires { conn.old.in_transaction ≡ false }
+    ensures fresh { IfErr result (λ fault. fault ≢ StoreFault.Failed) }
     ensures idle { conn.new.in_transaction ≡ false }
     ensures replies { Replies (λ s _. ⊤) (state S.Store conn.old) (state S.Store conn.new) result }
     ensures taken { HasCleanDisk (state S.Store conn.new) → (s : _) → Encodes (state S.Store conn.old).now s → IfErr result (λ fault. (fault ≢ StoreFault.Foreign) × (fault ≢ StoreFault.Newer)) }
@@ -89,7 +95,7 @@ impl<S: Alter> Spool<S> {
     ghost use Rattle.uu_store.specs.Schema.{no_schema};
     ghost use Rattle.uu_store.specs.Machine.{empty};
     ghost use Rattle.uu_store.specs.Encoded.{Leaves, LeavesEither};
-    ghost use Rattle.uu_store.specs.Spool.{disk, Shows};
+    ghost use Rattle.uu_store.specs.Spool.{disk, has_failed, Shows};
 
     /// Takes the database as a spool: one without the spool's tables gets them, in one transaction.
     /// Otherwise the tables and their columns have to be there, by name, under this program's version: a later version is
@@ -97,6 +103,10 @@ impl<S: Alter> Spool<S> {
     /// Where it is refused, the connection is handed back with no transaction open.
     pub fn adopt(conn: Connection<S>) -> Result<Spool<S>, AdoptFault<S>>
         requires { conn.in_transaction ≡ false }
+
+        // What it gives can be used, and `Failed` never comes.
+        ensures usable { IfOk result (λ spool. has_failed spool ≡ false) }
+        ensures fresh { IfErr result (λ e. e.fault ≢ StoreFault.Failed) }
 
         // A database that encodes a state is taken as it is.
         ensures kept { IfOk result (λ spool. HasCleanDisk (disk spool) → (s : _) → Rests (state S.Store conn) → Encodes (state S.Store conn).now s → Shows spool s) }

@@ -3,7 +3,7 @@ ghost use Rattle.std.specs.Prelude.{◌≡◌, false, IsTrue};
 ghost use Rattle.sqlite.specs.Held.{state};
 ghost use Rattle.sqlite.specs.State.{HasCleanDisk, Survives, IsUnchanged};
 ghost use Rattle.uu_store.specs.Encoded.{IsFresh};
-ghost use Rattle.uu_store.specs.Codes.{fault_code};
+ghost use Rattle.uu_store.specs.Codes.{fault_code, kind_of_error};
 ghost use Rattle.uu_store.specs.declared.fault.StoreFault.TheVariants.{Memory};
 
 use sqlite::{Alter, Connection, Error as SqlError, ErrorCode};
@@ -74,7 +74,9 @@ impl<T: Drop> From<AllocFailed<T>> for StoreFault {
 }
 
 /// Which part of the store an error of the database tells of.
-pub(crate) fn kind_of(error: &SqlError) -> StoreKind {
+pub(crate) fn kind_of(error: &SqlError) -> StoreKind
+    ensures { result ≡ kind_of_error error.now }
+{
     match error {
         SqlError::SqliteFailure(ErrorCode::SystemIoFailure)
         | SqlError::SqliteFailure(ErrorCode::DatabaseCorrupt)
@@ -89,6 +91,7 @@ pub(crate) fn store_fault<S: Alter>(conn: &mut Connection<S>, error: &SqlError) 
     requires { conn.old.in_transaction ≡ false }
     ensures idle { conn.new.in_transaction ≡ false }
     ensures fresh { IsFresh result }
+    ensures kind { (kind : _) → result ≡ StoreFault.Store kind → kind ≡ kind_of_error error.now }
     ensures memory { HasCleanDisk (state S.Store conn.new) → result ≡ Memory → IsTrue (state S.Store conn.old).is_open × IsUnchanged (state S.Store conn.old) (state S.Store conn.new) }
     ensures survives { Survives (state S.Store conn.old) (state S.Store conn.new) (λ _. ⊥) }
 {

@@ -1,4 +1,7 @@
 // Opening the spool's file.
+ghost use Rattle.std.specs.Prelude.{◌≡◌, ◌≢◌, false, IfOk, IfErr};
+ghost use Rattle.uu_store.specs.Spool.{has_failed};
+
 use crate::adopt::AdoptFault;
 use crate::fault::{StoreFault, kind_of};
 use crate::spool::Spool;
@@ -13,7 +16,10 @@ pub fn start_from<T: Start>(
     rt: &HostRuntime,
     path: &str,
     start: T,
-) -> Result<FileSpool<T>, StoreFault> {
+) -> Result<FileSpool<T>, StoreFault>
+    ensures usable { IfOk result (λ spool. has_failed spool ≡ false) }
+    ensures fresh { IfErr result (λ fault. fault ≢ StoreFault.Failed) }
+{
     match Connection::open_from(rt, path, true, start) {
         Ok(conn) => match Spool::adopt(conn) {
             Ok(spool) => Ok(spool),
@@ -28,6 +34,9 @@ pub fn start_from<T: Start>(
 }
 
 /// [`start_from`] as the program uses it.
-pub fn start(rt: &HostRuntime, path: &str) -> Result<FileSpool<Wary>, StoreFault> {
+pub fn start(rt: &HostRuntime, path: &str) -> Result<FileSpool<Wary>, StoreFault>
+    ensures usable { IfOk result (λ spool. has_failed spool ≡ false) }
+    ensures fresh { IfErr result (λ fault. fault ≢ StoreFault.Failed) }
+{
     start_from(rt, path, Wary)
 }

@@ -29,7 +29,9 @@ pub(crate) enum RowFault {
 impl RowFault {
     /// What the caller is told of it.
     pub(crate) fn told(self) -> StoreFault
-        ensures { IsFresh result }
+        ensures fresh { IsFresh result }
+        ensures memory { self ≡ RowFault.Memory → result ≡ StoreFault.Memory }
+        ensures bad { self ≡ RowFault.Bad → result ≡ StoreFault.Store StoreKind.Database }
     {
         match self {
             RowFault::Memory => StoreFault::Memory,
