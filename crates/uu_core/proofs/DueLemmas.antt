@@ -1,11 +1,11 @@
 -- The walk along the jobs in order, step by step, and what it lists.
-use Rattle.std.proofs.Common.{◌≡◌, ◌≢◌, IsPermutation, All, Bor, nat_cmp, ℕ, zero, suc, ◌-◌, ◌+◌, ◌<◌, ◌≤◌, Bool, true, false, not, cond, ltb, leb, eqb, ◌==◌, ◌&&◌, ◌||◌, max, List, [], ◌∷◌, ◌++◌, length, take, drop, map, filter, get_or, Contains, AllPairs, Option, Some, None, refl, ap, sym, ◌∙◌, subst, inl, inr, ◌⊎◌, arith, append_assoc, append-nil, nat_eq}
+use Rattle.std.proofs.Common.{◌≡◌, IsPermutation, All, Bor, nat_cmp, ℕ, zero, suc, ◌-◌, ◌+◌, ◌<◌, ◌≤◌, Bool, true, false, not, cond, leb, ◌&&◌, ◌||◌, max, List, [], ◌∷◌, ◌++◌, length, take, drop, map, filter, get_or, Contains, AllPairs, Option, Some, None, refl, ap, sym, ◌∙◌, subst, arith, append_assoc, nat_eq}
 use Rattle.std.specs.List.{list_any, list_all, IsDistinct}
 use Rattle.std.proofs.lemmas.Map.Keys.{apart_from_distinct, IsDistinct-IsPermutation}
 use Rattle.std.proofs.lemmas.List.Kept.{AllPairs-filter}
 use Rattle.std.proofs.lemmas.List.Elements.{All-head, All-tail, All-contains, Contains-append_right}
-use Rattle.std.specs.Ordering.{is_eq, is_lt, ordering_then}
-use Rattle.std.specs.Cmp.Lexicographic.{slice_cmp, pointwise, texts_ties, bytes_decides}
+use Rattle.std.specs.Ordering.{is_lt, ordering_then}
+use Rattle.std.specs.Cmp.Lexicographic.{bytes_decides}
 use Rattle.std.proofs.lemmas.Bool.Decides.{nat_tests}
 use Rattle.std.proofs.lemmas.List.{take_more, drop_more, length-map}
 use Rattle.std.proofs.lemmas.List.Sorted.{IsPermutation-sym, IsPermutation-map, Contains-permutation, list_any-IsPermutation}
@@ -14,7 +14,7 @@ use Rattle.uu_core.specs.declared.job.JobHead.{JobHead}
 use Rattle.uu_core.specs.declared.system.SystemRow.{SystemRow}
 use Rattle.uu_core.specs.declared.due.Due.{Due}
 use Rattle.uu_core.specs.State.{same_text, is_system}
-use Rattle.uu_core.specs.Due.{limit_now, is_within, may_be_called, may_go, goes_before, is_due, due_of, ComesFirst, IsDue, AreDue, HaveNumbers, is_next, walk, walk_after, AreInOrder}
+use Rattle.uu_core.specs.Due.{limit_now, is_within, may_be_called, may_go, goes_before, is_due, due_of, ComesFirst, AreDue, HaveNumbers, is_next, walk, walk_after, AreInOrder}
 use Rattle.uu_core.proofs.Members.{first_of, kept, from_filter, mapped, from_map}
 
 -- the greater of a limit that is there and another one

@@ -1,16 +1,16 @@
 -- What a command does to the jobs.
-use Rattle.std.proofs.Common.{◌≡◌, ℕ, ◌+◌, ◌<◌, Bool, true, false, not, cond, eqb, ◌==◌, List, [], ◌∷◌, ◌++◌, map, filter, Contains, Option, Some, None, refl, ap, sym, ◌∙◌, inl, inr, ◌⊎◌, arith}
-use Rattle.std.specs.List.{list_any}
-use Rattle.std.proofs.lemmas.Bool.Decides.{nat_tests}
-use Rattle.std.proofs.lemmas.List.Elements.{Contains-append_left, Contains-push_cases}
+use Rattle.std.proofs.Common.{◌≡◌, ℕ, Bool, true, false, not, cond, List, [], ◌∷◌, map, Contains, All, Option, Some, None, refl, ap, sym, subst, ◌∙◌, inl, inr, ◌⊎◌}
+use Rattle.std.proofs.lemmas.List.Elements.{Contains-append_left, Contains-append_right, Contains-push_cases, All-head, All-tail}
 use Rattle.uu_core.specs.declared.command.Command.{Command}
 use Rattle.uu_core.specs.declared.command.Command.TheVariants.{Define, Remove, Queue, Kill, Regrade, Rejuvenate, Failed, Done, Entry}
 use Rattle.uu_core.specs.declared.refusal.Refusal.{Refusal}
+use Rattle.uu_core.specs.declared.job.NewJob.{NewJob}
 use Rattle.uu_core.specs.State.{State, Job, is_job}
 use Rattle.uu_core.specs.Verdict.{verdict}
 use Rattle.uu_core.specs.After.{after, after_verdict, accept, change_job, job_of, is_among}
-use Rattle.uu_core.specs.Laws.{lets_go, IsSameJob, IsAmong, IsHandedIn}
-use Rattle.uu_core.proofs.Members.{kept, from_filter, mapped, from_map}
+use Rattle.uu_core.specs.Run.{state_after}
+use Rattle.uu_core.specs.Laws.{accepted_of, unless_refused, lets_go, IsSameJob, IsAmong, IsHandedIn}
+use Rattle.uu_core.proofs.Members.{first_of, kept, from_filter, mapped, from_map}
 
 same_job : (job : Job) → IsSameJob job job
 same_job job = record { number = refl; system = refl; user = refl; kind = refl; bytes = refl }
@@ -89,3 +89,25 @@ handed_in state command later h = by-verdict (verdict state command) h
     by-verdict : (v : Option Refusal) → Contains (after_verdict v state command).0.jobs later → IsAmong state.jobs later ⊎ IsHandedIn state command later
     by-verdict None h = handed_in-accept state command later h
     by-verdict (Some refusal) h = inl (itself state.jobs later h)
+
+-- ---- runs
+
+same_later : (job later last : Job) → IsSameJob job later → IsSameJob later last → IsSameJob job last
+same_later job later last s t = record { number = t.number ∙ s.number; system = t.system ∙ s.system; user = t.user ∙ s.user; kind = t.kind ∙ s.kind; bytes = t.bytes ∙ s.bytes }
+
+pub stays-run : (state : State) (commands : List Command) (job : Job) → Contains state.jobs job → All (λ (command : Command). lets_go command job.number ≡ false) (accepted_of state commands) → IsAmong (state_after state commands).jobs job
+stays-run state [] job there h = itself state.jobs job there
+stays-run state (command ∷ commands) job there h = by-verdict (verdict state command) refl h (λ later inside kept. stays-run (after state command).0 commands later inside kept)
+  where
+    by-verdict : (v : Option Refusal) → verdict state command ≡ v → All (λ (c : Command). lets_go c job.number ≡ false) (unless_refused v command (accepted_of (after state command).0 commands))
+        → ((later : Job) → Contains (after state command).0.jobs later → All (λ (c : Command). lets_go c later.number ≡ false) (accepted_of (after state command).0 commands) → IsAmong (state_after (after state command).0 commands).jobs later)
+        → IsAmong (state_after (after state command).0 commands).jobs job
+    by-verdict None e h again =
+        let rest : All (λ (c : Command). lets_go c job.number ≡ false) (accepted_of (after state command).0 commands) = All-tail (λ (c : Command). lets_go c job.number ≡ false) command (accepted_of (after state command).0 commands) h in
+        let a : IsAmong (after state command).0.jobs job = stays state command job there (All-head (λ (c : Command). lets_go c job.number ≡ false) command (accepted_of (after state command).0 commands) h) in
+        let b : IsAmong (state_after (after state command).0 commands).jobs a.later = again a.later a.there (subst (λ n. All (λ (c : Command). lets_go c n ≡ false) (accepted_of (after state command).0 commands)) (sym a.same.number) rest) in
+        record { later = b.later; there = b.there; same = same_later job a.later b.later a.same b.same }
+    by-verdict (Some refusal) e h again = again job (subst (λ (s : State). Contains s.jobs job) (sym (ap (λ v. (after_verdict v state command).0) e)) there) h
+
+pub queued : (state : State) (job : NewJob) → verdict state (Queue job) ≡ None → Contains (after state (Queue job)).0.jobs (job_of state.next job)
+queued state job e = subst (λ (s : State). Contains s.jobs (job_of state.next job)) (sym (ap (λ v. (after_verdict v state (Queue job)).0) e)) (Contains-append_right state.jobs (job_of state.next job ∷ []) (job_of state.next job) (first_of (job_of state.next job) []))

@@ -1,19 +1,15 @@
 -- Runs of commands.
-use Rattle.std.proofs.Common.{◌≡◌, ℕ, ◌+◌, ◌<◌, ◌≤◌, Bool, true, false, not, cond, eqb, ◌==◌, ◌&&◌, ◌||◌, List, [], ◌∷◌, ◌++◌, length, map, filter, Contains, Option, Some, None, refl, ap, sym, ◌∙◌, subst, inl, inr, ◌⊎◌, arith, get_or}
-use Rattle.std.specs.List.{list_any}
-use Rattle.std.proofs.lemmas.Bool.Decides.{nat_tests}
-use Rattle.std.proofs.lemmas.List.Elements.{Contains-append_left, Contains-push_cases}
+use Rattle.std.proofs.Common.{◌≡◌, ℕ, ◌+◌, ◌≤◌, List, [], ◌∷◌, ◌++◌, Option, Some, None, refl, ap, sym, ◌∙◌, arith}
 use Rattle.uu_core.specs.declared.command.Command.{Command}
 use Rattle.uu_core.specs.declared.command.Command.TheVariants.{Define, Remove, Queue, Kill, Regrade, Rejuvenate, Failed, Done, Entry}
-use Rattle.uu_core.specs.declared.command.Reply.{Reply}
-use Rattle.uu_core.specs.declared.command.Reply.TheVariants.{Done as Carried, Number, Refused}
+use Rattle.uu_core.specs.declared.command.Reply.TheVariants.{Number, Refused}
 use Rattle.uu_core.specs.declared.refusal.Refusal.{Refusal}
 use Rattle.uu_core.specs.declared.job.NewJob.{NewJob}
-use Rattle.uu_core.specs.State.{State, Job, is_job}
+use Rattle.uu_core.specs.State.{State}
 use Rattle.uu_core.specs.Verdict.{verdict}
-use Rattle.uu_core.specs.After.{after, after_verdict, accept, reply_to, change_job, job_of, is_among}
+use Rattle.uu_core.specs.After.{after, after_verdict, accept}
 use Rattle.uu_core.specs.Run.{state_after, replies_to}
-use Rattle.uu_core.specs.Laws.{accepted_of, unless_refused, lets_go, IsSameJob, IsAmong, IsHandedIn}
+use Rattle.uu_core.specs.Laws.{accepted_of, unless_refused}
 
 pub refused : (state : State) (command : Command) (refusal : Refusal) → verdict state command ≡ Some refusal → after state command ≡ (state, Refused refusal)
 refused state command refusal e = ap (λ v. after_verdict v state command) e

@@ -1,9 +1,8 @@
 -- Lines one at a time, and the growing waits.
-use Rattle.std.proofs.Common.{◌≡◌, ℕ, ◌+◌, ◌-◌, ◌*◌, ◌^◌, ◌<◌, ◌≤◌, min, max, Bool, true, false, ◌&&◌, ◌==◌, cond, List, [], ◌∷◌, ◌++◌, take, map, filter, find, Option, Some, None, option_and_then, length, get_or, append-nil, refl, ap, sym, ◌∙◌, arith}
-use Rattle.std.specs.List.{reduce, fold}
+use Rattle.std.proofs.Common.{◌≡◌, ℕ, ◌+◌, ◌-◌, ◌^◌, ◌<◌, ◌≤◌, max, Bool, true, false, ◌&&◌, ◌==◌, cond, List, [], ◌∷◌, ◌++◌, take, map, filter, find, Option, Some, None, option_and_then, length, get_or, append-nil, refl, ap, ◌∙◌, arith}
+use Rattle.std.specs.List.{reduce}
 use Rattle.std.proofs.lemmas.List.{take_more, map-append}
 use Rattle.std.proofs.lemmas.List.Sums.{fold_push}
-use Rattle.std.proofs.lemmas.Bool.Decides.{nat_tests}
 use Rattle.std.proofs.Math.Nat.{pow-le-pow_right}
 use Rattle.uu_times.specs.Ranges.{holds}
 use Rattle.uu_times.specs.declared.system.Line.{Line}

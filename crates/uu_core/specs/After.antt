@@ -1,11 +1,11 @@
--- What a command makes of a state, and what it answers.
+-- What a command makes of a state, and what it answers. (Killing and rejuvenating jobs: Taylor UUCP 1.07 manual, on uustat; the rest is
+-- this project's choice.)
 use Rattle.std.specs.Prelude.{ℕ, ◌+◌, Bool, not, ◌==◌, List, [], ◌∷◌, ◌++◌, map, filter, Option, Some, None, Result, Ok, Err, if◌then◌else◌}
 use Rattle.std.specs.declared.cmp.Ordering.{Ordering}
 use Rattle.std.specs.declared.cmp.Ordering.TheVariants.{Less, Equal, Greater}
 use Rattle.std.specs.Ordering.{nat_cmp}
 use Rattle.std.specs.Cmp.Lexicographic.{slice_cmp}
 use Rattle.std.specs.List.{list_any}
-use Rattle.uu_times.specs.System.{System}
 use Rattle.uu_times.specs.declared.moment.Moment.{Moment}
 use Rattle.uu_map.specs.Text.{host_of}
 use Rattle.uu_map.specs.declared.fault.MapFault.{MapFault}
@@ -19,7 +19,7 @@ use Rattle.uu_core.specs.declared.system.CallState.{CallState}
 use Rattle.uu_core.specs.declared.system.SystemRow.{SystemRow}
 use Rattle.uu_core.specs.declared.refusal.Refusal.{Refusal}
 use Rattle.uu_core.specs.declared.refusal.Refusal.TheVariants.{NoSystem}
-use Rattle.uu_core.specs.State.{State, Job, MapEntry, is_job, is_system, is_entry, system_at}
+use Rattle.uu_core.specs.State.{State, Job, MapEntry, is_job, is_system, system_at}
 use Rattle.uu_core.specs.Waiting.{one_more, wait_after}
 use Rattle.uu_core.specs.Verdict.{verdict}
 

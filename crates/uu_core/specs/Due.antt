@@ -1,5 +1,6 @@
--- Which systems may be called now, and for which job.
-use Rattle.std.specs.Prelude.{◌≡◌, ℕ, nat_eq, [], ◌∷◌, ◌++◌, true, Contains, Bool, not, ◌&&◌, ◌||◌, ◌==◌, nat_le, nat_lt, List, map, filter, Option, Some, None, AllPairs, IsTrue, false, if◌then◌else◌}
+-- Which systems may be called now, and for which job. (That a grade limits a call: Taylor UUCP 1.07 manual, on the time commands of the
+-- sys file; that each system is listed once, and in which order, is this project's choice.)
+use Rattle.std.specs.Prelude.{◌≡◌, ℕ, nat_eq, [], ◌∷◌, ◌++◌, true, Contains, Bool, not, ◌&&◌, ◌||◌, ◌==◌, nat_le, nat_lt, List, map, Option, Some, None, AllPairs, IsTrue, false, if◌then◌else◌}
 use Rattle.std.specs.List.{list_any, list_all, IsDistinct}
 use Rattle.uu_times.specs.declared.moment.Moment.{Moment}
 use Rattle.uu_core.specs.declared.job.JobHead.{JobHead}

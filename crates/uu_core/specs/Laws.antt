@@ -4,6 +4,7 @@ use Rattle.std.specs.List.{list_any}
 use Rattle.uu_core.specs.declared.command.Command.{Command}
 use Rattle.uu_core.specs.declared.command.Command.TheVariants.{Define, Remove, Queue, Kill, Regrade, Rejuvenate, Failed, Done, Entry}
 use Rattle.uu_core.specs.declared.refusal.Refusal.{Refusal}
+use Rattle.uu_core.specs.declared.job.JobHead.{JobHead}
 use Rattle.uu_core.specs.declared.job.NewJob.{NewJob}
 use Rattle.uu_core.specs.State.{State, Job}
 use Rattle.uu_core.specs.Verdict.{verdict}
@@ -51,3 +52,7 @@ pub record IsHandedIn (state : State) (command : Command) (job : Job) : Type 0 w
   pub new : NewJob
   pub command_is : command ≡ Queue new
   pub job_is : job ≡ job_of state.next new
+
+-- the job's number is among these
+abbrev pub is_named : List ℕ → JobHead → Bool
+is_named numbers job = list_any (λ number. number == job.number) numbers

@@ -1,8 +1,10 @@
 pub mod After
 pub mod Due
 pub mod Laws
+pub mod Plain
 pub mod Refusal
 pub mod Run
 pub mod State
 pub mod Verdict
 pub mod Waiting
+pub mod WellFormed

@@ -1,5 +1,5 @@
 -- What a spool holds.
-use Rattle.std.specs.Prelude.{◌≡◌, ℕ, ◌+◌, ◌<◌, ◌≤◌, Bool, not, ◌==◌, List, [], ◌∷◌, ◌++◌, length, map, Option, Some, None, Ok, IsTrue, All, AllPairs, filter, find, is_some, nat_eq, ⊤}
+use Rattle.std.specs.Prelude.{◌≡◌, ℕ, ◌<◌, ◌≤◌, Bool, ◌==◌, List, [], length, Option, Ok, IsTrue, All, AllPairs, find, nat_eq, ⊤}
 use Rattle.std.specs.declared.cmp.Ordering.TheVariants.{Less}
 use Rattle.std.specs.Ordering.{nat_cmp}
 use Rattle.std.specs.Cmp.Lexicographic.{pointwise, slice_cmp}
@@ -78,7 +78,7 @@ is_waiting state name = list_any (λ job. same_text job.system name) state.jobs
 abbrev pub head_of : Job → JobHead
 head_of job = record { number = job.number; system = job.system; grade = job.grade; user = job.user; kind = job.kind; queued = job.queued; size = length job.bytes }
 
--- ---- what is true of each state that a spool reaches
+-- ---- what is true of each state that a spool reaches (the limits are this project's choice)
 
 -- the first second of the year 2100, the last that counts
 abbrev pub last_second : ℕ

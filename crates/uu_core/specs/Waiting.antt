@@ -44,6 +44,6 @@ wait_minutes def week failures =
 abbrev pub wait_after : System → ℕ → ℕ → ℕ
 wait_after def week failures = 60 * wait_minutes def week failures
 
--- the system is left alone: the wait has begun and isn't over; a clock set back to before `last` leaves it free
+-- the system is left alone: the wait has begun and is not over; a clock set back to before `last` leaves it free (this project's choice)
 abbrev pub is_held : CallState → ℕ → Bool
 is_held call now = nat_le call.last now && nat_lt now (call.last + call.wait)

@@ -127,7 +127,7 @@ fn is_missing_one(numbers: &[u32], jobs: &[JobHead]) -> bool
     numbers.iter().any(|number| !has_number(jobs, *number))
 }
 
-fn is_among(numbers: &[u32], number: u32) -> bool
+pub(crate) fn is_among(numbers: &[u32], number: u32) -> bool
     ensures { result ≡ list_any (λ other. other == number) numbers.now }
 {
     numbers.iter().any(|other| *other == number)

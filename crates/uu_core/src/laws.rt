@@ -1,15 +1,22 @@
 //! Laws of the machine that the contracts of this crate speak of.
-ghost use Rattle.std.specs.Prelude.{◌≡◌, ◌++◌, ◌+◌, ◌≤◌, ◌⊎◌, ◌<◌, ℕ, List, Some, None, Contains, false};
+ghost use Rattle.std.specs.Prelude.{◌≡◌, ◌++◌, ◌+◌, ◌≤◌, ◌⊎◌, ◌<◌, ℕ, List, Some, None, Contains, Bool, false, All, filter, IsPermutation};
 ghost use Rattle.uu_core.specs.declared.command.Command.{Command};
 ghost use Rattle.uu_core.specs.declared.command.Command.TheVariants.{Queue};
 ghost use Rattle.uu_core.specs.declared.command.Reply.TheVariants.{Number, Refused};
+ghost use Rattle.uu_times.specs.declared.moment.Moment.{Moment};
+ghost use Rattle.uu_core.specs.declared.job.JobHead.{JobHead};
 ghost use Rattle.uu_core.specs.declared.job.NewJob.{NewJob};
 ghost use Rattle.uu_core.specs.declared.refusal.Refusal.{Refusal};
-ghost use Rattle.uu_core.specs.State.{State, Job};
-ghost use Rattle.uu_core.specs.Verdict.{verdict};
-ghost use Rattle.uu_core.specs.After.{after};
+ghost use Rattle.uu_core.specs.declared.system.SystemRow.{SystemRow};
+ghost use Rattle.uu_core.specs.State.{State, Job, IsWellFormed, empty};
+ghost use Rattle.uu_core.specs.Verdict.{verdict, done_refusal};
+ghost use Rattle.uu_core.specs.Due.{AreDue, AreInOrder, walk};
+ghost use Rattle.uu_core.specs.After.{after, job_of};
 ghost use Rattle.uu_core.specs.Run.{state_after, replies_to};
-ghost use Rattle.uu_core.specs.Laws.{accepted_of, lets_go, IsAmong, IsHandedIn};
+ghost use Rattle.uu_core.specs.Laws.{accepted_of, lets_go, IsAmong, IsHandedIn, is_named};
+ghost use Rattle.uu_core.specs.WellFormed.{IsCommand};
+
+pub use crate::sound::commands_are_sound;
 
 /// A refused command leaves the state, and its reply is the refusal.
 pub fn refusals_change_nothing()
@@ -39,7 +46,31 @@ pub fn jobs_stay_until_they_go()
     ensures { (state : State) (command : Command) (job : Job) → Contains state.jobs job → lets_go command job.number ≡ false → IsAmong (after state command).0.jobs job }
 {}
 
+/// Nothing is lost in a run: the job of an accepted command is there, and stays until an accepted command lets it go.
+pub fn jobs_stay_through_runs()
+    ensures queued { (state : State) (job : NewJob) → verdict state (Queue job) ≡ None → Contains (after state (Queue job)).0.jobs (job_of state.next job) }
+    ensures stays { (state : State) (commands : List Command) (job : Job) → Contains state.jobs job
+        → All (λ command. lets_go command job.number ≡ false) (accepted_of state commands) → IsAmong (state_after state commands).jobs job }
+{}
+
 /// Nothing is made: each job was there before, or is the one that the command hands in.
 pub fn jobs_are_handed_in()
     ensures { (state : State) (command : Command) (later : Job) → Contains (after state command).0.jobs later → IsAmong state.jobs later ⊎ IsHandedIn state command later }
+{}
+
+/// An empty spool is well-formed, and each command, accepted or refused, keeps a spool well-formed.
+pub fn states_stay_well_formed()
+    ensures empty { IsWellFormed empty }
+    ensures step { (state : State) (command : Command) → IsCommand command → IsWellFormed state → IsWellFormed (after state command).0 }
+    ensures run { (state : State) (commands : List Command) → All IsCommand commands → IsWellFormed state → IsWellFormed (state_after state commands) }
+{}
+
+/// What is due is what a walk along the jobs by grade and number lists.
+pub fn walks_list_what_is_due()
+    ensures { (rows : List SystemRow) (at : Moment) (jobs ordered : List JobHead) → IsPermutation jobs ordered → AreInOrder ordered → AreDue rows jobs at (walk rows ordered at) }
+{}
+
+/// Of all jobs only those that a report of a call names decide on it.
+pub fn named_jobs_decide()
+    ensures { (known : Bool) (system numbers : List ℕ) (jobs : List JobHead) → done_refusal known system numbers (filter (is_named numbers) jobs) ≡ done_refusal known system numbers jobs }
 {}

@@ -7,8 +7,12 @@ mod decide;
 mod due;
 mod job;
 pub mod laws;
+pub mod plain;
 mod refusal;
+mod sound;
 mod system;
+#[cfg(test)]
+mod tests;
 mod waiting;
 
 pub use command::{Command, Reply};

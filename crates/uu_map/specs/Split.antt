@@ -1,21 +1,21 @@
 -- How a map text is cut into entries (UUCP Mapping Project README, on `#N` lines).
-use Rattle.std.specs.Prelude.{ℕ, ◌+◌, ◌-◌, Bool, true, ◌&&◌, ◌||◌, List, [], ◌∷◌, length, take, drop, ◌==◌, codes, filter, count_by, slice_index}
+use Rattle.std.specs.Prelude.{ℕ, ◌+◌, ◌-◌, Bool, false, ◌&&◌, ◌||◌, List, [], ◌∷◌, length, take, drop, ◌==◌, filter, count_by, slice_index}
 use Rattle.std.specs.List.{range_with_len}
-use Rattle.std.specs.Str.{bytes_eq}
+use Rattle.std.specs.Str.Lines.{lines}
 use Rattle.uu_map.specs.declared.entry.EntryText.{EntryText}
-use Rattle.uu_map.specs.Token.{is_blank, begins}
+use Rattle.uu_map.specs.Text.{is_name_line}
 
 abbrev pub is_newline : ℕ → Bool
 is_newline b = b == 10
 
--- a line ends here: at the end of the text, a newline, or a carriage return directly before one
-abbrev pub ends_line : List ℕ → Bool
-ends_line [] = true
-ends_line (b ∷ bs) = is_newline b || (b == 13 && begins is_newline bs)
+-- the first of these lines is a name line
+abbrev pub first_names : List (List ℕ) → Bool
+first_names [] = false
+first_names (line ∷ more) = is_name_line line
 
--- the text begins with a name line: `#N`, and then a blank or the line's end
+-- the text begins with a name line
 abbrev pub begins_entry : List ℕ → Bool
-begins_entry text = bytes_eq (take 2 text) (codes "#N") && (begins is_blank (drop 2 text) || ends_line (drop 2 text))
+begins_entry text = first_names (lines text)
 
 -- a line begins at this offset
 abbrev pub begins_line : List ℕ → ℕ → Bool

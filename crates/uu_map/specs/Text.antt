@@ -36,7 +36,7 @@ abbrev pub host_by : Option (List ℕ) → Result (List ℕ) MapFault
 host_by None = Err NoName
 host_by (Some line) = as_host (named_by line)
 
--- the host of an entry: its first name line names it
+-- the host of an entry, which has at most 65,536 bytes: its first name line names it
 abbrev pub host_of : List ℕ → Result (List ℕ) MapFault
 host_of text = if nat_lt 65536 (length text) then Err TooLarge else host_by (find is_name_line (lines text))
 

@@ -9,16 +9,17 @@ use thiserror::Error;
 /// Why a text of a map was refused.
 #[derive(Clone, Copy, Debug, PartialEq, Eq, Error)]
 pub enum MapFault {
-    /// No line names a host, or the first that should names none.
+    /// No line is a `#N` line, or there is no name on the first that is.
     #[error("no name")]
     NoName,
-    /// The host is no site name.
+    /// What the first `#N` line names is no site name, also where it is one but for its length.
     #[error("bad host")]
     BadHost,
     /// The entry has more than 65,536 bytes.
     #[error("too large")]
     TooLarge,
-    /// There is no memory for the entry.
+    /// Memory was refused, to [`read_entry`](crate::read_entry) or to [`split`](crate::split). It may take the place of any
+    /// other answer.
     #[error("out of memory")]
     Memory,
 }

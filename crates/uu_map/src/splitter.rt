@@ -1,22 +1,19 @@
 // The entries of a map text.
-ghost use Rattle.std.specs.Prelude.{◌≡◌, ◌≤◌, ◌++◌, length, IfOk, IfErr, OnOk};
+ghost use Rattle.std.specs.Prelude.{◌≡◌, ◌<◌, ◌≤◌, ◌++◌, length, IfOk, IfErr, OnOk};
 ghost use Rattle.uu_map.specs.Split.{entries_of, begins_entry};
 ghost use Rattle.uu_map.specs.Splitting.{ended};
 
 use crate::entry::EntryText;
 use crate::fault::MapFault;
-use crate::token::is_blank;
+use crate::text::{first_line, is_name_line};
 use std::alloc::{AllocError, Global};
 
 fn begins_entry(text: &[u8]) -> bool
+    requires { 0 < length text.now }
     ensures { result ≡ begins_entry text.now }
 {
-    match text {
-        [b'#', b'N'] => true,
-        [b'#', b'N', b'\r', b'\n', ..] => true,
-        [b'#', b'N', next, ..] => is_blank(*next) || *next == b'\n',
-        _ => false,
-    }
+    let (line, _) = first_line(text);
+    is_name_line(line)
 }
 
 /// Where an entry begins.

@@ -2,6 +2,7 @@
 use crate::{Cost, Entry, EntryText, MapFault, read_entry, split};
 use std::alloc::{AllocError, Global};
 use std::fmt::Write;
+use std::process::Abort;
 use std::test::Fail;
 use std::time::Instant;
 
@@ -59,10 +60,22 @@ fn faults_come_in_order(rt: HostRuntime) -> Result<(), Fail> {
             Err(fault) => assert_eq!(rt; fault, want, "at {text}"),
         }
     }
-    let mut long = vec![in rt.alloc(); b'x'; 65_536]?;
-    assert!(rt; matches!(read_entry(rt.alloc(), &long), Err(MapFault::NoName)));
-    long.push(b'x')?;
-    assert!(rt; matches!(read_entry(rt.alloc(), &long), Err(MapFault::TooLarge)));
+    for (front, want) in [
+        ("", MapFault::NoName),
+        ("#N\n", MapFault::NoName),
+        ("#N a*b\n", MapFault::BadHost),
+    ] {
+        let mut long = Vec::from_slice(rt.alloc(), front.as_bytes())?;
+        long.resize(65_536, b'x')?;
+        let fault = read_entry(rt.alloc(), &long).err();
+        assert!(rt; fault == Some(want), "65,536 bytes that begin {front}");
+        long.push(b'x')?;
+        let fault = read_entry(rt.alloc(), &long).err();
+        assert!(rt;
+            fault == Some(MapFault::TooLarge),
+            "65,537 bytes that begin {front}"
+        );
+    }
     for (fault, code) in [
         (MapFault::NoName, 1),
         (MapFault::BadHost, 2),
@@ -74,85 +87,261 @@ fn faults_come_in_order(rt: HostRuntime) -> Result<(), Fail> {
     Ok(())
 }
 
-// What the statements of host unc are read as, from line 2 on.
 #[test]
-fn statements_are_kept_or_skipped(rt: HostRuntime) -> Result<(), Fail> {
-    for (statements, want) in [
-        ("unc a(1000000*1000000)", "a 1000000000000/"),
-        ("unc a(1000000*1000000+1)", "skipped 2/"),
-        ("unc a((0-7)/2+4)", "a 1/"),
-        ("unc a(1-2)", "a 0/"),
-        (
-            "unc a(9999999999999999999999999999999999999999)",
-            "skipped 2/",
-        ),
-        ("unc a(DEAD), a(5)", "a 5/"),
-        ("unc a(5), a(DEAD), a(4)", "a 4/"),
-        ("unc a(DEAD/0)", "a dead/"),
-        (
-            "unc a(DEAD+9999999999999999999999999999999999999999)",
-            "a dead/",
-        ),
-        ("unc a(DEAD+SLOW)", "skipped 2/"),
-        ("unc a(DEAD", "skipped 2/"),
-        ("unc a(slow)", "skipped 2/"),
-        ("unc a( 10 -\t2 * 3 )", "a 4/"),
-        ("unc a(1 2)", "skipped 2/"),
-        ("unc a()", "skipped 2/"),
-        ("unc", ""),
-        ("unc ,, \t,", ""),
-        ("unc =", ""),
-        ("unc !a(1), b!(2), @c%(3), d:", "a 1/b 2/c 3/d 4000/"),
-        ("unc !!a", "skipped 2/"),
-        ("unc a !(1)", "skipped 2/"),
-        ("unc b(7), a(7), c(6)", "c 6/a 7/b 7/"),
-        (
-            "unc a,\n b(2), # a comment, c\n# another\n\n\tc(3)\nunc d",
-            "b 2/c 3/a 4000/d 4000/",
-        ),
-        ("unc {a, b}(5)", "skipped 2/"),
-        ("duke a\nunc b(1)", "b 1/skipped 2/"),
-        ("uncle a", "skipped 2/"),
-        (" a\n b\nunc c(1)", "c 1/skipped 2/"),
-        ("unc a(5), b(2/0)\nunc c(1)\n d(", "skipped 2/skipped 3/"),
-        ("unc=x, y , x\nunc unc(1)", "unc 1/= x/= y/= x/"),
-        ("unc a,\r\n b\r\n", "a 4000/b 4000/"),
-        ("unc a\r", "skipped 2/"),
+fn the_first_name_line_names_the_host(rt: HostRuntime) -> Result<(), Fail> {
+    let longest = "a234567890b234567890c234567890d234567890e234567890f234567890g23";
+    for (text, host, want) in [
+        ("#N unc", "unc", ""),
+        ("#N \t unc x\nunc a(1)", "unc", "a 1/"),
+        ("#N\tunc,duke\r\nunc a(1)", "unc", "a 1/"),
+        ("#Nduke\n#N unc\n#N duke\nunc a(1)", "unc", "a 1/"),
+        ("unc a(1)\n#N unc\nunc a(2)", "unc", "a 1/"),
     ] {
-        let mut text = String::from_str(rt.alloc(), "#N unc\n")?;
-        text.push_str(statements)?;
-        let got = read(rt.alloc(), text.as_bytes())?;
-        assert_eq!(rt; got.as_str(), want, "at {statements}");
+        let entry = read_entry(rt.alloc(), text.as_bytes())?;
+        assert_eq!(rt; entry.host.as_str(), host, "at {text}");
+        let said = shown(rt.alloc(), &entry)?;
+        assert_eq!(rt; said.as_str(), want, "at {text}");
+    }
+    let text = format!(in rt.alloc(); "#N {longest}")?;
+    let entry = read_entry(rt.alloc(), text.as_bytes())?;
+    assert_eq!(rt; entry.host.as_str(), longest);
+    for text in [
+        format!(in rt.alloc(); "#N {longest}4")?,
+        format!(in rt.alloc(); "#N unc\r")?,
+    ] {
+        let fault = read_entry(rt.alloc(), text.as_bytes()).err();
+        assert!(rt; fault == Some(MapFault::BadHost), "at {text}");
     }
     Ok(())
 }
 
-// A link of host unc to a, whose cost has so many of these around 25.
-fn nested(alloc: Global, open: &str, close: &str, depth: u32) -> Result<String, Fail> {
-    let mut text = String::from_str(alloc, "#N unc\nunc a(")?;
+// What these statements of host unc are read as, from line 2 on.
+fn expect_all(rt: &impl Abort, alloc: Global, rows: &[(&str, &str)]) -> Result<(), Fail> {
+    for (statements, want) in rows {
+        let mut text = String::from_str(alloc, "#N unc\n")?;
+        text.push_str(statements)?;
+        let got = read(alloc, text.as_bytes())?;
+        assert_eq!(rt; got.as_str(), *want, "at {statements}");
+    }
+    Ok(())
+}
+
+#[test]
+fn statements_are_kept_or_skipped(rt: HostRuntime) -> Result<(), Fail> {
+    expect_all(
+        &rt,
+        rt.alloc(),
+        &[
+            ("unc", ""),
+            ("unc ,, \t,", ""),
+            ("unc =", ""),
+            ("unc !a(1), b!(2), @c%(3), d:", "a 1/b 2/c 3/d 4000/"),
+            ("unc %a@ (1) , :b", "a 1/b 4000/"),
+            ("unc !!a", "skipped 2/"),
+            ("unc a!!", "skipped 2/"),
+            ("unc a !(1)", "skipped 2/"),
+            ("unc ! a", "skipped 2/"),
+            ("unc b(7), a(7), c(6)", "c 6/a 7/b 7/"),
+            ("unc b, B, a.b, a", "B 4000/a 4000/a.b 4000/b 4000/"),
+            (
+                "unc a,\n b(2), # a comment, c\n# another\n\n\tc(3)\nunc d",
+                "b 2/c 3/a 4000/d 4000/",
+            ),
+            ("unc a(1 # of)\n +\n2)\n\t+ 2)", "skipped 2/skipped 4/"),
+            ("unc a(1 # of)\n # and 2)\n\t+ 2)", "a 3/"),
+            ("unc\n a(1)\nunc\n = x", "a 1/= x/"),
+            ("unc {a, b}(5)", "skipped 2/"),
+            ("unc a, b}", "skipped 2/"),
+            ("unc = {x}\nunc } # {", "skipped 2/skipped 3/"),
+            ("duke a\nunc b(1)", "b 1/skipped 2/"),
+            ("uncle a", "skipped 2/"),
+            ("Unc a", "skipped 2/"),
+            (" a\n b\nunc c(1)", "c 1/skipped 2/"),
+            ("unc a(5), b(2/0)\nunc c(1)\n d(", "skipped 2/skipped 3/"),
+            ("unc=x, y , x\nunc unc(1)", "unc 1/= x/= y/= x/"),
+            (
+                "unc =z,y\nunc a(1)\nunc \t= unc,,z",
+                "a 1/= z/= y/= unc/= z/",
+            ),
+            (
+                "unc = x(5)\nunc = !y\nunc = x y",
+                "skipped 2/skipped 3/skipped 4/",
+            ),
+            ("unc a,\r\n b\r\n", "a 4000/b 4000/"),
+            ("unc a\r", "skipped 2/"),
+        ],
+    )
+}
+
+#[test]
+fn costs_are_the_values_of_their_expressions(rt: HostRuntime) -> Result<(), Fail> {
+    expect_all(
+        &rt,
+        rt.alloc(),
+        &[
+            ("unc a((0-7)/2+4)", "a 1/"),
+            ("unc a(7/(0-2)+4)", "a 1/"),
+            ("unc a(1-2)", "a 0/"),
+            ("unc a( 10 -\t2 * 3 )", "a 4/"),
+            ("unc a(10-2-3)", "a 5/"),
+            ("unc a(100/10/5), b(100/10*5)", "a 2/b 50/"),
+            ("unc a((2+3)*4), b(-2*-3), c(2--3)", "c 5/b 6/a 20/"),
+            ("unc a(007)", "a 7/"),
+            ("unc a(5), a(3), a(9)", "a 3/"),
+            ("unc a(DEAD), a(5)", "a 5/"),
+            ("unc a(5), a(DEAD), a(4)", "a 4/"),
+            (
+                "unc a(DEAD), b, c(1000000000000)",
+                "b 4000/c 1000000000000/a dead/",
+            ),
+            ("unc a(1 2)", "skipped 2/"),
+            ("unc a()", "skipped 2/"),
+            ("unc a(1+)", "skipped 2/"),
+            ("unc a(*1)", "skipped 2/"),
+            ("unc a((1)", "skipped 2/"),
+            ("unc a(1))", "skipped 2/"),
+            ("unc a(1)b", "skipped 2/"),
+            ("unc a(slow)", "skipped 2/"),
+        ],
+    )
+}
+
+#[test]
+fn values_on_the_way_have_a_limit(rt: HostRuntime) -> Result<(), Fail> {
+    expect_all(
+        &rt,
+        rt.alloc(),
+        &[
+            ("unc a(1000000*1000000)", "a 1000000000000/"),
+            ("unc a(1000000*1000000+1)", "skipped 2/"),
+            ("unc a(1000000*1000000+1-1)", "skipped 2/"),
+            ("unc a(1000000000000)", "a 1000000000000/"),
+            ("unc a(1000000000001)", "skipped 2/"),
+            ("unc a(1000000000001-1)", "skipped 2/"),
+            ("unc a(0-1000000000000+1000000000000+7)", "a 7/"),
+            ("unc a(0-1000000000000-1+1000000000000+8)", "skipped 2/"),
+            ("unc a(0-1000000*1000001)", "skipped 2/"),
+            ("unc a(0*(1000000*1000001))", "skipped 2/"),
+            (
+                "unc a(9999999999999999999999999999999999999999)",
+                "skipped 2/",
+            ),
+            (
+                "unc a(2/0)\nunc a(2/(3-3))\nunc a(0/0)",
+                "skipped 2/skipped 3/skipped 4/",
+            ),
+            ("unc a(0/2)", "a 0/"),
+        ],
+    )
+}
+
+#[test]
+fn dead_is_a_cost_within_the_grammar(rt: HostRuntime) -> Result<(), Fail> {
+    expect_all(
+        &rt,
+        rt.alloc(),
+        &[
+            ("unc a(DEAD/0)", "a dead/"),
+            ("unc a(5-(1/0)*DEAD)", "a dead/"),
+            (
+                "unc a(DEAD+9999999999999999999999999999999999999999)",
+                "a dead/",
+            ),
+            ("unc a(DEAD*(1000000*1000000*10))", "a dead/"),
+            ("unc a(-(DEAD))", "a dead/"),
+            ("unc a(DEAD+SLOW)", "skipped 2/"),
+            ("unc a(DEAD+dead)", "skipped 2/"),
+            ("unc a(DEADLY)", "skipped 2/"),
+            ("unc a(DEAD DEAD)", "skipped 2/"),
+            ("unc a(DEAD", "skipped 2/"),
+            ("unc a(DEAD+)", "skipped 2/"),
+        ],
+    )
+}
+
+// What a link of host unc to a, with this cost, is read as.
+fn priced(alloc: Global, cost: &str) -> Result<String, Fail> {
+    let text = format!(in alloc; "#N unc\nunc a({cost})")?;
+    read(alloc, text.as_bytes())
+}
+
+// 100 and each symbol of the table. With a letter more it is no symbol.
+#[test]
+fn symbols_have_their_values(rt: HostRuntime) -> Result<(), Fail> {
+    for (symbol, want) in [
+        ("LOCAL", "a 125/"),
+        ("DEDICATED", "a 195/"),
+        ("DIRECT", "a 300/"),
+        ("DEMAND", "a 400/"),
+        ("HOURLY", "a 600/"),
+        ("EVENING", "a 1900/"),
+        ("DAILY", "a 5100/"),
+        ("WEEKLY", "a 30100/"),
+        ("HIGH", "a 95/"),
+        ("LOW", "a 105/"),
+        ("FAST", "a 20/"),
+        ("POLLED", "a 5100/"),
+    ] {
+        let cost = format!(in rt.alloc(); "100+{symbol}")?;
+        let got = priced(rt.alloc(), &cost)?;
+        assert_eq!(rt; got.as_str(), want, "at {cost}");
+        let cost = format!(in rt.alloc(); "100+{symbol}X")?;
+        let got = priced(rt.alloc(), &cost)?;
+        assert_eq!(rt; got.as_str(), "skipped 2/", "at {cost}");
+    }
+    Ok(())
+}
+
+// This with so many of these around it.
+fn nested(alloc: Global, open: &str, core: &str, close: &str, depth: u32) -> Result<String, Fail> {
+    let mut text = String::new(alloc);
     for _ in 0..depth {
         text.push_str(open)?;
     }
-    text.push_str("25")?;
+    text.push_str(core)?;
     for _ in 0..depth {
         text.push_str(close)?;
     }
-    text.push_str(")")?;
-    read(alloc, text.as_bytes())
+    Ok(text)
 }
 
 #[test]
 fn signs_and_parentheses_nest_to_a_depth(rt: HostRuntime) -> Result<(), Fail> {
-    for (open, close) in [("-", ""), ("(", ")"), ("+", "")] {
-        let text = nested(rt.alloc(), open, close, 32)?;
-        assert_eq!(rt; text.as_str(), "a 25/", "32 times {open}");
-        let text = nested(rt.alloc(), open, close, 33)?;
-        assert_eq!(rt; text.as_str(), "skipped 2/", "33 times {open}");
+    for (open, core, close, depth, want) in [
+        ("-", "25", "", 32, "a 25/"),
+        ("-", "25", "", 33, "skipped 2/"),
+        ("+", "25", "", 32, "a 25/"),
+        ("+", "25", "", 33, "skipped 2/"),
+        ("(", "25", ")", 32, "a 25/"),
+        ("(", "25", ")", 33, "skipped 2/"),
+        ("-(", "25", ")", 16, "a 25/"),
+        ("-(", "-25", ")", 16, "skipped 2/"),
+        ("-(", "(25)", ")", 16, "skipped 2/"),
+        ("(", "+25", ")", 31, "a 25/"),
+        ("(", "1+25", ")", 32, "a 26/"),
+        ("(", "1+-25", ")", 32, "skipped 2/"),
+        ("-", "(DEAD)", "", 31, "a dead/"),
+        ("-", "(DEAD)", "", 32, "skipped 2/"),
+    ] {
+        let cost = nested(rt.alloc(), open, core, close, depth)?;
+        let got = priced(rt.alloc(), &cost)?;
+        assert_eq!(rt; got.as_str(), want, "at {cost}");
     }
-    let text = nested(rt.alloc(), "-(", ")", 16)?;
-    assert_eq!(rt; text.as_str(), "a 25/");
-    let text = nested(rt.alloc(), "-(", ")", 17)?;
-    assert_eq!(rt; text.as_str(), "skipped 2/");
+    Ok(())
+}
+
+#[test]
+fn depth_is_given_back(rt: HostRuntime) -> Result<(), Fail> {
+    for (open, close) in [("(", ")"), ("-", ""), ("-(", ")")] {
+        let depth = if open.len() == 1 { 32 } else { 16 };
+        let once = nested(rt.alloc(), open, "25", close, depth)?;
+        for operator in ["+", "*"] {
+            let cost = format!(in rt.alloc(); "{once}{operator}{once}")?;
+            let got = priced(rt.alloc(), &cost)?;
+            let want = if operator == "+" { "a 50/" } else { "a 625/" };
+            assert_eq!(rt; got.as_str(), want, "at {cost}");
+        }
+    }
     Ok(())
 }
 
@@ -188,18 +377,41 @@ fn a_map_is_cut_at_name_lines(rt: HostRuntime) -> Result<(), Fail> {
     Ok(())
 }
 
-// A tenth of a second on a quiet machine; the bounds leave room for a loaded one.
-#[test]
-fn large_texts_are_read_within_a_second(rt: HostRuntime) -> Result<(), Fail> {
-    let mut text = String::from_str(rt.alloc(), "#N unc\nunc ")?;
-    for i in 0..10_000u32 {
-        write!(text, "{},", i % 9_000)?;
+// The name of the link of this number, below 17,576: three letters, and not in the order of the numbers.
+fn link_name(alloc: Global, number: u32) -> Result<String, Fail> {
+    let mut rest = number.wrapping_mul(7_919) % 17_576;
+    let mut name = String::new(alloc);
+    for _ in 0..3 {
+        name.push(char::from(b'a' + (rest % 26) as u8))?;
+        rest /= 26;
     }
-    assert!(rt; text.len() <= 65_536);
+    Ok(name)
+}
+
+// An entry of 65,536 bytes that is one statement of 10,000 links, 8,508 of them with a cost of one digit.
+fn large_entry(alloc: Global) -> Result<String, Fail> {
+    let mut text = String::from_str(alloc, "#N unc\nunc ")?;
+    for number in 0..10_000u32 {
+        text.push_str(&link_name(alloc, number)?)?;
+        if number < 8_508 {
+            write!(text, "({})", number % 10)?;
+        }
+        text.push_str(",")?;
+    }
+    text.push_str("\n")?;
+    Ok(text)
+}
+
+// Both take less than a second on a quiet machine; the bounds leave room for a loaded one.
+#[test]
+fn the_largest_texts_are_read_in_time(rt: HostRuntime) -> Result<(), Fail> {
+    let text = large_entry(rt.alloc())?;
+    assert_eq!(rt; text.len(), 65_536);
     let start = Instant::now(&rt)?;
     let entry = read_entry(rt.alloc(), text.as_bytes())?;
     assert!(rt; start.elapsed(&rt)?.as_millis() < 10_000);
-    assert_eq!(rt; entry.links.as_slice().len(), 9_000);
+    assert_eq!(rt; entry.links.as_slice().len(), 10_000);
+    assert!(rt; entry.skipped.as_slice().is_empty());
 
     let mut map = Vec::new(rt.alloc());
     for _ in 0..1_048_576u32 {
@@ -288,7 +500,6 @@ fn plain_statements(alloc: Global, text: &str) -> Result<Vec<(usize, String)>, F
 // What an entry like the worked one says, read as plainly as can be: with no repeated link, no mark, and at most one
 // operator in a cost.
 fn plain(alloc: Global, text: &str) -> Result<String, Fail> {
-    let mut shown = String::new(alloc);
     let host = match text
         .lines()
         .next()
@@ -326,6 +537,7 @@ fn plain(alloc: Global, text: &str) -> Result<String, Fail> {
         }
     }
     links.sort()?;
+    let mut shown = format!(in alloc; "{host}: ")?;
     for (cost, name) in &links {
         if *cost == DEAD {
             write!(shown, "{} dead/", name)?;
@@ -345,7 +557,10 @@ fn each_front_of_an_entry_is_read_as_plainly(rt: HostRuntime) -> Result<(), Fail
             continue;
         };
         let got = match read_entry(rt.alloc(), front.as_bytes()) {
-            Ok(entry) => shown(rt.alloc(), &entry)?,
+            Ok(entry) => {
+                let said = shown(rt.alloc(), &entry)?;
+                format!(in rt.alloc(); "{}: {said}", entry.host.as_str())?
+            }
             Err(MapFault::NoName) => String::from_str(rt.alloc(), "no name")?,
             Err(_) => String::from_str(rt.alloc(), "another fault")?,
         };

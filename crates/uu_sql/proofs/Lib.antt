@@ -4,3 +4,4 @@ pub mod Steps
 pub mod Rows
 pub mod Answers
 pub mod Sorted
+pub mod Objects

@@ -26,11 +26,12 @@ use Rattle.uu_sql.specs.Layout.{where_is}
 use Rattle.uu_sql.proofs.Asks.{ordered, up}
 use Rattle.uu_sql.proofs.Rows.{all_stay}
 use Rattle.uu_sql.proofs.Answers.{answer_of, answer_moved, answer_only, answer_sorted}
-use Rattle.uu_store.specs.Schema.{site, ask_next, ask_system, ask_jobs, ask_job}
+use Rattle.uu_store.specs.Schema.{site, ask_next, ask_system, ask_jobs, ask_head, ask_job}
 use Rattle.uu_store.specs.Rows.{job_row, spool_row, system_cells}
-use Rattle.uu_store.specs.Machine.{Job, State, is_known, by_rank, has_number}
+use Rattle.uu_core.specs.State.{Job, head_of, is_job}
+use Rattle.uu_store.specs.Machine.{State, is_known, by_rank}
 use Rattle.uu_store.specs.Encoded.{stored, Encodes, head_cells, job_cells}
-use Rattle.uu_store.proofs.Texts.{is_first, next_means, system_means, jobs_means, head_terms, job_means, whole_terms}
+use Rattle.uu_store.proofs.Texts.{is_first, next_means, system_means, jobs_means, head_terms, head_means, job_means, whole_terms}
 
 -- ---- the next number
 
@@ -90,24 +91,24 @@ no_tie_then Less p h = refl
 no_tie_then Equal p h = h
 no_tie_then Greater p h = refl
 
-apart : (x y : Job) → x.head.number < y.head.number → is_eq (by_rank x y) ≡ false
-apart x y h = no_tie_then (nat_cmp x.head.grade y.head.grade) (nat_cmp x.head.number y.head.number) (ap is_eq (below_is x.head.number y.head.number h))
+apart : (x y : Job) → x.number < y.number → is_eq (by_rank x y) ≡ false
+apart x y h = no_tie_then (nat_cmp x.grade y.grade) (nat_cmp x.number y.number) (ap is_eq (below_is x.number y.number h))
 
-pub jobs_rows : (old new : db.State) (s : State) (rows : List Row) → Encodes old.now s → db.Shown ask_jobs [] old new rows → rows ≡ map (λ (j : Job). head_cells j.head) (sort_by by_rank s.jobs)
+pub jobs_rows : (old new : db.State) (s : State) (rows : List Row) → Encodes old.now s → db.Shown ask_jobs [] old new rows → rows ≡ map (λ (j : Job). head_cells (head_of j)) (sort_by by_rank s.jobs)
 jobs_rows old new s rows enc h =
     let trees = old.now.trees in
     let a = answer_of site ask_jobs _ _ [] old new jobs_means enc.stands.schema rows h in
     let order = up (col 1 3) ∷ up (col 1 0) ∷ [] in
     let q : Query = ordered 3 [] head_terms order in
     let is : (x y : Job) → output_cmp q (output q ([] ∷ row_of x ∷ [])) (output q ([] ∷ row_of y ∷ [])) ≡ by_rank x y = λ x y.
-    then_key (value_cmp-Int (pos x.head.grade) (pos y.head.grade)) (last_key (value_cmp-Int (pos x.head.number) (pos y.head.number)))
-    ∙ ap₂ ordering_then (int_cmp-nat x.head.grade y.head.grade) (int_cmp-nat x.head.number y.head.number) in
+    then_key (value_cmp-Int (pos x.grade) (pos y.grade)) (last_key (value_cmp-Int (pos x.number) (pos y.number)))
+    ∙ ap₂ ordering_then (int_cmp-nat x.grade y.grade) (int_cmp-nat x.number y.number) in
     answer_sorted 3 [] head_terms order trees [] rows refl a s.jobs row_of by_rank is (ascending_weaker _ (λ x y. is_eq (by_rank x y) ≡ false) apart s.jobs enc.holds.good.rises) (subst (IsPermutation (map row_of s.jobs)) (all_stay (trees 3)) enc.holds.jobs)
 
-int_eq-nat : (a b : ℕ) → int_eq (pos a) (pos b) ≡ (a == b)
+pub int_eq-nat : (a b : ℕ) → int_eq (pos a) (pos b) ≡ (a == b)
 int_eq-nat a b = ap is_eq (int_cmp-nat a b) ∙ unsigned_tied a b
 
-pub job_rows : (old new : db.State) (s : State) (n : ℕ) (rows : List Row) → Encodes old.now s → db.Shown ask_job (Int (pos n) ∷ []) old new rows → rows ≡ map job_cells (filter (has_number n) s.jobs)
+pub job_rows : (old new : db.State) (s : State) (n : ℕ) (rows : List Row) → Encodes old.now s → db.Shown ask_job (Int (pos n) ∷ []) old new rows → rows ≡ map job_cells (filter (is_job n) s.jobs)
 job_rows old new s n rows enc h =
     let trees = old.now.trees in
     let params : Row = Int (pos n) ∷ [] in
@@ -117,13 +118,34 @@ job_rows old new s n rows enc h =
     let a = answer_of site ask_job _ _ params old new job_means enc.stands.schema rows h in
     let passes : Row → Bool = λ r. list_all (holds (params ∷ r ∷ [])) tests in
     let out : Job → Output = λ j. output q (params ∷ row_of j ∷ []) in
-    let test : (j : Job) → passes (row_of j) ≡ has_number n j = λ j. last_term (at_ints false Eq (pos j.head.number) (pos n)) ∙ int_eq-nat j.head.number n in
-    let found : filter passes (map row_of s.jobs) ≡ map row_of (filter (has_number n) s.jobs) = filter-map passes row_of s.jobs ∙ ap (map row_of) (filter_same (λ j. passes (row_of j)) (has_number n) test s.jobs) in
-    let less : (x y : Job) → x.head.number < y.head.number → output_cmp q (out x) (out y) ≡ Less = λ x y h.
-    last_key (value_cmp-Int (pos x.head.number) (pos y.head.number)) ∙ int_cmp-nat x.head.number y.head.number ∙ below_is x.head.number y.head.number h in
-    let strict : IsAscending (λ x y. output_cmp q x y ≡ Less) (map out (filter (has_number n) s.jobs)) =
-    ascending-map (λ x y. output_cmp q x y ≡ Less) out _ (ascending_weaker _ (λ x y. output_cmp q (out x) (out y) ≡ Less) less _ (ascending-filter _ (has_number n) s.jobs enc.holds.good.rises)) in
-    let rows_same : IsPermutation (map row_of (filter (has_number n) s.jobs)) (filter passes (trees 3)) = subst (λ l. IsPermutation l (filter passes (trees 3))) found (IsPermutation-filter passes _ _ enc.holds.jobs) in
-    let same : IsPermutation (map out (filter (has_number n) s.jobs)) (map (λ r. output q (params ∷ r ∷ [])) (filter passes (trees 3))) =
+    let test : (j : Job) → passes (row_of j) ≡ is_job n j = λ j. last_term (at_ints false Eq (pos j.number) (pos n)) ∙ int_eq-nat j.number n in
+    let found : filter passes (map row_of s.jobs) ≡ map row_of (filter (is_job n) s.jobs) = filter-map passes row_of s.jobs ∙ ap (map row_of) (filter_same (λ j. passes (row_of j)) (is_job n) test s.jobs) in
+    let less : (x y : Job) → x.number < y.number → output_cmp q (out x) (out y) ≡ Less = λ x y h.
+    last_key (value_cmp-Int (pos x.number) (pos y.number)) ∙ int_cmp-nat x.number y.number ∙ below_is x.number y.number h in
+    let strict : IsAscending (λ x y. output_cmp q x y ≡ Less) (map out (filter (is_job n) s.jobs)) =
+    ascending-map (λ x y. output_cmp q x y ≡ Less) out _ (ascending_weaker _ (λ x y. output_cmp q (out x) (out y) ≡ Less) less _ (ascending-filter _ (is_job n) s.jobs enc.holds.good.rises)) in
+    let rows_same : IsPermutation (map row_of (filter (is_job n) s.jobs)) (filter passes (trees 3)) = subst (λ l. IsPermutation l (filter passes (trees 3))) found (IsPermutation-filter passes _ _ enc.holds.jobs) in
+    let same : IsPermutation (map out (filter (is_job n) s.jobs)) (map (λ r. output q (params ∷ r ∷ [])) (filter passes (trees 3))) =
     subst (λ l. IsPermutation l (map (λ r. output q (params ∷ r ∷ [])) (filter passes (trees 3)))) (map-map (λ r. output q (params ∷ r ∷ [])) row_of _) (IsPermutation-map (λ r. output q (params ∷ r ∷ [])) _ _ rows_same) in
-    answer_only 3 tests whole_terms order trees params rows refl a (map out (filter (has_number n) s.jobs)) strict same ∙ map-map (λ (o : Output). o.1) out (filter (has_number n) s.jobs)
+    answer_only 3 tests whole_terms order trees params rows refl a (map out (filter (is_job n) s.jobs)) strict same ∙ map-map (λ (o : Output). o.1) out (filter (is_job n) s.jobs)
+
+pub head_rows : (old new : db.State) (s : State) (n : ℕ) (rows : List Row) → Encodes old.now s → db.Shown ask_head (Int (pos n) ∷ []) old new rows → rows ≡ map (λ (j : Job). head_cells (head_of j)) (filter (is_job n) s.jobs)
+head_rows old new s n rows enc h =
+    let trees = old.now.trees in
+    let params : Row = Int (pos n) ∷ [] in
+    let tests = where_is 0 0 ∷ [] in
+    let order = up (col 1 0) ∷ [] in
+    let q : Query = ordered 3 tests head_terms order in
+    let a = answer_of site ask_head _ _ params old new head_means enc.stands.schema rows h in
+    let passes : Row → Bool = λ r. list_all (holds (params ∷ r ∷ [])) tests in
+    let out : Job → Output = λ j. output q (params ∷ row_of j ∷ []) in
+    let test : (j : Job) → passes (row_of j) ≡ is_job n j = λ j. last_term (at_ints false Eq (pos j.number) (pos n)) ∙ int_eq-nat j.number n in
+    let found : filter passes (map row_of s.jobs) ≡ map row_of (filter (is_job n) s.jobs) = filter-map passes row_of s.jobs ∙ ap (map row_of) (filter_same (λ j. passes (row_of j)) (is_job n) test s.jobs) in
+    let less : (x y : Job) → x.number < y.number → output_cmp q (out x) (out y) ≡ Less = λ x y h.
+    last_key (value_cmp-Int (pos x.number) (pos y.number)) ∙ int_cmp-nat x.number y.number ∙ below_is x.number y.number h in
+    let strict : IsAscending (λ x y. output_cmp q x y ≡ Less) (map out (filter (is_job n) s.jobs)) =
+    ascending-map (λ x y. output_cmp q x y ≡ Less) out _ (ascending_weaker _ (λ x y. output_cmp q (out x) (out y) ≡ Less) less _ (ascending-filter _ (is_job n) s.jobs enc.holds.good.rises)) in
+    let rows_same : IsPermutation (map row_of (filter (is_job n) s.jobs)) (filter passes (trees 3)) = subst (λ l. IsPermutation l (filter passes (trees 3))) found (IsPermutation-filter passes _ _ enc.holds.jobs) in
+    let same : IsPermutation (map out (filter (is_job n) s.jobs)) (map (λ r. output q (params ∷ r ∷ [])) (filter passes (trees 3))) =
+    subst (λ l. IsPermutation l (map (λ r. output q (params ∷ r ∷ [])) (filter passes (trees 3)))) (map-map (λ r. output q (params ∷ r ∷ [])) row_of _) (IsPermutation-map (λ r. output q (params ∷ r ∷ [])) _ _ rows_same) in
+    answer_only 3 tests head_terms order trees params rows refl a (map out (filter (is_job n) s.jobs)) strict same ∙ map-map (λ (o : Output). o.1) out (filter (is_job n) s.jobs)

@@ -5,7 +5,6 @@ use Rattle.std.specs.List.{list_all}
 use Rattle.std.specs.List.Sorted.{IsPermutation}
 use Rattle.std.proofs.lemmas.List.Sorted.{IsPermutation-refl}
 use Rattle.sqlite.specs.declared.types.Value.TheVariants.{Int}
-use Rattle.sqlite.specs.declared.error.Error.{Error}
 use Rattle.sqlite.specs.Order.{Row}
 use Rattle.sqlite.specs.Tree.{Trees}
 use Rattle.sqlite.specs.Term.{col, eval_all, holds}
@@ -51,25 +50,25 @@ empty_holds old db made =
       spool = begun.spool (jobs.spool ∙ rest.first.spool ∙ made.first.none);
       systems = subst (λ rs. IsPermutation [] (map system_cells rs)) (sym systems_none) (IsPermutation-refl []);
       jobs = subst (λ rs. IsPermutation [] rs) (sym jobs_none) (IsPermutation-refl []);
-      good = record { rises = tt; below = tt; named = tt; first = omega arith; last = omega arith };
+      good = record { jobs = tt; rises = tt; below = tt; named = tt; first = omega arith; last = omega arith };
     }
 
 module _ (a b : db.State) where
   made : (trees : Trees) → TablesMade a.now.trees trees → Holds trees empty
   made trees step = empty_holds a.now.trees trees step
 
-  pub begins_ok : (w : Result (Unit {0}) Error) → IsOk w → Whole no_schema site TablesMade a b w → Begins a b (Ok tt)
+  pub begins_ok : {E : Type 0} (w : Result (Unit {0}) E) → IsOk w → Whole no_schema site TablesMade a b w → Begins a b (Ok tt)
   begins_ok w done whole = record {
     ok = λ clean rests stands. let did = did_of w (whole.ends clean stands) done in (did.rests, record { stands = did.stands; holds = made b.now.trees did.step });
     memory = λ clean rests stands is. absurd (cc);
     stop = λ clean rests stands trees may. elim (whole.survives.crash clean trees may) [ inl was ↦ inl was | inr makes ↦ inr (let m = makes stands in (m.1, made trees m.0)) ];
   }
     where
-      did_of : (w : Result (Unit {0}) Error) → Ends site TablesMade a b w → IsOk w → Did site TablesMade a b
+      did_of : {E : Type 0} (w : Result (Unit {0}) E) → Ends site TablesMade a b w → IsOk w → Did site TablesMade a b
       did_of (Ok x) e done = e
       did_of (Err x) e done = absurd (cc)
 
-  pub begins_err : (d : db.State) (w : Result (Unit {0}) Error) (fault : StoreFault) → IsErr w → Whole no_schema site TablesMade a b w
+  pub begins_err : {E : Type 0} (d : db.State) (w : Result (Unit {0}) E) (fault : StoreFault) → IsErr w → Whole no_schema site TablesMade a b w
       → (db.HasCleanDisk d → fault ≡ Memory → IsTrue b.is_open × db.IsUnchanged b d) → db.Survives b d (λ _. ⊥) → Begins a d (Err fault)
   begins_err d w fault undone whole memory over = record {
     ok = λ clean rests stands. tt;
@@ -86,7 +85,7 @@ module _ (a b : db.State) where
       is_memory : ◌≡◌ {A = Result (Unit {0}) StoreFault} (Err fault) (Err Memory) → fault ≡ Memory
       is_memory h = cc
 
-      back : (w : Result (Unit {0}) Error) → Ends site TablesMade a b w → IsErr w → IsTrue b.is_open → Rests a → Rests b × (b.now ≡ a.now)
+      back : {E : Type 0} (w : Result (Unit {0}) E) → Ends site TablesMade a b w → IsErr w → IsTrue b.is_open → Rests a → Rests b × (b.now ≡ a.now)
       back (Ok x) e undone is_open rests = absurd (cc)
       back (Err x) e undone is_open rests = let u = e.undone is_open in (record { is_open = is_open; idle = whole.idle; settled = u.0 ∙ sym u.1 }, u.0 ∙ sym rests.settled)
 

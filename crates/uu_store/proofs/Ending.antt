@@ -1,20 +1,20 @@
 -- What a stop leaves, by the law that while a connection is open it leaves the last commit.
-use Rattle.std.proofs.Common.{◌≡◌, Bool, false, ◌⊎◌, inl, inr, ap, sym, subst, ◌∙◌}
+use Rattle.std.proofs.Common.{◌≡◌, Bool, false, ◌⊎◌, inl, inr, Result, Ok, ap, sym, subst, ◌∙◌}
 use Rattle.std.specs.Prelude.{IsTrue}
 use Rattle.sqlite.specs.Tree.{Trees}
 use Rattle.sqlite.specs.Effect.{Database}
 use Rattle.sqlite.specs.State as db
 use Rattle.sqlite_catalog.specs.Listing.{IsSound}
-use Rattle.uu_sql.specs.Steps.{Rests}
+use Rattle.uu_sql.specs.Steps.{Rests, Stands}
 use Rattle.sqlite.specs.Store.{Ghosts}
 use Rattle.sqlite.specs.Held.{Held, state}
 use Rattle.uu_store.specs.declared.spool.Spool.{Spool}
 use Rattle.uu_store.specs.declared.fault.StoreFault.{StoreFault}
 use Rattle.uu_store.specs.declared.fault.StoreFault.TheVariants.{Memory}
 use Rattle.uu_store.specs.Spool.{connection_of, disk, has_failed, Shows, Marks}
-use Rattle.uu_store.specs.Schema.{site}
-use Rattle.uu_store.specs.Machine.{State}
-use Rattle.uu_store.specs.Encoded.{Holds, Encodes, Leaves, LeavesEither}
+use Rattle.uu_store.specs.Schema.{site, no_schema}
+use Rattle.uu_store.specs.Machine.{State, empty}
+use Rattle.uu_store.specs.Encoded.{Holds, Encodes, Leaves, LeavesEither, Replies, Begins, StopsAs}
 
 -- the law of the store
 abbrev pub Settles : db.State → Type 0
@@ -46,3 +46,17 @@ shows_again {g} spool h s same usable rests enc = record {
 
 pub clean_before : {S : Type 0} {g : Ghosts S} (spool : Spool S g) (h : Held S) → connection_of spool ≡ h → db.HasCleanDisk (disk spool) → db.HasCleanDisk (state g h)
 clean_before {g} spool h same clean = subst (λ x. db.HasCleanDisk (state g x)) same clean
+
+-- ---- what a stop leaves of a database that is adopted
+
+pub adopt_stops : {T : Type 0} (IsAnswer : State → T → Type 0) (a b : db.State) (r : Result T StoreFault) (w : Result (Unit {0}) StoreFault) → Settles a → db.HasCleanDisk b → Rests a → Replies IsAnswer a b r → Begins a b w → StopsAs a b
+adopt_stops IsAnswer a b r w settles clean rests replies begins = record {
+  state = λ s enc trees may. leaves s a settles rests enc trees (replies.stop clean s rests enc trees may);
+  none = λ stands trees may. elim (begins.stop clean rests stands trees may) [
+    | inl was ↦ inl (settles trees rests.is_open was ∙ sym (ap (λ (d : Database). d.trees) rests.settled))
+    | inr made ↦ inr made
+  ];
+}
+
+pub adopt_begins : (a b : db.State) → Settles b → db.HasCleanDisk b → Rests a → Begins a b (Ok tt) → Stands no_schema a.now → Leaves b empty
+adopt_begins a b settles clean rests begins stands = let it = begins.ok clean rests stands in leaves empty b settles it.0 it.1

@@ -6,5 +6,8 @@ pub mod Answered
 pub mod Obeying
 pub mod Turning
 pub mod Shown
+pub mod Words
+pub mod Changed
+pub mod Jobs
 pub mod Ending
 pub mod Begun

@@ -15,9 +15,11 @@ use Rattle.sqlite_keyed.proofs.ListLemmas.{none_from_any, all_weaker}
 use Rattle.uu_sql.specs.Steps.{Both}
 use Rattle.uu_sql.proofs.Rows.{put_permutes}
 use Rattle.uu_sql.proofs.Sorted.{IsPermutation-insert_sorted, rises-insert_sorted}
-use Rattle.uu_store.specs.declared.job.NewJob.{NewJob}
+use Rattle.uu_core.specs.declared.job.NewJob.{NewJob}
+use Rattle.uu_core.specs.State.{Job, IsJob, numbers_end}
+use Rattle.uu_core.specs.After.{job_of}
 use Rattle.uu_store.specs.Rows.{job_row, system_cells, JobAdded, SystemAdded, NextSet}
-use Rattle.uu_store.specs.Machine.{Job, State, IsWellFormed, by_bytes, with_name, is_known, job_of, last_next}
+use Rattle.uu_store.specs.Machine.{State, IsWellFormed, by_bytes, with_name, is_known}
 use Rattle.uu_store.specs.Encoded.{stored, Holds}
 
 abbrev row_of : Job → Row
@@ -32,23 +34,24 @@ all_push : (P : Job → Type 0) (jobs : List Job) (j : Job) → AllByRecursion P
 all_push P [] j all h = (h, tt)
 all_push P (x ∷ jobs) j all h = (all.0, all_push P jobs j all.1 h)
 
-rises_push : (jobs : List Job) (j : Job) → IsAscending (λ (a b : Job). a.head.number < b.head.number) jobs → AllByRecursion (λ (a : Job). a.head.number < j.head.number) jobs
-    → IsAscending (λ (a b : Job). a.head.number < b.head.number) (jobs ++ j ∷ [])
+rises_push : (jobs : List Job) (j : Job) → IsAscending (λ (a b : Job). a.number < b.number) jobs → AllByRecursion (λ (a : Job). a.number < j.number) jobs
+    → IsAscending (λ (a b : Job). a.number < b.number) (jobs ++ j ∷ [])
 rises_push [] j up all = (tt, tt)
-rises_push (x ∷ jobs) j up all = (all_push (λ b. x.head.number < b.head.number) jobs j up.0 all.0, rises_push jobs j up.1 all.1)
+rises_push (x ∷ jobs) j up all = (all_push (λ b. x.number < b.number) jobs j up.0 all.0, rises_push jobs j up.1 all.1)
 
-good_queue : (s : State) (new : NewJob) → IsWellFormed s → s.next ≢ last_next → IsWellFormed (record s { jobs = s.jobs ++ job_of s.next new ∷ []; next = s.next + 1 })
-good_queue s new good more = record {
+good_queue : (s : State) (new : NewJob) → IsWellFormed s → s.next ≢ numbers_end → IsJob (job_of s.next new) → IsWellFormed (record s { jobs = s.jobs ++ job_of s.next new ∷ []; next = s.next + 1 })
+good_queue s new good more fit = record {
+  jobs = all_push IsJob s.jobs (job_of s.next new) good.jobs fit;
   rises = rises_push s.jobs (job_of s.next new) good.rises good.below;
-  below = all_push (λ j. j.head.number < s.next + 1) s.jobs (job_of s.next new) (all_weaker (λ (j : Job). j.head.number < s.next) (λ (j : Job). j.head.number < s.next + 1) (λ j h. omega (arith, h)) s.jobs good.below) (omega arith);
+  below = all_push (λ j. j.number < s.next + 1) s.jobs (job_of s.next new) (all_weaker (λ (j : Job). j.number < s.next) (λ (j : Job). j.number < s.next + 1) (λ j h. omega (arith, h)) s.jobs good.below) (omega arith);
   named = good.named;
   first = omega arith;
   last = let top = good.last in omega (arith, top, more);
 }
 
-pub holds_queue : (s : State) (new : NewJob) (old db : Trees) → Holds old s → s.next ≢ last_next → Both (JobAdded (stored (job_of s.next new))) (NextSet (s.next + 1)) old db
+pub holds_queue : (s : State) (new : NewJob) (old db : Trees) → Holds old s → s.next ≢ numbers_end → IsJob (job_of s.next new) → Both (JobAdded (stored (job_of s.next new))) (NextSet (s.next + 1)) old db
     → Holds db (record s { jobs = s.jobs ++ job_of s.next new ∷ []; next = s.next + 1 })
-holds_queue s new old db h more both =
+holds_queue s new old db h more fit both =
     let j = job_of s.next new in
     let added = both.first in
     let follows = both.second 0 s.next (added.spool ∙ h.spool) in
@@ -59,7 +62,7 @@ holds_queue s new old db h more both =
       spool = follows.spool;
       systems = subst (λ rs. IsPermutation (map name_cells s.systems) (map system_cells rs)) (sym (follows.systems ∙ added.systems)) h.systems;
       jobs = subst (λ rs. IsPermutation rs (db 3)) (sym (map-append row_of s.jobs (j ∷ []))) (subst (IsPermutation (rows ++ row_of j ∷ [])) (sym (follows.jobs ∙ added.jobs)) whole);
-      good = good_queue s new h.good more;
+      good = good_queue s new h.good more fit;
     }
 
 -- ---- a system more
@@ -85,6 +88,7 @@ holds_system s name old db h new added =
       systems = IsPermutation-trans _ _ _ one (IsPermutation-trans _ _ _ two (subst (λ c. IsPermutation (c ∷ map system_cells (old 1)) (map system_cells (db 1))) added.row three));
       jobs = subst (IsPermutation (map row_of s.jobs)) (sym added.jobs) h.jobs;
       good = record {
+        jobs = h.good.jobs;
         rises = h.good.rises;
         below = h.good.below;
         named = rises-insert_sorted by_bytes nat_list_cmp_total name s.systems (apart name s.systems new) h.good.named;

@@ -3,7 +3,7 @@ use Rattle.std.proofs.Common.{◌≡◌, ◌∷◌, [], refl, List, ℕ, pos, co
 use Rattle.sqlite.specs.declared.types.Value.TheVariants.{Null, Int}
 use Rattle.sqlite.specs.Term.{Term, lit, col}
 use Rattle.sqlite.specs.Source.TheVariants.{Values}
-use Rattle.sqlite.specs.Command.TheVariants.{Insert, Update, CreateTable}
+use Rattle.sqlite.specs.Command.TheVariants.{Insert, Update, Delete, CreateTable}
 use Rattle.sqlite.specs.Compile.{table_defined_by}
 use Rattle.sqlite.specs.Change.{created}
 use Rattle.sqlite_tied.specs.Compute.{everything}
@@ -11,7 +11,7 @@ use Rattle.sqlite.specs.Listing.{understood}
 use Rattle.sqlite.proofs.Callers.{IsPlain, command_of, statement_of}
 use Rattle.uu_sql.specs.Layout.{over, where_is, equal_terms}
 use Rattle.uu_sql.proofs.Asks.{Means, ordered, up}
-use Rattle.uu_store.specs.Schema.{site, no_schema, with_spool, with_systems, spool, systems, jobs, create_spool, create_systems, create_jobs, insert_spool, insert_system, insert_job, update_next, ask_version, ask_next, ask_system, ask_jobs, ask_job}
+use Rattle.uu_store.specs.Schema.{site, no_schema, with_spool, with_systems, spool, systems, jobs, create_spool, create_systems, create_jobs, insert_spool, insert_system, insert_job, update_next, update_rank, update_queued, delete_job, ask_version, ask_next, ask_system, ask_jobs, ask_head, ask_job}
 
 -- ---- writes
 
@@ -48,6 +48,36 @@ pub update_next_plain : IsPlain (understood site update_next)
 unfolding understood everything
 update_next_plain = (refl, refl)
 
+abbrev pub ranked_terms : List Term
+ranked_terms = col 1 0 ∷ col 1 0 ∷ lit Null ∷ col 1 2 ∷ col 0 1 ∷ col 1 4 ∷ col 1 5 ∷ col 1 6 ∷ col 1 7 ∷ col 1 8 ∷ col 1 9 ∷ col 1 10 ∷ []
+
+pub update_rank_is : command_of (understood site update_rank) ≡ Update 2 (record { lets = []; body = over 3 (where_is 0 0 ∷ []) ranked_terms })
+unfolding understood everything
+update_rank_is = refl
+
+pub update_rank_plain : IsPlain (understood site update_rank)
+unfolding understood everything
+update_rank_plain = (refl, refl)
+
+abbrev pub queued_terms : List Term
+queued_terms = col 1 0 ∷ col 1 0 ∷ lit Null ∷ col 1 2 ∷ col 1 3 ∷ col 1 4 ∷ col 1 5 ∷ col 0 1 ∷ col 1 7 ∷ col 1 8 ∷ col 1 9 ∷ col 1 10 ∷ []
+
+pub update_queued_is : command_of (understood site update_queued) ≡ Update 2 (record { lets = []; body = over 3 (where_is 0 0 ∷ []) queued_terms })
+unfolding understood everything
+update_queued_is = refl
+
+pub update_queued_plain : IsPlain (understood site update_queued)
+unfolding understood everything
+update_queued_plain = (refl, refl)
+
+pub delete_job_is : command_of (understood site delete_job) ≡ Delete 2 (record { lets = []; body = over 3 (where_is 0 0 ∷ []) (col 1 0 ∷ []) })
+unfolding understood everything
+delete_job_is = refl
+
+pub delete_job_plain : IsPlain (understood site delete_job)
+unfolding understood everything
+delete_job_plain = (refl, refl)
+
 -- ---- questions
 
 abbrev pub is_first : Term
@@ -74,6 +104,10 @@ head_names = codes "number" ∷ codes "system" ∷ codes "rank" ∷ codes "user"
 pub jobs_means : Means site ask_jobs (ordered 3 [] head_terms (up (col 1 3) ∷ up (col 1 0) ∷ [])) head_names
 unfolding understood everything
 jobs_means = record { command = refl; plain = (refl, refl); listing = refl }
+
+pub head_means : Means site ask_head (ordered 3 (where_is 0 0 ∷ []) head_terms (up (col 1 0) ∷ [])) head_names
+unfolding understood everything
+head_means = record { command = refl; plain = (refl, refl); listing = refl }
 
 abbrev pub whole_terms : List Term
 whole_terms = col 1 0 ∷ col 1 2 ∷ col 1 3 ∷ col 1 4 ∷ col 1 5 ∷ col 1 6 ∷ col 1 7 ∷ col 1 8 ∷ col 1 9 ∷ col 1 10 ∷ []

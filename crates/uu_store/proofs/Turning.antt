@@ -2,11 +2,10 @@
 use Rattle.std.proofs.Common.{◌≡◌, inl, inr, Result, Ok, Err, sym, ◌∙◌, arith}
 use Rattle.std.specs.Prelude.{IsTrue, IsOk, IfOk}
 use Rattle.sqlite.specs.State as db
-use Rattle.sqlite.specs.declared.error.Error.{Error}
 use Rattle.uu_sql.specs.Steps.{Rests, Asked, Told}
 use Rattle.uu_sql.proofs.Steps.{told_same}
 use Rattle.uu_store.specs.declared.command.Command.{Command}
-use Rattle.uu_store.specs.declared.command.Reply.{Reply}
+use Rattle.uu_core.specs.declared.command.Reply.{Reply}
 use Rattle.uu_store.specs.declared.fault.StoreFault.{StoreFault}
 use Rattle.uu_store.specs.declared.fault.StoreFault.TheVariants.{Memory}
 use Rattle.uu_store.specs.Schema.{site}
@@ -23,10 +22,10 @@ is_memory : {T : Type 0} (fault : StoreFault) → ◌≡◌ {A = Result T StoreF
 is_memory fault h = cc
 
 module _ (s : State) (command : Command) (a b : db.State) where
-  pub turns_ok : (reply : Reply) → Obeys s command a b (Ok reply) → Turns s command a b (Ok reply)
+  pub turns_ok : {E : Type 0} (reply : Reply) → Obeys {E = E} s command a b (Ok reply) → Turns s command a b (Ok reply)
   turns_ok reply o = record { ok = o.ok; memory = λ clean rests enc is. absurd (cc); stop = o.stop }
 
-  pub turns_err : (d : db.State) (e : Error) (fault : StoreFault) → Obeys s command a b (Err e) → (db.HasCleanDisk d → fault ≡ Memory → IsTrue b.is_open × db.IsUnchanged b d) → db.Survives b d (λ _. ⊥)
+  pub turns_err : {E : Type 0} (d : db.State) (e : E) (fault : StoreFault) → Obeys s command a b (Err e) → (db.HasCleanDisk d → fault ≡ Memory → IsTrue b.is_open × db.IsUnchanged b d) → db.Survives b d (λ _. ⊥)
       → Turns s command a d (Err fault)
   turns_err d e fault o memory over = record {
     ok = λ clean rests enc. tt;

@@ -1,7 +1,5 @@
--- The numbers of refusals and faults. (This project's choice.)
+-- The numbers of faults. (This project's choice.)
 use Rattle.std.specs.Prelude.{ℕ}
-use Rattle.uu_store.specs.declared.command.Refusal.{Refusal}
-use Rattle.uu_store.specs.declared.command.Refusal.TheVariants.{NoSystem, TooLarge, NumbersOut}
 use Rattle.sqlite.specs.declared.error.ErrorCode.{ErrorCode}
 use Rattle.sqlite.specs.declared.error.ErrorCode.TheVariants.{SystemIoFailure, DatabaseCorrupt, DiskFull, TooBig}
 use Rattle.sqlite.specs.declared.error.Error.{Error}
@@ -10,11 +8,6 @@ use Rattle.uu_store.specs.declared.fault.StoreKind.{StoreKind}
 use Rattle.uu_store.specs.declared.fault.StoreKind.TheVariants.{Disk, Size, Database}
 use Rattle.uu_store.specs.declared.fault.StoreFault.{StoreFault}
 use Rattle.uu_store.specs.declared.fault.StoreFault.TheVariants.{Memory, Store, Failed, Foreign, Newer}
-
-abbrev pub refusal_code : Refusal → ℕ
-refusal_code NoSystem = 1
-refusal_code TooLarge = 7
-refusal_code NumbersOut = 8
 
 -- which part of the store an error of the database tells of
 abbrev pub kind_of_code : ErrorCode → StoreKind

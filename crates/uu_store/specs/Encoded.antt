@@ -1,6 +1,7 @@
--- What a database encodes, and what a spool shows.
-use Rattle.std.specs.Prelude.{◌≡◌, ◌⊎◌, ◌≤◌, ℕ, pos, List, [], ◌∷◌, ◌++◌, map, IsTrue, Result, Err, IfOk, OnOk, OnErr, ⊤, Vec}
+-- What a database encodes, and what a spool shows. (The tables, the numbers of the kinds and the text of arguments are this project's choice.)
+use Rattle.std.specs.Prelude.{◌≡◌, ◌⊎◌, ◌≤◌, ℕ, pos, List, [], ◌∷◌, ◌++◌, length, map, IsTrue, Result, Err, IfOk, OnOk, OnErr, ⊤, Vec}
 use Rattle.std.specs.declared.alloc.Global.{Global}
+use Rattle.std.specs.List.{join_with_byte}
 use Rattle.std.specs.List.Sorted.{IsPermutation}
 use Rattle.sqlite.specs.declared.types.Value.TheVariants.{Int, Text, Blob}
 use Rattle.sqlite.specs.Order.{Row, column}
@@ -9,44 +10,47 @@ use Rattle.sqlite.specs.Effect.{Database}
 use Rattle.sqlite.specs.State as db
 use Rattle.sqlite_catalog.specs.Listing.{IsSound}
 use Rattle.sqlite.specs.View.{doubt}
-use Rattle.sqlite.specs.declared.error.Error.{Error}
 use Rattle.uu_sql.specs.Steps.{Stands, Rests}
 use Rattle.uu_store.specs.declared.command.Command.{Command}
-use Rattle.uu_store.specs.declared.command.Reply.{Reply}
+use Rattle.uu_core.specs.declared.command.Reply.{Reply}
 use Rattle.uu_store.specs.declared.fault.StoreFault.{StoreFault}
 use Rattle.uu_store.specs.declared.fault.StoreFault.TheVariants.{Memory, Store, Failed, Foreign, Newer}
-use Rattle.uu_store.specs.declared.job.JobHead.{JobHead}
-use Rattle.uu_store.specs.declared.job.Kind.{Kind}
-use Rattle.uu_store.specs.declared.job.Kind.TheVariants.{Send, Request}
+use Rattle.uu_core.specs.declared.job.JobHead.{JobHead}
+use Rattle.uu_core.specs.declared.job.Kind.{Kind}
+use Rattle.uu_core.specs.declared.job.Kind.TheVariants.{Send, Request, Execute}
+use Rattle.uu_core.specs.State.{Job, head_of}
 use Rattle.uu_store.specs.Schema.{site, no_schema}
 use Rattle.uu_store.specs.Rows.{JobRow, job_row, spool_row, system_cells}
-use Rattle.uu_store.specs.Machine.{Job, State, empty, IsWellFormed, after, reply_of}
+use Rattle.uu_store.specs.Machine.{State, empty, IsWellFormed, after, reply_of}
 
--- ---- a job as a row
+-- ---- a job as a row: of a command its arguments stand in one text, with one space between two
 
 abbrev pub kind_number : Kind → ℕ
 kind_number (Send source target) = 0
 kind_number (Request source target) = 1
+kind_number (Execute command arguments) = 2
 
 abbrev pub first_word : Kind → List ℕ
 first_word (Send source target) = source
 first_word (Request source target) = source
+first_word (Execute command arguments) = command
 
 abbrev pub second_word : Kind → List ℕ
 second_word (Send source target) = target
 second_word (Request source target) = target
+second_word (Execute command arguments) = join_with_byte 32 arguments
 
 abbrev pub stored : Job → JobRow
 stored j = record {
-  number = j.head.number;
-  system = j.head.system;
-  rank = j.head.grade;
-  user = j.head.user;
-  kind = kind_number j.head.kind;
-  queued = j.head.queued;
-  first_word = first_word j.head.kind;
-  second_word = second_word j.head.kind;
-  size = j.head.size;
+  number = j.number;
+  system = j.system;
+  rank = j.grade;
+  user = j.user;
+  kind = kind_number j.kind;
+  queued = j.queued;
+  first_word = first_word j.kind;
+  second_word = second_word j.kind;
+  size = length j.bytes;
   bytes = j.bytes;
 }
 
@@ -57,11 +61,15 @@ head_cells h =
     Int (pos h.number) ∷ Text h.system ∷ Int (pos h.grade) ∷ Text h.user ∷ Int (pos (kind_number h.kind)) ∷ Int (pos h.queued) ∷ Text (first_word h.kind) ∷ Text (second_word h.kind) ∷ Int (pos h.size) ∷ []
 
 abbrev pub job_cells : Job → Row
-job_cells j = head_cells j.head ++ Blob j.bytes ∷ []
+job_cells j = head_cells (head_of j) ++ Blob j.bytes ∷ []
+
+-- a head and the bytes that go with it
+abbrev pub job_with : JobHead → List ℕ → Job
+job_with head bytes = record { number = head.number; system = head.system; grade = head.grade; user = head.user; kind = head.kind; queued = head.queued; bytes = bytes }
 
 -- a job as the spool hands it out
 abbrev pub job_shown : JobHead × Vec ℕ Global → Job
-job_shown job = record { head = job.0; bytes = job.1.items }
+job_shown job = job_with job.0 job.1.items
 
 -- the columns of a head, at the front of a row
 abbrev pub cells_at : Row → Row
@@ -96,7 +104,7 @@ LeavesEither now s t = (db : Trees) → now.may_leave db → IsSound site db × 
 
 -- A command is one step of the machine, or nothing. A stop at its end may leave what it could leave before, and beside
 -- that only the state after.
-pub record Obeys (s : State) (command : Command) (old new : db.State) (r : Result Reply Error) : Type 0 where
+pub record Obeys {E : Type 0} (s : State) (command : Command) (old new : db.State) (r : Result Reply E) : Type 0 where
   pub ok : db.HasCleanDisk new → Rests old → Encodes old.now s → IfOk r (λ reply. (reply ≡ reply_of s command) × Rests new × Encodes new.now (after s command))
   pub err : db.HasCleanDisk new → Rests old → Encodes old.now s → OnErr r (IsTrue new.is_open → Rests new × Encodes new.now s)
   pub stop : db.HasCleanDisk new → Rests old → Encodes old.now s → (trees : Trees) → new.may_leave trees → old.may_leave trees ⊎ (IsSound site trees × Holds trees (after s command))
@@ -127,3 +135,13 @@ pub record Begins (old new : db.State) (r : Result (Unit {0}) StoreFault) : Type
   pub ok : db.HasCleanDisk new → Rests old → Stands no_schema old.now → OnOk r (Rests new × Encodes new.now empty)
   pub memory : db.HasCleanDisk new → Rests old → Stands no_schema old.now → r ≡ Err Memory → Rests new × (new.now ≡ old.now)
   pub stop : db.HasCleanDisk new → Rests old → Stands no_schema old.now → (trees : Trees) → new.may_leave trees → old.may_leave trees ⊎ (IsSound site trees × Holds trees empty)
+
+-- a database that encodes a state, or has no tables, is as it was
+pub record IsAsBefore (old new : db.State) : Type 0 where
+  pub state : (s : State) → Encodes old.now s → Rests new × Encodes new.now s
+  pub none : Stands no_schema old.now → Rests new × (new.now ≡ old.now)
+
+-- a stop leaves the state that a database encodes, and of one without tables what it was or an empty spool
+pub record StopsAs (old new : db.State) : Type 0 where
+  pub state : (s : State) → Encodes old.now s → Leaves new s
+  pub none : Stands no_schema old.now → (trees : Trees) → new.may_leave trees → (trees ≡ old.now.trees) ⊎ (IsSound site trees × Holds trees empty)

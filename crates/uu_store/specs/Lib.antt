@@ -3,5 +3,6 @@ pub mod Rows
 pub mod Codes
 pub mod Machine
 pub mod Encoded
+pub mod Columns
 pub mod Tables
 pub mod Spool

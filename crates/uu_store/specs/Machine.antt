@@ -1,26 +1,22 @@
--- The plain machine: what the spool holds, and what a command makes of it. (This project's choice.)
-use Rattle.std.specs.Prelude.{◌≡◌, ℕ, ◌+◌, ◌<◌, ◌≤◌, ◌==◌, Bool, not, nat_lt, if◌then◌else◌, List, [], ◌∷◌, ◌++◌, vec_len, map, find, Option, Some, None, unwrap_or, option_map}
+-- The plain machine: what the spool holds, and what a command makes of it. Jobs, refusals and what a job becomes are those of the
+-- machine of the crate `uu_core`; of a system the name alone is held. (This project's choice.)
+use Rattle.std.specs.Prelude.{◌≡◌, ℕ, ◌+◌, ◌<◌, ◌≤◌, Bool, not, List, [], ◌∷◌, ◌++◌, map, filter, find, Option, None, unwrap_or, option_map, if◌then◌else◌}
 use Rattle.std.specs.List.{list_any, AllByRecursion}
-use Rattle.std.specs.Str.{bytes_eq}
 use Rattle.std.specs.Cmp.Lexicographic.{slice_cmp}
 use Rattle.std.specs.Ordering.{nat_cmp, ordering_then}
 use Rattle.std.specs.declared.cmp.Ordering.{Ordering}
 use Rattle.std.specs.declared.cmp.Ordering.TheVariants.{Less}
 use Rattle.sqlite.specs.Tree.{IsAscending}
 use Rattle.sqlite_keyed.specs.Lists.{insert_sorted, sort_by}
-use Rattle.uu_store.specs.declared.job.JobHead.{JobHead}
-use Rattle.uu_store.specs.declared.job.NewJob.{NewJob}
+use Rattle.uu_core.specs.declared.job.JobHead.{JobHead}
+use Rattle.uu_core.specs.declared.refusal.Refusal.{Refusal}
+use Rattle.uu_core.specs.declared.command.Reply.{Reply}
+use Rattle.uu_core.specs.declared.command.Reply.TheVariants.{Done, Number, Refused}
+use Rattle.uu_core.specs.State.{Job, IsJob, head_of, is_job, same_text, numbers_end}
+use Rattle.uu_core.specs.Verdict.{queue_refusal, job_refusal}
+use Rattle.uu_core.specs.After.{job_of, change_job}
 use Rattle.uu_store.specs.declared.command.Command.{Command}
-use Rattle.uu_store.specs.declared.command.Command.TheVariants.{Define, Queue}
-use Rattle.uu_store.specs.declared.command.Refusal.{Refusal}
-use Rattle.uu_store.specs.declared.command.Refusal.TheVariants.{NoSystem, TooLarge, NumbersOut}
-use Rattle.uu_store.specs.declared.command.Reply.{Reply}
-use Rattle.uu_store.specs.declared.command.Reply.TheVariants.{Done, Number, Refused}
-
--- a job that waits: its head and all its bytes
-pub record Job : Type 0 where
-  pub head : JobHead
-  pub bytes : List ℕ
+use Rattle.uu_store.specs.declared.command.Command.TheVariants.{Define, Queue, Kill, Regrade, Rejuvenate}
 
 pub record State : Type 0 where
   -- in order of acceptance
@@ -39,31 +35,22 @@ abbrev pub by_bytes : List ℕ → List ℕ → Ordering
 by_bytes = slice_cmp nat_cmp
 
 abbrev pub is_known : State → List ℕ → Bool
-is_known s name = list_any (λ known. bytes_eq known name) s.systems
+is_known s name = list_any (λ known. same_text known name) s.systems
 
-abbrev pub max_bytes : ℕ
-max_bytes = 1048576
+-- the job of this number, if it is there
+abbrev pub job_at : State → ℕ → Option Job
+job_at s number = find (is_job number) s.jobs
 
-abbrev pub last_next : ℕ
-last_next = 4294967295
-
--- the job that is kept of a new one
-abbrev pub job_of : ℕ → NewJob → Job
-job_of number new = record {
-  head = record { number = number; system = new.system; grade = new.grade; user = new.user; kind = new.kind; queued = new.at.second; size = vec_len new.bytes };
-  bytes = new.bytes.items;
-}
-
--- the first refusal that applies, if one does
-abbrev pub queue_refusal : Bool → ℕ → NewJob → Option Refusal
-queue_refusal known next new =
-    if nat_lt max_bytes (vec_len new.bytes) then Some TooLarge
-    else (if not known then Some NoSystem
-    else (if next == last_next then Some NumbersOut else None))
+-- the same without its bytes
+abbrev pub head_at : State → ℕ → Option JobHead
+head_at s number = option_map head_of (job_at s number)
 
 abbrev pub verdict : State → Command → Option Refusal
 verdict s (Define system) = None
 verdict s (Queue new) = queue_refusal (is_known s new.system) s.next new
+verdict s (Kill job by) = job_refusal (head_at s job) by
+verdict s (Regrade job grade by) = job_refusal (head_at s job) by
+verdict s (Rejuvenate job at by) = job_refusal (head_at s job) by
 
 -- the names with one more, in byte order
 abbrev pub with_name : List ℕ → List (List ℕ) → List (List ℕ)
@@ -73,10 +60,16 @@ with_name name names = insert_sorted by_bytes name names
 abbrev pub accepted : State → Command → State
 accepted s (Define system) = if is_known s system.name then s else record s { systems = with_name system.name s.systems }
 accepted s (Queue new) = record s { jobs = s.jobs ++ job_of s.next new ∷ []; next = s.next + 1 }
+accepted s (Kill job by) = record s { jobs = filter (λ other. not (is_job job other)) s.jobs }
+accepted s (Regrade job grade by) = record s { jobs = change_job job (λ other. record other { grade = grade }) s.jobs }
+accepted s (Rejuvenate job at by) = record s { jobs = change_job job (λ other. record other { queued = at.second }) s.jobs }
 
 abbrev pub accepted_reply : State → Command → Reply
 accepted_reply s (Define system) = Done
 accepted_reply s (Queue new) = Number s.next
+accepted_reply s (Kill job by) = Done
+accepted_reply s (Regrade job grade by) = Done
+accepted_reply s (Rejuvenate job at by) = Done
 
 -- a refused command leaves the state as it was
 abbrev pub after : State → Command → State
@@ -89,24 +82,19 @@ reply_of s command = unwrap_or (option_map Refused (verdict s command)) (accepte
 
 -- by grade, the highest first, and in one grade by number
 abbrev pub by_rank : Job → Job → Ordering
-by_rank a b = ordering_then (nat_cmp a.head.grade b.head.grade) (nat_cmp a.head.number b.head.number)
+by_rank a b = ordering_then (nat_cmp a.grade b.grade) (nat_cmp a.number b.number)
 
 abbrev pub listed_heads : State → List JobHead
-listed_heads s = map (λ j. j.head) (sort_by by_rank s.jobs)
-
-abbrev pub has_number : ℕ → Job → Bool
-has_number number j = j.head.number == number
-
--- the job of this number, if it is there
-abbrev pub job_at : State → ℕ → Option Job
-job_at s number = find (has_number number) s.jobs
+listed_heads s = map head_of (sort_by by_rank s.jobs)
 
 -- ---- well-formed states
 
--- numbers rise along the list and are below the next one, names rise in byte order, and the next number is in range
+-- jobs are within their limits, numbers rise along the list and are below the next one, names rise in byte order, and the
+-- next number is in range
 pub record IsWellFormed (s : State) : Type 0 where
-  pub rises : IsAscending (λ (a b : Job). a.head.number < b.head.number) s.jobs
-  pub below : AllByRecursion (λ (j : Job). j.head.number < s.next) s.jobs
+  pub jobs : AllByRecursion IsJob s.jobs
+  pub rises : IsAscending (λ (a b : Job). a.number < b.number) s.jobs
+  pub below : AllByRecursion (λ (j : Job). j.number < s.next) s.jobs
   pub named : IsAscending (λ a b. by_bytes a b ≡ Less) s.systems
   pub first : 1 ≤ s.next
-  pub last : s.next ≤ last_next
+  pub last : s.next ≤ numbers_end

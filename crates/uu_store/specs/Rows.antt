@@ -1,8 +1,10 @@
 -- The rows of the spool's tables.
-use Rattle.std.specs.Prelude.{◌≡◌, ℕ, pos, List, [], ◌∷◌, false}
+use Rattle.std.specs.Prelude.{◌≡◌, ℕ, pos, List, [], ◌∷◌, false, filter, IsTrue}
+use Rattle.std.specs.List.{AllByRecursion}
 use Rattle.sqlite.specs.declared.types.Value.TheVariants.{Null, Int, Text, Blob}
 use Rattle.sqlite.specs.Order.{Row, column}
-use Rattle.sqlite.specs.Tree.{Trees, put_row}
+use Rattle.sqlite.specs.Tree.{Trees, rowid, has_rowid, without_rowid, put_row}
+use Rattle.sqlite.specs.View.{is_int}
 use Rattle.sqlite.specs.Edit.{is_taken}
 use Rattle.uu_sql.specs.Steps.{Both}
 
@@ -52,6 +54,34 @@ pub record SystemAdded (name : List ℕ) (old new : Trees) : Type 0 where
   pub fresh : is_taken (old 1) id ≡ false
   pub spool : new 0 ≡ old 0
   pub jobs : new 3 ≡ old 3
+
+-- the row of a job gives way to this one, and nothing else differs
+pub record JobPut (j : JobRow) (old new : Trees) : Type 0 where
+  pub jobs : new 3 ≡ put_row (job_row j) (without_rowid (pos j.number) (old 3))
+  pub spool : new 0 ≡ old 0
+  pub systems : new 1 ≡ old 1
+
+-- the one row of this number, among rows that have numbers
+pub record IsOnly (j : JobRow) (rows : List Row) : Type 0 where
+  pub numbered : AllByRecursion (λ r. IsTrue (is_int (rowid r))) rows
+  pub one : filter (has_rowid (pos j.number)) rows ≡ job_row j ∷ []
+
+-- the one row of this number gets this rank
+abbrev pub JobRanked : ℕ → ℕ → Trees → Trees → Type 0
+JobRanked number rank old new = (j : JobRow) → j.number ≡ number → IsOnly j (old 3) → JobPut (record j { rank = rank }) old new
+
+-- the one row of this number was queued at this second
+abbrev pub JobQueued : ℕ → ℕ → Trees → Trees → Type 0
+JobQueued number second old new = (j : JobRow) → j.number ≡ number → IsOnly j (old 3) → JobPut (record j { queued = second }) old new
+
+-- the row of this number goes, and nothing else differs
+pub record JobTaken (number : ℕ) (old new : Trees) : Type 0 where
+  pub jobs : new 3 ≡ without_rowid (pos number) (old 3)
+  pub spool : new 0 ≡ old 0
+  pub systems : new 1 ≡ old 1
+
+abbrev pub JobGone : ℕ → Trees → Trees → Type 0
+JobGone number old new = (j : JobRow) → j.number ≡ number → IsOnly j (old 3) → JobTaken number old new
 
 -- the next number is this one, and nothing else differs
 pub record NextIs (version next : ℕ) (old new : Trees) : Type 0 where

@@ -59,6 +59,15 @@ insert_job = codes "INSERT INTO jobs (number, system, rank, user, kind, queued, 
 abbrev pub update_next : List ℕ
 update_next = codes "UPDATE spool SET next = ?1"
 
+abbrev pub update_rank : List ℕ
+update_rank = codes "UPDATE jobs SET rank = ?2 WHERE number = ?1"
+
+abbrev pub update_queued : List ℕ
+update_queued = codes "UPDATE jobs SET queued = ?2 WHERE number = ?1"
+
+abbrev pub delete_job : List ℕ
+delete_job = codes "DELETE FROM jobs WHERE number = ?1"
+
 -- ---- questions
 
 abbrev pub ask_version : List ℕ
@@ -72,6 +81,9 @@ ask_system = codes "SELECT name FROM systems WHERE name = ?1"
 
 abbrev pub ask_jobs : List ℕ
 ask_jobs = codes "SELECT number, system, rank, user, kind, queued, first_word, second_word, size FROM jobs ORDER BY rank, number"
+
+abbrev pub ask_head : List ℕ
+ask_head = codes "SELECT number, system, rank, user, kind, queued, first_word, second_word, size FROM jobs WHERE number = ?1 ORDER BY number"
 
 abbrev pub ask_job : List ℕ
 ask_job = codes "SELECT number, system, rank, user, kind, queued, first_word, second_word, size, bytes FROM jobs WHERE number = ?1 ORDER BY number"

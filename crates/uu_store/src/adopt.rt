@@ -3,10 +3,11 @@ ghost use Rattle.std.specs.Prelude.{◌≡◌, ◌≢◌, ◌⊎◌, ◌<◌, �
 ghost use Rattle.sqlite.specs.declared.types.Value.TheVariants.{Int};
 ghost use Rattle.sqlite.specs.Held.{state};
 ghost use Rattle.sqlite.specs.State.{HasCleanDisk};
-ghost use Rattle.uu_sql.specs.Steps.{Rests};
-ghost use Rattle.uu_store.specs.Encoded.{Encodes, Begins, Replies};
+ghost use Rattle.uu_sql.specs.Steps.{Rests, Stands};
+ghost use Rattle.uu_store.specs.Schema.{no_schema};
+ghost use Rattle.uu_store.specs.Encoded.{Encodes, Begins, Replies, IsFresh};
 
-use crate::fault::{StoreFault, store_fault};
+use crate::fault::{StoreFault, halt_fault, store_fault};
 use crate::spool::Spool;
 use crate::statements::{ask_version, create};
 use crate::tables::{Found, found_in};
@@ -60,13 +61,13 @@ fn check_version<S: Alter>(conn: &mut Connection<S>) -> Result<(), StoreFault>
 // An empty spool in a database that has none of its tables.
 fn begin<S: Alter>(conn: &mut Connection<S>) -> Result<(), StoreFault>
     requires { conn.old.in_transaction ≡ false }
-    ensures fresh { IfErr result (λ fault. fault ≢ StoreFault.Failed) }
+    ensures fresh { IfErr result IsFresh }
     ensures idle { conn.new.in_transaction ≡ false }
     ensures begins { Begins (state S.Store conn.old) (state S.Store conn.new) result }
 {
     match create(conn) {
         Ok(()) => Ok(()),
-        Err(error) => Err(store_fault(conn, &error)),
+        Err(halt) => Err(halt_fault(conn, &halt)),
     }
 }
 
@@ -77,6 +78,7 @@ fn prepare<S: Alter>(conn: &mut Connection<S>) -> Result<(), StoreFault>
     ensures replies { Replies (λ s _. ⊤) (state S.Store conn.old) (state S.Store conn.new) result }
     ensures taken { HasCleanDisk (state S.Store conn.new) → (s : _) → Encodes (state S.Store conn.old).now s → IfErr result (λ fault. (fault ≢ StoreFault.Foreign) × (fault ≢ StoreFault.Newer)) }
     ensures begins { Begins (state S.Store conn.old) (state S.Store conn.new) result }
+    ensures welcomed { Stands no_schema (state S.Store conn.old).now → IfErr result (λ fault. (fault ≢ StoreFault.Foreign) × (fault ≢ StoreFault.Newer)) }
 {
     match found_in(conn.schema()) {
         Found::Nothing => begin(conn),
@@ -94,7 +96,7 @@ impl<S: Alter> Spool<S> {
     ghost use Rattle.uu_sql.specs.Steps.{Stands};
     ghost use Rattle.uu_store.specs.Schema.{no_schema};
     ghost use Rattle.uu_store.specs.Machine.{empty};
-    ghost use Rattle.uu_store.specs.Encoded.{Leaves, LeavesEither};
+    ghost use Rattle.uu_store.specs.Encoded.{Leaves, IsAsBefore, StopsAs};
     ghost use Rattle.uu_store.specs.Spool.{disk, has_failed, Shows};
 
     /// Takes the database as a spool: one without the spool's tables gets them, in one transaction.
@@ -114,6 +116,15 @@ impl<S: Alter> Spool<S> {
 
         // An empty one becomes an empty spool.
         ensures begun { IfOk result (λ spool. HasCleanDisk (disk spool) → Rests (state S.Store conn) → Stands no_schema (state S.Store conn).now → Shows spool empty) }
+        ensures welcomed { IfErr result (λ e. Stands no_schema (state S.Store conn).now → (e.fault ≢ StoreFault.Foreign) × (e.fault ≢ StoreFault.Newer)) }
+
+        // Want of memory leaves it as it was.
+        ensures memory { IfErr result (λ e. HasCleanDisk (state S.Store e.conn) → Rests (state S.Store conn) → e.fault ≡ StoreFault.Memory → IsAsBefore (state S.Store conn) (state S.Store e.conn)) }
+
+        // What a stop at its end leaves: the state that was encoded, or of an empty one nothing or an empty spool.
+        ensures stop_ok { IfOk result (λ spool. HasCleanDisk (disk spool) → Rests (state S.Store conn) → StopsAs (state S.Store conn) (disk spool)) }
+        ensures stop_err { IfErr result (λ e. HasCleanDisk (state S.Store e.conn) → Rests (state S.Store conn) → StopsAs (state S.Store conn) (state S.Store e.conn)) }
+        ensures stop_begun { IfOk result (λ spool. HasCleanDisk (disk spool) → Rests (state S.Store conn) → Stands no_schema (state S.Store conn).now → Leaves (disk spool) empty) }
     {
         let mut conn = conn;
         match prepare(&mut conn) {

@@ -5,18 +5,24 @@ ghost use Rattle.sqlite.specs.Held.{state};
 ghost use Rattle.sqlite.specs.State.{HasCleanDisk};
 ghost use Rattle.uu_sql.specs.Steps.{Told};
 ghost use Rattle.uu_store.specs.Schema.{site};
-ghost use Rattle.uu_store.specs.Machine.{is_known, listed_heads, job_at};
+ghost use Rattle.uu_core.specs.Refusal.{decided};
+ghost use Rattle.uu_core.specs.Verdict.{job_refusal};
+ghost use Rattle.uu_store.specs.Machine.{is_known, listed_heads, job_at, head_at};
 ghost use Rattle.uu_store.specs.Encoded.{Encodes, Obeys, Turns, Replies, IsFresh, job_shown};
 
-use crate::command::{Command, Reply};
-use crate::decision::decide_queue;
-use crate::fault::{StoreFault, store_fault};
-use crate::job::{JobHead, NewJob};
-use crate::rows::{heads_in, job_in};
-use crate::statements::{add_job, add_system, ask_job, ask_jobs, ask_next, ask_system};
-use crate::times::SystemDef;
+use crate::columns::columns_of;
+use crate::command::Command;
+use crate::fault::{Halt, StoreFault, halt_fault, store_fault};
+use crate::rows::{first_head, heads_in, job_in};
+use crate::statements::{
+    add_job, add_system, ask_head, ask_job, ask_jobs, ask_next, ask_system, remove_job, set_queued,
+    set_rank,
+};
 use sqlite::{Alter, Connection, Error, Row};
 use std::alloc::Global;
+use uu_core::{By, JobHead, NewJob, Refusal, Reply, decide_job, decide_queue};
+use uu_names::Grade;
+use uu_times::{Moment, SystemDef};
 
 // Whether a system of this name is there.
 fn is_known<S: Alter>(conn: &mut Connection<S>, name: &str) -> Result<bool, Error>
@@ -48,7 +54,7 @@ fn next_number<S: Alter>(conn: &mut Connection<S>) -> Result<u32, Error>
     next_in(rows.as_slice())
 }
 
-fn define<S: Alter>(conn: &mut Connection<S>, system: &SystemDef) -> Result<Reply, Error>
+fn define<S: Alter>(conn: &mut Connection<S>, system: &SystemDef) -> Result<Reply, Halt>
     requires { conn.old.in_transaction ≡ false }
     ensures idle { conn.new.in_transaction ≡ false }
     ensures obeys { (s : _) → Obeys s (Command.Define system.now) (state S.Store conn.old) (state S.Store conn.new) result }
@@ -59,7 +65,7 @@ fn define<S: Alter>(conn: &mut Connection<S>, system: &SystemDef) -> Result<Repl
     Ok(Reply::Done)
 }
 
-fn queue<S: Alter>(conn: &mut Connection<S>, job: &NewJob) -> Result<Reply, Error>
+fn queue<S: Alter>(alloc: Global, conn: &mut Connection<S>, job: &NewJob) -> Result<Reply, Halt>
     requires { conn.old.in_transaction ≡ false }
     ensures idle { conn.new.in_transaction ≡ false }
     ensures obeys { (s : _) → Obeys s (Command.Queue job.now) (state S.Store conn.old) (state S.Store conn.new) result }
@@ -68,27 +74,123 @@ fn queue<S: Alter>(conn: &mut Connection<S>, job: &NewJob) -> Result<Reply, Erro
     let next = next_number(conn)?;
     match decide_queue(known, next, job) {
         Ok(number) => {
-            add_job(conn, number, job)?;
+            let columns = columns_of(alloc, job)?;
+            add_job(conn, number, &columns)?;
             Ok(Reply::Number(number))
         }
         Err(refusal) => Ok(Reply::Refused(refusal)),
     }
 }
 
+// The head of the job of this number, if it is there.
+fn head_of_job<S: Alter>(
+    alloc: Global,
+    conn: &mut Connection<S>,
+    number: u32,
+) -> Result<Option<JobHead>, Error>
+    ensures idle { conn.old.in_transaction ≡ false → conn.new.in_transaction ≡ false }
+    ensures told { Told site (state S.Store conn.old) (state S.Store conn.new) result }
+    ensures head { HasCleanDisk (state S.Store conn.new) → (s : _) → Encodes (state S.Store conn.old).now s → IfOk result (λ head. head ≡ head_at s number) }
+{
+    let rows = ask_head(conn, number)?;
+    match first_head(alloc, &rows) {
+        Ok(head) => Ok(head),
+        Err(fault) => Err(fault.as_error()),
+    }
+}
+
+// Whether the job of this number may be touched, and if not, why.
+fn judge<S: Alter>(
+    alloc: Global,
+    conn: &mut Connection<S>,
+    number: u32,
+    by: &By,
+) -> Result<Result<(), Refusal>, Error>
+    ensures idle { conn.old.in_transaction ≡ false → conn.new.in_transaction ≡ false }
+    ensures told { Told site (state S.Store conn.old) (state S.Store conn.new) result }
+    ensures decision { HasCleanDisk (state S.Store conn.new) → (s : _) → Encodes (state S.Store conn.old).now s → IfOk result (λ decision. decision ≡ decided (job_refusal (head_at s number) by.now) tt) }
+{
+    let head = head_of_job(alloc, conn, number)?;
+    Ok(decide_job(head.as_ref(), by))
+}
+
+fn kill<S: Alter>(
+    alloc: Global,
+    conn: &mut Connection<S>,
+    number: u32,
+    by: &By,
+) -> Result<Reply, Halt>
+    requires { conn.old.in_transaction ≡ false }
+    ensures idle { conn.new.in_transaction ≡ false }
+    ensures obeys { (s : _) → Obeys s (Command.Kill number by.now) (state S.Store conn.old) (state S.Store conn.new) result }
+{
+    match judge(alloc, conn, number, by)? {
+        Ok(()) => {
+            remove_job(conn, number)?;
+            Ok(Reply::Done)
+        }
+        Err(refusal) => Ok(Reply::Refused(refusal)),
+    }
+}
+
+fn regrade<S: Alter>(
+    alloc: Global,
+    conn: &mut Connection<S>,
+    number: u32,
+    grade: Grade,
+    by: &By,
+) -> Result<Reply, Halt>
+    requires { conn.old.in_transaction ≡ false }
+    ensures idle { conn.new.in_transaction ≡ false }
+    ensures obeys { (s : _) → Obeys s (Command.Regrade number grade by.now) (state S.Store conn.old) (state S.Store conn.new) result }
+{
+    match judge(alloc, conn, number, by)? {
+        Ok(()) => {
+            set_rank(conn, number, u32::from(grade.rank()))?;
+            Ok(Reply::Done)
+        }
+        Err(refusal) => Ok(Reply::Refused(refusal)),
+    }
+}
+
+fn rejuvenate<S: Alter>(
+    alloc: Global,
+    conn: &mut Connection<S>,
+    number: u32,
+    at: &Moment,
+    by: &By,
+) -> Result<Reply, Halt>
+    requires { conn.old.in_transaction ≡ false }
+    ensures idle { conn.new.in_transaction ≡ false }
+    ensures obeys { (s : _) → Obeys s (Command.Rejuvenate number at.now by.now) (state S.Store conn.old) (state S.Store conn.new) result }
+{
+    match judge(alloc, conn, number, by)? {
+        Ok(()) => {
+            set_queued(conn, number, at.second as u32)?;
+            Ok(Reply::Done)
+        }
+        Err(refusal) => Ok(Reply::Refused(refusal)),
+    }
+}
+
 // The command's step, or the database's error.
-fn obey<S: Alter>(conn: &mut Connection<S>, command: &Command) -> Result<Reply, Error>
+fn obey<S: Alter>(alloc: Global, conn: &mut Connection<S>, command: &Command) -> Result<Reply, Halt>
     requires { conn.old.in_transaction ≡ false }
     ensures idle { conn.new.in_transaction ≡ false }
     ensures obeys { (s : _) → Obeys s command.now (state S.Store conn.old) (state S.Store conn.new) result }
 {
     match command {
         Command::Define(system) => define(conn, system),
-        Command::Queue(job) => queue(conn, job),
+        Command::Queue(job) => queue(alloc, conn, job),
+        Command::Kill { job, by } => kill(alloc, conn, *job, by),
+        Command::Regrade { job, grade, by } => regrade(alloc, conn, *job, *grade, by),
+        Command::Rejuvenate { job, at, by } => rejuvenate(alloc, conn, *job, at, by),
     }
 }
 
 /// Carries out one command.
 pub(crate) fn carry_out<S: Alter>(
+    alloc: Global,
     conn: &mut Connection<S>,
     command: &Command,
 ) -> Result<Reply, StoreFault>
@@ -97,9 +199,9 @@ pub(crate) fn carry_out<S: Alter>(
     ensures fresh { IfErr result IsFresh }
     ensures turns { (s : _) → Turns s command.now (state S.Store conn.old) (state S.Store conn.new) result }
 {
-    match obey(conn, command) {
+    match obey(alloc, conn, command) {
         Ok(reply) => Ok(reply),
-        Err(error) => Err(store_fault(conn, &error)),
+        Err(halt) => Err(halt_fault(conn, &halt)),
     }
 }
 

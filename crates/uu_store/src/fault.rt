@@ -5,6 +5,8 @@ ghost use Rattle.sqlite.specs.State.{HasCleanDisk, Survives, IsUnchanged};
 ghost use Rattle.uu_store.specs.Encoded.{IsFresh};
 ghost use Rattle.uu_store.specs.Codes.{fault_code, kind_of_error};
 ghost use Rattle.uu_store.specs.declared.fault.StoreFault.TheVariants.{Memory};
+ghost use Rattle.uu_store.specs.declared.fault.Halt.TheVariants.{Before, Commit};
+ghost use Rattle.sqlite.specs.declared.error.Error.{Error};
 
 use sqlite::{Alter, Connection, Error as SqlError, ErrorCode};
 use std::alloc::{AllocError, AllocFailed};
@@ -73,6 +75,29 @@ impl<T: Drop> From<AllocFailed<T>> for StoreFault {
     }
 }
 
+/// Why a command stopped.
+#[derive(Debug, Drop)]
+pub(crate) enum Halt {
+    /// A statement or a growth before the commit was refused, and nothing is committed.
+    Before(SqlError),
+    /// The commit itself was refused, so that nobody knows what is kept.
+    Commit(SqlError),
+}
+
+impl From<SqlError> for Halt {
+    ghost from_gives = { λ error halt. halt ≡ Before error };
+
+    fn from(error: SqlError) -> Halt {
+        Halt::Before(error)
+    }
+}
+
+impl From<AllocError> for Halt {
+    fn from(_refused: AllocError) -> Halt {
+        Halt::Before(SqlError::SqliteFailure(ErrorCode::OutOfMemory))
+    }
+}
+
 /// Which part of the store an error of the database tells of.
 pub(crate) fn kind_of(error: &SqlError) -> StoreKind
     ensures { result ≡ kind_of_error error.now }
@@ -99,5 +124,21 @@ pub(crate) fn store_fault<S: Alter>(conn: &mut Connection<S>, error: &SqlError) 
         StoreFault::Memory
     } else {
         StoreFault::Store(kind_of(error))
+    }
+}
+
+/// What a command that stopped means for the caller. A commit that was refused is never want of memory, since what it
+/// left is not known; the database is not asked any more then.
+pub(crate) fn halt_fault<S: Alter>(conn: &mut Connection<S>, halt: &Halt) -> StoreFault
+    requires { conn.old.in_transaction ≡ false }
+    ensures idle { conn.new.in_transaction ≡ false }
+    ensures fresh { IsFresh result }
+    ensures commit { (error : Error) → halt.now ≡ Commit error → result ≡ StoreFault.Store (kind_of_error error) }
+    ensures memory { HasCleanDisk (state S.Store conn.new) → result ≡ Memory → IsTrue (state S.Store conn.old).is_open × IsUnchanged (state S.Store conn.old) (state S.Store conn.new) }
+    ensures survives { Survives (state S.Store conn.old) (state S.Store conn.new) (λ _. ⊥) }
+{
+    match halt {
+        Halt::Before(error) => store_fault(conn, error),
+        Halt::Commit(error) => StoreFault::Store(kind_of(error)),
     }
 }

@@ -1,21 +1,22 @@
 // Jobs as rows of their table, and back.
-ghost use Rattle.std.specs.Prelude.{◌≡◌, IfOk, pos, map, string_bytes, [], ◌∷◌, ◌++◌, option_map, slice_get};
+ghost use Rattle.std.specs.Prelude.{◌≡◌, ◌==◌, IfOk, IfSome, pos, map, string_bytes, [], ◌∷◌, ◌++◌, option_map, slice_get, IsTrue, All};
+ghost use Rattle.std.specs.List.{join_with_byte, slice_split};
+ghost use Rattle.uu_names.specs.Name.{is_word};
+ghost use Rattle.uu_store.specs.Columns.{HasWords};
 ghost use Rattle.sqlite.specs.Order.{column};
 ghost use Rattle.sqlite.specs.declared.types.Value.TheVariants.{Int, Text, Blob};
 ghost use Rattle.uu_store.specs.declared.rows.RowFault.TheVariants.{Memory};
 ghost use Rattle.uu_store.specs.Encoded.{kind_number, first_word, second_word, head_cells, cells_at, kind_of, IsFresh};
 
+use crate::columns::{EXECUTE, REQUEST, SEND};
 use crate::fault::{StoreFault, StoreKind};
-use crate::job::{JobHead, Kind};
 use sqlite::types::FromSql;
-use sqlite::{Error, Row};
-use std::alloc::{AllocFailed, Global};
+use sqlite::{Error, ErrorCode, Row};
+use std::alloc::{AllocError, AllocFailed, Global};
+use uu_core::{JobHead, Kind};
+use uu_map::Listed;
 use uu_names::{Grade, NameFault, SiteName, Word};
 use uu_sql::is_memory;
-
-const SEND: u32 = 0;
-
-const REQUEST: u32 = 1;
 
 /// Why a row is not read.
 #[derive(Clone, Copy, Debug, PartialEq, Eq)]
@@ -40,39 +41,29 @@ impl RowFault {
     }
 }
 
+impl RowFault {
+    /// The same as an error of the database.
+    pub(crate) fn as_error(self) -> Error {
+        match self {
+            RowFault::Memory => Error::SqliteFailure(ErrorCode::OutOfMemory),
+            RowFault::Bad => Error::QueryReturnedNoRows,
+        }
+    }
+}
+
+impl From<AllocError> for RowFault {
+    ghost from_gives = { λ _ fault. fault ≡ Memory };
+
+    fn from(_refused: AllocError) -> RowFault {
+        RowFault::Memory
+    }
+}
+
 impl<T: Drop> From<AllocFailed<T>> for RowFault {
     ghost from_gives = { λ _ fault. fault ≡ Memory };
 
     fn from(_refused: AllocFailed<T>) -> RowFault {
         RowFault::Memory
-    }
-}
-
-/// The number by which a row names the kind.
-pub(crate) fn kind_number(kind: &Kind) -> u32
-    ensures { result ≡ kind_number kind.now }
-{
-    match kind {
-        Kind::Send { .. } => SEND,
-        Kind::Request { .. } => REQUEST,
-    }
-}
-
-pub(crate) fn first_word(kind: &Kind) -> &str
-    ensures { result.now ≡ first_word kind.now }
-{
-    match kind {
-        Kind::Send { source, .. } => source.as_str(),
-        Kind::Request { source, .. } => source.as_str(),
-    }
-}
-
-pub(crate) fn second_word(kind: &Kind) -> &str
-    ensures { result.now ≡ second_word kind.now }
-{
-    match kind {
-        Kind::Send { target, .. } => target.as_str(),
-        Kind::Request { target, .. } => target.as_str(),
     }
 }
 
@@ -129,14 +120,53 @@ fn name_in(alloc: Global, row: &Row, at: usize) -> Result<SiteName, RowFault>
     }
 }
 
+fn word_of(alloc: Global, text: &str) -> Result<Word, RowFault>
+    ensures text { IfOk result (λ word. word ≡ text.now) }
+    ensures word { IfOk result (λ word. IsTrue (is_word word)) }
+{
+    match Word::parse(alloc, text) {
+        Ok(word) => Ok(word),
+        Err(fault) => Err(name_fault(fault)),
+    }
+}
+
 fn word_in(alloc: Global, row: &Row, at: usize) -> Result<Word, RowFault>
     ensures { IfOk result (λ word. column row.now at ≡ Text word) }
 {
     let text = text_in(row, at)?;
-    match Word::parse(alloc, text.as_str()) {
-        Ok(word) => Ok(word),
-        Err(fault) => Err(name_fault(fault)),
+    word_of(alloc, text.as_str())
+}
+
+// The parts of a text between its spaces.
+fn parts_of<'a>(alloc: Global, text: &'a str) -> Result<Vec<&'a str>, AllocError>
+    ensures { IfOk result (λ parts. map (λ part. part.now) parts.items ≡ slice_split (λ b. b == 32) text.now) }
+{
+    text.split(' ').collect(alloc)
+}
+
+// The words of a text that has one space between two.
+fn words_of(alloc: Global, text: &str) -> Result<Vec<Word>, RowFault>
+    ensures text { IfOk result (λ words. join_with_byte 32 words.items ≡ text.now) }
+    ensures words { IfOk result (λ words. All (λ word. IsTrue (is_word word)) words.items) }
+{
+    let mut words = Vec::new(alloc);
+    if text.is_empty() {
+        return Ok(words);
     }
+    let parts = parts_of(alloc, text)?;
+    for part in parts.as_slice() {
+        words.push(word_of(alloc, part)?)?;
+    }
+    Ok(words)
+}
+
+fn arguments_in(alloc: Global, row: &Row, at: usize) -> Result<Listed<Word>, RowFault>
+    ensures text { IfOk result (λ words. column row.now at ≡ Text (join_with_byte 32 words)) }
+    ensures words { IfOk result (λ words. All (λ word. IsTrue (is_word word)) words) }
+{
+    let text = text_in(row, at)?;
+    let words = words_of(alloc, text.as_str())?;
+    Ok(Listed::from_vec(words))
 }
 
 fn grade_in(row: &Row, at: usize) -> Result<Grade, RowFault>
@@ -150,21 +180,32 @@ fn grade_in(row: &Row, at: usize) -> Result<Grade, RowFault>
 }
 
 fn kind_in(alloc: Global, row: &Row) -> Result<Kind, RowFault>
-    ensures { IfOk result (λ kind. kind_of row.now ≡ Int (pos (kind_number kind)) ∷ Text (first_word kind) ∷ Text (second_word kind) ∷ []) }
+    ensures row { IfOk result (λ kind. kind_of row.now ≡ Int (pos (kind_number kind)) ∷ Text (first_word kind) ∷ Text (second_word kind) ∷ []) }
+    ensures words { IfOk result HasWords }
 {
     let number = number_in(row, 4)?;
-    let source = word_in(alloc, row, 6)?;
-    let target = word_in(alloc, row, 7)?;
+    let first = word_in(alloc, row, 6)?;
     match number {
-        SEND => Ok(Kind::Send { source, target }),
-        REQUEST => Ok(Kind::Request { source, target }),
+        SEND => Ok(Kind::Send {
+            source: first,
+            target: word_in(alloc, row, 7)?,
+        }),
+        REQUEST => Ok(Kind::Request {
+            source: first,
+            target: word_in(alloc, row, 7)?,
+        }),
+        EXECUTE => Ok(Kind::Execute {
+            command: first,
+            arguments: arguments_in(alloc, row, 7)?,
+        }),
         _ => Err(RowFault::Bad),
     }
 }
 
 /// The head of a job, of a row that begins with its columns.
 pub(crate) fn head_in(alloc: Global, row: &Row) -> Result<JobHead, RowFault>
-    ensures { IfOk result (λ head. cells_at row.now ≡ head_cells head) }
+    ensures row { IfOk result (λ head. cells_at row.now ≡ head_cells head) }
+    ensures words { IfOk result (λ head. HasWords head.kind) }
 {
     let number = number_in(row, 0)?;
     let system = name_in(alloc, row, 1)?;
@@ -186,7 +227,8 @@ pub(crate) fn head_in(alloc: Global, row: &Row) -> Result<JobHead, RowFault>
 
 /// The heads of jobs, of rows that begin with their columns.
 pub(crate) fn heads_in(alloc: Global, rows: &[Row]) -> Result<Vec<JobHead>, RowFault>
-    ensures { IfOk result (λ heads. map cells_at rows.now ≡ map head_cells heads.items) }
+    ensures rows { IfOk result (λ heads. map cells_at rows.now ≡ map head_cells heads.items) }
+    ensures words { IfOk result (λ heads. All (λ head. HasWords head.kind) heads.items) }
 {
     let mut heads = Vec::new(alloc);
     for row in rows {
@@ -195,9 +237,21 @@ pub(crate) fn heads_in(alloc: Global, rows: &[Row]) -> Result<Vec<JobHead>, RowF
     Ok(heads)
 }
 
+/// The head of a job of the first of the rows, if there is one.
+pub(crate) fn first_head(alloc: Global, rows: &[Row]) -> Result<Option<JobHead>, RowFault>
+    ensures row { IfOk result (λ found. option_map head_cells found ≡ option_map cells_at (slice_get rows.now 0)) }
+    ensures words { IfOk result (λ found. IfSome found (λ head. HasWords head.kind)) }
+{
+    match rows.first() {
+        Some(row) => Ok(Some(head_in(alloc, row)?)),
+        None => Ok(None),
+    }
+}
+
 /// The first of the rows as a job with its bytes, if there is one.
 pub(crate) fn job_in(alloc: Global, rows: &[Row]) -> Result<Option<(JobHead, Vec<u8>)>, RowFault>
-    ensures { IfOk result (λ found. option_map (λ job. head_cells job.0 ++ Blob job.1.items ∷ []) found ≡ option_map (λ row. cells_at row ++ column row 9 ∷ []) (slice_get rows.now 0)) }
+    ensures row { IfOk result (λ found. option_map (λ job. head_cells job.0 ++ Blob job.1.items ∷ []) found ≡ option_map (λ row. cells_at row ++ column row 9 ∷ []) (slice_get rows.now 0)) }
+    ensures words { IfOk result (λ found. IfSome found (λ job. HasWords job.0.kind)) }
 {
     match rows.first() {
         Some(row) => {

@@ -2,11 +2,11 @@
 ghost use Rattle.std.specs.Prelude.{◌≡◌, false};
 
 use crate::asked::{carry_out, find, list, next};
-use crate::command::{Command, Reply};
+use crate::command::Command;
 use crate::fault::StoreFault;
-use crate::job::JobHead;
 use sqlite::{Alter, Connection};
 use std::alloc::Global;
+use uu_core::{JobHead, Reply};
 
 /// A spool, over a connection that it owns.
 ///
@@ -62,7 +62,7 @@ impl<S: Alter> Spool<S> {
     }
 
     /// Carries out one command. Its last call of the database is the commit.
-    pub fn command(&mut self, command: Command) -> Result<Reply, StoreFault>
+    pub fn command(&mut self, alloc: Global, command: Command) -> Result<Reply, StoreFault>
         ensures marked { MatchResult result (λ _. (has_failed self.old ≡ false) × (has_failed self.new ≡ false)) (Marks (has_failed self.old) (has_failed self.new)) }
 
         // On a clean store a command is one step of the machine.
@@ -80,7 +80,7 @@ impl<S: Alter> Spool<S> {
         if self.failed {
             return Err(StoreFault::Failed);
         }
-        match carry_out(&mut self.conn, &command) {
+        match carry_out(alloc, &mut self.conn, &command) {
             Ok(reply) => Ok(reply),
             Err(fault) => Err(self.noted(fault)),
         }

@@ -1,16 +1,15 @@
 // The statements of the spool, one a function.
-ghost use Rattle.std.specs.Prelude.{◌≡◌, ◌<◌, ◌^◌, ◌-◌, ◌+◌, false, vec_len, pos, [], ◌∷◌, IfOk};
+ghost use Rattle.std.specs.Prelude.{◌≡◌, ◌<◌, ◌^◌, ◌-◌, ◌+◌, false, pos, [], ◌∷◌, IfOk};
 ghost use Rattle.sqlite.specs.Held.{state};
 ghost use Rattle.sqlite.specs.State.{HasCleanDisk, Shown};
 ghost use Rattle.sqlite.specs.declared.types.Value.TheVariants.{Int, Text};
 ghost use Rattle.uu_sql.specs.Steps.{Outcome, Both, Whole, Told};
-ghost use Rattle.uu_store.specs.Schema.{site, no_schema, with_spool, with_systems, ask_version, ask_next, ask_system, ask_jobs, ask_job};
-ghost use Rattle.uu_store.specs.Rows.{JobAdded, SystemAdded, NextSet, SpoolMade, SystemsMade, JobsMade, SpoolBegun, TablesMade};
-ghost use Rattle.uu_store.specs.Machine.{job_of};
-ghost use Rattle.uu_store.specs.Encoded.{stored};
+ghost use Rattle.uu_store.specs.Schema.{site, no_schema, with_spool, with_systems, ask_version, ask_next, ask_system, ask_jobs, ask_head, ask_job};
+ghost use Rattle.uu_store.specs.Rows.{JobAdded, JobRanked, JobQueued, JobGone, SystemAdded, NextSet, SpoolMade, SystemsMade, JobsMade, SpoolBegun, TablesMade};
+ghost use Rattle.uu_store.specs.Columns.{row_of};
 
-use crate::job::NewJob;
-use crate::rows::{first_word, kind_number, second_word};
+use crate::columns::JobColumns;
+use crate::fault::Halt;
 use sqlite::{Alter, Connection, Error, Row, Transaction, params};
 
 // ---- writes
@@ -25,25 +24,24 @@ fn insert_system<S: Alter>(tx: &mut Transaction<'_, S>, name: &str) -> Result<us
 fn insert_job<S: Alter>(
     tx: &mut Transaction<'_, S>,
     number: u32,
-    job: &NewJob,
+    columns: &JobColumns<'_>,
 ) -> Result<usize, Error>
-    requires { vec_len job.now.bytes < 2 ^ 32 }
     ensures same_reference { tx.new.conn.ghost_name ≡ tx.old.conn.ghost_name }
-    ensures outcome { Outcome site site (JobAdded (stored (job_of number job.now))) (state S.Store tx.old.conn.now) (state S.Store tx.new.conn.now) result }
+    ensures outcome { Outcome site site (JobAdded (row_of number columns.now)) (state S.Store tx.old.conn.now) (state S.Store tx.new.conn.now) result }
 {
     tx.execute(
         "INSERT INTO jobs (number, system, rank, user, kind, queued, first_word, second_word, size, bytes) VALUES (?1, ?2, ?3, ?4, ?5, ?6, ?7, ?8, ?9, ?10)",
         params![
             number,
-            job.system.as_str(),
-            u32::from(job.grade.rank()),
-            job.user.as_str(),
-            kind_number(&job.kind),
-            job.at.second as u32,
-            first_word(&job.kind),
-            second_word(&job.kind),
-            job.bytes.len() as u32,
-            &job.bytes
+            columns.system,
+            columns.rank,
+            columns.user,
+            columns.work.kind,
+            columns.queued,
+            columns.work.first_word,
+            columns.work.second_word.as_str(),
+            columns.size,
+            columns.bytes
         ],
     )
 }
@@ -55,46 +53,120 @@ fn update_next<S: Alter>(tx: &mut Transaction<'_, S>, next: u32) -> Result<usize
     tx.execute("UPDATE spool SET next = ?1", params![next])
 }
 
+fn update_rank<S: Alter>(
+    tx: &mut Transaction<'_, S>,
+    number: u32,
+    rank: u32,
+) -> Result<usize, Error>
+    ensures same_reference { tx.new.conn.ghost_name ≡ tx.old.conn.ghost_name }
+    ensures outcome { Outcome site site (JobRanked number rank) (state S.Store tx.old.conn.now) (state S.Store tx.new.conn.now) result }
+{
+    tx.execute(
+        "UPDATE jobs SET rank = ?2 WHERE number = ?1",
+        params![number, rank],
+    )
+}
+
+fn update_queued<S: Alter>(
+    tx: &mut Transaction<'_, S>,
+    number: u32,
+    second: u32,
+) -> Result<usize, Error>
+    ensures same_reference { tx.new.conn.ghost_name ≡ tx.old.conn.ghost_name }
+    ensures outcome { Outcome site site (JobQueued number second) (state S.Store tx.old.conn.now) (state S.Store tx.new.conn.now) result }
+{
+    tx.execute(
+        "UPDATE jobs SET queued = ?2 WHERE number = ?1",
+        params![number, second],
+    )
+}
+
+fn delete_job<S: Alter>(tx: &mut Transaction<'_, S>, number: u32) -> Result<usize, Error>
+    ensures same_reference { tx.new.conn.ghost_name ≡ tx.old.conn.ghost_name }
+    ensures outcome { Outcome site site (JobGone number) (state S.Store tx.old.conn.now) (state S.Store tx.new.conn.now) result }
+{
+    tx.execute("DELETE FROM jobs WHERE number = ?1", params![number])
+}
+
 fn insert_job_and_next<S: Alter>(
     tx: &mut Transaction<'_, S>,
     number: u32,
-    job: &NewJob,
+    columns: &JobColumns<'_>,
 ) -> Result<usize, Error>
-    requires size { vec_len job.now.bytes < 2 ^ 32 }
-    requires number { number < 2 ^ 32 - 1 }
+    requires { number < 2 ^ 32 - 1 }
     ensures same_reference { tx.new.conn.ghost_name ≡ tx.old.conn.ghost_name }
-    ensures outcome { Outcome site site (Both (JobAdded (stored (job_of number job.now))) (NextSet (number + 1))) (state S.Store tx.old.conn.now) (state S.Store tx.new.conn.now) result }
+    ensures outcome { Outcome site site (Both (JobAdded (row_of number columns.now)) (NextSet (number + 1))) (state S.Store tx.old.conn.now) (state S.Store tx.new.conn.now) result }
 {
-    insert_job(tx, number, job)?;
+    insert_job(tx, number, columns)?;
     update_next(tx, number + 1)
 }
 
 /// A system in one transaction.
-pub(crate) fn add_system<S: Alter>(conn: &mut Connection<S>, name: &str) -> Result<(), Error>
+pub(crate) fn add_system<S: Alter>(conn: &mut Connection<S>, name: &str) -> Result<(), Halt>
     requires { conn.old.in_transaction ≡ false }
     ensures idle { conn.new.in_transaction ≡ false }
     ensures whole { Whole site site (SystemAdded name.now) (state S.Store conn.old) (state S.Store conn.new) result }
 {
     let mut tx = conn.transaction();
     insert_system(&mut tx, name)?;
-    tx.commit()
+    tx.commit().map_err(Halt::Commit)
 }
 
 /// A job with its bytes and the next number in one transaction.
 pub(crate) fn add_job<S: Alter>(
     conn: &mut Connection<S>,
     number: u32,
-    job: &NewJob,
-) -> Result<(), Error>
-    requires size { vec_len job.now.bytes < 2 ^ 32 }
+    columns: &JobColumns<'_>,
+) -> Result<(), Halt>
     requires number { number < 2 ^ 32 - 1 }
     requires idle { conn.old.in_transaction ≡ false }
     ensures idle { conn.new.in_transaction ≡ false }
-    ensures whole { Whole site site (Both (JobAdded (stored (job_of number job.now))) (NextSet (number + 1))) (state S.Store conn.old) (state S.Store conn.new) result }
+    ensures whole { Whole site site (Both (JobAdded (row_of number columns.now)) (NextSet (number + 1))) (state S.Store conn.old) (state S.Store conn.new) result }
 {
     let mut tx = conn.transaction();
-    insert_job_and_next(&mut tx, number, job)?;
-    tx.commit()
+    insert_job_and_next(&mut tx, number, columns)?;
+    tx.commit().map_err(Halt::Commit)
+}
+
+/// A job's rank in one transaction.
+pub(crate) fn set_rank<S: Alter>(
+    conn: &mut Connection<S>,
+    number: u32,
+    rank: u32,
+) -> Result<(), Halt>
+    requires { conn.old.in_transaction ≡ false }
+    ensures idle { conn.new.in_transaction ≡ false }
+    ensures whole { Whole site site (JobRanked number rank) (state S.Store conn.old) (state S.Store conn.new) result }
+{
+    let mut tx = conn.transaction();
+    update_rank(&mut tx, number, rank)?;
+    tx.commit().map_err(Halt::Commit)
+}
+
+/// When a job was queued, in one transaction.
+pub(crate) fn set_queued<S: Alter>(
+    conn: &mut Connection<S>,
+    number: u32,
+    second: u32,
+) -> Result<(), Halt>
+    requires { conn.old.in_transaction ≡ false }
+    ensures idle { conn.new.in_transaction ≡ false }
+    ensures whole { Whole site site (JobQueued number second) (state S.Store conn.old) (state S.Store conn.new) result }
+{
+    let mut tx = conn.transaction();
+    update_queued(&mut tx, number, second)?;
+    tx.commit().map_err(Halt::Commit)
+}
+
+/// A job goes in one transaction.
+pub(crate) fn remove_job<S: Alter>(conn: &mut Connection<S>, number: u32) -> Result<(), Halt>
+    requires { conn.old.in_transaction ≡ false }
+    ensures idle { conn.new.in_transaction ≡ false }
+    ensures whole { Whole site site (JobGone number) (state S.Store conn.old) (state S.Store conn.new) result }
+{
+    let mut tx = conn.transaction();
+    delete_job(&mut tx, number)?;
+    tx.commit().map_err(Halt::Commit)
 }
 
 // ---- questions
@@ -135,6 +207,18 @@ pub(crate) fn ask_jobs<S: Alter>(conn: &mut Connection<S>) -> Result<Vec<Row>, E
     conn.query_all(
         "SELECT number, system, rank, user, kind, queued, first_word, second_word, size FROM jobs ORDER BY rank, number",
         &[],
+    )
+}
+
+/// The head of the job of this number, if it is there.
+pub(crate) fn ask_head<S: Alter>(conn: &mut Connection<S>, number: u32) -> Result<Vec<Row>, Error>
+    ensures idle { conn.old.in_transaction ≡ false → conn.new.in_transaction ≡ false }
+    ensures told { Told site (state S.Store conn.old) (state S.Store conn.new) result }
+    ensures rows { HasCleanDisk (state S.Store conn.new) → IfOk result (λ rows. Shown ask_head (Int (pos number) ∷ []) (state S.Store conn.old) (state S.Store conn.new) rows.items) }
+{
+    conn.query_all(
+        "SELECT number, system, rank, user, kind, queued, first_word, second_word, size FROM jobs WHERE number = ?1 ORDER BY number",
+        params![number],
     )
 }
 
@@ -218,12 +302,12 @@ fn create_tables<S: Alter>(tx: &mut Transaction<'_, S>) -> Result<usize, Error>
 }
 
 /// The tables of an empty spool in one transaction.
-pub(crate) fn create<S: Alter>(conn: &mut Connection<S>) -> Result<(), Error>
+pub(crate) fn create<S: Alter>(conn: &mut Connection<S>) -> Result<(), Halt>
     requires { conn.old.in_transaction ≡ false }
     ensures idle { conn.new.in_transaction ≡ false }
     ensures whole { Whole no_schema site TablesMade (state S.Store conn.old) (state S.Store conn.new) result }
 {
     let mut tx = conn.transaction();
     create_tables(&mut tx)?;
-    tx.commit()
+    tx.commit().map_err(Halt::Commit)
 }

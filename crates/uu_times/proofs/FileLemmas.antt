@@ -1,5 +1,5 @@
 -- A sys file read line by line says what its definition says.
-use Rattle.std.proofs.Common.{◌≡◌, ◌⊎◌, inl, inr, ℕ, ◌+◌, ◌≤◌, Bool, true, false, ◌||◌, cond, Option, None, Some, is_some, Result, Ok, Err, List, [], ◌∷◌, ◌++◌, length, nat_le, refl, ap, sym, ◌∙◌, append_assoc, append-nil}
+use Rattle.std.proofs.Common.{◌≡◌, inl, inr, ℕ, Bool, true, false, ◌||◌, cond, Option, None, Some, is_some, Result, Ok, Err, List, [], ◌∷◌, ◌++◌, length, nat_le, refl, ap, sym, ◌∙◌, append_assoc, append-nil}
 use Rattle.std.proofs.lemmas.Bool.{cases_Bool, cond-true, cond-false}
 use Rattle.std.proofs.lemmas.Map.Text.{is_eq-slice_cmp}
 use Rattle.std.proofs.lemmas.Slice.Eq.{bytes_eq-Decides}
@@ -22,9 +22,9 @@ use Rattle.uu_times.specs.declared.system.SysFile.{SysFile}
 use Rattle.uu_times.specs.Deeds.{◌>>=◌, line_says}
 use Rattle.uu_times.specs.Lines.{Numbered, joined}
 use Rattle.uu_times.specs.Reading.{Reading, Seen, has_seen, with_seen, no_reading, absorbed, absorbed_if, line_read, lines_read, file_of, file_read}
-use Rattle.uu_times.specs.Section.{Part, Parts, no_part, no_parts, number_or, system_of, all_systems, defaults_with, begin_part, with_line, with_retries}
+use Rattle.uu_times.specs.Section.{Part, Parts, no_part, no_parts, number_or, system_of, all_systems, begin_part, with_line, with_retries}
 use Rattle.uu_times.specs.System.{System}
-use Rattle.uu_times.specs.SysFile.{time_in, number_in, name_in, table_in, skip_in, known, section, present, last_of, part_of, systems_of, checked, checked_if, deeds_of, file_with, line_taken, sys_file_of}
+use Rattle.uu_times.specs.SysFile.{time_in, number_in, name_in, table_in, skip_in, known, section, present, last_of, part_of, systems_of, checked, checked_if, deeds_of, file_with, sys_file_of}
 use Rattle.uu_times.specs.Tables.{Tables, predefined_tables}
 
 -- names that were seen

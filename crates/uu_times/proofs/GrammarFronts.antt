@@ -1,6 +1,6 @@
 -- The front of a text that begins a list of simple strings, and the minutes of one that is written.
-use Rattle.std.proofs.Common.{◌≡◌, ◌⊎◌, inl, inr, ℕ, zero, suc, ◌+◌, ◌-◌, ◌*◌, ◌/◌, ◌%◌, ◌<◌, ◌≤◌, Bool, true, false, ◌&&◌, ◌||◌, cond, Option, None, Some, IfSome, option_map, option_and_then, option_to_list, Result, Ok, Err, List, [], ◌∷◌, ◌++◌, length, map, take, refl, ap, sym, subst, ◌∙◌, arith, nat_eq, nat_le, nat_lt, lit<}
-use Rattle.std.proofs.lemmas.Bool.{cond_both, cond-true, cond-false, cases_Bool, eqb-true, or_cases, false≢true}
+use Rattle.std.proofs.Common.{◌≡◌, inl, inr, ℕ, zero, suc, ◌+◌, ◌*◌, ◌/◌, ◌%◌, ◌<◌, ◌≤◌, Bool, true, false, ◌&&◌, ◌||◌, cond, Option, None, Some, IfSome, option_map, option_and_then, option_to_list, Result, Ok, Err, List, [], ◌∷◌, ◌++◌, length, map, take, refl, ap, sym, subst, ◌∙◌, arith, nat_eq, lit<}
+use Rattle.std.proofs.lemmas.Bool.{cond_both, eqb-true, or_cases, false≢true}
 use Rattle.std.specs.Char.{is_ascii_digit, to_ascii_lowercase}
 use Rattle.std.specs.List.{list_any}
 use Rattle.uu_times.specs.declared.days.Days.{Days}
@@ -9,10 +9,10 @@ use Rattle.uu_times.specs.declared.scan.Found.{Found}
 use Rattle.uu_times.specs.declared.scan.Place.{Place}
 use Rattle.uu_times.specs.declared.scan.Place.TheVariants.{Start, Letter, An, Named, From, Dash, To, Whole}
 use Rattle.uu_times.specs.Days.{spans, no_days, with_days, has_day, in_hours, has_minute}
-use Rattle.uu_times.specs.Grammar.{DayWord, word_days, Spelling, Spells, minutes_of, days_of, simple_of, has_spelled, BeginsList, IsLongestFront}
-use Rattle.uu_times.specs.Scan.{is_time, is_end, minute_of, last_minute, two_letters, more_digits, start_digit, end_digit, first_letter, second_letter, next_place, simple_at, is_separator, after, step, ending, going_on, scan, lower, list_of}
+use Rattle.uu_times.specs.Grammar.{DayWord, word_days, Spelling, Spells, minutes_of, days_of, simple_of, has_spelled, IsLongestFront}
+use Rattle.uu_times.specs.Scan.{is_time, is_end, minute_of, last_minute, two_letters, more_digits, start_digit, first_letter, second_letter, next_place, simple_at, is_separator, after, step, ending, going_on, scan, lower, list_of}
 use Rattle.uu_times.proofs.GrammarLemmas.{scan-next, scan-ending, start-digit, end-digit, lists-read}
-use Rattle.uu_times.proofs.GrammarReads.{Written, reads-lists}
+use Rattle.uu_times.proofs.GrammarReads.{reads-lists}
 
 -- what the next digit counts
 pub data IsUnit : ℕ → Type 0 where

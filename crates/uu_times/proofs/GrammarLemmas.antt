@@ -1,17 +1,17 @@
 -- Lists of simple strings that are written are read.
-use Rattle.std.proofs.Common.{◌≡◌, ◌⊎◌, inl, inr, ℕ, zero, suc, ◌+◌, ◌-◌, ◌*◌, ◌/◌, ◌%◌, ◌<◌, ◌≤◌, Bool, true, false, ◌&&◌, ◌||◌, cond, Option, None, Some, IfSome, option_map, option_and_then, Result, Ok, Err, List, [], ◌∷◌, ◌++◌, length, map, refl, ap, sym, subst, ◌∙◌, arith, append_assoc, append-nil, nat_eq, nat_le, nat_lt, lit<}
-use Rattle.std.proofs.lemmas.Bool.{cond_both, cond-true, cond-false, cases_eq, ne_eqb, eq-eqb, le-leb, lt-ltb, and_from, or_from, or_left, or_right}
+use Rattle.std.proofs.Common.{◌≡◌, ◌⊎◌, inl, inr, ℕ, ◌+◌, ◌-◌, ◌*◌, ◌/◌, ◌%◌, ◌<◌, true, false, cond, Option, None, Some, option_map, option_and_then, Ok, List, [], ◌∷◌, ◌++◌, length, map, refl, ap, sym, ◌∙◌, arith, append_assoc, append-nil, nat_eq, nat_lt}
+use Rattle.std.proofs.lemmas.Bool.{cond-true, cond-false, ne_eqb, eq-eqb, lt-ltb, and_from, or_from, or_left, or_right}
 use Rattle.std.proofs.lemmas.Bool.Decides.{nat_tests}
 use Rattle.std.specs.Char.{is_ascii_digit}
-use Rattle.std.specs.List.{flat_map, list_any}
+use Rattle.std.specs.List.{flat_map}
 use Rattle.uu_times.specs.declared.days.Days.{Days}
 use Rattle.uu_times.specs.declared.days.Simple.{Simple}
 use Rattle.uu_times.specs.declared.scan.Found.{Found}
 use Rattle.uu_times.specs.declared.scan.Place.{Place}
-use Rattle.uu_times.specs.declared.scan.Place.TheVariants.{Start, Letter, An, Named, From, Dash, To, Whole}
+use Rattle.uu_times.specs.declared.scan.Place.TheVariants.{Start, Named, From, Dash, To, Whole}
 use Rattle.uu_times.specs.Days.{no_days, with_days}
 use Rattle.uu_times.specs.Grammar.{DayWord, su, mo, tu, we, th, fr, sa, wk, any, word_text, word_days, Hours, Spelling, two_digits, hours_text, spelled, IsTime, IsEnd, AreHours, IsSpelling, Spells, minutes_of, days_of, simple_of}
-use Rattle.uu_times.specs.Scan.{is_time, is_end, minute_of, last_minute, more_digits, start_digit, end_digit, first_letter, next_place, simple_at, is_separator, after, step, ending, going_on, scan}
+use Rattle.uu_times.specs.Scan.{is_time, is_end, minute_of, last_minute, more_digits, start_digit, end_digit, first_letter, next_place, simple_at, is_separator, after, ending, going_on, scan}
 
 -- a byte that leads on
 pub scan-next : (place next : Place) (letter : ℕ) (rest : List ℕ) (simples : List Simple) → is_separator letter ≡ false → next_place place letter ≡ Some next

@@ -1,6 +1,6 @@
 -- What is read is a list of simple strings, and what isn't read has the longest front that begins one.
-use Rattle.std.proofs.Common.{◌≡◌, ◌⊎◌, inl, inr, ℕ, zero, suc, ◌+◌, ◌-◌, ◌*◌, ◌/◌, ◌%◌, ◌<◌, ◌≤◌, Bool, true, false, ◌&&◌, ◌||◌, cond, Option, None, Some, IfSome, option_map, option_and_then, Result, Ok, Err, List, [], ◌∷◌, ◌++◌, length, map, take, refl, ap, sym, subst, ◌∙◌, arith, append_assoc, append-nil, length-append, nat_eq, nat_le, nat_lt, lit<}
-use Rattle.std.proofs.lemmas.Bool.{cond_both, cond-true, cond-false, cases_Bool, cases_eq, ne_eqb, eq-eqb, eqb-true, ltb-true, leb-true, and_parts, or_cases, and_from}
+use Rattle.std.proofs.Common.{◌≡◌, ◌⊎◌, inl, inr, ℕ, ◌+◌, ◌-◌, ◌*◌, ◌/◌, ◌%◌, ◌<◌, ◌≤◌, Bool, true, false, ◌&&◌, cond, Option, None, Some, option_map, option_and_then, Result, Ok, Err, List, [], ◌∷◌, ◌++◌, length, map, refl, ap, sym, subst, ◌∙◌, arith, append_assoc, append-nil, length-append, nat_eq, nat_le, nat_lt}
+use Rattle.std.proofs.lemmas.Bool.{cond-true, cond-false, cases_Bool, eqb-true, ltb-true, leb-true, and_parts, or_cases}
 use Rattle.std.specs.Char.{is_ascii_digit}
 use Rattle.std.specs.List.{flat_map, list_any}
 use Rattle.uu_times.specs.declared.days.Days.{Days}
@@ -10,7 +10,7 @@ use Rattle.uu_times.specs.declared.scan.Place.{Place}
 use Rattle.uu_times.specs.declared.scan.Place.TheVariants.{Start, Letter, An, Named, From, Dash, To, Whole}
 use Rattle.uu_times.specs.Days.{no_days, with_days}
 use Rattle.uu_times.specs.Grammar.{DayWord, su, mo, tu, we, th, fr, sa, wk, any, word_text, word_days, Hours, Spelling, two_digits, hours_text, spelled, IsTime, IsEnd, AreHours, IsSpelling, Spells, minutes_of, days_of, simple_of}
-use Rattle.uu_times.specs.Scan.{is_time, is_end, minute_of, last_minute, two_letters, more_digits, start_digit, end_digit, first_letter, second_letter, next_place, simple_at, is_separator, after, step, ending, going_on, scan}
+use Rattle.uu_times.specs.Scan.{is_time, is_end, two_letters, more_digits, start_digit, end_digit, first_letter, second_letter, next_place, simple_at, is_separator, after, ending, going_on, scan}
 use Rattle.uu_times.proofs.GrammarLemmas.{written, place_behind, simple-behind, made}
 
 -- what an equation of options says

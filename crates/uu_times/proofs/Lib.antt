@@ -9,5 +9,6 @@ pub mod ReadingLemmas
 pub mod Runs
 pub mod ScanDaily
 pub mod ScanSteps
+pub mod TimeFronts
 pub mod UnionLemmas
 pub mod WordLemmas

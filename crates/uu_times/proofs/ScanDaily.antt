@@ -1,8 +1,7 @@
 -- The hours that a scan finds end within the day.
-use Rattle.std.proofs.Common.{◌≡◌, ◌⊎◌, ℕ, ◌+◌, ◌*◌, ◌/◌, ◌%◌, ◌-◌, ◌<◌, ◌≤◌, Bool, true, false, ◌&&◌, ◌||◌, cond, Option, None, Some, IfSome, Result, Ok, Err, IfOk, List, [], ◌∷◌, ◌++◌, All, refl, ap, sym, ◌∙◌, arith, nat_eq, nat_le, nat_lt, lit<, option_map, option_and_then, option_to_list}
+use Rattle.std.proofs.Common.{◌≡◌, ℕ, ◌/◌, ◌%◌, ◌<◌, Bool, true, false, ◌&&◌, ◌||◌, cond, Option, None, Some, IfSome, Result, Ok, Err, IfOk, List, [], ◌∷◌, All, refl, arith, nat_eq, nat_lt, lit<, option_map, option_and_then, option_to_list}
 use Rattle.std.proofs.lemmas.Bool.{cond_both, and_parts, ltb-true, both_ways}
 use Rattle.std.proofs.lemmas.Result.{IfOk-at_ok}
-use Rattle.std.proofs.lemmas.Bool.Decides.{nat_tests}
 use Rattle.std.proofs.lemmas.List.Elements.{All-nil, All-cons, All-append}
 use Rattle.std.specs.Char.{is_ascii_digit}
 use Rattle.std.specs.Str.{byte}
@@ -11,7 +10,7 @@ use Rattle.uu_times.specs.declared.days.Simple.{Simple}
 use Rattle.uu_times.specs.declared.scan.Found.{Found}
 use Rattle.uu_times.specs.declared.scan.Place.{Place}
 use Rattle.uu_times.specs.declared.scan.Place.TheVariants.{Start, Letter, An, Named, From, Dash, To, Whole}
-use Rattle.uu_times.specs.Scan.{is_time, is_end, minute_of, last_minute, two_letters, first_letter, second_letter, more_digits, start_digit, end_digit, next_place, simple_at, is_separator, after, step, ending, going_on, scan, lower, list_of}
+use Rattle.uu_times.specs.Scan.{is_time, is_end, minute_of, last_minute, two_letters, first_letter, second_letter, more_digits, start_digit, next_place, simple_at, is_separator, after, step, ending, going_on, scan, lower, list_of}
 use Rattle.uu_times.specs.Days.{no_days, with_days}
 use Rattle.uu_times.specs.Union.{IsDaily}
 

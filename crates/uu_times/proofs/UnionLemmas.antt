@@ -1,8 +1,8 @@
 -- The ranges of simple strings hold their minutes, and so do the runs that they are put together to.
-use Rattle.std.proofs.Common.{◌≡◌, ◌⊎◌, ℕ, zero, suc, ◌+◌, ◌*◌, ◌/◌, ◌%◌, ◌<◌, ◌≤◌, Bool, true, false, ◌&&◌, ◌||◌, cond, max, Option, None, Some, IfSome, List, [], ◌∷◌, ◌++◌, length, get_or, All, lit≤, inl, inr, refl, ap, sym, subst, ◌∙◌, arith, add-one, append_assoc, nat_eq, nat_le, nat_lt}
-use Rattle.std.specs.List.{flat_map, AllByRecursion}
+use Rattle.std.proofs.Common.{◌≡◌, ℕ, zero, suc, ◌+◌, ◌*◌, ◌/◌, ◌%◌, ◌<◌, ◌≤◌, Bool, true, false, ◌&&◌, ◌||◌, max, Option, None, Some, IfSome, List, [], ◌∷◌, ◌++◌, All, lit≤, refl, ap, sym, ◌∙◌, arith, add-one, nat_eq, nat_le, nat_lt}
+use Rattle.std.specs.List.{AllByRecursion}
 use Rattle.std.specs.List.Sorted.{IsNonDecreasingBy, IsPermutation}
-use Rattle.std.proofs.lemmas.Bool.{cond_both, cases_eq, cases_lt, cases_Bool, le-leb, lt-leb, leb-true, leb-false, eqb-true, eq-eqb, ne_eqb, lt-ltb, le-ltb, and_left}
+use Rattle.std.proofs.lemmas.Bool.{cond_both, leb-true, leb-false, eqb-true, lt-ltb, le-ltb, and_left}
 use Rattle.std.proofs.lemmas.Bool.Decides.{nat_tests}
 use Rattle.std.proofs.lemmas.List.Elements.{All-nil, All-cons, All-head, All-tail, All-append, recursion_from_All}
 use Rattle.std.proofs.lemmas.List.Folds.{list_any-append}

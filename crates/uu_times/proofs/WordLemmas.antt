@@ -1,7 +1,7 @@
 -- Words cut at blanks.
-use Rattle.std.proofs.Common.{◌≡◌, ℕ, zero, suc, ◌+◌, ◌-◌, ◌<◌, ◌≤◌, Bool, true, false, cond, List, [], ◌∷◌, ◌++◌, length, take, drop, get_or, filter, refl, ap, sym, subst, ◌∙◌, arith, append-nil, drop-cons, length-drop, length-take, take-append-drop, nat_lt, All}
-use Rattle.std.proofs.lemmas.Bool.{cond_both, cond-true, cond-false, cases_Bool, lt-ltb, both_ways}
-use Rattle.std.proofs.lemmas.List.{drop_all, get_or-drop, get_or-take, length-take-le}
+use Rattle.std.proofs.Common.{◌≡◌, ℕ, zero, suc, ◌-◌, ◌<◌, ◌≤◌, true, false, List, [], ◌∷◌, ◌++◌, length, take, drop, get_or, filter, refl, ap, sym, ◌∙◌, arith, append-nil, length-drop, take-append-drop, nat_lt, All}
+use Rattle.std.proofs.lemmas.Bool.{cond-true, lt-ltb, both_ways}
+use Rattle.std.proofs.lemmas.List.{get_or-drop, get_or-take, length-take-le}
 use Rattle.std.proofs.lemmas.List.Elements.{All-from_get_or, All-head, All-tail}
 use Rattle.std.proofs.lemmas.List.Splits.{slice_split_none, slice_split_at, slice_split-cons_yes}
 use Rattle.std.specs.List.{slice_split}

@@ -1,5 +1,5 @@
 -- Days of the week and hours of the day. Day 0 is Sunday.
-use Rattle.std.specs.Prelude.{ℕ, ◌/◌, ◌%◌, ◌+◌, ◌*◌, Bool, true, false, ◌&&◌, ◌||◌, nat_le, nat_lt, ◌==◌, if◌then◌else◌, Option, None, Some, List}
+use Rattle.std.specs.Prelude.{ℕ, ◌/◌, ◌%◌, Bool, true, false, ◌&&◌, ◌||◌, nat_le, ◌==◌, if◌then◌else◌, Option, None, Some, List}
 use Rattle.std.specs.List.{list_any}
 use Rattle.uu_times.specs.declared.days.Days.{Days}
 use Rattle.uu_times.specs.declared.days.Simple.{Simple}

@@ -1,9 +1,8 @@
 -- The lines of a sys file and their words (Taylor UUCP 1.07 manual, "Configuration File Overview"; that lines are joined before
 -- comments are cut is this project's choice).
-use Rattle.std.specs.Prelude.{ℕ, zero, suc, ◌+◌, ◌-◌, Bool, ◌&&◌, ◌||◌, nat_lt, ◌==◌, if◌then◌else◌, List, [], ◌∷◌, ◌++◌, length, take, slice_index, filter, Option, None, Some}
+use Rattle.std.specs.Prelude.{ℕ, ◌+◌, ◌-◌, Bool, ◌&&◌, ◌||◌, nat_lt, ◌==◌, if◌then◌else◌, List, [], ◌∷◌, ◌++◌, length, take, slice_index, filter, Option, None, Some}
 use Rattle.std.specs.List.{slice_split}
 use Rattle.std.specs.Str.{byte}
-use Rattle.std.specs.Str.Lines.{lines}
 
 -- a line with its number
 pub record Numbered : Type 0 where

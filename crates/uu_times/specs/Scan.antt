@@ -1,5 +1,5 @@
 -- Reading a list of simple strings, in lower case, byte by byte. `laws` says what is read and what is refused.
-use Rattle.std.specs.Prelude.{ℕ, suc, ◌+◌, ◌-◌, ◌*◌, ◌/◌, ◌%◌, Bool, ◌&&◌, ◌||◌, nat_lt, ◌==◌, if◌then◌else◌, Option, None, Some, option_map, option_and_then, option_to_list, Result, Ok, Err, List, [], ◌∷◌, ◌++◌, map, codes}
+use Rattle.std.specs.Prelude.{ℕ, ◌+◌, ◌-◌, ◌*◌, ◌/◌, ◌%◌, Bool, ◌&&◌, ◌||◌, nat_lt, ◌==◌, if◌then◌else◌, Option, None, Some, option_map, option_and_then, option_to_list, Result, Ok, Err, List, [], ◌∷◌, ◌++◌, map, codes}
 use Rattle.std.specs.List.{list_any}
 use Rattle.std.specs.Char.{is_ascii_digit, to_ascii_lowercase}
 use Rattle.std.specs.Str.{byte}

@@ -1,5 +1,5 @@
 -- The sections of a sys file, as they are read.
-use Rattle.std.specs.Prelude.{ℕ, ◌+◌, ◌≤◌, Option, None, Some, IfSome, unwrap_or, List, [], ◌∷◌, ◌++◌, length, All}
+use Rattle.std.specs.Prelude.{ℕ, ◌≤◌, Option, None, Some, IfSome, unwrap_or, List, [], ◌∷◌, ◌++◌, length, All}
 use Rattle.uu_times.specs.declared.system.Line.{Line}
 use Rattle.uu_times.specs.System.{System, HasRetry}
 

@@ -1,5 +1,5 @@
 -- What a sys file says of a system (Taylor UUCP 1.07 manual, "The Sys File"; the limits are this project's choice).
-use Rattle.std.specs.Prelude.{ℕ, ◌≤◌, List, length, Option, IfSome, All}
+use Rattle.std.specs.Prelude.{ℕ, ◌≤◌, List, length, IfSome, All}
 use Rattle.uu_times.specs.declared.system.Line.{Line}
 
 -- a system, the lines that say when it may be called, and after how many failures in a row calls become rare

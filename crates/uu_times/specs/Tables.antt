@@ -1,6 +1,6 @@
 -- Time strings and the timetables that they may name (Taylor UUCP 1.07 manual, "Time Strings"; how a timetable is named
 -- and the predefined ones are this project's choice).
-use Rattle.std.specs.Prelude.{ℕ, Bool, false, ◌&&◌, ◌||◌, not, nat_le, ◌==◌, if◌then◌else◌, Option, None, Some, is_some, Result, Ok, Err, List, [], ◌∷◌, length, slice_index, codes}
+use Rattle.std.specs.Prelude.{ℕ, Bool, false, ◌&&◌, ◌||◌, not, nat_le, ◌==◌, if◌then◌else◌, Option, None, Some, is_some, Result, Ok, Err, List, [], ◌∷◌, length, slice_index, codes, ⊤}
 use Rattle.std.specs.Cmp.Lexicographic.{slice_cmp}
 use Rattle.std.specs.Ordering.{nat_cmp}
 use Rattle.std.specs.BTreeMap.{insert_entry, is_at}
@@ -11,6 +11,7 @@ use Rattle.std.specs.Str.{byte, bytes_eq}
 use Rattle.uu_times.specs.declared.fault.TimeFault.{TimeFault}
 use Rattle.uu_times.specs.declared.fault.TimeFault.TheVariants.{BadTime, UnknownTable}
 use Rattle.uu_times.specs.Days.{any_has}
+use Rattle.uu_times.specs.Grammar.{IsLongestFront}
 use Rattle.uu_times.specs.Ranges.{maximal_runs}
 use Rattle.uu_times.specs.Scan.{lower, list_of, two_letters}
 
@@ -48,6 +49,11 @@ begins_with_day text =
 abbrev pub unreadable : ℕ → List ℕ → ℕ → TimeFault
 unreadable line text at =
     if is_table_name text && not (begins_with_day (lower text)) then UnknownTable line else BadTime line at
+
+-- the place that a fault of a text tells is the length of its longest front that begins a list of simple strings
+abbrev pub TellsFront : List ℕ → TimeFault → Type 0
+TellsFront text (BadTime line at) = IsLongestFront text at
+TellsFront text fault = ⊤
 
 -- the runs of a list of simple strings
 abbrev pub windows_in : ℕ → List ℕ → Result (List (ℕ × ℕ)) TimeFault

@@ -201,7 +201,8 @@ fn read_file(alloc: Global, text: &[u8]) -> Result<SysFile, TimeFault>
 /// section or else the defaults, and the numbers of the lines that were skipped, since they begin with another keyword.
 ///
 /// The fault is that of the first faulty line, with its number (Taylor UUCP 1.07 manual, "The Sys File"; a timetable may be
-/// defined here too). Time and memory grow as the text does, but for the search of names.
+/// defined here too). Time and memory grow as the text does, but for the search of names and the sort of a line's ranges; tests
+/// measure the time alone, and no clause speaks of either.
 pub fn read_sys(alloc: Global, text: &[u8]) -> Result<SysFile, TimeFault>
     requires { length text.now ≤ 4194304 }
     ensures { AnswersUnlessMemory result (sys_file_of text.now) }

@@ -1,11 +1,17 @@
-// Worked answers: moments, time strings, windows and sys files.
+// Worked answers: moments, time strings, windows and sys files; every front of some texts against a plain reader; and the time that
+// large texts take.
 use crate::{
     Line, Lines, Moment, SysFile, SystemDef, TimeFault, Timetables, Windows, read_sys, read_time,
 };
-use std::alloc::Global;
+use std::alloc::{AllocError, Global};
+use std::fmt::Write;
 use std::process::Abort;
+use std::rt::Clock;
 use std::test::Fail;
+use std::time::Instant;
 use uu_names::{Grade, SiteName};
+
+mod plain;
 
 // The set of a time string that may name a predefined timetable.
 fn windows(alloc: Global, text: &str) -> Result<Windows, TimeFault> {
@@ -88,8 +94,20 @@ fn ranges_of_time_strings(rt: HostRuntime) -> Result<(), Fail> {
         ]
         .as_slice()
     );
-    let night = windows(rt.alloc(), "Wk2305-0755,Sa,Su2305-1655")?;
-    assert_eq!(rt; windows(rt.alloc(), "night")?.ranges(), night.ranges());
+    Ok(())
+}
+
+#[test]
+fn timetables_that_are_there(rt: HostRuntime) -> Result<(), Fail> {
+    for (name, text) in [
+        ("Evening", "Wk1705-0755,Sa,Su"),
+        ("night", "Wk2305-0755,Sa,Su2305-1655"),
+        ("NONPEAK", "Wk1805-0655,Sa,Su"),
+    ] {
+        let named = windows(rt.alloc(), name)?;
+        let written = windows(rt.alloc(), text)?;
+        assert_eq!(rt; named.ranges(), written.ranges(), "{name}");
+    }
     Ok(())
 }
 
@@ -275,6 +293,209 @@ fn any_bytes_are_read(rt: HostRuntime) -> Result<(), Fail> {
         sys_fault(rt.alloc(), b"system \xff"),
         Some(TimeFault::BadSystem(1))
     );
-    assert!(rt; read_short(rt.alloc(), b"")?.systems.as_slice().is_empty());
+    assert_eq!(rt;
+        sys_fault(rt.alloc(), b"system a\x00"),
+        Some(TimeFault::BadSystem(1))
+    );
+    for (text, systems) in [
+        (b"".as_slice(), 0),
+        (b"\\".as_slice(), 0),
+        (b"system a\\".as_slice(), 1),
+        (b"system a\r\ntime Any\r\nsystem b\r\n".as_slice(), 2),
+    ] {
+        let file = read_short(rt.alloc(), text)?;
+        assert_eq!(rt; file.systems.as_slice().len(), systems);
+        assert!(rt; file.skipped.as_slice().is_empty());
+    }
+    Ok(())
+}
+
+#[test]
+fn ten_thousand_systems(rt: HostRuntime) -> Result<(), Fail> {
+    let mut text = String::new(rt.alloc());
+    for number in 0..10_000u32 {
+        write!(text, "system n{}\n", number)?;
+    }
+    assert!(rt; text.len() <= LARGEST);
+    let file = read_sys(rt.alloc(), text.as_bytes())?;
+    let systems = file.systems.as_slice();
+    assert_eq!(rt; systems.len(), 10_000);
+    let Some(last) = systems.last() else {
+        panic!(rt; "no system");
+    };
+    assert_eq!(rt; last.name.as_str(), "n9999");
+    text.push_str("system n0")?;
+    assert!(rt; text.len() <= LARGEST);
+    assert_eq!(rt;
+        read_sys(rt.alloc(), text.as_bytes()).err(),
+        Some(TimeFault::SystemTwice(10_001))
+    );
+    Ok(())
+}
+
+// Shows a set by its runs.
+fn show_windows(shown: &mut String, windows: &Windows) -> Result<(), AllocError> {
+    for (first, last) in windows.ranges() {
+        write!(shown, " {}-{}", first, last)?;
+    }
+    Ok(())
+}
+
+// What a short sys file says, as the plain reader shows it.
+fn shown(alloc: Global, text: &[u8]) -> Result<String, TimeFault> {
+    let file = read_short(alloc, text)?;
+    let mut shown = String::new(alloc);
+    for system in file.systems.as_slice() {
+        write!(shown, "{} {}:", system.name.as_str(), system.max_retries)?;
+        for line in system.lines() {
+            let grade = line.grade.as_byte() as char;
+            write!(shown, " {} {}:", grade, line.retry.unwrap_or(0))?;
+            show_windows(&mut shown, &line.windows)?;
+        }
+        shown.push_str("/")?;
+    }
+    for line in file.skipped.as_slice() {
+        write!(shown, "skipped {}/", line)?;
+    }
+    Ok(shown)
+}
+
+/// Sys files with rare forms, each up to its fault.
+const RARE_FORMS: [&str; 6] = [
+    "max-retries 3\r\nTIME never 0\ntimetable night Mo|tu0000-2400\ntimetable Rare-1 NIGHT\n\tsystem a.b-C_9 # one\nTimeGrade 9 SuMo2300-0100,Fr 525600\ntime rare-1\\\n 007\nport x \\\\# y \\# z\nmax-retries 12\nmax-retries 0\nsystem b\nsystem c\ntime nonpeak|Sa\\",
+    "system a\nmax-retries 1\ntime Any\nsystem A\n#\\\n\nsystem a",
+    "timetable t_1 Evening\r\n\r\n\\\r\n\\\ntimetable T_1 Moonlight\ntime Any",
+    "time Su2359-0000\ntimetable night Never\ntime Night 0000000001\n",
+    "timegrade N Any 1\\\n5\\\n\\# x\n",
+    "a\n\\\nb\\\n c\nd #\\\ne\nf\\",
+];
+
+#[test]
+fn each_front_of_a_sys_file_is_read_as_plainly(rt: HostRuntime) -> Result<(), Fail> {
+    let alloc = rt.alloc();
+    let mut texts = Vec::from_array(alloc, RARE_FORMS)?;
+    texts.push(DUKE_AND_UNC)?;
+    for text in &texts {
+        for end in 0..=text.len() {
+            if let Some(front) = text.get(..end) {
+                let got = shown(alloc, front.as_bytes());
+                assert_eq!(rt; got, plain::file(alloc, front), "at {front}");
+            }
+        }
+    }
+    Ok(())
+}
+
+/// Time strings, those of [`DUKE_AND_UNC`] among them, and texts that are none.
+const TIME_TEXTS: [&str; 14] = [
+    "Wk2305-0755",
+    "Wk1200-1300",
+    "Any",
+    "Lunch",
+    "Wk2305-0855,Sa,Su2305-1655",
+    "SuMoTuWeThFrSa0000-2400|wkANY2359-0000",
+    "Never",
+    "Evening",
+    "NonPeak",
+    "Night|Mo",
+    "MoTuXx",
+    "Wednesday",
+    "Any,,",
+    "Tu0960-1000",
+];
+
+#[test]
+fn each_front_of_a_time_string_is_read_as_plainly(rt: HostRuntime) -> Result<(), Fail> {
+    let alloc = rt.alloc();
+    for text in TIME_TEXTS {
+        for end in 0..=text.len() {
+            let Some(front) = text.get(..end) else {
+                continue;
+            };
+            match (windows(alloc, front), plain::minutes(alloc, &[], 0, front)) {
+                (Ok(windows), Ok(minutes)) => {
+                    for week in 0..10_080u16 {
+                        let is_in = minutes.get(week as usize).copied();
+                        assert_eq!(rt; Some(windows.contains(week)), is_in, "{week} of {front}");
+                    }
+                }
+                (Err(fault), Err(plain_fault)) => assert_eq!(rt; fault, plain_fault, "at {front}"),
+                _ => panic!(rt; "at {front}"),
+            }
+        }
+    }
+    Ok(())
+}
+
+// The bounds below leave room for a loaded machine.
+/// The most bytes of a sys file.
+const LARGEST: usize = 4_194_304;
+
+// Reads a large sys file; how many milliseconds that takes is beside it.
+fn read_timed(rt: &impl Clock, alloc: Global, text: &[u8]) -> Result<(SysFile, u128), Fail> {
+    if text.len() > LARGEST {
+        return Err(Fail::from("too large"));
+    }
+    let start = Instant::now(rt)?;
+    let file = read_sys(alloc, text)?;
+    Ok((file, start.elapsed(rt)?.as_millis()))
+}
+
+#[test]
+fn many_systems_are_read_in_seconds(rt: HostRuntime) -> Result<(), Fail> {
+    let alloc = rt.alloc();
+    let mut text = String::new(alloc);
+    for number in 0..131_072u32 {
+        write!(text, "system n{:06}\ntime Wk0900-1700\n", number)?;
+    }
+    assert_eq!(rt; text.len(), LARGEST);
+    let (file, taken) = read_timed(&rt, alloc, text.as_bytes())?;
+    println!(rt; "{taken} ms")?;
+    assert!(rt; taken < 10_000);
+    assert_eq!(rt; file.systems.as_slice().len(), 131_072);
+    Ok(())
+}
+
+#[test]
+fn one_long_line_is_read_in_seconds(rt: HostRuntime) -> Result<(), Fail> {
+    let alloc = rt.alloc();
+    let mut text = String::from_str(alloc, "time ")?;
+    for _ in 0..1_048_574u32 {
+        text.push_str("Any,")?;
+    }
+    text.push_str("Any")?;
+    assert_eq!(rt; text.len(), LARGEST);
+    let (file, taken) = read_timed(&rt, alloc, text.as_bytes())?;
+    println!(rt; "{taken} ms")?;
+    assert!(rt; taken < 10_000);
+    assert!(rt; file.systems.as_slice().is_empty());
+    Ok(())
+}
+
+// Copies of the runs would take 174 gigabytes.
+#[test]
+fn systems_share_the_runs_of_the_defaults(rt: HostRuntime) -> Result<(), Fail> {
+    let alloc = rt.alloc();
+    let mut text = String::from_str(alloc, "timetable Even Any0000-0000")?;
+    for minute in 1..720u32 {
+        let (hour, minute) = (minute / 30, minute % 30 * 2);
+        write!(text, ",Any{hour:02}{minute:02}-{hour:02}{minute:02}")?;
+    }
+    for _ in 0..32 {
+        text.push_str("\ntime Even")?;
+    }
+    for number in 0..270_000u32 {
+        write!(text, "\nsystem n{:06}", number)?;
+    }
+    let (file, taken) = read_timed(&rt, alloc, text.as_bytes())?;
+    println!(rt; "{taken} ms")?;
+    assert!(rt; taken < 10_000);
+    assert_eq!(rt; file.systems.as_slice().len(), 270_000);
+    for system in file.systems.as_slice() {
+        assert_eq!(rt; system.lines().len(), 32);
+        for line in system.lines() {
+            assert_eq!(rt; line.windows.ranges().len(), 5_040);
+        }
+    }
     Ok(())
 }

@@ -9,7 +9,7 @@ ghost use Rattle.std.specs.Str.{bytes_eq};
 ghost use Rattle.uu_names.specs.Name.{is_site_name};
 ghost use Rattle.uu_times.specs.Fault.{AnswersUnlessMemory};
 ghost use Rattle.uu_times.specs.Scan.{lower};
-ghost use Rattle.uu_times.specs.Tables.{is_table_byte, is_table_rest, is_table_name, table_at, with_table, with_list, begins_with_day, unreadable, windows_in, time_of, predefined_tables};
+ghost use Rattle.uu_times.specs.Tables.{is_table_byte, is_table_rest, is_table_name, table_at, with_table, with_list, begins_with_day, unreadable, TellsFront, windows_in, time_of, predefined_tables};
 
 use crate::scan::{Unlisted, list_of, two_letters};
 use crate::union::windows_of;
@@ -226,7 +226,8 @@ pub(crate) fn time_of(
 /// with a day word, and else `BadTime(0, at)`, where `at` is the length of the longest front of the text that begins a list of
 /// simple strings.
 pub fn read_time(alloc: Global, text: &str, tables: &Timetables) -> Result<Windows, TimeFault>
-    ensures { AnswersUnlessMemory result (time_of tables.now 0 text.now) }
+    ensures value { AnswersUnlessMemory result (time_of tables.now 0 text.now) }
+    ensures offset { IfErr result (TellsFront text.now) }
 {
     time_of(alloc, tables, 0, text.as_bytes())
 }

@@ -1,136 +1,156 @@
--- The readings of a line's parts, and when they fail.
-use Rattle.std.proofs.Common.{◌≡◌, ◌≢◌, ℕ, ◌&&◌, List, Option, Some, None, Result, Ok, Err, Bool, true, false, IsTrue, if◌then◌else◌, codes, slice_index, option_map, length, nat_le, refl, sym, ap, ◌∙◌, subst, arith}
-use Rattle.std.specs.Box.{box_value}
-use Rattle.std.specs.Prelude.{Box}
+-- The readings of a line's parts.
+use Rattle.std.proofs.Common.{◌≡◌, ◌≢◌, ◌∙◌, ap, sym, refl, ℕ, zero, suc, ◌<◌, List, [], ◌∷◌, ◌++◌, Option, Some, None, Result, Ok, Err, map, take, length, get_or, slice_get, slice_index_or, option_map, codes, subst, arith}
+use Rattle.std.specs.List.{All}
+use Rattle.std.proofs.Math.Seq.{take-suc}
+use Rattle.std.proofs.lemmas.List.{get_or-map, length-map}
+use Rattle.std.proofs.lemmas.List.Elements.{All-append}
+use Rattle.uu_names.specs.Path.{IsPathText}
 use Rattle.std.specs.Str.Parse.{ExplainsUnsignedError, HasUnsignedDigitsIfOk, ParsesUnsigned}
 use Rattle.std.specs.declared.num.ParseIntError.{ParseIntError}
-use Rattle.clap.specs.Words.{Row, Text}
-use Rattle.clap.specs.Matches.{TriesOne}
+use Rattle.clap.specs.Words.{Row, Text, ReadsOne, found_of, matches_of, one_of, rows_of, fault_of, subcommand_rows_of}
 use Rattle.clap.specs.Simple.{subcommand_rows}
-use Rattle.clap.specs.Walk.{rows_of}
-use Rattle.clap.specs.Matches.{first_value}
-use Rattle.clap.specs.declared.parser.matches.Found.{Found}
-use Rattle.clap.proofs.WalkLemmas.{first_value-rows}
-use Rattle.uu_names.specs.Name.{has_form, is_site_byte, is_site_name, is_word, is_word_byte, site_name_of, word_of}
-use Rattle.clap.specs.declared.parser.matches.SubCommand.{SubCommand}
+use Rattle.clap.specs.declared.parser.matches.ArgMatches.{ArgMatches}
 use Rattle.clap.specs.declared.parser.matches.ArgMatches.TheViews.{out-SubCommand}
-use Rattle.uu_names.specs.Fault.{AnswersUnlessMemory}
-use Rattle.uu_names.specs.declared.fault.NameFault.{NameFault}
-use Rattle.uu_names.specs.declared.fault.NameFault.TheVariants as name
-use Rattle.uuspool.specs.Lines.{IsSecond, IsSiteAt, IsWordAt, IsWordsWhere, MeansTask}
+use Rattle.clap.specs.declared.parser.matches.SubCommand.{SubCommand}
+use Rattle.std.specs.Box.{box_value}
+use Rattle.std.specs.Prelude.{Box}
+use Rattle.uuspool.specs.Commands.{program}
+use Rattle.uuspool.specs.declared.line.CallLine.{CallLine}
+use Rattle.uu_names.specs.Name.{word_of}
+use Rattle.uuspool.specs.Lines.{Answers, HasEntriesOf, IsAnswerTo, Means, MeansLineOf, mail_by, mail_to, word_at, IsNumberOf, IsWordsWhere, UnlessMemory, and_then, named, words_of}
 use Rattle.uuspool.specs.declared.fault.Fault.{Fault}
 use Rattle.uuspool.specs.declared.fault.Fault.TheVariants as fault
-use Rattle.uuspool.specs.declared.line.Task.{Task}
-use Rattle.uuspool.specs.declared.line.Task.TheVariants as task
 
 -- where P holds, Q does
 pub IsWordsWhere-weaker : (P Q : Type 0) (f : Fault) → (P → Q) → IsWordsWhere P f → IsWordsWhere Q f
 IsWordsWhere-weaker P Q (fault.Words text help) weaker where_it = weaker where_it
+IsWordsWhere-weaker P Q (fault.Name why) weaker where_it = where_it
+IsWordsWhere-weaker P Q (fault.Time why) weaker where_it = where_it
+IsWordsWhere-weaker P Q fault.TwoSystems weaker where_it = where_it
 IsWordsWhere-weaker P Q fault.Memory weaker where_it = tt
 IsWordsWhere-weaker P Q fault.Input weaker where_it = where_it
 IsWordsWhere-weaker P Q (fault.Store why) weaker where_it = where_it
 IsWordsWhere-weaker P Q fault.Read weaker where_it = where_it
 IsWordsWhere-weaker P Q fault.Write weaker where_it = where_it
 
-err_is_not_ok : {V E : Type 0} (e : E) (v : V) → (let answer : Result V E = Err e in answer ≡ Ok v) → ⊥
-err_is_not_ok e v is = cc
+-- of a fault that is no want of memory, what holds of it
+pub err_weaker : {V W : Type 0} (P : Result V Fault → Type 0) (Q : Result W Fault → Type 0) (f : Fault)
+    → (P (Err f) → Q (Err f)) → UnlessMemory P (Err f) → UnlessMemory Q (Err f)
+err_weaker P Q (fault.Words text help) weaker holds = holds
+err_weaker P Q (fault.Name why) weaker holds = weaker holds
+err_weaker P Q (fault.Time why) weaker holds = holds
+err_weaker P Q fault.TwoSystems weaker holds = weaker holds
+err_weaker P Q fault.Memory weaker holds = tt
+err_weaker P Q fault.Input weaker holds = holds
+err_weaker P Q (fault.Store why) weaker holds = holds
+err_weaker P Q fault.Read weaker holds = holds
+err_weaker P Q fault.Write weaker holds = holds
 
--- what `u64` answers to a text
-abbrev pub ReadAs : Text → Result ℕ ParseIntError → Type 0
-ReadAs t r = ParsesUnsigned 64 10 t r × ExplainsUnsignedError 10 t r × HasUnsignedDigitsIfOk t r
+-- a fault of the first reading is that of both
+pub answers_then : {V W : Type 0} (f : Fault) (first : Result V Fault) (next : V → Result W Fault)
+    → Answers (Err f) first → Answers (Err f) (and_then first next)
+answers_then f first next answers =
+    err_weaker (λ a. a ≡ first) (λ a. a ≡ and_then first next) f (λ is. ap (λ r. and_then r next) is) answers
+
+-- what `parse` answers to a text at a number of so many bits
+abbrev pub ReadAs : ℕ → Text → Result ℕ ParseIntError → Type 0
+ReadAs bits t r = ParsesUnsigned bits 10 t r × ExplainsUnsignedError 10 t r × HasUnsignedDigitsIfOk t r
 
 -- what is read of an entry is its number
-pub second_is_read : (entry : Option Text) (at : Option ℕ)
-    → (entry ≡ None → at ≡ None) → ((t : Text) → entry ≡ Some t → TriesOne ReadAs t (Ok at)) → IsSecond entry at
-second_is_read None None none value = tt
-second_is_read None (Some n) none value = let bad : Some n ≡ None = none refl in absurd cc
-second_is_read (Some t) None none value = value t refl
-second_is_read (Some t) (Some n) none value = (value t refl).0
+pub number_is_read : (bits : ℕ) (entry : Option Text) (read : Option ℕ)
+    → (entry ≡ None → read ≡ None) → ((t : Text) → entry ≡ Some t → ReadsOne (ReadAs bits) t read) → IsNumberOf bits entry read
+number_is_read bits None None none value = tt
+number_is_read bits None (Some n) none value = let bad : Some n ≡ None = none refl in absurd cc
+number_is_read bits (Some t) None none value = λ number is. (value t refl).1.0 is.0
+number_is_read bits (Some t) (Some n) none value = (value t refl).0
 
--- where reading fails, the entry is no number
-pub second_is_not_read : (entry : Option Text) (e : ParseIntError)
-    → (let answer : Result (Option ℕ) ParseIntError = Err e in entry ≡ None → answer ≡ Ok None)
-    → ((t : Text) → entry ≡ Some t → TriesOne ReadAs t (Err e)) → ¬ ((at : Option ℕ) × IsSecond entry at)
-second_is_not_read None e none value (at, is) = absurd (err_is_not_ok _ _ (none refl))
-second_is_not_read (Some t) e none value (None, is) = is
-second_is_not_read (Some t) e none value (Some n, is) = (value t refl).0 is.0
+-- both readings came to a value
+pub both_ok : (first : Result (List ℕ) Fault) (others : Result (List (List ℕ)) Fault) (words : List (List ℕ))
+    → and_then first (λ word. and_then others (λ more. Ok (word ∷ more))) ≡ Ok words
+    → (word : List ℕ) × (more : List (List ℕ)) × (first ≡ Ok word) × (others ≡ Ok more) × (words ≡ word ∷ more)
+both_ok (Err f) others words is = absurd cc
+both_ok (Ok word) (Err f) words is = absurd cc
+both_ok (Ok word) (Ok more) words is = (word, more, refl, refl, cc)
 
--- a text that is answered as a name is that name
-pub checked_ok : (b d : Bool) (text word : List ℕ) (x y : NameFault) → Ok word ≡ (if b then (if d then Ok text else Err x) else Err y) → (word ≡ text) × IsTrue (b && d)
-checked_ok true true text word x y e = (cc, refl)
-checked_ok true false text word x y e = absurd cc
-checked_ok false d text word x y e = absurd cc
+-- one more text
+pub words_next : {B : Type 0} (f : B → Text) (xs : List B) (i : ℕ) (d : B) (words : List (List ℕ)) (word : List ℕ) → i < length xs
+    → words_of (take i (map f xs)) ≡ Ok words → Ok word ≡ named (word_of (f (slice_index_or xs i d)))
+    → words_of (take (suc i) (map f xs)) ≡ Ok (words ++ word ∷ [])
+words_next f [] i d words word inside so_far is = absurd (omega arith)
+words_next f (x ∷ xs) zero d words word inside so_far is =
+    let none : [] ≡ words = cc in
+    ap (λ r. and_then r (λ w. Ok (w ∷ []))) (sym is) ∙ ap (λ ws. Ok (ws ++ word ∷ [])) none
+words_next f (x ∷ xs) (suc i) d words word inside so_far is =
+    let (head, more, first, others, whole) = both_ok (named (word_of (f x))) (words_of (take i (map f xs))) words so_far in
+    let next = words_next f xs i d more word (omega arith) others is in
+    ap (λ r. and_then r (λ w. and_then (words_of (take (suc i) (map f xs))) (λ ws. Ok (w ∷ ws)))) first
+    ∙ ap (λ r. and_then r (λ ws. Ok (head ∷ ws))) next
+    ∙ ap (λ ws. Ok (ws ++ word ∷ [])) (sym whole)
 
--- and one that is refused is none
-pub checked_err : (b d : Bool) (text : List ℕ) (x y f : NameFault) → Err f ≡ (if b then (if d then Ok text else Err x) else Err y) → IsTrue (b && d) → ⊥
-checked_err true true text x y f e is = cc
-checked_err true false text x y f e is = cc
-checked_err false d text x y f e is = cc
+-- a text that is no word stops the reading
+pub words_stop : {B : Type 0} (f : B → Text) (xs : List B) (i : ℕ) (d : B) (words : List (List ℕ)) (why : Fault) → i < length xs
+    → words_of (take i (map f xs)) ≡ Ok words → Err why ≡ named (word_of (f (slice_index_or xs i d))) → Err why ≡ words_of (map f xs)
+words_stop f [] i d words why inside so_far is = absurd (omega arith)
+words_stop f (x ∷ xs) zero d words why inside so_far is =
+    ap (λ r. and_then r (λ w. and_then (words_of (map f xs)) (λ ws. Ok (w ∷ ws)))) is
+words_stop f (x ∷ xs) (suc i) d words why inside so_far is =
+    let (head, more, first, others, whole) = both_ok (named (word_of (f x))) (words_of (take i (map f xs))) words so_far in
+    ap (λ r. and_then r (λ ws. Ok (head ∷ ws))) (words_stop f xs i d more why (omega arith) others is)
+    ∙ ap (λ r. and_then r (λ w. and_then (words_of (map f xs)) (λ ws. Ok (w ∷ ws)))) (sym first)
 
--- an answer other than want of memory is the expected one
-pub answer_is : {V : Type 0} (f : NameFault) (expected : Result V NameFault) → f ≢ name.Memory → AnswersUnlessMemory (Err f) expected → Err f ≡ expected
-answer_is name.BadGrade expected other answer = answer
-answer_is (name.BadName at) expected other answer = answer
-answer_is (name.BadPath at) expected other answer = answer
-answer_is (name.BadWord at) expected other answer = answer
-answer_is name.NoEnvelope expected other answer = answer
-answer_is name.TooLong expected other answer = answer
-answer_is name.Memory expected other answer = absurd (other refl)
+-- one more path
+pub paths_next : {B : Type 0} (f : B → Text) (xs : List B) (i : ℕ) (d : B) (paths : List Text) (path : Text) → i < length xs
+    → (paths ≡ take i (map f xs)) × All IsPathText (take i (map f xs)) → path ≡ f (slice_index_or xs i d)
+    → IsPathText (f (slice_index_or xs i d)) → (paths ++ path ∷ [] ≡ take (suc i) (map f xs)) × All IsPathText (take (suc i) (map f xs))
+paths_next f xs i d paths path inside so_far is is_path =
+    let within : i < length (map f xs) = rw (length-map xs f) inside in
+    let item : get_or (map f xs) i (f d) ≡ f (slice_index_or xs i d) = get_or-map f xs i d (f d) inside in
+    let more : take (suc i) (map f xs) ≡ take i (map f xs) ++ f (slice_index_or xs i d) ∷ [] =
+    take-suc (map f xs) i (f d) within ∙ ap (λ t. take i (map f xs) ++ t ∷ []) item in
+    let last : All IsPathText (f (slice_index_or xs i d) ∷ []) = λ k e lt. one_path (f (slice_index_or xs i d)) is_path k e lt in (
+      ap (λ ps. ps ++ path ∷ []) so_far.0 ∙ ap (λ t. take i (map f xs) ++ t ∷ []) is ∙ sym more,
+      subst (λ ts. All IsPathText ts) (sym more) (All-append IsPathText (take i (map f xs)) (f (slice_index_or xs i d) ∷ []) so_far.1 last),
+    )
+  where
+    one_path : (t : Text) → IsPathText t → All IsPathText (t ∷ [])
+    one_path t is zero e lt = is
+    one_path t is (suc k) e lt = absurd (omega arith)
 
-differ : (a b : List ℕ) → slice_index a 0 ≢ slice_index b 0 → a ≢ b
-differ a b other e = other (ap (λ t. slice_index t 0) e)
+-- what the entries mean is what the words mean
+means_words : (words : List Text) (found : ArgMatches) (meant : Result CallLine Fault) → HasEntriesOf words found
+    → MeansLineOf (word_at (codes "as") (rows_of (found_of found))) (one_of (codes "at") (rows_of (found_of found))) (subcommand_rows_of found) meant
+    → Means words meant
+means_words words found meant entries means =
+    let same_rows = subst (λ rows. MeansLineOf (word_at (codes "as") rows) (one_of (codes "at") rows) (subcommand_rows_of found) meant) entries.1 means in
+    subst (λ entered. MeansLineOf (word_at (codes "as") (matches_of program words)) (one_of (codes "at") (matches_of program words)) entered meant) entries.2 same_rows
 
--- what a line of `send` says
-pub send_parts : (said : Text) (rows : List Row) (asked : Task) → said ≡ codes "send" → MeansTask said rows asked
-    → ((system : List ℕ) × IsSiteAt (codes "system") rows system)
-    × ((source : List ℕ) × IsWordAt (codes "from") rows source)
-    × ((target : List ℕ) × IsWordAt (codes "to") rows target)
-send_parts said rows task.Load is means = let bad : codes "load" ≡ codes "send" = sym means ∙ is in absurd (differ (codes "load") (codes "send") (omega arith) bad)
-send_parts said rows (task.Send system source target) is means = ((system, means.1), (source, means.2), (target, means.3))
-send_parts said rows task.List is means = let bad : codes "list" ≡ codes "send" = sym means ∙ is in absurd (differ (codes "list") (codes "send") (omega arith) bad)
+-- and so the answer is the words'
+pub answers_words : (words : List Text) (found : ArgMatches) (answer : Result CallLine Fault) → HasEntriesOf words found
+    → UnlessMemory (MeansLineOf (word_at (codes "as") (rows_of (found_of found))) (one_of (codes "at") (rows_of (found_of found))) (subcommand_rows_of found)) answer
+    → IsAnswerTo words answer
+answers_words words found (Ok line) entries means = (entries.0, means_words words found (Ok line) entries means)
+answers_words words found (Err (fault.Words text help)) entries means = absurd means
+answers_words words found (Err (fault.Name why)) entries means = (entries.0, means_words words found (Err (fault.Name why)) entries means)
+answers_words words found (Err (fault.Time why)) entries means = absurd means
+answers_words words found (Err fault.TwoSystems) entries means = (entries.0, means_words words found (Err fault.TwoSystems) entries means)
+answers_words words found (Err fault.Memory) entries means = tt
+answers_words words found (Err fault.Input) entries means = absurd means
+answers_words words found (Err (fault.Store why)) entries means = absurd means
+answers_words words found (Err fault.Read) entries means = absurd means
+answers_words words found (Err fault.Write) entries means = absurd means
 
--- no other subcommand means anything
-pub unknown_means_nothing : (said : Text) (rows : List Row) (asked : Task) → said ≢ codes "load" → said ≢ codes "send" → said ≢ codes "list" → MeansTask said rows asked → ⊥
-unknown_means_nothing said rows task.Load load send list means = load means
-unknown_means_nothing said rows (task.Send system source target) load send list means = send means.0
-unknown_means_nothing said rows task.List load send list means = list means
-
--- no word is given under an id that has no entry
-pub no_word : (f : Found) (id : Text) → None ≡ first_value f id → ¬ ((word : List ℕ) × IsWordAt id (rows_of f) word)
-no_word f id none (word, given) = let bad : None ≡ Some word = none ∙ first_value-rows f id ∙ given.0 in cc
-
-pub no_site : (f : Found) (id : Text) → None ≡ first_value f id → ¬ ((word : List ℕ) × IsSiteAt id (rows_of f) word)
-no_site f id none (word, given) = let bad : None ≡ Some word = none ∙ first_value-rows f id ∙ given.0 in cc
-
--- the text of an entry, answered as a word
-pub word_given : (f : Found) (id text word : Text) → Some text ≡ first_value f id → Ok word ≡ word_of text → IsWordAt id (rows_of f) word
-word_given f id text word at ok =
-    let parts = checked_ok (has_form is_word_byte text) (nat_le (length text) 255) text word _ _ ok in
-    let whole : Some word ≡ Some text = ap Some parts.0 in
-    (sym (first_value-rows f id) ∙ sym at ∙ sym whole, subst (λ t. IsTrue (is_word t)) (sym parts.0) parts.1)
-
-pub site_given : (f : Found) (id text name : Text) → Some text ≡ first_value f id → Ok name ≡ site_name_of text → IsSiteAt id (rows_of f) name
-site_given f id text name at ok =
-    let parts = checked_ok (has_form is_site_byte text) (nat_le (length text) 63) text name _ _ ok in
-    let whole : Some name ≡ Some text = ap Some parts.0 in
-    (sym (first_value-rows f id) ∙ sym at ∙ sym whole, subst (λ t. IsTrue (is_site_name t)) (sym parts.0) parts.1)
-
--- the text of an entry, refused as a word
-pub word_refused : (f : Found) (id text : Text) (why : NameFault) → Some text ≡ first_value f id
-    → AnswersUnlessMemory (let answer : Result Text NameFault = Err why in answer) (word_of text) → why ≢ name.Memory → ¬ ((word : List ℕ) × IsWordAt id (rows_of f) word)
-word_refused f id text why at answer other (word, given) =
-    let same : Some text ≡ Some word = at ∙ first_value-rows f id ∙ given.0 in
-    let text_is : text ≡ word = cc in
-    checked_err (has_form is_word_byte text) (nat_le (length text) 255) text _ _ why (answer_is why (word_of text) other answer)
-    (subst (λ t. IsTrue (is_word t)) (sym text_is) given.1)
-
-pub site_refused : (f : Found) (id text : Text) (why : NameFault) → Some text ≡ first_value f id
-    → AnswersUnlessMemory (let answer : Result Text NameFault = Err why in answer) (site_name_of text) → why ≢ name.Memory → ¬ ((word : List ℕ) × IsSiteAt id (rows_of f) word)
-site_refused f id text why at answer other (word, given) =
-    let same : Some text ≡ Some word = at ∙ first_value-rows f id ∙ given.0 in
-    let text_is : text ≡ word = cc in
-    checked_err (has_form is_site_byte text) (nat_le (length text) 63) text _ _ why (answer_is why (site_name_of text) other answer)
-    (subst (λ t. IsTrue (is_site_name t)) (sym text_is) given.1)
+-- `clap` refuses the words
+pub refuses_words : (words : List Text) (why : Fault) → IsWordsWhere (fault_of program words ≢ []) why
+    → (let answer : Result CallLine Fault = Err why in IsAnswerTo words answer)
+refuses_words words (fault.Words text help) refused = refused
+refuses_words words (fault.Name why) refused = absurd refused
+refuses_words words (fault.Time why) refused = absurd refused
+refuses_words words fault.TwoSystems refused = absurd refused
+refuses_words words fault.Memory refused = tt
+refuses_words words fault.Input refused = absurd refused
+refuses_words words (fault.Store why) refused = absurd refused
+refuses_words words fault.Read refused = absurd refused
+refuses_words words fault.Write refused = absurd refused
 
 -- the subcommand that was entered, by its name and its entries
 pub entered_is : {Z : Type 0} (sub : Option (Box SubCommand Z)) (said : Text) (rows : List Row)
@@ -138,3 +158,10 @@ pub entered_is : {Z : Type 0} (sub : Option (Box SubCommand Z)) (said : Text) (r
     → option_map (λ p. p.1) (subcommand_rows sub) ≡ Some rows → subcommand_rows sub ≡ Some (said, rows)
 entered_is None said rows name_is rows_are = absurd cc
 entered_is (Some b) said rows name_is rows_are = cc
+
+-- the task of addresses, by the first of them
+pub mail_first : (grade : ℕ) (addresses : List Text) (first : Text) → Some first ≡ slice_get addresses 0 → mail_by grade first addresses ≡ mail_to grade addresses
+mail_first grade [] first is = absurd cc
+mail_first grade (address ∷ addresses) first is =
+    let same : first ≡ address = cc in
+    ap (λ f. mail_by grade f (address ∷ addresses)) same

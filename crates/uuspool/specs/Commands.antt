@@ -1,6 +1,8 @@
 -- The program's command line, in the terms of `clap`. The subcommands and options are this project's
 -- choice.
 use Rattle.std.specs.Prelude.{ℕ, List, Some, [], ◌∷◌, true, codes}
+use Rattle.std.specs.Str.{byte}
+use Rattle.clap.specs.Lexer.{usize_max}
 use Rattle.clap.specs.Words.{App, Rule, new_rule, new_app, with_rule, with_subcommand}
 use Rattle.clap.specs.Simple.{on_top}
 use Rattle.clap.specs.declared.builder.value_parser.ValueParser.TheVariants.{Unsigned}
@@ -25,25 +27,66 @@ user_option = record (new_rule (codes "as")) {
 abbrev pub argument : List ℕ → Rule
 argument id = record (new_rule id) { value_names = 1; required = true }
 
+-- the last argument, of which there may be any number from `least` on
+abbrev pub arguments : List ℕ → ℕ → Rule
+arguments id least = record (new_rule id) {
+  value_names = 1;
+  range = Some (record { start_inclusive = least; end_inclusive = usize_max });
+}
+
+-- `-g GRADE`
+abbrev pub grade_option : Rule
+grade_option = record (new_rule (codes "grade")) {
+  short = Some (byte "g");
+  value_names = 1;
+  defaults = codes "N" ∷ [];
+}
+
+-- `JOB`, a whole number of at most 4,294,967,295
+abbrev pub job_argument : Rule
+job_argument = record (argument (codes "job")) { parser = Some (Unsigned 0 4_294_967_295) }
+
 abbrev pub load_command : App
 load_command = new_app (codes "load")
+
+-- `NAME SYSTEM FROM TO [-g GRADE]`
+abbrev pub file_command : List ℕ → App
+file_command name =
+    with_rule (with_rule (with_rule (with_rule (new_app name) (argument (codes "system")))
+    (argument (codes "from"))) (argument (codes "to"))) grade_option
+
+-- `exec [-g GRADE] SYSTEM COMMAND [ARG..]`
+abbrev pub exec_command : App
+exec_command =
+    with_rule (with_rule (with_rule (with_rule (new_app (codes "exec")) grade_option)
+    (argument (codes "system"))) (argument (codes "command"))) (arguments (codes "argument") 0)
+
+-- `mail [-g GRADE] ADDRESS..`
+abbrev pub mail_command : App
+mail_command =
+    with_rule (with_rule (new_app (codes "mail")) grade_option)
+    (record (arguments (codes "address") 1) { required = true })
 
 abbrev pub list_command : App
 list_command = new_app (codes "list")
 
--- `send SYSTEM FROM TO`
-abbrev pub send_command : App
-send_command =
-    with_rule (with_rule (with_rule (new_app (codes "send")) (argument (codes "system")))
-    (argument (codes "from"))) (argument (codes "to"))
+-- `show JOB`
+abbrev pub show_command : App
+show_command = with_rule (new_app (codes "show")) job_argument
 
 -- the words begin after the program's name, and a subcommand has to be there
 abbrev pub without_options : App
 without_options = on_top (λ s. record s { no_binary_name = true; subcommand_required = true })
     (new_app (codes "uuspool"))
 
+abbrev pub without_subcommands : App
+without_subcommands = with_rule (with_rule without_options second_option) user_option
+
+abbrev pub with_handing_in : App
+with_handing_in =
+    with_subcommand (with_subcommand (with_subcommand (with_subcommand (with_subcommand without_subcommands
+    load_command.top) (file_command (codes "send")).top) (file_command (codes "request")).top)
+    exec_command.top) mail_command.top
+
 abbrev pub program : App
-program =
-    with_subcommand (with_subcommand (with_subcommand
-    (with_rule (with_rule without_options second_option) user_option)
-    load_command.top) send_command.top) list_command.top
+program = with_subcommand (with_subcommand with_handing_in list_command.top) show_command.top

@@ -1,7 +1,12 @@
 -- What the program tells of a fault: its number, its exit status and its line. All of it is this
 -- project's choice.
-use Rattle.std.specs.Prelude.{ℕ, ◌++◌, ◌∷◌, [], true, false, List, codes}
+use Rattle.std.specs.Prelude.{ℕ, ◌==◌, ◌++◌, ◌∷◌, [], true, false, List, codes, if◌then◌else◌}
+use Rattle.std.specs.Fmt.{decimal}
 use Rattle.std.specs.String.{string_bytes}
+use Rattle.uu_names.specs.declared.fault.NameFault.{NameFault}
+use Rattle.uu_names.specs.declared.fault.NameFault.TheVariants as name
+use Rattle.uu_times.specs.declared.fault.TimeFault.{TimeFault}
+use Rattle.uu_times.specs.declared.fault.TimeFault.TheVariants as time
 use Rattle.uuspool.specs.declared.fault.Fault.{Fault}
 use Rattle.uuspool.specs.declared.fault.Fault.TheVariants as fault
 use Rattle.uu_store.specs.declared.fault.StoreFault.{StoreFault}
@@ -10,27 +15,90 @@ use Rattle.uu_store.specs.declared.fault.StoreFault.TheVariants as store
 -- the number of a fault
 abbrev pub code_of : Fault → ℕ
 code_of (fault.Words text help) = 1
+code_of (fault.Name why) = 3
+code_of (fault.Time why) = 4
+code_of fault.TwoSystems = 5
 code_of fault.Input = 6
 code_of (fault.Store why) = 7
 code_of fault.Read = 8
 code_of fault.Write = 9
 code_of fault.Memory = 10
 
+-- the status of a fault of a name: 4 for want of memory, else 2
+abbrev pub name_status : NameFault → ℕ
+name_status name.Memory = 4
+name_status _ = 2
+
+-- the status of a fault of a moment or a sys file: 4 for want of memory, else 2
+abbrev pub time_status : TimeFault → ℕ
+time_status time.Memory = 4
+time_status _ = 2
+
 -- the status of a fault of the spool: 4 for want of memory, else 3
 abbrev pub store_status : StoreFault → ℕ
 store_status store.Memory = 4
 store_status _ = 3
 
--- the exit status of a fault: 0 for help, 2 for words and input, 3 for the spool, 4 for want of memory
--- wherever it was met, 5 for reading and writing
+-- the exit status of a fault: 0 for help, 2 for words, names, times, addresses and input, 3 for the
+-- spool, 4 for want of memory wherever it was met, 5 for reading and writing
 abbrev pub status_of : Fault → ℕ
 status_of (fault.Words text true) = 0
 status_of (fault.Words text false) = 2
+status_of (fault.Name why) = name_status why
+status_of (fault.Time why) = time_status why
+status_of fault.TwoSystems = 2
 status_of fault.Input = 2
 status_of (fault.Store why) = store_status why
 status_of fault.Read = 5
 status_of fault.Write = 5
 status_of fault.Memory = 4
+
+-- what is said of a fault of a name
+abbrev pub name_text : NameFault → List ℕ
+name_text name.BadGrade = codes "name: BadGrade"
+name_text (name.BadName at) = codes "name: BadName"
+name_text (name.BadPath at) = codes "name: BadPath"
+name_text (name.BadWord at) = codes "name: BadWord"
+name_text name.NoEnvelope = codes "name: NoEnvelope"
+name_text name.TooLong = codes "name: TooLong"
+name_text name.Memory = codes "out of memory"
+
+-- the line of a text at which it has a fault, counted from 1, and 0 where the fault is of no line
+abbrev pub fault_place : TimeFault → ℕ
+fault_place time.MomentRange = 0
+fault_place time.OffsetRange = 0
+fault_place (time.BadTime line at) = line
+fault_place (time.UnknownTable line) = line
+fault_place (time.TableTwice line) = line
+fault_place (time.BadNumber line) = line
+fault_place (time.BadSystem line) = line
+fault_place (time.TooManyLines line) = line
+fault_place (time.SystemTwice line) = line
+fault_place (time.BadWords line) = line
+fault_place time.Memory = 0
+
+abbrev pub time_name : TimeFault → List ℕ
+time_name time.MomentRange = codes "MomentRange"
+time_name time.OffsetRange = codes "OffsetRange"
+time_name (time.BadTime line at) = codes "BadTime"
+time_name (time.UnknownTable line) = codes "UnknownTable"
+time_name (time.TableTwice line) = codes "TableTwice"
+time_name (time.BadNumber line) = codes "BadNumber"
+time_name (time.BadSystem line) = codes "BadSystem"
+time_name (time.TooManyLines line) = codes "TooManyLines"
+time_name (time.SystemTwice line) = codes "SystemTwice"
+time_name (time.BadWords line) = codes "BadWords"
+time_name time.Memory = codes "Memory"
+
+-- a name of a fault with the line of the text where it stands, if it stands in one
+abbrev pub placed : ℕ → List ℕ → List ℕ
+placed line name =
+    if line == 0 then codes "time: " ++ name else codes "line " ++ (decimal line ++ (codes ": " ++ name))
+
+-- what is said of a fault of a moment or a sys file
+abbrev pub time_text : TimeFault → List ℕ
+time_text time.Memory = codes "out of memory"
+time_text why = placed (fault_place why) (time_name why)
 
 -- what is said of a fault of the spool
 abbrev pub store_text : StoreFault → List ℕ
@@ -47,8 +115,21 @@ named text = codes "uuspool: " ++ text ++ 10 ∷ []
 -- the line of a fault: of words their own text, as it is
 abbrev pub line_of_fault : Fault → List ℕ
 line_of_fault (fault.Words text help) = string_bytes text
+line_of_fault (fault.Name why) = named (name_text why)
+line_of_fault (fault.Time why) = named (time_text why)
+line_of_fault fault.TwoSystems = named (codes "addresses of two systems")
 line_of_fault fault.Input = named (codes "too much input")
 line_of_fault (fault.Store why) = named (store_text why)
 line_of_fault fault.Read = named (codes "cannot read")
 line_of_fault fault.Write = named (codes "cannot write")
 line_of_fault fault.Memory = named (codes "out of memory")
+
+-- how the program tells a fault of a name that a line names: want of memory is its own fault
+abbrev pub told_name : NameFault → Fault
+told_name name.Memory = fault.Memory
+told_name why = fault.Name why
+
+-- and a fault of a moment
+abbrev pub told_time : TimeFault → Fault
+told_time time.Memory = fault.Memory
+told_time why = fault.Time why

@@ -1,29 +1,181 @@
 -- What the words of a line mean. The forms of words are those of `clap`; the lines themselves are this
 -- project's choice.
-use Rattle.std.specs.Prelude.{◌≡◌, Bool, true, false, ℕ, ◌^◌, ◌<◌, List, [], Option, Some, None, IsTrue, IsSomeAnd, ⊤, codes}
+use Rattle.std.specs.Prelude.{◌≡◌, ◌≢◌, ◌⊎◌, Bool, true, false, ℕ, ◌^◌, ◌<◌, List, [], ◌∷◌, Option, Some, None, Result, Ok, Err, All, ⊤, codes, if◌then◌else◌, map, take, slice_get, unwrap_or, ok_or}
+use Rattle.std.specs.List.{list_all}
 use Rattle.std.specs.Str.Parse.{IsNumeral, digits_value, without_leading_plus}
-use Rattle.clap.specs.Words.{Row, Text, first_of, one_of, matches_of, subcommand_of, fault_of}
+use Rattle.std.specs.Cmp.Lexicographic.{pointwise}
+use Rattle.std.specs.Prelude.{nat_eq}
+use Rattle.clap.specs.Words.{Row, Text, all_of, first_of, one_of, matches_of, subcommand_of, fault_of}
 use Rattle.clap.specs.Words.{found_of, rows_of, subcommand_rows_of}
 use Rattle.clap.specs.declared.parser.matches.ArgMatches.{ArgMatches}
-use Rattle.uu_names.specs.Name.{is_site_name, is_word}
+use Rattle.uu_names.specs.Grade.{rank_of}
+use Rattle.uu_names.specs.Name.{site_name_of, word_of}
+use Rattle.uu_names.specs.Path.{IsPathText, IsPathFault, first_hop, rest_of}
+use Rattle.uu_names.specs.declared.fault.NameFault.{NameFault}
+use Rattle.uu_names.specs.declared.fault.NameFault.TheVariants.{BadGrade}
+use Rattle.uu_names.specs.declared.fault.NameFault.TheVariants.{Memory as NoMemory}
 use Rattle.uuspool.specs.Commands.{program}
 use Rattle.uuspool.specs.declared.fault.Fault.{Fault}
-use Rattle.uuspool.specs.declared.fault.Fault.TheVariants.{Words, Memory}
+use Rattle.uuspool.specs.declared.fault.Fault.TheVariants.{Words, Name, TwoSystems, Memory}
 use Rattle.uuspool.specs.declared.line.CallLine.{CallLine}
 use Rattle.uuspool.specs.declared.line.Task.{Task}
 use Rattle.uuspool.specs.declared.line.Task.TheVariants as task
 
--- the text is this number, in decimal digits; a plus may stand before them
-abbrev pub IsNumber : Text → ℕ → Type 0
-IsNumber text number =
-    (IsNumeral 10 (without_leading_plus text) × (digits_value 10 (without_leading_plus text) < 2 ^ 64))
+-- ---- numbers
+
+-- the text is this number of so many bits, in decimal digits; a plus may stand before them
+abbrev pub IsNumber : ℕ → Text → ℕ → Type 0
+IsNumber bits text number =
+    (IsNumeral 10 (without_leading_plus text) × (digits_value 10 (without_leading_plus text) < 2 ^ bits))
     × (number ≡ digits_value 10 (without_leading_plus text))
 
--- the second of a text, if there is one
-abbrev pub IsSecond : Option Text → Option ℕ → Type 0
-IsSecond None None = ⊤
-IsSecond (Some text) (Some second) = IsNumber text second
-IsSecond _ _ = ⊥
+-- the number of an entry, if there is one
+abbrev pub IsNumberOf : ℕ → Option Text → Option ℕ → Type 0
+IsNumberOf bits None None = ⊤
+IsNumberOf bits None (Some number) = ⊥
+IsNumberOf bits (Some text) (Some number) = IsNumber bits text number
+IsNumberOf bits (Some text) None = (number : ℕ) → ¬ IsNumber bits text number
+
+-- ---- names, each a value or the fault that is told of it
+
+-- the value, or the fault of a name as the line's fault
+abbrev pub named : {V : Type 0} → Result V NameFault → Result V Fault
+named (Ok value) = Ok value
+named (Err fault) = Err (Name fault)
+
+-- what the one reading comes to, and then the next; the first fault is told
+abbrev pub and_then : {V W : Type 0} → Result V Fault → (V → Result W Fault) → Result W Fault
+and_then (Ok value) next = next value
+and_then (Err fault) next = Err fault
+
+-- the text of an entry; `clap` takes no line without a wanted one
+abbrev pub text_at : Text → List Row → Text
+text_at id rows = unwrap_or (first_of id rows) []
+
+-- the texts of an entry that has any number of them
+abbrev pub texts_at : Text → List Row → List Text
+texts_at id rows = unwrap_or (all_of id rows) []
+
+-- the entry of an id as a word, and as a site name
+abbrev pub word_at : Text → List Row → Result (List ℕ) Fault
+word_at id rows = named (word_of (text_at id rows))
+
+abbrev pub site_at : Text → List Row → Result (List ℕ) Fault
+site_at id rows = named (site_name_of (text_at id rows))
+
+-- texts, each as a word; the first that is none is told
+abbrev pub words_of : List Text → Result (List (List ℕ)) Fault
+words_of [] = Ok []
+words_of (text ∷ texts) =
+    and_then (named (word_of text)) (λ word. and_then (words_of texts) (λ words. Ok (word ∷ words)))
+
+-- the rank of a grade, which is one byte
+abbrev pub grade_of : Text → Result ℕ Fault
+grade_of (byte ∷ []) = named (ok_or (rank_of byte) BadGrade)
+grade_of _ = Err (Name BadGrade)
+
+-- the entry of `-g`
+abbrev pub grade_at : List Row → Result ℕ Fault
+grade_at rows = grade_of (text_at (codes "grade") rows)
+
+-- ---- tasks
+
+-- `NAME SYSTEM FROM TO [-g GRADE]`
+abbrev pub file_task : (List ℕ → List ℕ → List ℕ → ℕ → Task) → List Row → Result Task Fault
+file_task made rows =
+    and_then (site_at (codes "system") rows) (λ system.
+    and_then (word_at (codes "from") rows) (λ source.
+    and_then (word_at (codes "to") rows) (λ target.
+    and_then (grade_at rows) (λ grade. Ok (made system source target grade)))))
+
+-- `exec [-g GRADE] SYSTEM COMMAND [ARG..]`
+abbrev pub exec_task : List Row → Result Task Fault
+exec_task rows =
+    and_then (grade_at rows) (λ grade.
+    and_then (site_at (codes "system") rows) (λ system.
+    and_then (word_at (codes "command") rows) (λ command.
+    and_then (words_of (texts_at (codes "argument") rows)) (λ arguments.
+    Ok (task.Execute grade system command arguments)))))
+
+abbrev pub same_text : Text → Text → Bool
+same_text = pointwise nat_eq
+
+-- Addresses that are bang paths: each has to begin with the same system as the first, and the rests are what
+-- that is to do.
+abbrev pub mail_by : ℕ → Text → List Text → Result Task Fault
+mail_by grade first addresses =
+    if list_all (λ address. same_text (first_hop address) (first_hop first)) addresses
+    then Ok (task.Mail grade (first_hop first) (map rest_of addresses))
+    else Err TwoSystems
+
+-- `clap` takes no line without an address
+abbrev pub mail_to : ℕ → List Text → Result Task Fault
+mail_to grade [] = Err TwoSystems
+mail_to grade (address ∷ addresses) = mail_by grade address (address ∷ addresses)
+
+-- the first of the addresses that is no bang path, and why
+pub record IsBadAddress (addresses : List Text) (fault : NameFault) : Type 0 where
+  pub place : ℕ
+  pub address : Text
+  pub at : slice_get addresses place ≡ Some address
+  pub first : All IsPathText (take place addresses)
+  pub none : ¬ IsPathText address
+  pub why : IsPathFault address fault
+  pub told : fault ≢ NoMemory
+
+-- the addresses are told this fault, or it is want of memory
+abbrev pub IsAddressFault : List Text → Fault → Type 0
+IsAddressFault addresses (Name fault) = IsBadAddress addresses fault
+IsAddressFault addresses Memory = ⊤
+IsAddressFault addresses _ = ⊥
+
+-- addresses: where all are bang paths, the task, and else the fault of the first that is none
+abbrev pub MeansMail : ℕ → List Text → Result Task Fault → Type 0
+MeansMail grade addresses meant =
+    (All IsPathText addresses × (meant ≡ mail_to grade addresses))
+    ⊎ ((fault : NameFault) × IsBadAddress addresses fault × (meant ≡ Err (Name fault)))
+
+-- `mail [-g GRADE] ADDRESS..`
+abbrev pub MeansGradedMail : Result ℕ Fault → List Text → Result Task Fault → Type 0
+MeansGradedMail (Err fault) addresses meant = meant ≡ Err fault
+MeansGradedMail (Ok grade) addresses meant = MeansMail grade addresses meant
+
+-- `show JOB`; `clap` takes no line without a number
+abbrev pub MeansShow : Option Text → Result Task Fault → Type 0
+MeansShow entry meant =
+    (number : Option ℕ) × IsNumberOf 32 entry number × (meant ≡ Ok (task.Show (unwrap_or number 0)))
+
+-- none of the other names: `list`, since `clap` takes no further one
+pub record IsList (name : Text) : Type 0 where
+  pub load : name ≢ codes "load"
+  pub send : name ≢ codes "send"
+  pub request : name ≢ codes "request"
+  pub exec : name ≢ codes "exec"
+  pub mail : name ≢ codes "mail"
+  pub show : name ≢ codes "show"
+
+-- what a subcommand with these entries asks for, or the fault that is told
+abbrev pub MeansTask : Text → List Row → Result Task Fault → Type 0
+MeansTask name rows meant =
+    ((name ≡ codes "load") × (meant ≡ Ok task.Load))
+    ⊎ ((name ≡ codes "send") × (meant ≡ file_task task.Send rows))
+    ⊎ ((name ≡ codes "request") × (meant ≡ file_task task.Request rows))
+    ⊎ ((name ≡ codes "exec") × (meant ≡ exec_task rows))
+    ⊎ ((name ≡ codes "mail") × MeansGradedMail (grade_at rows) (texts_at (codes "address") rows) meant)
+    ⊎ ((name ≡ codes "show") × MeansShow (one_of (codes "job") rows) meant)
+    ⊎ (IsList name × (meant ≡ Ok task.List))
+
+-- a task takes an input
+abbrev pub takes_input : Task → Bool
+takes_input task.Load = true
+takes_input (task.Send system source target grade) = true
+takes_input (task.Request system source target grade) = false
+takes_input (task.Execute grade system command arguments) = true
+takes_input (task.Mail grade system rests) = true
+takes_input task.List = false
+takes_input (task.Show job) = false
+
+-- ---- lines
 
 -- `clap` accepts the words, and finds these entries in them
 abbrev pub HasEntriesOf : List Text → ArgMatches → Type 0
@@ -31,35 +183,53 @@ HasEntriesOf words found =
     (fault_of program words ≡ []) × (rows_of (found_of found) ≡ matches_of program words)
     × (subcommand_rows_of found ≡ subcommand_of program words)
 
--- the entry of an id is this word
-abbrev pub IsWordAt : Text → List Row → List ℕ → Type 0
-IsWordAt id rows word = (first_of id rows ≡ Some word) × IsTrue (is_word word)
+-- what the subcommand that was entered asks for; `clap` takes no line without one
+abbrev pub MeansEntered : Option (Text × List Row) → Result Task Fault → Type 0
+MeansEntered None meant = meant ≡ Ok task.List
+MeansEntered (Some entered) meant = MeansTask entered.0 entered.1 meant
 
--- the entry of an id is this site name
-abbrev pub IsSiteAt : Text → List Row → List ℕ → Type 0
-IsSiteAt id rows name = (first_of id rows ≡ Some name) × IsTrue (is_site_name name)
+abbrev pub line_with : Option ℕ → List ℕ → Result Task Fault → Result CallLine Fault
+line_with at user task = and_then task (λ task. Ok (record { at = at; user = user; task = task }))
 
--- a subcommand with these entries asks for this task
-abbrev pub MeansTask : Text → List Row → Task → Type 0
-MeansTask name rows task.Load = name ≡ codes "load"
-MeansTask name rows (task.Send system source target) =
-    (name ≡ codes "send") × IsSiteAt (codes "system") rows system
-    × IsWordAt (codes "from") rows source × IsWordAt (codes "to") rows target
-MeansTask name rows task.List = name ≡ codes "list"
+-- the line of a user, with an entry of `--at` and a subcommand; the user is looked at first
+abbrev pub MeansLineOf : Result (List ℕ) Fault → Option Text → Option (Text × List Row) → Result CallLine Fault → Type 0
+MeansLineOf (Err fault) second entered meant = meant ≡ Err fault
+MeansLineOf (Ok user) second entered meant =
+    (at : Option ℕ) × (task : Result Task Fault) × IsNumberOf 64 second at × MeansEntered entered task
+    × (meant ≡ line_with at user task)
 
--- a task takes an input
-abbrev pub takes_input : Task → Bool
-takes_input task.Load = true
-takes_input (task.Send system source target) = true
-takes_input task.List = false
+-- What words mean that `clap` accepts, those after the program's name: a line, or the first fault of its
+-- names.
+abbrev pub Means : List Text → Result CallLine Fault → Type 0
+Means words meant =
+    MeansLineOf (word_at (codes "as") (matches_of program words)) (one_of (codes "at") (matches_of program words))
+    (subcommand_of program words) meant
 
--- the words, those after the program's name, mean this line
-pub record MeansLine (words : List Text) (line : CallLine) : Type 0 where
-  -- `clap` accepts them
-  pub accepted : fault_of program words ≡ []
-  pub at : IsSecond (one_of (codes "at") (matches_of program words)) line.at
-  pub user : IsWordAt (codes "as") (matches_of program words) line.user
-  pub task : IsSomeAnd (subcommand_of program words) (λ found. MeansTask found.0 found.1 line.task)
+-- The answer to words is what they mean. A fault of words comes where `clap` refuses them or is asked for
+-- help, and nowhere else; want of memory may take the place of any answer, and no other fault comes.
+abbrev pub IsAnswerTo : List Text → Result CallLine Fault → Type 0
+IsAnswerTo words (Ok line) = (fault_of program words ≡ []) × Means words (Ok line)
+IsAnswerTo words (Err (Words text help)) = fault_of program words ≢ []
+IsAnswerTo words (Err (Name why)) = (fault_of program words ≡ []) × Means words (Err (Name why))
+IsAnswerTo words (Err TwoSystems) = (fault_of program words ≡ []) × Means words (Err TwoSystems)
+IsAnswerTo words (Err Memory) = ⊤
+IsAnswerTo words (Err _) = ⊥
+
+-- the words mean this line
+abbrev pub MeansLine : List Text → CallLine → Type 0
+MeansLine words line = (fault_of program words ≡ []) × Means words (Ok line)
+
+-- the answer is a value or a fault of names and has the property, or it is want of memory
+abbrev pub UnlessMemory : {V : Type 0} → (Result V Fault → Type 0) → Result V Fault → Type 0
+UnlessMemory P (Ok value) = P (Ok value)
+UnlessMemory P (Err (Name why)) = P (Err (Name why))
+UnlessMemory P (Err TwoSystems) = P (Err TwoSystems)
+UnlessMemory P (Err Memory) = ⊤
+UnlessMemory P (Err _) = ⊥
+
+-- the answer is the expected one, or want of memory
+abbrev pub Answers : {V : Type 0} → Result V Fault → Result V Fault → Type 0
+Answers answer expected = UnlessMemory (λ a. a ≡ expected) answer
 
 -- want of memory, or a fault of words, which comes only where P holds
 abbrev pub IsWordsWhere : Type 0 → Fault → Type 0

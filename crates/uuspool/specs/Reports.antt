@@ -4,9 +4,9 @@ use Rattle.std.specs.Fmt.{decimal}
 use Rattle.jiff.specs.Words.{civil_nanos, nanos_of_seconds, date_text, time_text}
 use Rattle.jiff.specs.declared.civil.datetimes.DateTime.{DateTime}
 use Rattle.uu_names.specs.Grade.{grade_bytes}
-use Rattle.uu_store.specs.declared.job.JobHead.{JobHead}
-use Rattle.uu_store.specs.declared.job.Kind.{Kind}
-use Rattle.uu_store.specs.declared.job.Kind.TheVariants.{Send, Request}
+use Rattle.uu_core.specs.declared.job.JobHead.{JobHead}
+use Rattle.uu_core.specs.declared.job.Kind.{Kind}
+use Rattle.uu_core.specs.declared.job.Kind.TheVariants.{Send, Request, Execute}
 
 -- what a clock that is `offset` minutes ahead of UTC shows at a second
 abbrev pub IsLocalTime : ℤ → ℕ → DateTime → Type 0
@@ -28,10 +28,11 @@ spaced [] = []
 spaced (text ∷ []) = text
 spaced (text ∷ more ∷ texts) = text ++ 32 ∷ spaced (more ∷ texts)
 
--- what is to be done with the job's file
+-- what is to be done with the job
 abbrev pub work_text : Kind → List ℕ
 work_text (Send source target) = spaced (codes "send" ∷ source ∷ target ∷ [])
 work_text (Request source target) = spaced (codes "request" ∷ source ∷ target ∷ [])
+work_text (Execute command arguments) = spaced (codes "exec" ∷ command ∷ arguments)
 
 -- the letter or digit of a grade
 abbrev pub grade_text : ℕ → List ℕ

@@ -1,26 +1,42 @@
 -- What a line does to the spool, what it prints, and its status. All of it is this project's choice.
-use Rattle.std.specs.Prelude.{◌≡◌, ℕ, ℤ, Some, List, [], ◌∷◌, ◌++◌, ⊤, codes, unwrap_or}
+use Rattle.std.specs.Prelude.{◌≡◌, ◌≢◌, ◌⊎◌, ℕ, ◌<◌, ◌≤◌, ℤ, Option, Some, None, List, [], ◌∷◌, ◌++◌, Err, IsTrue, length, ⊤, codes, unwrap_or}
 use Rattle.std.specs.Fmt.{decimal}
-use Rattle.uu_names.specs.Grade.{default_grade, rank_of}
+use Rattle.jiff.specs.Types.{DateTime}
+use Rattle.clap.specs.Words.{Text, fault_of}
+use Rattle.uu_names.specs.Envelope.{envelope_of}
+use Rattle.uu_times.specs.Moment.{IsPast, Shows, local_second}
+use Rattle.uu_times.specs.declared.fault.TimeFault.TheVariants.{MomentRange}
+use Rattle.uu_core.specs.State.{Job, head_of}
+use Rattle.uu_core.specs.declared.refusal.Refusal.{Refusal}
+use Rattle.uu_core.specs.declared.refusal.Refusal.TheVariants.{NoSystem, NoJob, NotYours, JobTwice, OtherSystem, Busy, TooLarge, NumbersOut, BadEntry}
+use Rattle.uu_core.specs.declared.command.Reply.{Reply}
+use Rattle.uu_core.specs.declared.command.Reply.TheVariants.{Done, Number, Refused}
+use Rattle.uu_core.specs.declared.job.Kind.{Kind}
+use Rattle.uu_core.specs.declared.job.Kind.TheVariants.{Send, Request, Execute}
+use Rattle.uu_core.specs.declared.job.NewJob.{NewJob}
 use Rattle.uu_store.specs.declared.command.Command.TheVariants.{Queue}
-use Rattle.uu_store.specs.declared.command.Refusal.{Refusal}
-use Rattle.uu_store.specs.declared.command.Refusal.TheVariants.{NoSystem, TooLarge, NumbersOut}
-use Rattle.uu_store.specs.declared.command.Reply.{Reply}
-use Rattle.uu_store.specs.declared.command.Reply.TheVariants.{Done, Number, Refused}
-use Rattle.uu_store.specs.declared.job.Kind.TheVariants.{Send}
-use Rattle.uu_store.specs.declared.job.NewJob.{NewJob}
-use Rattle.uu_store.specs.Machine.{State, after, listed_heads, reply_of}
-use Rattle.uuspool.specs.Reports.{IsReport}
+use Rattle.uu_store.specs.Machine.{State, after, job_at, listed_heads, reply_of}
+use Rattle.uuspool.specs.Commands.{program}
+use Rattle.uuspool.specs.Lines.{IsAnswerTo, MeansLine, takes_input}
+use Rattle.uuspool.specs.Reports.{IsJobLine, IsReport}
+use Rattle.uuspool.specs.declared.input.TheConstants.{INPUT_LIMIT}
 use Rattle.uuspool.specs.declared.fault.Fault.{Fault}
 use Rattle.uuspool.specs.declared.fault.Fault.TheVariants as fault
 use Rattle.uuspool.specs.declared.line.CallLine.{CallLine}
 use Rattle.uuspool.specs.declared.line.Task.{Task}
 use Rattle.uuspool.specs.declared.line.Task.TheVariants as task
+use Rattle.uuspool.specs.declared.settings.Settings.{Settings}
 
 abbrev pub refusal_name : Refusal → List ℕ
 refusal_name NoSystem = codes "NoSystem"
+refusal_name NoJob = codes "NoJob"
+refusal_name NotYours = codes "NotYours"
+refusal_name JobTwice = codes "JobTwice"
+refusal_name OtherSystem = codes "OtherSystem"
+refusal_name Busy = codes "Busy"
 refusal_name TooLarge = codes "TooLarge"
 refusal_name NumbersOut = codes "NumbersOut"
+refusal_name BadEntry = codes "BadEntry"
 
 -- the output line of an answered command
 abbrev pub reply_text : Reply → List ℕ
@@ -34,34 +50,102 @@ reply_status Done = 0
 reply_status (Number number) = 0
 reply_status (Refused refusal) = 1
 
--- the job that a `send` hands in: the input as a file, at the default grade
-pub record IsSent (user system source target : List ℕ) (second : ℕ) (input : List ℕ) (job : NewJob) : Type 0 where
-  pub to : job.system ≡ system
-  pub grade : rank_of default_grade ≡ Some job.grade
-  pub of : job.user ≡ user
-  pub kind : job.kind ≡ Send source target
-  pub bytes : job.bytes.items ≡ input
+-- a job that a user hands in at a second
+pub record IsHandedIn (owner site : List ℕ) (rank : ℕ) (work : Kind) (content : List ℕ) (second : ℕ) (job : NewJob) : Type 0 where
+  pub system : job.system ≡ site
+  pub grade : job.grade ≡ rank
+  pub user : job.user ≡ owner
+  pub kind : job.kind ≡ work
+  pub bytes : job.bytes ≡ content
   pub at : job.at.second ≡ second
+
+-- A message: `rmail` with what the system is to do as its arguments, and the envelope as its bytes, with the date
+-- and time that the site's clock shows and the site's name.
+pub record IsMailed (settings : Settings) (user system : List ℕ) (grade : ℕ) (rests : List (List ℕ)) (message : List ℕ) (second : ℕ) (job : NewJob) : Type 0 where
+  pub local : DateTime
+  pub shown : Shows local (local_second second settings.offset)
+  pub handed_in : IsHandedIn user system grade (Execute (codes "rmail") rests) (envelope_of user local settings.name message) second job
+
+-- a job is queued: the reply is printed, and its status is the line's
+pub record IsQueued (s : State) (job : NewJob) (answered : ℕ) (written : List ℕ → Type 0) (shows : State → Type 0) : Type 0 where
+  pub status : answered ≡ reply_status (reply_of s (Queue job))
+  pub output : written (reply_text (reply_of s (Queue job)))
+  pub state : shows (after s (Queue job))
+
+-- a job is shown by its line and then its bytes as they are, where there is one
+abbrev pub IsShown : ℤ → Option Job → ℕ → (List ℕ → Type 0) → Type 0
+IsShown offset None status written = (status ≡ 1) × written (codes "no job" ++ 10 ∷ [])
+IsShown offset (Some job) status written =
+    (line : List ℕ) × IsJobLine offset (head_of job) line × (status ≡ 0) × written (line ++ job.bytes)
 
 -- What a task does in a state, at a second and with an input: the status, what is `written`, and the
 -- state that the spool `shows` afterwards. Of `load` nothing is said here.
-abbrev pub IsDone : ℤ → List ℕ → ℕ → List ℕ → State → ℕ → (List ℕ → Type 0) → (State → Type 0) → Task → Type 0
-IsDone offset user second input s status written shows task.Load = ⊤
-IsDone offset user second input s status written shows (task.Send system source target) =
-    (job : NewJob) × IsSent user system source target second input job
-    × (status ≡ reply_status (reply_of s (Queue job))) × written (reply_text (reply_of s (Queue job)))
-    × shows (after s (Queue job))
-IsDone offset user second input s status written shows task.List =
-    (report : List ℕ) × IsReport offset (listed_heads s) report
+abbrev pub IsDone : Settings → List ℕ → ℕ → List ℕ → State → ℕ → (List ℕ → Type 0) → (State → Type 0) → Task → Type 0
+IsDone settings user second input s status written shows task.Load = ⊤
+IsDone settings user second input s status written shows (task.Send system source target grade) =
+    (job : NewJob) × IsHandedIn user system grade (Send source target) input second job × IsQueued s job status written shows
+IsDone settings user second input s status written shows (task.Request system source target grade) =
+    (job : NewJob) × IsHandedIn user system grade (Request source target) [] second job × IsQueued s job status written shows
+IsDone settings user second input s status written shows (task.Execute grade system command arguments) =
+    (job : NewJob) × IsHandedIn user system grade (Execute command arguments) input second job × IsQueued s job status written shows
+IsDone settings user second input s status written shows (task.Mail grade system rests) =
+    (job : NewJob) × IsMailed settings user system grade rests input second job × IsQueued s job status written shows
+IsDone settings user second input s status written shows task.List =
+    (report : List ℕ) × IsReport settings.offset (listed_heads s) report
     × (status ≡ 0) × written report × shows s
+IsDone settings user second input s status written shows (task.Show number) =
+    IsShown settings.offset (job_at s number) status written × shows s
 
--- the same of a line, at the second `now` where it gives none
-abbrev pub IsServed : ℤ → CallLine → ℕ → List ℕ → State → ℕ → (List ℕ → Type 0) → (State → Type 0) → Type 0
-IsServed offset line now input s status written shows =
-    IsDone offset line.user (unwrap_or line.at now) input s status written shows line.task
+-- the second of a line, which is `now` where it gives none
+abbrev pub second_of : CallLine → ℕ → ℕ
+second_of line now = unwrap_or line.at now
+
+-- what a line does
+abbrev pub IsServed : Settings → CallLine → ℕ → List ℕ → State → ℕ → (List ℕ → Type 0) → (State → Type 0) → Type 0
+IsServed settings line now input s status written shows =
+    IsDone settings line.user (second_of line now) input s status written shows line.task
+
+-- ---- faults
 
 -- the faults that come before the spool is asked
 abbrev pub IsEarly : Fault → Type 0
 IsEarly (fault.Words text help) = ⊤
+IsEarly (fault.Name why) = ⊤
+IsEarly (fault.Time why) = ⊤
+IsEarly fault.TwoSystems = ⊤
 IsEarly fault.Input = ⊤
 IsEarly _ = ⊥
+
+-- the faults that come once the spool is asked
+abbrev pub IsLate : Fault → Type 0
+IsLate (fault.Store why) = ⊤
+IsLate fault.Write = ⊤
+IsLate fault.Memory = ⊤
+IsLate _ = ⊥
+
+-- the faults of a task once its line is understood; of these, words are those of a sys file
+abbrev pub IsTaskFault : Task → Fault → Type 0
+IsTaskFault asked (fault.Words text help) = asked ≡ task.Load
+IsTaskFault asked fault = IsLate fault
+
+-- the words mean this line, its moment is none that is past the last, and its input is not too large
+pub record IsUnderstood (words : List Text) (now : ℕ) (input : List ℕ) (line : CallLine) : Type 0 where
+  pub means : MeansLine words line
+  pub moment : ¬ IsPast (second_of line now)
+  pub fits : IsTrue (takes_input line.task) → length input ≤ INPUT_LIMIT
+
+-- Which fault is told: those of the words come first, then those of names, then different systems, then the moment,
+-- then the size of the input, and then those of the task. Want of memory may take the place of any.
+abbrev pub IsToldOf : List Text → ℕ → List ℕ → Fault → Type 0
+IsToldOf words now input (fault.Words text help) =
+    (fault_of program words ≢ []) ⊎ ((line : CallLine) × IsUnderstood words now input line × (line.task ≡ task.Load))
+IsToldOf words now input (fault.Name why) = IsAnswerTo words (Err (fault.Name why))
+IsToldOf words now input fault.TwoSystems = IsAnswerTo words (Err fault.TwoSystems)
+IsToldOf words now input (fault.Time why) =
+    (why ≡ MomentRange) × ((line : CallLine) × MeansLine words line × IsPast (second_of line now))
+IsToldOf words now input fault.Input =
+    (line : CallLine) × MeansLine words line × (¬ IsPast (second_of line now)) × IsTrue (takes_input line.task) × (INPUT_LIMIT < length input)
+IsToldOf words now input fault.Memory = ⊤
+IsToldOf words now input fault.Read = ⊥
+IsToldOf words now input (fault.Store why) = (line : CallLine) × IsUnderstood words now input line
+IsToldOf words now input fault.Write = (line : CallLine) × IsUnderstood words now input line

@@ -1,5 +1,5 @@
 //! The program's command line, as `clap` is told of it.
-ghost use Rattle.std.specs.Prelude.{◌≡◌, IfOk, false};
+ghost use Rattle.std.specs.Prelude.{◌≡◌, IfOk, codes, false, true};
 ghost use Rattle.clap.specs.Words.{app_of, rule_of};
 ghost use Rattle.clap.specs.declared.builder.command.Command.TheViews.{out-Command as fields_of};
 ghost use Rattle.uuspool.specs.Commands as spec;
@@ -11,15 +11,37 @@ use std::alloc::{AllocError, Global};
 pub(crate) fn program_command<'a>(alloc: Global) -> Result<Command<'a>, AllocError>
     ensures { IfOk result (λ command. app_of command ≡ spec.program) }
 {
+    with_handing_in(alloc)?
+        .subcommand(list_command(alloc))?
+        .subcommand(show_command(alloc)?)
+}
+
+// The command with the subcommands that hand something in.
+fn with_handing_in<'a>(alloc: Global) -> Result<Command<'a>, AllocError>
+    ensures { IfOk result (λ command. app_of command ≡ spec.with_handing_in) }
+{
+    with_options(alloc)?
+        .subcommand(load_command(alloc))?
+        .subcommand(file_command(
+            alloc,
+            "send",
+            "Queues standard input as a file for a system",
+        )?)?
+        .subcommand(file_command(alloc, "request", "Queues a request for a file of a system")?)?
+        .subcommand(exec_command(alloc)?)?
+        .subcommand(mail_command(alloc)?)
+}
+
+// The command with its options alone.
+fn with_options<'a>(alloc: Global) -> Result<Command<'a>, AllocError>
+    ensures { IfOk result (λ command. app_of command ≡ spec.without_subcommands) }
+{
     Command::new(alloc, "uuspool")
         .about("The job spool of a UUCP site")
         .no_binary_name(true)
         .subcommand_required(true)
         .arg(second_option(alloc))?
-        .arg(user_option(alloc))?
-        .subcommand(load_command(alloc))?
-        .subcommand(send_command(alloc)?)?
-        .subcommand(list_command(alloc))
+        .arg(user_option(alloc))
 }
 
 fn second_option<'a>(alloc: Global) -> Arg<'a>
@@ -51,20 +73,53 @@ fn load_command<'a>(alloc: Global) -> Command<'a>
     Command::new(alloc, "load").about("Defines the systems of the sys file on standard input")
 }
 
-fn send_command<'a>(alloc: Global) -> Result<Command<'a>, AllocError>
-    ensures app { IfOk result (λ command. app_of command ≡ spec.send_command) }
+// `NAME SYSTEM FROM TO [-g GRADE]`.
+fn file_command<'a>(alloc: Global, name: &'a str, about: &'a str) -> Result<Command<'a>, AllocError>
+    ensures app { IfOk result (λ command. app_of command ≡ spec.file_command name.entry.now) }
     ensures local { IfOk result (λ command. (fields_of command).has_globals ≡ false) }
 {
-    Command::new(alloc, "send")
-        .about("Queues standard input as a file for a system")
+    Command::new(alloc, name)
+        .about(about)
+        .arg(system_argument(alloc))?
+        .arg(argument(alloc, "from", "FROM", "The file's name where it is"))?
+        .arg(argument(alloc, "to", "TO", "The file's name where it goes"))?
+        .arg(grade_option(alloc))
+}
+
+fn exec_command<'a>(alloc: Global) -> Result<Command<'a>, AllocError>
+    ensures app { IfOk result (λ command. app_of command ≡ spec.exec_command) }
+    ensures local { IfOk result (λ command. (fields_of command).has_globals ≡ false) }
+{
+    Command::new(alloc, "exec")
+        .about("Queues a command for a system, with standard input as its input")
+        .arg(grade_option(alloc))?
+        .arg(system_argument(alloc))?
         .arg(argument(
             alloc,
-            "system",
-            "SYSTEM",
-            "The neighbour that the file is for",
+            "command",
+            "COMMAND",
+            "The command that the system is to run",
         ))?
-        .arg(argument(alloc, "from", "FROM", "The file's name here"))?
-        .arg(argument(alloc, "to", "TO", "The file's name there"))
+        .arg(command_arguments(alloc))
+}
+
+fn mail_command<'a>(alloc: Global) -> Result<Command<'a>, AllocError>
+    ensures app { IfOk result (λ command. app_of command ≡ spec.mail_command) }
+    ensures local { IfOk result (λ command. (fields_of command).has_globals ≡ false) }
+{
+    Command::new(alloc, "mail")
+        .about("Queues standard input as a message")
+        .arg(grade_option(alloc))?
+        .arg(address_arguments(alloc))
+}
+
+fn show_command<'a>(alloc: Global) -> Result<Command<'a>, AllocError>
+    ensures app { IfOk result (λ command. app_of command ≡ spec.show_command) }
+    ensures local { IfOk result (λ command. (fields_of command).has_globals ≡ false) }
+{
+    Command::new(alloc, "show")
+        .about("Shows a job and its bytes")
+        .arg(job_argument(alloc))
 }
 
 fn list_command<'a>(alloc: Global) -> Command<'a>
@@ -72,6 +127,59 @@ fn list_command<'a>(alloc: Global) -> Command<'a>
     ensures local { (fields_of result).has_globals ≡ false }
 {
     Command::new(alloc, "list").about("Lists the jobs, those of the highest grade first")
+}
+
+fn system_argument<'a>(alloc: Global) -> Arg<'a>
+    ensures rule { rule_of result ≡ spec.argument (codes "system") }
+    ensures local { result.global ≡ false }
+{
+    argument(
+        alloc,
+        "system",
+        "SYSTEM",
+        "The neighbour that the job is for",
+    )
+}
+
+fn job_argument<'a>(alloc: Global) -> Arg<'a>
+    ensures rule { rule_of result ≡ spec.job_argument }
+    ensures local { result.global ≡ false }
+{
+    argument(alloc, "job", "JOB", "The job's number").value_parser(clap::value_parser!(u64).range(
+        0..=4_294_967_295,
+    ))
+}
+
+fn grade_option<'a>(alloc: Global) -> Arg<'a>
+    ensures rule { rule_of result ≡ spec.grade_option }
+    ensures local { result.global ≡ false }
+{
+    Arg::new(alloc, "grade")
+        .short('g')
+        .value_name("GRADE")
+        .default_value("N")
+        .help("The job's grade: 0 to 9, A to Z or a to z, highest first")
+}
+
+fn command_arguments<'a>(alloc: Global) -> Arg<'a>
+    ensures rule { rule_of result ≡ spec.arguments (codes "argument") 0 }
+    ensures local { result.global ≡ false }
+{
+    Arg::new(alloc, "argument")
+        .value_name("ARG")
+        .num_args(0..)
+        .help("The command's arguments; `--` before those that begin with a hyphen")
+}
+
+fn address_arguments<'a>(alloc: Global) -> Arg<'a>
+    ensures rule { rule_of result ≡ record (spec.arguments (codes "address") 1) { required = true } }
+    ensures local { result.global ≡ false }
+{
+    Arg::new(alloc, "address")
+        .value_name("ADDRESS")
+        .num_args(1..)
+        .required(true)
+        .help("A bang path, each by way of the same neighbour")
 }
 
 // An argument that has to be there, by its place.

@@ -1,11 +1,15 @@
 //! Why a line of the program was not done, with its exit status and its line on standard error.
 
-ghost use Rattle.std.specs.Prelude.{◌≡◌, IfOk};
-ghost use Rattle.uuspool.specs.Faults.{code_of, status_of, line_of_fault};
+ghost use Rattle.std.specs.Prelude.{◌≡◌, ◌≢◌, IfOk};
+ghost use Rattle.std.specs.String.{string_bytes};
+ghost use Rattle.uu_names.specs.Fault.{fault_code};
+ghost use Rattle.uuspool.specs.Faults.{code_of, status_of, line_of_fault, name_text, named, time_text, time_name, fault_place, placed};
 
 use std::alloc::{AllocError, AllocFailed, Global};
 use thiserror::Error;
+use uu_names::NameFault;
 use uu_store::StoreFault;
+use uu_times::TimeFault;
 
 /// Why a line was not done.
 #[derive(Debug, Drop, Error)]
@@ -18,6 +22,15 @@ pub enum Fault {
         /// Whether the words ask for help.
         help: bool,
     },
+    /// A user, a system, a word, a grade or an address of the line is none.
+    #[error("name: {0:?}")]
+    Name(NameFault),
+    /// The moment is past the last one, or the sys file has a fault.
+    #[error("time: {0:?}")]
+    Time(TimeFault),
+    /// The addresses of a message begin with different systems.
+    #[error("addresses of two systems")]
+    TwoSystems,
     /// The input has more than 4,194,304 bytes.
     #[error("too much input")]
     Input,
@@ -42,6 +55,9 @@ impl Fault {
     {
         match self {
             Fault::Words { .. } => 1,
+            Fault::Name(_) => 3,
+            Fault::Time(_) => 4,
+            Fault::TwoSystems => 5,
             Fault::Input => 6,
             Fault::Store(_) => 7,
             Fault::Read => 8,
@@ -73,15 +89,47 @@ impl<T: Drop> From<AllocFailed<T>> for Fault {
     }
 }
 
-/// The exit status of the program at this fault: 0 for help, 2 for words and input, 3 for the spool,
-/// 4 for want of memory wherever it was met, 5 for reading and writing.
+impl From<NameFault> for Fault {
+    ghost use Rattle.std.specs.Prelude.{◌≡◌};
+    ghost use Rattle.uuspool.specs.Faults.{told_name};
+
+    ghost from_gives = { λ name fault. fault ≡ told_name name };
+
+    fn from(fault: NameFault) -> Fault {
+        match fault {
+            NameFault::Memory => Fault::Memory,
+            fault => Fault::Name(fault),
+        }
+    }
+}
+
+impl From<TimeFault> for Fault {
+    ghost use Rattle.std.specs.Prelude.{◌≡◌};
+    ghost use Rattle.uuspool.specs.Faults.{told_time};
+
+    ghost from_gives = { λ time fault. fault ≡ told_time time };
+
+    fn from(fault: TimeFault) -> Fault {
+        match fault {
+            TimeFault::Memory => Fault::Memory,
+            fault => Fault::Time(fault),
+        }
+    }
+}
+
+/// The exit status of the program at this fault: 0 for help, 2 for words, names, times, addresses and
+/// input, 3 for the spool, 4 for want of memory wherever it was met, 5 for reading and writing.
 pub fn fault_status(fault: &Fault) -> u8
     ensures { result ≡ status_of fault.now }
 {
     match fault {
         Fault::Words { help: true, .. } => 0,
-        Fault::Words { .. } | Fault::Input => 2,
-        Fault::Store(StoreFault::Memory) | Fault::Memory => 4,
+        Fault::Memory
+        | Fault::Name(NameFault::Memory)
+        | Fault::Time(TimeFault::Memory)
+        | Fault::Store(StoreFault::Memory) => 4,
+        Fault::Words { .. } | Fault::Name(_) | Fault::Time(_) | Fault::TwoSystems | Fault::Input =>
+            2,
         Fault::Store(_) => 3,
         Fault::Read | Fault::Write => 5,
     }
@@ -94,6 +142,9 @@ pub fn fault_line(alloc: Global, fault: &Fault) -> Result<Vec<u8>, AllocError>
 {
     let line = match fault {
         Fault::Words { text, .. } => text.as_str(),
+        Fault::Name(name) => name_line(*name),
+        Fault::Time(time) => return time_line(alloc, *time),
+        Fault::TwoSystems => "uuspool: addresses of two systems\n",
         Fault::Input => "uuspool: too much input\n",
         Fault::Store(StoreFault::Store(_)) => "uuspool: spool: store\n",
         Fault::Store(StoreFault::Failed) => "uuspool: spool: failed\n",
@@ -104,4 +155,77 @@ pub fn fault_line(alloc: Global, fault: &Fault) -> Result<Vec<u8>, AllocError>
         Fault::Write => "uuspool: cannot write\n",
     };
     Vec::from_slice(alloc, line.as_bytes())
+}
+
+// The line of a fault of a name.
+fn name_line(fault: NameFault) -> &'static str
+    ensures { result.now ≡ named (name_text fault) }
+{
+    match fault {
+        NameFault::BadGrade => "uuspool: name: BadGrade\n",
+        NameFault::BadName(_) => "uuspool: name: BadName\n",
+        NameFault::BadPath(_) => "uuspool: name: BadPath\n",
+        NameFault::BadWord(_) => "uuspool: name: BadWord\n",
+        NameFault::NoEnvelope => "uuspool: name: NoEnvelope\n",
+        NameFault::TooLong => "uuspool: name: TooLong\n",
+        NameFault::Memory => "uuspool: out of memory\n",
+    }
+}
+
+// The line of a fault of a moment or of a sys file.
+fn time_line(alloc: Global, fault: TimeFault) -> Result<Vec<u8>, AllocError>
+    ensures { IfOk result (λ line. line.items ≡ named (time_text fault)) }
+{
+    match fault {
+        TimeFault::Memory => Vec::from_slice(alloc, b"uuspool: out of memory\n"),
+        _ => placed_line(alloc, place_of(fault), time_name(fault)),
+    }
+}
+
+// The line of a fault of this name, at a line of a text, or at none.
+fn placed_line(alloc: Global, place: u32, name: &str) -> Result<Vec<u8>, AllocError>
+    ensures { IfOk result (λ line. line.items ≡ named (placed place name.now)) }
+{
+    if place == 0 {
+        let line = format!(in alloc; "uuspool: time: {name}\n")?;
+        Vec::from_slice(alloc, line.as_bytes())
+    } else {
+        let line = format!(in alloc; "uuspool: line {place}: {name}\n")?;
+        Vec::from_slice(alloc, line.as_bytes())
+    }
+}
+
+// The line of the text that has the fault, and 0 where it has none.
+fn place_of(fault: TimeFault) -> u32
+    ensures { result ≡ fault_place fault }
+{
+    match fault {
+        TimeFault::MomentRange | TimeFault::OffsetRange | TimeFault::Memory => 0,
+        TimeFault::BadTime(line, _)
+        | TimeFault::UnknownTable(line)
+        | TimeFault::TableTwice(line)
+        | TimeFault::BadNumber(line)
+        | TimeFault::BadSystem(line)
+        | TimeFault::TooManyLines(line)
+        | TimeFault::SystemTwice(line)
+        | TimeFault::BadWords(line) => line,
+    }
+}
+
+fn time_name(fault: TimeFault) -> &'static str
+    ensures { result.now ≡ time_name fault }
+{
+    match fault {
+        TimeFault::MomentRange => "MomentRange",
+        TimeFault::OffsetRange => "OffsetRange",
+        TimeFault::BadTime(_, _) => "BadTime",
+        TimeFault::UnknownTable(_) => "UnknownTable",
+        TimeFault::TableTwice(_) => "TableTwice",
+        TimeFault::BadNumber(_) => "BadNumber",
+        TimeFault::BadSystem(_) => "BadSystem",
+        TimeFault::TooManyLines(_) => "TooManyLines",
+        TimeFault::SystemTwice(_) => "SystemTwice",
+        TimeFault::BadWords(_) => "BadWords",
+        TimeFault::Memory => "Memory",
+    }
 }

@@ -13,7 +13,7 @@ mod systems;
 
 pub use fault::{Fault, fault_line, fault_status};
 pub use input::{INPUT_LIMIT, READ_LIMIT, read_input};
-pub use line::{CallLine, Task, line_of, moment_of};
+pub use line::{CallLine, Task, line_of};
 pub use report::report_jobs;
-pub use serving::serve;
+pub use serving::{moment_of, serve};
 pub use settings::{Settings, fixed_settings};

@@ -1,20 +1,22 @@
 //! The command line: from words to a line of typed values.
 
-ghost use Rattle.std.specs.Prelude.{◌≡◌, ◌≢◌, ℕ, ◌<◌, List, [], Option, IfOk, IfErr, map, codes, ⊤};
+ghost use Rattle.std.specs.Prelude.{◌≡◌, ◌≢◌, [], All, Ok, IfOk, IfErr, map, codes};
+ghost use Rattle.uu_names.specs.Name.{word_of};
+ghost use Rattle.uu_names.specs.Path.{IsPathText, first_hop, rest_of};
+ghost use Rattle.std.specs.List.{list_all};
 ghost use Rattle.std.specs.String.{string_bytes};
-ghost use Rattle.clap.specs.Words.{rows_of, found_of, one_of, kind_of, fault_of};
-ghost use Rattle.uuspool.specs.declared.line.CallLine.{CallLine};
-ghost use Rattle.uuspool.specs.declared.line.Task.{Task};
+ghost use Rattle.clap.specs.Words.{rows_of, found_of, one_of, kind_of, fault_of, subcommand_rows_of};
 ghost use Rattle.uuspool.specs.Commands.{program};
-ghost use Rattle.uuspool.specs.Lines.{takes_input, HasEntriesOf, IsSecond, IsWordAt, IsSiteAt, MeansTask, MeansLine, IsWordsWhere};
+ghost use Rattle.uuspool.specs.Lines.{takes_input, HasEntriesOf, Answers, UnlessMemory, MeansTask, IsAnswerTo, IsWordsWhere};
+ghost use Rattle.uuspool.specs.Lines as spec;
 
 use crate::commands::program_command;
 use crate::fault::Fault;
 use clap::ArgMatches;
 use clap::error::ErrorKind;
 use std::alloc::Global;
-use uu_names::NameFault;
-use uu_store::{Moment, SiteName, Word};
+use uu_map::Listed;
+use uu_names::{Grade, NameFault, Path, SiteName, Word};
 
 /// One line of the program.
 #[derive(Debug, Drop)]
@@ -32,7 +34,7 @@ pub struct CallLine {
 pub enum Task {
     /// `load`: defines the systems of the sys file that is the input.
     Load,
-    /// `send SYSTEM FROM TO`: queues the input as a file for the system.
+    /// `send SYSTEM FROM TO [-g GRADE]`: queues the input as a file for the system.
     Send {
         /// The neighbour that the file is for.
         system: SiteName,
@@ -40,9 +42,47 @@ pub enum Task {
         source: Word,
         /// The file's name there.
         target: Word,
+        /// The job's grade, `N` where none is given.
+        grade: Grade,
+    },
+    /// `request SYSTEM FROM TO [-g GRADE]`: queues a request for a file of the system.
+    Request {
+        /// The neighbour that has the file.
+        system: SiteName,
+        /// The file's name there.
+        source: Word,
+        /// The file's name here.
+        target: Word,
+        /// The job's grade, `N` where none is given.
+        grade: Grade,
+    },
+    /// `exec [-g GRADE] SYSTEM COMMAND [ARG..]`: queues a command, with the input as its input.
+    Execute {
+        /// The job's grade, `N` where none is given.
+        grade: Grade,
+        /// The neighbour that runs the command.
+        system: SiteName,
+        /// The command.
+        command: Word,
+        /// Its arguments.
+        arguments: Listed<Word>,
+    },
+    /// `mail [-g GRADE] ADDRESS..`: queues the input as a message.
+    Mail {
+        /// The job's grade, `N` where none is given.
+        grade: Grade,
+        /// The neighbour that each address begins with.
+        system: SiteName,
+        /// What the neighbour is to do with the message: each address without its first site.
+        rests: Listed<Word>,
     },
     /// `list`: reports the jobs.
     List,
+    /// `show JOB`: shows a job and its bytes.
+    Show {
+        /// The job's number.
+        job: u32,
+    },
 }
 
 impl Task {
@@ -51,8 +91,8 @@ impl Task {
         ensures { result ≡ takes_input self.now }
     {
         match self {
-            Task::Load | Task::Send { .. } => true,
-            Task::List => false,
+            Task::Load | Task::Send { .. } | Task::Execute { .. } | Task::Mail { .. } => true,
+            Task::Request { .. } | Task::List | Task::Show { .. } => false,
         }
     }
 }
@@ -60,20 +100,31 @@ impl Task {
 /// The line that the words after the program's name mean.
 ///
 /// # Errors
-/// `Words` exactly where they mean no line: where `clap` refuses them, or where the user, a name or a word is
-/// none; with `help` where they ask for help. Else `Memory`.
+/// `Words` exactly where `clap` refuses the words, with `help` where they ask for help. `Name` with the
+/// first fault of the user, and then of the arguments and options in the order of the subcommand's usage
+/// above. `TwoSystems` where the addresses of a message begin with different systems. Else `Memory`.
 pub fn line_of(alloc: Global, words: &[String]) -> Result<CallLine, Fault>
-    ensures line { IfOk result (MeansLine (map string_bytes words.now)) }
-    ensures refused { IfErr result (IsWordsWhere (¬ ((line : CallLine) × MeansLine (map string_bytes words.now) line))) }
+    ensures { IsAnswerTo (map string_bytes words.now) result }
 {
-    let matches = entries_of(alloc, words)?;
-    let at = second_in(alloc, &matches)?;
-    let user = word_in(alloc, &matches, "as")?;
-    let Some((name, given)) = matches.subcommand() else {
-        return Err(bad_text(alloc, "there is no subcommand"));
-    };
-    let task = task_in(alloc, name, given)?;
-    Ok(CallLine { at, user, task })
+    match entries_of(alloc, words) {
+        Ok(matches) => line_in(alloc, &matches),
+        Err(fault) => Err(fault),
+    }
+}
+
+// The line with these entries.
+fn line_in(alloc: Global, given: &ArgMatches<'_>) -> Result<CallLine, Fault>
+    ensures { UnlessMemory (spec.MeansLineOf (spec.word_at (codes "as") (rows_of (found_of given.now)))
+        (one_of (codes "at") (rows_of (found_of given.now))) (subcommand_rows_of given.now)) result }
+{
+    let at = given.get_one::<u64>("at");
+    match word_in(alloc, given, "as") {
+        Ok(user) => match entered_in(alloc, given) {
+            Ok(task) => Ok(CallLine { at, user, task }),
+            Err(fault) => Err(fault),
+        },
+        Err(fault) => Err(fault),
+    }
 }
 
 // The entries that `clap` finds.
@@ -87,90 +138,239 @@ fn entries_of<'a>(alloc: Global, words: &'a [String]) -> Result<ArgMatches<'a>, 
     }
 }
 
-// The second of `--at`, if it is given.
-fn second_in(alloc: Global, given: &ArgMatches<'_>) -> Result<Option<u64>, Fault>
-    ensures second { IfOk result (IsSecond (one_of (codes "at") (rows_of (found_of given.now)))) }
-    ensures refused { IfErr result (IsWordsWhere (¬ ((at : Option ℕ)
-        × IsSecond (one_of (codes "at") (rows_of (found_of given.now))) at))) }
+// The task of the subcommand that was entered; `clap` has seen to it that there is one.
+fn entered_in(alloc: Global, given: &ArgMatches<'_>) -> Result<Task, Fault>
+    ensures { UnlessMemory (spec.MeansEntered (subcommand_rows_of given.now)) result }
 {
-    match given.try_get_one::<u64>("at") {
-        Ok(at) => Ok(at),
-        Err(_) => Err(bad_text(alloc, "a number of seconds is none")),
-    }
-}
-
-// The word that is given under an id.
-fn word_in(alloc: Global, given: &ArgMatches<'_>, id: &str) -> Result<Word, Fault>
-    ensures word { IfOk result (IsWordAt id.now (rows_of (found_of given.now))) }
-    ensures refused { IfErr result (IsWordsWhere (¬ ((word : List ℕ)
-        × IsWordAt id.now (rows_of (found_of given.now)) word))) }
-{
-    let Some(text) = given.get_str(id) else {
-        return Err(bad_text(alloc, "a word is missing"));
-    };
-    match Word::parse(alloc, text) {
-        Ok(word) => Ok(word),
-        Err(fault) => Err(name_fault(alloc, fault)),
-    }
-}
-
-// The site name that is given under an id.
-fn site_in(alloc: Global, given: &ArgMatches<'_>, id: &str) -> Result<SiteName, Fault>
-    ensures name { IfOk result (IsSiteAt id.now (rows_of (found_of given.now))) }
-    ensures refused { IfErr result (IsWordsWhere (¬ ((name : List ℕ)
-        × IsSiteAt id.now (rows_of (found_of given.now)) name))) }
-{
-    let Some(text) = given.get_str(id) else {
-        return Err(bad_text(alloc, "a site name is missing"));
-    };
-    match SiteName::parse(alloc, text) {
-        Ok(name) => Ok(name),
-        Err(fault) => Err(name_fault(alloc, fault)),
+    match given.subcommand() {
+        Some((name, given)) => task_in(alloc, name, given),
+        None => Ok(Task::List),
     }
 }
 
 // The task that a subcommand with these entries asks for.
 fn task_in(alloc: Global, name: &str, given: &ArgMatches<'_>) -> Result<Task, Fault>
-    ensures task { IfOk result (MeansTask name.now (rows_of (found_of given.now))) }
-    ensures refused { IfErr result (IsWordsWhere (¬ ((task : Task)
-        × MeansTask name.now (rows_of (found_of given.now)) task))) }
+    ensures { UnlessMemory (MeansTask name.now (rows_of (found_of given.now))) result }
 {
-    if name == "load" {
-        Ok(Task::Load)
-    } else if name == "send" {
-        send_in(alloc, name, given)
-    } else if name == "list" {
-        Ok(Task::List)
-    } else {
-        Err(bad_text(alloc, "the subcommand is not known"))
+    match name {
+        "load" => Ok(Task::Load),
+        "send" => send_in(alloc, given),
+        "request" => request_in(alloc, given),
+        "exec" => execute_in(alloc, given),
+        "mail" => mail_in(alloc, given),
+        "show" => Ok(show_in(given)),
+        _ => Ok(Task::List),
     }
 }
 
 // The task of `send`.
-fn send_in(alloc: Global, name: &str, given: &ArgMatches<'_>) -> Result<Task, Fault>
-    requires { name.now ≡ codes "send" }
-    ensures task { IfOk result (MeansTask name.now (rows_of (found_of given.now))) }
-    ensures refused { IfErr result (IsWordsWhere (¬ ((task : Task)
-        × MeansTask name.now (rows_of (found_of given.now)) task))) }
+#[tactic(auto, using(crate::proofs::LineLemmas::answers_then))]
+fn send_in(alloc: Global, given: &ArgMatches<'_>) -> Result<Task, Fault>
+    ensures { Answers result (spec.file_task Task.Send (rows_of (found_of given.now))) }
 {
     let system = site_in(alloc, given, "system")?;
     let source = word_in(alloc, given, "from")?;
     let target = word_in(alloc, given, "to")?;
+    let grade = grade_in(given)?;
     Ok(Task::Send {
         system,
         source,
         target,
+        grade,
     })
 }
 
-// The fault of a text that is no name or word.
-fn name_fault(alloc: Global, fault: NameFault) -> Fault
-    ensures { IsWordsWhere (fault ≢ NameFault.Memory) result }
+// The task of `request`.
+#[tactic(auto, using(crate::proofs::LineLemmas::answers_then))]
+fn request_in(alloc: Global, given: &ArgMatches<'_>) -> Result<Task, Fault>
+    ensures { Answers result (spec.file_task Task.Request (rows_of (found_of given.now))) }
 {
-    if fault == NameFault::Memory {
-        return Fault::Memory;
+    let system = site_in(alloc, given, "system")?;
+    let source = word_in(alloc, given, "from")?;
+    let target = word_in(alloc, given, "to")?;
+    let grade = grade_in(given)?;
+    Ok(Task::Request {
+        system,
+        source,
+        target,
+        grade,
+    })
+}
+
+// The task of `exec`.
+#[tactic(auto, using(crate::proofs::LineLemmas::answers_then))]
+fn execute_in(alloc: Global, given: &ArgMatches<'_>) -> Result<Task, Fault>
+    ensures { Answers result (spec.exec_task (rows_of (found_of given.now))) }
+{
+    let grade = grade_in(given)?;
+    let system = site_in(alloc, given, "system")?;
+    let command = word_in(alloc, given, "command")?;
+    let arguments = words_in(alloc, given, "argument")?;
+    Ok(Task::Execute {
+        grade,
+        system,
+        command,
+        arguments,
+    })
+}
+
+// The task of `mail`.
+fn mail_in(alloc: Global, given: &ArgMatches<'_>) -> Result<Task, Fault>
+    ensures { UnlessMemory (spec.MeansGradedMail (spec.grade_at (rows_of (found_of given.now)))
+        (spec.texts_at (codes "address") (rows_of (found_of given.now)))) result }
+{
+    let grade = grade_in(given)?;
+    let paths = paths_in(alloc, given, "address")?;
+    mail_to(alloc, grade, &paths)
+}
+
+// The task of a message to these addresses.
+fn mail_to(alloc: Global, grade: Grade, paths: &[Path]) -> Result<Task, Fault>
+    ensures { Answers result (spec.mail_to grade paths.now) }
+{
+    match paths.first() {
+        Some(first) => mail_by(alloc, grade, first, paths),
+        None => Err(Fault::TwoSystems),
     }
-    bad_text(alloc, "a name or a word is none")
+}
+
+// The task of a message to these addresses, of which this is the first.
+fn mail_by(alloc: Global, grade: Grade, first: &Path, paths: &[Path]) -> Result<Task, Fault>
+    ensures { Answers result (spec.mail_by grade first.now paths.now) }
+{
+    if !begin_alike(first.first_hop(), paths) {
+        return Err(Fault::TwoSystems);
+    }
+    let system = SiteName::parse(alloc, first.first_hop())?;
+    let rests = rests_of(alloc, paths)?;
+    Ok(Task::Mail {
+        grade,
+        system,
+        rests,
+    })
+}
+
+// Whether each path begins with this system.
+fn begin_alike(hop: &str, paths: &[Path]) -> bool
+    ensures { result ≡ list_all (λ path. spec.same_text (first_hop path) hop.now) paths.now }
+{
+    paths.iter().all(|path| path.first_hop() == hop)
+}
+
+// What the paths say after their first site.
+fn rests_of(alloc: Global, paths: &[Path]) -> Result<Listed<Word>, Fault>
+    ensures rests { IfOk result (λ rests. rests ≡ map rest_of paths.now) }
+    ensures memory { IfErr result (λ fault. fault ≡ Fault.Memory) }
+{
+    let mut rests = Vec::new(alloc);
+    for path in paths {
+        rests.push(Word::parse(alloc, path.rest())?)?;
+    }
+    Ok(Listed::from_vec(rests))
+}
+
+// The bang paths that are given under an id.
+fn paths_in(alloc: Global, given: &ArgMatches<'_>, id: &str) -> Result<Vec<Path>, Fault>
+    ensures paths { IfOk result (λ paths. (paths.items ≡ spec.texts_at id.now (rows_of (found_of given.now)))
+        × All IsPathText (spec.texts_at id.now (rows_of (found_of given.now)))) }
+    ensures fault { IfErr result (spec.IsAddressFault (spec.texts_at id.now (rows_of (found_of given.now)))) }
+{
+    match given.get_strs(id) {
+        Some(texts) => paths_of(alloc, texts),
+        None => Ok(Vec::new(alloc)),
+    }
+}
+
+// The texts as bang paths.
+fn paths_of(alloc: Global, texts: &[&str]) -> Result<Vec<Path>, Fault>
+    ensures paths { IfOk result (λ paths. (paths.items ≡ map (λ text. text.now) texts.now)
+        × All IsPathText (map (λ text. text.now) texts.now)) }
+    ensures fault { IfErr result (spec.IsAddressFault (map (λ text. text.now) texts.now)) }
+{
+    let mut paths = Vec::new(alloc);
+    for text in texts {
+        paths.push(Path::parse(alloc, text)?)?;
+    }
+    Ok(paths)
+}
+
+// The task of `show`.
+fn show_in(given: &ArgMatches<'_>) -> Task
+    ensures { spec.MeansShow (one_of (codes "job") (rows_of (found_of given.now))) (Ok result) }
+{
+    let job = given.get_one::<u32>("job").unwrap_or(0);
+    Task::Show { job }
+}
+
+// The text that is given under an id; `clap` has seen to those that have to be there.
+fn text_in<'a>(given: &ArgMatches<'a>, id: &str) -> &'a str
+    ensures { result.now ≡ spec.text_at id.now (rows_of (found_of given.now)) }
+{
+    given.get_str(id).unwrap_or("")
+}
+
+// The word that is given under an id.
+fn word_in(alloc: Global, given: &ArgMatches<'_>, id: &str) -> Result<Word, Fault>
+    ensures { Answers result (spec.word_at id.now (rows_of (found_of given.now))) }
+{
+    word_of(alloc, text_in(given, id))
+}
+
+// The site name that is given under an id.
+fn site_in(alloc: Global, given: &ArgMatches<'_>, id: &str) -> Result<SiteName, Fault>
+    ensures { Answers result (spec.site_at id.now (rows_of (found_of given.now))) }
+{
+    match SiteName::parse(alloc, text_in(given, id)) {
+        Ok(name) => Ok(name),
+        Err(fault) => Err(Fault::from(fault)),
+    }
+}
+
+// The grade of `-g`.
+fn grade_in(given: &ArgMatches<'_>) -> Result<Grade, Fault>
+    ensures { Answers result (spec.grade_at (rows_of (found_of given.now))) }
+{
+    let [byte] = text_in(given, "grade").as_bytes() else {
+        return Err(Fault::Name(NameFault::BadGrade));
+    };
+    match Grade::parse(*byte) {
+        Ok(grade) => Ok(grade),
+        Err(fault) => Err(Fault::from(fault)),
+    }
+}
+
+// The text as a word.
+fn word_of(alloc: Global, text: &str) -> Result<Word, Fault>
+    ensures { Answers result (spec.named (word_of text.now)) }
+{
+    match Word::parse(alloc, text) {
+        Ok(word) => Ok(word),
+        Err(fault) => Err(Fault::from(fault)),
+    }
+}
+
+// The words that are given under an id.
+fn words_in(alloc: Global, given: &ArgMatches<'_>, id: &str) -> Result<Listed<Word>, Fault>
+    ensures { Answers result (spec.words_of (spec.texts_at id.now (rows_of (found_of given.now)))) }
+{
+    match given.get_strs(id) {
+        Some(texts) => words_of(alloc, texts),
+        None => Ok(Listed::from_vec(Vec::new(alloc))),
+    }
+}
+
+// The texts as words.
+fn words_of(alloc: Global, texts: &[&str]) -> Result<Listed<Word>, Fault>
+    ensures { Answers result (spec.words_of (map (λ text. text.now) texts.now)) }
+{
+    let mut words = Vec::new(alloc);
+    for text in texts {
+        match word_of(alloc, text) {
+            Ok(word) => words.push(word)?,
+            Err(fault) => return Err(fault),
+        }
+    }
+    Ok(Listed::from_vec(words))
 }
 
 // The fault of words that `clap` refuses.
@@ -183,30 +383,6 @@ fn refused(alloc: Global, error: &clap::Error) -> Fault
     let help = !error.use_stderr();
     match format!(in alloc; "{error}") {
         Ok(text) => Fault::Words { text, help },
-        Err(_) => Fault::Memory,
-    }
-}
-
-/// The moment of this second.
-///
-/// # Errors
-/// `Words` exactly past the last second of a moment, else `Memory` for want of it.
-pub fn moment_of(alloc: Global, second: u64) -> Result<Moment, Fault>
-    ensures moment { IfOk result (λ moment. moment.second ≡ second) }
-    ensures refused { IfErr result (IsWordsWhere (4102444800 < second)) }
-{
-    match Moment::new(second) {
-        Some(moment) => Ok(moment),
-        None => Err(bad_text(alloc, "the moment is past the last second, 4102444800")),
-    }
-}
-
-/// The fault of words whose form is right and whose meaning is not.
-pub(crate) fn bad_text(alloc: Global, what: &str) -> Fault
-    ensures { IsWordsWhere ⊤ result }
-{
-    match format!(in alloc; "error: {what}\n") {
-        Ok(text) => Fault::Words { text, help: false },
         Err(_) => Fault::Memory,
     }
 }

@@ -1,9 +1,9 @@
 //! Reports: the lines that the program prints of what the spool holds.
 
-ghost use Rattle.std.specs.Prelude.{◌≡◌, ◌≤◌, IfOk, IfErr, All, encode_utf8};
+ghost use Rattle.std.specs.Prelude.{◌≡◌, ◌≤◌, ◌∷◌, IfOk, IfErr, All, codes, encode_utf8};
 ghost use Rattle.std.specs.String.{string_bytes};
 ghost use Rattle.uuspool.specs.Offsets.{IsOffset};
-ghost use Rattle.uuspool.specs.Reports.{IsLocalTime, IsMoment, IsJobLine, IsReport, grade_text, work_text};
+ghost use Rattle.uuspool.specs.Reports.{IsLocalTime, IsMoment, IsJobLine, IsReport, grade_text, spaced, work_text};
 
 use crate::fault::Fault;
 use crate::settings::Settings;
@@ -11,7 +11,9 @@ use jiff::Timestamp;
 use jiff::civil::DateTime;
 use jiff::tz::Offset;
 use std::alloc::{AllocError, Global};
-use uu_store::{Grade, JobHead, Kind, LAST_SECOND};
+use uu_core::{JobHead, Kind};
+use uu_names::{Grade, Word};
+use uu_times::moment::LAST_SECOND;
 
 /// The report of these jobs, in their order, a line for each:
 /// `NUMBER SYSTEM USER GRADE MOMENT SIZE KIND WORDS`, the moment as `yyyy-mm-dd hh:mm:ss` at the
@@ -29,8 +31,8 @@ pub fn report_jobs(alloc: Global, jobs: &[JobHead], settings: &Settings) -> Resu
     Ok(report)
 }
 
-// The line of one job.
-fn job_line(alloc: Global, job: &JobHead, offset: i32) -> Result<String, AllocError>
+/// The line of one job.
+pub(crate) fn job_line(alloc: Global, job: &JobHead, offset: i32) -> Result<String, AllocError>
     requires second { job.now.queued ≤ LAST_SECOND }
     requires offset { IsOffset offset }
     ensures { IfOk result (λ line. IsJobLine offset job.now (string_bytes line)) }
@@ -52,7 +54,7 @@ fn letter(grade: Grade) -> char
     char::from(grade.as_byte())
 }
 
-// What is to be done with the job's file.
+// What is to be done with the job.
 fn work(alloc: Global, kind: &Kind) -> Result<String, AllocError>
     ensures { IfOk result (λ text. string_bytes text ≡ work_text kind.now) }
 {
@@ -67,7 +69,21 @@ fn work(alloc: Global, kind: &Kind) -> Result<String, AllocError>
             let target = target.as_str();
             format!(in alloc; "request {source} {target}")
         }
+        Kind::Execute { command, arguments } => execution(alloc, command, arguments.as_slice()),
     }
+}
+
+// The command with its arguments, each after one space.
+fn execution(alloc: Global, command: &Word, arguments: &[Word]) -> Result<String, AllocError>
+    ensures { IfOk result (λ text. string_bytes text ≡ spaced (codes "exec" ∷ command.now ∷ arguments.now)) }
+{
+    let command = command.as_str();
+    let mut text = format!(in alloc; "exec {command}")?;
+    for argument in arguments {
+        text.push_str(" ")?;
+        text.push_str(argument.as_str())?;
+    }
+    Ok(text)
 }
 
 // What a clock that is `offset` minutes ahead of UTC shows at a second, as a text.

@@ -1,36 +1,42 @@
 //! One line of the program, run over a spool.
-ghost use Rattle.std.specs.Prelude.{◌≡◌, ◌≢◌, ◌⊎◌, ◌<◌, ◌≤◌, IfOk, IfErr, OnOk, IsTrue, map, length};
+ghost use Rattle.std.specs.Prelude.{◌≡◌, Some, IfOk, IfErr, OnOk, codes, map};
 ghost use Rattle.std.specs.String.{string_bytes};
 ghost use Rattle.std.specs.Io.KnownBytes.{Appends};
 ghost use Rattle.sqlite.specs.State.{HasCleanDisk};
-ghost use Rattle.uu_store.specs.Machine.{after, listed_heads, reply_of};
+ghost use Rattle.uu_names.specs.Envelope.{envelope_of};
+ghost use Rattle.uu_times.specs.Moment.{IsPast, local_second};
+ghost use Rattle.uu_times.specs.Moment as moment;
+ghost use Rattle.uu_store.specs.Machine.{after, job_at, listed_heads, reply_of};
+ghost use Rattle.uu_store.specs.Encoded.{job_with};
 ghost use Rattle.uu_store.specs.Spool.{Shows, disk};
-ghost use Rattle.uuspool.specs.declared.input.TheConstants.{INPUT_LIMIT};
-ghost use Rattle.uuspool.specs.Lines.{MeansLine, takes_input};
+ghost use Rattle.uuspool.specs.Lines.{MeansLine};
 ghost use Rattle.uuspool.specs.Reports.{IsReport};
-ghost use Rattle.uuspool.specs.Served.{IsServed, IsDone, IsSent, IsEarly, refusal_name, reply_text, reply_status};
+ghost use Rattle.uuspool.specs.Served.{IsServed, IsDone, IsHandedIn, IsMailed, IsQueued, IsShown, IsEarly, IsLate, IsTaskFault, IsToldOf, IsUnderstood, refusal_name, reply_text, reply_status};
 
 use crate::fault::Fault;
 use crate::input::INPUT_LIMIT;
-use crate::line::{CallLine, Task, line_of, moment_of};
-use crate::report::report_jobs;
-use crate::settings::Settings;
+use crate::line::{CallLine, Task, line_of};
+use crate::report::{job_line, report_jobs};
+use crate::settings::{Settings, memory};
 use crate::systems::systems_of;
 use sqlite::Alter;
 use std::alloc::{AllocError, Global};
 use std::io::Write;
-use uu_store::{
-    Command, Grade, Kind, LAST_SECOND, Moment, NewJob, Refusal, Reply, SiteName, Spool, StoreFault,
-    StoreKind, SystemDef, Word,
-};
+use uu_core::{JobHead, Kind, NewJob, Refusal, Reply};
+use uu_map::Listed;
+use uu_names::{Grade, SiteName, Word, envelope};
+use uu_store::{Command, Spool, StoreFault, StoreKind};
+use uu_times::moment::LAST_SECOND;
+use uu_times::{Moment, SystemDef, TimeFault};
 
 /// Runs the line that the words after the program's name mean, at the second `now` where the line
-/// gives none, with this input. Writes its output to `out` and answers its status: 0 done, 1 refused.
+/// gives none, with this input. Writes its output to `out` and answers its status: 0 done, 1 refused or
+/// not there.
 ///
 /// # Errors
-/// `Words` and `Input` come before the spool is asked; then nothing is written. `Store` comes after
-/// the output of the commands that were answered. After `Write` an accepted command stays accepted.
-/// `Read` never comes.
+/// `Words`, `Name`, `TwoSystems`, `Time` and `Input` come before the spool is asked, in this order; then
+/// nothing is written. `Store` comes after the output of the commands that were answered. After `Write` an
+/// accepted command stays accepted. `Read` never comes.
 pub fn serve<S: Alter, W: Write>(
     alloc: Global,
     words: &[String],
@@ -43,25 +49,46 @@ pub fn serve<S: Alter, W: Write>(
     // On a clean store the line is done as it means.
     ensures served { HasCleanDisk (disk spool.new) → (s : _) → Shows spool.old s → IfOk result (λ status.
         (line : _) × MeansLine (map string_bytes words.now) line
-        × IsServed settings.now.offset line now input.now s status
+        × IsServed settings.now line now input.now s status
         (λ bytes. Appends (W.contents out.old) (W.contents out.new) bytes) (λ t. Shows spool.new t)) }
 
     // The faults that come before the spool is asked change nothing.
     ensures early { IfErr result (λ fault. IsEarly fault → (spool.new ≡ spool.old) × (out.new ≡ out.old)) }
-    ensures input { result ≡ Err Fault.Input → INPUT_LIMIT < length input.now }
-    ensures fits { OnOk result ((line : _) × MeansLine (map string_bytes words.now) line
-        × (IsTrue (takes_input line.task) → length input.now ≤ INPUT_LIMIT)) }
-    ensures not_read { result ≢ Err Fault.Read }
+    ensures told { IfErr result (IsToldOf (map string_bytes words.now) now input.now) }
+    ensures understood { OnOk result ((line : _) × IsUnderstood (map string_bytes words.now) now input.now line) }
 {
-    let line = line_of(alloc, words)?;
-    let at = moment_of(alloc, line.at.unwrap_or(now))?;
+    let line = match line_of(alloc, words) {
+        Ok(line) => line,
+        Err(fault) => return Err(fault),
+    };
+    let at = match moment_of(line.at.unwrap_or(now), settings) {
+        Ok(at) => at,
+        Err(fault) => return Err(fault),
+    };
     if line.task.has_input() && input.len() > INPUT_LIMIT {
         return Err(Fault::Input);
     }
     carry_out(alloc, line, at, settings, input, spool, out)
 }
 
+/// The moment of this second, on the site's clock.
+///
+/// # Errors
+/// `Time` exactly past the last second of a moment.
+pub fn moment_of(second: u64, settings: &Settings) -> Result<Moment, Fault>
+    ensures second { IfOk result (λ at. at.second ≡ second) }
+    ensures local { IfOk result (λ at. moment.Shows at.local (local_second second settings.now.offset)) }
+    ensures in_range { OnOk result (¬ IsPast second) }
+    ensures past { IfErr result (λ fault. (fault ≡ Fault.Time TimeFault.MomentRange) × IsPast second) }
+{
+    match Moment::new(second, settings.offset) {
+        Ok(at) => Ok(at),
+        Err(fault) => Err(Fault::Time(fault)),
+    }
+}
+
 // Carries out a line at a moment.
+#[tactic(auto, using(crate::proofs::ServedLemmas::late_is_not_early, crate::proofs::ServedLemmas::late_of_task))]
 fn carry_out<S: Alter, W: Write>(
     alloc: Global,
     line: CallLine,
@@ -71,12 +98,12 @@ fn carry_out<S: Alter, W: Write>(
     spool: &mut Spool<S>,
     out: &mut W,
 ) -> Result<u8, Fault>
+    requires { moment.Shows at.local (local_second at.second settings.now.offset) }
     ensures done { HasCleanDisk (disk spool.new) → (s : _) → Shows spool.old s → IfOk result (λ status.
-        IsDone settings.now.offset line.user at.second input.now s status
+        IsDone settings.now line.user at.second input.now s status
         (λ bytes. Appends (W.contents out.old) (W.contents out.new) bytes) (λ t. Shows spool.new t) line.task) }
     ensures early { IfErr result (λ fault. IsEarly fault → (spool.new ≡ spool.old) × (out.new ≡ out.old)) }
-    ensures not_input { result ≢ Err Fault.Input }
-    ensures not_read { result ≢ Err Fault.Read }
+    ensures told { IfErr result (IsTaskFault line.task) }
 {
     let CallLine { at: _, user, task } = line;
     match task {
@@ -85,35 +112,116 @@ fn carry_out<S: Alter, W: Write>(
             system,
             source,
             target,
+            grade,
         } => {
-            let job = sent_job(alloc, user, system, source, target, input, at)?;
+            let kind = Kind::Send { source, target };
+            let job = new_job(alloc, user, system, grade, kind, input, at)?;
+            queue(alloc, job, spool, out)
+        }
+        Task::Request {
+            system,
+            source,
+            target,
+            grade,
+        } => {
+            let kind = Kind::Request { source, target };
+            let job = new_job(alloc, user, system, grade, kind, &[], at)?;
+            queue(alloc, job, spool, out)
+        }
+        Task::Execute {
+            grade,
+            system,
+            command,
+            arguments,
+        } => {
+            let kind = Kind::Execute { command, arguments };
+            let job = new_job(alloc, user, system, grade, kind, input, at)?;
+            queue(alloc, job, spool, out)
+        }
+        Task::Mail {
+            grade,
+            system,
+            rests,
+        } => {
+            let job = mail_job(alloc, user, system, grade, rests, input, at, settings)?;
             queue(alloc, job, spool, out)
         }
         Task::List => list(alloc, settings, spool, out),
+        Task::Show { job } => show(alloc, job, settings, spool, out),
     }
 }
 
-// The job that a `send` hands in.
-fn sent_job(
+// The job that a line hands in.
+fn new_job(
     alloc: Global,
     user: Word,
     system: SiteName,
-    source: Word,
-    target: Word,
-    input: &[u8],
+    grade: Grade,
+    kind: Kind,
+    bytes: &[u8],
     at: Moment,
 ) -> Result<NewJob, AllocError>
-    ensures { IfOk result (IsSent user system source target at.second input.now) }
+    ensures { IfOk result (IsHandedIn user system grade kind bytes.now at.second) }
 {
-    let bytes = Vec::from_slice(alloc, input)?;
+    let bytes = Vec::from_slice(alloc, bytes)?;
     Ok(NewJob {
         system,
-        grade: Grade::default(),
+        grade,
         user,
-        kind: Kind::Send { source, target },
-        bytes,
+        kind,
+        bytes: Listed::from_vec(bytes),
         at,
     })
+}
+
+// The job that a message hands in.
+fn mail_job(
+    alloc: Global,
+    user: Word,
+    system: SiteName,
+    grade: Grade,
+    rests: Listed<Word>,
+    message: &[u8],
+    at: Moment,
+    settings: &Settings,
+) -> Result<NewJob, Fault>
+    requires { moment.Shows at.local (local_second at.second settings.now.offset) }
+    ensures mailed { IfOk result (IsMailed settings.now user system grade rests message.now at.second) }
+    ensures memory { IfErr result (λ fault. fault ≡ Fault.Memory) }
+{
+    let bytes = enclosed(alloc, &user, at, settings, message)?;
+    let command = rmail(alloc)?;
+    let kind = Kind::Execute {
+        command,
+        arguments: rests,
+    };
+    Ok(new_job(alloc, user, system, grade, kind, &bytes, at)?)
+}
+
+// The command that a site runs for a message.
+fn rmail(alloc: Global) -> Result<Word, Fault>
+    ensures command { IfOk result (λ command. command ≡ codes "rmail") }
+    ensures memory { IfErr result (λ fault. fault ≡ Fault.Memory) }
+{
+    Word::parse(alloc, "rmail").map_err(memory)
+}
+
+// The message with its envelope: the date and time are those of the moment on the site's clock.
+fn enclosed(
+    alloc: Global,
+    user: &Word,
+    at: Moment,
+    settings: &Settings,
+    message: &[u8],
+) -> Result<Vec<u8>, Fault>
+    requires { moment.Shows at.local (local_second at.second settings.now.offset) }
+    ensures bytes { IfOk result (λ bytes. bytes.items ≡ envelope_of user.now at.local settings.now.name message.now) }
+    ensures memory { IfErr result (λ fault. fault ≡ Fault.Memory) }
+{
+    match envelope(alloc, user, &at.local, &settings.name, message) {
+        Ok(bytes) => Ok(bytes),
+        Err(_) => Err(Fault::Memory),
+    }
 }
 
 // Gives the definitions of a sys file, and prints each answer before the next is given.
@@ -124,8 +232,7 @@ fn load<S: Alter, W: Write>(
     out: &mut W,
 ) -> Result<u8, Fault>
     ensures early { IfErr result (λ fault. IsEarly fault → (spool.new ≡ spool.old) × (out.new ≡ out.old)) }
-    ensures not_input { result ≢ Err Fault.Input }
-    ensures not_read { result ≢ Err Fault.Read }
+    ensures told { IfErr result (IsTaskFault Task.Load) }
 {
     let systems = systems_of(alloc, input)?;
     define(alloc, systems, spool, out)
@@ -138,14 +245,13 @@ fn define<S: Alter, W: Write>(
     spool: &mut Spool<S>,
     out: &mut W,
 ) -> Result<u8, Fault>
-    ensures late { IfErr result (λ fault. ¬ (IsEarly fault)) }
-    ensures not_read { result ≢ Err Fault.Read }
+    ensures late { IfErr result IsLate }
 {
     let mut status = 0;
     for system in systems {
         let name = String::from_str(alloc, system.name.as_str())?;
         let reply = spool
-            .command(Command::Define(system))
+            .command(alloc, Command::Define(system))
             .map_err(Fault::Store)?;
         let answer = reply_line(alloc, reply)?;
         write(out, format!(in alloc; "{name} {answer}")?.as_bytes())?;
@@ -162,13 +268,12 @@ fn queue<S: Alter, W: Write>(
     out: &mut W,
 ) -> Result<u8, Fault>
     ensures done { HasCleanDisk (disk spool.new) → (s : _) → Shows spool.old s → IfOk result (λ status.
-        (status ≡ reply_status (reply_of s (Command.Queue job)))
-        × Appends (W.contents out.old) (W.contents out.new) (reply_text (reply_of s (Command.Queue job)))
-        × Shows spool.new (after s (Command.Queue job))) }
-    ensures late { IfErr result (λ fault. ¬ (IsEarly fault)) }
-    ensures not_read { result ≢ Err Fault.Read }
+        IsQueued s job status (λ bytes. Appends (W.contents out.old) (W.contents out.new) bytes) (λ t. Shows spool.new t)) }
+    ensures late { IfErr result IsLate }
 {
-    let reply = spool.command(Command::Queue(job)).map_err(Fault::Store)?;
+    let reply = spool
+        .command(alloc, Command::Queue(job))
+        .map_err(Fault::Store)?;
     let answer = reply_line(alloc, reply)?;
     write(out, answer.as_bytes())?;
     Ok(status_of(reply))
@@ -184,8 +289,7 @@ fn list<S: Alter, W: Write>(
     ensures done { HasCleanDisk (disk spool.new) → (s : _) → Shows spool.old s → IfOk result (λ status.
         (report : _) × IsReport settings.now.offset (listed_heads s) report × (status ≡ 0)
         × Appends (W.contents out.old) (W.contents out.new) report × Shows spool.new s) }
-    ensures late { IfErr result (λ fault. ¬ (IsEarly fault)) }
-    ensures not_read { result ≢ Err Fault.Read }
+    ensures late { IfErr result IsLate }
 {
     let jobs = spool.jobs(alloc).map_err(Fault::Store)?;
     if jobs.iter().any(|job| job.queued > LAST_SECOND) {
@@ -193,6 +297,51 @@ fn list<S: Alter, W: Write>(
     }
     let report = report_jobs(alloc, &jobs, settings)?;
     write(out, &report)?;
+    Ok(0)
+}
+
+// Prints the job of this number: its line, and then its bytes.
+fn show<S: Alter, W: Write>(
+    alloc: Global,
+    number: u32,
+    settings: &Settings,
+    spool: &mut Spool<S>,
+    out: &mut W,
+) -> Result<u8, Fault>
+    ensures done { HasCleanDisk (disk spool.new) → (s : _) → Shows spool.old s → IfOk result (λ status.
+        IsShown settings.now.offset (job_at s number) status
+        (λ bytes. Appends (W.contents out.old) (W.contents out.new) bytes) × Shows spool.new s) }
+    ensures late { IfErr result IsLate }
+{
+    match spool.job(alloc, number) {
+        Ok(Some((head, bytes))) => show_job(alloc, &head, &bytes, settings, out),
+        Ok(None) => {
+            write(out, b"no job\n")?;
+            Ok(1)
+        }
+        Err(fault) => Err(Fault::Store(fault)),
+    }
+}
+
+// Prints a job's line, and then its bytes.
+fn show_job<W: Write>(
+    alloc: Global,
+    head: &JobHead,
+    bytes: &[u8],
+    settings: &Settings,
+    out: &mut W,
+) -> Result<u8, Fault>
+    ensures shown { IfOk result (λ status. IsShown settings.now.offset (Some (job_with head.now bytes.now)) status
+        (λ shown. Appends (W.contents out.old) (W.contents out.new) shown)) }
+    ensures late { IfErr result IsLate }
+{
+    if head.queued > LAST_SECOND || head.size as usize != bytes.len() {
+        return Err(Fault::Store(StoreFault::Store(StoreKind::Database)));
+    }
+    let line = job_line(alloc, head, settings.offset)?;
+    let mut shown = line.into_bytes();
+    shown.extend_from_slice(bytes)?;
+    write(out, &shown)?;
     Ok(0)
 }
 
@@ -215,8 +364,14 @@ fn name_of(refusal: Refusal) -> &'static str
 {
     match refusal {
         Refusal::NoSystem => "NoSystem",
+        Refusal::NoJob => "NoJob",
+        Refusal::NotYours => "NotYours",
+        Refusal::JobTwice => "JobTwice",
+        Refusal::OtherSystem => "OtherSystem",
+        Refusal::Busy => "Busy",
         Refusal::TooLarge => "TooLarge",
         Refusal::NumbersOut => "NumbersOut",
+        Refusal::BadEntry => "BadEntry",
     }
 }
 

@@ -6,8 +6,7 @@ ghost use Rattle.uuspool.specs.Offsets.{IsOffset};
 
 use crate::fault::Fault;
 use std::alloc::Global;
-use uu_names::NameFault;
-use uu_store::{SiteName, Word};
+use uu_names::{NameFault, SiteName, Word};
 
 /// The settings of a site.
 #[derive(Debug, Drop)]
@@ -44,8 +43,8 @@ pub fn fixed_settings(alloc: Global) -> Result<Settings, Fault>
     })
 }
 
-// A fault of a text that is a name: only memory is left.
-fn memory(_fault: NameFault) -> Fault
+/// A fault of a text that is a name: only memory is left.
+pub(crate) fn memory(_fault: NameFault) -> Fault
     ensures { result ≡ Fault.Memory }
 {
     Fault::Memory

@@ -5,11 +5,11 @@ ghost use Rattle.std.specs.Prelude.{⊤, IfErr};
 ghost use Rattle.uuspool.specs.Lines.{IsWordsWhere};
 
 use crate::fault::Fault;
-use crate::line::bad_text;
 use std::alloc::Global;
 use std::str;
-use uu_names::NameFault;
-use uu_store::{SiteName, SystemDef};
+use uu_names::{NameFault, SiteName};
+use uu_times::system::DEFAULT_MAX_RETRIES;
+use uu_times::{Lines, SystemDef};
 
 /// The definitions of the text, in its order.
 ///
@@ -24,10 +24,20 @@ pub(crate) fn systems_of(alloc: Global, text: &[u8]) -> Result<Vec<SystemDef>, F
     let mut systems = Vec::new(alloc);
     for line in text.lines() {
         if let Some(name) = system_in(alloc, line)? {
-            systems.push(SystemDef { name })?;
+            systems.push(definition(alloc, name)?)?;
         }
     }
     Ok(systems)
+}
+
+// A system of this name, with no time lines yet.
+fn definition(alloc: Global, name: SiteName) -> Result<SystemDef, Fault>
+    ensures { IfErr result (IsWordsWhere ⊤) }
+{
+    match SystemDef::new(name, Lines::new(Vec::new(alloc)), DEFAULT_MAX_RETRIES) {
+        Some(system) => Ok(system),
+        None => Err(bad_line(alloc)),
+    }
 }
 
 // The system that a line begins, if it begins one.
@@ -54,5 +64,8 @@ fn is_blank(character: char) -> bool {
 fn bad_line(alloc: Global) -> Fault
     ensures { IsWordsWhere ⊤ result }
 {
-    bad_text(alloc, "a line of the sys file is not known")
+    match String::from_str(alloc, "error: a line of the sys file is not known\n") {
+        Ok(text) => Fault::Words { text, help: false },
+        Err(_) => Fault::Memory,
+    }
 }

@@ -29,7 +29,7 @@ fn run(rt: &HostRuntime) -> Result<u8, Fault> {
     let line = line_of(alloc, &words)?;
     let settings = fixed_settings(alloc)?;
     let now = second_of(rt, &line)?;
-    moment_of(alloc, now)?;
+    moment_of(now, &settings)?;
     let input = if line.task.has_input() {
         read_input(alloc, &mut rt.stdin())?
     } else {

@@ -1,7 +1,9 @@
 // Faults: which one comes, what is told of it, and what it leaves.
 use crate::support::{Limited, Narrow, fresh_spool, serve_into, words_of};
 use std::test::Fail;
+use uu_names::NameFault;
 use uu_store::{StoreFault, StoreKind};
+use uu_times::TimeFault;
 use uuspool::{Fault, INPUT_LIMIT, fault_line, fault_status, line_of, read_input};
 
 const DUKE: &[u8] = b"system duke\n";
@@ -20,6 +22,54 @@ fn each_fault_has_its_line_its_status_and_its_number(rt: HostRuntime) -> Result<
     for (fault, line, status, code) in [
         (words, "error: so\n", 2, 1),
         (help, "Usage\n", 0, 1),
+        (
+            Fault::Name(NameFault::BadGrade),
+            "uuspool: name: BadGrade\n",
+            2,
+            3,
+        ),
+        (
+            Fault::Name(NameFault::NoEnvelope),
+            "uuspool: name: NoEnvelope\n",
+            2,
+            3,
+        ),
+        (
+            Fault::Name(NameFault::Memory),
+            "uuspool: out of memory\n",
+            4,
+            3,
+        ),
+        (
+            Fault::Time(TimeFault::OffsetRange),
+            "uuspool: time: OffsetRange\n",
+            2,
+            4,
+        ),
+        (
+            Fault::Time(TimeFault::BadTime(12, 3)),
+            "uuspool: line 12: BadTime\n",
+            2,
+            4,
+        ),
+        (
+            Fault::Time(TimeFault::BadTime(0, 3)),
+            "uuspool: time: BadTime\n",
+            2,
+            4,
+        ),
+        (
+            Fault::Time(TimeFault::Memory),
+            "uuspool: out of memory\n",
+            4,
+            4,
+        ),
+        (
+            Fault::TwoSystems,
+            "uuspool: addresses of two systems\n",
+            2,
+            5,
+        ),
         (Fault::Input, "uuspool: too much input\n", 2, 6),
         (
             Fault::Store(StoreFault::Memory),
@@ -75,12 +125,17 @@ fn words_that_are_no_line_change_nothing(rt: HostRuntime) -> Result<(), Fail> {
         ("load extra", b""),
         ("--at x list", b""),
         ("--at 10000000000 list", b""),
-        ("--at 4102444801 list", b""),
         ("--at 1 --at 2 list", b""),
         ("list --at 1", b""),
-        ("--as ann\x7f list", b""),
-        ("send du/ke a b", b""),
-        ("send duke a\x7f b", b""),
+        ("show", b""),
+        ("show x", b""),
+        ("show 4294967296", b""),
+        ("mail", b""),
+        ("exec duke", b""),
+        ("exec duke lp -d laser", b""),
+        ("send duke a b -g N -g N", b""),
+        ("-g N send duke a b", b""),
+        ("list -g N", b""),
         ("load", b"system\n"),
         ("load", b"system duke\nport 1\n"),
         ("load", b"system duke\n\xff\n"),
@@ -98,6 +153,50 @@ fn words_that_are_no_line_change_nothing(rt: HostRuntime) -> Result<(), Fail> {
         serve_into(alloc, &mut spool, "send duke a b", b"", &mut out)??,
         1
     );
+    Ok(())
+}
+
+#[test]
+fn names_addresses_and_moments_are_told_in_order(rt: HostRuntime) -> Result<(), Fail> {
+    let alloc = rt.alloc();
+    let mut spool = fresh_spool(alloc)?;
+    let mut out = Vec::new(alloc);
+    let long = "send aaaaaaaaaaaaaaaaaaaaaaaaaaaaaaaaaaaaaaaaaaaaaaaaaaaaaaaaaaaaaaaa a b";
+    for (line, told) in [
+        ("--as ann\x7f list", "uuspool: name: BadWord\n"),
+        ("send du/ke a b", "uuspool: name: BadName\n"),
+        (long, "uuspool: name: TooLong\n"),
+        ("send duke a\x7f b", "uuspool: name: BadWord\n"),
+        ("send duke a b -g NN", "uuspool: name: BadGrade\n"),
+        ("request duke a b -g -", "uuspool: name: BadGrade\n"),
+        ("exec duke date a\x7f", "uuspool: name: BadWord\n"),
+        ("mail ann", "uuspool: name: BadPath\n"),
+        ("mail duke!a phs!b", "uuspool: addresses of two systems\n"),
+        ("--at 4102444801 list", "uuspool: time: MomentRange\n"),
+        // Of two faults the first in the order of the line is told.
+        ("--as ann\x7f send du/ke a b", "uuspool: name: BadWord\n"),
+        ("send du/ke a\x7f b -g NN", "uuspool: name: BadName\n"),
+        ("exec -g NN du/ke a", "uuspool: name: BadGrade\n"),
+        ("exec du/ke a\x7f", "uuspool: name: BadName\n"),
+        ("mail -g NN ann", "uuspool: name: BadGrade\n"),
+        ("mail duke!a phs!b ann", "uuspool: name: BadPath\n"),
+        (
+            "--at 4102444801 mail duke!a phs!b",
+            "uuspool: addresses of two systems\n",
+        ),
+        ("--at 4102444801 send du/ke a b", "uuspool: name: BadName\n"),
+    ] {
+        let Err(fault) = serve_into(alloc, &mut spool, line, b"", &mut out)? else {
+            return Err(Fail::from("a faulty line was carried out"));
+        };
+        assert_eq!(rt;
+            fault_line(alloc, &fault)?.as_slice(),
+            told.as_bytes(),
+            "{line}"
+        );
+        assert_eq!(rt; fault_status(&fault), 2, "{line}");
+    }
+    assert!(rt; out.is_empty());
     Ok(())
 }
 

@@ -3,9 +3,13 @@
 #![tactic(auto)]
 
 #[cfg(test)]
+mod adopting;
+#[cfg(test)]
 mod faults;
 #[cfg(test)]
 mod lines;
+#[cfg(test)]
+mod listing;
 #[cfg(test)]
 mod stops;
 #[cfg(test)]

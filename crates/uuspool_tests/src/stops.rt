@@ -4,9 +4,11 @@ use sqlite::{Connection, FileStore, Options};
 use sqlite_disk::{Crash, Disk, Files, Fuse, Memory};
 use std::alloc::Global;
 use std::test::Fail;
-use uu_store::{
-    Command, Grade, Kind, Moment, NewJob, Reply, SiteName, Spool, StoreFault, SystemDef, Word,
-};
+use uu_core::{Kind, NewJob, Reply};
+use uu_map::Listed;
+use uu_names::{Grade, SiteName, Word};
+use uu_store::{Command, Spool, StoreFault};
+use uu_times::{Lines, Moment, SystemDef};
 
 type FusedSpool = Spool<FileStore<Fuse<Memory>>>;
 
@@ -58,36 +60,89 @@ fn opened(
     }
 }
 
-fn definition(alloc: Global) -> Result<Command, Fail> {
-    let name = SiteName::parse(alloc, "duke")?;
-    Ok(Command::Define(SystemDef { name }))
+/// What the job is for.
+#[derive(Clone, Copy, Debug, PartialEq, Eq)]
+enum Work {
+    Send,
+    Request,
+    Execute,
 }
 
-fn job(alloc: Global, bytes: &[u8]) -> Result<Command, Fail> {
+impl Work {
+    fn kind(self, alloc: Global) -> Result<Kind, Fail> {
+        let first = Word::parse(alloc, "/tmp/a")?;
+        let second = Word::parse(alloc, "~/a")?;
+        Ok(match self {
+            Work::Send => Kind::Send {
+                source: first,
+                target: second,
+            },
+            Work::Request => Kind::Request {
+                source: first,
+                target: second,
+            },
+            Work::Execute => Kind::Execute {
+                command: first,
+                arguments: Listed::from_vec(Vec::from_array(alloc, [second])?),
+            },
+        })
+    }
+
+    /// Whether a job is for that.
+    fn is_that_of(self, kind: &Kind) -> bool {
+        match kind {
+            Kind::Send { source, target } => {
+                self == Work::Send && source.as_str() == "/tmp/a" && target.as_str() == "~/a"
+            }
+            Kind::Request { source, target } => {
+                self == Work::Request && source.as_str() == "/tmp/a" && target.as_str() == "~/a"
+            }
+            Kind::Execute { command, arguments } => {
+                self == Work::Execute
+                    && command.as_str() == "/tmp/a"
+                    && arguments.as_slice().len() == 1
+                    && arguments
+                        .as_slice()
+                        .iter()
+                        .all(|argument| argument.as_str() == "~/a")
+            }
+        }
+    }
+}
+
+fn definition(alloc: Global) -> Result<Command, Fail> {
+    let name = SiteName::parse(alloc, "duke")?;
+    let system = SystemDef::new(name, Lines::new(Vec::new(alloc)), 26).ok_or("no system")?;
+    Ok(Command::Define(system))
+}
+
+fn job(alloc: Global, work: Work, bytes: &[u8]) -> Result<Command, Fail> {
     Ok(Command::Queue(NewJob {
         system: SiteName::parse(alloc, "duke")?,
-        grade: Grade::default(),
+        grade: Grade::parse(b'A')?,
         user: Word::parse(alloc, "ann")?,
-        kind: Kind::Send {
-            source: Word::parse(alloc, "/tmp/a")?,
-            target: Word::parse(alloc, "~/a")?,
-        },
-        bytes: Vec::from_slice(alloc, bytes)?,
-        at: Moment::new(1_000_000_000).ok_or("no moment")?,
+        kind: work.kind(alloc)?,
+        bytes: Listed::from_vec(Vec::from_slice(alloc, bytes)?),
+        at: Moment::new(1_000_000_000, 0)?,
     }))
 }
 
 /// A Define and a Queue, up to the first fault. After one, the spool answers `Failed`.
-fn commands(alloc: Global, spool: &mut FusedSpool, bytes: &[u8]) -> Result<Ending, Fail> {
-    let answer = match spool.command(definition(alloc)?) {
-        Ok(Reply::Done) => spool.command(job(alloc, bytes)?),
+fn commands(
+    alloc: Global,
+    spool: &mut FusedSpool,
+    work: Work,
+    bytes: &[u8],
+) -> Result<Ending, Fail> {
+    let answer = match spool.command(alloc, definition(alloc)?) {
+        Ok(Reply::Done) => spool.command(alloc, job(alloc, work, bytes)?),
         other => other,
     };
     match answer {
         Ok(Reply::Number(1)) => Ok(Ending::Acknowledged),
         Ok(_) => Err(Fail::from("another answer")),
         Err(StoreFault::Store(_)) => {
-            if spool.command(definition(alloc)?) != Err(StoreFault::Failed) {
+            if spool.command(alloc, definition(alloc)?) != Err(StoreFault::Failed) {
                 return Err(Fail::from("a command after a stop"));
             }
             if spool.next() != Err(StoreFault::Failed) {
@@ -103,11 +158,12 @@ fn commands(alloc: Global, spool: &mut FusedSpool, bytes: &[u8]) -> Result<Endin
 fn run(
     alloc: Global,
     files: Files<Fuse<Memory>>,
+    work: Work,
     bytes: &[u8],
 ) -> Result<(Ending, Files<Fuse<Memory>>), Fail> {
     match opened(alloc, files)? {
         Ok(mut spool) => {
-            let ending = commands(alloc, &mut spool, bytes);
+            let ending = commands(alloc, &mut spool, work, bytes);
             let files = files_of(spool);
             Ok((ending?, files))
         }
@@ -120,6 +176,7 @@ fn shown(
     alloc: Global,
     files: Files<Fuse<Memory>>,
     ending: Ending,
+    work: Work,
     bytes: &[u8],
 ) -> Result<bool, Fail> {
     let Ok(mut spool) = opened(alloc, files)? else {
@@ -127,13 +184,17 @@ fn shown(
     };
     let heads = spool.jobs(alloc)?.len();
     let next = spool.next()?;
-    let job = spool.job(alloc, 1)?;
-    match job {
+    match spool.job(alloc, 1)? {
         Some((head, kept)) => Ok(
             heads == 1
                 && next == 2
+                && head.number == 1
                 && head.system.as_str() == "duke"
                 && head.user.as_str() == "ann"
+                && head.grade.as_byte() == b'A'
+                && head.queued == 1_000_000_000
+                && head.size as usize == bytes.len()
+                && work.is_that_of(&head.kind)
                 && kept.as_slice() == bytes,
         ),
         None => Ok(heads == 0 && next == 1 && ending == Ending::Stopped),
@@ -141,12 +202,12 @@ fn shown(
 }
 
 /// Stops at each call of one file, counting up until a run ends without a stop. Gives the number of stops.
-fn stop_at_each_call(alloc: Global, place: Place, bytes: &[u8]) -> Result<u64, Fail> {
+fn stop_at_each_call(alloc: Global, place: Place, work: Work, bytes: &[u8]) -> Result<u64, Fail> {
     for calls in 0..10_000 {
-        let (ending, mut files) = run(alloc, fused_files(alloc, place, calls), bytes)?;
+        let (ending, mut files) = run(alloc, fused_files(alloc, place, calls), work, bytes)?;
         files.log.crash();
         files.db.crash();
-        if !shown(alloc, files, ending, bytes)? {
+        if !shown(alloc, files, ending, work, bytes)? {
             return Err(Fail::from("the spool shows something else"));
         }
         if ending == Ending::Acknowledged {
@@ -154,6 +215,16 @@ fn stop_at_each_call(alloc: Global, place: Place, bytes: &[u8]) -> Result<u64, F
         }
     }
     Err(Fail::from("no run ends"))
+}
+
+/// Stops at each call of one file, for a job of each kind.
+fn stop_each_kind(alloc: Global, place: Place, bytes: &[u8]) -> Result<(), Fail> {
+    for work in [Work::Send, Work::Request, Work::Execute] {
+        if stop_at_each_call(alloc, place, work, bytes)? == 0 {
+            return Err(Fail::from("no stop"));
+        }
+    }
+    Ok(())
 }
 
 /// A job's bytes, larger than a page of the database.
@@ -167,26 +238,22 @@ fn large(alloc: Global) -> Result<Vec<u8>, Fail> {
 
 #[test]
 fn a_stop_of_the_log_leaves_an_empty_job_whole_or_absent(rt: HostRuntime) -> Result<(), Fail> {
-    assert!(rt; stop_at_each_call(rt.alloc(), Place::Log, b"")? > 0);
-    Ok(())
+    stop_each_kind(rt.alloc(), Place::Log, b"")
 }
 
 #[test]
 fn a_stop_of_the_database_leaves_an_empty_job_whole_or_absent(rt: HostRuntime) -> Result<(), Fail> {
-    assert!(rt; stop_at_each_call(rt.alloc(), Place::Database, b"")? > 0);
-    Ok(())
+    stop_each_kind(rt.alloc(), Place::Database, b"")
 }
 
 #[test]
 fn a_stop_of_the_log_leaves_a_large_job_whole_or_absent(rt: HostRuntime) -> Result<(), Fail> {
     let bytes = large(rt.alloc())?;
-    assert!(rt; stop_at_each_call(rt.alloc(), Place::Log, &bytes)? > 0);
-    Ok(())
+    stop_each_kind(rt.alloc(), Place::Log, &bytes)
 }
 
 #[test]
 fn a_stop_of_the_database_leaves_a_large_job_whole_or_absent(rt: HostRuntime) -> Result<(), Fail> {
     let bytes = large(rt.alloc())?;
-    assert!(rt; stop_at_each_call(rt.alloc(), Place::Database, &bytes)? > 0);
-    Ok(())
+    stop_each_kind(rt.alloc(), Place::Database, &bytes)
 }

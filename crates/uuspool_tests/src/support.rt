@@ -40,6 +40,18 @@ pub(crate) fn serve_into<S: Alter, W: Write>(
     Ok(serve(alloc, &words, &settings, NOW, input, spool, out))
 }
 
+/// Runs a line that has to end without a fault: its status and what it prints.
+pub(crate) fn printed<S: Alter>(
+    alloc: Global,
+    spool: &mut Spool<S>,
+    line: &str,
+    input: &[u8],
+) -> Result<(u8, Vec<u8>), Fail> {
+    let mut out = Vec::new(alloc);
+    let status = serve_into(alloc, spool, line, input, &mut out)??;
+    Ok((status, out))
+}
+
 /// A writer that takes so many bytes and then fails.
 #[derive(Drop)]
 pub(crate) struct Narrow {

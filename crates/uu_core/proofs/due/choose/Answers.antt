@@ -1,11 +1,9 @@
 -- Each job is listed or passed as in the walk.
-use Rattle.std.proofs.Common.{◌≡◌, ◌<◌, ◌||◌, ◌&&◌, ◌+◌, ◌++◌, ◌∷◌, [], take, drop, map, length, get_or, List, ℕ, Bool, Option, None, true, false, not, cond, nat_cmp, Bor, IsPermutation, sym, ap, subst, refl, ◌∙◌, arith, append-nil}
-use Rattle.std.specs.BTreeMap.{get, is_at}
+use Rattle.std.proofs.Common.{◌≡◌, ◌<◌, ◌&&◌, ◌+◌, ◌++◌, ◌∷◌, [], take, drop, map, length, get_or, List, None, true, not, cond, nat_cmp, Bor, IsPermutation, sym, ap, subst, ◌∙◌, arith, append-nil}
+use Rattle.std.specs.BTreeMap.{get}
 use Rattle.std.specs.Cmp.Lexicographic.{slice_cmp, texts_ties}
 use Rattle.std.proofs.lemmas.List.{take_more, drop_all, length-map}
 use Rattle.uu_core.specs.declared.job.JobHead.{JobHead}
-use Rattle.uu_core.specs.declared.due.Due.{Due}
-use Rattle.uu_core.specs.State.{same_text}
 use Rattle.uu_core.specs.Due.{is_within, may_be_called, may_go, is_next, walk, walk_after, due_of, AreDue, AreInOrder}
 use Rattle.uu_core.proofs.DueLemmas.{is_called_before, free_listed, free_passed, step_listed, step_passed, walk_is_due, map_at, and-left}
 use Rattle.uu_core.proofs.due.choose.Goals as goal

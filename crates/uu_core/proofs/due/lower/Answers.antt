@@ -1,6 +1,6 @@
 -- The greater of the two limits stands under the name, and under no other name anything changes.
-use Rattle.std.proofs.Common.{◌≡◌, List, ℕ, Option, Some, None, cond, nat_cmp, sym, ap, ◌∙◌, refl}
-use Rattle.std.specs.BTreeMap.{get, get_by, is_at}
+use Rattle.std.proofs.Common.{◌≡◌, List, ℕ, Some, cond, nat_cmp, sym, ap, ◌∙◌}
+use Rattle.std.specs.BTreeMap.{get, is_at}
 use Rattle.std.specs.Cmp.Lexicographic.{slice_cmp, texts_ties}
 use Rattle.uu_core.specs.State.{same_text}
 use Rattle.uu_core.proofs.DueLemmas.{lowered, with_limit, same_is}

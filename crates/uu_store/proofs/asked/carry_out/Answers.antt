@@ -8,5 +8,5 @@ returns-in-Ok-clause-turns g c s =
 
 pub returns-in-Err-clause-turns : goal.returns-in-Err-clause-turns
 returns-in-Err-clause-turns g c s =
-    turns_err s c.args.command.now (state g.S.Store c.args.conn.now) (state g.S.Store c.obey.new.conn) (state g.S.Store c.store_fault.new.conn) c.in-Err.error c.store_fault.result
-    (rw c.in-Err.is at (c.obey.ensures.obeys s)) c.store_fault.ensures.memory c.store_fault.ensures.survives
+    turns_err s c.args.command.now (state g.S.Store c.args.conn.now) (state g.S.Store c.obey.new.conn) (state g.S.Store c.halt_fault.new.conn) c.in-Err.halt c.halt_fault.result
+    (rw c.in-Err.is at (c.obey.ensures.obeys s)) c.halt_fault.ensures.memory c.halt_fault.ensures.survives

@@ -13,4 +13,4 @@ returns-in-Ok-job_in-clause-replies g c =
     let a = state g.S.Store c.args.conn.now in
     let b = state g.S.Store c.ask_job.new.conn in
     replies_ok (λ s found. option_map job_shown found ≡ job_at s c.args.number) a b c.ask_job.result (answered _ _ c.in-Ok.is) c.ask_job.ensures.told _
-    (λ clean s enc. job_is s c.args.number c.in-Ok.rows.items c.in-Ok-job_in.job (job_rows a b s c.args.number c.in-Ok.rows.items enc (c.in-Ok.ensures.rows clean)) (rw c.deref.ensures.value at c.in-Ok-job_in.ensures))
+    (λ clean s enc. job_is s c.args.number c.in-Ok.rows.items c.in-Ok-job_in.job enc.holds.good.jobs c.in-Ok-job_in.ensures.words (job_rows a b s c.args.number c.in-Ok.rows.items enc (c.in-Ok.ensures.rows clean)) (rw c.deref.ensures.value at c.in-Ok-job_in.ensures.row))

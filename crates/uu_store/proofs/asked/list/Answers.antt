@@ -12,4 +12,4 @@ returns-in-Ok-heads_in-clause-replies g c =
     let a = state g.S.Store c.args.conn.now in
     let b = state g.S.Store c.ask_jobs.new.conn in
     replies_ok (λ s heads. heads.items ≡ listed_heads s) a b c.ask_jobs.result (answered _ _ c.in-Ok.is) c.ask_jobs.ensures.told _
-    (λ clean s enc. heads_are s c.in-Ok.rows.items c.in-Ok-heads_in.heads.items (jobs_rows a b s c.in-Ok.rows.items enc (c.in-Ok.ensures.rows clean)) (rw c.deref.ensures.value at c.in-Ok-heads_in.ensures))
+    (λ clean s enc. heads_are s c.in-Ok.rows.items c.in-Ok-heads_in.heads.items enc.holds.good.jobs c.in-Ok-heads_in.ensures.words (jobs_rows a b s c.in-Ok.rows.items enc (c.in-Ok.ensures.rows clean)) (rw c.deref.ensures.value at c.in-Ok-heads_in.ensures.rows))

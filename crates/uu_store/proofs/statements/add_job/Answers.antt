@@ -1,30 +1,30 @@
 use Rattle.std.proofs.Common.{◌≡◌, ◌+◌, false, subst, rules}
 use Rattle.sqlite.specs.Held.{state}
 use Rattle.uu_sql.specs.Steps.{Both, Whole}
-use Rattle.uu_sql.proofs.Steps.{abandoned, committed}
+use Rattle.uu_sql.proofs.Steps.{abandoned, committed, whole_as}
 use Rattle.uu_store.specs.Schema.{site}
 use Rattle.uu_store.specs.Rows.{JobAdded, NextSet}
-use Rattle.uu_store.specs.Machine.{job_of}
-use Rattle.uu_store.specs.Encoded.{stored}
+use Rattle.uu_store.specs.Columns.{row_of}
 use Rattle.uu_store.proofs.statements.add_job.Goals as goal
 
 pub returns : goal.returns
 returns g c =
     let end = c.commit.new.self.0 in
     let same : end ≡ c.conn-2-1.given.0 = search rules in
-    let Step = Both (JobAdded (stored (job_of c.args.number c.args.job.now))) (NextSet (c.args.number + 1)) in
+    let Step = Both (JobAdded (row_of c.args.number c.args.columns.now)) (NextSet (c.args.number + 1)) in
     record {
       idle = subst (λ h. (state g.S.Store h).in_transaction ≡ false) same c.commit.ensures.ended;
-      whole = subst (λ h. Whole site site Step (state g.S.Store c.args.conn.now) (state g.S.Store h) c.commit.result) same
+      whole = subst (λ h. Whole site site Step (state g.S.Store c.args.conn.now) (state g.S.Store h) c.map_err.result) same
+          (whole_as site site Step (state g.S.Store c.args.conn.now) (state g.S.Store end) c.commit.result c.map_err.result (search rules)
           (committed site site g.S.Store Step c.args.conn.now (state g.S.Store c.insert_job_and_next.new.tx.conn.now) (state g.S.Store end) c.commit.ensures.ended (g.met.S.Store.settled end.store) c.commit.result
-          (rw c.transaction-tx.ensures.begun at c.in_ok-insert_job_and_next.ensures.outcome) c.commit.ensures.survives c.commit.ensures.ok c.commit.ensures.err);
+          (rw c.transaction-tx.ensures.begun at c.in_ok-insert_job_and_next.ensures.outcome) c.commit.ensures.survives c.commit.ensures.ok c.commit.ensures.err));
     }
 
 pub returns-in_err-insert_job_and_next : goal.returns-in_err-insert_job_and_next
 returns-in_err-insert_job_and_next g c =
     let end = c.drop-tx.new.self.0 in
     let same : end ≡ c.conn-1.given.0 = search rules in
-    let Step = Both (JobAdded (stored (job_of c.args.number c.args.job.now))) (NextSet (c.args.number + 1)) in
+    let Step = Both (JobAdded (row_of c.args.number c.args.columns.now)) (NextSet (c.args.number + 1)) in
     record {
       idle = subst (λ h. (state g.S.Store h).in_transaction ≡ false) same c.drop-tx.ensures.ended;
       whole = subst (λ h. Whole site site Step (state g.S.Store c.args.conn.now) (state g.S.Store h) c.from_residual.result) same

@@ -1,7 +1,7 @@
 use Rattle.std.proofs.Common.{◌≡◌, false, subst, rules}
 use Rattle.sqlite.specs.Held.{state}
 use Rattle.uu_sql.specs.Steps.{Whole}
-use Rattle.uu_sql.proofs.Steps.{abandoned, committed}
+use Rattle.uu_sql.proofs.Steps.{abandoned, committed, whole_as}
 use Rattle.uu_store.specs.Schema.{site, no_schema}
 use Rattle.uu_store.specs.Rows.{TablesMade}
 use Rattle.uu_store.proofs.statements.create.Goals as goal
@@ -13,9 +13,10 @@ returns g c =
     let Step = TablesMade in
     record {
       idle = subst (λ h. (state g.S.Store h).in_transaction ≡ false) same c.commit.ensures.ended;
-      whole = subst (λ h. Whole no_schema site Step (state g.S.Store c.args.conn.now) (state g.S.Store h) c.commit.result) same
+      whole = subst (λ h. Whole no_schema site Step (state g.S.Store c.args.conn.now) (state g.S.Store h) c.map_err.result) same
+          (whole_as no_schema site Step (state g.S.Store c.args.conn.now) (state g.S.Store end) c.commit.result c.map_err.result (search rules)
           (committed no_schema site g.S.Store Step c.args.conn.now (state g.S.Store c.create_tables.new.tx.conn.now) (state g.S.Store end) c.commit.ensures.ended (g.met.S.Store.settled end.store) c.commit.result
-          (rw c.transaction-tx.ensures.begun at c.in_ok-create_tables.ensures.outcome) c.commit.ensures.survives c.commit.ensures.ok c.commit.ensures.err);
+          (rw c.transaction-tx.ensures.begun at c.in_ok-create_tables.ensures.outcome) c.commit.ensures.survives c.commit.ensures.ok c.commit.ensures.err));
     }
 
 pub returns-in_err-create_tables : goal.returns-in_err-create_tables

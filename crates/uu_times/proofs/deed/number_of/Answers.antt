@@ -1,8 +1,8 @@
-use Rattle.std.proofs.Common.{◌≡◌, ◌<◌, ◌≤◌, ◌+◌, ◌-◌, ◌*◌, ◌&&◌, ℕ, Some, None, sym, ap, arith, drop, suc, get_or, length, nat_le, drop-cons, ◌∙◌}
+use Rattle.std.proofs.Common.{◌≡◌, ◌<◌, ◌+◌, ◌-◌, ◌*◌, ◌&&◌, Some, None, sym, ap, arith, drop, suc, get_or, length, nat_le, drop-cons, ◌∙◌}
 use Rattle.std.proofs.lemmas.Bool.{cond-false, and_right, lt-leb}
 use Rattle.std.specs.Char.{is_ascii_digit}
 use Rattle.std.specs.List.{list_all}
-use Rattle.uu_times.specs.Deeds.{value_behind, number_of}
+use Rattle.uu_times.specs.Deeds.{value_behind}
 use Rattle.uu_times.proofs.NumberLemmas.{value-grows}
 use Rattle.uu_times.proofs.deed.number_of.Goals as goal
 

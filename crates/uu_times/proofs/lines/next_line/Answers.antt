@@ -1,5 +1,5 @@
 use Rattle.std.proofs.Common.{sym, ap, arith, length, ◌-◌, ◌+◌, ◌∙◌, ◌∷◌, drop, length-drop, take_all}
-use Rattle.std.specs.Str.Lines.{lines, strip_carriage_return}
+use Rattle.std.specs.Str.Lines.{lines}
 use Rattle.uu_times.proofs.LineLemmas.{lines-only, lines-first}
 use Rattle.uu_times.proofs.lines.next_line.Goals as goal
 

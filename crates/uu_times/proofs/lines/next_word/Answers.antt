@@ -1,4 +1,4 @@
-use Rattle.std.proofs.Common.{◌≡◌, ◌<◌, ℕ, length, take, ap, sym, arith, ◌∙◌, ◌∷◌}
+use Rattle.std.proofs.Common.{◌<◌, length, take, ap, sym, arith, ◌∙◌, ◌∷◌}
 use Rattle.uu_times.specs.Lines.{words_of}
 use Rattle.uu_times.proofs.WordLemmas.{words-none, words-next}
 use Rattle.uu_times.proofs.lines.next_word.Goals as goal

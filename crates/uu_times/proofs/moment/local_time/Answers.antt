@@ -1,5 +1,5 @@
-use Rattle.std.proofs.Common.{◌≡◌, ◌<◌, sym, refl, ap, subst, ◌∙◌, arith, pos, ◌+ℤ◌, ◌*ℤ◌, FitsSigned, w32, w64, ℤ, IfOk}
-use Rattle.std.proofs.lemmas.Int.{ints, to_z-of_z, to_z_pos}
+use Rattle.std.proofs.Common.{◌≡◌, ◌<◌, arith, pos, ◌+ℤ◌, ◌*ℤ◌}
+use Rattle.std.proofs.lemmas.Int.{ints}
 use Rattle.jiff.specs.Words.{civil_nanos, epoch_day, time_nanos}
 use Rattle.uu_times.specs.Moment.{local_second}
 use Rattle.uu_times.proofs.Clock.{day_time}

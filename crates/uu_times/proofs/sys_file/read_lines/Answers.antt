@@ -1,4 +1,4 @@
-use Rattle.std.proofs.Common.{◌≡◌, ◌+◌, ◌∷◌, ℕ, List, ap, sym, ◌∙◌, arith}
+use Rattle.std.proofs.Common.{◌+◌, ◌∷◌, ℕ, List, ap, sym, ◌∙◌, arith}
 use Rattle.std.specs.Str.Lines.{lines}
 use Rattle.uu_times.specs.Lines.{Numbered, joined}
 use Rattle.uu_times.specs.Reading.{no_reading, lines_read}

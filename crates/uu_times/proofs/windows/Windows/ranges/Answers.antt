@@ -1,5 +1,5 @@
 use Rattle.std.proofs.Common.{◌≡◌, sym, refl, subst, ◌∙◌}
-use Rattle.uu_times.specs.Ranges.{holds, AreRuns, maximal_runs}
+use Rattle.uu_times.specs.Ranges.{holds, AreRuns}
 use Rattle.uu_times.proofs.Runs.{maximal_runs-runs}
 use Rattle.uu_times.proofs.windows.Windows.ranges.Goals as goal
 

@@ -1,0 +1,415 @@
+-- Each command keeps a state well-formed.
+use Rattle.std.proofs.Common.{◌≡◌, ℕ, suc, ◌+◌, ◌<◌, ◌≤◌, ◌*◌, max, Bool, true, false, not, cond, leb, ltb, ◌==◌, ◌||◌, List, [], ◌∷◌, ◌++◌, map, filter, find, length, All, AllPairs, Contains, IfSome, IsTrue, Option, Some, None, Result, Ok, Err, get_or, option_and_then, unwrap_or, nat_cmp, refl, ap, sym, ◌∙◌, subst, arith}
+use Rattle.std.specs.List.{list_any}
+use Rattle.std.specs.declared.cmp.Ordering.{Ordering}
+use Rattle.std.specs.declared.cmp.Ordering.TheVariants.{Less, Equal, Greater}
+use Rattle.std.specs.Ordering.{ordering_reverse}
+use Rattle.std.specs.Cmp.Lexicographic.{slice_cmp, bytes_decides}
+use Rattle.std.proofs.lemmas.Bool.{cond_both}
+use Rattle.std.proofs.lemmas.Bool.Decides.{nat_tests}
+use Rattle.std.proofs.lemmas.Cmp.{nat_list_cmp_total}
+use Rattle.std.proofs.lemmas.Map.Lookups.{exact_bytes}
+use Rattle.std.proofs.lemmas.List.Kept.{AllPairs-cons, AllPairs-filter}
+use Rattle.std.proofs.lemmas.List.Elements.{All-nil, All-cons, All-head, All-tail, All-weaker, All-map, All-push, All-filter, All-contains_itself}
+use Rattle.uu_map.specs.Text.{host_of}
+use Rattle.uu_map.specs.declared.fault.MapFault.{MapFault}
+use Rattle.uu_times.specs.System.{System, HasRetry, IsRetry}
+use Rattle.uu_times.specs.declared.moment.Moment.{Moment}
+use Rattle.uu_times.specs.declared.system.Line.{Line}
+use Rattle.uu_core.specs.declared.command.Command.{Command}
+use Rattle.uu_core.specs.declared.command.Command.TheVariants.{Define, Remove, Queue, Kill, Regrade, Rejuvenate, Failed, Done, Entry}
+use Rattle.uu_core.specs.declared.job.Kind.{Kind}
+use Rattle.uu_core.specs.declared.job.Kind.TheVariants.{Send, Request, Execute}
+use Rattle.uu_core.specs.declared.job.NewJob.{NewJob}
+use Rattle.uu_core.specs.declared.refusal.Refusal.{Refusal}
+use Rattle.uu_core.specs.declared.system.CallState.{CallState}
+use Rattle.uu_core.specs.declared.system.SystemRow.{SystemRow}
+use Rattle.uu_core.specs.State.{State, Job, MapEntry, IsWellFormed, IsJob, IsKind, IsCall, IsDefinition, ComesBefore, same_text, has_system, is_waiting, is_system, system_at, is_job, numbers_end, most_bytes, empty}
+use Rattle.uu_core.specs.Waiting.{one_more, lines_at, limit_at, line_at, retry_minutes, growing_minutes, wait_after}
+use Rattle.uu_core.specs.Verdict.{verdict, is_too_large, has_many_arguments}
+use Rattle.uu_core.specs.After.{after, after_verdict, accept, put_by, by_order, put_system, call_of, change_job, change_call, job_of, failed_call, done_call, keep_entry, is_among}
+use Rattle.uu_core.specs.Run.{state_after}
+use Rattle.uu_core.specs.WellFormed.{IsCommand, IsNewJob, HasWords}
+use Rattle.uu_core.proofs.Members.{kept, mapped, some_passes, passing_one}
+
+-- ---- pairs of a list
+
+module _ {X : Type 0} (R : X → X → Type 0) where
+  pub pairs-first : (x : X) (xs : List X) → AllPairs R (x ∷ xs) → All (R x) xs
+  pairs-first x xs h k d within = h 0 (suc k) d (omega arith) (omega arith)
+
+  pub pairs-rest : (x : X) (xs : List X) → AllPairs R (x ∷ xs) → AllPairs R xs
+  pairs-rest x xs h i j d below within = h (suc i) (suc j) d (omega arith) (omega arith)
+
+  pub pairs-nil : AllPairs R []
+  pairs-nil i j d below within = absurd (omega (arith, within))
+
+  pairs-map : (f : X → X) → ((a b : X) → R a b → R (f a) (f b)) → (xs : List X) → AllPairs R xs → AllPairs R (map f xs)
+  pairs-map f keeps [] h = pairs-nil
+  pairs-map f keeps (x ∷ xs) h =
+      AllPairs-cons R (f x) (map f xs) (All-map (R (f x)) f xs (All-weaker (R x) (λ y. R (f x) (f y)) (λ y. keeps x y) xs (pairs-first x xs h))) (pairs-map f keeps xs (pairs-rest x xs h))
+
+  pub pairs-push : (xs : List X) (y : X) → All (λ x. R x y) xs → AllPairs R xs → AllPairs R (xs ++ y ∷ [])
+  pairs-push [] y below h = AllPairs-cons R y [] (All-nil (R y)) pairs-nil
+  pairs-push (x ∷ xs) y below h =
+      AllPairs-cons R x (xs ++ y ∷ []) (All-push (R x) xs y (pairs-first x xs h) (All-head (λ z. R z y) x xs below)) (pairs-push xs y (All-tail (λ z. R z y) x xs below) (pairs-rest x xs h))
+
+-- ---- an item put in its place
+
+or-true : (a : Bool) → a || true ≡ true
+or-true true = refl
+or-true false = refl
+
+module _ {V : Type 0} (name : V → List ℕ) (item : V) where
+  put-all : (P : V → Type 0) (xs : List V) → P item → All P xs → All P (put_by name item xs)
+  put-all P [] p h = All-cons P item [] p h
+  put-all P (x ∷ xs) p h = by-place (slice_cmp nat_cmp (name item) (name x)) (put-all P xs p (All-tail P x xs h))
+    where
+      by-place : (r : Ordering) → All P (put_by name item xs) → All P (by_order r (item ∷ x ∷ xs) (item ∷ xs) (x ∷ put_by name item xs))
+      by-place Less again = All-cons P item (x ∷ xs) p h
+      by-place Equal again = All-cons P item xs p (All-tail P x xs h)
+      by-place Greater again = All-cons P x (put_by name item xs) (All-head P x xs h) again
+
+  pub put-in_order : (xs : List V) → AllPairs (λ a b. ComesBefore (name a) (name b)) xs → AllPairs (λ a b. ComesBefore (name a) (name b)) (put_by name item xs)
+  put-in_order [] h = AllPairs-cons (λ a b. ComesBefore (name a) (name b)) item [] (All-nil (λ b. ComesBefore (name item) (name b))) h
+  put-in_order (x ∷ xs) h = by-place (slice_cmp nat_cmp (name item) (name x)) refl (put-in_order xs (pairs-rest R x xs h))
+    where
+      R : V → V → Type 0
+      R a b = ComesBefore (name a) (name b)
+
+      by-place : (r : Ordering) → slice_cmp nat_cmp (name item) (name x) ≡ r → AllPairs R (put_by name item xs) → AllPairs R (by_order r (item ∷ x ∷ xs) (item ∷ xs) (x ∷ put_by name item xs))
+      by-place Less e again =
+          AllPairs-cons R item (x ∷ xs) (All-cons (R item) x xs e (All-weaker (R x) (R item) (λ y l. nat_list_cmp_total.trans (name item) (name x) (name y) e l) xs (pairs-first R x xs h))) h
+      by-place Equal e again =
+          AllPairs-cons R item xs (All-weaker (R x) (R item) (λ y l. nat_list_cmp_total.congr (name item) (name x) (name y) e ∙ l) xs (pairs-first R x xs h)) (pairs-rest R x xs h)
+      by-place Greater e again =
+          AllPairs-cons R x (put_by name item xs) (put-all (R x) xs (nat_list_cmp_total.antisymm (name x) (name item) ∙ ap ordering_reverse e) (pairs-first R x xs h)) again
+
+  -- a test that looks at the name alone still passes for one of them
+  put-any : (p : List ℕ → Bool) (xs : List V) → list_any (λ v. p (name v)) xs ≡ true → list_any (λ v. p (name v)) (put_by name item xs) ≡ true
+  put-any p [] h = absurd (apart h)
+    where
+      apart : false ≡ true → ⊥
+      apart q = cc
+  put-any p (x ∷ xs) h = by-place (slice_cmp nat_cmp (name item) (name x)) refl (put-any p xs)
+    where
+      any : List V → Bool
+      any = list_any (λ v. p (name v))
+
+      first : (t : Bool) → p (name x) ≡ t → t || any xs ≡ true → (p (name item) ≡ t) → p (name item) || any xs ≡ true
+      first true e h same = ap (λ b. b || any xs) same
+      first false e h same = ap (λ b. p (name item) || b) h ∙ or-true (p (name item))
+
+      later : (t : Bool) → t || any xs ≡ true → (any xs ≡ true → any (put_by name item xs) ≡ true) → t || any (put_by name item xs) ≡ true
+      later true h again = refl
+      later false h again = again h
+
+      by-place : (r : Ordering) → slice_cmp nat_cmp (name item) (name x) ≡ r → (any xs ≡ true → any (put_by name item xs) ≡ true) → any (by_order r (item ∷ x ∷ xs) (item ∷ xs) (x ∷ put_by name item xs)) ≡ true
+      by-place Less e again = ap (λ b. p (name item) || b) h ∙ or-true (p (name item))
+      by-place Equal e again = first (p (name x)) refl h (ap p (exact_bytes (name item) (name x) e))
+      by-place Greater e again = later (p (name x)) h again
+
+-- ---- jobs and systems that change
+
+module _ (P : Job → Type 0) where
+  pub jobs-changed : (number : ℕ) (change : Job → Job) (jobs : List Job) → ((j : Job) → P j → P (change j)) → All P jobs → All P (change_job number change jobs)
+  jobs-changed number change jobs keeps h =
+      All-map P (λ j. cond (is_job number j) (change j) j) jobs (All-weaker P (λ j. P (cond (is_job number j) (change j) j)) (λ j p. cond_both (is_job number j) (change j) j P (λ _. keeps j p) (λ _. p)) jobs h)
+
+pub jobs-rise : (number : ℕ) (change : Job → Job) (jobs : List Job) → ((j : Job) → (change j).number ≡ j.number) → AllPairs (λ (a b : Job). a.number < b.number) jobs → AllPairs (λ (a b : Job). a.number < b.number) (change_job number change jobs)
+jobs-rise number change jobs same h =
+    pairs-map (λ (a b : Job). a.number < b.number) f (λ a b l. omega (arith, still a, still b, l)) jobs h
+  where
+    f : Job → Job
+    f j = cond (is_job number j) (change j) j
+
+    still : (j : Job) → (f j).number ≡ j.number
+    still j = cond_both (is_job number j) (change j) j (λ (k : Job). k.number ≡ j.number) (λ _. same j) (λ _. refl)
+
+module _ (name : List ℕ) (change : SystemRow → CallState) where
+  abbrev called : SystemRow → SystemRow
+  called row = cond (is_system name row) (record row { call = change row }) row
+
+  still_defined : (row : SystemRow) → (called row).def ≡ row.def
+  still_defined row = cond_both (is_system name row) (record row { call = change row }) row (λ (r : SystemRow). r.def ≡ row.def) (λ _. refl) (λ _. refl)
+
+  calls-definitions : (rows : List SystemRow) → All (λ (row : SystemRow). IsDefinition row.def) rows → All (λ (row : SystemRow). IsDefinition row.def) (change_call name change rows)
+  calls-definitions rows h =
+      All-map (λ (row : SystemRow). IsDefinition row.def) called rows (All-weaker (λ (row : SystemRow). IsDefinition row.def) (λ row. IsDefinition (called row).def) (λ row p. subst IsDefinition (sym (still_defined row)) p) rows h)
+
+  one-call : ((row : SystemRow) → IsDefinition row.def → IsCall row.call → IsCall (change row)) → (row : SystemRow) → IsDefinition row.def → IsCall row.call → IsCall (called row).call
+  one-call good row def call = cond_both (is_system name row) (record row { call = change row }) row (λ (r : SystemRow). IsCall r.call) (λ _. good row def call) (λ _. call)
+
+  calls-calls : (rows : List SystemRow) → ((row : SystemRow) → IsDefinition row.def → IsCall row.call → IsCall (change row)) → All (λ (row : SystemRow). IsDefinition row.def) rows → All (λ (row : SystemRow). IsCall row.call) rows → All (λ (row : SystemRow). IsCall row.call) (change_call name change rows)
+  calls-calls rows good defs h =
+      All-map (λ (row : SystemRow). IsCall row.call) called rows (λ k d inside. one-call good (get_or rows k d) (defs k d inside) (h k d inside))
+
+  pub calls-in_order : (rows : List SystemRow) → AllPairs (λ (a b : SystemRow). ComesBefore a.def.name b.def.name) rows → AllPairs (λ (a b : SystemRow). ComesBefore a.def.name b.def.name) (change_call name change rows)
+  calls-in_order rows h =
+      pairs-map (λ (a b : SystemRow). ComesBefore a.def.name b.def.name) called (λ a b l. ap (λ (d : System). slice_cmp nat_cmp d.name (called b).def.name) (still_defined a) ∙ ap (λ (d : System). slice_cmp nat_cmp a.def.name d.name) (still_defined b) ∙ l) rows h
+
+  calls-any : (rows : List SystemRow) (other : List ℕ) → list_any (is_system other) rows ≡ true → list_any (is_system other) (change_call name change rows) ≡ true
+  calls-any rows other h =
+      let r = passing_one (is_system other) rows h in
+      some_passes (is_system other) (map called rows) (called r.0) (mapped called rows r.0 r.1) (ap (λ (d : System). same_text d.name other) (still_defined r.0) ∙ r.2)
+
+-- ---- why a command is accepted
+
+pub none_first : (test : Bool) (refusal : Refusal) (more : Option Refusal) → cond test (Some refusal) more ≡ None → (test ≡ false) × (more ≡ None)
+none_first true refusal more e = absurd (apart e)
+  where
+    apart : Some refusal ≡ None → ⊥
+    apart q = cc
+none_first false refusal more e = (refl, e)
+
+pub not_false : (t : Bool) → not t ≡ false → t ≡ true
+not_false true e = refl
+not_false false e = sym e
+
+pub or_false : (a b : Bool) → a || b ≡ false → (a ≡ false) × (b ≡ false)
+or_false false b e = (refl, e)
+or_false true b e = absurd (apart e)
+  where
+    apart : true ≡ false → ⊥
+    apart q = cc
+
+pub within : (most n : ℕ) → ltb most n ≡ false → n ≤ most
+within most n e = grind (arith, nat_tests)
+
+kind_within : (kind : Kind) → HasWords kind → has_many_arguments kind ≡ false → IsKind kind
+kind_within (Send source target) h e = h
+kind_within (Request source target) h e = h
+kind_within (Execute command arguments) h e = (h.0, h.1, within 64 (length arguments) e)
+
+-- ---- waits
+
+find-has : {X : Type 0} (P : X → Type 0) (p : X → Bool) (xs : List X) → All P xs → IfSome (find p xs) P
+find-has P p [] h = tt
+find-has P p (x ∷ xs) h = cond_both (p x) (Some x) (find p xs) (λ o. IfSome o P) (λ _. All-head P x xs h) (λ _. find-has P p xs (All-tail P x xs h))
+
+line-has : (lines : List Line) (week : ℕ) (limit : Option ℕ) → All HasRetry lines → IfSome (option_and_then (λ grade. find (λ line. line.grade == grade) (lines_at lines week)) limit) HasRetry
+line-has lines week None h = tt
+line-has lines week (Some grade) h = find-has HasRetry (λ line. line.grade == grade) (lines_at lines week) (All-filter _ HasRetry lines h)
+
+retry-within : (line : Option Line) (growing : ℕ) → IfSome line HasRetry → growing ≤ 1440 → unwrap_or (option_and_then (λ l. l.retry) line) growing ≤ 525600
+retry-within None growing h g = omega (arith, g)
+retry-within (Some line) growing h g = by-retry line.retry h
+  where
+    by-retry : (retry : Option ℕ) → IfSome retry IsRetry → unwrap_or retry growing ≤ 525600
+    by-retry None h = omega (arith, g)
+    by-retry (Some minutes) h = h.1
+
+growing-within : (failures : ℕ) → growing_minutes failures ≤ 1440
+growing-within failures = omega arith
+
+minutes-within : (test : Bool) (minutes : ℕ) → minutes ≤ 525600 → 60 * cond test (max minutes 1440) minutes ≤ 31536000
+minutes-within true minutes h = omega (arith, h)
+minutes-within false minutes h = omega (arith, h)
+
+wait-within : (def : System) (week failures : ℕ) → IsDefinition def → wait_after def week failures ≤ 31536000
+wait-within def week failures h =
+    minutes-within (leb def.max_retries failures) (retry_minutes def.lines week failures)
+    (retry-within (line_at def.lines week) (growing_minutes failures) (line-has def.lines week (limit_at def.lines week) h.limits.1) (growing-within failures))
+
+call-known : (row : Option SystemRow) → IfSome row (λ (row : SystemRow). IsCall row.call) → IsCall (call_of row)
+call-known None h = record { last = omega arith; failures = omega arith; wait = omega arith; outcome = (refl, refl, refl) }
+call-known (Some row) h = h
+
+entry-kept : (answer : Result (List ℕ) MapFault) (bytes : List ℕ) (entries : List MapEntry) → host_of bytes ≡ answer → All (λ (entry : MapEntry). host_of entry.bytes ≡ Ok entry.host) entries → All (λ (entry : MapEntry). host_of entry.bytes ≡ Ok entry.host) (keep_entry answer bytes entries)
+entry-kept (Ok host) bytes entries e h = put-all (λ (entry : MapEntry). entry.host) (record { host = host; bytes = bytes }) (λ (entry : MapEntry). host_of entry.bytes ≡ Ok entry.host) entries e h
+entry-kept (Err fault) bytes entries e h = h
+
+entries-in_order : (answer : Result (List ℕ) MapFault) (bytes : List ℕ) (entries : List MapEntry) → AllPairs (λ (a b : MapEntry). ComesBefore a.host b.host) entries → AllPairs (λ (a b : MapEntry). ComesBefore a.host b.host) (keep_entry answer bytes entries)
+entries-in_order (Ok host) bytes entries h = put-in_order (λ (entry : MapEntry). entry.host) (record { host = host; bytes = bytes }) entries h
+entries-in_order (Err fault) bytes entries h = h
+
+-- ---- the commands
+
+module _ (state : State) (h : IsWellFormed state) where
+  still-define : (def : System) → IsDefinition def → IsWellFormed (accept state (Define def))
+  still-define def good =
+      let item : SystemRow = record { def = def; call = call_of (system_at state def.name) } in
+      record {
+        some_next = h.some_next;
+        next = h.next;
+        jobs = h.jobs;
+        rising = h.rising;
+        below_next = h.below_next;
+        placed = All-weaker (λ (job : Job). IsTrue (has_system state job.system)) (λ (job : Job). IsTrue (list_any (is_system job.system) (put_system item state.systems))) (λ job p. put-any (λ (row : SystemRow). row.def.name) item (λ n. same_text n job.system) state.systems p) state.jobs h.placed;
+        definitions = put-all (λ (row : SystemRow). row.def.name) item (λ (row : SystemRow). IsDefinition row.def) state.systems good h.definitions;
+        calls = put-all (λ (row : SystemRow). row.def.name) item (λ (row : SystemRow). IsCall row.call) state.systems (call-known (system_at state def.name) (find-has (λ (row : SystemRow). IsCall row.call) (is_system def.name) state.systems h.calls)) h.calls;
+        by_name = put-in_order (λ (row : SystemRow). row.def.name) item state.systems h.by_name;
+        hosts = h.hosts;
+        by_host = h.by_host;
+      }
+
+  still-remove : (name : List ℕ) → is_waiting state name ≡ false → IsWellFormed (accept state (Remove name))
+  still-remove name none = record {
+    some_next = h.some_next;
+    next = h.next;
+    jobs = h.jobs;
+    rising = h.rising;
+    below_next = h.below_next;
+    placed = λ k d inside. stays (get_or state.jobs k d) (h.placed k d inside) (All-contains_itself state.jobs k d inside);
+    definitions = All-filter (λ (row : SystemRow). not (is_system name row)) (λ (row : SystemRow). IsDefinition row.def) state.systems h.definitions;
+    calls = All-filter (λ (row : SystemRow). not (is_system name row)) (λ (row : SystemRow). IsCall row.call) state.systems h.calls;
+    by_name = AllPairs-filter (λ (a b : SystemRow). ComesBefore a.def.name b.def.name) (λ (row : SystemRow). not (is_system name row)) state.systems h.by_name;
+    hosts = h.hosts;
+    by_host = h.by_host;
+  }
+    where
+      apart : {t : Bool} → t ≡ true → t ≡ false → ⊥
+      apart q r = cc
+
+      other : (t : Bool) (job : Job) (row : SystemRow) → is_system name row ≡ t → Contains state.jobs job → is_system job.system row ≡ true → not t ≡ true
+      other false job row e there own = refl
+      other true job row e there own =
+          let owned : row.def.name ≡ job.system = (bytes_decides row.def.name job.system).0 own in
+          absurd (apart (some_passes (λ (j : Job). same_text j.system name) state.jobs job there (ap (λ n. same_text n name) (sym owned) ∙ e)) none)
+
+      stays : (job : Job) → IsTrue (has_system state job.system) → Contains state.jobs job → IsTrue (list_any (is_system job.system) (filter (λ (row : SystemRow). not (is_system name row)) state.systems))
+      stays job p there =
+          let r = passing_one (is_system job.system) state.systems p in
+          let left : not (is_system name r.0) ≡ true = other (is_system name r.0) job r.0 refl there r.2 in
+          some_passes (is_system job.system) (filter (λ (row : SystemRow). not (is_system name row)) state.systems) r.0 (kept (λ (row : SystemRow). not (is_system name row)) state.systems r.0 r.1 left) r.2
+
+  still-queue : (job : NewJob) → IsNewJob job → is_too_large job ≡ false → has_system state job.system ≡ true → (state.next == numbers_end) ≡ false → IsWellFormed (accept state (Queue job))
+  still-queue job good small known free =
+      let new = job_of state.next job in
+      let sizes = or_false (ltb most_bytes (length job.bytes)) (has_many_arguments job.kind) small in
+      let fits : IsJob new = record {
+        number = h.some_next;
+        system = good.system;
+        grade = good.grade;
+        user = good.user;
+        kind = kind_within job.kind good.kind sizes.1;
+        queued = good.at;
+        bytes = within most_bytes (length job.bytes) sizes.0;
+      } in
+      record {
+        some_next = omega arith;
+        next = below state.next h.next free;
+        jobs = All-push IsJob state.jobs new h.jobs fits;
+        rising = pairs-push (λ (a b : Job). a.number < b.number) state.jobs new h.below_next h.rising;
+        below_next = All-push (λ (j : Job). j.number < state.next + 1) state.jobs new (All-weaker (λ (j : Job). j.number < state.next) (λ (j : Job). j.number < state.next + 1) (λ j l. omega (arith, l)) state.jobs h.below_next) (omega arith);
+        placed = All-push (λ (j : Job). IsTrue (has_system state j.system)) state.jobs new h.placed known;
+        definitions = h.definitions;
+        calls = h.calls;
+        by_name = h.by_name;
+        hosts = h.hosts;
+        by_host = h.by_host;
+      }
+    where
+      below : (n : ℕ) → n ≤ numbers_end → (n == numbers_end) ≡ false → n + 1 ≤ numbers_end
+      below n l e = grind (arith, nat_tests)
+
+  still-filtered : (p : Job → Bool) → IsWellFormed (record state { jobs = filter p state.jobs })
+  still-filtered p = record {
+    some_next = h.some_next;
+    next = h.next;
+    jobs = All-filter p IsJob state.jobs h.jobs;
+    rising = AllPairs-filter (λ (a b : Job). a.number < b.number) p state.jobs h.rising;
+    below_next = All-filter p (λ (j : Job). j.number < state.next) state.jobs h.below_next;
+    placed = All-filter p (λ (j : Job). IsTrue (has_system state j.system)) state.jobs h.placed;
+    definitions = h.definitions;
+    calls = h.calls;
+    by_name = h.by_name;
+    hosts = h.hosts;
+    by_host = h.by_host;
+  }
+
+  still-changed : (number : ℕ) (change : Job → Job) → ((j : Job) → IsJob j → IsJob (change j)) → ((j : Job) → (change j).number ≡ j.number) → ((j : Job) → (change j).system ≡ j.system) → IsWellFormed (record state { jobs = change_job number change state.jobs })
+  still-changed number change good same place = record {
+    some_next = h.some_next;
+    next = h.next;
+    jobs = jobs-changed IsJob number change state.jobs good h.jobs;
+    rising = jobs-rise number change state.jobs same h.rising;
+    below_next = jobs-changed (λ (j : Job). j.number < state.next) number change state.jobs (λ j l. omega (arith, same j, l)) h.below_next;
+    placed = jobs-changed (λ (j : Job). IsTrue (has_system state j.system)) number change state.jobs (λ j p. ap (λ n. has_system state n) (place j) ∙ p) h.placed;
+    definitions = h.definitions;
+    calls = h.calls;
+    by_name = h.by_name;
+    hosts = h.hosts;
+    by_host = h.by_host;
+  }
+
+  still-called : (name : List ℕ) (change : SystemRow → CallState) → ((row : SystemRow) → IsDefinition row.def → IsCall row.call → IsCall (change row)) → IsWellFormed (record state { systems = change_call name change state.systems })
+  still-called name change good = record {
+    some_next = h.some_next;
+    next = h.next;
+    jobs = h.jobs;
+    rising = h.rising;
+    below_next = h.below_next;
+    placed = All-weaker (λ (job : Job). IsTrue (has_system state job.system)) (λ (job : Job). IsTrue (list_any (is_system job.system) (change_call name change state.systems))) (λ job p. calls-any name change state.systems job.system p) state.jobs h.placed;
+    definitions = calls-definitions name change state.systems h.definitions;
+    calls = calls-calls name change state.systems good h.definitions h.calls;
+    by_name = calls-in_order name change state.systems h.by_name;
+    hosts = h.hosts;
+    by_host = h.by_host;
+  }
+
+  still-entry : (bytes : List ℕ) → IsWellFormed (accept state (Entry bytes))
+  still-entry bytes = record {
+    some_next = h.some_next;
+    next = h.next;
+    jobs = h.jobs;
+    rising = h.rising;
+    below_next = h.below_next;
+    placed = h.placed;
+    definitions = h.definitions;
+    calls = h.calls;
+    by_name = h.by_name;
+    hosts = entry-kept (host_of bytes) bytes state.entries refl h.hosts;
+    by_host = entries-in_order (host_of bytes) bytes state.entries h.by_host;
+  }
+
+failed-call : (row : SystemRow) (at : Moment) (why : List ℕ) → IsCommand (Failed row.def.name at why) → IsDefinition row.def → IsCall row.call → IsCall (failed_call row at why)
+failed-call row at why good def call =
+    record { last = good.0; failures = omega arith; wait = wait-within row.def at.week (one_more row.call.failures) def; outcome = good.1 }
+
+done-call : (at : Moment) → at.second ≤ 4102444800 → IsCall (done_call at)
+done-call at good = record { last = good; failures = omega arith; wait = omega arith; outcome = tt }
+
+still-accepted : (state : State) (command : Command) → IsWellFormed state → IsCommand command → verdict state command ≡ None → IsWellFormed (accept state command)
+still-accepted state (Define def) h good e = still-define state h def good
+still-accepted state (Remove name) h good e = still-remove state h name (none_first (is_waiting state name) _ _ (none_first (not (has_system state name)) _ _ e).1).0
+still-accepted state (Queue job) h good e =
+    let first = none_first (is_too_large job) _ _ e in
+    let second = none_first (not (has_system state job.system)) _ _ first.1 in
+    still-queue state h job good first.0 (not_false (has_system state job.system) second.0) (none_first (state.next == numbers_end) _ _ second.1).0
+still-accepted state (Kill job by) h good e = still-filtered state h (λ (other : Job). not (is_job job other))
+still-accepted state (Regrade job grade by) h good e =
+    still-changed state h job (λ other. record other { grade = grade }) (λ j p. record { number = p.number; system = p.system; grade = good; user = p.user; kind = p.kind; queued = p.queued; bytes = p.bytes }) (λ j. refl) (λ j. refl)
+still-accepted state (Rejuvenate job at by) h good e =
+    still-changed state h job (λ other. record other { queued = at.second }) (λ j p. record { number = p.number; system = p.system; grade = p.grade; user = p.user; kind = p.kind; queued = good; bytes = p.bytes }) (λ j. refl) (λ j. refl)
+still-accepted state (Failed system at why) h good e = still-called state h system (λ row. failed_call row at why) (λ row def call. failed-call row at why good def call)
+still-accepted state (Done system at jobs) h good e =
+    still-called (record state { jobs = filter (λ (job : Job). not (is_among jobs job)) state.jobs }) (still-filtered state h (λ (job : Job). not (is_among jobs job))) system (λ row. done_call at) (λ row def call. done-call at good)
+still-accepted state (Entry bytes) h good e = still-entry state h bytes
+
+pub still : (state : State) (command : Command) → IsCommand command → IsWellFormed state → IsWellFormed (after state command).0
+still state command good h = by-verdict (verdict state command) refl
+  where
+    by-verdict : (v : Option Refusal) → verdict state command ≡ v → IsWellFormed (after_verdict v state command).0
+    by-verdict None e = still-accepted state command h good e
+    by-verdict (Some refusal) e = h
+
+pub still-run : (state : State) (commands : List Command) → All IsCommand commands → IsWellFormed state → IsWellFormed (state_after state commands)
+still-run state [] good h = h
+still-run state (command ∷ commands) good h =
+    still-run (after state command).0 commands (All-tail IsCommand command commands good) (still state command (All-head IsCommand command commands good) h)
+
+pub still-empty : IsWellFormed empty
+still-empty = record {
+  some_next = omega arith;
+  next = omega arith;
+  jobs = All-nil IsJob;
+  rising = pairs-nil (λ (a b : Job). a.number < b.number);
+  below_next = All-nil (λ (job : Job). job.number < 1);
+  placed = All-nil (λ (job : Job). IsTrue (has_system empty job.system));
+  definitions = All-nil (λ (row : SystemRow). IsDefinition row.def);
+  calls = All-nil (λ (row : SystemRow). IsCall row.call);
+  by_name = pairs-nil (λ (a b : SystemRow). ComesBefore a.def.name b.def.name);
+  hosts = All-nil (λ (entry : MapEntry). host_of entry.bytes ≡ Ok entry.host);
+  by_host = pairs-nil (λ (a b : MapEntry). ComesBefore a.host b.host);
+}

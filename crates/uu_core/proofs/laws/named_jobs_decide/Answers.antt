@@ -1,0 +1,5 @@
+use Rattle.uu_core.proofs.DoneLemmas.{named_decide}
+use Rattle.uu_core.proofs.laws.named_jobs_decide.Goals as goal
+
+pub returns : goal.returns
+returns c = named_decide

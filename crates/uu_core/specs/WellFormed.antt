@@ -1,0 +1,34 @@
+-- What a command may hold; its types see to it.
+use Rattle.std.specs.Prelude.{◌<◌, ◌≤◌, IsTrue, All, ⊤}
+use Rattle.uu_names.specs.Name.{is_site_name, is_word}
+use Rattle.uu_core.specs.declared.command.Command.{Command}
+use Rattle.uu_core.specs.declared.command.Command.TheVariants.{Define, Remove, Queue, Kill, Regrade, Rejuvenate, Failed, Done, Entry}
+use Rattle.uu_core.specs.declared.job.Kind.{Kind}
+use Rattle.uu_core.specs.declared.job.Kind.TheVariants.{Send, Request, Execute}
+use Rattle.uu_core.specs.declared.job.NewJob.{NewJob}
+use Rattle.uu_core.specs.State.{IsDefinition, last_second}
+
+-- its texts are words
+abbrev pub HasWords : Kind → Type 0
+HasWords (Send source target) = IsTrue (is_word source) × IsTrue (is_word target)
+HasWords (Request source target) = IsTrue (is_word source) × IsTrue (is_word target)
+HasWords (Execute command arguments) = IsTrue (is_word command) × All (λ word. IsTrue (is_word word)) arguments
+
+pub record IsNewJob (job : NewJob) : Type 0 where
+  pub system : IsTrue (is_site_name job.system)
+  pub grade : job.grade < 62
+  pub user : IsTrue (is_word job.user)
+  pub kind : HasWords job.kind
+  pub at : job.at.second ≤ last_second
+
+-- its names, words, grades and moments are such
+abbrev pub IsCommand : Command → Type 0
+IsCommand (Define def) = IsDefinition def
+IsCommand (Remove name) = ⊤
+IsCommand (Queue job) = IsNewJob job
+IsCommand (Kill job by) = ⊤
+IsCommand (Regrade job grade by) = grade < 62
+IsCommand (Rejuvenate job at by) = at.second ≤ last_second
+IsCommand (Failed system at why) = (at.second ≤ last_second) × IsTrue (is_word why)
+IsCommand (Done system at jobs) = at.second ≤ last_second
+IsCommand (Entry bytes) = ⊤

@@ -1,0 +1,37 @@
+// A map entry under its host.
+ghost use Rattle.std.specs.Prelude.{◌≡◌};
+
+use std::marker::Model;
+use uu_map::Listed;
+use uu_names::SiteName;
+
+/// A map entry, kept under its host.
+#[derive(Debug, Drop)]
+pub struct PlainEntry {
+    pub(super) host: SiteName,
+    pub(super) bytes: Listed<u8>,
+}
+
+impl Model for PlainEntry {
+    ghost use Rattle.uu_core.specs.State.{MapEntry};
+
+    ghost Value = { MapEntry };
+
+    ghost view = { λ entry. record { host = entry.host; bytes = entry.bytes } };
+}
+
+impl PlainEntry {
+    /// The site that the entry is about.
+    pub fn host(&self) -> &SiteName
+        ensures { result.now ≡ self.now.host }
+    {
+        &self.host
+    }
+
+    /// The entry's text.
+    pub fn bytes(&self) -> &[u8]
+        ensures { result.now ≡ self.now.bytes }
+    {
+        self.bytes.as_slice()
+    }
+}

@@ -1,0 +1,178 @@
+// What the plain machine holds, and what each command makes of it.
+ghost use Rattle.std.specs.Prelude.{◌≡◌, true, IfOk, MatchOption, is_err};
+ghost use Rattle.uu_map.specs.Text.{host_of};
+ghost use Rattle.uu_core.specs.After.{after};
+ghost use Rattle.uu_core.specs.Plain.{state_of, IsInOrder, IsGiven};
+
+use super::copy::heads_of;
+use super::rows::{
+    call_of, decide_on, drop_job, drop_jobs, drop_system, has_system, is_waiting, put, regrade,
+    rejuvenate, set_call, system_at,
+};
+use super::{PlainEntry, PlainJob};
+use crate::command::{Command, Reply};
+use crate::decide::{decide_done, decide_drop, decide_failed, decide_queue};
+use crate::job::{By, NewJob};
+use crate::refusal::Refusal;
+use crate::system::SystemRow;
+use std::alloc::{AllocError, Global};
+use uu_map::{Entry, Listed, MapFault, read_entry};
+use uu_names::{Grade, SiteName, Word};
+use uu_times::{Moment, SystemDef};
+
+#[derive(Debug, Drop)]
+pub(super) struct Lists {
+    pub(super) jobs: Vec<PlainJob>,
+    pub(super) systems: Vec<SystemRow>,
+    pub(super) entries: Vec<PlainEntry>,
+    pub(super) next: u32,
+}
+
+impl Lists {
+    pub(super) fn step(&mut self, alloc: Global, command: Command) -> Result<Reply, AllocError>
+        requires { IsInOrder (state_of self.old) }
+        ensures { IsGiven (state_of self.old) command result (state_of self.new) }
+    {
+        match command {
+            Command::Define(def) => self.define(def),
+            Command::Remove(name) => Ok(self.remove(&name)),
+            Command::Queue(job) => self.queue(job),
+            Command::Kill { job, by } => Ok(self.kill(job, &by)),
+            Command::Regrade { job, grade, by } => Ok(self.regrade(job, grade, &by)),
+            Command::Rejuvenate { job, at, by } => Ok(self.rejuvenate(job, &at, &by)),
+            Command::Failed { system, at, why } => Ok(self.failed(&system, &at, why)),
+            Command::Done { system, at, jobs } => self.done(alloc, &system, &at, jobs.as_slice()),
+            Command::Entry(bytes) => self.keep(alloc, bytes),
+        }
+    }
+
+    fn define(&mut self, def: SystemDef) -> Result<Reply, AllocError>
+        ensures { IsGiven (state_of self.old) (Command.Define def) result (state_of self.new) }
+    {
+        let call = call_of(self.systems.as_slice(), &def.name)?;
+        put(&mut self.systems, SystemRow { def, call })?;
+        Ok(Reply::Done)
+    }
+
+    fn remove(&mut self, name: &SiteName) -> Reply
+        ensures { (state_of self.new, result) ≡ after (state_of self.old) (Command.Remove name.now) }
+    {
+        let known = has_system(self.systems.as_slice(), name);
+        let waiting = is_waiting(self.jobs.as_slice(), name);
+        match decide_drop(known, waiting) {
+            Ok(()) => {
+                drop_system(&mut self.systems, name);
+                Reply::Done
+            }
+            Err(refusal) => Reply::Refused(refusal),
+        }
+    }
+
+    fn queue(&mut self, job: NewJob) -> Result<Reply, AllocError>
+        ensures { IsGiven (state_of self.old) (Command.Queue job) result (state_of self.new) }
+    {
+        let known = has_system(self.systems.as_slice(), &job.system);
+        match decide_queue(known, self.next, &job) {
+            Ok(number) => {
+                self.jobs.push(PlainJob::new(number, job))?;
+                self.next = number + 1;
+                Ok(Reply::Number(number))
+            }
+            Err(refusal) => Ok(Reply::Refused(refusal)),
+        }
+    }
+
+    fn kill(&mut self, job: u32, by: &By) -> Reply
+        ensures { (state_of self.new, result) ≡ after (state_of self.old) (Command.Kill job by.now) }
+    {
+        match decide_on(self.jobs.as_slice(), job, by) {
+            Ok(()) => {
+                drop_job(&mut self.jobs, job);
+                Reply::Done
+            }
+            Err(refusal) => Reply::Refused(refusal),
+        }
+    }
+
+    fn regrade(&mut self, job: u32, grade: Grade, by: &By) -> Reply
+        ensures { (state_of self.new, result) ≡ after (state_of self.old) (Command.Regrade job grade by.now) }
+    {
+        match decide_on(self.jobs.as_slice(), job, by) {
+            Ok(()) => {
+                regrade(self.jobs.as_mut_slice(), job, grade);
+                Reply::Done
+            }
+            Err(refusal) => Reply::Refused(refusal),
+        }
+    }
+
+    fn rejuvenate(&mut self, job: u32, at: &Moment, by: &By) -> Reply
+        ensures { (state_of self.new, result) ≡ after (state_of self.old) (Command.Rejuvenate job at.now by.now) }
+    {
+        match decide_on(self.jobs.as_slice(), job, by) {
+            Ok(()) => {
+                rejuvenate(self.jobs.as_mut_slice(), job, at);
+                Reply::Done
+            }
+            Err(refusal) => Reply::Refused(refusal),
+        }
+    }
+
+    fn failed(&mut self, system: &SiteName, at: &Moment, why: Word) -> Reply
+        requires { IsInOrder (state_of self.old) }
+        ensures { (state_of self.new, result) ≡ after (state_of self.old) (Command.Failed system.now at.now why) }
+    {
+        match decide_failed(system_at(self.systems.as_slice(), system), at, why) {
+            Ok(call) => {
+                set_call(self.systems.as_mut_slice(), system, call);
+                Reply::Done
+            }
+            Err(refusal) => Reply::Refused(refusal),
+        }
+    }
+
+    fn done(
+        &mut self,
+        alloc: Global,
+        system: &SiteName,
+        at: &Moment,
+        jobs: &[u32],
+    ) -> Result<Reply, AllocError>
+        requires { IsInOrder (state_of self.old) }
+        ensures { IsGiven (state_of self.old) (Command.Done system.now at.now jobs.now) result (state_of self.new) }
+    {
+        let heads = heads_of(alloc, self.jobs.as_slice())?;
+        let known = has_system(self.systems.as_slice(), system);
+        match decide_done(known, system, jobs, heads.as_slice(), at) {
+            Ok(call) => {
+                drop_jobs(&mut self.jobs, jobs);
+                set_call(self.systems.as_mut_slice(), system, call);
+                Ok(Reply::Done)
+            }
+            Err(refusal) => Ok(Reply::Refused(refusal)),
+        }
+    }
+
+    fn keep(&mut self, alloc: Global, bytes: Listed<u8>) -> Result<Reply, AllocError>
+        ensures { IsGiven (state_of self.old) (Command.Entry bytes) result (state_of self.new) }
+    {
+        match entry_host(alloc, bytes.as_slice())? {
+            Some(host) => {
+                put(&mut self.entries, PlainEntry { host, bytes })?;
+                Ok(Reply::Done)
+            }
+            None => Ok(Reply::Refused(Refusal::BadEntry)),
+        }
+    }
+}
+
+// The host of a map entry, if it can be read.
+fn entry_host(alloc: Global, text: &[u8]) -> Result<Option<SiteName>, AllocError>
+    ensures { IfOk result (λ host. MatchOption host (is_err (host_of text.now) ≡ true) (λ host. host_of text.now ≡ Ok host)) }
+{
+    match read_entry(alloc, text) {
+        Ok(Entry { host, .. }) => Ok(Some(host)),
+        Err(MapFault::NoName | MapFault::BadHost | MapFault::TooLarge) => Ok(None),
+        Err(MapFault::Memory) => Err(AllocError),
+    }
+}

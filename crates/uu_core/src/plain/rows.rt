@@ -1,0 +1,171 @@
+// Looking up, putting, changing and dropping in the lists.
+ghost use Rattle.std.specs.Prelude.{◌≡◌, ℕ, List, ◌==◌, not, find, filter, map, IfOk, OnOk, OnErr, option_copied, option_map};
+ghost use Rattle.std.specs.List.{list_any};
+ghost use Rattle.uu_core.specs.Refusal.{decided};
+ghost use Rattle.uu_core.specs.State.{is_job, is_system, is_entry, same_text, head_of};
+ghost use Rattle.uu_core.specs.Verdict.{job_refusal};
+ghost use Rattle.uu_core.specs.After.{put_by, call_of, change_job, is_among};
+ghost use Rattle.uu_core.specs.Plain.{with_call};
+
+use super::copy::copy_call;
+use super::{PlainEntry, PlainJob};
+use crate::decide::{decide_job, is_among};
+use crate::job::By;
+use crate::refusal::Refusal;
+use crate::system::{CallState, Outcome, SystemRow};
+use std::alloc::AllocError;
+use std::cmp::Ordering;
+use uu_names::{Grade, SiteName};
+use uu_times::Moment;
+
+pub(super) fn system_at<'a>(rows: &'a [SystemRow], name: &SiteName) -> Option<&'a SystemRow>
+    ensures { option_copied result ≡ find (is_system name.now) rows.now }
+{
+    rows.iter().find(|row| row.def.name == *name)
+}
+
+pub(super) fn has_system(rows: &[SystemRow], name: &SiteName) -> bool
+    ensures { result ≡ list_any (is_system name.now) rows.now }
+{
+    rows.iter().any(|row| row.def.name == *name)
+}
+
+// Whether a job waits for the system.
+pub(super) fn is_waiting(jobs: &[PlainJob], name: &SiteName) -> bool
+    ensures { result ≡ list_any (λ job. same_text job.system name.now) jobs.now }
+{
+    jobs.iter().any(|job| job.head().system == *name)
+}
+
+pub(super) fn job_at(jobs: &[PlainJob], number: u32) -> Option<&PlainJob>
+    ensures { option_copied result ≡ find (is_job number) jobs.now }
+{
+    jobs.iter().find(|job| job.head().number == number)
+}
+
+pub(super) fn entry_at<'a>(entries: &'a [PlainEntry], host: &SiteName) -> Option<&'a PlainEntry>
+    ensures { option_copied result ≡ find (is_entry host.now) entries.now }
+{
+    entries.iter().find(|entry| entry.host() == host)
+}
+
+// Whether the job of a number, if there is one, may be touched.
+pub(super) fn decide_on(jobs: &[PlainJob], number: u32, by: &By) -> Result<(), Refusal>
+    ensures { result ≡ decided (job_refusal (option_map head_of (find (is_job number) jobs.now)) by.now) tt }
+{
+    match job_at(jobs, number) {
+        Some(job) => decide_job(Some(job.head()), by),
+        None => decide_job(None, by),
+    }
+}
+
+// The calls of a system so far, and those of a new one where it isn't known.
+pub(super) fn call_of(rows: &[SystemRow], name: &SiteName) -> Result<CallState, AllocError>
+    ensures { IfOk result (λ call. call ≡ call_of (find (is_system name.now) rows.now)) }
+{
+    match system_at(rows, name) {
+        Some(row) => copy_call(&row.call),
+        None => Ok(CallState {
+            last: 0,
+            failures: 0,
+            wait: 0,
+            outcome: Outcome::Never,
+        }),
+    }
+}
+
+// What is kept in the order of a name.
+pub(super) trait Named: Drop {
+    ghost name_of: { Self → List ℕ };
+
+    fn name(&self) -> &SiteName
+        ensures { result.now ≡ name_of self.now };
+}
+
+impl Named for SystemRow {
+    ghost name_of = { λ row. row.def.name };
+
+    fn name(&self) -> &SiteName {
+        &self.def.name
+    }
+}
+
+impl Named for PlainEntry {
+    ghost name_of = { λ entry. entry.host };
+
+    fn name(&self) -> &SiteName {
+        self.host()
+    }
+}
+
+// The item in its place, instead of the one of its name if there is one.
+pub(super) fn put<T: Named>(items: &mut Vec<T>, item: T) -> Result<(), AllocError>
+    ensures done { OnOk result (items.new.items ≡ put_by T.name_of item items.old.items) }
+    ensures failed { OnErr result (items.new.items ≡ items.old.items) }
+{
+    for i in 0..items.len() {
+        match item.name().cmp(items[i].name()) {
+            Ordering::Less => {
+                items.insert(i, item)?;
+                return Ok(());
+            }
+            Ordering::Equal => {
+                items[i] = item;
+                return Ok(());
+            }
+            Ordering::Greater => {}
+        }
+    }
+    items.push(item)?;
+    Ok(())
+}
+
+// The first system of the name gets these calls.
+pub(super) fn set_call(rows: &mut [SystemRow], name: &SiteName, call: CallState)
+    ensures { rows.new ≡ with_call name.now call rows.old }
+{
+    for i in 0..rows.len() {
+        if rows[i].name() == name {
+            rows[i].call = call;
+            return;
+        }
+    }
+}
+
+pub(super) fn regrade(jobs: &mut [PlainJob], number: u32, grade: Grade)
+    ensures { jobs.new ≡ change_job number (λ job. record job { grade = grade }) jobs.old }
+{
+    for job in jobs.iter_mut() {
+        if job.head().number == number {
+            job.regrade(grade);
+        }
+    }
+}
+
+pub(super) fn rejuvenate(jobs: &mut [PlainJob], number: u32, at: &Moment)
+    ensures { jobs.new ≡ change_job number (λ job. record job { queued = at.now.second }) jobs.old }
+{
+    for job in jobs.iter_mut() {
+        if job.head().number == number {
+            job.rejuvenate(at);
+        }
+    }
+}
+
+pub(super) fn drop_system(rows: &mut Vec<SystemRow>, name: &SiteName)
+    ensures { rows.new.items ≡ filter (λ row. not (is_system name.now row)) rows.old.items }
+{
+    rows.retain(|row| row.def.name != *name);
+}
+
+pub(super) fn drop_job(jobs: &mut Vec<PlainJob>, number: u32)
+    ensures { jobs.new.items ≡ filter (λ job. not (is_job number job)) jobs.old.items }
+{
+    jobs.retain(|job| job.head().number != number);
+}
+
+pub(super) fn drop_jobs(jobs: &mut Vec<PlainJob>, numbers: &[u32])
+    ensures { jobs.new.items ≡ filter (λ job. not (is_among numbers.now job)) jobs.old.items }
+{
+    jobs.retain(|job| !is_among(numbers, job.head().number));
+}

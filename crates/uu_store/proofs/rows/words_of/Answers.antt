@@ -1,0 +1,28 @@
+use Rattle.std.proofs.Common.{◌≡◌, ◌+◌, ◌++◌, ◌∷◌, [], get_or, map, take, IsTrue, All, sym, ap, subst, ◌∙◌, arith}
+use Rattle.std.specs.List.{join_with_byte}
+use Rattle.std.proofs.lemmas.List.{take_more, take_all, map-append}
+use Rattle.std.proofs.lemmas.List.Elements.{All-push}
+use Rattle.std.proofs.lemmas.List.Splits.{join_with_byte-slice_split}
+use Rattle.uu_names.specs.Name.{is_word}
+use Rattle.uu_store.proofs.rows.words_of.Goals as goal
+
+pub loop-part-preserved : goal.loop-part-preserved
+loop-part-preserved c =
+    let parts = c.as_slice-part-items.result.now in
+    let i = c.loop-part.part-index in
+    let part = get_or parts i (record { ref_ptr = (0, 0); now = [] }) in
+    let word = c.in_ok-word_of.field-0 in
+    let before = map (λ p. p.now) (take i parts) in
+    let longer : take (i + 1) parts ≡ take i parts ++ part ∷ [] = take_more parts i (record { ref_ptr = (0, 0); now = [] }) (omega arith) in
+    let texts : map (λ p. p.now) (take (i + 1) parts) ≡ before ++ part.now ∷ [] = ap (map (λ p. p.now)) longer ∙ map-append (λ p. p.now) (take i parts) (part ∷ []) in
+    let words : c.loop-part.words.items ++ word ∷ [] ≡ before ++ part.now ∷ [] = ap (λ ws. ws ++ word ∷ []) c.loop-part.invariant.0 ∙ ap (λ w. before ++ w ∷ []) c.in_ok-word_of.ensures.text in (
+      c.in_ok-push.ensures.items ∙ words ∙ sym texts,
+      subst (All (λ w. IsTrue (is_word w))) (sym c.in_ok-push.ensures.items) (All-push (λ w. IsTrue (is_word w)) c.loop-part.words.items word c.loop-part.invariant.1 c.in_ok-word_of.ensures.word),
+    )
+
+pub returns : goal.returns
+returns c =
+    let parts = c.as_slice-part-items.result.now in
+    let whole : take c.loop-part.part-index parts ≡ parts = take_all c.loop-part.part-index parts (omega arith) in
+    let words = c.loop-part.invariant.0 ∙ ap (map (λ p. p.now)) (whole ∙ c.as_slice-part-items.ensures.value) ∙ c.in_ok-parts.ensures in
+    record { text = ap (join_with_byte 32) words ∙ join_with_byte-slice_split 32 c.args.text.now; words = c.loop-part.invariant.1 }
