@@ -3,6 +3,7 @@
 #   make            proves what the program stands on and leaves it at build/uuspool
 #   make first-run  the main job on a real file, killed inside a write and reopened
 #   make test       the gate: every proof from nothing, every test, every run
+#   make bench      what calls of the spool cost over a real file
 #   make install    build/uuspool and its man page below $(DESTDIR)$(PREFIX)
 #   make clean      removes build/ and the kept work of every crate
 
@@ -11,7 +12,7 @@ DESTDIR =
 
 MAKEFLAGS += --no-print-directory
 
-.PHONY: all build first-run test install clean
+.PHONY: all build first-run bench test install clean
 
 all: build
 
@@ -20,6 +21,9 @@ build:
 
 first-run: build
 	@scripts/first-run build/uuspool
+
+bench: build
+	@scripts/bench
 
 test:
 	@scripts/check-tree

@@ -7,14 +7,14 @@ use Rattle.std.proofs.lemmas.List.Elements.{All-head, All-tail, All-contains, Co
 use Rattle.std.specs.Ordering.{is_lt, ordering_then}
 use Rattle.std.specs.Cmp.Lexicographic.{bytes_decides}
 use Rattle.std.proofs.lemmas.Bool.Decides.{nat_tests}
-use Rattle.std.proofs.lemmas.List.{take_more, drop_more, length-map}
+use Rattle.std.proofs.lemmas.List.{take_more, drop_more, length-map, append-nil}
 use Rattle.std.proofs.lemmas.List.Sorted.{IsPermutation-sym, IsPermutation-map, Contains-permutation, list_any-IsPermutation}
 use Rattle.uu_times.specs.declared.moment.Moment.{Moment}
 use Rattle.uu_core.specs.declared.job.JobHead.{JobHead}
 use Rattle.uu_core.specs.declared.system.SystemRow.{SystemRow}
 use Rattle.uu_core.specs.declared.due.Due.{Due}
 use Rattle.uu_core.specs.State.{same_text, is_system}
-use Rattle.uu_core.specs.Due.{limit_now, is_within, may_be_called, may_go, goes_before, is_due, due_of, ComesFirst, AreDue, HaveNumbers, is_next, walk, walk_after, AreInOrder}
+use Rattle.uu_core.specs.Due.{limit_now, is_within, may_be_called, may_go, goes_before, is_due, due_of, ComesFirst, AreDue, HaveNumbers, is_next, walk, walk_after, is_listed, with_next, AreInOrder}
 use Rattle.uu_core.proofs.Members.{first_of, kept, from_filter, mapped, from_map}
 
 -- the greater of a limit that is there and another one
@@ -110,6 +110,69 @@ step_passed rows at jobs i d dues whole h passed e =
   where
     opened : walk_after rows at (take i jobs) (drop i jobs) ≡ cond (is_next rows at (take i jobs) (get_or jobs i d)) (due_of (get_or jobs i d) ∷ walk_after rows at (take (i + 1) jobs) (drop (i + 1) jobs)) (walk_after rows at (take (i + 1) jobs) (drop (i + 1) jobs))
     opened = ap (walk_after rows at (take i jobs)) (drop_more jobs i d h) ∙ ap (λ t. cond (is_next rows at (take i jobs) (get_or jobs i d)) (due_of (get_or jobs i d) ∷ walk_after rows at t (drop (i + 1) jobs)) (walk_after rows at t (drop (i + 1) jobs))) (sym (take_more jobs i d h))
+
+-- ---- a walk one job at a time
+
+pub and-left : (a b : Bool) → a && b ≡ true → a ≡ true
+and-left true b e = refl
+and-left false b e = e
+
+walk-append : (rows : List SystemRow) (at : Moment) (seen jobs more : List JobHead) → walk_after rows at seen (jobs ++ more) ≡ walk_after rows at seen jobs ++ walk_after rows at (seen ++ jobs) more
+walk-append rows at seen [] more = ap (λ (s : List JobHead). walk_after rows at s more) (sym (append-nil seen))
+walk-append rows at seen (job ∷ jobs) more =
+    by-next (is_next rows at seen job) (walk-append rows at (seen ++ job ∷ []) jobs more ∙ ap (λ (s : List JobHead). walk_after rows at (seen ++ job ∷ []) jobs ++ walk_after rows at s more) (append_assoc seen (job ∷ []) jobs))
+  where
+    whole : List Due
+    whole = walk_after rows at (seen ++ job ∷ []) (jobs ++ more)
+
+    first : List Due
+    first = walk_after rows at (seen ++ job ∷ []) jobs
+
+    by-next : (t : Bool) → whole ≡ first ++ walk_after rows at (seen ++ job ∷ jobs) more → cond t (due_of job ∷ whole) whole ≡ cond t (due_of job ∷ first) first ++ walk_after rows at (seen ++ job ∷ jobs) more
+    by-next true e = ap (λ l. due_of job ∷ l) e
+    by-next false e = e
+
+-- the systems of the jobs that may go are those that are listed
+listed : (rows : List SystemRow) (at : Moment) (seen jobs : List JobHead) (name : List ℕ) → is_called_before rows at (seen ++ jobs) name ≡ is_called_before rows at seen name || is_listed (walk_after rows at seen jobs) name
+listed rows at seen [] name = ap (λ (s : List JobHead). is_called_before rows at s name) (append-nil seen) ∙ or-false (is_called_before rows at seen name)
+  where
+    or-false : (b : Bool) → b ≡ b || false
+    or-false true = refl
+    or-false false = refl
+listed rows at seen (job ∷ jobs) name =
+    ap (λ (s : List JobHead). is_called_before rows at s name) (sym (append_assoc seen (job ∷ []) jobs))
+    ∙ listed rows at (seen ++ job ∷ []) jobs name
+    ∙ by-next (is_next rows at seen job) refl
+  where
+    rest : List Due
+    rest = walk_after rows at (seen ++ job ∷ []) jobs
+
+    or-assoc : (a b c : Bool) → (a || b) || c ≡ a || (b || c)
+    or-assoc true b c = refl
+    or-assoc false b c = refl
+
+    and-true : (b : Bool) → b && true ≡ b
+    and-true true = refl
+    and-true false = refl
+
+    by-next : (t : Bool) → is_next rows at seen job ≡ t → is_called_before rows at (seen ++ job ∷ []) name || is_listed rest name ≡ is_called_before rows at seen name || is_listed (cond t (due_of job ∷ rest) rest) name
+    by-next true e =
+        let may : may_go rows at job ≡ true = and-left (may_go rows at job) _ e in
+        ap (λ b. b || is_listed rest name) (any-push (λ other. same_text other.system name && may_go rows at other) seen job)
+        ∙ ap (λ b. (is_called_before rows at seen name || (same_text job.system name && b)) || is_listed rest name) may
+        ∙ ap (λ b. (is_called_before rows at seen name || b) || is_listed rest name) (and-true (same_text job.system name))
+        ∙ or-assoc (is_called_before rows at seen name) (same_text job.system name) (is_listed rest name)
+    by-next false e = ap (λ b. b || is_listed rest name) (free_passed rows at seen job name job.grade e)
+
+pub walk_step : (rows : List SystemRow) (at : Moment) (jobs : List JobHead) (job : JobHead) → walk rows (jobs ++ job ∷ []) at ≡ with_next rows at (walk rows jobs at) job
+walk_step rows at jobs job =
+    walk-append rows at [] jobs (job ∷ [])
+    ∙ ap (λ t. walk rows jobs at ++ cond t (due_of job ∷ []) []) (ap (λ b. may_go rows at job && not b) (listed rows at [] jobs job.system))
+    ∙ by-next (may_go rows at job && not (is_listed (walk rows jobs at) job.system))
+  where
+    by-next : (t : Bool) → walk rows jobs at ++ cond t (due_of job ∷ []) [] ≡ cond t (walk rows jobs at ++ due_of job ∷ []) (walk rows jobs at)
+    by-next true = refl
+    by-next false = append-nil (walk rows jobs at)
 
 -- ---- what the walk lists
 
@@ -283,10 +346,6 @@ not_more a b limit grade e = ap (λ o. a || (b && is_within o grade)) e ∙ clos
     closed true b = refl
     closed false true = refl
     closed false false = refl
-
-pub and-left : (a b : Bool) → a && b ≡ true → a ≡ true
-and-left true b e = refl
-and-left false b e = e
 
 pub free_all : (may before : Bool) (within : Bool) → within ≡ may → before ≡ false → within ≡ (may && not before)
 free_all true before within e f = e ∙ ap not (sym f)

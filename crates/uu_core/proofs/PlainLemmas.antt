@@ -1,14 +1,15 @@
 -- What the plain machine does to its lists.
-use Rattle.std.proofs.Common.{◌≡◌, ℕ, zero, suc, ◌+◌, ◌<◌, ◌≤◌, Bool, true, false, not, cond, ◌==◌, ◌||◌, List, [], ◌∷◌, ◌++◌, map, filter, find, length, take, drop, set, All, AllPairs, Option, Some, None, Result, Ok, Err, get_or, nat_cmp, nat_eq, is_err, OnErr, refl, ap, sym, ◌∙◌, subst, arith, append_assoc}
+use Rattle.std.proofs.Common.{◌≡◌, ℕ, zero, suc, ◌+◌, ◌-◌, ◌<◌, ◌≤◌, Bool, true, false, not, cond, ◌==◌, ◌||◌, List, [], ◌∷◌, ◌++◌, map, filter, find, length, take, drop, set, All, AllPairs, Option, Some, None, Result, Ok, Err, get_or, nat_cmp, nat_eq, is_err, OnErr, refl, ap, sym, ◌∙◌, subst, arith}
 use Rattle.std.specs.declared.cmp.Ordering.TheVariants.{Less, Equal, Greater}
-use Rattle.std.specs.Ordering.{ordering_reverse}
+use Rattle.std.specs.declared.cmp.Ordering.{Ordering}
+use Rattle.std.specs.Ordering.{is_lt, ordering_reverse}
 use Rattle.std.specs.List.{insert, list_any}
 use Rattle.std.specs.Cmp.Lexicographic.{slice_cmp, bytes_decides}
 use Rattle.std.proofs.lemmas.Cmp.{nat_list_cmp_total}
-use Rattle.std.proofs.lemmas.List.{take_more, drop_more, take_all, set-get_or}
+use Rattle.std.proofs.lemmas.List.{take_more, drop_more, take_all, set-get_or, get_or-drop, get_or_default, length-drop, take-append-drop, append-nil, map-append, set_split}
 use Rattle.std.proofs.lemmas.List.Edits.{map_over_more}
 use Rattle.std.proofs.lemmas.List.Kept.{AllPairs-filter}
-use Rattle.std.proofs.lemmas.List.Elements.{All-head, All-tail, All-weaker, All-push, All-filter}
+use Rattle.std.proofs.lemmas.List.Elements.{All-nil, All-cons, All-head, All-tail, All-weaker, All-push, All-append, All-filter, filter-append}
 use Rattle.std.proofs.lemmas.Bool.{eqb-true}
 use Rattle.std.proofs.lemmas.Bool.Decides.{nat_tests}
 use Rattle.std.proofs.lemmas.Map.Keys.{IsDistinct-from_apart}
@@ -28,12 +29,12 @@ use Rattle.uu_core.specs.declared.system.SystemRow.{SystemRow}
 use Rattle.uu_core.specs.Refusal.{decided}
 use Rattle.uu_core.specs.State.{State, Job, MapEntry, ComesBefore, is_job, is_system, system_at, has_system, head_of, numbers_end, most_bytes}
 use Rattle.uu_core.specs.Verdict.{verdict, queue_refusal, done_refusal, is_too_large, has_many_arguments}
-use Rattle.uu_core.specs.After.{after, after_verdict, accept, reply_to, put_by, by_order, change_job, change_call, keep_entry, job_of, is_among, failed_call, failed_decision, done_call, call_of}
+use Rattle.uu_core.specs.After.{after, after_verdict, accept, reply_to, is_before, put_by, change_job, change_call, keep_entry, job_of, is_among, failed_call, failed_decision, done_call, call_of}
 use Rattle.uu_core.specs.Due.{HaveNumbers}
 use Rattle.uu_core.specs.Run.{state_after, replies_to}
-use Rattle.uu_core.specs.Plain.{IsInOrder, IsGiven, with_call}
+use Rattle.uu_core.specs.Plain.{AreByName, IsInOrder, IsGiven}
 use Rattle.uu_core.proofs.RunLemmas.{states_append, replies_append}
-use Rattle.uu_core.proofs.WellFormedLemmas.{within, or_false, none_first, pairs-first, pairs-rest, pairs-push, put-in_order, jobs-changed, jobs-rise, calls-in_order}
+use Rattle.uu_core.proofs.WellFormedLemmas.{within, or_false, none_first, pairs-first, pairs-rest, pairs-push, put-in_order, jobs-changed, jobs-rise, calls-in_order, entries-in_order}
 
 -- ---- decisions
 
@@ -67,12 +68,13 @@ some_decided (Some other) value refusal e = ap Some same
 
 module _ (state : State) (h : IsInOrder state) where
   order-accept : (command : Command) → IsInOrder (accept state command)
-  order-accept (Define def) = record { rising = h.rising; below_next = h.below_next; by_name = put-in_order (λ (row : SystemRow). row.def.name) (record { def = def; call = call_of (system_at state def.name) }) state.systems h.by_name }
-  order-accept (Remove name) = record { rising = h.rising; below_next = h.below_next; by_name = AllPairs-filter (λ (a b : SystemRow). ComesBefore a.def.name b.def.name) (λ (row : SystemRow). not (is_system name row)) state.systems h.by_name }
+  order-accept (Define def) = record { rising = h.rising; below_next = h.below_next; by_name = put-in_order (λ (row : SystemRow). row.def.name) (record { def = def; call = call_of (system_at state def.name) }) state.systems h.by_name; by_host = h.by_host }
+  order-accept (Remove name) = record { rising = h.rising; below_next = h.below_next; by_name = AllPairs-filter (λ (a b : SystemRow). ComesBefore a.def.name b.def.name) (λ (row : SystemRow). not (is_system name row)) state.systems h.by_name; by_host = h.by_host }
   order-accept (Queue job) = record {
     rising = pairs-push (λ (a b : Job). a.number < b.number) state.jobs (job_of state.next job) h.below_next h.rising;
     below_next = All-push (λ (j : Job). j.number < state.next + 1) state.jobs (job_of state.next job) (All-weaker (λ (j : Job). j.number < state.next) (λ (j : Job). j.number < state.next + 1) (λ j l. omega (arith, l)) state.jobs h.below_next) (omega arith);
     by_name = h.by_name;
+    by_host = h.by_host;
   }
   order-accept (Kill job by) = order-filter (λ (other : Job). not (is_job job other))
     where
@@ -81,24 +83,28 @@ module _ (state : State) (h : IsInOrder state) where
         rising = AllPairs-filter (λ (a b : Job). a.number < b.number) p state.jobs h.rising;
         below_next = All-filter p (λ (j : Job). j.number < state.next) state.jobs h.below_next;
         by_name = h.by_name;
+        by_host = h.by_host;
       }
   order-accept (Regrade job grade by) = record {
     rising = jobs-rise job (λ other. record other { grade = grade }) state.jobs (λ j. refl) h.rising;
     below_next = jobs-changed (λ (j : Job). j.number < state.next) job (λ other. record other { grade = grade }) state.jobs (λ j l. l) h.below_next;
     by_name = h.by_name;
+    by_host = h.by_host;
   }
   order-accept (Rejuvenate job at by) = record {
     rising = jobs-rise job (λ other. record other { queued = at.second }) state.jobs (λ j. refl) h.rising;
     below_next = jobs-changed (λ (j : Job). j.number < state.next) job (λ other. record other { queued = at.second }) state.jobs (λ j l. l) h.below_next;
     by_name = h.by_name;
+    by_host = h.by_host;
   }
-  order-accept (Failed system at why) = record { rising = h.rising; below_next = h.below_next; by_name = calls-in_order system (λ row. failed_call row at why) state.systems h.by_name }
+  order-accept (Failed system at why) = record { rising = h.rising; below_next = h.below_next; by_name = calls-in_order system (λ row. failed_call row at why) state.systems h.by_name; by_host = h.by_host }
   order-accept (Done system at jobs) = record {
     rising = AllPairs-filter (λ (a b : Job). a.number < b.number) (λ (job : Job). not (is_among jobs job)) state.jobs h.rising;
     below_next = All-filter (λ (job : Job). not (is_among jobs job)) (λ (j : Job). j.number < state.next) state.jobs h.below_next;
     by_name = calls-in_order system (λ row. done_call at) state.systems h.by_name;
+    by_host = h.by_host;
   }
-  order-accept (Entry bytes) = record { rising = h.rising; below_next = h.below_next; by_name = h.by_name }
+  order-accept (Entry bytes) = record { rising = h.rising; below_next = h.below_next; by_name = h.by_name; by_host = entries-in_order (host_of bytes) bytes state.entries h.by_host }
 
 pub still_in_order : (state : State) (command : Command) → IsInOrder state → IsInOrder (after state command).0
 still_in_order state command h = by-verdict (verdict state command)
@@ -132,67 +138,140 @@ others name row rows own later =
         let there : other.def.name ≡ name = (bytes_decides other.def.name name).0 e in
         absurd (not_before_itself name (ap (λ n. slice_cmp nat_cmp n name) (sym here) ∙ ap (λ n. slice_cmp nat_cmp row.def.name n) (sym there) ∙ l))
 
--- the calls of the first system of a name change, so those of all systems of the name do
-pub called_once : (name : List ℕ) (change : SystemRow → CallState) (call : CallState) (rows : List SystemRow) → AllPairs (λ (a b : SystemRow). ComesBefore a.def.name b.def.name) rows → ((row : SystemRow) → find (is_system name) rows ≡ Some row → change row ≡ call) → with_call name call rows ≡ change_call name change rows
+-- one system has the name, so that what its calls become is what those of all systems of the name become
+pub called_once : (name : List ℕ) (change : SystemRow → CallState) (call : CallState) (rows : List SystemRow) → AreByName (λ (row : SystemRow). row.def.name) rows → ((row : SystemRow) → find (is_system name) rows ≡ Some row → change row ≡ call) → change_call name (λ _. call) rows ≡ change_call name change rows
 called_once name change call [] ordered is = refl
-called_once name change call (row ∷ rows) ordered is = by-test (is_system name row) refl is (called_once name change call rows (pairs-rest (λ (a b : SystemRow). ComesBefore a.def.name b.def.name) row rows ordered))
+called_once name change call (row ∷ rows) ordered is = by-test (is_system name row) refl is (called_once name change call rows (pairs-rest before row rows ordered))
   where
-    by-test : (t : Bool) → is_system name row ≡ t → ((r : SystemRow) → cond t (Some row) (find (is_system name) rows) ≡ Some r → change r ≡ call) → (((r : SystemRow) → find (is_system name) rows ≡ Some r → change r ≡ call) → with_call name call rows ≡ change_call name change rows)
-        → cond t (record row { call = call } ∷ rows) (row ∷ with_call name call rows) ≡ cond t (record row { call = change row }) row ∷ change_call name change rows
+    before : SystemRow → SystemRow → Type 0
+    before a b = ComesBefore a.def.name b.def.name
+
+    by-test : (t : Bool) → is_system name row ≡ t → ((r : SystemRow) → cond t (Some row) (find (is_system name) rows) ≡ Some r → change r ≡ call) → (((r : SystemRow) → find (is_system name) rows ≡ Some r → change r ≡ call) → change_call name (λ _. call) rows ≡ change_call name change rows)
+        → cond t (record row { call = call }) row ∷ change_call name (λ _. call) rows ≡ cond t (record row { call = change row }) row ∷ change_call name change rows
     by-test true e is again =
-        ap (λ c. record row { call = c } ∷ rows) (sym (is row refl))
-        ∙ ap (λ rest. record row { call = change row } ∷ rest) (sym (untouched name change rows (others name row rows e (pairs-first (λ (a b : SystemRow). ComesBefore a.def.name b.def.name) row rows ordered))))
+        let none = others name row rows e (pairs-first before row rows ordered) in
+        ap (λ c. record row { call = c } ∷ change_call name (λ _. call) rows) (sym (is row refl))
+        ∙ ap (λ rest. record row { call = change row } ∷ rest) (untouched name (λ _. call) rows none ∙ sym (untouched name change rows none))
     by-test false e is again = ap (λ rest. row ∷ rest) (again is)
 
 -- ---- loops
 
--- an item that comes after the first ones is put among the rest
-pub put_further : {V : Type 0} (name : V → List ℕ) (item : V) (all : List V) (i : ℕ) (d : V) → i < length all → slice_cmp nat_cmp (name item) (name (get_or all i d)) ≡ Greater → take i all ++ put_by name item (drop i all) ≡ take (i + 1) all ++ put_by name item (drop (i + 1) all)
-put_further name item all i d within greater =
-    ap (λ rest. take i all ++ put_by name item rest) (drop_more all i d within)
-    ∙ ap (λ r. take i all ++ by_order r (item ∷ get_or all i d ∷ drop (i + 1) all) (item ∷ drop (i + 1) all) (get_or all i d ∷ put_by name item (drop (i + 1) all))) greater
-    ∙ sym (append_assoc (take i all) (get_or all i d ∷ []) (put_by name item (drop (i + 1) all)))
-    ∙ ap (λ first. first ++ put_by name item (drop (i + 1) all)) (sym (take_more all i d within))
+keeps_all : {X : Type 0} (p : X → Bool) (xs : List X) → All (λ x. p x ≡ true) xs → filter p xs ≡ xs
+keeps_all p [] h = refl
+keeps_all p (x ∷ xs) h =
+    ap (λ t. cond t (x ∷ filter p xs) (filter p xs)) (All-head (λ y. p y ≡ true) x xs h) ∙ ap (λ rest. x ∷ rest) (keeps_all p xs (All-tail (λ y. p y ≡ true) x xs h))
 
-pub put_before : {V : Type 0} (name : V → List ℕ) (item : V) (all : List V) (i : ℕ) (d : V) → i < length all → slice_cmp nat_cmp (name item) (name (get_or all i d)) ≡ Less → take i all ++ put_by name item (drop i all) ≡ insert all i item
-put_before name item all i d within less =
-    ap (λ rest. take i all ++ put_by name item rest) (drop_more all i d within)
-    ∙ ap (λ r. take i all ++ by_order r (item ∷ get_or all i d ∷ drop (i + 1) all) (item ∷ drop (i + 1) all) (get_or all i d ∷ put_by name item (drop (i + 1) all))) less
-    ∙ ap (λ rest. take i all ++ item ∷ rest) (sym (drop_more all i d within))
+keeps_none : {X : Type 0} (p : X → Bool) (xs : List X) → All (λ x. p x ≡ false) xs → filter p xs ≡ []
+keeps_none p [] h = refl
+keeps_none p (x ∷ xs) h =
+    ap (λ t. cond t (x ∷ filter p xs) (filter p xs)) (All-head (λ y. p y ≡ false) x xs h) ∙ keeps_none p xs (All-tail (λ y. p y ≡ false) x xs h)
 
-pub set_is : {V : Type 0} (all : List V) (i : ℕ) (item : V) → i < length all → set all i item ≡ take i all ++ item ∷ drop (i + 1) all
-set_is [] i item within = absurd (omega (arith, within))
-set_is (x ∷ xs) zero item within = refl
-set_is (x ∷ xs) (suc i) item within =
-    let next : suc (i + 1) ≡ suc i + 1 = omega arith in
-    ap (λ rest. x ∷ rest) (set_is xs i item (omega (arith, within))) ∙ ap (λ n. take (suc i) (x ∷ xs) ++ item ∷ drop n (x ∷ xs)) next
+-- the elements after a place come after the one at it
+rest_after : {X : Type 0} (R : X → X → Type 0) (xs : List X) (i : ℕ) (d : X) → AllPairs R xs → i < length xs → All (R (get_or xs i d)) (drop (i + 1) xs)
+rest_after R xs i d h within k e inside =
+    let long : length (drop (i + 1) xs) ≡ length xs - (i + 1) = length-drop (i + 1) xs in
+    rw (get_or-drop (i + 1) xs k e, get_or_default xs i d e within) (h i (i + 1 + k) e (omega arith) (omega (arith, long, inside)))
 
-pub put_instead : {V : Type 0} (name : V → List ℕ) (item : V) (all : List V) (i : ℕ) (d : V) → i < length all → slice_cmp nat_cmp (name item) (name (get_or all i d)) ≡ Equal → take i all ++ put_by name item (drop i all) ≡ set all i item
-put_instead name item all i d within equal =
-    ap (λ rest. take i all ++ put_by name item rest) (drop_more all i d within)
-    ∙ ap (λ r. take i all ++ by_order r (item ∷ get_or all i d ∷ drop (i + 1) all) (item ∷ drop (i + 1) all) (get_or all i d ∷ put_by name item (drop (i + 1) all))) equal
-    ∙ sym (set_is all i item within)
+set_is : {V : Type 0} (all : List V) (i : ℕ) (item : V) → i < length all → set all i item ≡ take i all ++ item ∷ drop (i + 1) all
+set_is all i item within =
+    let next : suc i ≡ i + 1 = omega arith in
+    set_split all i item within ∙ ap (λ n. take i all ++ item ∷ drop n all) next
 
-pub call_further : (name : List ℕ) (call : CallState) (all : List SystemRow) (i : ℕ) (d : SystemRow) → i < length all → is_system name (get_or all i d) ≡ false → take i all ++ with_call name call (drop i all) ≡ take (i + 1) all ++ with_call name call (drop (i + 1) all)
-call_further name call all i d within other =
-    ap (λ rest. take i all ++ with_call name call rest) (drop_more all i d within)
-    ∙ ap (λ t. take i all ++ cond t (record (get_or all i d) { call = call } ∷ drop (i + 1) all) (get_or all i d ∷ with_call name call (drop (i + 1) all))) other
-    ∙ sym (append_assoc (take i all) (get_or all i d ∷ []) (with_call name call (drop (i + 1) all)))
-    ∙ ap (λ first. first ++ with_call name call (drop (i + 1) all)) (sym (take_more all i d within))
+-- the item goes between the items before it and those after it, instead of those of its name
+put_among : {V : Type 0} (name : V → List ℕ) (item : V) (first same rest : List V) → All (λ x. slice_cmp nat_cmp (name item) (name x) ≡ Greater) first → All (λ x. slice_cmp nat_cmp (name item) (name x) ≡ Equal) same → All (λ x. slice_cmp nat_cmp (name item) (name x) ≡ Less) rest → first ++ item ∷ rest ≡ put_by name item (first ++ (same ++ rest))
+put_among {V} name item first same rest f s r =
+    ap (λ l. l ++ item ∷ rest) (sym firsts) ∙ ap (λ l. filter earlier (first ++ (same ++ rest)) ++ item ∷ l) (sym rests)
+  where
+    earlier : V → Bool
+    earlier x = is_before name x item
 
-pub call_here : (name : List ℕ) (call : CallState) (all : List SystemRow) (i : ℕ) (d : SystemRow) → i < length all → is_system name (get_or all i d) ≡ true → take i all ++ with_call name call (drop i all) ≡ set all i (record (get_or all i d) { call = call })
-call_here name call all i d within own =
-    ap (λ rest. take i all ++ with_call name call rest) (drop_more all i d within)
-    ∙ ap (λ t. take i all ++ cond t (record (get_or all i d) { call = call } ∷ drop (i + 1) all) (get_or all i d ∷ with_call name call (drop (i + 1) all))) own
-    ∙ sym (set_is all i (record (get_or all i d) { call = call }) within)
+    later : V → Bool
+    later x = is_before name item x
 
-pub call_set : (name : List ℕ) (call : CallState) (rows all : List SystemRow) (i : ℕ) (row new : SystemRow) → rows ≡ all → new ≡ record row { call = call } → i < length all → row ≡ get_or all i row → is_system name (get_or all i row) ≡ true → take i all ++ with_call name call (drop i all) ≡ with_call name call all → set rows i new ≡ with_call name call all
-call_set name call rows all i row new same is within here own rest =
+    turned : (x : V) (o : Ordering) → slice_cmp nat_cmp (name item) (name x) ≡ o → earlier x ≡ is_lt (ordering_reverse o)
+    turned x o e = ap is_lt (nat_list_cmp_total.antisymm (name x) (name item) ∙ ap ordering_reverse e)
+
+    firsts : filter earlier (first ++ (same ++ rest)) ≡ first
+    firsts =
+        filter-append earlier first (same ++ rest)
+        ∙ ap (λ l. l ++ filter earlier (same ++ rest)) (keeps_all earlier first (All-weaker (λ x. slice_cmp nat_cmp (name item) (name x) ≡ Greater) (λ x. earlier x ≡ true) (λ x e. turned x Greater e) first f))
+        ∙ ap (λ l. first ++ l) (keeps_none earlier (same ++ rest) (All-append (λ x. earlier x ≡ false) same rest
+        (All-weaker (λ x. slice_cmp nat_cmp (name item) (name x) ≡ Equal) (λ x. earlier x ≡ false) (λ x e. turned x Equal e) same s)
+        (All-weaker (λ x. slice_cmp nat_cmp (name item) (name x) ≡ Less) (λ x. earlier x ≡ false) (λ x e. turned x Less e) rest r)))
+        ∙ append-nil first
+
+    rests : filter later (first ++ (same ++ rest)) ≡ rest
+    rests =
+        filter-append later first (same ++ rest)
+        ∙ ap (λ l. l ++ filter later (same ++ rest)) (keeps_none later first (All-weaker (λ x. slice_cmp nat_cmp (name item) (name x) ≡ Greater) (λ x. later x ≡ false) (λ x e. ap is_lt e) first f))
+        ∙ filter-append later same rest
+        ∙ ap (λ l. l ++ filter later rest) (keeps_none later same (All-weaker (λ x. slice_cmp nat_cmp (name item) (name x) ≡ Equal) (λ x. later x ≡ false) (λ x e. ap is_lt e) same s))
+        ∙ keeps_all later rest (All-weaker (λ x. slice_cmp nat_cmp (name item) (name x) ≡ Less) (λ x. later x ≡ true) (λ x e. ap is_lt e) rest r)
+
+-- what was made of the items, which are all there were
+pub made_of : {X : Type 0} (make : List X → List X) (items all new whole : List X) → new ≡ make items → items ≡ all → make all ≡ whole → new ≡ whole
+made_of make items all new whole e same f = e ∙ ap make same ∙ f
+
+-- where the item comes in relation to the one at a place, as the call that compares the two names answers
+pub item_stands : {V : Type 0} (name : V → List ℕ) (item there : V) (items all : List V) (i : ℕ) (first second : List ℕ) (answer : Ordering) → items ≡ all → there ≡ get_or items i there → first ≡ name item → second ≡ name there → answer ≡ slice_cmp nat_cmp first second → slice_cmp nat_cmp (name item) (name (get_or all i there)) ≡ answer
+item_stands name item there items all i first second answer same here f s a =
+    ap (λ x. slice_cmp nat_cmp (name item) (name x)) (sym (here ∙ ap (λ l. get_or l i there) same))
+    ∙ ap (λ n. slice_cmp nat_cmp n (name there)) (sym f)
+    ∙ ap (λ n. slice_cmp nat_cmp first n) (sym s)
+    ∙ sym a
+
+module _ {V : Type 0} (name : V → List ℕ) (item : V) (all : List V) (i : ℕ) (d : V) where
+  abbrev stands : Ordering → V → Type 0
+  stands o x = slice_cmp nat_cmp (name item) (name x) ≡ o
+
+  pub put_before : AreByName name all → All (stands Greater) (take i all) → i < length all → stands Less (get_or all i d) → insert all i item ≡ put_by name item all
+  put_before ordered passed inside less =
+      put_among name item (take i all) [] (drop i all) passed (All-nil (stands Equal)) rest ∙ ap (put_by name item) (take-append-drop i all)
+    where
+      rest : All (stands Less) (drop i all)
+      rest = subst (All (stands Less)) (sym (drop_more all i d inside))
+          (All-cons (stands Less) (get_or all i d) (drop (i + 1) all) less
+          (All-weaker (λ x. ComesBefore (name (get_or all i d)) (name x)) (stands Less) (λ x l. nat_list_cmp_total.trans (name item) (name (get_or all i d)) (name x) less l)
+          (drop (i + 1) all) (rest_after (λ a b. ComesBefore (name a) (name b)) all i d ordered inside)))
+
+  pub put_instead : AreByName name all → All (stands Greater) (take i all) → i < length all → stands Equal (get_or all i d) → set all i item ≡ put_by name item all
+  put_instead ordered passed inside equal =
+      set_is all i item inside
+      ∙ put_among name item (take i all) (get_or all i d ∷ []) (drop (i + 1) all) passed (All-cons (stands Equal) (get_or all i d) [] equal (All-nil (stands Equal))) rest
+      ∙ ap (λ l. put_by name item (take i all ++ l)) (sym (drop_more all i d inside))
+      ∙ ap (put_by name item) (take-append-drop i all)
+    where
+      rest : All (stands Less) (drop (i + 1) all)
+      rest = All-weaker (λ x. ComesBefore (name (get_or all i d)) (name x)) (stands Less) (λ x l. nat_list_cmp_total.congr (name item) (name (get_or all i d)) (name x) equal ∙ l)
+          (drop (i + 1) all) (rest_after (λ a b. ComesBefore (name a) (name b)) all i d ordered inside)
+
+pub put_last : {V : Type 0} (name : V → List ℕ) (item : V) (all : List V) → All (λ x. slice_cmp nat_cmp (name item) (name x) ≡ Greater) all → all ++ item ∷ [] ≡ put_by name item all
+put_last name item all passed =
+    put_among name item all [] [] passed (All-nil (λ x. slice_cmp nat_cmp (name item) (name x) ≡ Equal)) (All-nil (λ x. slice_cmp nat_cmp (name item) (name x) ≡ Less))
+    ∙ ap (put_by name item) (append-nil all)
+
+pub call_set : (name : List ℕ) (call : CallState) (rows all : List SystemRow) (i : ℕ) (row new : SystemRow) → AreByName (λ (r : SystemRow). r.def.name) all → All (λ (r : SystemRow). is_system name r ≡ false) (take i all) → rows ≡ all → new ≡ record row { call = call } → i < length all → row ≡ get_or all i row → is_system name row ≡ true → set rows i new ≡ change_call name (λ _. call) all
+call_set name call rows all i row new ordered passed same is within here own =
     ap (λ l. set l i new) same
-    ∙ ap (λ r. set all i r) is
-    ∙ ap (λ (r : SystemRow). set all i (record r { call = call })) here
-    ∙ sym (call_here name call all i row within own)
-    ∙ rest
+    ∙ set_is all i new within
+    ∙ ap (λ l. l ++ new ∷ drop (i + 1) all) (sym (untouched name (λ _. call) (take i all) passed))
+    ∙ ap (λ l. change_call name (λ _. call) (take i all) ++ new ∷ l) (sym (untouched name (λ _. call) (drop (i + 1) all) none))
+    ∙ ap (λ r. change_call name (λ _. call) (take i all) ++ r ∷ change_call name (λ _. call) (drop (i + 1) all)) (is ∙ ap (λ t. cond t (record row { call = call }) row) (sym own))
+    ∙ sym (map-append one (take i all) (row ∷ drop (i + 1) all))
+    ∙ ap (λ r. change_call name (λ _. call) (take i all ++ r ∷ drop (i + 1) all)) here
+    ∙ ap (λ l. change_call name (λ _. call) (take i all ++ l)) (sym (drop_more all i row within))
+    ∙ ap (change_call name (λ _. call)) (take-append-drop i all)
+  where
+    one : SystemRow → SystemRow
+    one r = cond (is_system name r) (record r { call = call }) r
+
+    none : All (λ (r : SystemRow). is_system name r ≡ false) (drop (i + 1) all)
+    none = others name row (drop (i + 1) all) own
+        (subst (λ (r : SystemRow). All (λ (other : SystemRow). ComesBefore r.def.name other.def.name) (drop (i + 1) all)) (sym here)
+        (rest_after (λ (a b : SystemRow). ComesBefore a.def.name b.def.name) all i row ordered within))
+
+pub no_call_set : (name : List ℕ) (call : CallState) (rows : List SystemRow) → All (λ (r : SystemRow). is_system name r ≡ false) rows → rows ≡ change_call name (λ _. call) rows
+no_call_set name call rows none = sym (untouched name (λ _. call) rows none)
 
 -- ---- a job that is handed in
 
@@ -232,7 +311,7 @@ find-none p (y ∷ xs) e = by-test (p y) e (find-none p xs)
         apart q = cc
     by-test false e again = again e
 
-pub failed_accepted : (state : State) (name : List ℕ) (at : Moment) (why : List ℕ) (found : Option SystemRow) (call : CallState) (rows : List SystemRow) → IsInOrder state → found ≡ system_at state name → Ok call ≡ failed_decision found at why → rows ≡ with_call name call state.systems → (record state { systems = rows }, Carried) ≡ after state (Failed name at why)
+pub failed_accepted : (state : State) (name : List ℕ) (at : Moment) (why : List ℕ) (found : Option SystemRow) (call : CallState) (rows : List SystemRow) → IsInOrder state → found ≡ system_at state name → Ok call ≡ failed_decision found at why → rows ≡ change_call name (λ _. call) state.systems → (record state { systems = rows }, Carried) ≡ after state (Failed name at why)
 failed_accepted state name at why None call rows h f e r = absurd apart
   where
     apart : ⊥
@@ -264,7 +343,7 @@ failed_refused state name at why (Some row) refusal f e = absurd apart
     apart : ⊥
     apart = cc
 
-pub done_accepted : (state : State) (name : List ℕ) (at : Moment) (numbers : List ℕ) (known : Bool) (heads : List JobHead) (call : CallState) (jobs : List Job) (rows : List SystemRow) → IsInOrder state → known ≡ has_system state name → heads ≡ map head_of state.jobs → Ok call ≡ decided (done_refusal known name numbers heads) (done_call at) → jobs ≡ filter (λ (job : Job). not (is_among numbers job)) state.jobs → rows ≡ with_call name call state.systems → (record state { jobs = jobs; systems = rows }, Carried) ≡ after state (Done name at numbers)
+pub done_accepted : (state : State) (name : List ℕ) (at : Moment) (numbers : List ℕ) (known : Bool) (heads : List JobHead) (call : CallState) (jobs : List Job) (rows : List SystemRow) → IsInOrder state → known ≡ has_system state name → heads ≡ map head_of state.jobs → Ok call ≡ decided (done_refusal known name numbers heads) (done_call at) → jobs ≡ filter (λ (job : Job). not (is_among numbers job)) state.jobs → rows ≡ change_call name (λ _. call) state.systems → (record state { jobs = jobs; systems = rows }, Carried) ≡ after state (Done name at numbers)
 done_accepted state name at numbers known heads call jobs rows h k hs e j r =
     let d = none_decided (done_refusal known name numbers heads) (done_call at) call (sym e) in
     ap (λ js. (record state { jobs = js; systems = rows }, Carried)) j

@@ -3,14 +3,14 @@ use Rattle.std.proofs.Common.{◌≡◌, ℕ, suc, ◌+◌, ◌<◌, ◌≤◌, 
 use Rattle.std.specs.List.{list_any}
 use Rattle.std.specs.declared.cmp.Ordering.{Ordering}
 use Rattle.std.specs.declared.cmp.Ordering.TheVariants.{Less, Equal, Greater}
-use Rattle.std.specs.Ordering.{ordering_reverse}
+use Rattle.std.specs.Ordering.{is_lt, ordering_reverse}
 use Rattle.std.specs.Cmp.Lexicographic.{slice_cmp, bytes_decides}
 use Rattle.std.proofs.lemmas.Bool.{cond_both}
 use Rattle.std.proofs.lemmas.Bool.Decides.{nat_tests}
 use Rattle.std.proofs.lemmas.Cmp.{nat_list_cmp_total}
 use Rattle.std.proofs.lemmas.Map.Lookups.{exact_bytes}
 use Rattle.std.proofs.lemmas.List.Kept.{AllPairs-cons, AllPairs-filter}
-use Rattle.std.proofs.lemmas.List.Elements.{All-nil, All-cons, All-head, All-tail, All-weaker, All-map, All-push, All-filter, All-contains_itself}
+use Rattle.std.proofs.lemmas.List.Elements.{All-nil, All-cons, All-head, All-tail, All-weaker, All-map, All-push, All-append, All-filter, All-contains_itself, filter_passes, Contains-append_left, Contains-append_right}
 use Rattle.uu_map.specs.Text.{host_of}
 use Rattle.uu_map.specs.declared.fault.MapFault.{MapFault}
 use Rattle.uu_times.specs.System.{System, HasRetry, IsRetry}
@@ -27,10 +27,10 @@ use Rattle.uu_core.specs.declared.system.SystemRow.{SystemRow}
 use Rattle.uu_core.specs.State.{State, Job, MapEntry, IsWellFormed, IsJob, IsKind, IsCall, IsDefinition, ComesBefore, same_text, has_system, is_waiting, is_system, system_at, is_job, numbers_end, most_bytes, empty}
 use Rattle.uu_core.specs.Waiting.{one_more, lines_at, limit_at, line_at, retry_minutes, growing_minutes, wait_after}
 use Rattle.uu_core.specs.Verdict.{verdict, is_too_large, has_many_arguments}
-use Rattle.uu_core.specs.After.{after, after_verdict, accept, put_by, by_order, put_system, call_of, change_job, change_call, job_of, failed_call, done_call, keep_entry, is_among}
+use Rattle.uu_core.specs.After.{after, after_verdict, accept, is_before, put_by, put_system, call_of, change_job, change_call, job_of, failed_call, done_call, keep_entry, is_among}
 use Rattle.uu_core.specs.Run.{state_after}
 use Rattle.uu_core.specs.WellFormed.{IsCommand, IsNewJob, HasWords}
-use Rattle.uu_core.proofs.Members.{kept, mapped, some_passes, passing_one}
+use Rattle.uu_core.proofs.Members.{first_of, later_of, kept, mapped, some_passes, passing_one}
 
 -- ---- pairs of a list
 
@@ -54,60 +54,71 @@ module _ {X : Type 0} (R : X → X → Type 0) where
   pairs-push (x ∷ xs) y below h =
       AllPairs-cons R x (xs ++ y ∷ []) (All-push (R x) xs y (pairs-first x xs h) (All-head (λ z. R z y) x xs below)) (pairs-push xs y (All-tail (λ z. R z y) x xs below) (pairs-rest x xs h))
 
+  pub pairs-append : (xs ys : List X) → AllPairs R xs → AllPairs R ys → All (λ x. All (R x) ys) xs → AllPairs R (xs ++ ys)
+  pairs-append [] ys h k across = k
+  pairs-append (x ∷ xs) ys h k across =
+      AllPairs-cons R x (xs ++ ys) (All-append (R x) xs ys (pairs-first x xs h) (All-head (λ z. All (R z) ys) x xs across))
+      (pairs-append xs ys (pairs-rest x xs h) k (All-tail (λ z. All (R z) ys) x xs across))
+
 -- ---- an item put in its place
 
-or-true : (a : Bool) → a || true ≡ true
-or-true true = refl
-or-true false = refl
+less_is : (r : Ordering) → is_lt r ≡ true → r ≡ Less
+less_is Less e = refl
+less_is Equal e = absurd (apart e)
+  where
+    apart : false ≡ true → ⊥
+    apart q = cc
+less_is Greater e = absurd (apart e)
+  where
+    apart : false ≡ true → ⊥
+    apart q = cc
 
 module _ {V : Type 0} (name : V → List ℕ) (item : V) where
+  abbrev earlier : List V → List V
+  earlier xs = filter (λ x. is_before name x item) xs
+
+  abbrev later : List V → List V
+  later xs = filter (λ x. is_before name item x) xs
+
   put-all : (P : V → Type 0) (xs : List V) → P item → All P xs → All P (put_by name item xs)
-  put-all P [] p h = All-cons P item [] p h
-  put-all P (x ∷ xs) p h = by-place (slice_cmp nat_cmp (name item) (name x)) (put-all P xs p (All-tail P x xs h))
-    where
-      by-place : (r : Ordering) → All P (put_by name item xs) → All P (by_order r (item ∷ x ∷ xs) (item ∷ xs) (x ∷ put_by name item xs))
-      by-place Less again = All-cons P item (x ∷ xs) p h
-      by-place Equal again = All-cons P item xs p (All-tail P x xs h)
-      by-place Greater again = All-cons P x (put_by name item xs) (All-head P x xs h) again
+  put-all P xs p h =
+      All-append P (earlier xs) (item ∷ later xs) (All-filter (λ x. is_before name x item) P xs h)
+      (All-cons P item (later xs) p (All-filter (λ x. is_before name item x) P xs h))
 
   pub put-in_order : (xs : List V) → AllPairs (λ a b. ComesBefore (name a) (name b)) xs → AllPairs (λ a b. ComesBefore (name a) (name b)) (put_by name item xs)
-  put-in_order [] h = AllPairs-cons (λ a b. ComesBefore (name a) (name b)) item [] (All-nil (λ b. ComesBefore (name item) (name b))) h
-  put-in_order (x ∷ xs) h = by-place (slice_cmp nat_cmp (name item) (name x)) refl (put-in_order xs (pairs-rest R x xs h))
+  put-in_order xs h =
+      pairs-append R (earlier xs) (item ∷ later xs)
+      (AllPairs-filter R (λ x. is_before name x item) xs h)
+      (AllPairs-cons R item (later xs) after (AllPairs-filter R (λ x. is_before name item x) xs h))
+      (All-weaker (λ x. is_before name x item ≡ true) (λ x. All (R x) (item ∷ later xs)) before (earlier xs) (filter_passes (λ x. is_before name x item) xs))
     where
       R : V → V → Type 0
       R a b = ComesBefore (name a) (name b)
 
-      by-place : (r : Ordering) → slice_cmp nat_cmp (name item) (name x) ≡ r → AllPairs R (put_by name item xs) → AllPairs R (by_order r (item ∷ x ∷ xs) (item ∷ xs) (x ∷ put_by name item xs))
-      by-place Less e again =
-          AllPairs-cons R item (x ∷ xs) (All-cons (R item) x xs e (All-weaker (R x) (R item) (λ y l. nat_list_cmp_total.trans (name item) (name x) (name y) e l) xs (pairs-first R x xs h))) h
-      by-place Equal e again =
-          AllPairs-cons R item xs (All-weaker (R x) (R item) (λ y l. nat_list_cmp_total.congr (name item) (name x) (name y) e ∙ l) xs (pairs-first R x xs h)) (pairs-rest R x xs h)
-      by-place Greater e again =
-          AllPairs-cons R x (put_by name item xs) (put-all (R x) xs (nat_list_cmp_total.antisymm (name x) (name item) ∙ ap ordering_reverse e) (pairs-first R x xs h)) again
+      after : All (R item) (later xs)
+      after = All-weaker (λ x. is_before name item x ≡ true) (R item) (λ x e. less_is _ e) (later xs) (filter_passes (λ x. is_before name item x) xs)
+
+      before : (x : V) → is_before name x item ≡ true → All (R x) (item ∷ later xs)
+      before x e =
+          All-cons (R x) item (later xs) (less_is _ e)
+          (All-weaker (R item) (R x) (λ y l. nat_list_cmp_total.trans (name x) (name item) (name y) (less_is _ e) l) (later xs) after)
 
   -- a test that looks at the name alone still passes for one of them
   put-any : (p : List ℕ → Bool) (xs : List V) → list_any (λ v. p (name v)) xs ≡ true → list_any (λ v. p (name v)) (put_by name item xs) ≡ true
-  put-any p [] h = absurd (apart h)
+  put-any p xs h =
+      let r = passing_one q xs h in
+      by-place r.0 r.1 r.2 (slice_cmp nat_cmp (name item) (name r.0)) refl
     where
-      apart : false ≡ true → ⊥
-      apart q = cc
-  put-any p (x ∷ xs) h = by-place (slice_cmp nat_cmp (name item) (name x)) refl (put-any p xs)
-    where
-      any : List V → Bool
-      any = list_any (λ v. p (name v))
+      q : V → Bool
+      q v = p (name v)
 
-      first : (t : Bool) → p (name x) ≡ t → t || any xs ≡ true → (p (name item) ≡ t) → p (name item) || any xs ≡ true
-      first true e h same = ap (λ b. b || any xs) same
-      first false e h same = ap (λ b. p (name item) || b) h ∙ or-true (p (name item))
-
-      later : (t : Bool) → t || any xs ≡ true → (any xs ≡ true → any (put_by name item xs) ≡ true) → t || any (put_by name item xs) ≡ true
-      later true h again = refl
-      later false h again = again h
-
-      by-place : (r : Ordering) → slice_cmp nat_cmp (name item) (name x) ≡ r → (any xs ≡ true → any (put_by name item xs) ≡ true) → any (by_order r (item ∷ x ∷ xs) (item ∷ xs) (x ∷ put_by name item xs)) ≡ true
-      by-place Less e again = ap (λ b. p (name item) || b) h ∙ or-true (p (name item))
-      by-place Equal e again = first (p (name x)) refl h (ap p (exact_bytes (name item) (name x) e))
-      by-place Greater e again = later (p (name x)) h again
+      by-place : (x : V) → Contains xs x → q x ≡ true → (r : Ordering) → slice_cmp nat_cmp (name item) (name x) ≡ r → list_any q (put_by name item xs) ≡ true
+      by-place x there e Less l =
+          some_passes q (put_by name item xs) x (Contains-append_right (earlier xs) (item ∷ later xs) x (later_of item x (later xs) (kept (λ v. is_before name item v) xs x there (ap is_lt l)))) e
+      by-place x there e Equal l =
+          some_passes q (put_by name item xs) item (Contains-append_right (earlier xs) (item ∷ later xs) item (first_of item (later xs))) (ap p (exact_bytes (name item) (name x) l) ∙ e)
+      by-place x there e Greater l =
+          some_passes q (put_by name item xs) x (Contains-append_left (earlier xs) (item ∷ later xs) x (kept (λ v. is_before name v item) xs x there (ap is_lt (nat_list_cmp_total.antisymm (name x) (name item) ∙ ap ordering_reverse l)))) e
 
 -- ---- jobs and systems that change
 
@@ -219,7 +230,7 @@ entry-kept : (answer : Result (List ℕ) MapFault) (bytes : List ℕ) (entries :
 entry-kept (Ok host) bytes entries e h = put-all (λ (entry : MapEntry). entry.host) (record { host = host; bytes = bytes }) (λ (entry : MapEntry). host_of entry.bytes ≡ Ok entry.host) entries e h
 entry-kept (Err fault) bytes entries e h = h
 
-entries-in_order : (answer : Result (List ℕ) MapFault) (bytes : List ℕ) (entries : List MapEntry) → AllPairs (λ (a b : MapEntry). ComesBefore a.host b.host) entries → AllPairs (λ (a b : MapEntry). ComesBefore a.host b.host) (keep_entry answer bytes entries)
+pub entries-in_order : (answer : Result (List ℕ) MapFault) (bytes : List ℕ) (entries : List MapEntry) → AllPairs (λ (a b : MapEntry). ComesBefore a.host b.host) entries → AllPairs (λ (a b : MapEntry). ComesBefore a.host b.host) (keep_entry answer bytes entries)
 entries-in_order (Ok host) bytes entries h = put-in_order (λ (entry : MapEntry). entry.host) (record { host = host; bytes = bytes }) entries h
 entries-in_order (Err fault) bytes entries h = h
 

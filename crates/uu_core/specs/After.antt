@@ -1,9 +1,7 @@
 -- What a command makes of a state, and what it answers. (Killing and rejuvenating jobs: Taylor UUCP 1.07 manual, on uustat; the rest is
 -- this project's choice.)
 use Rattle.std.specs.Prelude.{ℕ, ◌+◌, Bool, not, ◌==◌, List, [], ◌∷◌, ◌++◌, map, filter, Option, Some, None, Result, Ok, Err, if◌then◌else◌}
-use Rattle.std.specs.declared.cmp.Ordering.{Ordering}
-use Rattle.std.specs.declared.cmp.Ordering.TheVariants.{Less, Equal, Greater}
-use Rattle.std.specs.Ordering.{nat_cmp}
+use Rattle.std.specs.Ordering.{is_lt, nat_cmp}
 use Rattle.std.specs.Cmp.Lexicographic.{slice_cmp}
 use Rattle.std.specs.List.{list_any}
 use Rattle.uu_times.specs.declared.moment.Moment.{Moment}
@@ -44,17 +42,13 @@ done_call at = record { last = at.second; failures = 0; wait = 0; outcome = WasD
 
 -- ---- lists that are kept in the order of a name
 
--- where a text comes in relation to that of the first of a list
-abbrev pub by_order : {V : Type 0} → Ordering → V → V → V → V
-by_order Less before same after = before
-by_order Equal before same after = same
-by_order Greater before same after = after
+-- the first item's name comes before the second's, in the order of their bytes
+abbrev pub is_before : {V : Type 0} → (V → List ℕ) → V → V → Bool
+is_before name first second = is_lt (slice_cmp nat_cmp (name first) (name second))
 
--- the item in its place, instead of the one of its name if there is one
+-- the item between those before it and those after it, and none other of its name
 abbrev pub put_by : {V : Type 0} → (V → List ℕ) → V → List V → List V
-put_by name item [] = item ∷ []
-put_by name item (other ∷ others) =
-    by_order (slice_cmp nat_cmp (name item) (name other)) (item ∷ other ∷ others) (item ∷ others) (other ∷ put_by name item others)
+put_by name item items = filter (λ other. is_before name other item) items ++ item ∷ filter (λ other. is_before name item other) items
 
 abbrev pub put_system : SystemRow → List SystemRow → List SystemRow
 put_system = put_by (λ row. row.def.name)

@@ -58,8 +58,11 @@ pub record AreDue (rows : List SystemRow) (jobs : List JobHead) (at : Moment) (d
 abbrev pub HaveNumbers : List JobHead → Type 0
 HaveNumbers jobs = IsDistinct nat_eq (map (λ job. job.number) jobs)
 
--- A walk along jobs in that order: a job is listed where its system may be called for it and is not listed yet.
--- These of the jobs before it were looked at.
+-- the jobs stand by grade and number
+abbrev pub AreInOrder : List JobHead → Type 0
+AreInOrder jobs = AllPairs (λ a b. goes_before a b ≡ true) jobs
+
+-- A walk along jobs that stand so lists each job whose system may be called for it and for none of the jobs seen before it.
 abbrev pub is_next : List SystemRow → Moment → List JobHead → JobHead → Bool
 is_next rows at seen job = may_go rows at job && not (list_any (λ other. same_text other.system job.system && may_go rows at other) seen)
 
@@ -71,6 +74,10 @@ walk_after rows at seen (job ∷ jobs) =
 abbrev pub walk : List SystemRow → List JobHead → Moment → List Due
 walk rows jobs at = walk_after rows at [] jobs
 
--- the jobs stand by grade and number
-abbrev pub AreInOrder : List JobHead → Type 0
-AreInOrder jobs = AllPairs (λ a b. goes_before a b ≡ true) jobs
+-- the system is one of those that are listed
+abbrev pub is_listed : List Due → List ℕ → Bool
+is_listed dues name = list_any (λ due. same_text due.system name) dues
+
+-- what is listed after one more job: that job too, where its system may be called for it and isn't listed
+abbrev pub with_next : List SystemRow → Moment → List Due → JobHead → List Due
+with_next rows at dues job = if may_go rows at job && not (is_listed dues job.system) then dues ++ due_of job ∷ [] else dues

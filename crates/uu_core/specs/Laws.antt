@@ -1,5 +1,5 @@
 -- What follows from the definitions of the machine.
-use Rattle.std.specs.Prelude.{◌≡◌, ℕ, Bool, ◌==◌, List, [], ◌∷◌, Option, Some, None, Contains, false}
+use Rattle.std.specs.Prelude.{◌≡◌, ℕ, Bool, ◌==◌, List, [], ◌∷◌, Option, Some, None, Contains, true, false}
 use Rattle.std.specs.List.{list_any}
 use Rattle.uu_core.specs.declared.command.Command.{Command}
 use Rattle.uu_core.specs.declared.command.Command.TheVariants.{Define, Remove, Queue, Kill, Regrade, Rejuvenate, Failed, Done, Entry}
@@ -56,3 +56,8 @@ pub record IsHandedIn (state : State) (command : Command) (job : Job) : Type 0 w
 -- the job's number is among these
 abbrev pub is_named : List ℕ → JobHead → Bool
 is_named numbers job = list_any (λ number. number == job.number) numbers
+
+-- the jobs that were found: some of the jobs, and among them each whose number is one of these
+pub record AreFound (numbers : List ℕ) (jobs found : List JobHead) : Type 0 where
+  pub there : (job : JobHead) → Contains found job → Contains jobs job
+  pub all : (job : JobHead) → Contains jobs job → is_named numbers job ≡ true → Contains found job

@@ -1,7 +1,8 @@
 -- Which commands are refused, and why. (That a job is killed or rejuvenated by its owner or by an administrator is the Taylor UUCP
 -- 1.07 manual's, on uustat; regrading, the limits and the order of the reasons are this project's choice.)
-use Rattle.std.specs.Prelude.{ℕ, Bool, false, not, ◌==◌, ◌||◌, ◌&&◌, nat_lt, List, [], ◌∷◌, length, map, Option, Some, None, is_err, option_map, if◌then◌else◌}
+use Rattle.std.specs.Prelude.{ℕ, Bool, false, not, ◌==◌, ◌||◌, ◌&&◌, nat_eq, nat_lt, List, [], ◌∷◌, length, map, Option, Some, None, is_err, option_map, if◌then◌else◌}
 use Rattle.std.specs.List.{list_any}
+use Rattle.std.specs.Set.{distinct_count}
 use Rattle.uu_map.specs.Text.{host_of}
 use Rattle.uu_core.specs.declared.command.Command.{Command}
 use Rattle.uu_core.specs.declared.command.Command.TheVariants.{Define, Remove, Queue, Kill, Regrade, Rejuvenate, Failed, Done, Entry}
@@ -20,8 +21,8 @@ abbrev pub drop_refusal : Bool → Bool → Option Refusal
 drop_refusal known waiting = first_reason ((not known, NoSystem) ∷ (waiting, Busy) ∷ [])
 
 abbrev pub has_many_arguments : Kind → Bool
-has_many_arguments (Send source target) = nat_lt most_arguments 0
-has_many_arguments (Request source target) = nat_lt most_arguments 0
+has_many_arguments (Send source target) = false
+has_many_arguments (Request source target) = false
 has_many_arguments (Execute command arguments) = nat_lt most_arguments (length arguments)
 
 -- too many bytes or arguments
@@ -40,10 +41,9 @@ abbrev pub job_refusal : Option JobHead → By → Option Refusal
 job_refusal None by = Some NoJob
 job_refusal (Some job) by = if may_touch by job then None else Some NotYours
 
--- one of the numbers stands twice
+-- one of the numbers stands twice: counted once each, they are fewer
 abbrev pub has_repeat : List ℕ → Bool
-has_repeat [] = false
-has_repeat (number ∷ numbers) = list_any (λ other. other == number) numbers || has_repeat numbers
+has_repeat numbers = nat_lt (distinct_count nat_eq numbers) (length numbers)
 
 abbrev pub has_number : List JobHead → ℕ → Bool
 has_number jobs number = list_any (λ job. job.number == number) jobs

@@ -1,5 +1,5 @@
 //! Laws of the machine that the contracts of this crate speak of.
-ghost use Rattle.std.specs.Prelude.{◌≡◌, ◌++◌, ◌+◌, ◌≤◌, ◌⊎◌, ◌<◌, ℕ, List, Some, None, Contains, Bool, false, All, filter, IsPermutation};
+ghost use Rattle.std.specs.Prelude.{◌≡◌, ◌++◌, ◌+◌, ◌≤◌, ◌⊎◌, ◌<◌, ℕ, List, Some, None, Contains, Bool, false, All, IsPermutation, [], ◌∷◌};
 ghost use Rattle.uu_core.specs.declared.command.Command.{Command};
 ghost use Rattle.uu_core.specs.declared.command.Command.TheVariants.{Queue};
 ghost use Rattle.uu_core.specs.declared.command.Reply.TheVariants.{Number, Refused};
@@ -10,10 +10,10 @@ ghost use Rattle.uu_core.specs.declared.refusal.Refusal.{Refusal};
 ghost use Rattle.uu_core.specs.declared.system.SystemRow.{SystemRow};
 ghost use Rattle.uu_core.specs.State.{State, Job, IsWellFormed, empty};
 ghost use Rattle.uu_core.specs.Verdict.{verdict, done_refusal};
-ghost use Rattle.uu_core.specs.Due.{AreDue, AreInOrder, walk};
+ghost use Rattle.uu_core.specs.Due.{AreDue, AreInOrder, walk, with_next};
 ghost use Rattle.uu_core.specs.After.{after, job_of};
 ghost use Rattle.uu_core.specs.Run.{state_after, replies_to};
-ghost use Rattle.uu_core.specs.Laws.{accepted_of, lets_go, IsAmong, IsHandedIn, is_named};
+ghost use Rattle.uu_core.specs.Laws.{accepted_of, lets_go, IsAmong, IsHandedIn, AreFound};
 ghost use Rattle.uu_core.specs.WellFormed.{IsCommand};
 
 pub use crate::sound::commands_are_sound;
@@ -70,7 +70,14 @@ pub fn walks_list_what_is_due()
     ensures { (rows : List SystemRow) (at : Moment) (jobs ordered : List JobHead) → IsPermutation jobs ordered → AreInOrder ordered → AreDue rows jobs at (walk rows ordered at) }
 {}
 
-/// Of all jobs only those that a report of a call names decide on it.
+/// A walk can go one job at a time: what it has listed decides whether the next job is listed.
+pub fn walks_go_job_by_job()
+    ensures start { (rows : List SystemRow) (at : Moment) → walk rows [] at ≡ [] }
+    ensures step { (rows : List SystemRow) (at : Moment) (jobs : List JobHead) (job : JobHead) → walk rows (jobs ++ job ∷ []) at ≡ with_next rows at (walk rows jobs at) job }
+{}
+
+/// Of all jobs only those that a report of a call names decide on it: any of the jobs, in any order, decide as all of
+/// them do if these are among them.
 pub fn named_jobs_decide()
-    ensures { (known : Bool) (system numbers : List ℕ) (jobs : List JobHead) → done_refusal known system numbers (filter (is_named numbers) jobs) ≡ done_refusal known system numbers jobs }
+    ensures { (known : Bool) (system numbers : List ℕ) (jobs found : List JobHead) → AreFound numbers jobs found → done_refusal known system numbers found ≡ done_refusal known system numbers jobs }
 {}

@@ -26,7 +26,8 @@ use std::marker::Model;
 use uu_names::SiteName;
 use uu_times::Moment;
 
-/// A spool in memory, seen as its state. It never holds two jobs of one number or two systems of one name.
+/// A spool in memory, seen as its state. It never holds two jobs of one number, two systems of one name or two entries
+/// of one host.
 #[derive(Debug, Drop)]
 pub struct Machine {
     lists: Lists,

@@ -1,17 +1,18 @@
 // Worked answers: what is refused, how long a system is left alone, and what is due.
 mod machine;
+mod order;
 mod script;
 
 use crate::{
-    By, CallState, Due, JobHead, Kind, NewJob, Outcome, Refusal, SystemRow, choose, decide_done,
+    By, CallState, Due, JobHead, NewJob, Outcome, Refusal, SystemRow, choose, decide_done,
     decide_drop, decide_failed, decide_job, decide_queue, held, limit,
 };
+use machine::expect_dues;
+use order::{all_week, by, file, grade, moment, new_job, site, word};
 use std::alloc::Global;
 use std::process::Abort;
-use std::test::Fail;
-use uu_map::Listed;
-use uu_names::{Grade, SiteName, Word};
-use uu_times::{Line, Lines, Moment, SystemDef, Windows};
+use uu_names::SiteName;
+use uu_times::Moment;
 
 // A system that may be called all week for jobs of this grade and above.
 fn system(
@@ -21,152 +22,159 @@ fn system(
     grade: u8,
     retry: Option<u32>,
     max_retries: u32,
-) -> Result<SystemRow, Fail> {
-    let week = Windows::from_ranges(alloc, [(0, 10_079)].as_slice())?;
-    let mut lines = Vec::new(alloc);
-    lines.push(Line {
-        grade: Grade::parse(grade)?,
-        windows: week.expect(rt, "the whole week"),
-        retry,
-    })?;
-    let def = SystemDef::new(
-        SiteName::parse(alloc, name)?,
-        Lines::new(lines),
-        max_retries,
-    );
-    Ok(SystemRow {
-        def: def.expect(rt, "a system"),
-        call: CallState {
-            last: 0,
-            failures: 0,
-            wait: 0,
-            outcome: Outcome::Never,
-        },
-    })
+) -> SystemRow {
+    let def = all_week(rt, alloc, name, grade, retry, max_retries);
+    let call = CallState {
+        last: 0,
+        failures: 0,
+        wait: 0,
+        outcome: Outcome::Never,
+    };
+    SystemRow { def, call }
 }
 
-fn sending(alloc: Global) -> Result<Kind, Fail> {
-    Ok(Kind::Send {
-        source: Word::parse(alloc, "/tmp/news")?,
-        target: Word::parse(alloc, "~/news")?,
-    })
-}
-
-fn job(alloc: Global, number: u32, system: &str, grade: u8) -> Result<JobHead, Fail> {
-    Ok(JobHead {
+fn job(rt: &impl Abort, alloc: Global, number: u32, system: &str, byte: u8) -> JobHead {
+    JobHead {
         number,
-        system: SiteName::parse(alloc, system)?,
-        grade: Grade::parse(grade)?,
-        user: Word::parse(alloc, "ann")?,
-        kind: sending(alloc)?,
+        system: site(rt, alloc, system),
+        grade: grade(rt, byte),
+        user: word(rt, alloc, "ann"),
+        kind: file(rt, alloc),
         queued: 1_000_000_000,
         size: 0,
-    })
-}
-
-fn new_job(alloc: Global, size: usize) -> Result<NewJob, Fail> {
-    let mut bytes = Vec::with_capacity(alloc, size)?;
-    for _ in 0..size {
-        bytes.push(b'x')?;
     }
-    Ok(NewJob {
-        system: SiteName::parse(alloc, "duke")?,
-        grade: Grade::default(),
-        user: Word::parse(alloc, "ann")?,
-        kind: sending(alloc)?,
-        bytes: Listed::from_vec(bytes),
-        at: Moment::new(1_000_000_000, 0)?,
-    })
 }
 
-#[test]
-fn jobs_handed_in(rt: HostRuntime) -> Result<(), Fail> {
-    let alloc = rt.alloc();
-    let most = new_job(alloc, 1_048_576)?;
-    let more = new_job(alloc, 1_048_577)?;
-    let none = new_job(alloc, 0)?;
-    assert_eq!(rt; decide_queue(true, 1, &most), Ok(1));
-    assert_eq!(rt; decide_queue(true, 2, &more), Err(Refusal::TooLarge));
-    assert_eq!(rt; decide_queue(true, 2, &none), Ok(2));
-    assert_eq!(rt; decide_queue(false, 2, &more), Err(Refusal::TooLarge));
-    assert_eq!(rt; decide_queue(false, 2, &none), Err(Refusal::NoSystem));
-    assert_eq!(rt; decide_queue(true, 4_294_967_294, &none), Ok(4_294_967_294));
-    assert_eq!(rt;
-        decide_queue(true, 4_294_967_295, &none),
-        Err(Refusal::NumbersOut)
-    );
-    Ok(())
-}
-
-#[test]
-fn jobs_of_a_call(rt: HostRuntime) -> Result<(), Fail> {
-    let alloc = rt.alloc();
-    let at = Moment::new(1_000_000_000, 0)?;
-    let duke = SiteName::parse(alloc, "duke")?;
+// Jobs for these systems, each with its number and grade.
+fn jobs(rt: &impl Abort, alloc: Global, rows: &[(u32, &str, u8)]) -> Vec<JobHead> {
     let mut jobs = Vec::new(alloc);
-    jobs.push(job(alloc, 1, "duke", b'N')?)?;
-    jobs.push(job(alloc, 3, "unc", b'N')?)?;
-    let cases = [
-        ([1, 1], Refusal::JobTwice),
-        ([1, 3], Refusal::OtherSystem),
-        ([1, 4], Refusal::NoJob),
-    ];
-    for (numbers, refusal) in cases {
-        let decision = decide_done(true, &duke, numbers.as_slice(), jobs.as_slice(), &at);
-        assert_eq!(rt; decision.err(), Some(refusal));
+    for (number, system, grade) in rows {
+        let job = job(rt, alloc, *number, *system, *grade);
+        jobs.push(job).expect(rt, "memory");
     }
-    let many = [1; 257];
-    let decision = decide_done(true, &duke, many.as_slice(), jobs.as_slice(), &at);
-    assert_eq!(rt; decision.err(), Some(Refusal::TooLarge));
-    let call = decide_done(true, &duke, [1].as_slice(), jobs.as_slice(), &at)?;
-    assert_eq!(rt; call.last, 1_000_000_000);
-    assert_eq!(rt; call.wait, 0);
-    Ok(())
+    jobs
+}
+
+// The decision on a job that is handed in, of one under a name that is defined or not, as the next number stands.
+fn expect_queued(rt: &impl Abort, job: &NewJob, rows: &[(bool, u32, Result<u32, Refusal>)]) {
+    for (is_defined, next, expected) in rows {
+        let decision = decide_queue(*is_defined, *next, job);
+        assert_eq!(rt; decision, *expected, "next {next}");
+    }
 }
 
 #[test]
-fn owners_and_waiting_jobs(rt: HostRuntime) -> Result<(), Fail> {
+fn jobs_handed_in(rt: HostRuntime) {
     let alloc = rt.alloc();
-    let own = job(alloc, 1, "duke", b'N')?;
+    let most = new_job(&rt, alloc, "duke", b'N', 1_048_576);
+    expect_queued(&rt, &most, [(true, 1, Ok(1))].as_slice());
+    let more = new_job(&rt, alloc, "duke", b'N', 1_048_577);
+    let refused = [
+        (true, 2, Err(Refusal::TooLarge)),
+        (false, 2, Err(Refusal::TooLarge)),
+    ];
+    expect_queued(&rt, &more, refused.as_slice());
+    let none = new_job(&rt, alloc, "duke", b'N', 0);
+    let decisions = [
+        (true, 2, Ok(2)),
+        (false, 2, Err(Refusal::NoSystem)),
+        (true, 4_294_967_294, Ok(4_294_967_294)),
+        (true, 4_294_967_295, Err(Refusal::NumbersOut)),
+    ];
+    expect_queued(&rt, &none, decisions.as_slice());
+}
+
+fn expect_refused(
+    rt: &impl Abort,
+    system: &SiteName,
+    numbers: &[u32],
+    jobs: &[JobHead],
+    at: &Moment,
+    refusal: Refusal,
+) {
+    let decision = decide_done(true, system, numbers, jobs, at);
+    assert_eq!(rt; decision.err(), Some(refusal));
+}
+
+#[test]
+fn jobs_of_a_call(rt: HostRuntime) {
+    let alloc = rt.alloc();
+    let at = moment(&rt, 1_000_000_000);
+    let duke = site(&rt, alloc, "duke");
+    let jobs = jobs(&rt, alloc, [(1, "duke", b'N'), (3, "unc", b'N')].as_slice());
+    let many = [1; 257];
+    for (numbers, refusal) in [
+        ([1, 1].as_slice(), Refusal::JobTwice),
+        ([1, 3].as_slice(), Refusal::OtherSystem),
+        ([1, 4].as_slice(), Refusal::NoJob),
+        (many.as_slice(), Refusal::TooLarge),
+    ] {
+        expect_refused(&rt, &duke, numbers, jobs.as_slice(), &at, refusal);
+    }
+    let call = decide_done(true, &duke, [1].as_slice(), jobs.as_slice(), &at);
+    let call = call.expect(&rt, "a call");
+    assert_eq!(rt; (call.last, call.wait), (1_000_000_000, 0));
+}
+
+#[test]
+fn owners_and_waiting_jobs(rt: HostRuntime) {
+    let alloc = rt.alloc();
+    let own = job(&rt, alloc, 1, "duke", b'N');
     for (user, admin, decision) in [
         ("bob", false, Err(Refusal::NotYours)),
         ("ann", false, Ok(())),
         ("root", true, Ok(())),
     ] {
-        let by = By {
-            user: Word::parse(alloc, user)?,
-            admin,
-        };
-        assert_eq!(rt; decide_job(Some(&own), &by), decision, "{user}");
-        assert_eq!(rt; decide_job(None, &by), Err(Refusal::NoJob));
+        let by = by(&rt, alloc, user, admin);
+        expect_decision(&rt, Some(&own), &by, decision);
+        expect_decision(&rt, None, &by, Err(Refusal::NoJob));
     }
-    assert_eq!(rt; decide_drop(true, true), Err(Refusal::Busy));
-    assert_eq!(rt; decide_drop(false, false), Err(Refusal::NoSystem));
-    assert_eq!(rt; decide_drop(true, false), Ok(()));
-    Ok(())
+}
+
+fn expect_decision(rt: &impl Abort, job: Option<&JobHead>, by: &By, expected: Result<(), Refusal>) {
+    assert_eq!(rt; decide_job(job, by), expected);
 }
 
 #[test]
-fn waits_double_up_to_a_day(rt: HostRuntime) -> Result<(), Fail> {
+fn systems_that_go(rt: HostRuntime) {
+    for (is_defined, has_jobs, decision) in [
+        (true, true, Err(Refusal::Busy)),
+        (false, false, Err(Refusal::NoSystem)),
+        (true, false, Ok(())),
+    ] {
+        assert_eq!(rt; decide_drop(is_defined, has_jobs), decision);
+    }
+}
+
+// A call of the system fails, and it then waits so long.
+fn fail(rt: &impl Abort, alloc: Global, system: &mut SystemRow, second: u64, wait: u64) {
+    let why = word(rt, alloc, "busy");
+    let call = decide_failed(Some(&*system), &moment(rt, second), why);
+    system.call = call.expect(rt, "a system");
+    assert_eq!(rt; system.call.wait, wait);
+}
+
+#[test]
+fn waits_double_up_to_a_day(rt: HostRuntime) {
     let alloc = rt.alloc();
-    let at = Moment::new(1_000_000_000, 0)?;
-    let mut duke = system(&rt, alloc, "duke", b'z', None, 26)?;
+    let mut duke = system(&rt, alloc, "duke", b'z', None, 26);
     for wait in [600, 1200, 2400, 4800, 9600, 19_200, 38_400, 76_800, 86_400] {
-        duke.call = decide_failed(Some(&duke), &at, Word::parse(alloc, "busy")?)?;
-        assert_eq!(rt; duke.call.wait, wait);
+        fail(&rt, alloc, &mut duke, 1_000_000_000, wait);
     }
     assert_eq!(rt; duke.call.failures, 9);
-    Ok(())
+}
+
+fn expect_held(rt: &impl Abort, call: &CallState, second: u64, is_held: bool) {
+    let at = moment(rt, second);
+    assert_eq!(rt; held(call, &at), is_held, "at {second}");
 }
 
 #[test]
-fn max_retries_outweighs_a_retry_number(rt: HostRuntime) -> Result<(), Fail> {
+fn max_retries_outweighs_a_retry_number(rt: HostRuntime) {
     let alloc = rt.alloc();
-    let mut duke = system(&rt, alloc, "duke", b'z', Some(30), 2)?;
+    let mut duke = system(&rt, alloc, "duke", b'z', Some(30), 2);
     for (second, wait) in [(1_000_000_000, 1800), (1_000_116_000, 86_400)] {
-        let at = Moment::new(second, 0)?;
-        duke.call = decide_failed(Some(&duke), &at, Word::parse(alloc, "busy")?)?;
-        assert_eq!(rt; duke.call.wait, wait);
+        fail(&rt, alloc, &mut duke, second, wait);
     }
     for (second, is_held) in [
         (1_000_116_000, true),
@@ -174,56 +182,87 @@ fn max_retries_outweighs_a_retry_number(rt: HostRuntime) -> Result<(), Fail> {
         (1_000_202_400, false),
         (1_000_115_999, false),
     ] {
-        let at = Moment::new(second, 0)?;
-        assert_eq!(rt; held(&duke.call, &at), is_held, "at {second}");
+        expect_held(&rt, &duke.call, second, is_held);
     }
-    Ok(())
 }
 
-fn expect_due(rt: &impl Abort, dues: &[Due], expected: &[(&str, u8, u32)]) {
-    assert_eq!(rt; dues.len(), expected.len());
-    for (due, other) in dues.iter().zip(expected.iter()) {
-        assert_eq!(rt; due.system.as_str(), other.0);
-        assert_eq!(rt; due.grade.as_byte(), other.1);
-        assert_eq!(rt; due.number, other.2);
-    }
+const FOUR_JOBS: [(u32, &str, u8); 4] = [
+    (1, "duke", b'a'),
+    (2, "duke", b'B'),
+    (3, "unc", b'z'),
+    (4, "unc", b'9'),
+];
+
+// These systems are to be called at this second.
+fn expect_chosen(
+    rt: &impl Abort,
+    alloc: Global,
+    rows: &[SystemRow],
+    jobs: &[JobHead],
+    second: u64,
+    expected: &[(&str, u8, u32)],
+) {
+    let at = moment(rt, second);
+    let dues = choose(alloc, rows, jobs, &at).expect(rt, "memory");
+    expect_dues(rt, dues.as_slice(), expected);
 }
 
 #[test]
-fn systems_called_now(rt: HostRuntime) -> Result<(), Fail> {
+fn systems_called_now(rt: HostRuntime) {
     let alloc = rt.alloc();
-    let at = Moment::new(1_000_000_000, 0)?;
-    let duke = system(&rt, alloc, "duke", b'C', None, 26)?;
-    assert_eq!(rt;
-        limit(duke.def.lines(), at.week).map(|grade| grade.as_byte()),
-        Some(b'C')
-    );
-    let unc = system(&rt, alloc, "unc", b'z', None, 26)?;
-    let call = decide_failed(Some(&unc), &at, Word::parse(alloc, "busy")?)?;
+    let now = 1_000_000_000;
     let mut rows = Vec::new(alloc);
-    rows.push(duke)?;
-    rows.push(unc)?;
-    let mut jobs = Vec::new(alloc);
-    jobs.push(job(alloc, 1, "duke", b'a')?)?;
-    jobs.push(job(alloc, 2, "duke", b'B')?)?;
-    jobs.push(job(alloc, 3, "unc", b'z')?)?;
-    jobs.push(job(alloc, 4, "unc", b'9')?)?;
-    let dues = choose(alloc, rows.as_slice(), jobs.as_slice(), &at)?;
-    expect_due(
+    let duke = system(&rt, alloc, "duke", b'C', None, 26);
+    rows.push(duke).expect(&rt, "memory");
+    let unc = system(&rt, alloc, "unc", b'z', None, 26);
+    rows.push(unc).expect(&rt, "memory");
+    let mut jobs = jobs(&rt, alloc, FOUR_JOBS.as_slice());
+    let both = [("unc", b'9', 4), ("duke", b'B', 2)];
+    expect_chosen(
         &rt,
-        dues.as_slice(),
-        [("unc", b'9', 4), ("duke", b'B', 2)].as_slice(),
+        alloc,
+        rows.as_slice(),
+        jobs.as_slice(),
+        now,
+        both.as_slice(),
     );
     if let Some(unc) = rows.last_mut() {
-        unc.call = call;
+        fail(&rt, alloc, unc, now, 600);
     }
-    let dues = choose(alloc, rows.as_slice(), jobs.as_slice(), &at)?;
-    expect_due(&rt, dues.as_slice(), [("duke", b'B', 2)].as_slice());
+    let duke = [("duke", b'B', 2)];
+    expect_chosen(
+        &rt,
+        alloc,
+        rows.as_slice(),
+        jobs.as_slice(),
+        now,
+        duke.as_slice(),
+    );
+    assert!(rt; jobs.len() == 4);
     jobs.remove(1);
-    let dues = choose(alloc, rows.as_slice(), jobs.as_slice(), &at)?;
-    assert!(rt; dues.is_empty());
-    let later = Moment::new(1_000_000_600, 0)?;
-    let dues = choose(alloc, rows.as_slice(), jobs.as_slice(), &later)?;
-    expect_due(&rt, dues.as_slice(), [("unc", b'9', 4)].as_slice());
-    Ok(())
+    expect_chosen(
+        &rt,
+        alloc,
+        rows.as_slice(),
+        jobs.as_slice(),
+        now,
+        [].as_slice(),
+    );
+    let unc = [("unc", b'9', 4)];
+    expect_chosen(
+        &rt,
+        alloc,
+        rows.as_slice(),
+        jobs.as_slice(),
+        now + 600,
+        unc.as_slice(),
+    );
+}
+
+#[test]
+fn the_grade_of_the_line_is_the_limit(rt: HostRuntime) {
+    let duke = all_week(&rt, rt.alloc(), "duke", b'C', None, 26);
+    let at = moment(&rt, 1_000_000_000);
+    let lowest = limit(duke.lines(), at.week).map(|grade| grade.as_byte());
+    assert_eq!(rt; lowest, Some(b'C'));
 }

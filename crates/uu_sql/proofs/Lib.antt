@@ -5,3 +5,4 @@ pub mod Rows
 pub mod Answers
 pub mod Sorted
 pub mod Objects
+pub mod Rowids

@@ -1,3 +1,4 @@
 pub mod Layout
 pub mod Steps
 pub mod Objects
+pub mod Rowids

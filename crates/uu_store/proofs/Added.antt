@@ -49,7 +49,7 @@ system_added old new name count stands h =
     let row : Row = Int (next_rowid (old.now.trees 1)) ∷ Text name ∷ [] in
     let is : inserted old new site stands.schema 1 systems refl text params count system_terms 2 ≡ record { table = systems; gone = []; news = row ∷ [] } = rw (cast_null) refl in
     let a = subst (λ (edit : Edit). Applies site Enforced old.now.trees edit new.now.trees) is (insert_applies old new site stands.schema 1 systems refl text params count system_terms 2 ran) in
-    (ran.stands, record { id = row; row = refl; systems = a.rows; fresh = not_false _ (and_parts (not (is_taken (old.now.trees 1) row)) true a.fresh).0; spool = a.tables.0 (λ e. omega arith); jobs = a.tables.1.1.0 (λ e. omega arith) })
+    (ran.stands, record { id = row; row = refl; numbered = refl; systems = a.rows; fresh = not_false _ (and_parts (not (is_taken (old.now.trees 1) row)) true a.fresh).0; spool = a.tables.0 (λ e. omega arith); jobs = a.tables.1.1.0 (λ e. omega arith) })
 
 pub next_set : (old new : State) (next count : ℕ) → Stands site old.now → Executes update_next (Int (pos next) ∷ []) old new (Ok count) → Stands site new.now × NextSet next old.now.trees new.now.trees
 next_set old new next count stands h =

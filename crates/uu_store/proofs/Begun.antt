@@ -12,7 +12,8 @@ use Rattle.sqlite.specs.State as db
 use Rattle.sqlite_sql.specs.declared.ops.CompareOp.TheVariants.{Eq}
 use Rattle.sqlite.proofs.Callers.{one_permutation}
 use Rattle.sqlite_typed.proofs.TestLemmas.{at_ints, last_term}
-use Rattle.uu_sql.specs.Steps.{Rests, Whole, Did, Ends}
+use Rattle.uu_sql.specs.Steps.{Stands, Rests, Whole, Did, Ends}
+use Rattle.uu_sql.specs.Rowids.{AreNumbered, OnceEach}
 use Rattle.uu_sql.proofs.Answers.{answer_of, answer_moved}
 use Rattle.uu_store.specs.declared.fault.StoreFault.{StoreFault}
 use Rattle.uu_store.specs.declared.fault.StoreFault.TheVariants.{Memory, Foreign, Newer}
@@ -27,17 +28,6 @@ use Rattle.uu_store.specs.Machine.{State, empty}
 use Rattle.uu_store.specs.Encoded.{Holds, Encodes, Begins, Replies}
 use Rattle.uu_store.proofs.Texts.{is_first, version_means}
 
-pub version_rows : (old new : db.State) (s : State) (rows : List Row) → Encodes old.now s → db.Shown ask_version [] old new rows → rows ≡ (Int (pos 0) ∷ []) ∷ []
-version_rows old new s rows enc h =
-    let trees = old.now.trees in
-    let a = answer_of site ask_version _ _ [] old new version_means enc.stands.schema rows h in
-    let row = spool_row 0 s.next in
-    let passes : list_all (holds ([] ∷ row ∷ [])) (is_first ∷ []) ≡ true = last_term (at_ints false Eq (pos 1) (pos 1)) in
-    let moved = answer_moved 0 (is_first ∷ []) (col 1 2 ∷ []) [] trees [] rows refl a in
-    let shown : List Row → List Row = λ rs. map (λ r. eval_all (col 1 2 ∷ []) ([] ∷ r ∷ [])) (filter (λ r. list_all (holds ([] ∷ r ∷ [])) (is_first ∷ [])) rs) in
-    let one : shown (row ∷ []) ≡ (Int (pos 0) ∷ []) ∷ [] = rw passes refl in
-    one_permutation _ rows (subst (λ l. IsPermutation l rows) (ap shown enc.holds.spool ∙ one) moved)
-
 pub empty_holds : (old db : Trees) → TablesMade old db → Holds db empty
 empty_holds old db made =
     let rest = made.second in
@@ -49,8 +39,10 @@ empty_holds old db made =
     record {
       spool = begun.spool (jobs.spool ∙ rest.first.spool ∙ made.first.none);
       systems = subst (λ rs. IsPermutation [] (map system_cells rs)) (sym systems_none) (IsPermutation-refl []);
+      numbered = subst AreNumbered (sym systems_none) tt;
+      once = subst OnceEach (sym systems_none) (λ a b here there tie. absurd here);
       jobs = subst (λ rs. IsPermutation [] rs) (sym jobs_none) (IsPermutation-refl []);
-      good = record { jobs = tt; rises = tt; below = tt; named = tt; first = omega arith; last = omega arith };
+      good = record { jobs = tt; rises = tt; below = tt; placed = tt; named = tt; sites = tt; first = omega arith; last = omega arith };
     }
 
 module _ (a b : db.State) where
@@ -95,9 +87,9 @@ found_site : found_of site ≡ Spool true
 unfolding same_name
 found_site = refl
 
--- of a database that encodes a state every table is found
-pub all_found : (s : State) (a : db.State) (schema : Schema) (found : Found) → schema ≡ a.now.schema → found ≡ found_of schema → Encodes a.now s → found ≡ Spool true
-all_found s a schema found has is enc = is ∙ ap found_of (has ∙ enc.stands.schema) ∙ found_site
+-- of a database that has the spool's tables every one is found
+pub tables_found : (a : db.State) (schema : Schema) (found : Found) → schema ≡ a.now.schema → found ≡ found_of schema → Stands site a.now → found ≡ Spool true
+tables_found a schema found has is stands = is ∙ ap found_of (has ∙ stands.schema) ∙ found_site
 
 pub not_nothing : Nothing ≡ Spool true → ⊥
 not_nothing h = cc
@@ -107,14 +99,3 @@ not_other h = cc
 
 pub not_half : (whole : Bool) → whole ≡ false → Spool whole ≡ Spool true → ⊥
 not_half whole half h = let e : whole ≡ true = cc in true≢false (sym e ∙ half)
-
-pub replies_never : {T : Type 0} (IsAnswer : State → T → Type 0) (a b : db.State) (r : Result T StoreFault) → ((s : State) → Encodes a.now s → ⊥) → Replies IsAnswer a b r
-replies_never IsAnswer a b r never = record {
-  ok = λ clean s rests enc. absurd (never s enc);
-  memory = λ clean s rests enc is. absurd (never s enc);
-  stop = λ clean s rests enc trees may. absurd (never s enc);
-}
-
-pub ours : (r : Result (Unit {0}) StoreFault) → IfErr r (λ fault. fault ≡ Memory) → IfErr r (λ fault. (fault ≢ Foreign) × (fault ≢ Newer))
-ours (Ok x) h = tt
-ours (Err e) h = (λ is. let c : Memory ≡ Foreign = sym h ∙ is in absurd (cc), λ is. let c : Memory ≡ Newer = sym h ∙ is in absurd (cc))

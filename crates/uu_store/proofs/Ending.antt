@@ -49,14 +49,5 @@ clean_before {g} spool h same clean = subst (λ x. db.HasCleanDisk (state g x)) 
 
 -- ---- what a stop leaves of a database that is adopted
 
-pub adopt_stops : {T : Type 0} (IsAnswer : State → T → Type 0) (a b : db.State) (r : Result T StoreFault) (w : Result (Unit {0}) StoreFault) → Settles a → db.HasCleanDisk b → Rests a → Replies IsAnswer a b r → Begins a b w → StopsAs a b
-adopt_stops IsAnswer a b r w settles clean rests replies begins = record {
-  state = λ s enc trees may. leaves s a settles rests enc trees (replies.stop clean s rests enc trees may);
-  none = λ stands trees may. elim (begins.stop clean rests stands trees may) [
-    | inl was ↦ inl (settles trees rests.is_open was ∙ sym (ap (λ (d : Database). d.trees) rests.settled))
-    | inr made ↦ inr made
-  ];
-}
-
 pub adopt_begins : (a b : db.State) → Settles b → db.HasCleanDisk b → Rests a → Begins a b (Ok tt) → Stands no_schema a.now → Leaves b empty
 adopt_begins a b settles clean rests begins stands = let it = begins.ok clean rests stands in leaves empty b settles it.0 it.1

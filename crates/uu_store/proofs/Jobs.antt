@@ -16,11 +16,12 @@ use Rattle.sqlite.specs.Edit.{is_taken}
 use Rattle.sqlite.proofs.Callers.{one_permutation}
 use Rattle.sqlite_trees.proofs.ListLemmas.{all-permutation, IsPermutation-filter}
 use Rattle.sqlite_keyed.proofs.ListLemmas.{filter-map, filter_same, filter_none, filter_all, all_weaker, all-filter, all-map, all_map, ascending-filter, ascending-map, ascending_weaker, any_from_none}
+use Rattle.uu_sql.specs.Rowids.{AreNumbered, OnceEach}
 use Rattle.uu_sql.proofs.Rows.{put_permutes}
 use Rattle.uu_core.specs.State.{Job, IsJob, is_job}
 use Rattle.uu_core.specs.After.{change_job}
 use Rattle.uu_store.specs.Rows.{job_row, system_cells, JobPut, JobTaken, IsOnly}
-use Rattle.uu_store.specs.Machine.{State, IsWellFormed}
+use Rattle.uu_store.specs.Machine.{State, IsWellFormed, is_known}
 use Rattle.uu_store.specs.Encoded.{stored, Holds}
 use Rattle.uu_store.proofs.Answered.{int_eq-nat}
 
@@ -118,12 +119,15 @@ free n rows j number = subst (λ k. is_taken (without_rowid (pos k) rows) (row_o
     (any_from_none (has_rowid (pos j.number)) (without_rowid (pos j.number) rows)
     (all_weaker (λ r. not (has_rowid (pos j.number) r) ≡ true) (λ r. has_rowid (pos j.number) r ≡ false) (λ r h. not_yes (has_rowid (pos j.number) r) h) (without_rowid (pos j.number) rows) (passed (λ r. not (has_rowid (pos j.number) r)) rows)))
 
-module _ (n : ℕ) (change : Job → Job) (same_number : (k : Job) → (change k).number ≡ k.number) (fit : (k : Job) → IsJob k → IsJob (change k)) where
+module _ (n : ℕ) (change : Job → Job) (same_number : (k : Job) → (change k).number ≡ k.number) (same_system : (k : Job) → (change k).system ≡ k.system) (fit : (k : Job) → IsJob k → IsJob (change k)) where
   abbrev one : Job → Job
   one k = cond (is_job n k) (change k) k
 
   one_number : (k : Job) → (one k).number ≡ k.number
   one_number k = elim (is_job n k) as (λ b. (cond b (change k) k).number ≡ k.number) [ true ↦ same_number k | false ↦ refl ]
+
+  one_system : (k : Job) → (one k).system ≡ k.system
+  one_system k = elim (is_job n k) as (λ b. (cond b (change k) k).system ≡ k.system) [ true ↦ same_system k | false ↦ refl ]
 
   one_fit : (k : Job) → IsJob k → IsJob (one k)
   one_fit k good = elim (is_job n k) as (λ b. IsJob (cond b (change k) k)) [ true ↦ fit k good | false ↦ good ]
@@ -133,7 +137,9 @@ module _ (n : ℕ) (change : Job → Job) (same_number : (k : Job) → (change k
     jobs = all_map IsJob one s.jobs (all_weaker IsJob (λ k. IsJob (one k)) one_fit s.jobs good.jobs);
     rises = ascending-map (λ (a b : Job). a.number < b.number) one s.jobs (ascending_weaker (λ (a b : Job). a.number < b.number) (λ a b. (one a).number < (one b).number) (λ a b h. omega (arith, h, one_number a, one_number b)) s.jobs good.rises);
     below = all_map (λ (j : Job). j.number < s.next) one s.jobs (all_weaker (λ (j : Job). j.number < s.next) (λ j. (one j).number < s.next) (λ j h. omega (arith, h, one_number j)) s.jobs good.below);
+    placed = all_map (λ (j : Job). IsTrue (is_known s j.system)) one s.jobs (all_weaker (λ (j : Job). IsTrue (is_known s j.system)) (λ j. IsTrue (is_known s (one j).system)) (λ j h. subst (λ name. IsTrue (is_known s name)) (sym (one_system j)) h) s.jobs good.placed);
     named = good.named;
+    sites = good.sites;
     first = good.first;
     last = good.last;
   }
@@ -150,6 +156,8 @@ module _ (n : ℕ) (change : Job → Job) (same_number : (k : Job) → (change k
       record {
         spool = put.spool ∙ h.spool;
         systems = subst (λ rs. IsPermutation (map (λ name. Text name ∷ []) s.systems) (map system_cells rs)) (sym put.systems) h.systems;
+        numbered = subst AreNumbered (sym put.systems) h.numbered;
+        once = subst OnceEach (sym put.systems) h.once;
         jobs = subst (IsPermutation (map row_of (change_job n change s.jobs))) (sym is) (IsPermutation-trans _ _ _ first (IsPermutation-trans _ _ _ second third));
         good = good_changed s h.good;
       }
@@ -158,12 +166,16 @@ pub holds_taken : (s : State) (n : ℕ) (old db : Trees) → Holds old s → Job
 holds_taken s n old db h gone = record {
   spool = gone.spool ∙ h.spool;
   systems = subst (λ rs. IsPermutation (map (λ name. Text name ∷ []) s.systems) (map system_cells rs)) (sym gone.systems) h.systems;
+  numbered = subst AreNumbered (sym gone.systems) h.numbered;
+  once = subst OnceEach (sym gone.systems) h.once;
   jobs = subst (IsPermutation (map row_of (filter (other n) s.jobs))) (sym gone.jobs) (rows_left n s.jobs (old 3) h.jobs);
   good = record {
     jobs = all-filter IsJob (other n) s.jobs h.good.jobs;
     rises = ascending-filter (λ (a b : Job). a.number < b.number) (other n) s.jobs h.good.rises;
     below = all-filter (λ (j : Job). j.number < s.next) (other n) s.jobs h.good.below;
+    placed = all-filter (λ (j : Job). IsTrue (is_known s j.system)) (other n) s.jobs h.good.placed;
     named = h.good.named;
+    sites = h.good.sites;
     first = h.good.first;
     last = h.good.last;
   };

@@ -1,5 +1,5 @@
 -- How a command ends.
-use Rattle.std.proofs.Common.{◌≡◌, ◌≢◌, ◌⊎◌, ◌≤◌, ◌<◌, inl, inr, ◌+◌, ℕ, Bool, true, false, not, ◌==◌, cond, Option, Some, None, Result, Ok, Err, option_map, refl, sym, ap, subst, ◌∙◌, arith}
+use Rattle.std.proofs.Common.{◌≡◌, ◌≢◌, ◌⊎◌, ◌≤◌, ◌<◌, inl, inr, ◌+◌, ℕ, List, Bool, true, false, not, ◌==◌, cond, Option, Some, None, Result, Ok, Err, option_map, refl, sym, ap, subst, ◌∙◌, arith}
 use Rattle.std.specs.Prelude.{IsTrue, IsOk, IsErr, is_ok}
 use Rattle.std.specs.Result.{is_err}
 use Rattle.std.proofs.lemmas.Bool.Decides.{nat_tests}
@@ -10,7 +10,7 @@ use Rattle.sqlite_catalog.specs.Listing.{IsSound}
 use Rattle.uu_sql.specs.Steps.{Rests, Ready, Asked, Told, Both, Whole, Did, Ends}
 use Rattle.uu_sql.proofs.Steps.{told_same}
 use Rattle.uu_store.specs.declared.command.Command.{Command}
-use Rattle.uu_store.specs.declared.command.Command.TheVariants.{Define, Queue, Kill, Regrade, Rejuvenate}
+use Rattle.uu_store.specs.declared.command.Command.TheVariants.{Define, Remove, Queue, Kill, Regrade, Rejuvenate}
 use Rattle.uu_times.specs.System.{System}
 use Rattle.uu_core.specs.declared.command.Reply.{Reply}
 use Rattle.uu_core.specs.declared.command.Reply.TheVariants.{Done, Number, Refused}
@@ -21,13 +21,14 @@ use Rattle.uu_core.specs.Refusal.{decided}
 use Rattle.uu_times.specs.declared.moment.Moment.{Moment}
 use Rattle.uu_core.specs.declared.job.By.{By}
 use Rattle.uu_core.specs.State.{Job, IsJob, head_of, numbers_end, last_second}
-use Rattle.uu_core.specs.Verdict.{queue_refusal, job_refusal, is_too_large}
+use Rattle.uu_core.specs.Verdict.{drop_refusal, queue_refusal, job_refusal, is_too_large}
 use Rattle.uu_core.specs.After.{job_of}
 use Rattle.uu_store.specs.Schema.{site}
-use Rattle.uu_store.specs.Rows.{JobAdded, JobRanked, JobQueued, JobGone, NextSet}
-use Rattle.uu_store.specs.Machine.{State, after, reply_of, is_known, with_name, job_at, head_at}
+use Rattle.uu_store.specs.Rows.{JobAdded, JobRanked, JobQueued, JobGone, SystemGone, NextSet}
+use Rattle.uu_store.specs.Machine.{State, after, reply_of, is_known, is_waiting, with_name, job_at, head_at}
 use Rattle.uu_store.specs.Encoded.{stored, Holds, Encodes, Obeys}
 use Rattle.uu_store.proofs.States.{holds_queue}
+use Rattle.uu_store.proofs.Removed.{holds_gone}
 use Rattle.uu_store.proofs.Jobs.{alone, alone_number, only, holds_put, holds_taken}
 
 pub ready : (s : State) (a : db.State) → Rests a → Encodes a.now s → Ready site a
@@ -113,14 +114,14 @@ taken : (o : Option Refusal) (next number : ℕ) → decided o next ≡ Ok numbe
 taken None next number h = (refl, cc)
 taken (Some r) next number h = absurd (cc)
 
--- a job that is accepted is not too large, and a number is left for it
-pub accepted : (known : Bool) (next number : ℕ) (job : NewJob) → decided (queue_refusal known next job) next ≡ Ok number → (queue_refusal known next job ≡ None) × (number ≡ next) × (next ≢ numbers_end) × (is_too_large job ≡ false)
-accepted known next number job h = let it = taken (queue_refusal known next job) next number h in let m = more (is_too_large job) known it.0 in (it.0, it.1, m.0, m.1)
+-- a job that is accepted is not too large, its system is known, and a number is left for it
+pub accepted : (known : Bool) (next number : ℕ) (job : NewJob) → decided (queue_refusal known next job) next ≡ Ok number → (queue_refusal known next job ≡ None) × (number ≡ next) × (next ≢ numbers_end) × (is_too_large job ≡ false) × (known ≡ true)
+accepted known next number job h = let it = taken (queue_refusal known next job) next number h in let m = more (is_too_large job) known it.0 in (it.0, it.1, m.0, m.1, m.2)
   where
-    more : (large known : Bool) → cond large (Some TooLarge) (cond (not known) (Some NoSystem) (cond (next == numbers_end) (Some NumbersOut) None)) ≡ None → (next ≢ numbers_end) × (large ≡ false)
+    more : (large known : Bool) → cond large (Some TooLarge) (cond (not known) (Some NoSystem) (cond (next == numbers_end) (Some NumbersOut) None)) ≡ None → (next ≢ numbers_end) × (large ≡ false) × (known ≡ true)
     more true known h = absurd (cc)
     more false false h = absurd (cc)
-    more false true h = (λ e. let t : (next == numbers_end) ≡ true = grind (arith, nat_tests) in absurd (let k = rw t at h in cc), refl)
+    more false true h = (λ e. let t : (next == numbers_end) ≡ true = grind (arith, nat_tests) in absurd (let k = rw t at h in cc), refl, refl)
 
 pub refused : (known : Bool) (next : ℕ) (job : NewJob) (refusal : Refusal) → decided (queue_refusal known next job) next ≡ Err refusal → queue_refusal known next job ≡ Some refusal
 refused known next job refusal h = go (queue_refusal known next job) h
@@ -163,7 +164,7 @@ module _ (s : State) (job : NewJob) (known : Bool) (next : ℕ) (knows : known �
       let it = accepted known next number job h in
       let number_is : number ≡ s.next = it.1 ∙ is_next in
       let more : s.next ≢ numbers_end = λ e. it.2 (is_next ∙ e) in
-      rw (verdict_is None it.0) (holds_queue s job old new holds more (fit s.next holds.good.first) (subst (λ n. Both (JobAdded (stored (job_of n job))) (NextSet (n + 1)) old new) number_is step))
+      rw (verdict_is None it.0) (holds_queue s job old new holds more (sym knows ∙ it.4) (fit s.next holds.good.first) (subst (λ n. Both (JobAdded (stored (job_of n job))) (NextSet (n + 1)) old new) number_is step))
 
   pub queued_reply : (number : ℕ) → decided (queue_refusal known next job) next ≡ Ok number → Number number ≡ reply_of s (Queue job)
   queued_reply number h = let it = accepted known next number job h in rw (verdict_is None it.0) (ap Number (it.1 ∙ is_next))
@@ -171,7 +172,7 @@ module _ (s : State) (job : NewJob) (known : Bool) (next : ℕ) (knows : known �
   pub refused_same : (refusal : Refusal) → decided (queue_refusal known next job) next ≡ Err refusal → (Refused refusal ≡ reply_of s (Queue job)) × (after s (Queue job) ≡ s)
   refused_same refusal h = let is = verdict_is (Some refusal) (refused known next job refusal h) in (rw is refl, rw is refl)
 
--- ---- a command on one job
+-- ---- what the decision on a system or on one job says
 
 abbrev pub Decision : Type 0
 Decision = Result (Unit {0}) Refusal
@@ -186,6 +187,31 @@ allowed (Some r) h = absurd (cc)
 kept_from : (o : Option Refusal) (refusal : Refusal) → ◌≡◌ {A = Decision} (decision o) (Err refusal) → o ≡ Some refusal
 kept_from None refusal h = absurd (cc)
 kept_from (Some r) refusal h = cc
+
+-- ---- a system that goes
+
+-- where it may go, it is known and no job waits for it
+may_go : (known waiting : Bool) → drop_refusal known waiting ≡ None → waiting ≡ false
+may_go false waiting h = absurd (cc)
+may_go true false h = refl
+may_go true true h = absurd (cc)
+
+module _ (s : State) (name : List ℕ) (known waiting : Bool) (knows : known ≡ is_known s name) (waits : waiting ≡ is_waiting s name) where
+  drop_is : (o : Option Refusal) → drop_refusal known waiting ≡ o → drop_refusal (is_known s name) (is_waiting s name) ≡ o
+  drop_is o h = rw (knows, waits) at h
+
+  pub removed : (old new : Trees) → ◌≡◌ {A = Decision} (decision (drop_refusal known waiting)) (Ok tt) → Holds old s → SystemGone name old new → Holds new (after s (Remove name))
+  removed old new h holds gone =
+      let none = allowed (drop_refusal known waiting) h in
+      rw (drop_is None none) (holds_gone s name old new holds (sym waits ∙ may_go known waiting none) (gone holds.numbered holds.once))
+
+  pub removes : ◌≡◌ {A = Decision} (decision (drop_refusal known waiting)) (Ok tt) → Done ≡ reply_of s (Remove name)
+  removes h = rw (drop_is None (allowed (drop_refusal known waiting) h)) refl
+
+  pub remains : (refusal : Refusal) → ◌≡◌ {A = Decision} (decision (drop_refusal known waiting)) (Err refusal) → (Refused refusal ≡ reply_of s (Remove name)) × (after s (Remove name) ≡ s)
+  remains refusal h = let is = drop_is (Some refusal) (kept_from (drop_refusal known waiting) refusal h) in (rw is refl, rw is refl)
+
+-- ---- a command on one job
 
 -- only a job that is there may be touched
 touched : (o : Option Job) (by : By) → job_refusal (option_map head_of o) by ≡ None → (j : Job) × (o ≡ Some j)
@@ -212,7 +238,7 @@ module _ (s : State) (number : ℕ) (by : By) where
       let one = alone number s.jobs it.1.0 holds.good.rises it.1.1 in
       let is = alone_number number s.jobs it.1.0 it.1.1 in
       let fit : (k : Job) → IsJob k → IsJob (record k { grade = grade }) = λ k good. record { number = good.number; system = good.system; grade = low; user = good.user; kind = good.kind; queued = good.queued; bytes = good.bytes } in
-      rw it.0 (holds_put number (λ other. record other { grade = grade }) (λ k. refl) fit s it.1.0 old new holds it.1.1 (put (stored it.1.0) is (only number s.jobs (old 3) it.1.0 holds.jobs one is)))
+      rw it.0 (holds_put number (λ other. record other { grade = grade }) (λ k. refl) (λ k. refl) fit s it.1.0 old new holds it.1.1 (put (stored it.1.0) is (only number s.jobs (old 3) it.1.0 holds.jobs one is)))
 
   pub renewed : (at : Moment) → at.second ≤ last_second → (old new : Trees) → ◌≡◌ {A = Decision} (decision (job_refusal (head_at s number) by)) (Ok tt) → Holds old s → JobQueued number at.second old new → Holds new (after s (Rejuvenate number at by))
   renewed at low old new h holds put =
@@ -220,7 +246,7 @@ module _ (s : State) (number : ℕ) (by : By) where
       let one = alone number s.jobs it.1.0 holds.good.rises it.1.1 in
       let is = alone_number number s.jobs it.1.0 it.1.1 in
       let fit : (k : Job) → IsJob k → IsJob (record k { queued = at.second }) = λ k good. record { number = good.number; system = good.system; grade = good.grade; user = good.user; kind = good.kind; queued = low; bytes = good.bytes } in
-      rw it.0 (holds_put number (λ other. record other { queued = at.second }) (λ k. refl) fit s it.1.0 old new holds it.1.1 (put (stored it.1.0) is (only number s.jobs (old 3) it.1.0 holds.jobs one is)))
+      rw it.0 (holds_put number (λ other. record other { queued = at.second }) (λ k. refl) (λ k. refl) fit s it.1.0 old new holds it.1.1 (put (stored it.1.0) is (only number s.jobs (old 3) it.1.0 holds.jobs one is)))
 
   pub kills : ◌≡◌ {A = Decision} (decision (job_refusal (head_at s number) by)) (Ok tt) → Done ≡ reply_of s (Kill number by)
   kills h = rw ((there h).0) refl

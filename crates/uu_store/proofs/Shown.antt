@@ -1,5 +1,5 @@
 -- From rows to what is shown of them.
-use Rattle.std.proofs.Common.{◌≡◌, ℕ, pos, zero, suc, true, false, cond, List, [], ◌∷◌, ◌++◌, map, filter, slice_get, Option, Some, None, option_map, Vec, refl, sym, ap, ◌∙◌}
+use Rattle.std.proofs.Common.{◌≡◌, ℕ, pos, zero, suc, true, false, cond, List, [], ◌∷◌, ◌++◌, length, map, filter, slice_get, Option, Some, None, option_map, Vec, refl, sym, ap, ◌∙◌}
 use Rattle.std.specs.Prelude.{IfSome, find}
 use Rattle.std.specs.declared.alloc.Global.{Global}
 use Rattle.std.specs.List.{All, AllByRecursion}
@@ -17,18 +17,18 @@ use Rattle.uu_core.specs.declared.job.JobHead.{JobHead}
 use Rattle.uu_core.specs.declared.job.Kind.{Kind}
 use Rattle.uu_core.specs.declared.job.Kind.TheVariants.{Send, Request, Execute}
 use Rattle.uu_core.specs.State.{Job, IsJob, IsKind, head_of, is_job}
-use Rattle.uu_store.specs.Machine.{State, listed_heads, job_at, head_at, by_rank}
+use Rattle.uu_store.specs.Machine.{State, job_at, head_at, by_rank}
 use Rattle.uu_store.specs.Columns.{HasWords}
 use Rattle.uu_store.specs.Encoded.{head_cells, job_cells, cells_at, job_with, job_shown}
 use Rattle.uu_store.proofs.Words.{words_back, words_returned}
 
 -- ---- cells back to heads
 
-abbrev number_back : Value → ℕ
+abbrev pub number_back : Value → ℕ
 number_back (Int (pos n)) = n
 number_back _ = 0
 
-abbrev text_back : Value → List ℕ
+abbrev pub text_back : Value → List ℕ
 text_back (Text t) = t
 text_back (Blob b) = b
 text_back _ = []
@@ -38,7 +38,7 @@ kind_back zero first second = Send first second
 kind_back (suc zero) first second = Request first second
 kind_back (suc (suc n)) first second = Execute first (words_back second)
 
-abbrev head_back : Row → JobHead
+abbrev pub head_back : Row → JobHead
 head_back r = record {
   number = number_back (column r 0);
   system = text_back (column r 1);
@@ -54,7 +54,7 @@ head_is (Send source target) h words = refl
 head_is (Request source target) h words = refl
 head_is (Execute command arguments) h words = ap (λ args. record h { kind = Execute command args }) (words_returned arguments words)
 
-head_returns : (h : JobHead) → HasWords h.kind → head_back (head_cells h) ≡ h
+pub head_returns : (h : JobHead) → HasWords h.kind → head_back (head_cells h) ≡ h
 head_returns h words = head_is h.kind h words
 
 abbrev HeadWords : JobHead → Type 0
@@ -79,12 +79,12 @@ heads_words : (jobs : List Job) → AllByRecursion IsJob jobs → All (λ h. Has
 heads_words [] all = All-nil _
 heads_words (j ∷ jobs) all = All-cons HeadWords (head_of j) (map head_of jobs) (kind_words j.kind all.0.kind) (heads_words jobs all.1)
 
-pub heads_are : (s : State) (rows : List Row) (heads : List JobHead) → AllByRecursion IsJob s.jobs → All (λ h. HasWords h.kind) heads → rows ≡ map (λ (j : Job). head_cells (head_of j)) (sort_by by_rank s.jobs) → map cells_at rows ≡ map head_cells heads → heads ≡ listed_heads s
-heads_are s rows heads good words is read =
-    let sorted = sort_by by_rank s.jobs in
+pub heads_are : (jobs : List Job) (rows : List Row) (heads : List JobHead) → AllByRecursion IsJob jobs → All (λ h. HasWords h.kind) heads → rows ≡ map (λ (j : Job). head_cells (head_of j)) (sort_by by_rank jobs) → map cells_at rows ≡ map head_cells heads → heads ≡ map head_of (sort_by by_rank jobs)
+heads_are jobs rows heads good words is read =
+    let sorted = sort_by by_rank jobs in
     let cells : map head_cells heads ≡ map head_cells (map head_of sorted) =
     sym read ∙ ap (map cells_at) is ∙ map-map cells_at (λ (j : Job). head_cells (head_of j)) sorted ∙ sym (map-map head_cells head_of sorted) in
-    sym (heads_return heads words) ∙ ap (map head_back) cells ∙ heads_return (map head_of sorted) (heads_words sorted (all_sorted s.jobs good))
+    sym (heads_return heads words) ∙ ap (map head_back) cells ∙ heads_return (map head_of sorted) (heads_words sorted (all_sorted jobs good))
 
 -- ---- a job with its bytes
 
@@ -115,6 +115,19 @@ pub job_is : (s : State) (n : ℕ) (rows : List Row) (found : Option (JobHead ×
 job_is s n rows found good words is read =
     let first : slice_get rows 0 ≡ option_map job_cells (job_at s n) = ap (λ rs. slice_get rs 0) is ∙ slice_get-map job_cells (filter (is_job n) s.jobs) 0 ∙ ap (option_map job_cells) (slice_get-filter (is_job n) s.jobs) in
     sym (shown_back found words) ∙ ap (option_map job_back) (read ∙ ap (option_map (λ (row : Row). cells_at row ++ column row 9 ∷ [])) first ∙ cells_of (job_at s n)) ∙ back_all (job_at s n) (found_words n s.jobs good)
+
+sized_by : (o : Option Job) (found : Option (JobHead × Vec ℕ Global)) → option_map (λ (job : JobHead × Vec ℕ Global). head_cells job.0 ++ Blob job.1.items ∷ []) found ≡ option_map job_cells o → IfSome found (λ job. job.0.size ≡ length job.1.items)
+sized_by o None same = tt
+sized_by None (Some job) same = absurd (cc)
+sized_by (Some j) (Some job) same =
+    let cells : head_cells job.0 ++ Blob job.1.items ∷ [] ≡ job_cells j = cc in
+    ap (λ r. number_back (column r 8)) cells ∙ sym (ap (λ r. length (text_back (column r 9))) cells)
+
+pub size_is : (s : State) (n : ℕ) (rows : List Row) (found : Option (JobHead × Vec ℕ Global)) → rows ≡ map job_cells (filter (is_job n) s.jobs)
+    → option_map (λ (job : JobHead × Vec ℕ Global). head_cells job.0 ++ Blob job.1.items ∷ []) found ≡ option_map (λ (row : Row). cells_at row ++ column row 9 ∷ []) (slice_get rows 0) → IfSome found (λ job. job.0.size ≡ length job.1.items)
+size_is s n rows found is read =
+    let first : slice_get rows 0 ≡ option_map job_cells (job_at s n) = ap (λ rs. slice_get rs 0) is ∙ slice_get-map job_cells (filter (is_job n) s.jobs) 0 ∙ ap (option_map job_cells) (slice_get-filter (is_job n) s.jobs) in
+    sized_by (job_at s n) found (read ∙ ap (option_map (λ (row : Row). cells_at row ++ column row 9 ∷ [])) first ∙ cells_of (job_at s n))
 
 -- ---- a head alone
 

@@ -1,7 +1,9 @@
 -- What each text means under the schema.
 use Rattle.std.proofs.Common.{◌≡◌, ◌∷◌, [], refl, List, ℕ, pos, codes, Ok}
 use Rattle.sqlite.specs.declared.types.Value.TheVariants.{Null, Int}
-use Rattle.sqlite.specs.Term.{Term, lit, col}
+use Rattle.sqlite.specs.Term.{Term, lit, col, op1, op2}
+use Rattle.sqlite_sql.specs.declared.ops.UnaryOp.TheVariants.{Length}
+use Rattle.sqlite.specs.Query.{Query}
 use Rattle.sqlite.specs.Source.TheVariants.{Values}
 use Rattle.sqlite.specs.Command.TheVariants.{Insert, Update, Delete, CreateTable}
 use Rattle.sqlite.specs.Compile.{table_defined_by}
@@ -10,8 +12,10 @@ use Rattle.sqlite_tied.specs.Compute.{everything}
 use Rattle.sqlite.specs.Listing.{understood}
 use Rattle.sqlite.proofs.Callers.{IsPlain, command_of, statement_of}
 use Rattle.uu_sql.specs.Layout.{over, where_is, equal_terms}
+use Rattle.sqlite.specs.Collation.TheVariants.{Binary}
+use Rattle.sqlite_sql.specs.declared.ops.BinaryOp.TheVariants.{Is, Or}
 use Rattle.uu_sql.proofs.Asks.{Means, ordered, up}
-use Rattle.uu_store.specs.Schema.{site, no_schema, with_spool, with_systems, spool, systems, jobs, create_spool, create_systems, create_jobs, insert_spool, insert_system, insert_job, update_next, update_rank, update_queued, delete_job, ask_version, ask_next, ask_system, ask_jobs, ask_head, ask_job}
+use Rattle.uu_store.specs.Schema.{site, no_schema, with_spool, with_systems, spool, systems, jobs, create_spool, create_systems, create_jobs, insert_spool, insert_system, insert_job, update_next, update_rank, update_queued, delete_system, delete_job, ask_version, ask_next, ask_system, ask_waiting, ask_jobs, ask_head, ask_job, ask_spool, ask_names, ask_rowids, ask_sizes}
 
 -- ---- writes
 
@@ -70,6 +74,14 @@ pub update_queued_plain : IsPlain (understood site update_queued)
 unfolding understood everything
 update_queued_plain = (refl, refl)
 
+pub delete_system_is : command_of (understood site delete_system) ≡ Delete 1 (record { lets = []; body = over 1 (where_is 1 0 ∷ []) (col 1 0 ∷ []) })
+unfolding understood everything
+delete_system_is = refl
+
+pub delete_system_plain : IsPlain (understood site delete_system)
+unfolding understood everything
+delete_system_plain = (refl, refl)
+
 pub delete_job_is : command_of (understood site delete_job) ≡ Delete 2 (record { lets = []; body = over 3 (where_is 0 0 ∷ []) (col 1 0 ∷ []) })
 unfolding understood everything
 delete_job_is = refl
@@ -95,13 +107,28 @@ pub system_means : Means site ask_system (over 1 (where_is 1 0 ∷ []) (col 1 1 
 unfolding understood everything
 system_means = record { command = refl; plain = (refl, refl); listing = refl }
 
+-- one row is enough
+abbrev pub first_waiting : Query
+first_waiting = record (over 3 (where_is 2 0 ∷ []) (col 1 0 ∷ [])) { limit = lit (Int (pos 1)) }
+
+pub waiting_means : Means site ask_waiting first_waiting (codes "number" ∷ [])
+unfolding understood everything
+waiting_means = record { command = refl; plain = (refl, refl); listing = refl }
+
 abbrev pub head_terms : List Term
 head_terms = col 1 0 ∷ col 1 2 ∷ col 1 3 ∷ col 1 4 ∷ col 1 5 ∷ col 1 6 ∷ col 1 7 ∷ col 1 8 ∷ col 1 9 ∷ []
 
 abbrev pub head_names : List (List ℕ)
 head_names = codes "number" ∷ codes "system" ∷ codes "rank" ∷ codes "user" ∷ codes "kind" ∷ codes "queued" ∷ codes "first_word" ∷ codes "second_word" ∷ codes "size" ∷ []
 
-pub jobs_means : Means site ask_jobs (ordered 3 [] head_terms (up (col 1 3) ∷ up (col 1 0) ∷ [])) head_names
+-- the parameter is NULL, or the column equals it
+abbrev pub null_or_is : ℕ → ℕ → Term
+null_or_is place param = op2 Or (op2 (Is Binary) (col 0 param) (lit Null)) (where_is place param)
+
+abbrev pub fit_terms : List Term
+fit_terms = null_or_is 2 0 ∷ null_or_is 4 1 ∷ []
+
+pub jobs_means : Means site ask_jobs (ordered 3 fit_terms head_terms (up (col 1 3) ∷ up (col 1 0) ∷ [])) head_names
 unfolding understood everything
 jobs_means = record { command = refl; plain = (refl, refl); listing = refl }
 
@@ -118,6 +145,29 @@ whole_names = codes "number" ∷ codes "system" ∷ codes "rank" ∷ codes "user
 pub job_means : Means site ask_job (ordered 3 (where_is 0 0 ∷ []) whole_terms (up (col 1 0) ∷ [])) whole_names
 unfolding understood everything
 job_means = record { command = refl; plain = (refl, refl); listing = refl }
+
+pub spool_means : Means site ask_spool (ordered 0 [] (col 1 0 ∷ col 1 2 ∷ col 1 3 ∷ []) []) (codes "id" ∷ codes "version" ∷ codes "next" ∷ [])
+unfolding understood everything
+spool_means = record { command = refl; plain = (refl, refl); listing = refl }
+
+pub names_means : Means site ask_names (ordered 1 [] (col 1 1 ∷ []) (up (col 1 1) ∷ [])) (codes "name" ∷ [])
+unfolding understood everything
+names_means = record { command = refl; plain = (refl, refl); listing = refl }
+
+pub rowids_means : Means site ask_rowids (ordered 1 [] (col 1 0 ∷ []) (up (col 1 0) ∷ [])) (codes "rowid" ∷ [])
+unfolding understood everything
+rowids_means = record { command = refl; plain = (refl, refl); listing = refl }
+
+abbrev pub sized_terms : List Term
+sized_terms = col 1 0 ∷ col 1 2 ∷ col 1 3 ∷ col 1 4 ∷ col 1 5 ∷ col 1 6 ∷ col 1 7 ∷ col 1 8 ∷ col 1 9 ∷ op1 Length (col 1 10) ∷ []
+
+abbrev pub sized_names : List (List ℕ)
+sized_names =
+    codes "number" ∷ codes "system" ∷ codes "rank" ∷ codes "user" ∷ codes "kind" ∷ codes "queued" ∷ codes "first_word" ∷ codes "second_word" ∷ codes "size" ∷ codes "length(bytes)" ∷ []
+
+pub sizes_means : Means site ask_sizes (ordered 3 [] sized_terms (up (col 1 0) ∷ [])) sized_names
+unfolding understood everything
+sizes_means = record { command = refl; plain = (refl, refl); listing = refl }
 
 -- ---- the tables
 

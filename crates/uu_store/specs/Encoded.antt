@@ -11,6 +11,7 @@ use Rattle.sqlite.specs.State as db
 use Rattle.sqlite_catalog.specs.Listing.{IsSound}
 use Rattle.sqlite.specs.View.{doubt}
 use Rattle.uu_sql.specs.Steps.{Stands, Rests}
+use Rattle.uu_sql.specs.Rowids.{AreNumbered, OnceEach}
 use Rattle.uu_store.specs.declared.command.Command.{Command}
 use Rattle.uu_core.specs.declared.command.Reply.{Reply}
 use Rattle.uu_store.specs.declared.fault.StoreFault.{StoreFault}
@@ -80,10 +81,12 @@ kind_of r = column r 4 ∷ column r 6 ∷ column r 7 ∷ []
 
 -- ---- the tables
 
--- the rows of the three tables are those of the state, in any order
+-- the rows of the three tables are those of the state, in any order; those of the systems have rowids that tell them apart
 pub record Holds (db : Trees) (s : State) : Type 0 where
   pub spool : db 0 ≡ spool_row 0 s.next ∷ []
   pub systems : IsPermutation (map (λ name. Text name ∷ []) s.systems) (map system_cells (db 1))
+  pub numbered : AreNumbered (db 1)
+  pub once : OnceEach (db 1)
   pub jobs : IsPermutation (map (λ j. job_row (stored j)) s.jobs) (db 3)
   pub good : IsWellFormed s
 
@@ -136,12 +139,13 @@ pub record Begins (old new : db.State) (r : Result (Unit {0}) StoreFault) : Type
   pub memory : db.HasCleanDisk new → Rests old → Stands no_schema old.now → r ≡ Err Memory → Rests new × (new.now ≡ old.now)
   pub stop : db.HasCleanDisk new → Rests old → Stands no_schema old.now → (trees : Trees) → new.may_leave trees → old.may_leave trees ⊎ (IsSound site trees × Holds trees empty)
 
--- a database that encodes a state, or has no tables, is as it was
+-- a database with the spool's tables, or with none, is as it was
 pub record IsAsBefore (old new : db.State) : Type 0 where
-  pub state : (s : State) → Encodes old.now s → Rests new × Encodes new.now s
+  pub tables : Stands site old.now → Rests new × (new.now ≡ old.now)
   pub none : Stands no_schema old.now → Rests new × (new.now ≡ old.now)
 
 -- a stop leaves the state that a database encodes, and of one without tables what it was or an empty spool
 pub record StopsAs (old new : db.State) : Type 0 where
+  pub tables : Stands site old.now → (trees : Trees) → new.may_leave trees → trees ≡ old.now.trees
   pub state : (s : State) → Encodes old.now s → Leaves new s
   pub none : Stands no_schema old.now → (trees : Trees) → new.may_leave trees → (trees ≡ old.now.trees) ⊎ (IsSound site trees × Holds trees empty)

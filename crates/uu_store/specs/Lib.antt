@@ -4,5 +4,6 @@ pub mod Codes
 pub mod Machine
 pub mod Encoded
 pub mod Columns
+pub mod Taken
 pub mod Tables
 pub mod Spool

@@ -1,12 +1,15 @@
 -- The rows of the spool's tables.
-use Rattle.std.specs.Prelude.{◌≡◌, ℕ, pos, List, [], ◌∷◌, false, filter, IsTrue}
-use Rattle.std.specs.List.{AllByRecursion}
+use Rattle.std.specs.Prelude.{◌≡◌, ℕ, pos, Bool, not, List, [], ◌∷◌, false, filter, IsTrue}
+use Rattle.std.specs.Ordering.{is_eq}
 use Rattle.sqlite.specs.declared.types.Value.TheVariants.{Null, Int, Text, Blob}
-use Rattle.sqlite.specs.Order.{Row, column}
+use Rattle.sqlite.specs.Order.{Row, column, value_cmp}
 use Rattle.sqlite.specs.Tree.{Trees, rowid, has_rowid, without_rowid, put_row}
 use Rattle.sqlite.specs.View.{is_int}
 use Rattle.sqlite.specs.Edit.{is_taken}
+use Rattle.sqlite.specs.Values.{or_null}
 use Rattle.uu_sql.specs.Steps.{Both}
+use Rattle.uu_store.specs.declared.filter.Filter.{Filter}
+use Rattle.uu_sql.specs.Rowids.{AreNumbered, OnceEach}
 
 -- a job as its table holds it
 pub record JobRow : Type 0 where
@@ -37,6 +40,14 @@ job_cells j = Int (pos j.number) ∷ Text j.system ∷ Int (pos j.rank) ∷ Text
 abbrev pub system_cells : Row → Row
 system_cells r = column r 1 ∷ []
 
+-- what a list is asked for: the system and the user, each NULL where none is wanted
+abbrev pub sought : Filter → Row
+sought f = or_null Text f.system ∷ or_null Text f.user ∷ []
+
+-- the row is that of the system of this name
+abbrev pub is_named : List ℕ → Row → Bool
+is_named name r = is_eq (value_cmp (column r 1) (Text name))
+
 -- ---- steps
 
 -- the row of a job is there, and nothing else differs
@@ -50,10 +61,21 @@ pub record JobAdded (j : JobRow) (old new : Trees) : Type 0 where
 pub record SystemAdded (name : List ℕ) (old new : Trees) : Type 0 where
   pub id : Row
   pub row : system_cells id ≡ Text name ∷ []
+  pub numbered : IsTrue (is_int (rowid id))
   pub systems : new 1 ≡ put_row id (old 1)
   pub fresh : is_taken (old 1) id ≡ false
   pub spool : new 0 ≡ old 0
   pub jobs : new 3 ≡ old 3
+
+-- the rows of the system of this name go, and nothing else differs
+pub record SystemTaken (name : List ℕ) (old new : Trees) : Type 0 where
+  pub systems : new 1 ≡ filter (λ r. not (is_named name r)) (old 1)
+  pub spool : new 0 ≡ old 0
+  pub jobs : new 3 ≡ old 3
+
+-- among rows whose rowids tell them apart
+abbrev pub SystemGone : List ℕ → Trees → Trees → Type 0
+SystemGone name old new = AreNumbered (old 1) → OnceEach (old 1) → SystemTaken name old new
 
 -- the row of a job gives way to this one, and nothing else differs
 pub record JobPut (j : JobRow) (old new : Trees) : Type 0 where
@@ -63,7 +85,7 @@ pub record JobPut (j : JobRow) (old new : Trees) : Type 0 where
 
 -- the one row of this number, among rows that have numbers
 pub record IsOnly (j : JobRow) (rows : List Row) : Type 0 where
-  pub numbered : AllByRecursion (λ r. IsTrue (is_int (rowid r))) rows
+  pub numbered : AreNumbered rows
   pub one : filter (has_rowid (pos j.number)) rows ≡ job_row j ∷ []
 
 -- the one row of this number gets this rank

@@ -65,6 +65,9 @@ update_rank = codes "UPDATE jobs SET rank = ?2 WHERE number = ?1"
 abbrev pub update_queued : List ℕ
 update_queued = codes "UPDATE jobs SET queued = ?2 WHERE number = ?1"
 
+abbrev pub delete_system : List ℕ
+delete_system = codes "DELETE FROM systems WHERE name = ?1"
+
 abbrev pub delete_job : List ℕ
 delete_job = codes "DELETE FROM jobs WHERE number = ?1"
 
@@ -79,11 +82,28 @@ ask_next = codes "SELECT next FROM spool WHERE id = 1"
 abbrev pub ask_system : List ℕ
 ask_system = codes "SELECT name FROM systems WHERE name = ?1"
 
+abbrev pub ask_waiting : List ℕ
+ask_waiting = codes "SELECT number FROM jobs WHERE system = ?1 LIMIT 1"
+
 abbrev pub ask_jobs : List ℕ
-ask_jobs = codes "SELECT number, system, rank, user, kind, queued, first_word, second_word, size FROM jobs ORDER BY rank, number"
+ask_jobs = codes "SELECT number, system, rank, user, kind, queued, first_word, second_word, size FROM jobs WHERE (?1 IS NULL OR system = ?1) AND (?2 IS NULL OR user = ?2) ORDER BY rank, number"
 
 abbrev pub ask_head : List ℕ
 ask_head = codes "SELECT number, system, rank, user, kind, queued, first_word, second_word, size FROM jobs WHERE number = ?1 ORDER BY number"
 
 abbrev pub ask_job : List ℕ
 ask_job = codes "SELECT number, system, rank, user, kind, queued, first_word, second_word, size, bytes FROM jobs WHERE number = ?1 ORDER BY number"
+
+-- ---- questions on every row, when a database is taken
+
+abbrev pub ask_spool : List ℕ
+ask_spool = codes "SELECT id, version, next FROM spool"
+
+abbrev pub ask_names : List ℕ
+ask_names = codes "SELECT name FROM systems ORDER BY name"
+
+abbrev pub ask_rowids : List ℕ
+ask_rowids = codes "SELECT rowid FROM systems ORDER BY rowid"
+
+abbrev pub ask_sizes : List ℕ
+ask_sizes = codes "SELECT number, system, rank, user, kind, queued, first_word, second_word, size, length(bytes) FROM jobs ORDER BY number"

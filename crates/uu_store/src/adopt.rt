@@ -1,18 +1,19 @@
 // Taking a database as a spool.
-ghost use Rattle.std.specs.Prelude.{◌≡◌, ◌≢◌, ◌⊎◌, ◌<◌, ℕ, false, Err, IfErr, IsErrAnd, [], ◌∷◌, pos, ⊤};
-ghost use Rattle.sqlite.specs.declared.types.Value.TheVariants.{Int};
+ghost use Rattle.std.specs.Prelude.{◌≡◌, ◌≢◌, false, IfErr};
 ghost use Rattle.sqlite.specs.Held.{state};
 ghost use Rattle.sqlite.specs.State.{HasCleanDisk};
 ghost use Rattle.uu_sql.specs.Steps.{Rests, Stands};
 ghost use Rattle.uu_store.specs.Schema.{no_schema};
-ghost use Rattle.uu_store.specs.Encoded.{Encodes, Begins, Replies, IsFresh};
+ghost use Rattle.uu_store.specs.Encoded.{Encodes, Begins, IsFresh};
+ghost use Rattle.uu_store.specs.Taken.{Judged};
 
-use crate::fault::{StoreFault, halt_fault, store_fault};
+use crate::check::judge;
+use crate::fault::{StoreFault, halt_fault};
 use crate::spool::Spool;
-use crate::statements::{ask_version, create};
+use crate::statements::create;
 use crate::tables::{Found, found_in};
-use sqlite::{Alter, Connection, Error, Row};
-use uu_sql::is_memory;
+use sqlite::{Alter, Connection};
+use std::alloc::Global;
 
 /// Why a database was not taken, and the connection to it, with no transaction open.
 #[derive(Drop)]
@@ -20,42 +21,6 @@ pub struct AdoptFault<S: Alter> {
     pub fault: StoreFault,
     pub conn: Connection<S>,
     ghost idle: { conn.in_transaction ≡ false },
-}
-
-/// The version of the tables that this program makes and reads.
-const VERSION: i64 = 0;
-
-// Whether the rows of the question on the version show ours. A later one is told by its name.
-fn judge_version(rows: &[Row]) -> Result<(), StoreFault>
-    ensures ours { rows.now ≡ (Int (pos 0) ∷ []) ∷ [] → IfErr result (λ fault. fault ≡ StoreFault.Memory) }
-    ensures newer { (version : ℕ) → 0 < version → rows.now ≡ (Int (pos version) ∷ []) ∷ [] → IsErrAnd result (λ fault. (fault ≡ StoreFault.Newer) ⊎ (fault ≡ StoreFault.Memory)) }
-    ensures none { rows.now ≡ [] → result ≡ Err StoreFault.Foreign }
-    ensures fresh { IfErr result (λ fault. fault ≢ StoreFault.Failed) }
-{
-    let Some(row) = rows.first() else {
-        return Err(StoreFault::Foreign);
-    };
-    let version: Result<i64, Error> = row.get(0);
-    match version {
-        Ok(version) if version > VERSION => Err(StoreFault::Newer),
-        Ok(version) if version == VERSION => Ok(()),
-        Err(error) if is_memory(&error) => Err(StoreFault::Memory),
-        _ => Err(StoreFault::Foreign),
-    }
-}
-
-// Whether the version is ours.
-fn check_version<S: Alter>(conn: &mut Connection<S>) -> Result<(), StoreFault>
-    requires { conn.old.in_transaction ≡ false }
-    ensures fresh { IfErr result (λ fault. fault ≢ StoreFault.Failed) }
-    ensures idle { conn.new.in_transaction ≡ false }
-    ensures replies { Replies (λ s _. ⊤) (state S.Store conn.old) (state S.Store conn.new) result }
-    ensures taken { HasCleanDisk (state S.Store conn.new) → (s : _) → Encodes (state S.Store conn.old).now s → IfErr result (λ fault. (fault ≢ StoreFault.Foreign) × (fault ≢ StoreFault.Newer)) }
-{
-    match ask_version(conn) {
-        Ok(rows) => judge_version(&rows),
-        Err(error) => Err(store_fault(conn, &error)),
-    }
 }
 
 // An empty spool in a database that has none of its tables.
@@ -71,22 +36,17 @@ fn begin<S: Alter>(conn: &mut Connection<S>) -> Result<(), StoreFault>
     }
 }
 
-fn prepare<S: Alter>(conn: &mut Connection<S>) -> Result<(), StoreFault>
+fn prepare<S: Alter>(alloc: Global, conn: &mut Connection<S>) -> Result<(), StoreFault>
     requires { conn.old.in_transaction ≡ false }
     ensures fresh { IfErr result (λ fault. fault ≢ StoreFault.Failed) }
     ensures idle { conn.new.in_transaction ≡ false }
-    ensures replies { Replies (λ s _. ⊤) (state S.Store conn.old) (state S.Store conn.new) result }
-    ensures taken { HasCleanDisk (state S.Store conn.new) → (s : _) → Encodes (state S.Store conn.old).now s → IfErr result (λ fault. (fault ≢ StoreFault.Foreign) × (fault ≢ StoreFault.Newer)) }
+    ensures judged { Judged (state S.Store conn.old) (state S.Store conn.new) result }
     ensures begins { Begins (state S.Store conn.old) (state S.Store conn.new) result }
     ensures welcomed { Stands no_schema (state S.Store conn.old).now → IfErr result (λ fault. (fault ≢ StoreFault.Foreign) × (fault ≢ StoreFault.Newer)) }
 {
     match found_in(conn.schema()) {
         Found::Nothing => begin(conn),
-        Found::Spool { whole: true } => check_version(conn),
-        Found::Spool { whole: false } => match check_version(conn) {
-            Ok(()) => Err(StoreFault::Foreign),
-            Err(fault) => Err(fault),
-        },
+        Found::Spool { whole } => judge(alloc, conn, whole),
         Found::Other => Err(StoreFault::Foreign),
     }
 }
@@ -94,32 +54,42 @@ fn prepare<S: Alter>(conn: &mut Connection<S>) -> Result<(), StoreFault>
 impl<S: Alter> Spool<S> {
     ghost use Rattle.std.specs.Prelude.{IfOk, Err};
     ghost use Rattle.uu_sql.specs.Steps.{Stands};
-    ghost use Rattle.uu_store.specs.Schema.{no_schema};
+    ghost use Rattle.uu_store.specs.Schema.{site, no_schema};
     ghost use Rattle.uu_store.specs.Machine.{empty};
     ghost use Rattle.uu_store.specs.Encoded.{Leaves, IsAsBefore, StopsAs};
+    ghost use Rattle.uu_store.specs.Taken.{IsLater, UnlessFailed};
     ghost use Rattle.uu_store.specs.Spool.{disk, has_failed, Shows};
 
-    /// Takes the database as a spool: one without the spool's tables gets them, in one transaction.
-    /// Otherwise the tables and their columns have to be there, by name, under this program's version: a later version is
-    /// `Newer`, which is asked before the rest, and anything else under one of the names is `Foreign`.
-    /// Where it is refused, the connection is handed back with no transaction open.
-    pub fn adopt(conn: Connection<S>) -> Result<Spool<S>, AdoptFault<S>>
+    /// Takes the database as a spool: one without the spool's tables gets them, in one transaction. One that has them, and no
+    /// others, is taken exactly where its rows are those of a spool's state.
+    ///
+    /// # Errors
+    /// The connection is handed back with no transaction open. `Newer` where a row of id 1 in the table `spool` names a
+    /// version later than this program's, which is asked before the rest. `Foreign` where the tables or their columns are
+    /// not there by name, another table stands under one of the names, or a row is not one of a spool's. Then, and after
+    /// `Memory`, the database is as it was. Every row is read; of a job's bytes only their number is handed out.
+    pub fn adopt(alloc: Global, conn: Connection<S>) -> Result<Spool<S>, AdoptFault<S>>
         requires { conn.in_transaction ≡ false }
 
         // What it gives can be used, and `Failed` never comes.
         ensures usable { IfOk result (λ spool. has_failed spool ≡ false) }
         ensures fresh { IfErr result (λ e. e.fault ≢ StoreFault.Failed) }
 
-        // A database that encodes a state is taken as it is.
+        // A database that encodes a state is taken as it is, and one that encodes none isn't.
         ensures kept { IfOk result (λ spool. HasCleanDisk (disk spool) → (s : _) → Rests (state S.Store conn) → Encodes (state S.Store conn).now s → Shows spool s) }
+        ensures read { IfOk result (λ spool. HasCleanDisk (disk spool) → Stands site (state S.Store conn).now → (s : _) × Encodes (state S.Store conn).now s) }
         ensures taken { IfErr result (λ e. HasCleanDisk (state S.Store e.conn) → (s : _) → Encodes (state S.Store conn).now s → (e.fault ≢ StoreFault.Foreign) × (e.fault ≢ StoreFault.Newer)) }
+
+        // Of one that has the tables, a refusal by name tells why.
+        ensures refused { IfErr result (λ e. HasCleanDisk (state S.Store e.conn) → Stands site (state S.Store conn).now → e.fault ≡ StoreFault.Foreign → (¬ IsLater (state S.Store conn).now.trees) × ((s : _) → ¬ Encodes (state S.Store conn).now s)) }
+        ensures newer { IfErr result (λ e. HasCleanDisk (state S.Store e.conn) → Stands site (state S.Store conn).now → e.fault ≡ StoreFault.Newer → IsLater (state S.Store conn).now.trees) }
 
         // An empty one becomes an empty spool.
         ensures begun { IfOk result (λ spool. HasCleanDisk (disk spool) → Rests (state S.Store conn) → Stands no_schema (state S.Store conn).now → Shows spool empty) }
         ensures welcomed { IfErr result (λ e. Stands no_schema (state S.Store conn).now → (e.fault ≢ StoreFault.Foreign) × (e.fault ≢ StoreFault.Newer)) }
 
-        // Want of memory leaves it as it was.
-        ensures memory { IfErr result (λ e. HasCleanDisk (state S.Store e.conn) → Rests (state S.Store conn) → e.fault ≡ StoreFault.Memory → IsAsBefore (state S.Store conn) (state S.Store e.conn)) }
+        // A refusal leaves it as it was.
+        ensures unchanged { IfErr result (λ e. HasCleanDisk (state S.Store e.conn) → Rests (state S.Store conn) → UnlessFailed e.fault (IsAsBefore (state S.Store conn) (state S.Store e.conn))) }
 
         // What a stop at its end leaves: the state that was encoded, or of an empty one nothing or an empty spool.
         ensures stop_ok { IfOk result (λ spool. HasCleanDisk (disk spool) → Rests (state S.Store conn) → StopsAs (state S.Store conn) (disk spool)) }
@@ -127,7 +97,7 @@ impl<S: Alter> Spool<S> {
         ensures stop_begun { IfOk result (λ spool. HasCleanDisk (disk spool) → Rests (state S.Store conn) → Stands no_schema (state S.Store conn).now → Leaves (disk spool) empty) }
     {
         let mut conn = conn;
-        match prepare(&mut conn) {
+        match prepare(alloc, &mut conn) {
             Ok(()) => Ok(Spool::over(conn)),
             Err(fault) => Err(AdoptFault { fault, conn }),
         }

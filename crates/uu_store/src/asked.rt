@@ -1,5 +1,5 @@
 // Questions and commands over a connection, with the fault that the caller is told.
-ghost use Rattle.std.specs.Prelude.{◌≡◌, false, IfOk, IfErr, ℕ, pos, [], ◌∷◌, option_map};
+ghost use Rattle.std.specs.Prelude.{◌≡◌, false, IfOk, IfErr, ℕ, pos, [], ◌∷◌, option_map, IfSome, length};
 ghost use Rattle.sqlite.specs.declared.types.Value.TheVariants.{Int};
 ghost use Rattle.sqlite.specs.Held.{state};
 ghost use Rattle.sqlite.specs.State.{HasCleanDisk};
@@ -7,21 +7,22 @@ ghost use Rattle.uu_sql.specs.Steps.{Told};
 ghost use Rattle.uu_store.specs.Schema.{site};
 ghost use Rattle.uu_core.specs.Refusal.{decided};
 ghost use Rattle.uu_core.specs.Verdict.{job_refusal};
-ghost use Rattle.uu_store.specs.Machine.{is_known, listed_heads, job_at, head_at};
+ghost use Rattle.uu_store.specs.Machine.{is_known, is_waiting, listed_heads, job_at, head_at};
 ghost use Rattle.uu_store.specs.Encoded.{Encodes, Obeys, Turns, Replies, IsFresh, job_shown};
 
 use crate::columns::columns_of;
 use crate::command::Command;
 use crate::fault::{Halt, StoreFault, halt_fault, store_fault};
+use crate::filter::Filter;
 use crate::rows::{first_head, heads_in, job_in};
 use crate::statements::{
-    add_job, add_system, ask_head, ask_job, ask_jobs, ask_next, ask_system, remove_job, set_queued,
-    set_rank,
+    add_job, add_system, ask_head, ask_job, ask_jobs, ask_next, ask_system, ask_waiting,
+    remove_job, remove_system, set_queued, set_rank,
 };
 use sqlite::{Alter, Connection, Error, Row};
 use std::alloc::Global;
-use uu_core::{By, JobHead, NewJob, Refusal, Reply, decide_job, decide_queue};
-use uu_names::Grade;
+use uu_core::{By, JobHead, NewJob, Refusal, Reply, decide_drop, decide_job, decide_queue};
+use uu_names::{Grade, SiteName};
 use uu_times::{Moment, SystemDef};
 
 // Whether a system of this name is there.
@@ -32,6 +33,16 @@ fn is_known<S: Alter>(conn: &mut Connection<S>, name: &str) -> Result<bool, Erro
 {
     let rows = ask_system(conn, name)?;
     Ok(!rows.is_empty())
+}
+
+// Whether a job waits for the system of this name.
+fn is_waiting<S: Alter>(conn: &mut Connection<S>, name: &str) -> Result<bool, Error>
+    ensures idle { conn.old.in_transaction ≡ false → conn.new.in_transaction ≡ false }
+    ensures told { Told site (state S.Store conn.old) (state S.Store conn.new) result }
+    ensures waiting { HasCleanDisk (state S.Store conn.new) → (s : _) → Encodes (state S.Store conn.old).now s → IfOk result (λ waiting. waiting ≡ is_waiting s name.now) }
+{
+    let jobs = ask_waiting(conn, name)?;
+    Ok(!jobs.is_empty())
 }
 
 // The number that the rows of the question show. No row is no spool's.
@@ -63,6 +74,22 @@ fn define<S: Alter>(conn: &mut Connection<S>, system: &SystemDef) -> Result<Repl
         add_system(conn, system.name.as_str())?;
     }
     Ok(Reply::Done)
+}
+
+fn remove<S: Alter>(conn: &mut Connection<S>, name: &SiteName) -> Result<Reply, Halt>
+    requires { conn.old.in_transaction ≡ false }
+    ensures idle { conn.new.in_transaction ≡ false }
+    ensures obeys { (s : _) → Obeys s (Command.Remove name.now) (state S.Store conn.old) (state S.Store conn.new) result }
+{
+    let known = is_known(conn, name.as_str())?;
+    let waiting = is_waiting(conn, name.as_str())?;
+    match decide_drop(known, waiting) {
+        Ok(()) => {
+            remove_system(conn, name.as_str())?;
+            Ok(Reply::Done)
+        }
+        Err(refusal) => Ok(Reply::Refused(refusal)),
+    }
 }
 
 fn queue<S: Alter>(alloc: Global, conn: &mut Connection<S>, job: &NewJob) -> Result<Reply, Halt>
@@ -181,6 +208,7 @@ fn obey<S: Alter>(alloc: Global, conn: &mut Connection<S>, command: &Command) ->
 {
     match command {
         Command::Define(system) => define(conn, system),
+        Command::Remove(name) => remove(conn, name),
         Command::Queue(job) => queue(alloc, conn, job),
         Command::Kill { job, by } => kill(alloc, conn, *job, by),
         Command::Regrade { job, grade, by } => regrade(alloc, conn, *job, *grade, by),
@@ -205,17 +233,18 @@ pub(crate) fn carry_out<S: Alter>(
     }
 }
 
-/// The heads of all jobs by (rank, number).
+/// The heads of the jobs that fit, by (rank, number).
 pub(crate) fn list<S: Alter>(
     alloc: Global,
     conn: &mut Connection<S>,
+    filter: &Filter,
 ) -> Result<Vec<JobHead>, StoreFault>
     requires { conn.old.in_transaction ≡ false }
     ensures idle { conn.new.in_transaction ≡ false }
     ensures fresh { IfErr result IsFresh }
-    ensures replies { Replies (λ s heads. heads.items ≡ listed_heads s) (state S.Store conn.old) (state S.Store conn.new) result }
+    ensures replies { Replies (λ s heads. heads.items ≡ listed_heads filter.now s) (state S.Store conn.old) (state S.Store conn.new) result }
 {
-    match ask_jobs(conn) {
+    match ask_jobs(conn, filter) {
         Ok(rows) => match heads_in(alloc, &rows) {
             Ok(heads) => Ok(heads),
             Err(fault) => Err(fault.told()),
@@ -233,7 +262,7 @@ pub(crate) fn find<S: Alter>(
     requires { conn.old.in_transaction ≡ false }
     ensures idle { conn.new.in_transaction ≡ false }
     ensures fresh { IfErr result IsFresh }
-    ensures replies { Replies (λ s found. option_map job_shown found ≡ job_at s number) (state S.Store conn.old) (state S.Store conn.new) result }
+    ensures replies { Replies (λ s found. (option_map job_shown found ≡ job_at s number) × IfSome found (λ job. job.0.size ≡ length job.1.items)) (state S.Store conn.old) (state S.Store conn.new) result }
 {
     match ask_job(conn, number) {
         Ok(rows) => match job_in(alloc, &rows) {

@@ -1,6 +1,6 @@
 // What the spool may be told.
 use uu_core::{By, NewJob};
-use uu_names::Grade;
+use uu_names::{Grade, SiteName};
 use uu_times::{Moment, SystemDef};
 
 /// A change to the spool.
@@ -8,6 +8,8 @@ use uu_times::{Moment, SystemDef};
 pub enum Command {
     /// Makes a system known. Of its definition the name alone is kept.
     Define(SystemDef),
+    /// Lets a system go that no job waits for.
+    Remove(SiteName),
     /// Takes a job for a system.
     Queue(NewJob),
     /// Lets a job go.

@@ -21,7 +21,7 @@ pub fn start_from<T: Start>(
     ensures fresh { IfErr result (λ fault. fault ≢ StoreFault.Failed) }
 {
     match Connection::open_from(rt, path, true, start) {
-        Ok(conn) => match Spool::adopt(conn) {
+        Ok(conn) => match Spool::adopt(rt.alloc(), conn) {
             Ok(spool) => Ok(spool),
             Err(AdoptFault { fault, conn: _ }) => Err(fault),
         },

@@ -1,5 +1,11 @@
 // Jobs as rows of their table, and back.
-ghost use Rattle.std.specs.Prelude.{◌≡◌, ◌==◌, IfOk, IfSome, pos, map, string_bytes, [], ◌∷◌, ◌++◌, option_map, slice_get, IsTrue, All};
+ghost use Rattle.std.specs.Prelude.{◌≡◌, ◌≢◌, ◌==◌, ◌<◌, ◌^◌, ℕ, List, IfOk, IfSome, pos, map, string_bytes, [], ◌∷◌, ◌++◌, option_map, slice_get, IsTrue, IsAscii, All};
+ghost use Rattle.sqlite.specs.declared.error.Error.TheVariants.{SqliteFailure};
+ghost use Rattle.sqlite.specs.declared.error.ErrorCode.TheVariants.{OutOfMemory};
+ghost use Rattle.uu_names.specs.Name.{is_site_name};
+ghost use Rattle.uu_core.specs.State.{IsKind};
+ghost use Rattle.std.specs.List.{AllByRecursion};
+ghost use Rattle.uu_store.specs.Taken.{IsHead, IsFormed, AreWords, NotIf};
 ghost use Rattle.std.specs.List.{join_with_byte, slice_split};
 ghost use Rattle.uu_names.specs.Name.{is_word};
 ghost use Rattle.uu_store.specs.Columns.{HasWords};
@@ -67,7 +73,9 @@ impl<T: Drop> From<AllocFailed<T>> for RowFault {
     }
 }
 
-fn read_fault(error: &Error) -> RowFault {
+pub(crate) fn read_fault(error: &Error) -> RowFault
+    ensures { result ≡ RowFault.Bad → error.now ≢ SqliteFailure OutOfMemory }
+{
     if is_memory(error) {
         RowFault::Memory
     } else {
@@ -75,15 +83,18 @@ fn read_fault(error: &Error) -> RowFault {
     }
 }
 
-fn name_fault(fault: NameFault) -> RowFault {
+fn name_fault(fault: NameFault) -> RowFault
+    ensures { result ≡ RowFault.Bad → fault ≢ NameFault.Memory }
+{
     match fault {
         NameFault::Memory => RowFault::Memory,
         _ => RowFault::Bad,
     }
 }
 
-fn number_in(row: &Row, at: usize) -> Result<u32, RowFault>
-    ensures { IfOk result (λ number. column row.now at ≡ Int (pos number)) }
+pub(crate) fn number_in(row: &Row, at: usize) -> Result<u32, RowFault>
+    ensures value { IfOk result (λ number. column row.now at ≡ Int (pos number)) }
+    ensures bad { (n : ℕ) → n < 2 ^ 32 → NotIf result (column row.now at ≡ Int (pos n)) }
 {
     match row.get(at) {
         Ok(number) => Ok(number),
@@ -92,7 +103,8 @@ fn number_in(row: &Row, at: usize) -> Result<u32, RowFault>
 }
 
 fn text_in(row: &Row, at: usize) -> Result<String, RowFault>
-    ensures { IfOk result (λ text. column row.now at ≡ Text (string_bytes text)) }
+    ensures value { IfOk result (λ text. column row.now at ≡ Text (string_bytes text)) }
+    ensures bad { (t : List ℕ) → IsAscii t → NotIf result (column row.now at ≡ Text t) }
 {
     match row.get(at) {
         Ok(text) => Ok(text),
@@ -110,8 +122,10 @@ pub(crate) fn bytes_in(row: &Row, at: usize) -> Result<Vec<u8>, RowFault>
     }
 }
 
-fn name_in(alloc: Global, row: &Row, at: usize) -> Result<SiteName, RowFault>
-    ensures { IfOk result (λ name. column row.now at ≡ Text name) }
+pub(crate) fn name_in(alloc: Global, row: &Row, at: usize) -> Result<SiteName, RowFault>
+    ensures value { IfOk result (λ name. column row.now at ≡ Text name) }
+    ensures name { IfOk result (λ name. IsTrue (is_site_name name)) }
+    ensures bad { (t : List ℕ) → IsTrue (is_site_name t) → NotIf result (column row.now at ≡ Text t) }
 {
     let text = text_in(row, at)?;
     match SiteName::parse(alloc, text.as_str()) {
@@ -123,6 +137,7 @@ fn name_in(alloc: Global, row: &Row, at: usize) -> Result<SiteName, RowFault>
 fn word_of(alloc: Global, text: &str) -> Result<Word, RowFault>
     ensures text { IfOk result (λ word. word ≡ text.now) }
     ensures word { IfOk result (λ word. IsTrue (is_word word)) }
+    ensures bad { NotIf result (IsTrue (is_word text.now)) }
 {
     match Word::parse(alloc, text) {
         Ok(word) => Ok(word),
@@ -131,7 +146,9 @@ fn word_of(alloc: Global, text: &str) -> Result<Word, RowFault>
 }
 
 fn word_in(alloc: Global, row: &Row, at: usize) -> Result<Word, RowFault>
-    ensures { IfOk result (λ word. column row.now at ≡ Text word) }
+    ensures value { IfOk result (λ word. column row.now at ≡ Text word) }
+    ensures word { IfOk result (λ word. IsTrue (is_word word)) }
+    ensures bad { (t : List ℕ) → IsTrue (is_word t) → NotIf result (column row.now at ≡ Text t) }
 {
     let text = text_in(row, at)?;
     word_of(alloc, text.as_str())
@@ -148,6 +165,7 @@ fn parts_of<'a>(alloc: Global, text: &'a str) -> Result<Vec<&'a str>, AllocError
 fn words_of(alloc: Global, text: &str) -> Result<Vec<Word>, RowFault>
     ensures text { IfOk result (λ words. join_with_byte 32 words.items ≡ text.now) }
     ensures words { IfOk result (λ words. All (λ word. IsTrue (is_word word)) words.items) }
+    ensures bad { (ws : List (List ℕ)) → All (λ word. IsTrue (is_word word)) ws → NotIf result (text.now ≡ join_with_byte 32 ws) }
 {
     let mut words = Vec::new(alloc);
     if text.is_empty() {
@@ -163,6 +181,7 @@ fn words_of(alloc: Global, text: &str) -> Result<Vec<Word>, RowFault>
 fn arguments_in(alloc: Global, row: &Row, at: usize) -> Result<Listed<Word>, RowFault>
     ensures text { IfOk result (λ words. column row.now at ≡ Text (join_with_byte 32 words)) }
     ensures words { IfOk result (λ words. All (λ word. IsTrue (is_word word)) words) }
+    ensures bad { (ws : List (List ℕ)) → All (λ word. IsTrue (is_word word)) ws → NotIf result (column row.now at ≡ Text (join_with_byte 32 ws)) }
 {
     let text = text_in(row, at)?;
     let words = words_of(alloc, text.as_str())?;
@@ -170,7 +189,9 @@ fn arguments_in(alloc: Global, row: &Row, at: usize) -> Result<Listed<Word>, Row
 }
 
 fn grade_in(row: &Row, at: usize) -> Result<Grade, RowFault>
-    ensures { IfOk result (λ grade. column row.now at ≡ Int (pos grade)) }
+    ensures value { IfOk result (λ grade. column row.now at ≡ Int (pos grade)) }
+    ensures grade { IfOk result (λ grade. grade < 62) }
+    ensures bad { (g : ℕ) → g < 62 → NotIf result (column row.now at ≡ Int (pos g)) }
 {
     let rank = number_in(row, at)?;
     match u8::try_from(rank) {
@@ -182,6 +203,8 @@ fn grade_in(row: &Row, at: usize) -> Result<Grade, RowFault>
 fn kind_in(alloc: Global, row: &Row) -> Result<Kind, RowFault>
     ensures row { IfOk result (λ kind. kind_of row.now ≡ Int (pos (kind_number kind)) ∷ Text (first_word kind) ∷ Text (second_word kind) ∷ []) }
     ensures words { IfOk result HasWords }
+    ensures formed { IfOk result AreWords }
+    ensures bad { (kind : _) → IsKind kind → NotIf result (kind_of row.now ≡ Int (pos (kind_number kind)) ∷ Text (first_word kind) ∷ Text (second_word kind) ∷ []) }
 {
     let number = number_in(row, 4)?;
     let first = word_in(alloc, row, 6)?;
@@ -206,6 +229,8 @@ fn kind_in(alloc: Global, row: &Row) -> Result<Kind, RowFault>
 pub(crate) fn head_in(alloc: Global, row: &Row) -> Result<JobHead, RowFault>
     ensures row { IfOk result (λ head. cells_at row.now ≡ head_cells head) }
     ensures words { IfOk result (λ head. HasWords head.kind) }
+    ensures formed { IfOk result IsFormed }
+    ensures bad { (head : _) → IsHead head → NotIf result (cells_at row.now ≡ head_cells head) }
 {
     let number = number_in(row, 0)?;
     let system = name_in(alloc, row, 1)?;

@@ -4,6 +4,7 @@ ghost use Rattle.std.specs.Prelude.{◌≡◌, false};
 use crate::asked::{carry_out, find, list, next};
 use crate::command::Command;
 use crate::fault::StoreFault;
+use crate::filter::Filter;
 use sqlite::{Alter, Connection};
 use std::alloc::Global;
 use uu_core::{JobHead, Reply};
@@ -20,7 +21,7 @@ pub struct Spool<S: Alter> {
 }
 
 impl<S: Alter> Spool<S> {
-    ghost use Rattle.std.specs.Prelude.{IsTrue, IfOk, IfErr, Err, MatchResult, option_map};
+    ghost use Rattle.std.specs.Prelude.{IsTrue, IfOk, IfErr, Err, MatchResult, option_map, IfSome, length};
     ghost use Rattle.sqlite.specs.State.{HasCleanDisk};
     ghost use Rattle.sqlite.specs.Held.{state};
     ghost use Rattle.uu_store.specs.Machine.{after, reply_of, listed_heads, job_at};
@@ -86,10 +87,10 @@ impl<S: Alter> Spool<S> {
         }
     }
 
-    /// The heads of all jobs, by grade, the highest first, and in one grade by number.
-    pub fn jobs(&mut self, alloc: Global) -> Result<Vec<JobHead>, StoreFault>
+    /// The heads of the jobs that fit, by grade, the highest first, and in one grade by number.
+    pub fn jobs(&mut self, alloc: Global, filter: &Filter) -> Result<Vec<JobHead>, StoreFault>
         ensures marked { MatchResult result (λ _. (has_failed self.old ≡ false) × (has_failed self.new ≡ false)) (Marks (has_failed self.old) (has_failed self.new)) }
-        ensures answer { HasCleanDisk (disk self.new) → (s : _) → Shows self.old s → IfOk result (λ heads. (heads.items ≡ listed_heads s) × Shows self.new s) }
+        ensures answer { HasCleanDisk (disk self.new) → (s : _) → Shows self.old s → IfOk result (λ heads. (heads.items ≡ listed_heads filter.now s) × Shows self.new s) }
         ensures memory { HasCleanDisk (disk self.new) → (s : _) → Shows self.old s → result ≡ Err StoreFault.Memory → Shows self.new s }
         ensures stop { HasCleanDisk (disk self.new) → (s : _) → Shows self.old s → Leaves (disk self.new) s }
         ensures failed { IsTrue (has_failed self.old) → (result ≡ Err StoreFault.Failed) × (self.new ≡ self.old) }
@@ -97,7 +98,7 @@ impl<S: Alter> Spool<S> {
         if self.failed {
             return Err(StoreFault::Failed);
         }
-        match list(alloc, &mut self.conn) {
+        match list(alloc, &mut self.conn, filter) {
             Ok(answer) => Ok(answer),
             Err(fault) => Err(self.noted(fault)),
         }
@@ -111,6 +112,7 @@ impl<S: Alter> Spool<S> {
     ) -> Result<Option<(JobHead, Vec<u8>)>, StoreFault>
         ensures marked { MatchResult result (λ _. (has_failed self.old ≡ false) × (has_failed self.new ≡ false)) (Marks (has_failed self.old) (has_failed self.new)) }
         ensures answer { HasCleanDisk (disk self.new) → (s : _) → Shows self.old s → IfOk result (λ found. (option_map job_shown found ≡ job_at s number) × Shows self.new s) }
+        ensures size { HasCleanDisk (disk self.new) → (s : _) → Shows self.old s → IfOk result (λ found. IfSome found (λ job. job.0.size ≡ length job.1.items)) }
         ensures memory { HasCleanDisk (disk self.new) → (s : _) → Shows self.old s → result ≡ Err StoreFault.Memory → Shows self.new s }
         ensures stop { HasCleanDisk (disk self.new) → (s : _) → Shows self.old s → Leaves (disk self.new) s }
         ensures failed { IsTrue (has_failed self.old) → (result ≡ Err StoreFault.Failed) × (self.new ≡ self.old) }

@@ -1,15 +1,16 @@
 // The statements of the spool, one a function.
-ghost use Rattle.std.specs.Prelude.{◌≡◌, ◌<◌, ◌^◌, ◌-◌, ◌+◌, false, pos, [], ◌∷◌, IfOk};
+ghost use Rattle.std.specs.Prelude.{◌≡◌, ◌<◌, ◌^◌, ◌-◌, ◌+◌, false, pos, [], ◌∷◌, IfOk, OnOk};
 ghost use Rattle.sqlite.specs.Held.{state};
 ghost use Rattle.sqlite.specs.State.{HasCleanDisk, Shown};
 ghost use Rattle.sqlite.specs.declared.types.Value.TheVariants.{Int, Text};
-ghost use Rattle.uu_sql.specs.Steps.{Outcome, Both, Whole, Told};
-ghost use Rattle.uu_store.specs.Schema.{site, no_schema, with_spool, with_systems, ask_version, ask_next, ask_system, ask_jobs, ask_head, ask_job};
-ghost use Rattle.uu_store.specs.Rows.{JobAdded, JobRanked, JobQueued, JobGone, SystemAdded, NextSet, SpoolMade, SystemsMade, JobsMade, SpoolBegun, TablesMade};
+ghost use Rattle.uu_sql.specs.Steps.{Outcome, Both, Stands, Whole, Told};
+ghost use Rattle.uu_store.specs.Schema.{site, no_schema, with_spool, with_systems, ask_version, ask_next, ask_system, ask_waiting, ask_jobs, ask_head, ask_job, ask_spool, ask_names, ask_rowids, ask_sizes};
+ghost use Rattle.uu_store.specs.Rows.{JobAdded, JobRanked, JobQueued, JobGone, SystemAdded, SystemGone, NextSet, SpoolMade, SystemsMade, JobsMade, SpoolBegun, TablesMade, sought};
 ghost use Rattle.uu_store.specs.Columns.{row_of};
 
 use crate::columns::JobColumns;
 use crate::fault::Halt;
+use crate::filter::Filter;
 use sqlite::{Alter, Connection, Error, Row, Transaction, params};
 
 // ---- writes
@@ -19,6 +20,13 @@ fn insert_system<S: Alter>(tx: &mut Transaction<'_, S>, name: &str) -> Result<us
     ensures outcome { Outcome site site (SystemAdded name.now) (state S.Store tx.old.conn.now) (state S.Store tx.new.conn.now) result }
 {
     tx.execute("INSERT INTO systems (name) VALUES (?1)", params![name])
+}
+
+fn delete_system<S: Alter>(tx: &mut Transaction<'_, S>, name: &str) -> Result<usize, Error>
+    ensures same_reference { tx.new.conn.ghost_name ≡ tx.old.conn.ghost_name }
+    ensures outcome { Outcome site site (SystemGone name.now) (state S.Store tx.old.conn.now) (state S.Store tx.new.conn.now) result }
+{
+    tx.execute("DELETE FROM systems WHERE name = ?1", params![name])
 }
 
 fn insert_job<S: Alter>(
@@ -112,6 +120,17 @@ pub(crate) fn add_system<S: Alter>(conn: &mut Connection<S>, name: &str) -> Resu
     tx.commit().map_err(Halt::Commit)
 }
 
+/// A system goes in one transaction.
+pub(crate) fn remove_system<S: Alter>(conn: &mut Connection<S>, name: &str) -> Result<(), Halt>
+    requires { conn.old.in_transaction ≡ false }
+    ensures idle { conn.new.in_transaction ≡ false }
+    ensures whole { Whole site site (SystemGone name.now) (state S.Store conn.old) (state S.Store conn.new) result }
+{
+    let mut tx = conn.transaction();
+    delete_system(&mut tx, name)?;
+    tx.commit().map_err(Halt::Commit)
+}
+
 /// A job with its bytes and the next number in one transaction.
 pub(crate) fn add_job<S: Alter>(
     conn: &mut Connection<S>,
@@ -175,6 +194,7 @@ pub(crate) fn remove_job<S: Alter>(conn: &mut Connection<S>, number: u32) -> Res
 pub(crate) fn ask_version<S: Alter>(conn: &mut Connection<S>) -> Result<Vec<Row>, Error>
     ensures idle { conn.old.in_transaction ≡ false → conn.new.in_transaction ≡ false }
     ensures told { Told site (state S.Store conn.old) (state S.Store conn.new) result }
+    ensures same { HasCleanDisk (state S.Store conn.new) → Stands site (state S.Store conn.old).now → OnOk result ((state S.Store conn.new).now ≡ (state S.Store conn.old).now) }
     ensures rows { HasCleanDisk (state S.Store conn.new) → IfOk result (λ rows. Shown ask_version [] (state S.Store conn.old) (state S.Store conn.new) rows.items) }
 {
     conn.query_all("SELECT version FROM spool WHERE id = 1", &[])
@@ -198,15 +218,32 @@ pub(crate) fn ask_system<S: Alter>(conn: &mut Connection<S>, name: &str) -> Resu
     conn.query_all("SELECT name FROM systems WHERE name = ?1", params![name])
 }
 
-/// The heads of all jobs by (rank, number).
-pub(crate) fn ask_jobs<S: Alter>(conn: &mut Connection<S>) -> Result<Vec<Row>, Error>
+/// The number of a job that waits for the system of this name, if there is one.
+pub(crate) fn ask_waiting<S: Alter>(conn: &mut Connection<S>, name: &str) -> Result<Vec<Row>, Error>
     ensures idle { conn.old.in_transaction ≡ false → conn.new.in_transaction ≡ false }
     ensures told { Told site (state S.Store conn.old) (state S.Store conn.new) result }
-    ensures rows { HasCleanDisk (state S.Store conn.new) → IfOk result (λ rows. Shown ask_jobs [] (state S.Store conn.old) (state S.Store conn.new) rows.items) }
+    ensures rows { HasCleanDisk (state S.Store conn.new) → IfOk result (λ rows. Shown ask_waiting (Text name.now ∷ []) (state S.Store conn.old) (state S.Store conn.new) rows.items) }
 {
     conn.query_all(
-        "SELECT number, system, rank, user, kind, queued, first_word, second_word, size FROM jobs ORDER BY rank, number",
-        &[],
+        "SELECT number FROM jobs WHERE system = ?1 LIMIT 1",
+        params![name],
+    )
+}
+
+/// The heads of the jobs that fit, by (rank, number).
+pub(crate) fn ask_jobs<S: Alter>(
+    conn: &mut Connection<S>,
+    filter: &Filter,
+) -> Result<Vec<Row>, Error>
+    ensures idle { conn.old.in_transaction ≡ false → conn.new.in_transaction ≡ false }
+    ensures told { Told site (state S.Store conn.old) (state S.Store conn.new) result }
+    ensures rows { HasCleanDisk (state S.Store conn.new) → IfOk result (λ rows. Shown ask_jobs (sought filter.now) (state S.Store conn.old) (state S.Store conn.new) rows.items) }
+{
+    let system = filter.system_text();
+    let user = filter.user_text();
+    conn.query_all(
+        "SELECT number, system, rank, user, kind, queued, first_word, second_word, size FROM jobs WHERE (?1 IS NULL OR system = ?1) AND (?2 IS NULL OR user = ?2) ORDER BY rank, number",
+        params![system, user],
     )
 }
 
@@ -231,6 +268,51 @@ pub(crate) fn ask_job<S: Alter>(conn: &mut Connection<S>, number: u32) -> Result
     conn.query_all(
         "SELECT number, system, rank, user, kind, queued, first_word, second_word, size, bytes FROM jobs WHERE number = ?1 ORDER BY number",
         params![number],
+    )
+}
+
+// ---- questions on every row, when a database is taken
+
+/// What the table `spool` holds.
+pub(crate) fn ask_spool<S: Alter>(conn: &mut Connection<S>) -> Result<Vec<Row>, Error>
+    ensures idle { conn.old.in_transaction ≡ false → conn.new.in_transaction ≡ false }
+    ensures told { Told site (state S.Store conn.old) (state S.Store conn.new) result }
+    ensures same { HasCleanDisk (state S.Store conn.new) → Stands site (state S.Store conn.old).now → OnOk result ((state S.Store conn.new).now ≡ (state S.Store conn.old).now) }
+    ensures rows { HasCleanDisk (state S.Store conn.new) → IfOk result (λ rows. Shown ask_spool [] (state S.Store conn.old) (state S.Store conn.new) rows.items) }
+{
+    conn.query_all("SELECT id, version, next FROM spool", &[])
+}
+
+/// The names of the systems in byte order.
+pub(crate) fn ask_names<S: Alter>(conn: &mut Connection<S>) -> Result<Vec<Row>, Error>
+    ensures idle { conn.old.in_transaction ≡ false → conn.new.in_transaction ≡ false }
+    ensures told { Told site (state S.Store conn.old) (state S.Store conn.new) result }
+    ensures same { HasCleanDisk (state S.Store conn.new) → Stands site (state S.Store conn.old).now → OnOk result ((state S.Store conn.new).now ≡ (state S.Store conn.old).now) }
+    ensures rows { HasCleanDisk (state S.Store conn.new) → IfOk result (λ rows. Shown ask_names [] (state S.Store conn.old) (state S.Store conn.new) rows.items) }
+{
+    conn.query_all("SELECT name FROM systems ORDER BY name", &[])
+}
+
+/// The rowids of the systems, from the least on.
+pub(crate) fn ask_rowids<S: Alter>(conn: &mut Connection<S>) -> Result<Vec<Row>, Error>
+    ensures idle { conn.old.in_transaction ≡ false → conn.new.in_transaction ≡ false }
+    ensures told { Told site (state S.Store conn.old) (state S.Store conn.new) result }
+    ensures same { HasCleanDisk (state S.Store conn.new) → Stands site (state S.Store conn.old).now → OnOk result ((state S.Store conn.new).now ≡ (state S.Store conn.old).now) }
+    ensures rows { HasCleanDisk (state S.Store conn.new) → IfOk result (λ rows. Shown ask_rowids [] (state S.Store conn.old) (state S.Store conn.new) rows.items) }
+{
+    conn.query_all("SELECT rowid FROM systems ORDER BY rowid", &[])
+}
+
+/// The heads of all jobs by number, each with the number of its bytes behind it.
+pub(crate) fn ask_sizes<S: Alter>(conn: &mut Connection<S>) -> Result<Vec<Row>, Error>
+    ensures idle { conn.old.in_transaction ≡ false → conn.new.in_transaction ≡ false }
+    ensures told { Told site (state S.Store conn.old) (state S.Store conn.new) result }
+    ensures same { HasCleanDisk (state S.Store conn.new) → Stands site (state S.Store conn.old).now → OnOk result ((state S.Store conn.new).now ≡ (state S.Store conn.old).now) }
+    ensures rows { HasCleanDisk (state S.Store conn.new) → IfOk result (λ rows. Shown ask_sizes [] (state S.Store conn.old) (state S.Store conn.new) rows.items) }
+{
+    conn.query_all(
+        "SELECT number, system, rank, user, kind, queued, first_word, second_word, size, length(bytes) FROM jobs ORDER BY number",
+        &[],
     )
 }
 

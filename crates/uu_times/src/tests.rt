@@ -5,9 +5,9 @@ use crate::{
 };
 use std::alloc::{AllocError, Global};
 use std::fmt::Write;
+use std::io::Print;
 use std::process::Abort;
 use std::rt::Clock;
-use std::test::Fail;
 use std::time::Instant;
 use uu_names::{Grade, SiteName};
 
@@ -25,147 +25,170 @@ fn time_fault(alloc: Global, text: &str) -> Option<TimeFault> {
 }
 
 #[test]
-fn moments(rt: HostRuntime) -> Result<(), Fail> {
-    assert_eq!(rt; Moment::new(0, 0)?.week, 5760);
-    let evening = Moment::new(0, -300)?;
-    assert_eq!(rt; evening.week, 5460);
-    assert_eq!(rt; evening.local.year(), 1969);
-    assert_eq!(rt; evening.local.month(), 12);
-    assert_eq!(rt; evening.local.day(), 31);
-    assert_eq!(rt; evening.local.hour(), 19);
-    assert_eq!(rt; evening.local.minute(), 0);
-    assert_eq!(rt; evening.local.second(), 0);
-    let sunday = Moment::new(1_000_000_000, 0)?;
-    assert_eq!(rt; sunday.week, 106);
-    assert_eq!(rt; sunday.second, 1_000_000_000);
-    assert_eq!(rt; sunday.local.minute(), 46);
-    assert_eq!(rt; sunday.local.second(), 40);
-    assert_eq!(rt; Moment::new(4_102_444_800, 0)?.local.year(), 2100);
-    assert_eq!(rt;
-        Moment::new(4_102_444_801, 0).err(),
-        Some(TimeFault::MomentRange)
-    );
-    assert_eq!(rt;
-        Moment::new(4_102_444_801, 1440).err(),
-        Some(TimeFault::MomentRange)
-    );
-    assert_eq!(rt; Moment::new(0, 1440).err(), Some(TimeFault::OffsetRange));
-    assert_eq!(rt; Moment::new(0, -1440).err(), Some(TimeFault::OffsetRange));
-    Ok(())
-}
-
-#[test]
-fn minutes_of_time_strings(rt: HostRuntime) -> Result<(), Fail> {
-    let night = windows(rt.alloc(), "Wk2305-0855,Sa,Su2305-1655")?;
-    for (minute, is_in) in [(510, true), (1016, false), (1975, true), (1976, false)] {
-        assert_eq!(rt; night.contains(minute), is_in, "at {minute}");
+fn moments(rt: HostRuntime) {
+    for (second, offset, week) in [(0, 0, 5760), (0, -300, 5460), (1_000_000_000, 0, 106)] {
+        let moment = Moment::new(second, offset).expect(&rt, "a moment");
+        assert_eq!(rt; (moment.second, moment.week), (second, week));
     }
-    let weekdays = windows(rt.alloc(), "Wk2305-0855")?;
-    assert!(rt; !weekdays.contains(8820));
-    Ok(())
 }
 
 #[test]
-fn ranges_of_time_strings(rt: HostRuntime) -> Result<(), Fail> {
-    let week = [(0, 10_079)];
-    assert_eq!(rt; windows(rt.alloc(), "Any")?.ranges(), week.as_slice());
-    assert_eq!(rt;
-        windows(rt.alloc(), "Any0000-2400")?.ranges(),
-        week.as_slice()
-    );
-    assert!(rt; windows(rt.alloc(), "never")?.ranges().is_empty());
-    assert_eq!(rt;
-        windows(rt.alloc(), "Su1200-1200")?.ranges(),
-        [(720, 720)].as_slice()
-    );
-    assert_eq!(rt;
-        windows(rt.alloc(), "MoTu0000-0100")?.ranges(),
-        [(1440, 1500), (2880, 2940)].as_slice()
-    );
-    assert_eq!(rt;
-        windows(rt.alloc(), "Wk2305-0755")?.ranges(),
-        [
-            (1440, 1915),
-            (2825, 3355),
-            (4265, 4795),
-            (5705, 6235),
-            (7145, 7675),
-            (8585, 8639),
-        ]
-        .as_slice()
-    );
-    Ok(())
+fn civil_times(rt: HostRuntime) {
+    for (second, offset, date, time) in [
+        (0, -300, (1969, 12, 31), (19, 0, 0)),
+        (1_000_000_000, 0, (2001, 9, 9), (1, 46, 40)),
+        (4_102_444_800, 0, (2100, 1, 1), (0, 0, 0)),
+    ] {
+        let local = Moment::new(second, offset).expect(&rt, "a moment").local;
+        assert_eq!(rt; (local.year(), local.month(), local.day()), date);
+        assert_eq!(rt; (local.hour(), local.minute(), local.second()), time);
+    }
 }
 
 #[test]
-fn timetables_that_are_there(rt: HostRuntime) -> Result<(), Fail> {
+fn no_moments(rt: HostRuntime) {
+    for (second, offset, fault) in [
+        (4_102_444_801, 0, TimeFault::MomentRange),
+        (4_102_444_801, 1440, TimeFault::MomentRange),
+        (0, 1440, TimeFault::OffsetRange),
+        (0, -1440, TimeFault::OffsetRange),
+    ] {
+        let refused = Moment::new(second, offset).err();
+        assert_eq!(rt; refused, Some(fault), "{second} at {offset}");
+    }
+}
+
+#[test]
+fn minutes_of_time_strings(rt: HostRuntime) {
+    let night = "Wk2305-0855,Sa,Su2305-1655";
+    for (text, minute, is_in) in [
+        (night, 510, true),
+        (night, 1016, false),
+        (night, 1975, true),
+        (night, 1976, false),
+        ("Wk2305-0855", 8820, false),
+    ] {
+        let set = windows(rt.alloc(), text).expect(&rt, "a time string");
+        assert_eq!(rt; set.contains(minute), is_in, "{minute} of {text}");
+    }
+}
+
+const WEEK: [(u16, u16); 1] = [(0, 10_079)];
+
+// Monday to Friday from 12:00 to 13:00.
+const NOONS: [(u16, u16); 5] = [
+    (2160, 2220),
+    (3600, 3660),
+    (5040, 5100),
+    (6480, 6540),
+    (7920, 7980),
+];
+
+// Monday to Friday from 00:00 to 07:55 and from 23:05 on.
+const NIGHTS: [(u16, u16); 6] = [
+    (1440, 1915),
+    (2825, 3355),
+    (4265, 4795),
+    (5705, 6235),
+    (7145, 7675),
+    (8585, 8639),
+];
+
+fn expect_ranges(rt: &impl Abort, alloc: Global, text: &str, ranges: &[(u16, u16)]) {
+    let set = windows(alloc, text).expect(rt, "a time string");
+    assert_eq!(rt; set.ranges(), ranges, "{text}");
+}
+
+#[test]
+fn ranges_of_time_strings(rt: HostRuntime) {
+    for (text, ranges) in [
+        ("Any", WEEK.as_slice()),
+        ("Any0000-2400", WEEK.as_slice()),
+        ("never", [].as_slice()),
+        ("Su1200-1200", [(720, 720)].as_slice()),
+        ("MoTu0000-0100", [(1440, 1500), (2880, 2940)].as_slice()),
+        ("Wk1200-1300", NOONS.as_slice()),
+        ("Wk2305-0755", NIGHTS.as_slice()),
+    ] {
+        expect_ranges(&rt, rt.alloc(), text, ranges);
+    }
+}
+
+#[test]
+fn timetables_that_are_there(rt: HostRuntime) {
     for (name, text) in [
         ("Evening", "Wk1705-0755,Sa,Su"),
         ("night", "Wk2305-0755,Sa,Su2305-1655"),
         ("NONPEAK", "Wk1805-0655,Sa,Su"),
     ] {
-        let named = windows(rt.alloc(), name)?;
-        let written = windows(rt.alloc(), text)?;
-        assert_eq!(rt; named.ranges(), written.ranges(), "{name}");
+        let written = windows(rt.alloc(), text).expect(&rt, "a time string");
+        expect_ranges(&rt, rt.alloc(), name, written.ranges());
     }
-    Ok(())
 }
 
 #[test]
-fn texts_that_are_no_time_strings(rt: HostRuntime) -> Result<(), Fail> {
-    for (text, at) in [
-        ("Su2400-2400", 3),
-        ("Any0900", 7),
-        ("", 0),
-        ("Night|Mo", 0),
-        ("Moonlight", 2),
-        ("0900-1700", 0),
-        ("Any,", 4),
-        ("MoTuXx", 4),
-        ("Wednesday", 2),
+fn texts_that_are_no_time_strings(rt: HostRuntime) {
+    for (text, fault) in [
+        ("Su2400-2400", TimeFault::BadTime(0, 3)),
+        ("Any0900", TimeFault::BadTime(0, 7)),
+        ("", TimeFault::BadTime(0, 0)),
+        ("Night|Mo", TimeFault::BadTime(0, 0)),
+        ("Moonlight", TimeFault::BadTime(0, 2)),
+        ("0900-1700", TimeFault::BadTime(0, 0)),
+        ("Any,", TimeFault::BadTime(0, 4)),
+        ("MoTuXx", TimeFault::BadTime(0, 4)),
+        ("Wednesday", TimeFault::BadTime(0, 2)),
+        ("Lunch", TimeFault::UnknownTable(0)),
     ] {
-        assert_eq!(rt;
-            time_fault(rt.alloc(), text),
-            Some(TimeFault::BadTime(0, at)),
-            "{text}"
-        );
+        assert_eq!(rt; time_fault(rt.alloc(), text), Some(fault), "{text}");
     }
-    assert_eq!(rt;
-        time_fault(rt.alloc(), "Lunch"),
-        Some(TimeFault::UnknownTable(0))
-    );
-    Ok(())
 }
 
 #[test]
-fn sets_from_ranges(rt: HostRuntime) -> Result<(), Fail> {
-    let alloc = rt.alloc();
-    let apart = Windows::from_ranges(alloc, &[(0, 10), (12, 12)])?.ok_or("apart")?;
+fn sets_from_ranges(rt: HostRuntime) {
+    for (ranges, is_set) in [
+        ([(0, 10), (12, 12)].as_slice(), true),
+        ([(0, 10), (11, 12)].as_slice(), false),
+        ([(5, 10_080)].as_slice(), false),
+        ([].as_slice(), true),
+    ] {
+        let set = Windows::from_ranges(rt.alloc(), ranges).expect(&rt, "memory");
+        assert_eq!(rt; set.is_some(), is_set);
+    }
+}
+
+#[test]
+fn minutes_between_ranges(rt: HostRuntime) {
+    let apart = Windows::from_ranges(rt.alloc(), &[(0, 10), (12, 12)]).expect(&rt, "memory");
+    let apart = apart.expect(&rt, "ranges apart");
     assert!(rt; !apart.contains(11));
     assert!(rt; apart.contains(12));
-    assert!(rt; Windows::from_ranges(alloc, &[(0, 10), (11, 12)])?.is_none());
-    assert!(rt; Windows::from_ranges(alloc, &[(5, 10_080)])?.is_none());
-    assert!(rt; Windows::from_ranges(alloc, &[])?.is_some());
-    Ok(())
+}
+
+fn any_line(rt: &impl Abort, alloc: Global) -> Line {
+    Line {
+        grade: Grade::default(),
+        windows: windows(alloc, "Any").expect(rt, "a time string"),
+        retry: None,
+    }
+}
+
+// Whether a system may have so many lines.
+fn is_within_limits(rt: &impl Abort, alloc: Global, count: u32) -> bool {
+    let name = SiteName::parse(alloc, "duke").expect(rt, "a site name");
+    let mut lines = Vec::new(alloc);
+    for _ in 0..count {
+        lines.push(any_line(rt, alloc)).expect(rt, "memory");
+    }
+    SystemDef::new(name, Lines::new(lines), 26).is_some()
 }
 
 #[test]
-fn systems_within_limits(rt: HostRuntime) -> Result<(), Fail> {
-    let alloc = rt.alloc();
-    for (count, is_within) in [(32, true), (33, false)] {
-        let mut lines = Vec::new(alloc);
-        for _ in 0..count {
-            lines.push(Line {
-                grade: Grade::default(),
-                windows: windows(alloc, "Any")?,
-                retry: None,
-            })?;
-        }
-        let name = SiteName::parse(alloc, "duke")?;
-        let system = SystemDef::new(name, Lines::new(lines), 26);
-        assert_eq!(rt; system.is_some(), is_within, "{count} lines");
+fn systems_within_limits(rt: HostRuntime) {
+    for (count, expected) in [(32, true), (33, false)] {
+        let is_within = is_within_limits(&rt, rt.alloc(), count);
+        assert_eq!(rt; is_within, expected, "{count} lines");
     }
-    Ok(())
 }
 
 /// A sys file with defaults, a timetable on two lines, a comment, other keywords and two systems.
@@ -179,41 +202,38 @@ fn expect_line(rt: &impl Abort, line: &Line, grade: u8, ranges: &[(u16, u16)], r
     assert_eq!(rt; line.retry, retry);
 }
 
+fn expect_system(rt: &impl Abort, system: &SystemDef, name: &str, max_retries: u32) {
+    assert_eq!(rt; system.name.as_str(), name);
+    assert_eq!(rt; system.max_retries, max_retries);
+}
+
+fn expect_duke(rt: &impl Abort, duke: &SystemDef) {
+    expect_system(rt, duke, "duke", 26);
+    let [lunch, any] = duke.lines() else {
+        panic!(rt; "two lines");
+    };
+    expect_line(rt, lunch, b'z', NOONS.as_slice(), Some(15));
+    expect_line(rt, any, b'C', WEEK.as_slice(), None);
+}
+
+fn expect_unc(rt: &impl Abort, unc: &SystemDef) {
+    expect_system(rt, unc, "unc", 2);
+    let [night] = unc.lines() else {
+        panic!(rt; "one line");
+    };
+    expect_line(rt, night, b'z', NIGHTS.as_slice(), None);
+}
+
 #[test]
-fn two_systems(rt: HostRuntime) -> Result<(), Fail> {
-    let alloc = rt.alloc();
+fn two_systems(rt: HostRuntime) {
     assert!(rt; DUKE_AND_UNC.len() < 1000);
-    let file = read_sys(alloc, DUKE_AND_UNC.as_bytes())?;
+    let file = read_sys(rt.alloc(), DUKE_AND_UNC.as_bytes()).expect(&rt, "a sys file");
     assert_eq!(rt; file.skipped.as_slice(), [7, 8].as_slice());
     let [duke, unc] = file.systems.as_slice() else {
         panic!(rt; "two systems");
     };
-    assert_eq!(rt; duke.name.as_str(), "duke");
-    assert_eq!(rt; duke.max_retries, 26);
-    let [lunch, any] = duke.lines() else {
-        panic!(rt; "two lines");
-    };
-    expect_line(
-        &rt,
-        lunch,
-        b'z',
-        windows(alloc, "Wk1200-1300")?.ranges(),
-        Some(15),
-    );
-    expect_line(&rt, any, b'C', [(0, 10_079)].as_slice(), None);
-    assert_eq!(rt; unc.name.as_str(), "unc");
-    assert_eq!(rt; unc.max_retries, 2);
-    let [night] = unc.lines() else {
-        panic!(rt; "one line");
-    };
-    expect_line(
-        &rt,
-        night,
-        b'z',
-        windows(alloc, "Wk2305-0755")?.ranges(),
-        None,
-    );
-    Ok(())
+    expect_duke(&rt, duke);
+    expect_unc(&rt, unc);
 }
 
 // What a short sys file says.
@@ -230,107 +250,123 @@ fn sys_fault(alloc: Global, text: &[u8]) -> Option<TimeFault> {
     read_short(alloc, text).err()
 }
 
+const FAULTY_LINES: [(&str, Option<TimeFault>); 16] = [
+    ("time Any 30 \\# x", Some(TimeFault::BadWords(1))),
+    ("time Any 30 # x", None),
+    ("time Any x", Some(TimeFault::BadNumber(1))),
+    ("timegrade - Any", Some(TimeFault::BadWords(1))),
+    ("system a!b", Some(TimeFault::BadSystem(1))),
+    ("system a\nsystem a", Some(TimeFault::SystemTwice(2))),
+    (
+        "timetable T Any\ntimetable t Any",
+        Some(TimeFault::TableTwice(2)),
+    ),
+    ("time Any 525600", None),
+    ("time Any 525601", Some(TimeFault::BadNumber(1))),
+    ("max-retries 1000001", Some(TimeFault::BadNumber(1))),
+    ("max-retries", Some(TimeFault::BadWords(1))),
+    (
+        "time Lunch\ntimetable Lunch Any",
+        Some(TimeFault::UnknownTable(1)),
+    ),
+    ("time Su24", Some(TimeFault::BadTime(1, 3))),
+    ("system \u{ff}", Some(TimeFault::BadSystem(1))),
+    ("time Any\\", None),
+    ("time \\\r\n Any\\\\", Some(TimeFault::BadTime(1, 3))),
+];
+
 #[test]
-fn faulty_lines(rt: HostRuntime) -> Result<(), Fail> {
-    for (text, fault) in [
-        ("time Any 30 \\# x", Some(TimeFault::BadWords(1))),
-        ("time Any 30 # x", None),
-        ("time Any x", Some(TimeFault::BadNumber(1))),
-        ("timegrade - Any", Some(TimeFault::BadWords(1))),
-        ("system a!b", Some(TimeFault::BadSystem(1))),
-        ("system a\nsystem a", Some(TimeFault::SystemTwice(2))),
-        (
-            "timetable T Any\ntimetable t Any",
-            Some(TimeFault::TableTwice(2)),
-        ),
-        ("time Any 525600", None),
-        ("time Any 525601", Some(TimeFault::BadNumber(1))),
-        ("max-retries 1000001", Some(TimeFault::BadNumber(1))),
-        ("max-retries", Some(TimeFault::BadWords(1))),
-        (
-            "time Lunch\ntimetable Lunch Any",
-            Some(TimeFault::UnknownTable(1)),
-        ),
-        ("time Su24", Some(TimeFault::BadTime(1, 3))),
-        ("system \u{ff}", Some(TimeFault::BadSystem(1))),
-        ("time Any\\", None),
-        ("time \\\r\n Any\\\\", Some(TimeFault::BadTime(1, 3))),
-    ] {
+fn faulty_lines(rt: HostRuntime) {
+    for (text, fault) in FAULTY_LINES {
         assert_eq!(rt; sys_fault(rt.alloc(), text.as_bytes()), fault, "{text}");
     }
-    Ok(())
 }
 
-#[test]
-fn a_section_with_too_many_lines(rt: HostRuntime) -> Result<(), Fail> {
-    let mut text = String::from_str(rt.alloc(), "system duke\n")?;
-    for _ in 0..32 {
+// A section with so many time lines.
+fn section(alloc: Global, count: u32) -> Result<String, AllocError> {
+    let mut text = String::from_str(alloc, "system duke\n")?;
+    for _ in 0..count {
         text.push_str("time Any\n")?;
     }
-    assert_eq!(rt; sys_fault(rt.alloc(), text.as_bytes()), None);
-    text.push_str("time Any\n")?;
-    assert_eq!(rt;
-        sys_fault(rt.alloc(), text.as_bytes()),
-        Some(TimeFault::TooManyLines(34))
-    );
-    Ok(())
+    Ok(text)
 }
 
 #[test]
-fn any_bytes_are_read(rt: HostRuntime) -> Result<(), Fail> {
+fn a_section_with_too_many_lines(rt: HostRuntime) {
+    for (count, fault) in [(32, None), (33, Some(TimeFault::TooManyLines(34)))] {
+        let text = section(rt.alloc(), count).expect(&rt, "memory");
+        assert_eq!(rt; sys_fault(rt.alloc(), text.as_bytes()), fault);
+    }
+}
+
+#[test]
+fn any_bytes_are_skipped(rt: HostRuntime) {
     for text in [
         [0xff].as_slice(),
         [0].as_slice(),
         b"x\r\n".as_slice(),
         b"\\x\\".as_slice(),
     ] {
-        assert_eq!(rt;
-            read_short(rt.alloc(), text)?.skipped.as_slice(),
-            [1].as_slice()
-        );
+        let file = read_short(rt.alloc(), text).expect(&rt, "a sys file");
+        assert_eq!(rt; file.skipped.as_slice(), [1].as_slice());
     }
-    assert_eq!(rt;
-        sys_fault(rt.alloc(), b"system \xff"),
-        Some(TimeFault::BadSystem(1))
-    );
-    assert_eq!(rt;
-        sys_fault(rt.alloc(), b"system a\x00"),
-        Some(TimeFault::BadSystem(1))
-    );
-    for (text, systems) in [
-        (b"".as_slice(), 0),
-        (b"\\".as_slice(), 0),
-        (b"system a\\".as_slice(), 1),
-        (b"system a\r\ntime Any\r\nsystem b\r\n".as_slice(), 2),
-    ] {
-        let file = read_short(rt.alloc(), text)?;
-        assert_eq!(rt; file.systems.as_slice().len(), systems);
-        assert!(rt; file.skipped.as_slice().is_empty());
-    }
-    Ok(())
 }
 
 #[test]
-fn ten_thousand_systems(rt: HostRuntime) -> Result<(), Fail> {
-    let mut text = String::new(rt.alloc());
-    for number in 0..10_000u32 {
+fn any_bytes_are_no_names(rt: HostRuntime) {
+    for text in [b"system \xff".as_slice(), b"system a\x00".as_slice()] {
+        let fault = sys_fault(rt.alloc(), text);
+        assert_eq!(rt; fault, Some(TimeFault::BadSystem(1)));
+    }
+}
+
+#[test]
+fn ends_of_sys_files(rt: HostRuntime) {
+    for (text, systems) in [
+        ("", 0),
+        ("\\", 0),
+        ("system a\\", 1),
+        ("system a\r\ntime Any\r\nsystem b\r\n", 2),
+    ] {
+        let file = read_short(rt.alloc(), text.as_bytes()).expect(&rt, "a sys file");
+        assert_eq!(rt; file.systems.as_slice().len(), systems);
+        assert!(rt; file.skipped.as_slice().is_empty());
+    }
+}
+
+// So many systems, n0 and on.
+fn numbered_systems(alloc: Global, count: u32) -> Result<String, AllocError> {
+    let mut text = String::new(alloc);
+    for number in 0..count {
         write!(text, "system n{}\n", number)?;
     }
-    assert!(rt; text.len() <= LARGEST);
-    let file = read_sys(rt.alloc(), text.as_bytes())?;
-    let systems = file.systems.as_slice();
-    assert_eq!(rt; systems.len(), 10_000);
+    Ok(text)
+}
+
+fn expect_last(rt: &impl Abort, systems: &[SystemDef], name: &str) {
     let Some(last) = systems.last() else {
         panic!(rt; "no system");
     };
-    assert_eq!(rt; last.name.as_str(), "n9999");
-    text.push_str("system n0")?;
+    assert_eq!(rt; last.name.as_str(), name);
+}
+
+#[test]
+fn ten_thousand_systems(rt: HostRuntime) {
+    let text = numbered_systems(rt.alloc(), 10_000).expect(&rt, "memory");
     assert!(rt; text.len() <= LARGEST);
-    assert_eq!(rt;
-        read_sys(rt.alloc(), text.as_bytes()).err(),
-        Some(TimeFault::SystemTwice(10_001))
-    );
-    Ok(())
+    let file = read_sys(rt.alloc(), text.as_bytes()).expect(&rt, "a sys file");
+    let systems = file.systems.as_slice();
+    assert_eq!(rt; systems.len(), 10_000);
+    expect_last(&rt, systems, "n9999");
+}
+
+#[test]
+fn the_first_of_ten_thousand_systems_again(rt: HostRuntime) {
+    let mut text = numbered_systems(rt.alloc(), 10_000).expect(&rt, "memory");
+    text.push_str("system n0").expect(&rt, "memory");
+    assert!(rt; text.len() <= LARGEST);
+    let fault = read_sys(rt.alloc(), text.as_bytes()).err();
+    assert_eq!(rt; fault, Some(TimeFault::SystemTwice(10_001)));
 }
 
 // Shows a set by its runs.
@@ -341,18 +377,26 @@ fn show_windows(shown: &mut String, windows: &Windows) -> Result<(), AllocError>
     Ok(())
 }
 
+fn show_line(shown: &mut String, line: &Line) -> Result<(), AllocError> {
+    let grade = line.grade.as_byte() as char;
+    write!(shown, " {} {}:", grade, line.retry.unwrap_or(0))?;
+    show_windows(shown, &line.windows)
+}
+
+fn show_system(shown: &mut String, system: &SystemDef) -> Result<(), AllocError> {
+    write!(shown, "{} {}:", system.name.as_str(), system.max_retries)?;
+    for line in system.lines() {
+        show_line(shown, line)?;
+    }
+    shown.push_str("/")
+}
+
 // What a short sys file says, as the plain reader shows it.
 fn shown(alloc: Global, text: &[u8]) -> Result<String, TimeFault> {
     let file = read_short(alloc, text)?;
     let mut shown = String::new(alloc);
     for system in file.systems.as_slice() {
-        write!(shown, "{} {}:", system.name.as_str(), system.max_retries)?;
-        for line in system.lines() {
-            let grade = line.grade.as_byte() as char;
-            write!(shown, " {} {}:", grade, line.retry.unwrap_or(0))?;
-            show_windows(&mut shown, &line.windows)?;
-        }
-        shown.push_str("/")?;
+        show_system(&mut shown, system)?;
     }
     for line in file.skipped.as_slice() {
         write!(shown, "skipped {}/", line)?;
@@ -370,20 +414,21 @@ const RARE_FORMS: [&str; 6] = [
     "a\n\\\nb\\\n c\nd #\\\ne\nf\\",
 ];
 
-#[test]
-fn each_front_of_a_sys_file_is_read_as_plainly(rt: HostRuntime) -> Result<(), Fail> {
-    let alloc = rt.alloc();
-    let mut texts = Vec::from_array(alloc, RARE_FORMS)?;
-    texts.push(DUKE_AND_UNC)?;
-    for text in &texts {
-        for end in 0..=text.len() {
-            if let Some(front) = text.get(..end) {
-                let got = shown(alloc, front.as_bytes());
-                assert_eq!(rt; got, plain::file(alloc, front), "at {front}");
-            }
+fn expect_fronts_shown(rt: &impl Abort, alloc: Global, text: &str) {
+    for end in 0..=text.len() {
+        if let Some(front) = text.get(..end) {
+            let got = shown(alloc, front.as_bytes());
+            assert_eq!(rt; got, plain::file(alloc, front), "at {front}");
         }
     }
-    Ok(())
+}
+
+#[test]
+fn each_front_of_a_sys_file_is_read_as_plainly(rt: HostRuntime) {
+    for text in RARE_FORMS {
+        expect_fronts_shown(&rt, rt.alloc(), text);
+    }
+    expect_fronts_shown(&rt, rt.alloc(), DUKE_AND_UNC);
 }
 
 /// Time strings, those of [`DUKE_AND_UNC`] among them, and texts that are none.
@@ -404,98 +449,117 @@ const TIME_TEXTS: [&str; 14] = [
     "Tu0960-1000",
 ];
 
+fn expect_minutes(rt: &impl Abort, windows: &Windows, minutes: &[bool], front: &str) {
+    for week in 0..10_080u16 {
+        let is_in = minutes.get(week as usize).copied();
+        assert_eq!(rt; Some(windows.contains(week)), is_in, "{week} of {front}");
+    }
+}
+
+fn expect_same_set(rt: &impl Abort, alloc: Global, front: &str) {
+    match (windows(alloc, front), plain::minutes(alloc, &[], 0, front)) {
+        (Ok(windows), Ok(minutes)) => expect_minutes(rt, &windows, minutes.as_slice(), front),
+        (Err(fault), Err(plain_fault)) => assert_eq!(rt; fault, plain_fault, "at {front}"),
+        _ => panic!(rt; "at {front}"),
+    }
+}
+
 #[test]
-fn each_front_of_a_time_string_is_read_as_plainly(rt: HostRuntime) -> Result<(), Fail> {
-    let alloc = rt.alloc();
+fn each_front_of_a_time_string_is_read_as_plainly(rt: HostRuntime) {
     for text in TIME_TEXTS {
         for end in 0..=text.len() {
-            let Some(front) = text.get(..end) else {
-                continue;
-            };
-            match (windows(alloc, front), plain::minutes(alloc, &[], 0, front)) {
-                (Ok(windows), Ok(minutes)) => {
-                    for week in 0..10_080u16 {
-                        let is_in = minutes.get(week as usize).copied();
-                        assert_eq!(rt; Some(windows.contains(week)), is_in, "{week} of {front}");
-                    }
-                }
-                (Err(fault), Err(plain_fault)) => assert_eq!(rt; fault, plain_fault, "at {front}"),
-                _ => panic!(rt; "at {front}"),
+            if let Some(front) = text.get(..end) {
+                expect_same_set(&rt, rt.alloc(), front);
             }
         }
     }
-    Ok(())
 }
 
 // The bounds below leave room for a loaded machine.
 /// The most bytes of a sys file.
 const LARGEST: usize = 4_194_304;
 
-// Reads a large sys file; how many milliseconds that takes is beside it.
-fn read_timed(rt: &impl Clock, alloc: Global, text: &[u8]) -> Result<(SysFile, u128), Fail> {
-    if text.len() > LARGEST {
-        return Err(Fail::from("too large"));
-    }
-    let start = Instant::now(rt)?;
-    let file = read_sys(alloc, text)?;
-    Ok((file, start.elapsed(rt)?.as_millis()))
+// Reads a large sys file, which takes less than ten seconds.
+fn read_quickly(rt: &(impl Abort + Clock + Print), alloc: Global, text: &[u8]) -> SysFile {
+    assert!(rt; text.len() <= LARGEST);
+    let start = Instant::now(rt).expect(rt, "a clock");
+    let file = read_sys(alloc, text).expect(rt, "a sys file");
+    let taken = start.elapsed(rt).expect(rt, "a clock").as_millis();
+    println!(rt; "{taken} ms").expect(rt, "an output");
+    assert!(rt; taken < 10_000);
+    file
 }
 
-#[test]
-fn many_systems_are_read_in_seconds(rt: HostRuntime) -> Result<(), Fail> {
-    let alloc = rt.alloc();
+fn systems_with_a_line(alloc: Global) -> Result<String, AllocError> {
     let mut text = String::new(alloc);
     for number in 0..131_072u32 {
         write!(text, "system n{:06}\ntime Wk0900-1700\n", number)?;
     }
-    assert_eq!(rt; text.len(), LARGEST);
-    let (file, taken) = read_timed(&rt, alloc, text.as_bytes())?;
-    println!(rt; "{taken} ms")?;
-    assert!(rt; taken < 10_000);
-    assert_eq!(rt; file.systems.as_slice().len(), 131_072);
-    Ok(())
+    Ok(text)
 }
 
 #[test]
-fn one_long_line_is_read_in_seconds(rt: HostRuntime) -> Result<(), Fail> {
-    let alloc = rt.alloc();
+fn many_systems_are_read_in_seconds(rt: HostRuntime) {
+    let text = systems_with_a_line(rt.alloc()).expect(&rt, "memory");
+    assert_eq!(rt; text.len(), LARGEST);
+    let file = read_quickly(&rt, rt.alloc(), text.as_bytes());
+    assert_eq!(rt; file.systems.as_slice().len(), 131_072);
+}
+
+fn long_line(alloc: Global) -> Result<String, AllocError> {
     let mut text = String::from_str(alloc, "time ")?;
     for _ in 0..1_048_574u32 {
         text.push_str("Any,")?;
     }
     text.push_str("Any")?;
-    assert_eq!(rt; text.len(), LARGEST);
-    let (file, taken) = read_timed(&rt, alloc, text.as_bytes())?;
-    println!(rt; "{taken} ms")?;
-    assert!(rt; taken < 10_000);
-    assert!(rt; file.systems.as_slice().is_empty());
-    Ok(())
+    Ok(text)
 }
 
-// Copies of the runs would take 174 gigabytes.
 #[test]
-fn systems_share_the_runs_of_the_defaults(rt: HostRuntime) -> Result<(), Fail> {
-    let alloc = rt.alloc();
-    let mut text = String::from_str(alloc, "timetable Even Any0000-0000")?;
+fn one_long_line_is_read_in_seconds(rt: HostRuntime) {
+    let text = long_line(rt.alloc()).expect(&rt, "memory");
+    assert_eq!(rt; text.len(), LARGEST);
+    let file = read_quickly(&rt, rt.alloc(), text.as_bytes());
+    assert!(rt; file.systems.as_slice().is_empty());
+}
+
+// A timetable of each even minute.
+fn push_even_minutes(text: &mut String) -> Result<(), AllocError> {
+    text.push_str("timetable Even Any0000-0000")?;
     for minute in 1..720u32 {
         let (hour, minute) = (minute / 30, minute % 30 * 2);
         write!(text, ",Any{hour:02}{minute:02}-{hour:02}{minute:02}")?;
     }
+    Ok(())
+}
+
+// Systems whose lines are the 32 of the defaults.
+fn systems_of_even_minutes(alloc: Global) -> Result<String, AllocError> {
+    let mut text = String::new(alloc);
+    push_even_minutes(&mut text)?;
     for _ in 0..32 {
         text.push_str("\ntime Even")?;
     }
     for number in 0..270_000u32 {
         write!(text, "\nsystem n{:06}", number)?;
     }
-    let (file, taken) = read_timed(&rt, alloc, text.as_bytes())?;
-    println!(rt; "{taken} ms")?;
-    assert!(rt; taken < 10_000);
+    Ok(text)
+}
+
+fn expect_even_minutes(rt: &impl Abort, system: &SystemDef) {
+    assert_eq!(rt; system.lines().len(), 32);
+    for line in system.lines() {
+        assert_eq!(rt; line.windows.ranges().len(), 5_040);
+    }
+}
+
+// Copies of the runs would take 174 gigabytes.
+#[test]
+fn systems_share_the_runs_of_the_defaults(rt: HostRuntime) {
+    let text = systems_of_even_minutes(rt.alloc()).expect(&rt, "memory");
+    let file = read_quickly(&rt, rt.alloc(), text.as_bytes());
     assert_eq!(rt; file.systems.as_slice().len(), 270_000);
     for system in file.systems.as_slice() {
-        assert_eq!(rt; system.lines().len(), 32);
-        for line in system.lines() {
-            assert_eq!(rt; line.windows.ranges().len(), 5_040);
-        }
+        expect_even_minutes(&rt, system);
     }
-    Ok(())
 }

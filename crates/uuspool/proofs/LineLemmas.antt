@@ -17,7 +17,7 @@ use Rattle.std.specs.Prelude.{Box}
 use Rattle.uuspool.specs.Commands.{program}
 use Rattle.uuspool.specs.declared.line.CallLine.{CallLine}
 use Rattle.uu_names.specs.Name.{word_of}
-use Rattle.uuspool.specs.Lines.{Answers, HasEntriesOf, IsAnswerTo, Means, MeansLineOf, mail_by, mail_to, word_at, IsNumberOf, IsWordsWhere, UnlessMemory, and_then, named, words_of}
+use Rattle.uuspool.specs.Lines.{Answers, HasEntriesOf, IsAnswerTo, Means, MeansLineOf, mail_by, mail_to, word_at, IsNumberOf, IsWordsWhere, UnlessMemory, and_then, named, optional, words_of}
 use Rattle.uuspool.specs.declared.fault.Fault.{Fault}
 use Rattle.uuspool.specs.declared.fault.Fault.TheVariants as fault
 
@@ -51,6 +51,18 @@ pub answers_then : {V W : Type 0} (f : Fault) (first : Result V Fault) (next : V
     → Answers (Err f) first → Answers (Err f) (and_then first next)
 answers_then f first next answers =
     err_weaker (λ a. a ≡ first) (λ a. a ≡ and_then first next) f (λ is. ap (λ r. and_then r next) is) answers
+
+-- the value of an option that is given, and the fault of one
+pub optional_ok : {V : Type 0} (read : Text → Result V Fault) (entry : Option Text) (text : Text) (value : V) → Some text ≡ entry
+    → Answers (Ok value) (read text) → (let answer : Result (Option V) Fault = Ok (Some value) in Answers answer (optional read entry))
+optional_ok read entry text value is answers =
+    ap (λ r. and_then r (λ v. Ok (Some v))) answers ∙ ap (optional read) is
+
+pub optional_err : {V : Type 0} (read : Text → Result V Fault) (entry : Option Text) (text : Text) (f : Fault) → Some text ≡ entry
+    → Answers (Err f) (read text) → (let answer : Result (Option V) Fault = Err f in Answers answer (optional read entry))
+optional_err read entry text f is answers =
+    err_weaker (λ a. a ≡ read text) (λ a. a ≡ optional read entry) f
+    (λ same. ap (λ r. and_then r (λ v. Ok (Some v))) same ∙ ap (optional read) is) answers
 
 -- what `parse` answers to a text at a number of so many bits
 abbrev pub ReadAs : ℕ → Text → Result ℕ ParseIntError → Type 0

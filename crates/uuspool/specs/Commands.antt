@@ -49,6 +49,10 @@ job_argument = record (argument (codes "job")) { parser = Some (Unsigned 0 4_294
 abbrev pub load_command : App
 load_command = new_app (codes "load")
 
+-- `drop SYSTEM`
+abbrev pub drop_command : App
+drop_command = with_rule (new_app (codes "drop")) (argument (codes "system"))
+
 -- `NAME SYSTEM FROM TO [-g GRADE]`
 abbrev pub file_command : List ℕ → App
 file_command name =
@@ -67,12 +71,24 @@ mail_command =
     with_rule (with_rule (new_app (codes "mail")) grade_option)
     (record (arguments (codes "address") 1) { required = true })
 
-abbrev pub list_command : App
-list_command = new_app (codes "list")
+-- `-s SYSTEM` and `-u USER` of `list`
+abbrev pub wanted_system : Rule
+wanted_system = record (new_rule (codes "system")) { short = Some (byte "s"); value_names = 1 }
 
--- `show JOB`
-abbrev pub show_command : App
-show_command = with_rule (new_app (codes "show")) job_argument
+abbrev pub wanted_user : Rule
+wanted_user = record (new_rule (codes "user")) { short = Some (byte "u"); value_names = 1 }
+
+-- `list [-s SYSTEM] [-u USER]`
+abbrev pub list_command : App
+list_command = with_rule (with_rule (new_app (codes "list")) wanted_system) wanted_user
+
+-- `NAME JOB`
+abbrev pub job_command : List ℕ → App
+job_command name = with_rule (new_app name) job_argument
+
+-- `regrade JOB GRADE`
+abbrev pub regrade_command : App
+regrade_command = with_rule (with_rule (new_app (codes "regrade")) job_argument) (argument (codes "grade"))
 
 -- the words begin after the program's name, and a subcommand has to be there
 abbrev pub without_options : App
@@ -88,5 +104,11 @@ with_handing_in =
     load_command.top) (file_command (codes "send")).top) (file_command (codes "request")).top)
     exec_command.top) mail_command.top
 
+abbrev pub with_questions : App
+with_questions =
+    with_subcommand (with_subcommand with_handing_in list_command.top) (job_command (codes "show")).top
+
 abbrev pub program : App
-program = with_subcommand (with_subcommand with_handing_in list_command.top) show_command.top
+program =
+    with_subcommand (with_subcommand (with_subcommand (with_subcommand with_questions drop_command.top)
+    (job_command (codes "kill")).top) regrade_command.top) (job_command (codes "rejuvenate")).top

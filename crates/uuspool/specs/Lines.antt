@@ -80,6 +80,10 @@ grade_at rows = grade_of (text_at (codes "grade") rows)
 
 -- ---- tasks
 
+-- `drop SYSTEM`
+abbrev pub drop_task : List Row → Result Task Fault
+drop_task rows = and_then (site_at (codes "system") rows) (λ system. Ok (task.Drop system))
+
 -- `NAME SYSTEM FROM TO [-g GRADE]`
 abbrev pub file_task : (List ℕ → List ℕ → List ℕ → ℕ → Task) → List Row → Result Task Fault
 file_task made rows =
@@ -140,40 +144,77 @@ abbrev pub MeansGradedMail : Result ℕ Fault → List Text → Result Task Faul
 MeansGradedMail (Err fault) addresses meant = meant ≡ Err fault
 MeansGradedMail (Ok grade) addresses meant = MeansMail grade addresses meant
 
--- `show JOB`; `clap` takes no line without a number
-abbrev pub MeansShow : Option Text → Result Task Fault → Type 0
-MeansShow entry meant =
-    (number : Option ℕ) × IsNumberOf 32 entry number × (meant ≡ Ok (task.Show (unwrap_or number 0)))
+-- an option that may be left out: its value, where it is given
+abbrev pub optional : {V : Type 0} → (Text → Result V Fault) → Option Text → Result (Option V) Fault
+optional read None = Ok None
+optional read (Some text) = and_then (read text) (λ value. Ok (Some value))
+
+abbrev pub optional_site : Text → List Row → Result (Option (List ℕ)) Fault
+optional_site id rows = optional (λ text. named (site_name_of text)) (first_of id rows)
+
+abbrev pub optional_word : Text → List Row → Result (Option (List ℕ)) Fault
+optional_word id rows = optional (λ text. named (word_of text)) (first_of id rows)
+
+-- `list [-s SYSTEM] [-u USER]`
+abbrev pub list_task : List Row → Result Task Fault
+list_task rows =
+    and_then (optional_site (codes "system") rows) (λ system.
+    and_then (optional_word (codes "user") rows) (λ user.
+    Ok (task.List (record { system = system; user = user }))))
+
+-- the number of JOB; `clap` takes no line without it
+abbrev pub IsJobOf : Option Text → ℕ → Type 0
+IsJobOf entry job = (number : Option ℕ) × IsNumberOf 32 entry number × (job ≡ unwrap_or number 0)
+
+-- `NAME JOB`: what is made of the job's number
+abbrev pub MeansJob : (ℕ → Result Task Fault) → Option Text → Result Task Fault → Type 0
+MeansJob made entry meant = (job : ℕ) × IsJobOf entry job × (meant ≡ made job)
+
+-- `regrade JOB GRADE`
+abbrev pub regrade_task : Result ℕ Fault → ℕ → Result Task Fault
+regrade_task grade job = and_then grade (λ grade. Ok (task.Regrade job grade))
 
 -- none of the other names: `list`, since `clap` takes no further one
 pub record IsList (name : Text) : Type 0 where
   pub load : name ≢ codes "load"
+  pub drop : name ≢ codes "drop"
   pub send : name ≢ codes "send"
   pub request : name ≢ codes "request"
   pub exec : name ≢ codes "exec"
   pub mail : name ≢ codes "mail"
   pub show : name ≢ codes "show"
+  pub kill : name ≢ codes "kill"
+  pub regrade : name ≢ codes "regrade"
+  pub rejuvenate : name ≢ codes "rejuvenate"
 
 -- what a subcommand with these entries asks for, or the fault that is told
 abbrev pub MeansTask : Text → List Row → Result Task Fault → Type 0
 MeansTask name rows meant =
     ((name ≡ codes "load") × (meant ≡ Ok task.Load))
+    ⊎ ((name ≡ codes "drop") × (meant ≡ drop_task rows))
     ⊎ ((name ≡ codes "send") × (meant ≡ file_task task.Send rows))
     ⊎ ((name ≡ codes "request") × (meant ≡ file_task task.Request rows))
     ⊎ ((name ≡ codes "exec") × (meant ≡ exec_task rows))
     ⊎ ((name ≡ codes "mail") × MeansGradedMail (grade_at rows) (texts_at (codes "address") rows) meant)
-    ⊎ ((name ≡ codes "show") × MeansShow (one_of (codes "job") rows) meant)
-    ⊎ (IsList name × (meant ≡ Ok task.List))
+    ⊎ ((name ≡ codes "show") × MeansJob (λ job. Ok (task.Show job)) (one_of (codes "job") rows) meant)
+    ⊎ ((name ≡ codes "kill") × MeansJob (λ job. Ok (task.Kill job)) (one_of (codes "job") rows) meant)
+    ⊎ ((name ≡ codes "regrade") × MeansJob (regrade_task (grade_at rows)) (one_of (codes "job") rows) meant)
+    ⊎ ((name ≡ codes "rejuvenate") × MeansJob (λ job. Ok (task.Rejuvenate job)) (one_of (codes "job") rows) meant)
+    ⊎ (IsList name × (meant ≡ list_task rows))
 
 -- a task takes an input
 abbrev pub takes_input : Task → Bool
 takes_input task.Load = true
+takes_input (task.Drop system) = false
 takes_input (task.Send system source target grade) = true
 takes_input (task.Request system source target grade) = false
 takes_input (task.Execute grade system command arguments) = true
 takes_input (task.Mail grade system rests) = true
-takes_input task.List = false
+takes_input (task.List filter) = false
 takes_input (task.Show job) = false
+takes_input (task.Kill job) = false
+takes_input (task.Regrade job grade) = false
+takes_input (task.Rejuvenate job) = false
 
 -- ---- lines
 
@@ -185,7 +226,7 @@ HasEntriesOf words found =
 
 -- what the subcommand that was entered asks for; `clap` takes no line without one
 abbrev pub MeansEntered : Option (Text × List Row) → Result Task Fault → Type 0
-MeansEntered None meant = meant ≡ Ok task.List
+MeansEntered None meant = meant ≡ Ok (task.List (record { system = None; user = None }))
 MeansEntered (Some entered) meant = MeansTask entered.0 entered.1 meant
 
 abbrev pub line_with : Option ℕ → List ℕ → Result Task Fault → Result CallLine Fault

@@ -1,10 +1,12 @@
 -- What a line does to the spool, what it prints, and its status. All of it is this project's choice.
 use Rattle.std.specs.Prelude.{◌≡◌, ◌≢◌, ◌⊎◌, ℕ, ◌<◌, ◌≤◌, ℤ, Option, Some, None, List, [], ◌∷◌, ◌++◌, Err, IsTrue, length, ⊤, codes, unwrap_or}
 use Rattle.std.specs.Fmt.{decimal}
+use Rattle.std.specs.List.{list_any}
 use Rattle.jiff.specs.Types.{DateTime}
 use Rattle.clap.specs.Words.{Text, fault_of}
 use Rattle.uu_names.specs.Envelope.{envelope_of}
 use Rattle.uu_times.specs.Moment.{IsPast, Shows, local_second}
+use Rattle.uu_times.specs.declared.moment.Moment.{Moment}
 use Rattle.uu_times.specs.declared.fault.TimeFault.TheVariants.{MomentRange}
 use Rattle.uu_core.specs.State.{Job, head_of}
 use Rattle.uu_core.specs.declared.refusal.Refusal.{Refusal}
@@ -14,10 +16,12 @@ use Rattle.uu_core.specs.declared.command.Reply.TheVariants.{Done, Number, Refus
 use Rattle.uu_core.specs.declared.job.Kind.{Kind}
 use Rattle.uu_core.specs.declared.job.Kind.TheVariants.{Send, Request, Execute}
 use Rattle.uu_core.specs.declared.job.NewJob.{NewJob}
-use Rattle.uu_store.specs.declared.command.Command.TheVariants.{Queue}
+use Rattle.uu_core.specs.declared.job.By.{By}
+use Rattle.uu_store.specs.declared.command.Command.{Command}
+use Rattle.uu_store.specs.declared.command.Command.TheVariants.{Remove, Queue, Kill, Regrade, Rejuvenate}
 use Rattle.uu_store.specs.Machine.{State, after, job_at, listed_heads, reply_of}
 use Rattle.uuspool.specs.Commands.{program}
-use Rattle.uuspool.specs.Lines.{IsAnswerTo, MeansLine, takes_input}
+use Rattle.uuspool.specs.Lines.{IsAnswerTo, MeansLine, same_text, takes_input}
 use Rattle.uuspool.specs.Reports.{IsJobLine, IsReport}
 use Rattle.uuspool.specs.declared.input.TheConstants.{INPUT_LIMIT}
 use Rattle.uuspool.specs.declared.fault.Fault.{Fault}
@@ -66,11 +70,15 @@ pub record IsMailed (settings : Settings) (user system : List ℕ) (grade : ℕ)
   pub shown : Shows local (local_second second settings.offset)
   pub handed_in : IsHandedIn user system grade (Execute (codes "rmail") rests) (envelope_of user local settings.name message) second job
 
--- a job is queued: the reply is printed, and its status is the line's
-pub record IsQueued (s : State) (job : NewJob) (answered : ℕ) (written : List ℕ → Type 0) (shows : State → Type 0) : Type 0 where
-  pub status : answered ≡ reply_status (reply_of s (Queue job))
-  pub output : written (reply_text (reply_of s (Queue job)))
-  pub state : shows (after s (Queue job))
+-- a command is given: the reply is printed, and its status is the line's
+pub record IsGiven (s : State) (command : Command) (answered : ℕ) (written : List ℕ → Type 0) (shows : State → Type 0) : Type 0 where
+  pub status : answered ≡ reply_status (reply_of s command)
+  pub output : written (reply_text (reply_of s command))
+  pub state : shows (after s command)
+
+-- a user, who is an administrator where the settings name him
+abbrev pub by_of : Settings → List ℕ → By
+by_of settings user = record { user = user; admin = list_any (λ admin. same_text admin user) settings.admins.items }
 
 -- a job is shown by its line and then its bytes as they are, where there is one
 abbrev pub IsShown : ℤ → Option Job → ℕ → (List ℕ → Type 0) → Type 0
@@ -82,19 +90,27 @@ IsShown offset (Some job) status written =
 -- state that the spool `shows` afterwards. Of `load` nothing is said here.
 abbrev pub IsDone : Settings → List ℕ → ℕ → List ℕ → State → ℕ → (List ℕ → Type 0) → (State → Type 0) → Task → Type 0
 IsDone settings user second input s status written shows task.Load = ⊤
+IsDone settings user second input s status written shows (task.Drop system) =
+    IsGiven s (Remove system) status written shows
 IsDone settings user second input s status written shows (task.Send system source target grade) =
-    (job : NewJob) × IsHandedIn user system grade (Send source target) input second job × IsQueued s job status written shows
+    (job : NewJob) × IsHandedIn user system grade (Send source target) input second job × IsGiven s (Queue job) status written shows
 IsDone settings user second input s status written shows (task.Request system source target grade) =
-    (job : NewJob) × IsHandedIn user system grade (Request source target) [] second job × IsQueued s job status written shows
+    (job : NewJob) × IsHandedIn user system grade (Request source target) [] second job × IsGiven s (Queue job) status written shows
 IsDone settings user second input s status written shows (task.Execute grade system command arguments) =
-    (job : NewJob) × IsHandedIn user system grade (Execute command arguments) input second job × IsQueued s job status written shows
+    (job : NewJob) × IsHandedIn user system grade (Execute command arguments) input second job × IsGiven s (Queue job) status written shows
 IsDone settings user second input s status written shows (task.Mail grade system rests) =
-    (job : NewJob) × IsMailed settings user system grade rests input second job × IsQueued s job status written shows
-IsDone settings user second input s status written shows task.List =
-    (report : List ℕ) × IsReport settings.offset (listed_heads s) report
+    (job : NewJob) × IsMailed settings user system grade rests input second job × IsGiven s (Queue job) status written shows
+IsDone settings user second input s status written shows (task.List filter) =
+    (report : List ℕ) × IsReport settings.offset (listed_heads filter s) report
     × (status ≡ 0) × written report × shows s
 IsDone settings user second input s status written shows (task.Show number) =
     IsShown settings.offset (job_at s number) status written × shows s
+IsDone settings user second input s status written shows (task.Kill number) =
+    IsGiven s (Kill number (by_of settings user)) status written shows
+IsDone settings user second input s status written shows (task.Regrade number grade) =
+    IsGiven s (Regrade number grade (by_of settings user)) status written shows
+IsDone settings user second input s status written shows (task.Rejuvenate number) =
+    (at : Moment) × (at.second ≡ second) × IsGiven s (Rejuvenate number at (by_of settings user)) status written shows
 
 -- the second of a line, which is `now` where it gives none
 abbrev pub second_of : CallLine → ℕ → ℕ

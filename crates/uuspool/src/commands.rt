@@ -11,9 +11,20 @@ use std::alloc::{AllocError, Global};
 pub(crate) fn program_command<'a>(alloc: Global) -> Result<Command<'a>, AllocError>
     ensures { IfOk result (λ command. app_of command ≡ spec.program) }
 {
+    with_questions(alloc)?
+        .subcommand(drop_command(alloc)?)?
+        .subcommand(job_command(alloc, "kill", "Lets a job go")?)?
+        .subcommand(regrade_command(alloc)?)?
+        .subcommand(job_command(alloc, "rejuvenate", "Lets a job count as queued now")?)
+}
+
+// The command with the subcommands that hand something in or ask something.
+fn with_questions<'a>(alloc: Global) -> Result<Command<'a>, AllocError>
+    ensures { IfOk result (λ command. app_of command ≡ spec.with_questions) }
+{
     with_handing_in(alloc)?
-        .subcommand(list_command(alloc))?
-        .subcommand(show_command(alloc)?)
+        .subcommand(list_command(alloc)?)?
+        .subcommand(job_command(alloc, "show", "Shows a job and its bytes")?)
 }
 
 // The command with the subcommands that hand something in.
@@ -73,6 +84,15 @@ fn load_command<'a>(alloc: Global) -> Command<'a>
     Command::new(alloc, "load").about("Defines the systems of the sys file on standard input")
 }
 
+fn drop_command<'a>(alloc: Global) -> Result<Command<'a>, AllocError>
+    ensures app { IfOk result (λ command. app_of command ≡ spec.drop_command) }
+    ensures local { IfOk result (λ command. (fields_of command).has_globals ≡ false) }
+{
+    Command::new(alloc, "drop")
+        .about("Forgets a system that no job waits for")
+        .arg(argument(alloc, "system", "SYSTEM", "The neighbour that is forgotten"))
+}
+
 // `NAME SYSTEM FROM TO [-g GRADE]`.
 fn file_command<'a>(alloc: Global, name: &'a str, about: &'a str) -> Result<Command<'a>, AllocError>
     ensures app { IfOk result (λ command. app_of command ≡ spec.file_command name.entry.now) }
@@ -113,20 +133,59 @@ fn mail_command<'a>(alloc: Global) -> Result<Command<'a>, AllocError>
         .arg(address_arguments(alloc))
 }
 
-fn show_command<'a>(alloc: Global) -> Result<Command<'a>, AllocError>
-    ensures app { IfOk result (λ command. app_of command ≡ spec.show_command) }
+// `NAME JOB`.
+fn job_command<'a>(alloc: Global, name: &'a str, about: &'a str) -> Result<Command<'a>, AllocError>
+    ensures app { IfOk result (λ command. app_of command ≡ spec.job_command name.entry.now) }
     ensures local { IfOk result (λ command. (fields_of command).has_globals ≡ false) }
 {
-    Command::new(alloc, "show")
-        .about("Shows a job and its bytes")
+    Command::new(alloc, name)
+        .about(about)
         .arg(job_argument(alloc))
 }
 
-fn list_command<'a>(alloc: Global) -> Command<'a>
-    ensures app { app_of result ≡ spec.list_command }
-    ensures local { (fields_of result).has_globals ≡ false }
+fn regrade_command<'a>(alloc: Global) -> Result<Command<'a>, AllocError>
+    ensures app { IfOk result (λ command. app_of command ≡ spec.regrade_command) }
+    ensures local { IfOk result (λ command. (fields_of command).has_globals ≡ false) }
 {
-    Command::new(alloc, "list").about("Lists the jobs, those of the highest grade first")
+    Command::new(alloc, "regrade")
+        .about("Gives a job another grade")
+        .arg(job_argument(alloc))?
+        .arg(argument(
+            alloc,
+            "grade",
+            "GRADE",
+            "The job's new grade: 0 to 9, A to Z or a to z, highest first",
+        ))
+}
+
+fn list_command<'a>(alloc: Global) -> Result<Command<'a>, AllocError>
+    ensures app { IfOk result (λ command. app_of command ≡ spec.list_command) }
+    ensures local { IfOk result (λ command. (fields_of command).has_globals ≡ false) }
+{
+    Command::new(alloc, "list")
+        .about("Lists the jobs, those of the highest grade first")
+        .arg(wanted_system(alloc))?
+        .arg(wanted_user(alloc))
+}
+
+fn wanted_system<'a>(alloc: Global) -> Arg<'a>
+    ensures rule { rule_of result ≡ spec.wanted_system }
+    ensures local { result.global ≡ false }
+{
+    Arg::new(alloc, "system")
+        .short('s')
+        .value_name("SYSTEM")
+        .help("The jobs for this neighbour alone")
+}
+
+fn wanted_user<'a>(alloc: Global) -> Arg<'a>
+    ensures rule { rule_of result ≡ spec.wanted_user }
+    ensures local { result.global ≡ false }
+{
+    Arg::new(alloc, "user")
+        .short('u')
+        .value_name("USER")
+        .help("The jobs of this user alone")
 }
 
 fn system_argument<'a>(alloc: Global) -> Arg<'a>

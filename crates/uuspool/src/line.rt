@@ -1,7 +1,7 @@
 //! The command line: from words to a line of typed values.
 
 ghost use Rattle.std.specs.Prelude.{◌≡◌, ◌≢◌, [], All, Ok, IfOk, IfErr, map, codes};
-ghost use Rattle.uu_names.specs.Name.{word_of};
+ghost use Rattle.uu_names.specs.Name.{site_name_of, word_of};
 ghost use Rattle.uu_names.specs.Path.{IsPathText, first_hop, rest_of};
 ghost use Rattle.std.specs.List.{list_all};
 ghost use Rattle.std.specs.String.{string_bytes};
@@ -17,6 +17,7 @@ use clap::error::ErrorKind;
 use std::alloc::Global;
 use uu_map::Listed;
 use uu_names::{Grade, NameFault, Path, SiteName, Word};
+use uu_store::Filter;
 
 /// One line of the program.
 #[derive(Debug, Drop)]
@@ -34,6 +35,11 @@ pub struct CallLine {
 pub enum Task {
     /// `load`: defines the systems of the sys file that is the input.
     Load,
+    /// `drop SYSTEM`: forgets a system that no job waits for.
+    Drop {
+        /// The neighbour that is forgotten.
+        system: SiteName,
+    },
     /// `send SYSTEM FROM TO [-g GRADE]`: queues the input as a file for the system.
     Send {
         /// The neighbour that the file is for.
@@ -76,10 +82,30 @@ pub enum Task {
         /// What the neighbour is to do with the message: each address without its first site.
         rests: Listed<Word>,
     },
-    /// `list`: reports the jobs.
-    List,
+    /// `list [-s SYSTEM] [-u USER]`: reports the jobs that are for the system and of the user, where they are given.
+    List {
+        /// Which jobs.
+        filter: Filter,
+    },
     /// `show JOB`: shows a job and its bytes.
     Show {
+        /// The job's number.
+        job: u32,
+    },
+    /// `kill JOB`: lets a job go.
+    Kill {
+        /// The job's number.
+        job: u32,
+    },
+    /// `regrade JOB GRADE`: gives a job another grade.
+    Regrade {
+        /// The job's number.
+        job: u32,
+        /// The new grade.
+        grade: Grade,
+    },
+    /// `rejuvenate JOB`: lets a job count as queued at the second of the call.
+    Rejuvenate {
         /// The job's number.
         job: u32,
     },
@@ -92,7 +118,13 @@ impl Task {
     {
         match self {
             Task::Load | Task::Send { .. } | Task::Execute { .. } | Task::Mail { .. } => true,
-            Task::Request { .. } | Task::List | Task::Show { .. } => false,
+            Task::Drop { .. }
+            | Task::Request { .. }
+            | Task::List { .. }
+            | Task::Show { .. }
+            | Task::Kill { .. }
+            | Task::Regrade { .. }
+            | Task::Rejuvenate { .. } => false,
         }
     }
 }
@@ -144,7 +176,9 @@ fn entered_in(alloc: Global, given: &ArgMatches<'_>) -> Result<Task, Fault>
 {
     match given.subcommand() {
         Some((name, given)) => task_in(alloc, name, given),
-        None => Ok(Task::List),
+        None => Ok(Task::List {
+            filter: Filter::all(),
+        }),
     }
 }
 
@@ -154,13 +188,26 @@ fn task_in(alloc: Global, name: &str, given: &ArgMatches<'_>) -> Result<Task, Fa
 {
     match name {
         "load" => Ok(Task::Load),
+        "drop" => drop_in(alloc, given),
         "send" => send_in(alloc, given),
         "request" => request_in(alloc, given),
         "exec" => execute_in(alloc, given),
         "mail" => mail_in(alloc, given),
         "show" => Ok(show_in(given)),
-        _ => Ok(Task::List),
+        "kill" => Ok(kill_in(given)),
+        "regrade" => regrade_in(given),
+        "rejuvenate" => Ok(rejuvenate_in(given)),
+        _ => list_in(alloc, given),
     }
+}
+
+// The task of `drop`.
+#[tactic(auto, using(crate::proofs::LineLemmas::answers_then))]
+fn drop_in(alloc: Global, given: &ArgMatches<'_>) -> Result<Task, Fault>
+    ensures { Answers result (spec.drop_task (rows_of (found_of given.now))) }
+{
+    let system = site_in(alloc, given, "system")?;
+    Ok(Task::Drop { system })
 }
 
 // The task of `send`.
@@ -294,12 +341,58 @@ fn paths_of(alloc: Global, texts: &[&str]) -> Result<Vec<Path>, Fault>
     Ok(paths)
 }
 
+// The task of `list`.
+#[tactic(auto, using(crate::proofs::LineLemmas::answers_then))]
+fn list_in(alloc: Global, given: &ArgMatches<'_>) -> Result<Task, Fault>
+    ensures { Answers result (spec.list_task (rows_of (found_of given.now))) }
+{
+    let system = optional_site(alloc, given, "system")?;
+    let user = optional_word(alloc, given, "user")?;
+    let filter = Filter { system, user };
+    Ok(Task::List { filter })
+}
+
 // The task of `show`.
 fn show_in(given: &ArgMatches<'_>) -> Task
-    ensures { spec.MeansShow (one_of (codes "job") (rows_of (found_of given.now))) (Ok result) }
+    ensures { spec.MeansJob (λ job. Ok (Task.Show job)) (one_of (codes "job") (rows_of (found_of given.now))) (Ok result) }
 {
-    let job = given.get_one::<u32>("job").unwrap_or(0);
+    let job = job_in(given);
     Task::Show { job }
+}
+
+// The task of `kill`.
+fn kill_in(given: &ArgMatches<'_>) -> Task
+    ensures { spec.MeansJob (λ job. Ok (Task.Kill job)) (one_of (codes "job") (rows_of (found_of given.now))) (Ok result) }
+{
+    let job = job_in(given);
+    Task::Kill { job }
+}
+
+// The task of `regrade`.
+fn regrade_in(given: &ArgMatches<'_>) -> Result<Task, Fault>
+    ensures { UnlessMemory (spec.MeansJob (spec.regrade_task (spec.grade_at (rows_of (found_of given.now))))
+        (one_of (codes "job") (rows_of (found_of given.now)))) result }
+{
+    let job = job_in(given);
+    match grade_in(given) {
+        Ok(grade) => Ok(Task::Regrade { job, grade }),
+        Err(fault) => Err(fault),
+    }
+}
+
+// The task of `rejuvenate`.
+fn rejuvenate_in(given: &ArgMatches<'_>) -> Task
+    ensures { spec.MeansJob (λ job. Ok (Task.Rejuvenate job)) (one_of (codes "job") (rows_of (found_of given.now))) (Ok result) }
+{
+    let job = job_in(given);
+    Task::Rejuvenate { job }
+}
+
+// The number of JOB; `clap` has seen to it that there is one.
+fn job_in(given: &ArgMatches<'_>) -> u32
+    ensures { spec.IsJobOf (one_of (codes "job") (rows_of (found_of given.now))) result }
+{
+    given.get_one::<u32>("job").unwrap_or(0)
 }
 
 // The text that is given under an id; `clap` has seen to those that have to be there.
@@ -320,13 +413,36 @@ fn word_in(alloc: Global, given: &ArgMatches<'_>, id: &str) -> Result<Word, Faul
 fn site_in(alloc: Global, given: &ArgMatches<'_>, id: &str) -> Result<SiteName, Fault>
     ensures { Answers result (spec.site_at id.now (rows_of (found_of given.now))) }
 {
-    match SiteName::parse(alloc, text_in(given, id)) {
-        Ok(name) => Ok(name),
-        Err(fault) => Err(Fault::from(fault)),
+    site_of(alloc, text_in(given, id))
+}
+
+// The site name that is given under an id, where one is.
+fn optional_site(alloc: Global, given: &ArgMatches<'_>, id: &str) -> Result<Option<SiteName>, Fault>
+    ensures { Answers result (spec.optional_site id.now (rows_of (found_of given.now))) }
+{
+    match given.get_str(id) {
+        Some(text) => match site_of(alloc, text) {
+            Ok(name) => Ok(Some(name)),
+            Err(fault) => Err(fault),
+        },
+        None => Ok(None),
     }
 }
 
-// The grade of `-g`.
+// The word that is given under an id, where one is.
+fn optional_word(alloc: Global, given: &ArgMatches<'_>, id: &str) -> Result<Option<Word>, Fault>
+    ensures { Answers result (spec.optional_word id.now (rows_of (found_of given.now))) }
+{
+    match given.get_str(id) {
+        Some(text) => match word_of(alloc, text) {
+            Ok(word) => Ok(Some(word)),
+            Err(fault) => Err(fault),
+        },
+        None => Ok(None),
+    }
+}
+
+// The grade that is given.
 fn grade_in(given: &ArgMatches<'_>) -> Result<Grade, Fault>
     ensures { Answers result (spec.grade_at (rows_of (found_of given.now))) }
 {
@@ -335,6 +451,16 @@ fn grade_in(given: &ArgMatches<'_>) -> Result<Grade, Fault>
     };
     match Grade::parse(*byte) {
         Ok(grade) => Ok(grade),
+        Err(fault) => Err(Fault::from(fault)),
+    }
+}
+
+// The text as a site name.
+fn site_of(alloc: Global, text: &str) -> Result<SiteName, Fault>
+    ensures { Answers result (spec.named (site_name_of text.now)) }
+{
+    match SiteName::parse(alloc, text) {
+        Ok(name) => Ok(name),
         Err(fault) => Err(Fault::from(fault)),
     }
 }

@@ -1,5 +1,6 @@
 //! One line of the program, run over a spool.
-ghost use Rattle.std.specs.Prelude.{◌≡◌, Some, IfOk, IfErr, OnOk, codes, map};
+ghost use Rattle.std.specs.Prelude.{◌≡◌, Some, IfOk, IfErr, OnOk, codes, map, pos};
+ghost use Rattle.std.specs.List.{list_any};
 ghost use Rattle.std.specs.String.{string_bytes};
 ghost use Rattle.std.specs.Io.KnownBytes.{Appends};
 ghost use Rattle.sqlite.specs.State.{HasCleanDisk};
@@ -9,9 +10,10 @@ ghost use Rattle.uu_times.specs.Moment as moment;
 ghost use Rattle.uu_store.specs.Machine.{after, job_at, listed_heads, reply_of};
 ghost use Rattle.uu_store.specs.Encoded.{job_with};
 ghost use Rattle.uu_store.specs.Spool.{Shows, disk};
-ghost use Rattle.uuspool.specs.Lines.{MeansLine};
+ghost use Rattle.uuspool.specs.Lines.{MeansLine, same_text};
 ghost use Rattle.uuspool.specs.Reports.{IsReport};
-ghost use Rattle.uuspool.specs.Served.{IsServed, IsDone, IsHandedIn, IsMailed, IsQueued, IsShown, IsEarly, IsLate, IsTaskFault, IsToldOf, IsUnderstood, refusal_name, reply_text, reply_status};
+ghost use Rattle.uuspool.specs.Served.{IsServed, IsDone, IsHandedIn, IsMailed, IsGiven, IsShown, IsEarly, IsLate, IsTaskFault, IsToldOf, IsUnderstood, refusal_name, reply_text, reply_status};
+ghost use Rattle.uuspool.specs.Served as spec;
 
 use crate::fault::Fault;
 use crate::input::INPUT_LIMIT;
@@ -22,10 +24,10 @@ use crate::systems::systems_of;
 use sqlite::Alter;
 use std::alloc::{AllocError, Global};
 use std::io::Write;
-use uu_core::{JobHead, Kind, NewJob, Refusal, Reply};
+use uu_core::{By, JobHead, Kind, NewJob, Refusal, Reply};
 use uu_map::Listed;
 use uu_names::{Grade, SiteName, Word, envelope};
-use uu_store::{Command, Spool, StoreFault, StoreKind};
+use uu_store::{Command, Filter, Spool, StoreFault, StoreKind};
 use uu_times::moment::LAST_SECOND;
 use uu_times::{Moment, SystemDef, TimeFault};
 
@@ -77,6 +79,7 @@ pub fn serve<S: Alter, W: Write>(
 /// `Time` exactly past the last second of a moment.
 pub fn moment_of(second: u64, settings: &Settings) -> Result<Moment, Fault>
     ensures second { IfOk result (λ at. at.second ≡ second) }
+    ensures week { IfOk result (λ at. pos at.week ≡ moment.week_minute (local_second second settings.now.offset)) }
     ensures local { IfOk result (λ at. moment.Shows at.local (local_second second settings.now.offset)) }
     ensures in_range { OnOk result (¬ IsPast second) }
     ensures past { IfErr result (λ fault. (fault ≡ Fault.Time TimeFault.MomentRange) × IsPast second) }
@@ -108,6 +111,7 @@ fn carry_out<S: Alter, W: Write>(
     let CallLine { at: _, user, task } = line;
     match task {
         Task::Load => load(alloc, input, spool, out),
+        Task::Drop { system } => give(alloc, Command::Remove(system), spool, out),
         Task::Send {
             system,
             source,
@@ -116,7 +120,7 @@ fn carry_out<S: Alter, W: Write>(
         } => {
             let kind = Kind::Send { source, target };
             let job = new_job(alloc, user, system, grade, kind, input, at)?;
-            queue(alloc, job, spool, out)
+            give(alloc, Command::Queue(job), spool, out)
         }
         Task::Request {
             system,
@@ -126,7 +130,7 @@ fn carry_out<S: Alter, W: Write>(
         } => {
             let kind = Kind::Request { source, target };
             let job = new_job(alloc, user, system, grade, kind, &[], at)?;
-            queue(alloc, job, spool, out)
+            give(alloc, Command::Queue(job), spool, out)
         }
         Task::Execute {
             grade,
@@ -136,7 +140,7 @@ fn carry_out<S: Alter, W: Write>(
         } => {
             let kind = Kind::Execute { command, arguments };
             let job = new_job(alloc, user, system, grade, kind, input, at)?;
-            queue(alloc, job, spool, out)
+            give(alloc, Command::Queue(job), spool, out)
         }
         Task::Mail {
             grade,
@@ -144,11 +148,38 @@ fn carry_out<S: Alter, W: Write>(
             rests,
         } => {
             let job = mail_job(alloc, user, system, grade, rests, input, at, settings)?;
-            queue(alloc, job, spool, out)
+            give(alloc, Command::Queue(job), spool, out)
         }
-        Task::List => list(alloc, settings, spool, out),
+        Task::List { filter } => list(alloc, &filter, settings, spool, out),
         Task::Show { job } => show(alloc, job, settings, spool, out),
+        Task::Kill { job } => {
+            let by = by_of(user, settings);
+            give(alloc, Command::Kill { job, by }, spool, out)
+        }
+        Task::Regrade { job, grade } => {
+            let by = by_of(user, settings);
+            give(alloc, Command::Regrade { job, grade, by }, spool, out)
+        }
+        Task::Rejuvenate { job } => {
+            let by = by_of(user, settings);
+            give(alloc, Command::Rejuvenate { job, at, by }, spool, out)
+        }
     }
+}
+
+// Who changes a job: an administrator is a user whom the settings name.
+fn by_of(user: Word, settings: &Settings) -> By
+    ensures { result ≡ spec.by_of settings.now user }
+{
+    let admin = is_among(user.as_str(), &settings.admins);
+    By { user, admin }
+}
+
+// Whether the user is one of these.
+fn is_among(user: &str, users: &[Word]) -> bool
+    ensures { result ≡ list_any (λ one. same_text one user.now) users.now }
+{
+    users.iter().any(|one| one.as_str() == user)
 }
 
 // The job that a line hands in.
@@ -260,38 +291,37 @@ fn define<S: Alter, W: Write>(
     Ok(status)
 }
 
-// Gives a job, and prints the answer.
-fn queue<S: Alter, W: Write>(
+// Gives a command, and prints the answer.
+fn give<S: Alter, W: Write>(
     alloc: Global,
-    job: NewJob,
+    command: Command,
     spool: &mut Spool<S>,
     out: &mut W,
 ) -> Result<u8, Fault>
     ensures done { HasCleanDisk (disk spool.new) → (s : _) → Shows spool.old s → IfOk result (λ status.
-        IsQueued s job status (λ bytes. Appends (W.contents out.old) (W.contents out.new) bytes) (λ t. Shows spool.new t)) }
+        IsGiven s command status (λ bytes. Appends (W.contents out.old) (W.contents out.new) bytes) (λ t. Shows spool.new t)) }
     ensures late { IfErr result IsLate }
 {
-    let reply = spool
-        .command(alloc, Command::Queue(job))
-        .map_err(Fault::Store)?;
+    let reply = spool.command(alloc, command).map_err(Fault::Store)?;
     let answer = reply_line(alloc, reply)?;
     write(out, answer.as_bytes())?;
     Ok(status_of(reply))
 }
 
-// Prints the report of all jobs.
+// Prints the report of the jobs that fit.
 fn list<S: Alter, W: Write>(
     alloc: Global,
+    filter: &Filter,
     settings: &Settings,
     spool: &mut Spool<S>,
     out: &mut W,
 ) -> Result<u8, Fault>
     ensures done { HasCleanDisk (disk spool.new) → (s : _) → Shows spool.old s → IfOk result (λ status.
-        (report : _) × IsReport settings.now.offset (listed_heads s) report × (status ≡ 0)
+        (report : _) × IsReport settings.now.offset (listed_heads filter.now s) report × (status ≡ 0)
         × Appends (W.contents out.old) (W.contents out.new) report × Shows spool.new s) }
     ensures late { IfErr result IsLate }
 {
-    let jobs = spool.jobs(alloc).map_err(Fault::Store)?;
+    let jobs = spool.jobs(alloc, filter).map_err(Fault::Store)?;
     if jobs.iter().any(|job| job.queued > LAST_SECOND) {
         return Err(Fault::Store(StoreFault::Store(StoreKind::Database)));
     }

@@ -5,11 +5,17 @@
 #[cfg(test)]
 mod adopting;
 #[cfg(test)]
+mod changing;
+#[cfg(test)]
 mod faults;
 #[cfg(test)]
 mod lines;
 #[cfg(test)]
 mod listing;
+#[cfg(test)]
+mod removing;
+#[cfg(test)]
+mod stepping;
 #[cfg(test)]
 mod stops;
 #[cfg(test)]

@@ -1,7 +1,7 @@
 // Lines of the program over a spool in memory: what they print, their status, and what the spool shows.
 use crate::support::{fresh_spool, printed, serve_into};
 use std::test::Fail;
-use uu_store::Kind;
+use uu_store::{Filter, Kind};
 
 const DUKE: &[u8] = b"system duke\ntime Any\n";
 
@@ -114,7 +114,7 @@ fn jobs_are_listed_by_grade_and_then_by_number(rt: HostRuntime) -> Result<(), Fa
         assert_eq!(rt; answer.as_slice(), output.as_bytes(), "{line}");
     }
     let mut numbers = Vec::new(alloc);
-    for head in &spool.jobs(alloc)? {
+    for head in &spool.jobs(alloc, &Filter::all())? {
         numbers.push(head.number)?;
     }
     assert_eq!(rt; numbers.as_slice(), [5, 3, 4, 6, 7, 2, 1].as_slice());

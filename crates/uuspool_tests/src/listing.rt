@@ -6,7 +6,7 @@ use std::time::{Duration, Instant};
 use uu_core::{Kind, NewJob};
 use uu_map::Listed;
 use uu_names::{Grade, SiteName, Word};
-use uu_store::Command;
+use uu_store::{Command, Filter};
 use uu_times::Moment;
 
 fn job(alloc: Global) -> Result<Command, Fail> {
@@ -32,7 +32,7 @@ fn listing(rt: &HostRuntime, jobs: u32) -> Result<Duration, Fail> {
         let _number = spool.command(alloc, job(alloc)?)?;
     }
     let start = Instant::now(rt)?;
-    let heads = spool.jobs(alloc)?;
+    let heads = spool.jobs(alloc, &Filter::all())?;
     let time = start.elapsed(rt)?;
     if heads.len() != jobs as usize {
         return Err(Fail::from("another number of jobs"));

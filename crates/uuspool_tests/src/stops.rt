@@ -7,10 +7,10 @@ use std::test::Fail;
 use uu_core::{Kind, NewJob, Reply};
 use uu_map::Listed;
 use uu_names::{Grade, SiteName, Word};
-use uu_store::{Command, Spool, StoreFault};
+use uu_store::{Command, Filter, Spool, StoreFault};
 use uu_times::{Lines, Moment, SystemDef};
 
-type FusedSpool = Spool<FileStore<Fuse<Memory>>>;
+pub(crate) type FusedSpool = Spool<FileStore<Fuse<Memory>>>;
 
 /// How far a run came.
 #[derive(Clone, Copy, Debug, PartialEq, Eq)]
@@ -23,12 +23,12 @@ enum Ending {
 
 /// Which file the fuse is on.
 #[derive(Clone, Copy, Debug, PartialEq, Eq)]
-enum Place {
+pub(crate) enum Place {
     Log,
     Database,
 }
 
-fn fused_files(alloc: Global, place: Place, calls: u64) -> Files<Fuse<Memory>> {
+pub(crate) fn fused_files(alloc: Global, place: Place, calls: u64) -> Files<Fuse<Memory>> {
     let (log, db) = match place {
         Place::Log => (calls, u64::MAX),
         Place::Database => (u64::MAX, calls),
@@ -39,12 +39,12 @@ fn fused_files(alloc: Global, place: Place, calls: u64) -> Files<Fuse<Memory>> {
     }
 }
 
-fn files_of(spool: FusedSpool) -> Files<Fuse<Memory>> {
+pub(crate) fn files_of(spool: FusedSpool) -> Files<Fuse<Memory>> {
     spool.release().into_store().close()
 }
 
 /// Opens the files and adopts what is in them, or gives the files back.
-fn opened(
+pub(crate) fn opened(
     alloc: Global,
     files: Files<Fuse<Memory>>,
 ) -> Result<Result<FusedSpool, Files<Fuse<Memory>>>, Fail> {
@@ -52,7 +52,7 @@ fn opened(
         return Err(Fail::from("a sync of these files has failed"));
     }
     match Connection::open_files(alloc, files, Options::new(7)) {
-        Ok(conn) => match Spool::adopt(conn) {
+        Ok(conn) => match Spool::adopt(alloc, conn) {
             Ok(spool) => Ok(Ok(spool)),
             Err(refused) => Ok(Err(refused.conn.into_store().close())),
         },
@@ -182,7 +182,7 @@ fn shown(
     let Ok(mut spool) = opened(alloc, files)? else {
         return Err(Fail::from("the files do not open again"));
     };
-    let heads = spool.jobs(alloc)?.len();
+    let heads = spool.jobs(alloc, &Filter::all())?.len();
     let next = spool.next()?;
     match spool.job(alloc, 1)? {
         Some((head, kept)) => Ok(
@@ -228,7 +228,7 @@ fn stop_each_kind(alloc: Global, place: Place, bytes: &[u8]) -> Result<(), Fail>
 }
 
 /// A job's bytes, larger than a page of the database.
-fn large(alloc: Global) -> Result<Vec<u8>, Fail> {
+pub(crate) fn large(alloc: Global) -> Result<Vec<u8>, Fail> {
     let mut bytes = Vec::new(alloc);
     for i in 0..40_000u32 {
         bytes.push((i % 251) as u8)?;

@@ -12,7 +12,7 @@ pub(crate) const NOW: u64 = 1_000_000_000;
 
 pub(crate) fn fresh_spool(alloc: Global) -> Result<Spool<MemStore>, Fail> {
     let conn = Connection::open_in_memory(alloc)?;
-    match Spool::adopt(conn) {
+    match Spool::adopt(alloc, conn) {
         Ok(spool) => Ok(spool),
         Err(_) => Err(Fail::from("a fresh database is no spool")),
     }

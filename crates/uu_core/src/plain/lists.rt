@@ -47,6 +47,7 @@ impl Lists {
     }
 
     fn define(&mut self, def: SystemDef) -> Result<Reply, AllocError>
+        requires { IsInOrder (state_of self.old) }
         ensures { IsGiven (state_of self.old) (Command.Define def) result (state_of self.new) }
     {
         let call = call_of(self.systems.as_slice(), &def.name)?;
@@ -154,6 +155,7 @@ impl Lists {
     }
 
     fn keep(&mut self, alloc: Global, bytes: Listed<u8>) -> Result<Reply, AllocError>
+        requires { IsInOrder (state_of self.old) }
         ensures { IsGiven (state_of self.old) (Command.Entry bytes) result (state_of self.new) }
     {
         match entry_host(alloc, bytes.as_slice())? {

@@ -4,8 +4,8 @@ ghost use Rattle.std.specs.List.{list_any};
 ghost use Rattle.uu_core.specs.Refusal.{decided};
 ghost use Rattle.uu_core.specs.State.{is_job, is_system, is_entry, same_text, head_of};
 ghost use Rattle.uu_core.specs.Verdict.{job_refusal};
-ghost use Rattle.uu_core.specs.After.{put_by, call_of, change_job, is_among};
-ghost use Rattle.uu_core.specs.Plain.{with_call};
+ghost use Rattle.uu_core.specs.After.{put_by, call_of, change_call, change_job, is_among};
+ghost use Rattle.uu_core.specs.Plain.{AreByName};
 
 use super::copy::copy_call;
 use super::{PlainEntry, PlainJob};
@@ -100,6 +100,7 @@ impl Named for PlainEntry {
 
 // The item in its place, instead of the one of its name if there is one.
 pub(super) fn put<T: Named>(items: &mut Vec<T>, item: T) -> Result<(), AllocError>
+    requires { AreByName T.name_of items.old.items }
     ensures done { OnOk result (items.new.items ≡ put_by T.name_of item items.old.items) }
     ensures failed { OnErr result (items.new.items ≡ items.old.items) }
 {
@@ -120,9 +121,10 @@ pub(super) fn put<T: Named>(items: &mut Vec<T>, item: T) -> Result<(), AllocErro
     Ok(())
 }
 
-// The first system of the name gets these calls.
+// The system of the name, if there is one, gets these calls.
 pub(super) fn set_call(rows: &mut [SystemRow], name: &SiteName, call: CallState)
-    ensures { rows.new ≡ with_call name.now call rows.old }
+    requires { AreByName (λ row. row.def.name) rows.old }
+    ensures { rows.new ≡ change_call name.now (λ _. call) rows.old }
 {
     for i in 0..rows.len() {
         if rows[i].name() == name {

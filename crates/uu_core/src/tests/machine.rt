@@ -1,126 +1,10 @@
 // Worked answers of the plain machine.
+use super::order::{MONDAY, Order, SUNDAY, command, define, done, line, moment, site};
 use crate::plain::Machine;
-use crate::{By, Command, Due, Kind, NewJob, Outcome, Refusal, Reply, limit};
+use crate::{Command, Due, JobHead, Kind, Outcome, Refusal, Reply, SystemRow, limit};
 use std::alloc::Global;
 use std::process::Abort;
-use std::test::Fail;
-use uu_map::Listed;
-use uu_names::{Grade, SiteName, Word};
-use uu_times::{Line, Lines, Moment, SystemDef, Windows};
-
-// 2001-09-09 01:46:40, a Sunday, and 2001-09-10 10:00:00, the Monday after it.
-pub const SUNDAY: u64 = 1_000_000_000;
-
-pub const MONDAY: u64 = 1_000_116_000;
-
-// A time line for this grade with these ranges of the week.
-fn line(
-    rt: &impl Abort,
-    alloc: Global,
-    grade: u8,
-    ranges: &[(u16, u16)],
-    retry: Option<u32>,
-) -> Result<Line, Fail> {
-    Ok(Line {
-        grade: Grade::parse(grade)?,
-        windows: Windows::from_ranges(alloc, ranges)?.expect(rt, "ranges of the week"),
-        retry,
-    })
-}
-
-fn define(
-    rt: &impl Abort,
-    alloc: Global,
-    name: &str,
-    lines: Vec<Line>,
-    max_retries: u32,
-) -> Result<Command, Fail> {
-    let def = SystemDef::new(
-        SiteName::parse(alloc, name)?,
-        Lines::new(lines),
-        max_retries,
-    );
-    Ok(Command::Define(def.expect(rt, "a system")))
-}
-
-// A system that may be called all week for jobs of this grade and above.
-pub fn any_time(
-    rt: &impl Abort,
-    alloc: Global,
-    name: &str,
-    grade: u8,
-    retry: Option<u32>,
-    max_retries: u32,
-) -> Result<Command, Fail> {
-    let mut lines = Vec::new(alloc);
-    lines.push(line(rt, alloc, grade, [(0, 10_079)].as_slice(), retry)?)?;
-    define(rt, alloc, name, lines, max_retries)
-}
-
-pub fn by(alloc: Global, user: &str, admin: bool) -> Result<By, Fail> {
-    Ok(By {
-        user: Word::parse(alloc, user)?,
-        admin,
-    })
-}
-
-fn new_job(
-    alloc: Global,
-    system: &str,
-    grade: u8,
-    kind: Kind,
-    size: usize,
-) -> Result<NewJob, Fail> {
-    let mut bytes = Vec::with_capacity(alloc, size)?;
-    for _ in 0..size {
-        bytes.push(b'x')?;
-    }
-    Ok(NewJob {
-        system: SiteName::parse(alloc, system)?,
-        grade: Grade::parse(grade)?,
-        user: Word::parse(alloc, "ann")?,
-        kind,
-        bytes: Listed::from_vec(bytes),
-        at: Moment::new(SUNDAY, 0)?,
-    })
-}
-
-// A file of so many bytes that ann sends on Sunday.
-pub fn send(alloc: Global, system: &str, grade: u8, size: usize) -> Result<Command, Fail> {
-    let kind = Kind::Send {
-        source: Word::parse(alloc, "/tmp/a")?,
-        target: Word::parse(alloc, "~/a")?,
-    };
-    Ok(Command::Queue(new_job(alloc, system, grade, kind, size)?))
-}
-
-fn execute(alloc: Global, system: &str, count: usize) -> Result<Command, Fail> {
-    let mut arguments = Vec::new(alloc);
-    for _ in 0..count {
-        arguments.push(Word::parse(alloc, "bob")?)?;
-    }
-    let kind = Kind::Execute {
-        command: Word::parse(alloc, "rmail")?,
-        arguments: Listed::from_vec(arguments),
-    };
-    Ok(Command::Queue(new_job(alloc, system, b'N', kind, 0)?))
-}
-
-pub fn failed(alloc: Global, system: &str, second: u64) -> Result<Command, Fail> {
-    Ok(Command::Failed {
-        system: SiteName::parse(alloc, system)?,
-        at: Moment::new(second, 0)?,
-        why: Word::parse(alloc, "busy")?,
-    })
-}
-
-pub fn done(alloc: Global, system: &str, numbers: &[u32]) -> Result<Command, Fail> {
-    Ok(Command::Done {
-        system: SiteName::parse(alloc, system)?,
-        at: Moment::new(MONDAY, 0)?,
-        jobs: Listed::from_vec(numbers.to_vec(alloc)?),
-    })
-}
+use uu_names::SiteName;
 
 pub fn expect_reply(
     rt: &impl Abort,
@@ -128,10 +12,35 @@ pub fn expect_reply(
     machine: &mut Machine,
     command: Command,
     reply: Reply,
-) -> Result<(), Fail> {
-    let answer = machine.step(alloc, command)?;
+) {
+    let answer = machine.step(alloc, command).expect(rt, "memory");
     assert_eq!(rt; answer, reply);
-    Ok(())
+}
+
+// Each order gets its reply.
+pub fn expect_replies(
+    rt: &impl Abort,
+    alloc: Global,
+    machine: &mut Machine,
+    orders: &[(Order, Reply)],
+) {
+    for (place, (order, reply)) in orders.iter().enumerate() {
+        let answer = machine.step(alloc, command(rt, alloc, *order));
+        assert_eq!(rt; answer, Ok(*reply), "order {place}");
+    }
+}
+
+fn expect_one_due(rt: &impl Abort, due: &Due, expected: &(&str, u8, u32)) {
+    assert_eq!(rt; due.system.as_str(), expected.0);
+    assert_eq!(rt; due.grade.as_byte(), expected.1);
+    assert_eq!(rt; due.number, expected.2);
+}
+
+pub fn expect_dues(rt: &impl Abort, dues: &[Due], expected: &[(&str, u8, u32)]) {
+    assert_eq!(rt; dues.len(), expected.len());
+    for (due, other) in dues.iter().zip(expected.iter()) {
+        expect_one_due(rt, due, other);
+    }
 }
 
 pub fn expect_due(
@@ -140,149 +49,104 @@ pub fn expect_due(
     machine: &Machine,
     second: u64,
     expected: &[(&str, u8, u32)],
-) -> Result<(), Fail> {
-    let dues: Vec<Due> = machine.due(alloc, &Moment::new(second, 0)?)?;
-    assert_eq!(rt; dues.len(), expected.len());
-    for (due, other) in dues.iter().zip(expected.iter()) {
-        assert_eq!(rt; due.system.as_str(), other.0);
-        assert_eq!(rt; due.grade.as_byte(), other.1);
-        assert_eq!(rt; due.number, other.2);
-    }
-    Ok(())
+) {
+    let dues = machine.due(alloc, &moment(rt, second)).expect(rt, "memory");
+    expect_dues(rt, dues.as_slice(), expected);
 }
 
-#[test]
-fn sizes_of_jobs(rt: HostRuntime) -> Result<(), Fail> {
-    let alloc = rt.alloc();
-    let mut machine = Machine::new(alloc);
-    let large = Reply::Refused(Refusal::TooLarge);
-    let unknown = Reply::Refused(Refusal::NoSystem);
-    expect_reply(
-        &rt,
-        alloc,
-        &mut machine,
-        any_time(&rt, alloc, "duke", b'z', None, 26)?,
-        Reply::Done,
-    )?;
-    expect_reply(
-        &rt,
-        alloc,
-        &mut machine,
-        send(alloc, "duke", b'N', 1_048_576)?,
-        Reply::Number(1),
-    )?;
-    expect_reply(
-        &rt,
-        alloc,
-        &mut machine,
-        send(alloc, "duke", b'N', 1_048_577)?,
-        large,
-    )?;
-    expect_reply(
-        &rt,
-        alloc,
-        &mut machine,
-        send(alloc, "duke", b'N', 0)?,
-        Reply::Number(2),
-    )?;
-    expect_reply(
-        &rt,
-        alloc,
-        &mut machine,
-        send(alloc, "unc", b'N', 1_048_577)?,
-        large,
-    )?;
-    expect_reply(
-        &rt,
-        alloc,
-        &mut machine,
-        send(alloc, "unc", b'N', 0)?,
-        unknown,
-    )?;
-    expect_reply(&rt, alloc, &mut machine, execute(alloc, "duke", 65)?, large)?;
-    expect_reply(
-        &rt,
-        alloc,
-        &mut machine,
-        execute(alloc, "duke", 64)?,
-        Reply::Number(3),
-    )?;
-    let heads = machine.heads(alloc)?;
+const SIZES: [(Order, Reply); 8] = [
+    (Order::AnyTime("duke", b'z', None, 26), Reply::Done),
+    (Order::Send("duke", b'N', 1_048_576), Reply::Number(1)),
+    (
+        Order::Send("duke", b'N', 1_048_577),
+        Reply::Refused(Refusal::TooLarge),
+    ),
+    (Order::Send("duke", b'N', 0), Reply::Number(2)),
+    (
+        Order::Send("unc", b'N', 1_048_577),
+        Reply::Refused(Refusal::TooLarge),
+    ),
+    (
+        Order::Send("unc", b'N', 0),
+        Reply::Refused(Refusal::NoSystem),
+    ),
+    (
+        Order::Execute("duke", 65),
+        Reply::Refused(Refusal::TooLarge),
+    ),
+    (Order::Execute("duke", 64), Reply::Number(3)),
+];
+
+fn expect_sizes(rt: &impl Abort, heads: &[JobHead]) {
     assert_eq!(rt; heads.len(), 3);
     assert_eq!(rt; heads[0].size, 1_048_576);
-    assert_eq!(rt;
-        machine.job(1).map(|job| job.bytes().len()),
-        Some(1_048_576)
-    );
-    assert!(rt; machine.job(4).is_none());
     match &heads[2].kind {
         Kind::Execute { arguments, .. } => assert_eq!(rt; arguments.as_slice().len(), 64),
         Kind::Send { .. } | Kind::Request { .. } => panic!(rt; "another kind"),
     }
-    Ok(())
 }
 
 #[test]
-fn regrading_keeps_the_number(rt: HostRuntime) -> Result<(), Fail> {
+fn sizes_of_jobs(rt: HostRuntime) {
     let alloc = rt.alloc();
     let mut machine = Machine::new(alloc);
-    expect_reply(
-        &rt,
-        alloc,
-        &mut machine,
-        any_time(&rt, alloc, "duke", b'z', None, 26)?,
-        Reply::Done,
-    )?;
-    expect_reply(
-        &rt,
-        alloc,
-        &mut machine,
-        send(alloc, "duke", b'a', 0)?,
-        Reply::Number(1),
-    )?;
-    expect_reply(
-        &rt,
-        alloc,
-        &mut machine,
-        send(alloc, "duke", b'N', 0)?,
-        Reply::Number(2),
-    )?;
-    expect_due(&rt, alloc, &machine, SUNDAY, [("duke", b'N', 2)].as_slice())?;
-    let regrade = Command::Regrade {
-        job: 1,
-        grade: Grade::parse(b'N')?,
-        by: by(alloc, "ann", false)?,
-    };
-    expect_reply(&rt, alloc, &mut machine, regrade, Reply::Done)?;
-    expect_due(&rt, alloc, &machine, SUNDAY, [("duke", b'N', 1)].as_slice())?;
+    expect_replies(&rt, alloc, &mut machine, SIZES.as_slice());
+    let heads = machine.heads(alloc).expect(&rt, "memory");
+    expect_sizes(&rt, heads.as_slice());
+    let first = machine.job(1).map(|job| job.bytes().len());
+    assert_eq!(rt; first, Some(1_048_576));
+    assert!(rt; machine.job(4).is_none());
+}
+
+const TWO_GRADES: [(Order, Reply); 3] = [
+    (Order::AnyTime("duke", b'z', None, 26), Reply::Done),
+    (Order::Send("duke", b'a', 0), Reply::Number(1)),
+    (Order::Send("duke", b'N', 0), Reply::Number(2)),
+];
+
+#[test]
+fn regrading_keeps_the_number(rt: HostRuntime) {
+    let alloc = rt.alloc();
+    let mut machine = Machine::new(alloc);
+    expect_replies(&rt, alloc, &mut machine, TWO_GRADES.as_slice());
+    expect_due(&rt, alloc, &machine, SUNDAY, [("duke", b'N', 2)].as_slice());
+    let regrade = [(Order::Regrade(1, b'N'), Reply::Done)];
+    expect_replies(&rt, alloc, &mut machine, regrade.as_slice());
+    expect_due(&rt, alloc, &machine, SUNDAY, [("duke", b'N', 1)].as_slice());
     assert_eq!(rt; machine.next(), 3);
-    Ok(())
 }
 
-#[test]
-fn digits_come_before_letters(rt: HostRuntime) -> Result<(), Fail> {
-    let alloc = rt.alloc();
-    let mut machine = Machine::new(alloc);
-    let grades = [b'z', b'a', b'9', b'A', b'0'];
-    let names = ["a", "b", "c", "d", "e"];
-    for (name, grade) in names.iter().zip(grades) {
-        let _ = machine.step(alloc, any_time(&rt, alloc, name, b'z', None, 26)?)?;
-        let _ = machine.step(alloc, send(alloc, name, grade, 0)?)?;
-    }
-    let expected = [
-        ("e", b'0', 5),
-        ("c", b'9', 3),
-        ("d", b'A', 4),
-        ("b", b'a', 2),
-        ("a", b'z', 1),
-    ];
-    expect_due(&rt, alloc, &machine, SUNDAY, expected.as_slice())
-}
+const FIVE_GRADES: [(Order, Reply); 10] = [
+    (Order::AnyTime("a", b'z', None, 26), Reply::Done),
+    (Order::Send("a", b'z', 0), Reply::Number(1)),
+    (Order::AnyTime("b", b'z', None, 26), Reply::Done),
+    (Order::Send("b", b'a', 0), Reply::Number(2)),
+    (Order::AnyTime("c", b'z', None, 26), Reply::Done),
+    (Order::Send("c", b'9', 0), Reply::Number(3)),
+    (Order::AnyTime("d", b'z', None, 26), Reply::Done),
+    (Order::Send("d", b'A', 0), Reply::Number(4)),
+    (Order::AnyTime("e", b'z', None, 26), Reply::Done),
+    (Order::Send("e", b'0', 0), Reply::Number(5)),
+];
+
+const BY_GRADE: [(&str, u8, u32); 5] = [
+    ("e", b'0', 5),
+    ("c", b'9', 3),
+    ("d", b'A', 4),
+    ("b", b'a', 2),
+    ("a", b'z', 1),
+];
 
 #[test]
-fn the_lower_grade_is_the_limit(rt: HostRuntime) -> Result<(), Fail> {
+fn digits_come_before_letters(rt: HostRuntime) {
     let alloc = rt.alloc();
     let mut machine = Machine::new(alloc);
+    expect_replies(&rt, alloc, &mut machine, FIVE_GRADES.as_slice());
+    expect_due(&rt, alloc, &machine, SUNDAY, BY_GRADE.as_slice());
+}
+
+// All week for each grade, and in working hours for grade C and above.
+fn two_lines(rt: &impl Abort, alloc: Global) -> Command {
     let working_hours = [
         (1980, 2460),
         (3420, 3900),
@@ -290,140 +154,96 @@ fn the_lower_grade_is_the_limit(rt: HostRuntime) -> Result<(), Fail> {
         (6300, 6780),
         (7740, 8220),
     ];
+    let all_week = line(rt, alloc, b'z', [(0, 10_079)].as_slice(), Some(30));
     let mut lines = Vec::new(alloc);
-    lines.push(line(&rt, alloc, b'z', [(0, 10_079)].as_slice(), Some(30))?)?;
-    lines.push(line(&rt, alloc, b'C', working_hours.as_slice(), Some(5))?)?;
-    expect_reply(
-        &rt,
-        alloc,
-        &mut machine,
-        define(&rt, alloc, "duke", lines, 26)?,
-        Reply::Done,
-    )?;
-    expect_reply(
-        &rt,
-        alloc,
-        &mut machine,
-        failed(alloc, "duke", MONDAY)?,
-        Reply::Done,
-    )?;
-    let rows = machine.systems();
-    assert_eq!(rt; rows.len(), 1);
-    assert_eq!(rt; rows[0].call.failures, 1);
-    assert_eq!(rt; rows[0].call.wait, 1800);
-    assert_eq!(rt; rows[0].call.last, MONDAY);
-    match &rows[0].call.outcome {
-        Outcome::Failed(why) => assert_eq!(rt; why.as_str(), "busy"),
+    lines.push(all_week).expect(rt, "memory");
+    let often = line(rt, alloc, b'C', working_hours.as_slice(), Some(5));
+    lines.push(often).expect(rt, "memory");
+    define(rt, alloc, "duke", lines, 26)
+}
+
+fn expect_why(rt: &impl Abort, outcome: &Outcome, expected: &str) {
+    match outcome {
+        Outcome::Failed(why) => assert_eq!(rt; why.as_str(), expected),
         Outcome::Never | Outcome::Done => panic!(rt; "another outcome"),
     }
-    assert_eq!(rt;
-        limit(rows[0].def.lines(), 2040).map(|grade| grade.as_byte()),
-        Some(b'z')
-    );
-    Ok(())
+}
+
+fn expect_call(rt: &impl Abort, row: &SystemRow, expected: (u32, u64, u64)) {
+    let call = &row.call;
+    assert_eq!(rt; (call.failures, call.wait, call.last), expected);
 }
 
 #[test]
-fn a_call_ends_the_waits(rt: HostRuntime) -> Result<(), Fail> {
+fn the_lower_grade_is_the_limit(rt: HostRuntime) {
     let alloc = rt.alloc();
     let mut machine = Machine::new(alloc);
-    expect_reply(
-        &rt,
-        alloc,
-        &mut machine,
-        any_time(&rt, alloc, "duke", b'z', None, 26)?,
-        Reply::Done,
-    )?;
-    for wait in [600, 1200, 2400, 4800, 9600, 19_200, 38_400, 76_800, 86_400] {
-        expect_reply(
-            &rt,
-            alloc,
-            &mut machine,
-            failed(alloc, "duke", SUNDAY)?,
-            Reply::Done,
-        )?;
-        assert_eq!(rt; machine.systems().len(), 1);
-        assert_eq!(rt; machine.systems()[0].call.wait, wait);
+    let both = two_lines(&rt, alloc);
+    expect_reply(&rt, alloc, &mut machine, both, Reply::Done);
+    let fails = [(Order::Failed("duke", MONDAY), Reply::Done)];
+    expect_replies(&rt, alloc, &mut machine, fails.as_slice());
+    let rows = machine.systems();
+    assert_eq!(rt; rows.len(), 1);
+    expect_call(&rt, &rows[0], (1, 1800, MONDAY));
+    expect_why(&rt, &rows[0].call.outcome, "busy");
+    let lowest = limit(rows[0].def.lines(), 2040).map(|grade| grade.as_byte());
+    assert_eq!(rt; lowest, Some(b'z'));
+}
+
+// The order is carried out, and leaves the one system with these failures, this wait and this second of its last call.
+fn expect_calls_after(
+    rt: &impl Abort,
+    alloc: Global,
+    machine: &mut Machine,
+    order: Order,
+    expected: (u32, u64, u64),
+) {
+    expect_replies(rt, alloc, machine, [(order, Reply::Done)].as_slice());
+    let rows = machine.systems();
+    assert_eq!(rt; rows.len(), 1);
+    expect_call(rt, &rows[0], expected);
+}
+
+#[test]
+fn a_call_ends_the_waits(rt: HostRuntime) {
+    let alloc = rt.alloc();
+    let mut machine = Machine::new(alloc);
+    let again = Order::Failed("duke", SUNDAY);
+    for (order, expected) in [
+        (Order::AnyTime("duke", b'z', None, 26), (0, 0, 0)),
+        (again, (1, 600, SUNDAY)),
+        (again, (2, 1200, SUNDAY)),
+        (again, (3, 2400, SUNDAY)),
+        (again, (4, 4800, SUNDAY)),
+        (again, (5, 9600, SUNDAY)),
+        (again, (6, 19_200, SUNDAY)),
+        (again, (7, 38_400, SUNDAY)),
+        (again, (8, 76_800, SUNDAY)),
+        (again, (9, 86_400, SUNDAY)),
+        // A new definition keeps the calls.
+        (Order::AnyTime("duke", b'C', None, 26), (9, 86_400, SUNDAY)),
+        (Order::Called("duke"), (0, 0, MONDAY)),
+    ] {
+        expect_calls_after(&rt, alloc, &mut machine, order, expected);
     }
-    // A new definition keeps the calls.
-    expect_reply(
-        &rt,
-        alloc,
-        &mut machine,
-        any_time(&rt, alloc, "duke", b'C', None, 26)?,
-        Reply::Done,
-    )?;
-    assert_eq!(rt; machine.systems().len(), 1);
-    assert_eq!(rt; machine.systems()[0].call.failures, 9);
-    expect_reply(
-        &rt,
-        alloc,
-        &mut machine,
-        done(alloc, "duke", [].as_slice())?,
-        Reply::Done,
-    )?;
-    assert_eq!(rt; machine.systems().len(), 1);
-    let call = &machine.systems()[0].call;
-    assert_eq!(rt; (call.failures, call.wait, call.last), (0, 0, MONDAY));
-    Ok(())
 }
 
-fn four_jobs(rt: &impl Abort, alloc: Global) -> Result<Machine, Fail> {
-    let mut machine = Machine::new(alloc);
-    let kill = Command::Kill {
-        job: 4,
-        by: by(alloc, "ann", false)?,
-    };
-    expect_reply(
-        rt,
-        alloc,
-        &mut machine,
-        any_time(rt, alloc, "unc", b'z', None, 26)?,
-        Reply::Done,
-    )?;
-    expect_reply(
-        rt,
-        alloc,
-        &mut machine,
-        any_time(rt, alloc, "duke", b'z', None, 26)?,
-        Reply::Done,
-    )?;
-    expect_reply(
-        rt,
-        alloc,
-        &mut machine,
-        send(alloc, "duke", b'N', 0)?,
-        Reply::Number(1),
-    )?;
-    expect_reply(
-        rt,
-        alloc,
-        &mut machine,
-        send(alloc, "duke", b'N', 0)?,
-        Reply::Number(2),
-    )?;
-    expect_reply(
-        rt,
-        alloc,
-        &mut machine,
-        send(alloc, "unc", b'N', 0)?,
-        Reply::Number(3),
-    )?;
-    expect_reply(
-        rt,
-        alloc,
-        &mut machine,
-        send(alloc, "duke", b'N', 0)?,
-        Reply::Number(4),
-    )?;
-    expect_reply(rt, alloc, &mut machine, kill, Reply::Done)?;
-    Ok(machine)
-}
+// Job 4 of four is killed.
+const FOUR_JOBS: [(Order, Reply); 7] = [
+    (Order::AnyTime("unc", b'z', None, 26), Reply::Done),
+    (Order::AnyTime("duke", b'z', None, 26), Reply::Done),
+    (Order::Send("duke", b'N', 0), Reply::Number(1)),
+    (Order::Send("duke", b'N', 0), Reply::Number(2)),
+    (Order::Send("unc", b'N', 0), Reply::Number(3)),
+    (Order::Send("duke", b'N', 0), Reply::Number(4)),
+    (Order::Kill(4, "ann", false), Reply::Done),
+];
 
 #[test]
-fn refused_reports_leave_the_jobs(rt: HostRuntime) -> Result<(), Fail> {
+fn refused_reports_leave_the_jobs(rt: HostRuntime) {
     let alloc = rt.alloc();
-    let mut machine = four_jobs(&rt, alloc)?;
+    let mut machine = Machine::new(alloc);
+    expect_replies(&rt, alloc, &mut machine, FOUR_JOBS.as_slice());
     let many = [1; 257];
     for (numbers, refusal) in [
         ([1, 1].as_slice(), Refusal::JobTwice),
@@ -431,175 +251,116 @@ fn refused_reports_leave_the_jobs(rt: HostRuntime) -> Result<(), Fail> {
         ([1, 4].as_slice(), Refusal::NoJob),
         (many.as_slice(), Refusal::TooLarge),
     ] {
-        expect_reply(
-            &rt,
-            alloc,
-            &mut machine,
-            done(alloc, "duke", numbers)?,
-            Reply::Refused(refusal),
-        )?;
-        assert_eq!(rt; machine.heads(alloc)?.len(), 3);
+        let report = done(&rt, alloc, "duke", numbers);
+        expect_reply(&rt, alloc, &mut machine, report, Reply::Refused(refusal));
+        assert_eq!(rt; machine.heads(alloc).expect(&rt, "memory").len(), 3);
     }
-    Ok(())
 }
 
+const REFUSED_USERS: [(Order, Reply); 8] = [
+    (
+        Order::Kill(1, "bob", false),
+        Reply::Refused(Refusal::NotYours),
+    ),
+    (Order::Kill(1, "ann", false), Reply::Done),
+    (Order::Kill(2, "root", true), Reply::Done),
+    (Order::Kill(7, "root", true), Reply::Refused(Refusal::NoJob)),
+    (Order::Remove("unc"), Reply::Refused(Refusal::Busy)),
+    (Order::Remove("phs"), Reply::Refused(Refusal::NoSystem)),
+    (
+        Order::Failed("phs", MONDAY),
+        Reply::Refused(Refusal::NoSystem),
+    ),
+    (Order::Called("phs"), Reply::Refused(Refusal::NoSystem)),
+];
+
 #[test]
-fn refused_users_and_systems(rt: HostRuntime) -> Result<(), Fail> {
+fn refused_users_and_systems(rt: HostRuntime) {
     let alloc = rt.alloc();
-    let mut machine = four_jobs(&rt, alloc)?;
-    for (job, user, admin, reply) in [
-        (1, "bob", false, Reply::Refused(Refusal::NotYours)),
-        (1, "ann", false, Reply::Done),
-        (2, "root", true, Reply::Done),
-        (7, "root", true, Reply::Refused(Refusal::NoJob)),
-    ] {
-        let kill = Command::Kill {
-            job,
-            by: by(alloc, user, admin)?,
-        };
-        expect_reply(&rt, alloc, &mut machine, kill, reply)?;
-    }
-    let unknown = Reply::Refused(Refusal::NoSystem);
-    let remove = Command::Remove(SiteName::parse(alloc, "unc")?);
-    expect_reply(
-        &rt,
-        alloc,
-        &mut machine,
-        remove,
-        Reply::Refused(Refusal::Busy),
-    )?;
-    let remove = Command::Remove(SiteName::parse(alloc, "phs")?);
-    expect_reply(&rt, alloc, &mut machine, remove, unknown)?;
-    let call = failed(alloc, "phs", MONDAY)?;
-    expect_reply(&rt, alloc, &mut machine, call, unknown)?;
-    let call = done(alloc, "phs", [].as_slice())?;
-    expect_reply(&rt, alloc, &mut machine, call, unknown)?;
-    assert_eq!(rt; machine.heads(alloc)?.len(), 1);
-    assert_eq!(rt; machine.systems().len(), 2);
-    let first = &machine.systems()[0].def;
+    let mut machine = Machine::new(alloc);
+    expect_replies(&rt, alloc, &mut machine, FOUR_JOBS.as_slice());
+    expect_replies(&rt, alloc, &mut machine, REFUSED_USERS.as_slice());
+    assert_eq!(rt; machine.heads(alloc).expect(&rt, "memory").len(), 1);
+    let rows = machine.systems();
+    assert_eq!(rt; rows.len(), 2);
+    let first = &rows[0].def;
     assert_eq!(rt; first.name.as_str(), "duke");
-    Ok(())
 }
 
+const HELD_AND_LOW: [(Order, Reply); 8] = [
+    (Order::AnyTime("duke", b'C', None, 26), Reply::Done),
+    (Order::AnyTime("unc", b'z', None, 26), Reply::Done),
+    (Order::Never("phs"), Reply::Done),
+    (Order::Send("duke", b'a', 0), Reply::Number(1)),
+    (Order::Send("duke", b'B', 0), Reply::Number(2)),
+    (Order::Send("unc", b'z', 0), Reply::Number(3)),
+    (Order::Send("unc", b'9', 0), Reply::Number(4)),
+    (Order::Send("phs", b'0', 0), Reply::Number(5)),
+];
+
 #[test]
-fn held_systems_and_low_grades(rt: HostRuntime) -> Result<(), Fail> {
+fn held_systems_and_low_grades(rt: HostRuntime) {
     let alloc = rt.alloc();
     let mut machine = Machine::new(alloc);
-    expect_reply(
-        &rt,
-        alloc,
-        &mut machine,
-        any_time(&rt, alloc, "duke", b'C', None, 26)?,
-        Reply::Done,
-    )?;
-    expect_reply(
-        &rt,
-        alloc,
-        &mut machine,
-        any_time(&rt, alloc, "unc", b'z', None, 26)?,
-        Reply::Done,
-    )?;
-    expect_reply(
-        &rt,
-        alloc,
-        &mut machine,
-        define(&rt, alloc, "phs", Vec::new(alloc), 26)?,
-        Reply::Done,
-    )?;
-    for (system, grade, number) in [
-        ("duke", b'a', 1),
-        ("duke", b'B', 2),
-        ("unc", b'z', 3),
-        ("unc", b'9', 4),
-        ("phs", b'0', 5),
+    expect_replies(&rt, alloc, &mut machine, HELD_AND_LOW.as_slice());
+    let both = [("unc", b'9', 4), ("duke", b'B', 2)];
+    expect_due(&rt, alloc, &machine, SUNDAY, both.as_slice());
+    for (order, dues) in [
+        (Order::Failed("unc", SUNDAY), [("duke", b'B', 2)].as_slice()),
+        (Order::Kill(2, "root", true), [].as_slice()),
     ] {
-        expect_reply(
-            &rt,
-            alloc,
-            &mut machine,
-            send(alloc, system, grade, 0)?,
-            Reply::Number(number),
-        )?;
+        expect_replies(&rt, alloc, &mut machine, [(order, Reply::Done)].as_slice());
+        expect_due(&rt, alloc, &machine, SUNDAY, dues);
     }
-    expect_due(
-        &rt,
-        alloc,
-        &machine,
-        SUNDAY,
-        [("unc", b'9', 4), ("duke", b'B', 2)].as_slice(),
-    )?;
-    expect_reply(
-        &rt,
-        alloc,
-        &mut machine,
-        failed(alloc, "unc", SUNDAY)?,
-        Reply::Done,
-    )?;
-    expect_due(&rt, alloc, &machine, SUNDAY, [("duke", b'B', 2)].as_slice())?;
-    let kill = Command::Kill {
-        job: 2,
-        by: by(alloc, "root", true)?,
-    };
-    expect_reply(&rt, alloc, &mut machine, kill, Reply::Done)?;
-    expect_due(&rt, alloc, &machine, SUNDAY, [].as_slice())?;
-    expect_due(
-        &rt,
-        alloc,
-        &machine,
-        SUNDAY + 600,
-        [("unc", b'9', 4)].as_slice(),
-    )
+    let later = [("unc", b'9', 4)];
+    expect_due(&rt, alloc, &machine, SUNDAY + 600, later.as_slice());
+}
+
+// The order is carried out, and then job 1 counts as handed in at this second.
+fn expect_queued_after(
+    rt: &impl Abort,
+    alloc: Global,
+    machine: &mut Machine,
+    orders: &[(Order, Reply)],
+    second: u64,
+) {
+    expect_replies(rt, alloc, machine, orders);
+    let queued = machine.job(1).map(|job| job.head().queued);
+    assert_eq!(rt; queued, Some(second));
+}
+
+const ONE_JOB: [(Order, Reply); 2] = [
+    (Order::AnyTime("duke", b'z', None, 26), Reply::Done),
+    (Order::Send("duke", b'N', 3), Reply::Number(1)),
+];
+
+#[test]
+fn rejuvenated_jobs(rt: HostRuntime) {
+    let alloc = rt.alloc();
+    let mut machine = Machine::new(alloc);
+    expect_queued_after(&rt, alloc, &mut machine, ONE_JOB.as_slice(), SUNDAY);
+    let rejuvenate = [(Order::Rejuvenate(1), Reply::Done)];
+    expect_queued_after(&rt, alloc, &mut machine, rejuvenate.as_slice(), MONDAY);
+}
+
+fn expect_entry(rt: &impl Abort, machine: &Machine, host: &SiteName, text: &str) {
+    let kept = machine.entry(host).expect(rt, "the entry");
+    assert_eq!(rt; kept.host().as_str(), host.as_str());
+    assert_eq!(rt; kept.bytes(), text.as_bytes());
 }
 
 #[test]
-fn rejuvenated_jobs(rt: HostRuntime) -> Result<(), Fail> {
+fn entries_are_replaced_whole(rt: HostRuntime) {
     let alloc = rt.alloc();
+    let unc = site(&rt, alloc, "unc");
+    let duke = site(&rt, alloc, "duke");
     let mut machine = Machine::new(alloc);
-    expect_reply(
-        &rt,
-        alloc,
-        &mut machine,
-        any_time(&rt, alloc, "duke", b'z', None, 26)?,
-        Reply::Done,
-    )?;
-    expect_reply(
-        &rt,
-        alloc,
-        &mut machine,
-        send(alloc, "duke", b'N', 3)?,
-        Reply::Number(1),
-    )?;
-    assert_eq!(rt; machine.job(1).map(|job| job.head().queued), Some(SUNDAY));
-    let rejuvenate = Command::Rejuvenate {
-        job: 1,
-        at: Moment::new(MONDAY, 0)?,
-        by: by(alloc, "ann", false)?,
-    };
-    expect_reply(&rt, alloc, &mut machine, rejuvenate, Reply::Done)?;
-    assert_eq!(rt; machine.job(1).map(|job| job.head().queued), Some(MONDAY));
-    Ok(())
-}
-
-#[test]
-fn entries_are_replaced_whole(rt: HostRuntime) -> Result<(), Fail> {
-    let alloc = rt.alloc();
-    let mut machine = Machine::new(alloc);
-    let unc = SiteName::parse(alloc, "unc")?;
     for text in ["#N unc\nunc duke(5)\n", "#N unc\nunc phs(7/2)\n"] {
-        let entry = Command::Entry(Listed::from_vec(text.as_bytes().to_vec(alloc)?));
-        expect_reply(&rt, alloc, &mut machine, entry, Reply::Done)?;
-        let kept = machine.entry(&unc).expect(&rt, "the entry");
-        assert_eq!(rt; kept.host().as_str(), "unc");
-        assert_eq!(rt; kept.bytes(), text.as_bytes());
+        let entry = [(Order::Entry(text), Reply::Done)];
+        expect_replies(&rt, alloc, &mut machine, entry.as_slice());
+        expect_entry(&rt, &machine, &unc, text);
     }
-    let entry = Command::Entry(Listed::from_vec(b"#N a*b\n".as_slice().to_vec(alloc)?));
-    expect_reply(
-        &rt,
-        alloc,
-        &mut machine,
-        entry,
-        Reply::Refused(Refusal::BadEntry),
-    )?;
-    assert!(rt; machine.entry(&SiteName::parse(alloc, "duke")?).is_none());
-    Ok(())
+    let bad = [(Order::Entry("#N a*b\n"), Reply::Refused(Refusal::BadEntry))];
+    expect_replies(&rt, alloc, &mut machine, bad.as_slice());
+    assert!(rt; machine.entry(&duke).is_none());
 }

@@ -180,23 +180,34 @@ fn is_system(said: &Said) -> bool {
     matches!(said, Said::System(_))
 }
 
-// The timetable that lines define under a name in lower case, or that is there from the start.
-fn known(alloc: Global, before: &[Said], name: &str) -> Result<Option<Vec<bool>>, AllocError> {
+// The timetable that lines define under a name in lower case.
+fn defined<'a>(before: &'a [Said], name: &str) -> Option<&'a Vec<bool>> {
     for said in before {
         if let Said::Table(other, minutes) = said {
             if other.as_str() == name {
-                return Ok(Some(minutes.clone()?));
+                return Some(minutes);
             }
         }
     }
+    None
+}
+
+// The timetable that is there from the start under a name in lower case.
+fn predefined(name: &str) -> Option<&'static str> {
     for (other, text) in PREDEFINED {
         if other == name {
-            if let Some(simples) = list(alloc, text)? {
-                return Ok(Some(table(alloc, &simples)?));
-            }
+            return Some(text);
         }
     }
-    Ok(None)
+    None
+}
+
+// Of each minute of the week whether a list of simple strings has it.
+fn table_of_list(alloc: Global, text: &str) -> Result<Option<Vec<bool>>, AllocError> {
+    match list(alloc, text)? {
+        None => Ok(None),
+        Some(simples) => Ok(Some(table(alloc, &simples)?)),
+    }
 }
 
 /// Of each minute of the week whether a time string on a line has it, behind other lines.
@@ -207,15 +218,24 @@ pub fn minutes(
     text: &str,
 ) -> Result<Vec<bool>, TimeFault> {
     let text = text.to_ascii_lowercase(alloc)?;
-    if text.as_str() == "never" {
+    lower_case_minutes(alloc, before, line, &text)
+}
+
+fn lower_case_minutes(
+    alloc: Global,
+    before: &[Said],
+    line: u32,
+    text: &str,
+) -> Result<Vec<bool>, TimeFault> {
+    if text == "never" {
         return Ok(table(alloc, &[])?);
     }
-    if let Some(minutes) = known(alloc, before, &text)? {
-        return Ok(minutes);
+    if let Some(minutes) = defined(before, text) {
+        return Ok(minutes.clone()?);
     }
-    match list(alloc, &text)? {
-        Some(simples) => Ok(table(alloc, &simples)?),
-        None => Err(string_fault(alloc, line, &text)?),
+    match table_of_list(alloc, predefined(text).unwrap_or(text))? {
+        Some(minutes) => Ok(minutes),
+        None => Err(string_fault(alloc, line, text)?),
     }
 }
 
@@ -259,6 +279,14 @@ fn time_line(
         None => 0,
         Some(text) => number(line, 525_600, text)?,
     };
+    if time_lines(before) >= 32 {
+        return Err(TimeFault::TooManyLines(line));
+    }
+    Ok(Said::Time(shown_line(alloc, grade, retry, &minutes)?))
+}
+
+// How many time lines the last section has.
+fn time_lines(before: &[Said]) -> usize {
     let mut count = 0usize;
     for said in before {
         match said {
@@ -267,13 +295,19 @@ fn time_line(
             _ => {}
         }
     }
-    if count >= 32 {
-        return Err(TimeFault::TooManyLines(line));
-    }
+    count
+}
+
+fn shown_line(
+    alloc: Global,
+    grade: &str,
+    retry: u32,
+    minutes: &[bool],
+) -> Result<String, AllocError> {
     let mut shown = String::new(alloc);
     write!(shown, " {} {}:", grade, retry)?;
-    show_runs(&mut shown, &minutes)?;
-    Ok(Said::Time(shown))
+    show_runs(&mut shown, minutes)?;
+    Ok(shown)
 }
 
 fn system(alloc: Global, before: &[Said], line: u32, name: &str) -> Result<Said, TimeFault> {
@@ -319,8 +353,7 @@ fn said_by(
     keyword: &str,
     arguments: &[&str],
 ) -> Result<Said, TimeFault> {
-    let keyword = keyword.to_ascii_lowercase(alloc)?;
-    match (keyword.as_str(), arguments) {
+    match (keyword, arguments) {
         ("system", [name]) => system(alloc, before, line, name),
         ("system", _) => Err(TimeFault::BadSystem(line)),
         ("time", [text]) => time_line(alloc, before, line, "z", text, None),
@@ -338,29 +371,55 @@ fn said_by(
     }
 }
 
-// What the lines of a text say. Two bytes that no text here has stand for a joined end and for a `#` that begins no comment.
-fn all_said(alloc: Global, text: &str) -> Result<Vec<Said>, TimeFault> {
+// A text in which one byte that no text here has stands for a joined end.
+fn with_joined_ends(alloc: Global, text: &str) -> Result<String, AllocError> {
     let text = text.replace(alloc, "\r\n", "\n")?;
     let text = text.replace(alloc, '\t', " ")?;
     let text = text.replace(alloc, "\\\n", "\u{1}")?;
-    let text = text.strip_suffix('\\').unwrap_or(&text);
+    String::from_str(alloc, text.strip_suffix('\\').unwrap_or(&text))
+}
+
+// A joined line without its comment. Another byte that no text here has stands for a `#` that begins none.
+fn without_comment(alloc: Global, joined: &str) -> Result<String, AllocError> {
+    let line = joined.replace(alloc, '\u{1}', "")?;
+    let line = line.replace(alloc, "\\#", "\u{2}")?;
+    let line = line.split('#').next().unwrap_or("");
+    line.replace(alloc, '\u{2}', "#")
+}
+
+fn words_of(alloc: Global, line: &str) -> Result<Vec<&str>, AllocError> {
+    let mut words = Vec::new(alloc);
+    for word in line.split(' ') {
+        if !word.is_empty() {
+            words.push(word)?;
+        }
+    }
+    Ok(words)
+}
+
+fn push_said(
+    alloc: Global,
+    all: &mut Vec<Said>,
+    number: u32,
+    words: &[&str],
+) -> Result<(), TimeFault> {
+    if let [keyword, arguments @ ..] = words {
+        let keyword = keyword.to_ascii_lowercase(alloc)?;
+        let said = said_by(alloc, all.as_slice(), number, &keyword, arguments)?;
+        all.push(said)?;
+    }
+    Ok(())
+}
+
+// What the lines of a text say.
+fn all_said(alloc: Global, text: &str) -> Result<Vec<Said>, TimeFault> {
+    let text = with_joined_ends(alloc, text)?;
     let mut all = Vec::new(alloc);
     let mut number = 1u32;
     for joined in text.split('\n') {
-        let line = joined.replace(alloc, '\u{1}', "")?;
-        let line = line.replace(alloc, "\\#", "\u{2}")?;
-        let line = line.split('#').next().unwrap_or("");
-        let line = line.replace(alloc, '\u{2}', "#")?;
-        let mut words = Vec::new(alloc);
-        for word in line.split(' ') {
-            if !word.is_empty() {
-                words.push(word)?;
-            }
-        }
-        if let [keyword, arguments @ ..] = words.as_slice() {
-            let said = said_by(alloc, &all, number, keyword, arguments)?;
-            all.push(said)?;
-        }
+        let line = without_comment(alloc, joined)?;
+        let words = words_of(alloc, &line)?;
+        push_said(alloc, &mut all, number, &words)?;
         for _ in joined.split('\u{1}') {
             number = number.saturating_add(1);
         }
@@ -382,28 +441,39 @@ fn part(alloc: Global, section: &[Said]) -> Result<(String, Option<u32>), AllocE
     Ok((lines, retries))
 }
 
-/// What a sys file says, as it is shown.
-pub fn file(alloc: Global, text: &str) -> Result<String, TimeFault> {
-    let all = all_said(alloc, text)?;
+fn show_system(
+    alloc: Global,
+    shown: &mut String,
+    name: &str,
+    section: &[Said],
+    default: (&str, Option<u32>),
+) -> Result<(), AllocError> {
+    let (lines, retries) = part(alloc, section)?;
+    let lines = if lines.is_empty() { default.0 } else { &lines };
+    let retries = retries.or(default.1).unwrap_or(26);
+    write!(shown, "{} {}:{}/", name, retries, lines)
+}
+
+fn show_said(alloc: Global, all: &[Said]) -> Result<String, AllocError> {
     let mut sections = all.split(|said| is_system(said));
-    let (default_lines, default_retries) = part(alloc, sections.next().unwrap_or(&[]))?;
+    let (lines, retries) = part(alloc, sections.next().unwrap_or(&[]))?;
     let mut shown = String::new(alloc);
-    for said in &all {
+    for said in all {
         if let Said::System(name) = said {
-            let (lines, retries) = part(alloc, sections.next().unwrap_or(&[]))?;
-            let lines = if lines.is_empty() {
-                &default_lines
-            } else {
-                &lines
-            };
-            let retries = retries.or(default_retries).unwrap_or(26);
-            write!(shown, "{} {}:{}/", name, retries, lines)?;
+            let section = sections.next().unwrap_or(&[]);
+            show_system(alloc, &mut shown, name, section, (&lines, retries))?;
         }
     }
-    for said in &all {
+    for said in all {
         if let Said::Skipped(line) = said {
             write!(shown, "skipped {}/", line)?;
         }
     }
     Ok(shown)
+}
+
+/// What a sys file says, as it is shown.
+pub fn file(alloc: Global, text: &str) -> Result<String, TimeFault> {
+    let all = all_said(alloc, text)?;
+    Ok(show_said(alloc, &all)?)
 }

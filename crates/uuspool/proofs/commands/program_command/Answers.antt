@@ -6,7 +6,11 @@ use Rattle.uuspool.proofs.commands.program_command.Goals as goal
 pub returns : goal.returns
 returns c =
     let top = λ (a : App). a.top in
-    let one = c.in_ok-subcommand.ensures.shape c.list_command.ensures.local
-    ∙ ap₂ with_subcommand c.in_ok-with_handing_in.ensures (ap top c.list_command.ensures.app) in
-    IfOk-weaker c.subcommand-2.result _ _ (λ command added. added.shape c.in_ok-show_command.ensures.local
-    ∙ ap₂ with_subcommand one (ap top c.in_ok-show_command.ensures.app)) c.subcommand-2.ensures
+    let one = c.in_ok-subcommand.ensures.shape c.in_ok-drop_command.ensures.local
+    ∙ ap₂ with_subcommand c.in_ok-with_questions.ensures (ap top c.in_ok-drop_command.ensures.app) in
+    let two = c.in_ok-subcommand-2.ensures.shape c.in_ok-job_command.ensures.local
+    ∙ ap₂ with_subcommand one (ap top c.in_ok-job_command.ensures.app) in
+    let three = c.in_ok-subcommand-3.ensures.shape c.in_ok-regrade_command.ensures.local
+    ∙ ap₂ with_subcommand two (ap top c.in_ok-regrade_command.ensures.app) in
+    IfOk-weaker c.subcommand-4.result _ _ (λ command added. added.shape c.in_ok-job_command-2.ensures.local
+    ∙ ap₂ with_subcommand three (ap top c.in_ok-job_command-2.ensures.app)) c.subcommand-4.ensures

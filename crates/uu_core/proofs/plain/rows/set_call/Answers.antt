@@ -1,8 +1,8 @@
-use Rattle.std.proofs.Common.{◌≡◌, ◌<◌, ◌∙◌, true, length, get_or, ap, sym, refl, arith}
+use Rattle.std.proofs.Common.{◌≡◌, ◌<◌, ◌≤◌, ◌∙◌, false, true, length, get_or, ap, sym, refl, arith}
 use Rattle.std.proofs.lemmas.List.{get_or_default}
 use Rattle.uu_core.specs.declared.system.SystemRow.{SystemRow}
 use Rattle.uu_core.specs.State.{is_system, same_text}
-use Rattle.uu_core.proofs.PlainLemmas.{call_set}
+use Rattle.uu_core.proofs.PlainLemmas.{call_set, no_call_set, all_of}
 use Rattle.uu_core.proofs.plain.rows.set_call.Goals as goal
 
 pub returns-then-eq : goal.returns-then-eq
@@ -19,6 +19,11 @@ returns-then-eq c =
     let same_row : row ≡ read = get_or_default rows i c.index-rows-i-then-eq.result c.index-rows-i.result inside in
     let named : c.name.result.now ≡ read.def.name = c.name.ensures in
     let asked : c.eq.result ≡ same_text c.name.result.now name = c.eq.ensures in
-    let own : is_system name (get_or all i row) ≡ true =
-    ap (λ (r : SystemRow). same_text r.def.name name) (sym here ∙ same_row) ∙ ap (λ n. same_text n name) (sym named) ∙ sym asked ∙ c.if-eq.true in
-    call_set name c.args.call rows all i row _ c.loop-i.invariant.same refl within here own c.loop-i.invariant.rest
+    let own : is_system name row ≡ true = ap (λ (r : SystemRow). same_text r.def.name name) same_row ∙ ap (λ n. same_text n name) (sym named) ∙ sym asked ∙ c.if-eq.true in
+    call_set name c.args.call rows all i row _ c.requires c.loop-i.invariant.passed c.loop-i.invariant.same refl within here own
+
+pub returns : goal.returns
+returns c =
+    let all = c.args.rows.now in
+    let past : length all ≤ c.loop-i.i = omega (arith, c.loop-i.auto.rows, c.loop-i-test.false) in
+    c.loop-i.invariant.same ∙ no_call_set c.args.name.now c.args.call all (all_of (λ (row : SystemRow). is_system c.args.name.now row ≡ false) all c.loop-i.i past c.loop-i.invariant.passed)

@@ -3,10 +3,10 @@ use Rattle.std.specs.List.{list_any}
 use Rattle.uu_core.specs.Refusal.{decided}
 use Rattle.uu_core.specs.State.{is_system, head_of}
 use Rattle.uu_core.specs.Verdict.{done_refusal}
-use Rattle.uu_core.specs.After.{done_call}
+use Rattle.uu_core.specs.After.{change_call, done_call}
 use Rattle.std.specs.Vec.{with_items}
 use Rattle.std.proofs.lemmas.List.{with_items_is}
-use Rattle.uu_core.specs.Plain.{state_of, with_call}
+use Rattle.uu_core.specs.Plain.{state_of}
 use Rattle.uu_core.proofs.PlainLemmas.{done_accepted}
 use Rattle.uu_core.proofs.plain.lists.Lists.done.Goals as goal
 
@@ -20,4 +20,4 @@ returns-in-Ok c =
     (c.in_ok-heads.ensures ∙ ap (map head_of) c.as_slice.ensures.value)
     (c.in-Ok.ensures ∙ ap (λ heads. decided (done_refusal c.has_system-known.result name numbers heads) (done_call c.args.at.now)) c.as_slice-3.ensures.value)
     c.drop_jobs.ensures
-    (with_items_is c.args.self.now.systems c.set_call.new.rows (omega (arith, c.set_call.auto.rows, c.as_mut_slice.ensures.len)) ∙ c.set_call.ensures ∙ ap (with_call name c.in-Ok.call) c.as_mut_slice.ensures.value)
+    (with_items_is c.args.self.now.systems c.set_call.new.rows (omega (arith, c.set_call.auto.rows, c.as_mut_slice.ensures.len)) ∙ c.set_call.ensures ∙ ap (change_call name (λ _. c.in-Ok.call)) c.as_mut_slice.ensures.value)

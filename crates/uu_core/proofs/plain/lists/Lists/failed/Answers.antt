@@ -3,7 +3,8 @@ use Rattle.std.specs.Option.{option_copied}
 use Rattle.uu_core.specs.State.{is_system}
 use Rattle.std.specs.Vec.{with_items}
 use Rattle.std.proofs.lemmas.List.{with_items_is}
-use Rattle.uu_core.specs.Plain.{state_of, with_call}
+use Rattle.uu_core.specs.After.{change_call}
+use Rattle.uu_core.specs.Plain.{state_of}
 use Rattle.uu_core.proofs.PlainLemmas.{failed_accepted, failed_refused}
 use Rattle.uu_core.proofs.plain.lists.Lists.failed.Goals as goal
 
@@ -14,7 +15,7 @@ returns-in-Ok c =
     c.requires
     (c.system_at.ensures ∙ ap (find (is_system name)) c.as_slice.ensures.value)
     c.in-Ok.ensures
-    (with_items_is c.args.self.now.systems c.set_call.new.rows (omega (arith, c.set_call.auto.rows, c.as_mut_slice.ensures.len)) ∙ c.set_call.ensures ∙ ap (with_call name c.in-Ok.call) c.as_mut_slice.ensures.value)
+    (with_items_is c.args.self.now.systems c.set_call.new.rows (omega (arith, c.set_call.auto.rows, c.as_mut_slice.ensures.len)) ∙ c.set_call.ensures ∙ ap (change_call name (λ _. c.in-Ok.call)) c.as_mut_slice.ensures.value)
 
 pub returns-in-Err : goal.returns-in-Err
 returns-in-Err c =
