@@ -44,6 +44,7 @@ impl<S: Alter> Spool<S> {
     pub fn release(self) -> Connection<S>
         ensures connection { result ≡ connection_of self }
         ensures idle { result.in_transaction ≡ false }
+        ensures stop { (s : _) → Shows self s → Leaves (state S.Store result) s }
     {
         let Spool { conn, failed: _ } = self;
         conn
