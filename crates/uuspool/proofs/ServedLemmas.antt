@@ -1,10 +1,13 @@
 -- What a line does, at equal tasks and seconds, and the faults of its task.
-use Rattle.std.proofs.Common.{◌≡◌, inl, ℕ, List, length, Result, Ok, Err, IfOk, ap, subst, sym}
+use Rattle.std.proofs.Common.{◌≡◌, Bool, inl, ℕ, List, length, Result, Ok, Err, IfOk, ap, subst, sym}
 use Rattle.uu_core.specs.State.{head_of}
 use Rattle.uu_core.specs.declared.job.JobHead.{JobHead}
 use Rattle.uu_store.specs.Encoded.{job_with}
 use Rattle.uu_store.specs.Machine.{State}
-use Rattle.uuspool.specs.Served.{IsDone, IsEarly, IsLate, IsTaskFault, IsToldOf}
+use Rattle.uu_store.specs.Spool.{Marks}
+use Rattle.uu_store.specs.declared.fault.StoreFault.{StoreFault}
+use Rattle.uu_store.specs.declared.fault.StoreFault.TheVariants as store
+use Rattle.uuspool.specs.Served.{IsDone, IsEarly, IsLate, IsOfCall, IsTaskFault, IsToldOf}
 use Rattle.clap.specs.Words.{Text}
 use Rattle.uuspool.specs.Lines.{IsAnswerTo}
 use Rattle.uuspool.specs.declared.line.CallLine.{CallLine}
@@ -67,3 +70,11 @@ told_words words now input (fault.Store why) answer = absurd answer
 told_words words now input fault.Read answer = absurd answer
 told_words words now input fault.Write answer = absurd answer
 told_words words now input fault.Memory answer = tt
+
+-- an open spool is never told as foreign or of a later version
+pub of_call : (before afterwards : Bool) (f : StoreFault) → Marks before afterwards f → IsOfCall f
+of_call before afterwards store.Memory marks = tt
+of_call before afterwards (store.Store kind) marks = tt
+of_call before afterwards store.Failed marks = tt
+of_call before afterwards store.Foreign marks = marks
+of_call before afterwards store.Newer marks = marks

@@ -19,6 +19,8 @@ use Rattle.uu_core.specs.declared.job.NewJob.{NewJob}
 use Rattle.uu_core.specs.declared.job.By.{By}
 use Rattle.uu_store.specs.declared.command.Command.{Command}
 use Rattle.uu_store.specs.declared.command.Command.TheVariants.{Remove, Queue, Kill, Regrade, Rejuvenate}
+use Rattle.uu_store.specs.declared.fault.StoreFault.{StoreFault}
+use Rattle.uu_store.specs.declared.fault.StoreFault.TheVariants as store
 use Rattle.uu_store.specs.Machine.{State, after, job_at, listed_heads, reply_of}
 use Rattle.uuspool.specs.Commands.{program}
 use Rattle.uuspool.specs.Lines.{IsAnswerTo, MeansLine, same_text, takes_input}
@@ -132,9 +134,17 @@ IsEarly fault.TwoSystems = ⊤
 IsEarly fault.Input = ⊤
 IsEarly _ = ⊥
 
+-- the faults of a spool that is open
+abbrev pub IsOfCall : StoreFault → Type 0
+IsOfCall store.Memory = ⊤
+IsOfCall (store.Store kind) = ⊤
+IsOfCall store.Failed = ⊤
+IsOfCall store.Foreign = ⊥
+IsOfCall store.Newer = ⊥
+
 -- the faults that come once the spool is asked
 abbrev pub IsLate : Fault → Type 0
-IsLate (fault.Store why) = ⊤
+IsLate (fault.Store why) = IsOfCall why
 IsLate fault.Write = ⊤
 IsLate fault.Memory = ⊤
 IsLate _ = ⊥
@@ -163,5 +173,5 @@ IsToldOf words now input fault.Input =
     (line : CallLine) × MeansLine words line × (¬ IsPast (second_of line now)) × IsTrue (takes_input line.task) × (INPUT_LIMIT < length input)
 IsToldOf words now input fault.Memory = ⊤
 IsToldOf words now input fault.Read = ⊥
-IsToldOf words now input (fault.Store why) = (line : CallLine) × IsUnderstood words now input line
+IsToldOf words now input (fault.Store why) = IsOfCall why × ((line : CallLine) × IsUnderstood words now input line)
 IsToldOf words now input fault.Write = (line : CallLine) × IsUnderstood words now input line
