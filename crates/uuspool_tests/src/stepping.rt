@@ -1,48 +1,28 @@
 // A stop at each call of a disk, in a list of commands of every kind. The spool that is opened afterwards is compared with the
 // plain machine: it shows what the machine holds after the commands that were answered, or after one more.
-use crate::stops::{FusedSpool, Place, files_of, fused_files, large, opened};
+use crate::stops::{
+    FusedFiles, Place, Work, crashed, files_of, fused_files, grade, is_kind, large, moment,
+    new_job, opened, reopened, site, system, word,
+};
 use sqlite::Alter;
-use sqlite_disk::Crash;
 use std::alloc::Global;
-use std::test::Fail;
+use std::process::Abort;
 use uu_core::plain::Machine;
 use uu_core::{By, JobHead, Kind, NewJob, Reply};
-use uu_map::Listed;
-use uu_names::{Grade, SiteName, Word};
 use uu_store::{Command, Filter, Spool, StoreFault};
-use uu_times::{Lines, Moment, SystemDef};
 
 /// How many steps the list has.
 const STEPS: u32 = 9;
 
-fn site(alloc: Global, name: &str) -> Result<SiteName, Fail> {
-    Ok(SiteName::parse(alloc, name)?)
+fn ann(rt: &impl Abort, alloc: Global) -> By {
+    let user = word(rt, alloc, "ann");
+    By { user, admin: false }
 }
 
-fn system(alloc: Global, name: &str) -> Result<SystemDef, Fail> {
-    let lines = Lines::new(Vec::new(alloc));
-    Ok(SystemDef::new(site(alloc, name)?, lines, 26).ok_or("no system")?)
-}
-
-fn ann(alloc: Global) -> Result<By, Fail> {
-    Ok(By {
-        user: Word::parse(alloc, "ann")?,
-        admin: false,
-    })
-}
-
-fn job(alloc: Global, name: &str, bytes: &[u8]) -> Result<NewJob, Fail> {
-    Ok(NewJob {
-        system: site(alloc, name)?,
-        grade: Grade::parse(b'N')?,
-        user: Word::parse(alloc, "ann")?,
-        kind: Kind::Send {
-            source: Word::parse(alloc, "/tmp/a")?,
-            target: Word::parse(alloc, "~/a")?,
-        },
-        bytes: Listed::from_vec(Vec::from_slice(alloc, bytes)?),
-        at: Moment::new(1_000_000_000, 0)?,
-    })
+/// A job with so many of these bytes.
+fn job(rt: &impl Abort, alloc: Global, name: &str, size: usize, bytes: &[u8]) -> NewJob {
+    let bytes = bytes.get(..size).unwrap_or(bytes);
+    new_job(rt, alloc, name, b'N', Work::Send, bytes)
 }
 
 /// What a step does.
@@ -71,64 +51,59 @@ fn step_of(number: u32) -> Step {
 }
 
 /// The step as a command of the spool.
-fn command(alloc: Global, step: Step, bytes: &[u8]) -> Result<Command, Fail> {
-    Ok(match step {
-        Step::Define(name) => Command::Define(system(alloc, name)?),
-        Step::Remove(name) => Command::Remove(site(alloc, name)?),
-        Step::Queue(name, size) => Command::Queue(job(
-            alloc,
-            name,
-            bytes.get(..size).unwrap_or(bytes),
-        )?),
-        Step::Regrade(job) => Command::Regrade {
-            job,
-            grade: Grade::parse(b'A')?,
-            by: ann(alloc)?,
-        },
-        Step::Rejuvenate(job) => Command::Rejuvenate {
-            job,
-            at: Moment::new(1_000_116_000, 0)?,
-            by: ann(alloc)?,
-        },
-        Step::Kill(job) => Command::Kill {
-            job,
-            by: ann(alloc)?,
-        },
-    })
+fn command(rt: &impl Abort, alloc: Global, step: Step, bytes: &[u8]) -> Command {
+    match step {
+        Step::Define(name) => Command::Define(system(rt, alloc, name)),
+        Step::Remove(name) => Command::Remove(site(rt, alloc, name)),
+        Step::Queue(name, size) => Command::Queue(job(rt, alloc, name, size, bytes)),
+        Step::Regrade(job) => regrade(rt, alloc, job),
+        Step::Rejuvenate(job) => rejuvenate(rt, alloc, job),
+        Step::Kill(job) => kill(rt, alloc, job),
+    }
 }
 
-/// The step as a command of the plain machine.
-fn plain(alloc: Global, step: Step, bytes: &[u8]) -> Result<uu_core::Command, Fail> {
-    Ok(match command(alloc, step, bytes)? {
+fn regrade(rt: &impl Abort, alloc: Global, job: u32) -> Command {
+    let grade = grade(rt, b'A');
+    let by = ann(rt, alloc);
+    Command::Regrade { job, grade, by }
+}
+
+fn rejuvenate(rt: &impl Abort, alloc: Global, job: u32) -> Command {
+    let at = moment(rt, 1_000_116_000);
+    let by = ann(rt, alloc);
+    Command::Rejuvenate { job, at, by }
+}
+
+fn kill(rt: &impl Abort, alloc: Global, job: u32) -> Command {
+    let by = ann(rt, alloc);
+    Command::Kill { job, by }
+}
+
+/// A command of the spool as one of the plain machine.
+fn plain(command: Command) -> uu_core::Command {
+    match command {
         Command::Define(system) => uu_core::Command::Define(system),
         Command::Remove(system) => uu_core::Command::Remove(system),
         Command::Queue(job) => uu_core::Command::Queue(job),
         Command::Regrade { job, grade, by } => uu_core::Command::Regrade { job, grade, by },
         Command::Rejuvenate { job, at, by } => uu_core::Command::Rejuvenate { job, at, by },
         Command::Kill { job, by } => uu_core::Command::Kill { job, by },
-    })
+    }
+}
+
+/// What the plain machine replies to a step.
+fn reply(rt: &impl Abort, alloc: Global, machine: &mut Machine, step: Step, bytes: &[u8]) -> Reply {
+    let command = plain(command(rt, alloc, step, bytes));
+    machine.step(alloc, command).expect(rt, "memory")
 }
 
 /// The plain machine after so many steps.
-fn machine_after(alloc: Global, steps: u32, bytes: &[u8]) -> Result<Machine, Fail> {
+fn machine_after(rt: &impl Abort, alloc: Global, steps: u32, bytes: &[u8]) -> Machine {
     let mut machine = Machine::new(alloc);
     for number in 1..=steps {
-        let _reply = machine.step(alloc, plain(alloc, step_of(number), bytes)?)?;
+        let _reply = reply(rt, alloc, &mut machine, step_of(number), bytes);
     }
-    Ok(machine)
-}
-
-fn is_same_kind(a: &Kind, b: &Kind) -> bool {
-    match (a, b) {
-        (
-            Kind::Send { source, target },
-            Kind::Send {
-                source: other,
-                target: place,
-            },
-        ) => source.as_str() == other.as_str() && target.as_str() == place.as_str(),
-        _ => false,
-    }
+    machine
 }
 
 fn is_same_head(a: &JobHead, b: &JobHead) -> bool {
@@ -136,148 +111,230 @@ fn is_same_head(a: &JobHead, b: &JobHead) -> bool {
         && a.system.as_str() == b.system.as_str()
         && a.grade.as_byte() == b.grade.as_byte()
         && a.user.as_str() == b.user.as_str()
-        && is_same_kind(&a.kind, &b.kind)
+        && is_kind(Work::Send, &a.kind)
+        && is_kind(Work::Send, &b.kind)
         && a.queued == b.queued
         && a.size == b.size
 }
 
-/// Whether the spool shows what the machine holds, by every question.
-fn shows<S: Alter>(alloc: Global, spool: &mut Spool<S>, machine: &Machine) -> Result<bool, Fail> {
-    let heads = spool.jobs(alloc, &Filter::all())?;
-    let plain = machine.heads(alloc)?;
-    if heads.len() != plain.len() || spool.next()? != machine.next() {
-        return Ok(false);
+fn has_bytes(machine: &Machine, number: u32, bytes: &[u8]) -> bool {
+    match machine.job(number) {
+        Some(job) => job.bytes() == bytes,
+        None => false,
     }
-    for head in plain.as_slice() {
-        let Some((kept, bytes)) = spool.job(alloc, head.number)? else {
-            return Ok(false);
-        };
-        let Some(job) = machine.job(head.number) else {
-            return Ok(false);
-        };
-        if !is_same_head(&kept, head) || bytes.as_slice() != job.bytes() {
-            return Ok(false);
-        }
-    }
-    Ok(true)
 }
 
-/// The systems that both may know.
-const SYSTEMS: [&str; 2] = ["duke", "unc"];
+/// Whether the spool shows the machine's job of this head, whole.
+fn shows_job<S: Alter>(
+    rt: &impl Abort,
+    alloc: Global,
+    spool: &mut Spool<S>,
+    machine: &Machine,
+    head: &JobHead,
+) -> bool {
+    match spool.job(alloc, head.number).expect(rt, "an answer") {
+        Some((kept, bytes)) => is_same_head(&kept, head) && has_bytes(machine, head.number, &bytes),
+        None => false,
+    }
+}
+
+/// How many jobs the spool lists.
+fn listed<S: Alter>(rt: &impl Abort, alloc: Global, spool: &mut Spool<S>) -> usize {
+    spool.jobs(alloc, &Filter::all()).expect(rt, "a list").len()
+}
+
+/// Whether the spool shows what the machine holds, by every question.
+fn shows<S: Alter>(
+    rt: &impl Abort,
+    alloc: Global,
+    spool: &mut Spool<S>,
+    machine: &Machine,
+) -> bool {
+    if spool.next().expect(rt, "a number") != machine.next() {
+        return false;
+    }
+    let heads = machine.heads(alloc).expect(rt, "memory");
+    if listed(rt, alloc, spool) != heads.len() {
+        return false;
+    }
+    for head in heads.as_slice() {
+        if !shows_job(rt, alloc, spool, machine, head) {
+            return false;
+        }
+    }
+    true
+}
+
+/// Whether the spool shows what the machine holds after so many steps.
+fn shows_after<S: Alter>(
+    rt: &impl Abort,
+    alloc: Global,
+    spool: &mut Spool<S>,
+    steps: u32,
+    bytes: &[u8],
+) -> bool {
+    let machine = machine_after(rt, alloc, steps, bytes);
+    shows(rt, alloc, spool, &machine)
+}
+
+/// The last steps of a spool, by which it tells which of the two systems it knows.
+const REMOVALS: [Step; 2] = [Step::Remove("duke"), Step::Remove("unc")];
+
+fn given<S: Alter>(rt: &impl Abort, alloc: Global, spool: &mut Spool<S>, step: Step) -> Reply {
+    let command = command(rt, alloc, step, b"");
+    spool.command(alloc, command).expect(rt, "a reply")
+}
 
 /// What the spool answers as its systems are removed, which tells whether it knows them.
-fn removed<S: Alter>(alloc: Global, spool: &mut Spool<S>) -> Result<Vec<Reply>, Fail> {
-    let mut replies = Vec::new(alloc);
-    for name in SYSTEMS {
-        replies.push(spool.command(alloc, Command::Remove(site(alloc, name)?))?)?;
-    }
-    Ok(replies)
+fn removed<S: Alter>(rt: &impl Abort, alloc: Global, spool: &mut Spool<S>) -> [Reply; 2] {
+    let [duke, unc] = REMOVALS;
+    let first = given(rt, alloc, spool, duke);
+    let second = given(rt, alloc, spool, unc);
+    [first, second]
 }
 
-/// Whether the machine answers the same as its systems are removed.
-fn answers(alloc: Global, machine: &mut Machine, replies: &[Reply]) -> Result<bool, Fail> {
-    for (name, reply) in SYSTEMS.into_iter().zip(replies) {
-        if machine.step(alloc, uu_core::Command::Remove(site(alloc, name)?))? != *reply {
-            return Ok(false);
+/// What the machine after so many steps answers as its systems are removed.
+fn removed_after(rt: &impl Abort, alloc: Global, steps: u32, bytes: &[u8]) -> [Reply; 2] {
+    let mut machine = machine_after(rt, alloc, steps, bytes);
+    let [duke, unc] = REMOVALS;
+    let first = reply(rt, alloc, &mut machine, duke, bytes);
+    let second = reply(rt, alloc, &mut machine, unc, bytes);
+    [first, second]
+}
+
+/// Gives a step: whether it was answered, which has to be as the machine answers it. After a stop the spool answers `Failed`.
+fn is_answered<S: Alter>(
+    rt: &impl Abort,
+    alloc: Global,
+    spool: &mut Spool<S>,
+    step: Step,
+    reply: Reply,
+    bytes: &[u8],
+) -> bool {
+    match spool.command(alloc, command(rt, alloc, step, bytes)) {
+        Ok(given) => {
+            assert_eq!(rt; given, reply);
+            true
+        }
+        Err(fault) => {
+            assert!(rt; matches!(fault, StoreFault::Store(_)), "another fault");
+            assert_eq!(rt; spool.next(), Err(StoreFault::Failed));
+            false
         }
     }
-    Ok(true)
 }
 
 /// Gives the steps up to the first fault, and tells how many were answered as the machine answers them.
-fn answered(alloc: Global, spool: &mut FusedSpool, bytes: &[u8]) -> Result<u32, Fail> {
+fn answered<S: Alter>(rt: &impl Abort, alloc: Global, spool: &mut Spool<S>, bytes: &[u8]) -> u32 {
     let mut machine = Machine::new(alloc);
     for number in 1..=STEPS {
-        let reply = machine.step(alloc, plain(alloc, step_of(number), bytes)?)?;
-        match spool.command(alloc, command(alloc, step_of(number), bytes)?) {
-            Ok(given) if given == reply => {}
-            Ok(_) => return Err(Fail::from("a command is answered otherwise")),
-            Err(StoreFault::Store(_)) => {
-                if spool.next() != Err(StoreFault::Failed) {
-                    return Err(Fail::from("a stopped spool answers"));
-                }
-                return Ok(number - 1);
-            }
-            Err(_) => return Err(Fail::from("another fault")),
+        let step = step_of(number);
+        let reply = reply(rt, alloc, &mut machine, step, bytes);
+        if !is_answered(rt, alloc, spool, step, reply, bytes) {
+            return number - 1;
         }
     }
-    Ok(STEPS)
+    STEPS
+}
+
+/// A run that is stopped at a call of one file: how many steps were answered, and the files as the run leaves them.
+fn run(
+    rt: &impl Abort,
+    alloc: Global,
+    place: Place,
+    calls: u64,
+    bytes: &[u8],
+) -> (u32, FusedFiles) {
+    match opened(rt, alloc, fused_files(alloc, place, calls)) {
+        Ok(mut spool) => {
+            let steps = answered(rt, alloc, &mut spool, bytes);
+            (steps, files_of(spool))
+        }
+        Err(files) => (0, files),
+    }
+}
+
+/// The spool has to show what the machine holds after so many steps, or after one more where there is one.
+fn expect_now_or_later<S: Alter>(
+    rt: &impl Abort,
+    alloc: Global,
+    spool: &mut Spool<S>,
+    steps: u32,
+    bytes: &[u8],
+) {
+    let more = steps.saturating_add(1).min(STEPS);
+    let is_now = shows_after(rt, alloc, spool, steps, bytes);
+    let is_later = shows_after(rt, alloc, spool, more, bytes);
+    let replies = removed(rt, alloc, spool);
+    let now = is_now && replies == removed_after(rt, alloc, steps, bytes);
+    let later = is_later && replies == removed_after(rt, alloc, more, bytes);
+    assert!(rt; now || later, "the spool shows something else");
 }
 
 /// A run that is stopped at a call of one file: whether all steps were answered. The spool that is opened afterwards has to show
 /// what the machine holds after the answered steps, or after one more where the run was stopped.
-fn stop_at(alloc: Global, place: Place, calls: u64, bytes: &[u8]) -> Result<bool, Fail> {
-    let (steps, mut files) = match opened(alloc, fused_files(alloc, place, calls))? {
-        Ok(mut spool) => {
-            let steps = answered(alloc, &mut spool, bytes);
-            let files = files_of(spool);
-            (steps?, files)
-        }
-        Err(files) => (0, files),
-    };
-    files.log.crash();
-    files.db.crash();
-    let Ok(mut spool) = opened(alloc, files)? else {
-        return Err(Fail::from("the files do not open again"));
-    };
-    let mut machine = machine_after(alloc, steps, bytes)?;
-    let mut later = machine_after(alloc, steps.saturating_add(1).min(STEPS), bytes)?;
-    let is_now = shows(alloc, &mut spool, &machine)?;
-    let is_later = shows(alloc, &mut spool, &later)?;
-    let replies = removed(alloc, &mut spool)?;
-    let now = is_now && answers(alloc, &mut machine, &replies)?;
-    if !now && !(is_later && answers(alloc, &mut later, &replies)?) {
-        return Err(Fail::from("the spool shows something else"));
-    }
-    Ok(steps == STEPS)
+fn stop_at(rt: &impl Abort, alloc: Global, place: Place, calls: u64, bytes: &[u8]) -> bool {
+    let (steps, files) = run(rt, alloc, place, calls, bytes);
+    let mut spool = reopened(rt, alloc, crashed(files));
+    expect_now_or_later(rt, alloc, &mut spool, steps, bytes);
+    steps == STEPS
 }
 
-/// Stops at each call of one file, counting up until a run ends without a stop.
-fn stop_at_each_call(alloc: Global, place: Place) -> Result<(), Fail> {
-    let bytes = large(alloc)?;
+/// Stops at each call of one file, counting up until a run ends without a stop. The first run is stopped.
+fn stop_at_each_call(rt: &impl Abort, alloc: Global, place: Place) {
+    let bytes = large(rt, alloc);
     for calls in 0..10_000 {
-        if stop_at(alloc, place, calls, &bytes)? {
-            return if calls == 0 {
-                Err(Fail::from("no stop"))
-            } else {
-                Ok(())
-            };
+        if stop_at(rt, alloc, place, calls, &bytes) {
+            assert!(rt; calls != 0, "no stop");
+            return;
         }
     }
-    Err(Fail::from("no run ends"))
+    panic!(rt; "no run ends")
 }
 
 #[test]
-fn a_stop_of_the_log_leaves_the_state_before_or_after_a_command(
-    rt: HostRuntime,
-) -> Result<(), Fail> {
-    stop_at_each_call(rt.alloc(), Place::Log)
+fn a_stop_of_the_log_leaves_the_state_before_or_after_a_command(rt: HostRuntime) {
+    stop_at_each_call(&rt, rt.alloc(), Place::Log);
 }
 
 #[test]
-fn a_stop_of_the_database_leaves_the_state_before_or_after_a_command(
-    rt: HostRuntime,
-) -> Result<(), Fail> {
-    stop_at_each_call(rt.alloc(), Place::Database)
+fn a_stop_of_the_database_leaves_the_state_before_or_after_a_command(rt: HostRuntime) {
+    stop_at_each_call(&rt, rt.alloc(), Place::Database);
+}
+
+/// Gives a step, which is answered as the machine answers it, and after which the spool shows what the machine holds.
+fn expect_step<S: Alter>(
+    rt: &impl Abort,
+    alloc: Global,
+    spool: &mut Spool<S>,
+    machine: &mut Machine,
+    step: Step,
+    bytes: &[u8],
+) -> Reply {
+    let reply = reply(rt, alloc, machine, step, bytes);
+    assert!(rt;
+        is_answered(rt, alloc, spool, step, reply, bytes),
+        "a fault"
+    );
+    assert!(rt;
+        shows(rt, alloc, spool, machine),
+        "a command does otherwise"
+    );
+    reply
 }
 
 #[test]
-fn every_command_is_answered_as_the_plain_machine_answers_it(rt: HostRuntime) -> Result<(), Fail> {
+fn every_command_is_answered_as_the_plain_machine_answers_it(rt: HostRuntime) {
     let alloc = rt.alloc();
-    let bytes = large(alloc)?;
-    let Ok(mut spool) = opened(alloc, fused_files(alloc, Place::Log, u64::MAX))? else {
-        return Err(Fail::from("new files do not open"));
-    };
+    let bytes = large(&rt, alloc);
+    let mut spool = reopened(&rt, alloc, fused_files(alloc, Place::Log, u64::MAX));
     let mut machine = Machine::new(alloc);
     for number in 1..=STEPS {
-        let reply = machine.step(alloc, plain(alloc, step_of(number), &bytes)?)?;
-        let given = spool.command(alloc, command(alloc, step_of(number), &bytes)?)?;
-        if given != reply || !shows(alloc, &mut spool, &machine)? {
-            return Err(Fail::from("a command does otherwise"));
-        }
-        if number == STEPS && reply == Reply::Done {
-            return Err(Fail::from("a busy system was removed"));
-        }
+        let step = step_of(number);
+        let reply = expect_step(&rt, alloc, &mut spool, &mut machine, step, &bytes);
+        assert!(rt;
+            number != STEPS || reply != Reply::Done,
+            "a busy system was removed"
+        );
     }
-    Ok(())
 }

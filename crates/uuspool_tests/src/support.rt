@@ -1,55 +1,122 @@
-// What the tests share: spools in memory, lines of words, and readers and writers that fail.
+// What the tests share: spools in memory, lines of words with what they must print, and readers and writers that fail. Where memory
+// is short, a test ends here.
 use sqlite::{Alter, Connection, MemStore};
 use std::alloc::Global;
 use std::io;
 use std::io::{ErrorKind, Read, Write};
-use std::test::Fail;
+use std::process::Abort;
 use uu_store::Spool;
 use uuspool::{Fault, fixed_settings, serve};
 
 /// 2001-09-09 01:46:40 UTC.
 pub(crate) const NOW: u64 = 1_000_000_000;
 
-pub(crate) fn fresh_spool(alloc: Global) -> Result<Spool<MemStore>, Fail> {
-    let conn = Connection::open_in_memory(alloc)?;
+/// A line without an input, with the status and the output that it must have.
+pub(crate) type Line = (&'static str, u8, &'static str);
+
+pub(crate) fn fresh_spool(rt: &impl Abort, alloc: Global) -> Spool<MemStore> {
+    let conn = Connection::open_in_memory(alloc).expect(rt, "memory");
     match Spool::adopt(alloc, conn) {
-        Ok(spool) => Ok(spool),
-        Err(_) => Err(Fail::from("a fresh database is no spool")),
+        Ok(spool) => spool,
+        Err(_) => panic!(rt; "a fresh database is no spool"),
     }
 }
 
+/// A fresh spool that was told of the system duke.
+pub(crate) fn duke_spool(rt: &impl Abort, alloc: Global) -> Spool<MemStore> {
+    let mut spool = fresh_spool(rt, alloc);
+    expect_line(
+        rt,
+        alloc,
+        &mut spool,
+        "load",
+        b"system duke\n",
+        0,
+        b"duke done\n",
+    );
+    spool
+}
+
 /// The words of a line, cut at its spaces.
-pub(crate) fn words_of(alloc: Global, line: &str) -> Result<Vec<String>, Fail> {
+pub(crate) fn words_of(rt: &impl Abort, alloc: Global, line: &str) -> Vec<String> {
     let mut words = Vec::new(alloc);
     for word in line.split(' ') {
-        words.push(String::from_str(alloc, word)?)?;
+        let word = String::from_str(alloc, word).expect(rt, "memory");
+        words.push(word).expect(rt, "memory");
     }
-    Ok(words)
+    words
 }
 
 /// Runs a line with an input at the second `NOW`, into a writer.
 pub(crate) fn serve_into<S: Alter, W: Write>(
+    rt: &impl Abort,
     alloc: Global,
     spool: &mut Spool<S>,
     line: &str,
     input: &[u8],
     out: &mut W,
-) -> Result<Result<u8, Fault>, Fail> {
-    let words = words_of(alloc, line)?;
-    let settings = fixed_settings(alloc)?;
-    Ok(serve(alloc, &words, &settings, NOW, input, spool, out))
+) -> Result<u8, Fault> {
+    let words = words_of(rt, alloc, line);
+    let settings = fixed_settings(alloc).expect(rt, "memory");
+    serve(alloc, &words, &settings, NOW, input, spool, out)
 }
 
 /// Runs a line that has to end without a fault: its status and what it prints.
 pub(crate) fn printed<S: Alter>(
+    rt: &impl Abort,
     alloc: Global,
     spool: &mut Spool<S>,
     line: &str,
     input: &[u8],
-) -> Result<(u8, Vec<u8>), Fail> {
+) -> (u8, Vec<u8>) {
     let mut out = Vec::new(alloc);
-    let status = serve_into(alloc, spool, line, input, &mut out)??;
-    Ok((status, out))
+    let answer = serve_into(rt, alloc, spool, line, input, &mut out);
+    (answer.expect(rt, line), out)
+}
+
+/// Runs a line that has to end with this status and this output.
+pub(crate) fn expect_line<S: Alter>(
+    rt: &impl Abort,
+    alloc: Global,
+    spool: &mut Spool<S>,
+    line: &str,
+    input: &[u8],
+    status: u8,
+    output: &[u8],
+) {
+    let (answered, out) = printed(rt, alloc, spool, line, input);
+    assert_eq!(rt; answered, status, "{line}");
+    assert_eq!(rt; out.as_slice(), output, "{line}");
+}
+
+/// Runs lines without an input one after the other, each with the status and the output that it must have.
+pub(crate) fn expect_lines<S: Alter>(
+    rt: &impl Abort,
+    alloc: Global,
+    spool: &mut Spool<S>,
+    lines: &[Line],
+) {
+    for (line, status, output) in lines {
+        expect_line(rt, alloc, spool, *line, b"", *status, output.as_bytes());
+    }
+}
+
+/// Runs a line that has to end with a fault, before anything is printed.
+pub(crate) fn expect_fault<S: Alter>(
+    rt: &impl Abort,
+    alloc: Global,
+    spool: &mut Spool<S>,
+    line: &str,
+    input: &[u8],
+) -> Fault {
+    let mut out = Vec::new(alloc);
+    match serve_into(rt, alloc, spool, line, input, &mut out) {
+        Ok(_) => panic!(rt; "the line is done: {line}"),
+        Err(fault) => {
+            assert!(rt; out.is_empty(), "{line}");
+            fault
+        }
+    }
 }
 
 /// A writer that takes so many bytes and then fails.
