@@ -18,7 +18,9 @@ use std::alloc::Global;
 /// Why a database was not taken, and the connection to it, with no transaction open.
 #[derive(Drop)]
 pub struct AdoptFault<S: Alter> {
+    /// Why it was not taken.
     pub fault: StoreFault,
+    /// The connection that was handed in.
     pub conn: Connection<S>,
     ghost idle: { conn.in_transaction ≡ false },
 }

@@ -57,35 +57,68 @@ fn expect_refused(rt: &impl Abort, alloc: Global, statements: &[&str], fault: St
     let _conn = refused(rt, alloc, conn, fault);
 }
 
+/// The same of a database in which one row answers the question, before and afterwards.
+fn expect_kept(
+    rt: &impl Abort,
+    alloc: Global,
+    statements: &[&str],
+    fault: StoreFault,
+    question: &str,
+) {
+    let conn = database(rt, alloc, statements);
+    let mut conn = refused(rt, alloc, conn, fault);
+    assert_eq!(rt; row_count(rt, &mut conn, question), 1);
+}
+
 const SPOOL: &str =
     "CREATE TABLE spool (id INTEGER PRIMARY KEY, version INTEGER NOT NULL, next INTEGER NOT NULL) STRICT";
 
-const OTHERS: [(&[&str], StoreFault); 4] = [
+const SOME_JOBS: &str = "CREATE TABLE jobs (number INTEGER PRIMARY KEY)";
+
+const A_JOB: &str = "INSERT INTO jobs VALUES (7)";
+
+/// What makes a database, why it is refused, and a question that one of its rows answers.
+const OTHERS: [(&[&str], StoreFault, &str); 5] = [
     (
-        &["CREATE TABLE jobs (number INTEGER PRIMARY KEY)"],
+        &[SOME_JOBS, A_JOB],
         StoreFault::Foreign,
+        "SELECT number FROM jobs WHERE number = 7",
     ),
     // A later version.
     (
         &[SPOOL, "INSERT INTO spool VALUES (1, 1, 1)"],
         StoreFault::Newer,
+        "SELECT id FROM spool WHERE id = 1 AND version = 1",
     ),
     // The other tables are missing.
     (
         &[SPOOL, "INSERT INTO spool VALUES (1, 0, 1)"],
         StoreFault::Foreign,
+        "SELECT id FROM spool WHERE id = 1 AND next = 1",
+    ),
+    // One of them is.
+    (
+        &[
+            SPOOL,
+            "INSERT INTO spool VALUES (1, 0, 8)",
+            SOME_JOBS,
+            A_JOB,
+        ],
+        StoreFault::Foreign,
+        "SELECT number FROM jobs WHERE number = 7",
     ),
     // There is no row of id 1.
     (
         &[SPOOL, "INSERT INTO spool VALUES (2, 0, 1)"],
         StoreFault::Foreign,
+        "SELECT id FROM spool WHERE id = 2",
     ),
 ];
 
 #[test]
 fn a_database_of_another_program_is_left_as_it_was(rt: HostRuntime) {
-    for (statements, fault) in OTHERS {
-        expect_refused(&rt, rt.alloc(), statements, fault);
+    for (statements, fault, question) in OTHERS {
+        expect_kept(&rt, rt.alloc(), statements, fault, question);
     }
 }
 
@@ -191,8 +224,13 @@ const FOREIGN_CHANGES: [&str; 19] = [
     "INSERT INTO systems (name) VALUES ('')",
 ];
 
+/// The changed spool is foreign, keeps its rows, and is foreign with another table beside it.
 fn expect_foreign_after(rt: &impl Abort, alloc: Global, change: &str) {
-    let conn = changed_spool(rt, alloc, ONE_JOB, change);
+    let mut conn = changed_spool(rt, alloc, ONE_JOB, change);
+    let before = rows_of(rt, &mut conn);
+    let mut conn = refused(rt, alloc, conn, StoreFault::Foreign);
+    assert_eq!(rt; rows_of(rt, &mut conn), before);
+    changed(rt, &mut conn, "CREATE TABLE notes (text TEXT)");
     let _conn = refused(rt, alloc, conn, StoreFault::Foreign);
 }
 
