@@ -9,7 +9,7 @@ use Rattle.uu_core.specs.State.{State, Job, is_job}
 use Rattle.uu_core.specs.Verdict.{verdict}
 use Rattle.uu_core.specs.After.{after, after_verdict, accept, change_job, job_of, is_among}
 use Rattle.uu_core.specs.Run.{state_after}
-use Rattle.uu_core.specs.Laws.{accepted_of, unless_refused, lets_go, IsSameJob, IsAmong, IsHandedIn}
+use Rattle.uu_core.specs.Laws.{accepted_of, unless_refused, lets_go, IsSameJob, IsAmong, IsHandedIn, IsOfRun}
 use Rattle.uu_core.proofs.Members.{first_of, kept, from_filter, mapped, from_map}
 
 same_job : (job : Job) → IsSameJob job job
@@ -69,26 +69,26 @@ was_changed jobs number change later little h =
     by-test {job} true e = rw (← e) (little job)
     by-test {job} false e = rw (← e) (same_job job)
 
-pub handed_in-accept : (state : State) (command : Command) (later : Job) → Contains (accept state command).jobs later → IsAmong state.jobs later ⊎ IsHandedIn state command later
-handed_in-accept state (Define def) later h = inl (itself state.jobs later h)
-handed_in-accept state (Remove name) later h = inl (itself state.jobs later h)
-handed_in-accept state (Queue new) later h = elim (Contains-push_cases state.jobs (job_of state.next new) later h) [
+pub handed_in-accept : (state : State) (command : Command) (later : Job) → verdict state command ≡ None → Contains (accept state command).jobs later → IsAmong state.jobs later ⊎ IsHandedIn state command later
+handed_in-accept state (Define def) later e h = inl (itself state.jobs later h)
+handed_in-accept state (Remove name) later e h = inl (itself state.jobs later h)
+handed_in-accept state (Queue new) later e h = elim (Contains-push_cases state.jobs (job_of state.next new) later h) [
   | inl there ↦ inl (itself state.jobs later there)
-  | inr same ↦ inr (record { new = new; command_is = refl; job_is = sym same })
+  | inr same ↦ inr (record { new = new; command_is = refl; accepted = e; job_is = sym same })
 ]
-handed_in-accept state (Kill number by) later h = inl (itself state.jobs later (from_filter (λ other. not (is_job number other)) state.jobs later h).0)
-handed_in-accept state (Regrade number grade by) later h = inl (was_changed state.jobs number (λ other. record other { grade = grade }) later (λ j. record { number = refl; system = refl; user = refl; kind = refl; bytes = refl }) h)
-handed_in-accept state (Rejuvenate number at by) later h = inl (was_changed state.jobs number (λ other. record other { queued = at.second }) later (λ j. record { number = refl; system = refl; user = refl; kind = refl; bytes = refl }) h)
-handed_in-accept state (Failed system at why) later h = inl (itself state.jobs later h)
-handed_in-accept state (Done system at jobs) later h = inl (itself state.jobs later (from_filter (λ j. not (is_among jobs j)) state.jobs later h).0)
-handed_in-accept state (Entry bytes) later h = inl (itself state.jobs later h)
+handed_in-accept state (Kill number by) later e h = inl (itself state.jobs later (from_filter (λ other. not (is_job number other)) state.jobs later h).0)
+handed_in-accept state (Regrade number grade by) later e h = inl (was_changed state.jobs number (λ other. record other { grade = grade }) later (λ j. record { number = refl; system = refl; user = refl; kind = refl; bytes = refl }) h)
+handed_in-accept state (Rejuvenate number at by) later e h = inl (was_changed state.jobs number (λ other. record other { queued = at.second }) later (λ j. record { number = refl; system = refl; user = refl; kind = refl; bytes = refl }) h)
+handed_in-accept state (Failed system at why) later e h = inl (itself state.jobs later h)
+handed_in-accept state (Done system at jobs) later e h = inl (itself state.jobs later (from_filter (λ j. not (is_among jobs j)) state.jobs later h).0)
+handed_in-accept state (Entry bytes) later e h = inl (itself state.jobs later h)
 
 pub handed_in : (state : State) (command : Command) (later : Job) → Contains (after state command).0.jobs later → IsAmong state.jobs later ⊎ IsHandedIn state command later
-handed_in state command later h = by-verdict (verdict state command) h
+handed_in state command later h = by-verdict (verdict state command) refl h
   where
-    by-verdict : (v : Option Refusal) → Contains (after_verdict v state command).0.jobs later → IsAmong state.jobs later ⊎ IsHandedIn state command later
-    by-verdict None h = handed_in-accept state command later h
-    by-verdict (Some refusal) h = inl (itself state.jobs later h)
+    by-verdict : (v : Option Refusal) → verdict state command ≡ v → Contains (after_verdict v state command).0.jobs later → IsAmong state.jobs later ⊎ IsHandedIn state command later
+    by-verdict None e h = handed_in-accept state command later e h
+    by-verdict (Some refusal) e h = inl (itself state.jobs later h)
 
 -- ---- runs
 
@@ -108,6 +108,34 @@ stays-run state (command ∷ commands) job there h = by-verdict (verdict state c
         let b : IsAmong (state_after (after state command).0 commands).jobs a.later = again a.later a.there (subst (λ n. All (λ (c : Command). lets_go c n ≡ false) (accepted_of (after state command).0 commands)) (sym a.same.number) rest) in
         record { later = b.later; there = b.there; same = same_later job a.later b.later a.same b.same }
     by-verdict (Some refusal) e h again = again job (subst (λ (s : State). Contains s.jobs job) (sym (ap (λ v. (after_verdict v state command).0) e)) there) h
+
+-- a job that is among those after the first command of a run
+earlier : (state : State) (command : Command) (commands : List Command) (last : Job) → IsAmong (after state command).0.jobs last → IsAmong state.jobs last ⊎ IsOfRun state (command ∷ commands) last
+earlier state command commands last among = elim (handed_in state command among.later among.there) [
+  | inl before ↦ inl (record { later = before.later; there = before.there; same = same_later last among.later before.later among.same before.same })
+  | inr made ↦ inr (record {
+    before = [];
+    new = made.new;
+    behind = commands;
+    run_is = ap (λ c. c ∷ commands) made.command_is;
+    accepted = made.accepted;
+    same = subst (λ j. IsSameJob j last) made.job_is (back last among.later among.same);
+  })
+]
+
+pub handed_in-run : (state : State) (commands : List Command) (last : Job) → Contains (state_after state commands).jobs last → IsAmong state.jobs last ⊎ IsOfRun state commands last
+handed_in-run state [] last h = inl (itself state.jobs last h)
+handed_in-run state (command ∷ commands) last h = elim (handed_in-run (after state command).0 commands last h) [
+  | inl among ↦ earlier state command commands last among
+  | inr made ↦ inr (record {
+    before = command ∷ made.before;
+    new = made.new;
+    behind = made.behind;
+    run_is = ap (λ rest. command ∷ rest) made.run_is;
+    accepted = made.accepted;
+    same = made.same;
+  })
+]
 
 pub queued : (state : State) (job : NewJob) → verdict state (Queue job) ≡ None → Contains (after state (Queue job)).0.jobs (job_of state.next job)
 queued state job e = subst (λ (s : State). Contains s.jobs (job_of state.next job)) (sym (ap (λ v. (after_verdict v state (Queue job)).0) e)) (Contains-append_right state.jobs (job_of state.next job ∷ []) (job_of state.next job) (first_of (job_of state.next job) []))

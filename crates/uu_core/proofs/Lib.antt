@@ -4,5 +4,6 @@ pub mod JobLemmas
 pub mod Members
 pub mod PlainLemmas
 pub mod RunLemmas
+pub mod TurnLemmas
 pub mod WaitingLemmas
 pub mod WellFormedLemmas

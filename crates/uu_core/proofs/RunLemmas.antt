@@ -1,15 +1,19 @@
 -- Runs of commands.
-use Rattle.std.proofs.Common.{◌≡◌, ℕ, ◌+◌, ◌≤◌, List, [], ◌∷◌, ◌++◌, Option, Some, None, refl, ap, sym, ◌∙◌, arith}
+use Rattle.std.proofs.Common.{◌≡◌, ℕ, ◌+◌, ◌≤◌, ◌<◌, List, [], ◌∷◌, ◌++◌, All, AllPairs, Option, Some, None, refl, ap, sym, ◌∙◌, arith}
+use Rattle.std.proofs.lemmas.List.Elements.{All-cons, All-nil, All-weaker}
+use Rattle.std.proofs.lemmas.List.Kept.{AllPairs-cons}
+use Rattle.uu_core.proofs.WellFormedLemmas.{pairs-nil}
 use Rattle.uu_core.specs.declared.command.Command.{Command}
 use Rattle.uu_core.specs.declared.command.Command.TheVariants.{Define, Remove, Queue, Kill, Regrade, Rejuvenate, Failed, Done, Entry}
+use Rattle.uu_core.specs.declared.command.Reply.{Reply}
 use Rattle.uu_core.specs.declared.command.Reply.TheVariants.{Number, Refused}
 use Rattle.uu_core.specs.declared.refusal.Refusal.{Refusal}
 use Rattle.uu_core.specs.declared.job.NewJob.{NewJob}
 use Rattle.uu_core.specs.State.{State}
 use Rattle.uu_core.specs.Verdict.{verdict}
-use Rattle.uu_core.specs.After.{after, after_verdict, accept}
+use Rattle.uu_core.specs.After.{after, after_verdict, accept, reply_to}
 use Rattle.uu_core.specs.Run.{state_after, replies_to}
-use Rattle.uu_core.specs.Laws.{accepted_of, unless_refused}
+use Rattle.uu_core.specs.Laws.{accepted_of, unless_refused, numbers_in}
 
 pub refused : (state : State) (command : Command) (refusal : Refusal) → verdict state command ≡ Some refusal → after state command ≡ (state, Refused refusal)
 refused state command refusal e = ap (λ v. after_verdict v state command) e
@@ -79,3 +83,37 @@ number_used state job number e = by-verdict (verdict state (Queue job)) e
       where
         apart : Refused refusal ≡ Number number → ⊥
         apart q = cc
+
+-- numbers from a first one on, which rise
+pub record Rising (low : ℕ) (numbers : List ℕ) : Type 0 where
+  pub fresh : All (λ number. low ≤ number) numbers
+  pub once : AllPairs (λ earlier later. earlier < later) numbers
+
+lower : (low high : ℕ) (numbers : List ℕ) → low ≤ high → Rising high numbers → Rising low numbers
+lower low high numbers h r = record { fresh = All-weaker (λ n. high ≤ n) (λ n. low ≤ n) (λ n above. omega (arith, h, above)) numbers r.fresh; once = r.once }
+
+with-first : (low : ℕ) (numbers : List ℕ) → Rising (low + 1) numbers → Rising low (low ∷ numbers)
+with-first low numbers r = record {
+  fresh = All-cons (λ n. low ≤ n) low numbers (omega arith) (lower low (low + 1) numbers (omega arith) r).fresh;
+  once = AllPairs-cons (λ earlier later. earlier < later) low numbers (All-weaker (λ n. low + 1 ≤ n) (λ n. low < n) (λ n above. omega (arith, above)) numbers r.fresh) r.once;
+}
+
+-- behind the answer to an accepted command
+behind-accept : (state : State) (command : Command) (replies : List Reply) → Rising (accept state command).next (numbers_in replies) → Rising state.next (numbers_in (reply_to state command ∷ replies))
+behind-accept state (Define def) replies r = r
+behind-accept state (Remove name) replies r = r
+behind-accept state (Queue job) replies r = with-first state.next (numbers_in replies) r
+behind-accept state (Kill job by) replies r = r
+behind-accept state (Regrade job grade by) replies r = r
+behind-accept state (Rejuvenate job at by) replies r = r
+behind-accept state (Failed system at why) replies r = r
+behind-accept state (Done system at jobs) replies r = r
+behind-accept state (Entry bytes) replies r = r
+
+behind : (v : Option Refusal) (state : State) (command : Command) (replies : List Reply) → Rising (after_verdict v state command).0.next (numbers_in replies) → Rising state.next (numbers_in ((after_verdict v state command).1 ∷ replies))
+behind None state command replies r = behind-accept state command replies r
+behind (Some refusal) state command replies r = r
+
+pub numbers-run : (state : State) (commands : List Command) → Rising state.next (numbers_in (replies_to state commands))
+numbers-run state [] = record { fresh = All-nil (λ n. state.next ≤ n); once = pairs-nil (λ earlier later. earlier < later) }
+numbers-run state (command ∷ commands) = behind (verdict state command) state command (replies_to (after state command).0 commands) (numbers-run (after state command).0 commands)

@@ -1,14 +1,17 @@
 -- What follows from the definitions of the machine.
-use Rattle.std.specs.Prelude.{◌≡◌, ℕ, Bool, ◌==◌, List, [], ◌∷◌, Option, Some, None, Contains, true, false}
+use Rattle.std.specs.Prelude.{◌≡◌, ℕ, Bool, ◌==◌, List, [], ◌∷◌, ◌++◌, Option, Some, None, Contains, true, false}
 use Rattle.std.specs.List.{list_any}
 use Rattle.uu_core.specs.declared.command.Command.{Command}
 use Rattle.uu_core.specs.declared.command.Command.TheVariants.{Define, Remove, Queue, Kill, Regrade, Rejuvenate, Failed, Done, Entry}
+use Rattle.uu_core.specs.declared.command.Reply.{Reply}
+use Rattle.uu_core.specs.declared.command.Reply.TheVariants.{Done as Carried, Number, Refused}
 use Rattle.uu_core.specs.declared.refusal.Refusal.{Refusal}
 use Rattle.uu_core.specs.declared.job.JobHead.{JobHead}
 use Rattle.uu_core.specs.declared.job.NewJob.{NewJob}
 use Rattle.uu_core.specs.State.{State, Job}
 use Rattle.uu_core.specs.Verdict.{verdict}
 use Rattle.uu_core.specs.After.{after, job_of}
+use Rattle.uu_core.specs.Run.{state_after}
 
 -- a command in front of others, if it is accepted
 abbrev pub unless_refused : Option Refusal → Command → List Command → List Command
@@ -20,6 +23,13 @@ abbrev pub accepted_of : State → List Command → List Command
 accepted_of state [] = []
 accepted_of state (command ∷ commands) =
     unless_refused (verdict state command) command (accepted_of (after state command).0 commands)
+
+-- the numbers that replies give to jobs, in order
+abbrev pub numbers_in : List Reply → List ℕ
+numbers_in [] = []
+numbers_in (Carried ∷ replies) = numbers_in replies
+numbers_in (Number number ∷ replies) = number ∷ numbers_in replies
+numbers_in (Refused refusal ∷ replies) = numbers_in replies
 
 -- the command makes the job of this number go, where it is accepted
 abbrev pub lets_go : Command → ℕ → Bool
@@ -47,11 +57,21 @@ pub record IsAmong (jobs : List Job) (job : Job) : Type 0 where
   pub there : Contains jobs later
   pub same : IsSameJob job later
 
--- the job is what a command hands in, under the next number
+-- the job is what an accepted command hands in, under the next number
 pub record IsHandedIn (state : State) (command : Command) (job : Job) : Type 0 where
   pub new : NewJob
   pub command_is : command ≡ Queue new
+  pub accepted : verdict state (Queue new) ≡ None
   pub job_is : job ≡ job_of state.next new
+
+-- the job is what an accepted command of a run handed in, with perhaps another grade or time of queueing by then
+pub record IsOfRun (state : State) (commands : List Command) (later : Job) : Type 0 where
+  pub before : List Command
+  pub new : NewJob
+  pub behind : List Command
+  pub run_is : commands ≡ before ++ Queue new ∷ behind
+  pub accepted : verdict (state_after state before) (Queue new) ≡ None
+  pub same : IsSameJob (job_of (state_after state before).next new) later
 
 -- the job's number is among these
 abbrev pub is_named : List ℕ → JobHead → Bool

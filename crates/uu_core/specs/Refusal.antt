@@ -1,5 +1,5 @@
 -- Why a command is refused, and in which order the reasons are told.
-use Rattle.std.specs.Prelude.{ℕ, Bool, List, [], ◌∷◌, Option, Some, None, Result, Ok, Err, if◌then◌else◌}
+use Rattle.std.specs.Prelude.{ℕ, ◌<◌, Bool, List, [], ◌∷◌, AllPairs, Option, Some, None, Result, Ok, Err, if◌then◌else◌}
 use Rattle.uu_core.specs.declared.refusal.Refusal.{Refusal}
 use Rattle.uu_core.specs.declared.refusal.Refusal.TheVariants.{NoSystem, NoJob, NotYours, JobTwice, OtherSystem, Busy, TooLarge, NumbersOut, BadEntry}
 
@@ -15,7 +15,17 @@ refusal_code TooLarge = 7
 refusal_code NumbersOut = 8
 refusal_code BadEntry = 9
 
--- the first of some reasons that applies; they stand in the order in which they are told
+-- How early a refusal is told where several apply: `TooLarge` first, since it needs no look at the spool, and then by number (this
+-- project's choice).
+abbrev pub turn_of : Refusal → ℕ
+turn_of TooLarge = 0
+turn_of refusal = refusal_code refusal
+
+-- reasons, each with whether it applies, in the order in which they are told
+abbrev pub AreInTurn : List (Bool × Refusal) → Type 0
+AreInTurn reasons = AllPairs (λ earlier later. turn_of earlier.1 < turn_of later.1) reasons
+
+-- the first of some reasons that applies
 abbrev pub first_reason : List (Bool × Refusal) → Option Refusal
 first_reason [] = None
 first_reason (reason ∷ reasons) = if reason.0 then Some reason.1 else first_reason reasons

@@ -1,6 +1,6 @@
 -- Which commands are refused, and why. (That a job is killed or rejuvenated by its owner or by an administrator is the Taylor UUCP
 -- 1.07 manual's, on uustat; regrading, the limits and the order of the reasons are this project's choice.)
-use Rattle.std.specs.Prelude.{ℕ, Bool, false, not, ◌==◌, ◌||◌, ◌&&◌, nat_eq, nat_lt, List, [], ◌∷◌, length, map, Option, Some, None, is_err, option_map, if◌then◌else◌}
+use Rattle.std.specs.Prelude.{ℕ, Bool, true, false, not, ◌==◌, ◌||◌, ◌&&◌, nat_eq, nat_lt, List, [], ◌∷◌, length, map, Option, Some, None, is_err, option_map, if◌then◌else◌}
 use Rattle.std.specs.List.{list_any}
 use Rattle.std.specs.Set.{distinct_count}
 use Rattle.uu_map.specs.Text.{host_of}
@@ -16,9 +16,14 @@ use Rattle.uu_core.specs.declared.refusal.Refusal.TheVariants.{NoSystem, NoJob, 
 use Rattle.uu_core.specs.Refusal.{first_reason}
 use Rattle.uu_core.specs.State.{State, same_text, has_system, is_waiting, job_at, head_of, most_bytes, most_arguments, numbers_end}
 
+-- ---- the reasons against a command, each with whether it applies, and the one that is told
+
 -- a system may go where it is known and no job waits for it
+abbrev pub drop_reasons : Bool → Bool → List (Bool × Refusal)
+drop_reasons known waiting = (not known, NoSystem) ∷ (waiting, Busy) ∷ []
+
 abbrev pub drop_refusal : Bool → Bool → Option Refusal
-drop_refusal known waiting = first_reason ((not known, NoSystem) ∷ (waiting, Busy) ∷ [])
+drop_refusal known waiting = first_reason (drop_reasons known waiting)
 
 abbrev pub has_many_arguments : Kind → Bool
 has_many_arguments (Send source target) = false
@@ -29,9 +34,12 @@ has_many_arguments (Execute command arguments) = nat_lt most_arguments (length a
 abbrev pub is_too_large : NewJob → Bool
 is_too_large job = nat_lt most_bytes (length job.bytes) || has_many_arguments job.kind
 
+-- a job may be handed in where it is not too large, its system is known and a number is left
+abbrev pub queue_reasons : Bool → ℕ → NewJob → List (Bool × Refusal)
+queue_reasons known next job = (is_too_large job, TooLarge) ∷ (not known, NoSystem) ∷ (next == numbers_end, NumbersOut) ∷ []
+
 abbrev pub queue_refusal : Bool → ℕ → NewJob → Option Refusal
-queue_refusal known next job =
-    first_reason ((is_too_large job, TooLarge) ∷ (not known, NoSystem) ∷ (next == numbers_end, NumbersOut) ∷ [])
+queue_refusal known next job = first_reason (queue_reasons known next job)
 
 -- an administrator may touch each job, anybody else the own ones
 abbrev pub may_touch : By → JobHead → Bool
@@ -40,6 +48,11 @@ may_touch by job = by.admin || same_text by.user job.user
 abbrev pub job_refusal : Option JobHead → By → Option Refusal
 job_refusal None by = Some NoJob
 job_refusal (Some job) by = if may_touch by job then None else Some NotYours
+
+-- the same as a list
+abbrev pub job_reasons : Option JobHead → By → List (Bool × Refusal)
+job_reasons None by = (true, NoJob) ∷ []
+job_reasons (Some job) by = (not (may_touch by job), NotYours) ∷ []
 
 -- one of the numbers stands twice: counted once each, they are fewer
 abbrev pub has_repeat : List ℕ → Bool
@@ -57,10 +70,14 @@ abbrev pub has_other : List ℕ → List ℕ → List JobHead → Bool
 has_other system numbers jobs =
     list_any (λ job. list_any (λ number. number == job.number) numbers && not (same_text job.system system)) jobs
 
+-- a report of a call names at most 256 jobs, each once, which are there and wait for the system
+abbrev pub done_reasons : Bool → List ℕ → List ℕ → List JobHead → List (Bool × Refusal)
+done_reasons known system numbers jobs =
+    (nat_lt 256 (length numbers), TooLarge) ∷ (not known, NoSystem) ∷ (is_missing_one numbers jobs, NoJob) ∷ (has_repeat numbers, JobTwice)
+    ∷ (has_other system numbers jobs, OtherSystem) ∷ []
+
 abbrev pub done_refusal : Bool → List ℕ → List ℕ → List JobHead → Option Refusal
-done_refusal known system numbers jobs =
-    first_reason ((nat_lt 256 (length numbers), TooLarge) ∷ (not known, NoSystem) ∷ (is_missing_one numbers jobs, NoJob)
-    ∷ (has_repeat numbers, JobTwice) ∷ (has_other system numbers jobs, OtherSystem) ∷ [])
+done_refusal known system numbers jobs = first_reason (done_reasons known system numbers jobs)
 
 -- why a command is refused in a state, if it is
 abbrev pub verdict : State → Command → Option Refusal
@@ -73,3 +90,15 @@ verdict state (Rejuvenate job at by) = job_refusal (option_map head_of (job_at s
 verdict state (Failed system at why) = first_reason ((not (has_system state system), NoSystem) ∷ [])
 verdict state (Done system at jobs) = done_refusal (has_system state system) system jobs (map head_of state.jobs)
 verdict state (Entry bytes) = first_reason ((is_err (host_of bytes), BadEntry) ∷ [])
+
+-- each reason for which a command may be refused, with whether it applies in a state
+abbrev pub reasons : State → Command → List (Bool × Refusal)
+reasons state (Define def) = []
+reasons state (Remove name) = drop_reasons (has_system state name) (is_waiting state name)
+reasons state (Queue job) = queue_reasons (has_system state job.system) state.next job
+reasons state (Kill job by) = job_reasons (option_map head_of (job_at state job)) by
+reasons state (Regrade job grade by) = job_reasons (option_map head_of (job_at state job)) by
+reasons state (Rejuvenate job at by) = job_reasons (option_map head_of (job_at state job)) by
+reasons state (Failed system at why) = (not (has_system state system), NoSystem) ∷ []
+reasons state (Done system at jobs) = done_reasons (has_system state system) system jobs (map head_of state.jobs)
+reasons state (Entry bytes) = (is_err (host_of bytes), BadEntry) ∷ []

@@ -25,6 +25,9 @@ pub const MAX_DONE: usize = 256;
 pub const NUMBERS_END: u32 = 4_294_967_295;
 
 /// Whether a system may be removed, where it is known or not, and a job waits for it or not.
+///
+/// # Errors
+/// [`Refusal::NoSystem`] where it is not known, and then [`Refusal::Busy`] where a job waits for it.
 pub fn decide_drop(known: bool, waiting: bool) -> Result<(), Refusal>
     ensures { result ≡ decided (drop_refusal known waiting) tt }
 {
@@ -53,6 +56,10 @@ fn is_too_large(job: &NewJob) -> bool
 }
 
 /// The number of a job that is handed in, where its system is known or not and `next` is the next number.
+///
+/// # Errors
+/// [`Refusal::TooLarge`] where the job has more than 1,048,576 bytes or 64 arguments, then [`Refusal::NoSystem`] where its system is not
+/// known, and then [`Refusal::NumbersOut`] where `next` is 4,294,967,295.
 pub fn decide_queue(known: bool, next: u32, job: &NewJob) -> Result<u32, Refusal>
     ensures { result ≡ decided (queue_refusal known next job.now) next }
 {
@@ -74,6 +81,9 @@ fn may_touch(by: &By, job: &JobHead) -> bool
 }
 
 /// Whether the job of a number, if there is one, may be killed, regraded or rejuvenated.
+///
+/// # Errors
+/// [`Refusal::NoJob`] where there is none, and [`Refusal::NotYours`] where it is another user's and `by` is no administrator.
 pub fn decide_job(job: Option<&JobHead>, by: &By) -> Result<(), Refusal>
     ensures { result ≡ decided (job_refusal (option_copied job.entry) by.now) tt }
 {
@@ -85,6 +95,9 @@ pub fn decide_job(job: Option<&JobHead>, by: &By) -> Result<(), Refusal>
 }
 
 /// The calls of a system, if it is known, after one that failed at this moment for this reason.
+///
+/// # Errors
+/// [`Refusal::NoSystem`] where it is not known.
 pub fn decide_failed(
     system: Option<&SystemRow>,
     at: &Moment,
@@ -141,6 +154,11 @@ fn has_other(system: &SiteName, numbers: &[u32], jobs: &[JobHead]) -> bool
 
 /// The calls of a system, known or not, after one at this moment in which the jobs of these numbers went through.
 /// `found` holds the jobs of the spool whose numbers are among them.
+///
+/// # Errors
+/// In this order: [`Refusal::TooLarge`] where there are more than 256 numbers, [`Refusal::NoSystem`] where the system is not known,
+/// [`Refusal::NoJob`] where a number has no job, [`Refusal::JobTwice`] where a number stands twice, and [`Refusal::OtherSystem`] where one of
+/// the jobs waits for another system.
 pub fn decide_done(
     known: bool,
     system: &SiteName,

@@ -1,5 +1,5 @@
 //! Laws of the machine that the contracts of this crate speak of.
-ghost use Rattle.std.specs.Prelude.{◌≡◌, ◌++◌, ◌+◌, ◌≤◌, ◌⊎◌, ◌<◌, ℕ, List, Some, None, Contains, Bool, false, All, IsPermutation, [], ◌∷◌};
+ghost use Rattle.std.specs.Prelude.{◌≡◌, ◌++◌, ◌+◌, ◌≤◌, ◌⊎◌, ◌<◌, ℕ, List, Some, None, Contains, Bool, false, All, AllPairs, IsPermutation, [], ◌∷◌};
 ghost use Rattle.uu_core.specs.declared.command.Command.{Command};
 ghost use Rattle.uu_core.specs.declared.command.Command.TheVariants.{Queue};
 ghost use Rattle.uu_core.specs.declared.command.Reply.TheVariants.{Number, Refused};
@@ -9,11 +9,12 @@ ghost use Rattle.uu_core.specs.declared.job.NewJob.{NewJob};
 ghost use Rattle.uu_core.specs.declared.refusal.Refusal.{Refusal};
 ghost use Rattle.uu_core.specs.declared.system.SystemRow.{SystemRow};
 ghost use Rattle.uu_core.specs.State.{State, Job, IsWellFormed, empty};
-ghost use Rattle.uu_core.specs.Verdict.{verdict, done_refusal};
+ghost use Rattle.uu_core.specs.Refusal.{first_reason, AreInTurn};
+ghost use Rattle.uu_core.specs.Verdict.{verdict, reasons, done_refusal};
 ghost use Rattle.uu_core.specs.Due.{AreDue, AreInOrder, walk, with_next};
 ghost use Rattle.uu_core.specs.After.{after, job_of};
 ghost use Rattle.uu_core.specs.Run.{state_after, replies_to};
-ghost use Rattle.uu_core.specs.Laws.{accepted_of, lets_go, IsAmong, IsHandedIn, AreFound};
+ghost use Rattle.uu_core.specs.Laws.{accepted_of, lets_go, numbers_in, IsAmong, IsHandedIn, IsOfRun, AreFound};
 ghost use Rattle.uu_core.specs.WellFormed.{IsCommand};
 
 pub use crate::sound::commands_are_sound;
@@ -21,6 +22,13 @@ pub use crate::sound::commands_are_sound;
 /// A refused command leaves the state, and its reply is the refusal.
 pub fn refusals_change_nothing()
     ensures { (state : State) (command : Command) (refusal : Refusal) → verdict state command ≡ Some refusal → after state command ≡ (state, Refused refusal) }
+{}
+
+/// Where several reasons apply, [`Refusal::TooLarge`](crate::Refusal::TooLarge) is told first, and else the one of the least number: the
+/// reasons of each command stand in that order, and the first that applies is told.
+pub fn refusals_are_told_in_order()
+    ensures order { (state : State) (command : Command) → AreInTurn (reasons state command) }
+    ensures told { (state : State) (command : Command) → verdict state command ≡ first_reason (reasons state command) }
 {}
 
 /// A run of some commands followed by others is the run of the others from the state after the first.
@@ -35,10 +43,13 @@ pub fn accepted_commands_alone()
     ensures accepted { (state : State) (commands : List Command) → accepted_of state (accepted_of state commands) ≡ accepted_of state commands }
 {}
 
-/// A number that a job got is below the next number from then on, so that no job gets it again.
+/// A number that a job got is below the next number from then on, and no job gets it again: the numbers that a run gives begin at the
+/// next one and rise.
 pub fn numbers_are_not_used_again()
     ensures rise { (state : State) (commands : List Command) → state.next ≤ (state_after state commands).next }
     ensures used { (state : State) (job : NewJob) (number : ℕ) → (after state (Queue job)).1 ≡ Number number → (number ≡ state.next) × ((after state (Queue job)).0.next ≡ number + 1) }
+    ensures fresh { (state : State) (commands : List Command) → All (λ number. state.next ≤ number) (numbers_in (replies_to state commands)) }
+    ensures once { (state : State) (commands : List Command) → AllPairs (λ earlier later. earlier < later) (numbers_in (replies_to state commands)) }
 {}
 
 /// Nothing is lost: a job stays until an accepted command names it and lets it go.
@@ -53,9 +64,11 @@ pub fn jobs_stay_through_runs()
         → All (λ command. lets_go command job.number ≡ false) (accepted_of state commands) → IsAmong (state_after state commands).jobs job }
 {}
 
-/// Nothing is made: each job was there before, or is the one that the command hands in.
+/// Nothing is made: each job was there before, or is the one that the command hands in; after a run it was there before, or an
+/// accepted command of the run handed it in.
 pub fn jobs_are_handed_in()
-    ensures { (state : State) (command : Command) (later : Job) → Contains (after state command).0.jobs later → IsAmong state.jobs later ⊎ IsHandedIn state command later }
+    ensures step { (state : State) (command : Command) (later : Job) → Contains (after state command).0.jobs later → IsAmong state.jobs later ⊎ IsHandedIn state command later }
+    ensures run { (state : State) (commands : List Command) (later : Job) → Contains (state_after state commands).jobs later → IsAmong state.jobs later ⊎ IsOfRun state commands later }
 {}
 
 /// An empty spool is well-formed, and each command, accepted or refused, keeps a spool well-formed.

@@ -5,19 +5,19 @@
 mod command;
 mod decide;
 mod due;
+mod filter;
 mod job;
 pub mod laws;
 pub mod plain;
 mod refusal;
 mod sound;
 mod system;
-#[cfg(test)]
-mod tests;
 mod waiting;
 
 pub use command::{Command, Reply};
 pub use decide::{decide_done, decide_drop, decide_failed, decide_job, decide_queue};
 pub use due::{Due, choose};
+pub use filter::Filter;
 pub use job::{By, JobHead, Kind, NewJob};
 pub use refusal::Refusal;
 pub use system::{CallState, Outcome, SystemRow};

@@ -79,10 +79,9 @@ fn growing_minutes(failures: u32) -> u32
 fn retry_minutes(lines: &[Line], week: u16, failures: u32) -> u32
     ensures { result ≡ retry_minutes lines.now week failures }
 {
-    match line_at(lines, week).and_then(|line| line.retry) {
-        Some(minutes) => minutes,
-        None => growing_minutes(failures),
-    }
+    line_at(lines, week)
+        .and_then(|line| line.retry)
+        .unwrap_or_else(|| growing_minutes(failures))
 }
 
 // The wait in seconds after so many failures, the last one at this minute of the week.

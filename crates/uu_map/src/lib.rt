@@ -17,6 +17,3 @@ pub use fault::MapFault;
 pub use listed::Listed;
 pub use reader::read_entry;
 pub use splitter::split;
-
-#[cfg(test)]
-mod tests;

@@ -97,21 +97,34 @@ fn number(digits: &[u8]) -> Option<i64>
 fn symbol(name: &[u8]) -> Token
     ensures { result ≡ symbol_token name.now }
 {
-    match name {
-        b"LOCAL" => Token::Amount(Some(25)),
-        b"DEDICATED" => Token::Amount(Some(95)),
-        b"DIRECT" => Token::Amount(Some(200)),
-        b"DEMAND" => Token::Amount(Some(300)),
-        b"HOURLY" => Token::Amount(Some(500)),
-        b"EVENING" => Token::Amount(Some(1800)),
-        b"DAILY" => Token::Amount(Some(5000)),
-        b"WEEKLY" => Token::Amount(Some(30000)),
-        b"HIGH" => Token::Amount(Some(-5)),
-        b"LOW" => Token::Amount(Some(5)),
-        b"FAST" => Token::Amount(Some(-80)),
-        b"POLLED" => Token::Amount(Some(5000)),
-        b"DEAD" => Token::Dead,
-        _ => Token::Other,
+    if name == b"DEAD".as_slice() {
+        Token::Dead
+    } else if name == b"LOCAL".as_slice() {
+        Token::Amount(Some(25))
+    } else if name == b"DEDICATED".as_slice() {
+        Token::Amount(Some(95))
+    } else if name == b"DIRECT".as_slice() {
+        Token::Amount(Some(200))
+    } else if name == b"DEMAND".as_slice() {
+        Token::Amount(Some(300))
+    } else if name == b"HOURLY".as_slice() {
+        Token::Amount(Some(500))
+    } else if name == b"EVENING".as_slice() {
+        Token::Amount(Some(1800))
+    } else if name == b"DAILY".as_slice() {
+        Token::Amount(Some(5000))
+    } else if name == b"WEEKLY".as_slice() {
+        Token::Amount(Some(30000))
+    } else if name == b"HIGH".as_slice() {
+        Token::Amount(Some(-5))
+    } else if name == b"LOW".as_slice() {
+        Token::Amount(Some(5))
+    } else if name == b"FAST".as_slice() {
+        Token::Amount(Some(-80))
+    } else if name == b"POLLED".as_slice() {
+        Token::Amount(Some(5000))
+    } else {
+        Token::Other
     }
 }
 

@@ -5,4 +5,5 @@ pub mod PathParts
 pub mod PathScan
 pub mod ReturnLines
 pub mod ReturnLoop
+pub mod ReturnRuns
 pub mod ReturnSenders

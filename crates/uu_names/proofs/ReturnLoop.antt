@@ -5,7 +5,8 @@ use Rattle.std.proofs.lemmas.List.{drop-drop, length-take-le, length-drop}
 use Rattle.uu_names.specs.declared.fault.NameFault.{NameFault}
 use Rattle.uu_names.specs.declared.fault.NameFault.TheVariants.{BadGrade, BadName, BadPath, BadWord, NoEnvelope, TooLong, Memory}
 use Rattle.uu_names.specs.Path.{IsPathText, IsPathFault}
-use Rattle.uu_names.specs.ReturnPath.{raw_lines, content, Sender, IsLeadingLine, first_marker, later_marker, AreLeadingLines, next_marker, Stops, HasLeadingLines, last_user, way_back, IsReturnPath, IsReturnFault, BeginsWithSender}
+use Rattle.uu_names.specs.ReturnPath.{raw_lines, content, Sender, IsLeadingLine, first_marker, later_marker, AreLeadingLines, next_marker, Stops, HasLeadingLines, last_user, way_back, IsReturnPath, IsReturnFault}
+use Rattle.uu_names.specs.Internal.NextLine.{BeginsWithSender}
 use Rattle.uu_names.proofs.PathScan.{whole, whole-cons}
 
 -- the way so far: each site and a `!`

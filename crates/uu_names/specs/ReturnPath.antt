@@ -1,5 +1,5 @@
 -- The lines that the sites on a message's way have put before it, and the path back to its sender (RFC 976).
-use Rattle.std.specs.Prelude.{◌≡◌, ◌⊎◌, ℕ, ◌<◌, Bool, not, List, [], ◌∷◌, ◌++◌, ◌==◌, codes, length, IsTrue, if◌then◌else◌, map, take, drop, ◌-◌, ◌≤◌, nat_eq, ⊤}
+use Rattle.std.specs.Prelude.{◌≡◌, ◌⊎◌, ℕ, Bool, not, List, [], ◌∷◌, ◌++◌, ◌==◌, codes, length, IsTrue, if◌then◌else◌, map, take, ◌-◌, nat_eq, ⊤}
 use Rattle.std.specs.List.{concat, onto_first, join_with_byte, ends_with}
 use Rattle.std.specs.Str.{byte}
 use Rattle.uu_names.specs.declared.fault.NameFault.{NameFault}
@@ -114,10 +114,3 @@ IsReturnFault text Memory = ⊤
 IsReturnFault text BadGrade = ⊥
 IsReturnFault text (BadName at) = ⊥
 IsReturnFault text (BadWord at) = ⊥
-
--- the text begins with a leading line of so many bytes, with its ending, which says this
-pub record BeginsWithSender (marker text user site : List ℕ) (line_len : ℕ) : Type 0 where
-  pub some : 0 < line_len
-  pub within : line_len ≤ length text
-  pub line : raw_lines text ≡ take line_len text ∷ raw_lines (drop line_len text)
-  pub says : IsLeadingLine marker (content (take line_len text)) (record { user = user; site = site })

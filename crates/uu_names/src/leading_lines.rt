@@ -1,8 +1,10 @@
 // The lines that the sites on a message's way have put before it.
-ghost use Rattle.std.specs.Prelude.{◌≡◌, ◌+◌, ◌-◌, ◌<◌, ◌≤◌, [], ◌∷◌, length, take, drop, IfOk, IfErr, MatchOption, ⊤, ◌==◌, position};
+ghost use Rattle.std.specs.Prelude.{◌≡◌, ℕ, List, ◌+◌, ◌-◌, ◌<◌, ◌≤◌, [], ◌∷◌, length, take, drop, IfOk, IfErr, MatchOption, ⊤, ◌==◌, position};
 ghost use Rattle.uu_names.specs.Envelope.{line_feed};
 ghost use Rattle.std.specs.List.{suffix_len};
-ghost use Rattle.uu_names.specs.ReturnPath.{without_last, content, raw_lines, is_no_space, Sender, IsLeadingLine, IsReturnPath, IsReturnFault, Stops, BeginsWithSender};
+ghost use Rattle.uu_names.specs.Fault.{UnlessMemory};
+ghost use Rattle.uu_names.specs.ReturnPath.{without_last, content, raw_lines, is_no_space, Sender, IsLeadingLine, IsReturnPath, IsReturnFault, Stops};
+ghost use Rattle.uu_names.specs.Internal.NextLine.{BeginsWithSender};
 
 use crate::fault::NameFault;
 use crate::path::Path;
@@ -108,11 +110,13 @@ fn next_sender<'a>(marker: &[u8], text: &'a [u8]) -> Option<Found<'a>>
 /// nothing or a space and any bytes, and ` remote from ` and a site name. A line ends with a line feed, before which
 /// one carriage return is dropped, or at the end of the message. The longest run of such lines from the top counts. The path is
 /// their sites in order and the user of the last. Without such a line the answer is [`NameFault::NoEnvelope`]; where
-/// the way back is no path it is the fault of [`Path::parse`]. Linear in the leading lines and one line more. (RFC 976; which lines
+/// the way back is no path it is the fault of [`Path::parse`], whose offset counts in the way back, its sites and its user
+/// joined by `!`, and not in the message. Linear in the leading lines and one line more. (RFC 976; which lines
 /// count is this project's choice.)
 pub fn return_path(alloc: Global, message: &[u8]) -> Result<(Path, usize), NameFault>
     ensures path { IfOk result (λ read. IsReturnPath message.now read.0 read.1) }
     ensures fault { IfErr result (IsReturnFault message.now) }
+    ensures refused { IfErr result (λ fault. UnlessMemory fault ((path : List ℕ) (body : ℕ) → ¬ IsReturnPath message.now path body)) }
 {
     let mut way = Vec::new(alloc);
     let mut user: &[u8] = b"";

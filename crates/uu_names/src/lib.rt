@@ -2,13 +2,13 @@
 #![tactic(auto)]
 
 mod fault;
+mod form;
 mod from_line;
 mod grade;
+pub mod laws;
 mod leading_lines;
 mod path;
 mod site_name;
-#[cfg(test)]
-mod tests;
 mod text;
 mod word;
 

@@ -1,5 +1,5 @@
 // The names of sites.
-ghost use Rattle.std.specs.Prelude.{◌≡◌, ℕ, List, Some, Ok, Err, MatchResult, IsTrue, nat_eq, string_bytes, not, position};
+ghost use Rattle.std.specs.Prelude.{◌≡◌, ℕ, List, Some, IsTrue, nat_eq, string_bytes};
 ghost use Rattle.std.specs.Cmp.{partial_equiv_from_equiv};
 ghost use Rattle.std.specs.Cmp.Lexicographic.{pointwise, slice_cmp, nat_list_eq_equiv, nat_list_cmp_total, texts_po, texts_ties};
 ghost use Rattle.std.specs.Ordering.{nat_cmp};
@@ -8,6 +8,7 @@ ghost use Rattle.uu_names.specs.Fault.{AnswersUnlessMemory};
 ghost use Rattle.uu_names.specs.Name.{is_site_name, is_site_byte, site_name_of};
 
 use crate::fault::NameFault;
+use crate::form::Form;
 use crate::text::ascii_text;
 use std::alloc::{AllocError, Global};
 use std::cmp::Ordering;
@@ -37,29 +38,10 @@ pub(crate) fn is_site_byte(byte: u8) -> bool
     byte.is_ascii_alphanumeric() || matches!(byte, b'-' | b'_' | b'.')
 }
 
-fn first_refused(bytes: &[u8]) -> Option<usize>
-    ensures { result ≡ position (λ byte. not (is_site_byte byte)) bytes.now }
-{
-    bytes.iter().position(|byte| !is_site_byte(*byte))
-}
-
-// Whether the bytes are a site name, and if not, why.
-fn check(bytes: &[u8]) -> Result<(), NameFault>
-    ensures { MatchResult result (λ _. site_name_of bytes.now ≡ Ok bytes.now)
-        (λ fault. site_name_of bytes.now ≡ Err fault) }
-{
-    match first_refused(bytes) {
-        Some(at) => Err(NameFault::BadName(at)),
-        None if bytes.is_empty() => Err(NameFault::BadName(0)),
-        None if bytes.len() > MAX_LEN => Err(NameFault::TooLong),
-        None => Ok(()),
-    }
-}
-
 pub(crate) fn is_site_name(bytes: &[u8]) -> bool
     ensures { result ≡ is_site_name bytes.now }
 {
-    check(bytes).is_ok()
+    Form::SiteName.check(bytes).is_ok()
 }
 
 impl SiteName {
@@ -75,7 +57,7 @@ impl SiteName {
     pub fn from_bytes(alloc: Global, bytes: &[u8]) -> Result<SiteName, NameFault>
         ensures { AnswersUnlessMemory result (site_name_of bytes.now) }
     {
-        check(bytes)?;
+        Form::SiteName.check(bytes)?;
         let text = ascii_text(alloc, bytes)?;
         Ok(SiteName { text })
     }

@@ -1,5 +1,5 @@
 // Words: the names of users, files and commands, their arguments, and reasons.
-ghost use Rattle.std.specs.Prelude.{◌≡◌, ℕ, List, Some, Ok, Err, MatchResult, IsTrue, nat_eq, string_bytes, not, position};
+ghost use Rattle.std.specs.Prelude.{◌≡◌, ℕ, List, Some, IsTrue, nat_eq, string_bytes};
 ghost use Rattle.std.specs.Cmp.{partial_equiv_from_equiv};
 ghost use Rattle.std.specs.Cmp.Lexicographic.{pointwise, slice_cmp, nat_list_eq_equiv, nat_list_cmp_total, texts_po, texts_ties};
 ghost use Rattle.std.specs.Ordering.{nat_cmp};
@@ -8,6 +8,7 @@ ghost use Rattle.uu_names.specs.Fault.{AnswersUnlessMemory};
 ghost use Rattle.uu_names.specs.Name.{is_word, is_word_byte, word_of};
 
 use crate::fault::NameFault;
+use crate::form::Form;
 use crate::text::ascii_text;
 use std::alloc::{AllocError, Global};
 use std::cmp::Ordering;
@@ -30,31 +31,12 @@ impl Model for Word {
 }
 
 /// The most bytes of a word.
-const MAX_LEN: usize = 255;
+pub(crate) const MAX_LEN: usize = 255;
 
 pub(crate) fn is_word_byte(byte: u8) -> bool
     ensures { result ≡ is_word_byte byte }
 {
     byte.is_ascii_graphic()
-}
-
-fn first_refused(bytes: &[u8]) -> Option<usize>
-    ensures { result ≡ position (λ byte. not (is_word_byte byte)) bytes.now }
-{
-    bytes.iter().position(|byte| !is_word_byte(*byte))
-}
-
-// Whether the bytes are a word, and if not, why.
-fn check(bytes: &[u8]) -> Result<(), NameFault>
-    ensures { MatchResult result (λ _. word_of bytes.now ≡ Ok bytes.now)
-        (λ fault. word_of bytes.now ≡ Err fault) }
-{
-    match first_refused(bytes) {
-        Some(at) => Err(NameFault::BadWord(at)),
-        None if bytes.is_empty() => Err(NameFault::BadWord(0)),
-        None if bytes.len() > MAX_LEN => Err(NameFault::TooLong),
-        None => Ok(()),
-    }
 }
 
 impl Word {
@@ -70,7 +52,7 @@ impl Word {
     pub fn from_bytes(alloc: Global, bytes: &[u8]) -> Result<Word, NameFault>
         ensures { AnswersUnlessMemory result (word_of bytes.now) }
     {
-        check(bytes)?;
+        Form::Word.check(bytes)?;
         let text = ascii_text(alloc, bytes)?;
         Ok(Word { text })
     }

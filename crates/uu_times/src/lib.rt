@@ -21,6 +21,3 @@ pub use sys_file::read_sys;
 pub use system::{Line, LineNumbers, Lines, SysFile, SystemDef, Systems};
 pub use timetable::{Timetables, read_time};
 pub use windows::Windows;
-
-#[cfg(test)]
-mod tests;

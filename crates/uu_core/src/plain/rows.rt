@@ -53,10 +53,7 @@ pub(super) fn entry_at<'a>(entries: &'a [PlainEntry], host: &SiteName) -> Option
 pub(super) fn decide_on(jobs: &[PlainJob], number: u32, by: &By) -> Result<(), Refusal>
     ensures { result ≡ decided (job_refusal (option_map head_of (find (is_job number) jobs.now)) by.now) tt }
 {
-    match job_at(jobs, number) {
-        Some(job) => decide_job(Some(job.head()), by),
-        None => decide_job(None, by),
-    }
+    decide_job(job_at(jobs, number).map(|job| job.head()), by)
 }
 
 // The calls of a system so far, and those of a new one where it isn't known.

@@ -1,0 +1,68 @@
+-- Reasons that stand in the order in which they are told.
+use Rattle.std.proofs.Common.{◌≡◌, ◌<◌, Bool, true, false, not, cond, ◌&&◌, ltb, List, [], ◌∷◌, Option, Some, None, refl, option_map, arith}
+use Rattle.std.specs.List.{list_all}
+use Rattle.std.proofs.lemmas.Bool.{ltb-true}
+use Rattle.std.proofs.lemmas.List.Kept.{AllPairs-cons}
+use Rattle.std.proofs.lemmas.List.Sums.{AllPass-from_list_all}
+use Rattle.uu_core.specs.declared.command.Command.{Command}
+use Rattle.uu_core.specs.declared.command.Command.TheVariants.{Define, Remove, Queue, Kill, Regrade, Rejuvenate, Failed, Done, Entry}
+use Rattle.uu_core.specs.declared.job.By.{By}
+use Rattle.uu_core.specs.declared.job.JobHead.{JobHead}
+use Rattle.uu_core.specs.declared.refusal.Refusal.{Refusal}
+use Rattle.uu_core.specs.declared.refusal.Refusal.TheVariants.{NotYours}
+use Rattle.uu_core.specs.Refusal.{turn_of, AreInTurn, first_reason}
+use Rattle.uu_core.specs.State.{State, job_at, head_of}
+use Rattle.uu_core.specs.Verdict.{may_touch, job_refusal, job_reasons, verdict, reasons}
+
+abbrev rises : List (Bool × Refusal) → Bool
+rises [] = true
+rises (reason ∷ more) = list_all (λ later. ltb (turn_of reason.1) (turn_of later.1)) more && rises more
+
+and-both : (a b : Bool) → a && b ≡ true → (a ≡ true) × (b ≡ true)
+and-both true b e = (refl, e)
+and-both false b e = absurd (false-true e)
+  where
+    false-true : false ≡ true → ⊥
+    false-true e = cc
+
+in_turn : (reasons : List (Bool × Refusal)) → rises reasons ≡ true → AreInTurn reasons
+in_turn [] e = λ i j d below within. absurd (omega arith)
+in_turn (reason ∷ more) e =
+    let both = and-both (list_all (λ later. ltb (turn_of reason.1) (turn_of later.1)) more) (rises more) e in
+    AllPairs-cons (λ earlier later. turn_of earlier.1 < turn_of later.1) reason more
+    (λ i d within. ltb-true _ _ (AllPass-from_list_all (λ (later : Bool × Refusal). ltb (turn_of reason.1) (turn_of later.1)) more both.0 i d within))
+    (in_turn more both.1)
+
+job_in_turn : (job : Option JobHead) (by : By) → AreInTurn (job_reasons job by)
+job_in_turn None by = in_turn (job_reasons None by) refl
+job_in_turn (Some job) by = in_turn (job_reasons (Some job) by) refl
+
+pub reasons_in_turn : (state : State) (command : Command) → AreInTurn (reasons state command)
+reasons_in_turn state (Define def) = in_turn (reasons state (Define def)) refl
+reasons_in_turn state (Remove name) = in_turn (reasons state (Remove name)) refl
+reasons_in_turn state (Queue job) = in_turn (reasons state (Queue job)) refl
+reasons_in_turn state (Kill job by) = job_in_turn (option_map head_of (job_at state job)) by
+reasons_in_turn state (Regrade job grade by) = job_in_turn (option_map head_of (job_at state job)) by
+reasons_in_turn state (Rejuvenate job at by) = job_in_turn (option_map head_of (job_at state job)) by
+reasons_in_turn state (Failed system at why) = in_turn (reasons state (Failed system at why)) refl
+reasons_in_turn state (Done system at jobs) = in_turn (reasons state (Done system at jobs)) refl
+reasons_in_turn state (Entry bytes) = in_turn (reasons state (Entry bytes)) refl
+
+job_told : (job : Option JobHead) (by : By) → job_refusal job by ≡ first_reason (job_reasons job by)
+job_told None by = refl
+job_told (Some job) by = by-test (may_touch by job)
+  where
+    by-test : (may : Bool) → cond may None (Some NotYours) ≡ cond (not may) (Some NotYours) None
+    by-test true = refl
+    by-test false = refl
+
+pub reasons_told : (state : State) (command : Command) → verdict state command ≡ first_reason (reasons state command)
+reasons_told state (Define def) = refl
+reasons_told state (Remove name) = refl
+reasons_told state (Queue job) = refl
+reasons_told state (Kill job by) = job_told (option_map head_of (job_at state job)) by
+reasons_told state (Regrade job grade by) = job_told (option_map head_of (job_at state job)) by
+reasons_told state (Rejuvenate job at by) = job_told (option_map head_of (job_at state job)) by
+reasons_told state (Failed system at why) = refl
+reasons_told state (Done system at jobs) = refl
+reasons_told state (Entry bytes) = refl

@@ -1,0 +1,280 @@
+// Worked answers of single decisions: what is refused, how long a system is left alone, and what is due.
+use crate::expecting::{expect_same, expect_text};
+use crate::order::{SUNDAY, all_week, by, file, grade, moment, new_job, site, word};
+use crate::questions::show_dues;
+use std::alloc::{AllocError, Global};
+use std::process::Abort;
+use uu_core::{
+    CallState, JobHead, Outcome, Refusal, SystemRow, choose, decide_done, decide_drop,
+    decide_failed, decide_job, decide_queue, held, limit,
+};
+
+// A system that may be called all week for jobs of this grade and above.
+fn system(
+    rt: &impl Abort,
+    alloc: Global,
+    name: &str,
+    grade: u8,
+    retry: Option<u32>,
+    max_retries: u32,
+) -> SystemRow {
+    let def = all_week(rt, alloc, name, grade, retry, max_retries);
+    let call = CallState {
+        last: 0,
+        failures: 0,
+        wait: 0,
+        outcome: Outcome::Never,
+    };
+    SystemRow { def, call }
+}
+
+fn job(rt: &impl Abort, alloc: Global, number: u32, system: &str, byte: u8) -> JobHead {
+    JobHead {
+        number,
+        system: site(rt, alloc, system),
+        grade: grade(rt, byte),
+        user: word(rt, alloc, "ann"),
+        kind: file(rt, alloc),
+        queued: SUNDAY,
+        size: 0,
+    }
+}
+
+/// Jobs, each with its number, system and grade.
+type Jobs = &'static [(u32, &'static str, u8)];
+
+fn jobs(rt: &impl Abort, alloc: Global, rows: Jobs) -> Vec<JobHead> {
+    let mut jobs = Vec::new(alloc);
+    for (number, system, grade) in rows {
+        let job = job(rt, alloc, *number, system, *grade);
+        jobs.push(job).expect(rt, "memory");
+    }
+    jobs
+}
+
+/// Whether the system is defined, the next number, how many bytes are handed in, and the decision.
+const HANDED_IN: [(bool, u32, usize, Result<u32, Refusal>); 7] = [
+    (true, 1, 1_048_576, Ok(1)),
+    (true, 2, 1_048_577, Err(Refusal::TooLarge)),
+    (false, 2, 1_048_577, Err(Refusal::TooLarge)),
+    (true, 2, 0, Ok(2)),
+    (false, 2, 0, Err(Refusal::NoSystem)),
+    (true, 4_294_967_294, 0, Ok(4_294_967_294)),
+    (true, 4_294_967_295, 0, Err(Refusal::NumbersOut)),
+];
+
+fn queue_decision(
+    rt: &impl Abort,
+    alloc: Global,
+    is_defined: bool,
+    next: u32,
+    size: usize,
+) -> Result<u32, Refusal> {
+    let job = new_job(rt, alloc, "duke", b'N', size);
+    decide_queue(is_defined, next, &job)
+}
+
+#[test]
+fn jobs_handed_in(rt: HostRuntime) {
+    for (is_defined, next, size, want) in HANDED_IN.as_slice() {
+        let decision = queue_decision(&rt, rt.alloc(), *is_defined, *next, *size);
+        expect_same(&rt, &decision, want);
+    }
+}
+
+/// The jobs that went through in a call of duke, and its second and wait, or what refuses it.
+const CALLS: [(&[u32], Result<(u64, u64), Refusal>); 5] = [
+    (&[1, 1], Err(Refusal::JobTwice)),
+    (&[1, 3], Err(Refusal::OtherSystem)),
+    (&[1, 4], Err(Refusal::NoJob)),
+    (&[1; 257], Err(Refusal::TooLarge)),
+    (&[1], Ok((SUNDAY, 0))),
+];
+
+fn done_decision(rt: &impl Abort, alloc: Global, numbers: &[u32]) -> Result<(u64, u64), Refusal> {
+    let duke = site(rt, alloc, "duke");
+    let jobs = jobs(rt, alloc, &[(1, "duke", b'N'), (3, "unc", b'N')]);
+    let call = decide_done(true, &duke, numbers, &jobs, &moment(rt, SUNDAY))?;
+    Ok((call.last, call.wait))
+}
+
+#[test]
+fn jobs_of_a_call(rt: HostRuntime) {
+    for (numbers, want) in CALLS.as_slice() {
+        expect_same(&rt, &done_decision(&rt, rt.alloc(), numbers), want);
+    }
+}
+
+/// Whether ann's job is there, a user who may or may not touch the jobs of others, and the decision.
+const TOUCHED: [(bool, &str, bool, Result<(), Refusal>); 6] = [
+    (true, "bob", false, Err(Refusal::NotYours)),
+    (true, "ann", false, Ok(())),
+    (true, "root", true, Ok(())),
+    (false, "bob", false, Err(Refusal::NoJob)),
+    (false, "ann", false, Err(Refusal::NoJob)),
+    (false, "root", true, Err(Refusal::NoJob)),
+];
+
+fn job_decision(
+    rt: &impl Abort,
+    alloc: Global,
+    is_there: bool,
+    user: &str,
+    admin: bool,
+) -> Result<(), Refusal> {
+    let own = job(rt, alloc, 1, "duke", b'N');
+    let by = by(rt, alloc, user, admin);
+    decide_job(if is_there { Some(&own) } else { None }, &by)
+}
+
+#[test]
+fn owners_and_waiting_jobs(rt: HostRuntime) {
+    for (is_there, user, admin, want) in TOUCHED.as_slice() {
+        let decision = job_decision(&rt, rt.alloc(), *is_there, user, *admin);
+        expect_same(&rt, &decision, want);
+    }
+}
+
+#[test]
+fn systems_that_go(rt: HostRuntime) {
+    expect_same(&rt, &decide_drop(true, true), &Err(Refusal::Busy));
+    expect_same(&rt, &decide_drop(false, false), &Err(Refusal::NoSystem));
+    expect_same(&rt, &decide_drop(true, false), &Ok(()));
+}
+
+fn fail(rt: &impl Abort, alloc: Global, system: &mut SystemRow, second: u64) {
+    let why = word(rt, alloc, "busy");
+    let call = decide_failed(Some(&*system), &moment(rt, second), why);
+    system.call = call.expect(rt, "a system");
+}
+
+// A system whose calls failed at these seconds.
+fn failed(
+    rt: &impl Abort,
+    alloc: Global,
+    retry: Option<u32>,
+    max_retries: u32,
+    seconds: &[u64],
+) -> SystemRow {
+    let mut system = system(rt, alloc, "duke", b'z', retry, max_retries);
+    for second in seconds {
+        fail(rt, alloc, &mut system, *second);
+    }
+    system
+}
+
+/// A retry number and a most number of retries, the seconds of calls that failed, and the wait behind them.
+const WAITS: [(Option<u32>, u32, &[u64], u64); 11] = [
+    (None, 26, &[SUNDAY; 1], 600),
+    (None, 26, &[SUNDAY; 2], 1200),
+    (None, 26, &[SUNDAY; 3], 2400),
+    (None, 26, &[SUNDAY; 4], 4800),
+    (None, 26, &[SUNDAY; 5], 9600),
+    (None, 26, &[SUNDAY; 6], 19_200),
+    (None, 26, &[SUNDAY; 7], 38_400),
+    (None, 26, &[SUNDAY; 8], 76_800),
+    (None, 26, &[SUNDAY; 9], 86_400),
+    (Some(30), 2, &[SUNDAY], 1800),
+    (Some(30), 2, &[SUNDAY, 1_000_116_000], 86_400),
+];
+
+fn failures_and_wait(
+    rt: &impl Abort,
+    alloc: Global,
+    retry: Option<u32>,
+    max_retries: u32,
+    seconds: &[u64],
+) -> (usize, u64) {
+    let system = failed(rt, alloc, retry, max_retries, seconds);
+    (system.call.failures as usize, system.call.wait)
+}
+
+#[test]
+fn waits_double_up_to_a_day(rt: HostRuntime) {
+    for (retry, most, seconds, wait) in WAITS.as_slice() {
+        let calls = failures_and_wait(&rt, rt.alloc(), *retry, *most, seconds);
+        expect_same(&rt, &calls, &(seconds.len(), *wait));
+    }
+}
+
+// Whether a system is left alone at a second whose last call failed at 1,000,116,000, to be left alone for a day.
+fn is_held(rt: &impl Abort, alloc: Global, second: u64) -> bool {
+    let seconds = [SUNDAY, 1_000_116_000];
+    let system = failed(rt, alloc, Some(30), 2, seconds.as_slice());
+    held(&system.call, &moment(rt, second))
+}
+
+/// Seconds, and whether the system is left alone.
+const HELD: [(u64, bool); 4] = [
+    (1_000_116_000, true),
+    (1_000_202_399, true),
+    (1_000_202_400, false),
+    (1_000_115_999, false),
+];
+
+#[test]
+fn systems_left_alone(rt: HostRuntime) {
+    for (second, want) in HELD.as_slice() {
+        expect_same(&rt, &is_held(&rt, rt.alloc(), *second), want);
+    }
+}
+
+const FOUR_JOBS: Jobs = &[
+    (1, "duke", b'a'),
+    (2, "duke", b'B'),
+    (3, "unc", b'z'),
+    (4, "unc", b'9'),
+];
+
+const THREE_JOBS: Jobs = &[(1, "duke", b'a'), (3, "unc", b'z'), (4, "unc", b'9')];
+
+/// Whether a call of unc failed on Sunday, the jobs, a second, and who is to be called.
+const CHOSEN: [(bool, Jobs, u64, &str); 4] = [
+    (false, FOUR_JOBS, SUNDAY, "unc 9 4/duke B 2/"),
+    (true, FOUR_JOBS, SUNDAY, "duke B 2/"),
+    (true, THREE_JOBS, SUNDAY, ""),
+    (true, THREE_JOBS, SUNDAY + 600, "unc 9 4/"),
+];
+
+// Duke may be called for grade C and above, unc for each grade.
+fn two_systems(rt: &impl Abort, alloc: Global, unc_failed: bool) -> Vec<SystemRow> {
+    let duke = system(rt, alloc, "duke", b'C', None, 26);
+    let mut unc = system(rt, alloc, "unc", b'z', None, 26);
+    if unc_failed {
+        fail(rt, alloc, &mut unc, SUNDAY);
+    }
+    (vec![in alloc; duke, unc]).expect(rt, "memory")
+}
+
+fn chosen(
+    rt: &impl Abort,
+    alloc: Global,
+    unc_failed: bool,
+    rows: Jobs,
+    second: u64,
+) -> Result<String, AllocError> {
+    let systems = two_systems(rt, alloc, unc_failed);
+    let jobs = jobs(rt, alloc, rows);
+    let dues = choose(alloc, &systems, &jobs, &moment(rt, second))?;
+    show_dues(alloc, &dues)
+}
+
+#[test]
+fn systems_called_now(rt: HostRuntime) {
+    for (unc_failed, rows, second, want) in CHOSEN.as_slice() {
+        let shown = chosen(&rt, rt.alloc(), *unc_failed, rows, *second);
+        expect_text(&rt, shown, want);
+    }
+}
+
+// The limit of a system that may be called all week for this grade and above.
+fn limit_on_sunday(rt: &impl Abort, alloc: Global, grade: u8) -> Option<u8> {
+    let def = all_week(rt, alloc, "duke", grade, None, 26);
+    let limit = limit(def.lines(), moment(rt, SUNDAY).week)?;
+    Some(limit.as_byte())
+}
+
+#[test]
+fn the_grade_of_the_line_is_the_limit(rt: HostRuntime) {
+    expect_same(&rt, &limit_on_sunday(&rt, rt.alloc(), b'C'), &Some(b'C'));
+}
