@@ -1,0 +1,12 @@
+pub mod Walks
+pub mod Lists
+pub mod Meanings
+pub mod Cuts
+pub mod Heads
+pub mod Lines
+pub mod Callers
+pub mod Verdict
+pub mod Rising
+pub mod Search
+pub mod Reading
+pub mod OneState

@@ -1,0 +1,153 @@
+-- Two states with the same tables are one.
+use Rattle.std.proofs.Common.{◌≡◌, ℕ, zero, suc, ◌+◌, ◌*◌, ◌<◌, ◌≤◌, Bool, true, false, List, [], ◌∷◌, ◌++◌, map, length, take, drop, Option, None, Some, refl, sym, ap, ◌∙◌, arith}
+use Rattle.std.specs.List.{AllByRecursion, flat_map, prefix_len}
+use Rattle.std.proofs.lemmas.List.{length-drop}
+use Rattle.uu_times.specs.declared.system.Line.{Line}
+use Rattle.uu_core.specs.declared.system.Outcome.{Outcome}
+use Rattle.uu_core.specs.declared.system.Outcome.TheVariants.{Never, Failed, Done}
+use Rattle.uu_core.specs.declared.system.SystemRow.{SystemRow}
+use Rattle.uu_core.specs.State.{State, Job, MapEntry, IsJob, IsWellFormed, ComesBefore, head_of}
+use Rattle.uu_tables.specs.Tables.{Tables, PlacedLine, tables_of, system_columns, line_columns, range_columns, entry_columns, placed, placed_from, ranges_of, pieces_of, piece_count, outcome_number, reason_of}
+use Rattle.uu_tables.specs.declared.rows.EntryColumns.{EntryColumns}
+use Rattle.uu_check.specs.Tests.{owns_range, fits_line}
+use Rattle.uu_check.proofs.Walks.{AllPairsByRecursion, Apart, own_front, all_flat, take_front, drop_front, take_drop}
+use Rattle.uu_check.proofs.Lists.{pairs_by_recursion, weaker_pairs, flat_pairs}
+use Rattle.uu_check.proofs.Meanings.{eq_not, eq_to, text_to, text_not}
+use Rattle.uu_check.proofs.Cuts.{pieces_from, as_from, bytes_of}
+use Rattle.uu_check.proofs.Heads as job
+use Rattle.uu_check.proofs.Lines as line
+use Rattle.uu_check.proofs.Callers as system
+
+-- Items with the same rows, each told by its own row and by those that belong to it.
+module _ {X P C : Type 0} (owns : P → C → Bool) (fits : P → List C → Bool) (head : X → P) (kids : X → List C) (Good : X → Type 0) where
+  abbrev Others : X → X → Type 0
+  Others = Apart owns fits head kids Good
+
+  module _ (own : (x : X) → AllByRecursion (λ c. owns (head x) c ≡ true) (kids x)) (one : (x y : X) → head x ≡ head y → kids x ≡ kids y → x ≡ y) where
+    count : (x : X) (xs : List X) → AllByRecursion (Others x) xs → prefix_len (owns (head x)) (kids x ++ flat_map kids xs) ≡ length (kids x)
+    count x xs none = own_front (owns (head x)) (kids x) (flat_map kids xs) (own x) (all_flat _ kids xs none)
+
+    first : (x : X) (xs : List X) → AllByRecursion (Others x) xs → take (prefix_len (owns (head x)) (kids x ++ flat_map kids xs)) (kids x ++ flat_map kids xs) ≡ kids x
+    first x xs none = ap (λ n. take n (kids x ++ flat_map kids xs)) (count x xs none) ∙ take_front (kids x) (flat_map kids xs)
+
+    rest : (x : X) (xs : List X) → AllByRecursion (Others x) xs → drop (prefix_len (owns (head x)) (kids x ++ flat_map kids xs)) (kids x ++ flat_map kids xs) ≡ flat_map kids xs
+    rest x xs none = ap (λ n. drop n (kids x ++ flat_map kids xs)) (count x xs none) ∙ drop_front (kids x) (flat_map kids xs)
+
+    pub same_items : (xs ys : List X) → AllPairsByRecursion Others xs → AllPairsByRecursion Others ys → map head xs ≡ map head ys → flat_map kids xs ≡ flat_map kids ys → xs ≡ ys
+    same_items [] [] up vp heads children = refl
+    same_items [] (y ∷ ys) up vp heads children = absurd (cc)
+    same_items (x ∷ xs) [] up vp heads children = absurd (cc)
+    same_items (x ∷ xs) (y ∷ ys) up vp heads children =
+        let row : head x ≡ head y = cc in
+        let rows : map head xs ≡ map head ys = cc in
+        let mine : kids x ≡ kids y = sym (first x xs up.0) ∙ (λ i. take (prefix_len (owns (row i)) (children i)) (children i)) ∙ first y ys vp.0 in
+        let others : flat_map kids xs ≡ flat_map kids ys = sym (rest x xs up.0) ∙ (λ i. drop (prefix_len (owns (row i)) (children i)) (children i)) ∙ rest y ys vp.0 in
+        let same = one x y row mine in
+        let more = same_items xs ys up.1 vp.1 rows others in
+        λ i. same i ∷ more i
+
+mapped_back : {X Y : Type 0} (f : X → Y) (back : Y → X) → ((x : X) → back (f x) ≡ x) → (xs : List X) → map back (map f xs) ≡ xs
+mapped_back f back h [] = refl
+mapped_back f back h (x ∷ xs) = λ i. h x i ∷ mapped_back f back h xs i
+
+-- ---- systems
+
+windows_back : (p : PlacedLine) → map line.range_of (ranges_of p) ≡ p.line.windows
+windows_back p = mapped_back (range_columns p.system p.place) line.range_of (λ w. refl) p.line.windows
+
+same_line : (p q : PlacedLine) → line_columns p ≡ line_columns q → ranges_of p ≡ ranges_of q → p ≡ q
+same_line p q row ranges =
+    let windows : p.line.windows ≡ q.line.windows = sym (windows_back p) ∙ ap (map line.range_of) ranges ∙ windows_back q in
+    λ i. record { system = (row i).system; place = (row i).place; line = record { grade = (row i).grade; windows = windows i; retry = (row i).retry } }
+
+abbrev outcome_from : ℕ → Option (List ℕ) → Outcome
+outcome_from number (Some why) = Failed why
+outcome_from zero None = Never
+outcome_from (suc number) None = Done
+
+outcome_back : (o : Outcome) → outcome_from (outcome_number o) (reason_of o) ≡ o
+outcome_back Never = refl
+outcome_back (Failed why) = refl
+outcome_back Done = refl
+
+lines_back : (name : List ℕ) (place : ℕ) (lines : List Line) → map system.line_in (placed_from name place lines) ≡ lines
+lines_back name place [] = refl
+lines_back name place (line ∷ lines) = ap (λ l. line ∷ l) (lines_back name (place + 1) lines)
+
+same_system : (x y : SystemRow) → system_columns x ≡ system_columns y → placed x ≡ placed y → x ≡ y
+same_system x y row lines =
+    let all : x.def.lines ≡ y.def.lines = sym (lines_back x.def.name 0 x.def.lines) ∙ ap (map system.line_in) lines ∙ lines_back y.def.name 0 y.def.lines in
+    let outcome : x.call.outcome ≡ y.call.outcome = sym (outcome_back x.call.outcome) ∙ (λ i. outcome_from (row i).call.outcome (row i).call.why) ∙ outcome_back y.call.outcome in
+    λ i. record {
+      def = record { name = (row i).name; lines = all i; max_retries = (row i).max_retries };
+      call = record { last = (row i).call.last; failures = (row i).call.failures; wait = (row i).call.wait; outcome = outcome i };
+    }
+
+abbrev NameBefore : SystemRow → SystemRow → Type 0
+NameBefore a b = ComesBefore a.def.name b.def.name
+
+-- no line has the ranges of another
+lines_apart : (rows : List SystemRow) → AllPairsByRecursion NameBefore rows → AllPairsByRecursion (Apart owns_range fits_line line_columns ranges_of line.IsGoodLine) (flat_map placed rows)
+lines_apart rows rise =
+    weaker_pairs system.Differ (Apart owns_range fits_line line_columns ranges_of line.IsGoodLine) (λ p q differ. line.ranges_owned (line_columns p) q false differ) (flat_map placed rows)
+    (flat_pairs system.Differ placed (λ _. Unit {0}) (λ row g. system.lines_differ row) rows (each_unit rows) (weaker_pairs NameBefore _ system.systems_differ rows rise))
+  where
+    each_unit : (rows : List SystemRow) → AllByRecursion (λ _. Unit {0}) rows
+    each_unit [] = tt
+    each_unit (row ∷ rows) = (tt, each_unit rows)
+
+-- no system has the lines of another
+systems_apart : (rows : List SystemRow) → AllPairsByRecursion NameBefore rows → AllPairsByRecursion (Apart system.owns system.fits system_columns placed system.IsGoodSystem) rows
+systems_apart rows rise =
+    weaker_pairs NameBefore (Apart system.owns system.fits system_columns placed system.IsGoodSystem) (λ x y before. system.lines_owned x.def.name y.def.name false (text_not x.def.name y.def.name before) 0 y.def.lines) rows rise
+
+same_systems : (rows others : List SystemRow) → AllPairsByRecursion NameBefore rows → AllPairsByRecursion NameBefore others → map system_columns rows ≡ map system_columns others
+    → map line_columns (flat_map placed rows) ≡ map line_columns (flat_map placed others) → flat_map ranges_of (flat_map placed rows) ≡ flat_map ranges_of (flat_map placed others) → rows ≡ others
+same_systems rows others rise up systems lines ranges =
+    let placed_lines = same_items owns_range fits_line line_columns ranges_of line.IsGoodLine line.ranges_own same_line (flat_map placed rows) (flat_map placed others) (lines_apart rows rise) (lines_apart others up) lines ranges in
+    same_items system.owns system.fits system_columns placed system.IsGoodSystem (λ x. system.lines_owned x.def.name x.def.name true (text_to x.def.name) 0 x.def.lines) same_system rows others (systems_apart rows rise) (systems_apart others up) systems placed_lines
+
+-- ---- jobs
+
+all_bytes : (number place n : ℕ) (bytes : List ℕ) → length bytes ≤ n * 16384 → bytes_of (pieces_from number place n bytes) ≡ bytes
+all_bytes number place zero [] few = refl
+all_bytes number place zero (b ∷ bytes) few = absurd (omega (arith, few))
+all_bytes number place (suc n) bytes few =
+    let fewer : length (drop 16384 bytes) ≤ n * 16384 = simp length-drop (omega (arith, few)) in
+    ap (λ l. take 16384 bytes ++ l) (all_bytes number (place + 1) n (drop 16384 bytes) fewer) ∙ take_drop 16384 bytes
+
+enough : (size : ℕ) → size ≤ piece_count size * 16384
+enough size = omega arith
+
+bytes_back : (j : Job) → bytes_of (pieces_of j) ≡ j.bytes
+bytes_back j =
+    let n = piece_count (length j.bytes) in
+    ap bytes_of (as_from j.number j.bytes 0 n) ∙ all_bytes j.number 0 n j.bytes (enough (length j.bytes))
+
+same_job : (j k : Job) → head_of j ≡ head_of k → pieces_of j ≡ pieces_of k → j ≡ k
+same_job j k head pieces =
+    let bytes : j.bytes ≡ k.bytes = sym (bytes_back j) ∙ ap bytes_of pieces ∙ bytes_back k in
+    λ i. record { number = (head i).number; system = (head i).system; grade = (head i).grade; user = (head i).user; kind = (head i).kind; queued = (head i).queued; bytes = bytes i }
+
+abbrev NumberBefore : Job → Job → Type 0
+NumberBefore a b = a.number < b.number
+
+jobs_apart : (jobs : List Job) → AllPairsByRecursion NumberBefore jobs → AllPairsByRecursion (Apart job.owns job.fits head_of pieces_of IsJob) jobs
+jobs_apart jobs rise = weaker_pairs NumberBefore (Apart job.owns job.fits head_of pieces_of IsJob) (λ x y low. job.pieces_numbered y x.number false (eq_not x.number y.number low)) jobs rise
+
+same_jobs : (jobs others : List Job) → AllPairsByRecursion NumberBefore jobs → AllPairsByRecursion NumberBefore others → map head_of jobs ≡ map head_of others → flat_map pieces_of jobs ≡ flat_map pieces_of others → jobs ≡ others
+same_jobs jobs others rise up heads pieces =
+    same_items job.owns job.fits head_of pieces_of IsJob (λ x. job.pieces_numbered x x.number true (eq_to x.number x.number refl)) same_job jobs others (jobs_apart jobs rise) (jobs_apart others up) heads pieces
+
+-- ---- all of them
+
+abbrev entry_from : EntryColumns → MapEntry
+entry_from e = record { host = e.host; bytes = e.bytes }
+
+pub one_state : (s t : State) → IsWellFormed s → IsWellFormed t → tables_of s ≡ tables_of t → s ≡ t
+one_state s t good fine same =
+    let systems = same_systems s.systems t.systems (pairs_by_recursion NameBefore s.systems good.by_name) (pairs_by_recursion NameBefore t.systems fine.by_name)
+    (ap (λ (r : Tables). r.systems) same) (ap (λ (r : Tables). r.lines) same) (ap (λ (r : Tables). r.ranges) same) in
+    let jobs = same_jobs s.jobs t.jobs (pairs_by_recursion NumberBefore s.jobs good.rising) (pairs_by_recursion NumberBefore t.jobs fine.rising) (ap (λ (r : Tables). r.jobs) same) (ap (λ (r : Tables). r.pieces) same) in
+    let entries : s.entries ≡ t.entries = sym (mapped_back entry_columns entry_from (λ e. refl) s.entries) ∙ ap (λ (r : Tables). map entry_from r.entries) same ∙ mapped_back entry_columns entry_from (λ e. refl) t.entries in
+    λ i. record { jobs = jobs i; systems = systems i; entries = entries i; next = (same i).next }

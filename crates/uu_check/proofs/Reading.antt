@@ -1,0 +1,132 @@
+-- The rows of a state fit the types in which they are read.
+use Rattle.std.proofs.Common.{◌≡◌, ℕ, zero, suc, ◌+◌, ◌<◌, ◌≤◌, Bool, true, false, cond, List, [], ◌∷◌, map, length, drop, IsTrue, IfSome, Option, None, Some, Ok, Err, find, refl, sym, subst, arith}
+use Rattle.std.specs.Prelude.{nat_lt}
+use Rattle.std.specs.Str.Lines.{lines}
+use Rattle.std.specs.List.{AllByRecursion, flat_map}
+use Rattle.std.proofs.lemmas.Bool.Decides.{nat_tests}
+use Rattle.std.proofs.lemmas.List.{length-take}
+use Rattle.uu_names.specs.Name.{is_site_name, is_word}
+use Rattle.uu_map.specs.declared.fault.MapFault.TheVariants.{BadHost, TooLarge}
+use Rattle.uu_map.specs.Text.{host_of, host_by, as_host, named_by, is_name_line}
+use Rattle.uu_times.specs.declared.system.Line.{Line}
+use Rattle.uu_times.specs.Ranges.{AreRunsFrom}
+use Rattle.uu_core.specs.declared.system.Outcome.{Outcome}
+use Rattle.uu_core.specs.declared.system.Outcome.TheVariants.{Never, Failed, Done}
+use Rattle.uu_core.specs.declared.system.CallState.{CallState}
+use Rattle.uu_core.specs.declared.system.SystemRow.{SystemRow}
+use Rattle.uu_core.specs.State.{State, Job, MapEntry, IsJob, IsCall, IsOutcome, IsDefinition, IsWellFormed, head_of, numbers_end}
+use Rattle.uu_tables.specs.Tables.{PlacedLine, tables_of, system_columns, line_columns, range_columns, entry_columns, placed, placed_from, ranges_of, pieces_of, piece_count, outcome_number, reason_of}
+use Rattle.uu_check.specs.Readable.{IsSystemRow, IsLineRow, IsRangeRow, IsJobRow, IsPieceRow, IsEntryRow, AreReadable}
+use Rattle.uu_check.proofs.Lists.{by_recursion, weaker, both, mapped_all}
+use Rattle.uu_check.proofs.Cuts.{pieces_from, as_from}
+use Rattle.uu_check.proofs.Heads.{job_to}
+use Rattle.uu_check.proofs.Lines.{IsGoodLine}
+use Rattle.uu_check.proofs.Verdict.{good_lines, all_flat}
+
+-- ---- systems
+
+few_outcomes : (it : Outcome) → outcome_number it ≤ 2
+few_outcomes Never = omega arith
+few_outcomes (Failed why) = omega arith
+few_outcomes Done = omega arith
+
+why_word : (it : Outcome) (call : CallState) → IsOutcome it call → IfSome (reason_of it) (λ why. IsTrue (is_word why))
+why_word Never call good = tt
+why_word (Failed why) call good = good
+why_word Done call good = tt
+
+system_row : (row : SystemRow) → IsDefinition row.def × IsCall row.call → IsSystemRow (system_columns row)
+system_row row good = record {
+  name = good.0.name;
+  max_retries = good.0.limits.2;
+  last = good.1.last;
+  failures = good.1.failures;
+  wait = good.1.wait;
+  outcome = few_outcomes row.call.outcome;
+  why = why_word row.call.outcome row.call good.1.outcome;
+}
+
+-- ---- lines and ranges
+
+pub record IsPlaced (p : PlacedLine) : Type 0 where
+  pub system : IsTrue (is_site_name p.system)
+  pub place : p.place < 32
+  pub good : IsGoodLine p
+
+are_placed : (name : List ℕ) → IsTrue (is_site_name name) → (place : ℕ) (lines : List Line) → place + length lines ≤ 32 → AllByRecursion IsGoodLine (placed_from name place lines) → AllByRecursion IsPlaced (placed_from name place lines)
+are_placed name site place [] few good = tt
+are_placed name site place (line ∷ lines) few good = (record { system = site; place = omega (arith, few); good = good.0 }, are_placed name site (place + 1) lines (omega (arith, few)) good.1)
+
+placed_lines : (row : SystemRow) → IsDefinition row.def × IsCall row.call → AllByRecursion IsPlaced (placed row)
+placed_lines row good = let few = good.0.limits.0 in are_placed row.def.name good.0.name 0 row.def.lines (omega (arith, few)) (good_lines row good)
+
+line_row : (p : PlacedLine) → IsPlaced p → IsLineRow (line_columns p)
+line_row p good = record { system = good.system; place = good.place; grade = good.good.0.0; retry = good.good.1 }
+
+range_rows : (system : List ℕ) (place : ℕ) → IsTrue (is_site_name system) → place < 32 → (start : ℕ) (ranges : List (ℕ × ℕ)) → AreRunsFrom start ranges → AllByRecursion IsRangeRow (map (range_columns system place) ranges)
+range_rows system place site low start [] runs = tt
+range_rows system place site low start (range ∷ ranges) runs = let a = runs.1 in let b = runs.2 in
+    (record { system = site; place = low; low = omega (arith, a, b); high = b }, range_rows system place site low (range.1 + 2) ranges runs.3)
+
+line_ranges : (p : PlacedLine) → IsPlaced p → AllByRecursion IsRangeRow (ranges_of p)
+line_ranges p good = range_rows p.system p.place good.system good.place 0 p.line.windows good.good.0.1
+
+-- ---- jobs and pieces
+
+piece_rows : (job : ℕ) → job < numbers_end → (place n : ℕ) (bytes : List ℕ) → place + n ≤ 64 → AllByRecursion IsPieceRow (pieces_from job place n bytes)
+piece_rows job low place zero bytes few = tt
+piece_rows job low place (suc n) bytes few =
+    (record { job = low; place = omega (arith, few); length = (let e = length-take 16384 bytes in omega (arith, e)) }, piece_rows job low (place + 1) n (drop 16384 bytes) (omega (arith, few)))
+
+few_pieces : (size : ℕ) → size ≤ 1048576 → piece_count size ≤ 64
+few_pieces size h = omega (arith, h)
+
+job_pieces : (j : Job) → IsJob j × (j.number < numbers_end) → AllByRecursion IsPieceRow (pieces_of j)
+job_pieces j good =
+    let few = few_pieces (length j.bytes) good.0.bytes in
+    subst (AllByRecursion IsPieceRow) (sym (as_from j.number j.bytes 0 (piece_count (length j.bytes)))) (piece_rows j.number good.1 0 (piece_count (length j.bytes)) j.bytes (omega (arith, few)))
+
+-- ---- entries
+
+host_named : (name host : List ℕ) → as_host name ≡ Ok host → IsTrue (is_site_name host)
+host_named [] host h = absurd (cc)
+host_named (b ∷ bs) host h = go (is_site_name (b ∷ bs)) refl h
+  where
+    same : {a c : List ℕ} → a ≡ c → is_site_name a ≡ true → is_site_name c ≡ true
+    same e k = subst (λ n. is_site_name n ≡ true) e k
+
+    go : (t : Bool) → is_site_name (b ∷ bs) ≡ t → cond t (Ok (b ∷ bs)) (Err BadHost) ≡ Ok host → IsTrue (is_site_name host)
+    go true e k = let it : (b ∷ bs) ≡ host = cc in same it e
+    go false e k = absurd (cc)
+
+host_found : (line : Option (List ℕ)) (host : List ℕ) → host_by line ≡ Ok host → IsTrue (is_site_name host)
+host_found None host h = absurd (cc)
+host_found (Some line) host h = host_named (named_by line) host h
+
+entry_row : (e : MapEntry) → host_of e.bytes ≡ Ok e.host → IsEntryRow (entry_columns e)
+entry_row e h = go (nat_lt 65536 (length e.bytes)) refl h
+  where
+    small : (n : ℕ) → nat_lt 65536 n ≡ false → n ≤ 65536
+    small n k = grind (arith, nat_tests, k)
+
+    go : (t : Bool) → nat_lt 65536 (length e.bytes) ≡ t → cond t (Err TooLarge) (host_by (find is_name_line (lines e.bytes))) ≡ Ok e.host → IsEntryRow (entry_columns e)
+    go true k is = absurd (cc)
+    go false k is = record { host = host_found (find is_name_line (lines e.bytes)) e.host is; size = small (length e.bytes) k }
+
+-- ---- all of them
+
+pub readable : (s : State) → IsWellFormed s → AreReadable (tables_of s)
+readable s good =
+    let rows = both (λ (row : SystemRow). IsDefinition row.def) (λ (row : SystemRow). IsCall row.call) (λ (row : SystemRow). IsDefinition row.def × IsCall row.call) (λ row h k. (h, k)) s.systems (by_recursion _ s.systems good.definitions) (by_recursion _ s.systems good.calls) in
+    let last = good.next in
+    let jobs = both IsJob (λ (j : Job). j.number < s.next) (λ (j : Job). IsJob j × (j.number < numbers_end)) (λ j h k. (h, omega (arith, k, last))) s.jobs (by_recursion IsJob s.jobs good.jobs) (by_recursion (λ (j : Job). j.number < s.next) s.jobs good.below_next) in
+    let fine = all_flat IsPlaced _ placed placed_lines s.systems rows in
+    record {
+      next = good.next;
+      systems = mapped_all IsSystemRow system_columns s.systems (weaker _ _ system_row s.systems rows);
+      lines = mapped_all IsLineRow line_columns (flat_map placed s.systems) (weaker _ _ line_row (flat_map placed s.systems) fine);
+      ranges = all_flat IsRangeRow IsPlaced ranges_of line_ranges (flat_map placed s.systems) fine;
+      jobs = mapped_all IsJobRow head_of s.jobs (weaker _ _ (λ j h. record { number = h.1; good = job_to j h.0 }) s.jobs jobs);
+      pieces = all_flat IsPieceRow _ pieces_of job_pieces s.jobs jobs;
+      entries = mapped_all IsEntryRow entry_columns s.entries (weaker _ _ entry_row s.entries (by_recursion (λ (e : MapEntry). host_of e.bytes ≡ Ok e.host) s.entries good.hosts));
+    }

@@ -1,0 +1,141 @@
+-- The tables of a state stand in the order of their keys.
+use Rattle.std.proofs.Common.{◌≡◌, ℕ, zero, suc, ◌+◌, ◌<◌, List, [], ◌∷◌, map, length, take, drop, Less, Equal, refl, sym, subst, arith}
+use Rattle.std.specs.List.{AllByRecursion, flat_map}
+use Rattle.std.specs.declared.cmp.Ordering.{Ordering}
+use Rattle.std.specs.declared.cmp.Ordering.TheVariants.{Greater}
+use Rattle.std.specs.Ordering.{nat_cmp, ordering_then, ordering_reverse}
+use Rattle.std.specs.Cmp.Lexicographic.{slice_cmp}
+use Rattle.std.proofs.lemmas.Cmp.{nat_list_cmp_total, nat_cmp_total}
+use Rattle.uu_times.specs.declared.system.Line.{Line}
+use Rattle.uu_times.specs.Ranges.{AreRunsFrom}
+use Rattle.uu_core.specs.declared.job.JobHead.{JobHead}
+use Rattle.uu_core.specs.declared.system.SystemRow.{SystemRow}
+use Rattle.uu_core.specs.State.{State, Job, MapEntry, IsCall, IsDefinition, IsWellFormed, ComesBefore, head_of}
+use Rattle.uu_tables.specs.declared.rows.RangeColumns.{RangeColumns}
+use Rattle.uu_tables.specs.Tables.{Piece, PlacedLine, tables_of, system_columns, line_columns, range_columns, placed, placed_from, ranges_of, pieces_of, piece_count, entry_columns}
+use Rattle.uu_check.specs.Order.{line_cmp, range_cmp, piece_cmp, AreInOrder}
+use Rattle.uu_check.proofs.Walks.{AllPairsByRecursion}
+use Rattle.uu_check.proofs.Lists.{by_recursion, pairs_by_place, pairs_by_recursion, weaker, weaker_pairs, both, flat_pairs, Across, mapped_pairs}
+use Rattle.uu_check.proofs.Cuts.{pieces_from, as_from}
+use Rattle.uu_check.proofs.Lines.{IsGoodLine}
+use Rattle.uu_check.proofs.Verdict.{good_lines, all_flat}
+
+-- ---- comparisons
+
+own_equal : (r : Ordering) → r ≡ ordering_reverse r → r ≡ Equal
+own_equal Less h = absurd (cc)
+own_equal Equal h = refl
+own_equal Greater h = absurd (cc)
+
+same_name : (a : List ℕ) → slice_cmp nat_cmp a a ≡ Equal
+same_name a = own_equal _ (nat_list_cmp_total.antisymm a a)
+
+same_number : (n : ℕ) → nat_cmp n n ≡ Equal
+same_number n = own_equal _ (nat_cmp_total.antisymm n n)
+
+lower : (a b : ℕ) → a < b → nat_cmp a b ≡ Less
+lower a b h = search (arith, h)
+
+-- ---- lines
+
+abbrev LineBefore : PlacedLine → PlacedLine → Type 0
+LineBefore a b = line_cmp (line_columns a) (line_columns b) ≡ Less
+
+later_lines : (name : List ℕ) (line : Line) (here place : ℕ) (lines : List Line) → here < place → AllByRecursion (LineBefore (record { system = name; place = here; line = line })) (placed_from name place lines)
+later_lines name line here place [] below = tt
+later_lines name line here place (next ∷ lines) below = (rw (same_name name) (lower here place below), later_lines name line here (place + 1) lines (omega (arith, below)))
+
+own_lines : (name : List ℕ) (place : ℕ) (lines : List Line) → AllPairsByRecursion LineBefore (placed_from name place lines)
+own_lines name place [] = tt
+own_lines name place (line ∷ lines) = (later_lines name line place (place + 1) lines (omega arith), own_lines name (place + 1) lines)
+
+other_lines : (a : PlacedLine) (name : List ℕ) (place : ℕ) (lines : List Line) → ComesBefore a.system name → AllByRecursion (LineBefore a) (placed_from name place lines)
+other_lines a name place [] h = tt
+other_lines a name place (line ∷ lines) h = (rw h refl, other_lines a name (place + 1) lines h)
+
+across_lines : (x y : SystemRow) → ComesBefore x.def.name y.def.name → Across LineBefore (placed x) (placed y)
+across_lines x y before = go 0 x.def.lines
+  where
+    go : (place : ℕ) (lines : List Line) → Across LineBefore (placed_from x.def.name place lines) (placed y)
+    go place [] = tt
+    go place (line ∷ lines) = (other_lines (record { system = x.def.name; place = place; line = line }) y.def.name 0 y.def.lines before, go (place + 1) lines)
+
+-- ---- ranges
+
+abbrev RangeBefore : RangeColumns → RangeColumns → Type 0
+RangeBefore a b = range_cmp a b ≡ Less
+
+later_ranges : (system : List ℕ) (place : ℕ) (range : ℕ × ℕ) (start : ℕ) (ranges : List (ℕ × ℕ)) → range.0 < start → AreRunsFrom start ranges → AllByRecursion (RangeBefore (range_columns system place range)) (map (range_columns system place) ranges)
+later_ranges system place range start [] below runs = tt
+later_ranges system place range start (next ∷ ranges) below runs =
+    (rw (same_name system, same_number place) (lower range.0 next.0 (omega (arith, below, runs.0))), later_ranges system place range (next.1 + 2) ranges (omega (arith, below, runs.0, runs.1)) runs.3)
+
+own_ranges : (system : List ℕ) (place start : ℕ) (ranges : List (ℕ × ℕ)) → AreRunsFrom start ranges → AllPairsByRecursion RangeBefore (map (range_columns system place) ranges)
+own_ranges system place start [] runs = tt
+own_ranges system place start (range ∷ ranges) runs = (later_ranges system place range (range.1 + 2) ranges (omega (arith, runs.1)) runs.3, own_ranges system place (range.1 + 2) ranges runs.3)
+
+across_ranges : (a b : PlacedLine) → LineBefore a b → Across RangeBefore (ranges_of a) (ranges_of b)
+across_ranges a b before = go a.line.windows
+  where
+    then_less : (p q r : Ordering) → ordering_then p q ≡ Less → ordering_then p (ordering_then q r) ≡ Less
+    then_less Less q r h = refl
+    then_less Equal Less r h = refl
+    then_less Equal Equal r h = absurd (cc)
+    then_less Equal Greater r h = absurd (cc)
+    then_less Greater q r h = absurd (cc)
+
+    inner : (low : ℕ × ℕ) (ranges : List (ℕ × ℕ)) → AllByRecursion (RangeBefore (range_columns a.system a.place low)) (map (range_columns b.system b.place) ranges)
+    inner low [] = tt
+    inner low (range ∷ ranges) = (then_less _ _ (nat_cmp low.0 range.0) before, inner low ranges)
+
+    go : (ranges : List (ℕ × ℕ)) → Across RangeBefore (map (range_columns a.system a.place) ranges) (ranges_of b)
+    go [] = tt
+    go (range ∷ ranges) = (inner range b.line.windows, go ranges)
+
+-- ---- pieces
+
+abbrev PieceBefore : Piece → Piece → Type 0
+PieceBefore a b = piece_cmp a b ≡ Less
+
+abbrev first : ℕ → ℕ → List ℕ → Piece
+first job place bytes = record { job = job; place = place; bytes = take 16384 bytes }
+
+later_pieces : (p : Piece) (place n : ℕ) (bytes : List ℕ) → p.place < place → AllByRecursion (PieceBefore p) (pieces_from p.job place n bytes)
+later_pieces p place zero bytes below = tt
+later_pieces p place (suc n) bytes below = (rw (same_number p.job) (lower p.place place below), later_pieces p (place + 1) n _ (omega (arith, below)))
+
+own_pieces : (job place n : ℕ) (bytes : List ℕ) → AllPairsByRecursion PieceBefore (pieces_from job place n bytes)
+own_pieces job place zero bytes = tt
+own_pieces job place (suc n) bytes = (later_pieces (first job place bytes) (place + 1) n (drop 16384 bytes) (omega arith), own_pieces job (place + 1) n (drop 16384 bytes))
+
+other_pieces : (p : Piece) (job place n : ℕ) (bytes : List ℕ) → p.job < job → AllByRecursion (PieceBefore p) (pieces_from job place n bytes)
+other_pieces p job place zero bytes below = tt
+other_pieces p job place (suc n) bytes below = (rw (lower p.job job below) refl, other_pieces p job (place + 1) n _ below)
+
+across_from : (low place n : ℕ) (bytes : List ℕ) (job m : ℕ) (others : List ℕ) → low < job → Across PieceBefore (pieces_from low place n bytes) (pieces_from job 0 m others)
+across_from low place zero bytes job m others below = tt
+across_from low place (suc n) bytes job m others below = (other_pieces (first low place bytes) job 0 m others below, across_from low (place + 1) n (drop 16384 bytes) job m others below)
+
+as_pieces : (j : Job) → pieces_of j ≡ pieces_from j.number 0 (piece_count (length j.bytes)) j.bytes
+as_pieces j = as_from j.number j.bytes 0 (piece_count (length j.bytes))
+
+across_pieces : (x y : Job) → x.number < y.number → Across PieceBefore (pieces_of x) (pieces_of y)
+across_pieces x y below = rw (as_pieces x, as_pieces y) (across_from x.number 0 (piece_count (length x.bytes)) x.bytes y.number (piece_count (length y.bytes)) y.bytes below)
+
+-- ---- all of them
+
+pub in_order : (s : State) → IsWellFormed s → AreInOrder (tables_of s)
+in_order s good =
+    let names = pairs_by_recursion (λ (a b : SystemRow). ComesBefore a.def.name b.def.name) s.systems good.by_name in
+    let numbers = pairs_by_recursion (λ (a b : Job). a.number < b.number) s.jobs good.rising in
+    let rows = both (λ (row : SystemRow). IsDefinition row.def) (λ (row : SystemRow). IsCall row.call) (λ (row : SystemRow). IsDefinition row.def × IsCall row.call) (λ row h k. (h, k)) s.systems (by_recursion _ s.systems good.definitions) (by_recursion _ s.systems good.calls) in
+    let lines = flat_pairs LineBefore placed (λ _. Unit {0}) (λ x g. own_lines x.def.name 0 x.def.lines) s.systems (weaker _ _ (λ x h. tt) s.systems rows) (weaker_pairs _ _ across_lines s.systems names) in
+    let fine = all_flat IsGoodLine _ placed good_lines s.systems rows in
+    record {
+      systems = pairs_by_place _ (map system_columns s.systems) (mapped_pairs (λ a b. ComesBefore a.name b.name) system_columns s.systems names);
+      lines = pairs_by_place _ (map line_columns (flat_map placed s.systems)) (mapped_pairs (λ a b. line_cmp a b ≡ Less) line_columns (flat_map placed s.systems) lines);
+      ranges = pairs_by_place _ (flat_map ranges_of (flat_map placed s.systems)) (flat_pairs RangeBefore ranges_of IsGoodLine (λ p g. own_ranges p.system p.place 0 p.line.windows g.0.1) (flat_map placed s.systems) fine (weaker_pairs _ _ across_ranges (flat_map placed s.systems) lines));
+      jobs = pairs_by_place _ (map head_of s.jobs) (mapped_pairs (λ (a b : JobHead). a.number < b.number) head_of s.jobs numbers);
+      pieces = pairs_by_place _ (flat_map pieces_of s.jobs) (flat_pairs PieceBefore pieces_of (λ _. Unit {0}) (λ j g. subst (AllPairsByRecursion PieceBefore) (sym (as_pieces j)) (own_pieces j.number 0 _ j.bytes)) s.jobs (weaker _ _ (λ x h. tt) s.jobs (by_recursion (λ _. Unit {0}) s.jobs (λ k d inside. tt))) (weaker_pairs _ _ across_pieces s.jobs numbers));
+      entries = pairs_by_place _ (map entry_columns s.entries) (mapped_pairs (λ a b. ComesBefore a.host b.host) entry_columns s.entries (pairs_by_recursion (λ (a b : MapEntry). ComesBefore a.host b.host) s.entries good.by_host));
+    }

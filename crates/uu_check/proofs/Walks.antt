@@ -1,0 +1,118 @@
+-- Rows that a walk accepts are those of a list of items, each with one row and the rows that belong to it.
+use Rattle.std.proofs.Common.{◌≡◌, ℕ, zero, suc, ◌+◌, Bool, true, false, cond, ◌==◌, List, [], ◌∷◌, ◌++◌, map, length, take, drop, refl, sym, ap, subst, ◌∙◌, arith}
+use Rattle.std.specs.List.{AllByRecursion, prefix_len, flat_map}
+use Rattle.std.proofs.lemmas.Bool.{and_parts}
+use Rattle.std.proofs.lemmas.Bool.Decides.{nat_tests}
+use Rattle.uu_check.specs.Walk.{walk}
+
+-- each of a list, and each pair in its order
+abbrev pub AllPairsByRecursion : {X : Type 0} → (X → X → Type 0) → List X → Type 0
+AllPairsByRecursion R [] = Unit {0}
+AllPairsByRecursion R (x ∷ xs) = AllByRecursion (R x) xs × AllPairsByRecursion R xs
+
+pub take_drop : {X : Type 0} (n : ℕ) (xs : List X) → take n xs ++ drop n xs ≡ xs
+take_drop zero xs = refl
+take_drop (suc n) [] = refl
+take_drop (suc n) (x ∷ xs) = ap (λ l. x ∷ l) (take_drop n xs)
+
+is_nil : {X : Type 0} (xs : List X) → (length xs == 0) ≡ true → xs ≡ []
+is_nil [] h = refl
+is_nil (x ∷ xs) h = absurd (let e : length (x ∷ xs) ≡ 0 = grind (arith, nat_tests, h) in omega (arith, e))
+
+-- the own front of a list is what all are own of, where the rest begins with another
+pub own_front : {C : Type 0} (p : C → Bool) (own rest : List C) → AllByRecursion (λ c. p c ≡ true) own → AllByRecursion (λ c. p c ≡ false) rest → prefix_len p (own ++ rest) ≡ length own
+own_front p [] [] all none = refl
+own_front p [] (c ∷ rest) all none = rw none.0 refl
+own_front p (c ∷ own) rest all none = rw (all.0, own_front p own rest all.1 none) (omega arith)
+
+pub take_front : {X : Type 0} (xs ys : List X) → take (length xs) (xs ++ ys) ≡ xs
+take_front [] ys = refl
+take_front (x ∷ xs) ys = ap (λ l. x ∷ l) (take_front xs ys)
+
+pub drop_front : {X : Type 0} (xs ys : List X) → drop (length xs) (xs ++ ys) ≡ ys
+drop_front [] ys = refl
+drop_front (x ∷ xs) ys = drop_front xs ys
+
+-- what is taken so far is own
+own_take : {C : Type 0} (p : C → Bool) (cs : List C) → AllByRecursion (λ c. p c ≡ true) (take (prefix_len p cs) cs)
+own_take p [] = tt
+own_take p (c ∷ cs) = go (p c) refl (own_take p cs)
+  where
+    go : (t : Bool) → p c ≡ t → AllByRecursion (λ c. p c ≡ true) (take (prefix_len p cs) cs) → AllByRecursion (λ c. p c ≡ true) (take (cond t (1 + prefix_len p cs) 0) (c ∷ cs))
+    go false h more = tt
+    go true h more = let n : suc (prefix_len p cs) ≡ 1 + prefix_len p cs = omega arith in subst (λ n. AllByRecursion (λ c. p c ≡ true) (take n (c ∷ cs))) n (h, more)
+
+pub all_append : {X : Type 0} (P : X → Type 0) (xs ys : List X) → AllByRecursion P xs → AllByRecursion P ys → AllByRecursion P (xs ++ ys)
+all_append P [] ys h k = k
+all_append P (x ∷ xs) ys h k = (h.0, all_append P xs ys h.1 k)
+
+pub all_flat : {X C : Type 0} (P : C → Type 0) (f : X → List C) (xs : List X) → AllByRecursion (λ x. AllByRecursion P (f x)) xs → AllByRecursion P (flat_map f xs)
+all_flat P f [] h = tt
+all_flat P f (x ∷ xs) h = all_append P (f x) (flat_map f xs) h.0 (all_flat P f xs h.1)
+
+module _ {X P C : Type 0} (owns : P → C → Bool) (fits : P → List C → Bool) (head : X → P) (kids : X → List C) (Good : X → Type 0) where
+  -- the items whose rows these are
+  pub record Items (ps : List P) (cs : List C) : Type 0 where
+    pub items : List X
+    pub good : AllByRecursion Good items
+    pub heads : map head items ≡ ps
+    pub children : flat_map kids items ≡ cs
+
+  -- an item whose rows these are
+  pub record Item (p : P) (cs : List C) : Type 0 where
+    pub item : X
+    pub good : Good item
+    pub row : head item ≡ p
+    pub children : kids item ≡ cs
+
+  pub items_of : ((p : P) (cs : List C) → AllByRecursion (λ c. owns p c ≡ true) cs → fits p cs ≡ true → Item p cs) → (ps : List P) (cs : List C) → walk owns fits ps cs ≡ true → Items ps cs
+  items_of one [] cs h = record { items = []; good = tt; heads = refl; children = sym (is_nil cs h) }
+  items_of one (p ∷ ps) cs h =
+      let n = prefix_len (owns p) cs in
+      let parts = and_parts (fits p (take n cs)) (walk owns fits ps (drop n cs)) h in
+      let first = one p (take n cs) (own_take (owns p) cs) parts.0 in
+      let more = items_of one ps (drop n cs) parts.1 in
+      record {
+        items = first.item ∷ more.items;
+        good = (first.good, more.good);
+        heads = λ i. first.row i ∷ more.heads i;
+        children = (λ i. first.children i ++ more.children i) ∙ take_drop n cs;
+      }
+
+  -- the children of an item are its own, and no later item's are
+  abbrev pub Apart : X → X → Type 0
+  Apart x y = AllByRecursion (λ c. owns (head x) c ≡ false) (kids y)
+
+  pub walked : ((x : X) → Good x → fits (head x) (kids x) ≡ true) → ((x : X) → AllByRecursion (λ c. owns (head x) c ≡ true) (kids x)) → (xs : List X) → AllByRecursion Good xs → AllPairsByRecursion Apart xs
+      → walk owns fits (map head xs) (flat_map kids xs) ≡ true
+  walked fit own [] good apart = refl
+  walked fit own (x ∷ xs) good apart =
+      let rest = flat_map kids xs in
+      let n = own_front (owns (head x)) (kids x) rest (own x) (all_flat _ kids xs apart.0) in
+      rw (n, take_front (kids x) rest, drop_front (kids x) rest, fit x good.0) (walked fit own xs good.1 apart.1)
+
+-- a walk over mapped children
+pub walk_mapped : {P C D : Type 0} (owns : P → D → Bool) (fits : P → List D → Bool) (f : C → D) (ps : List P) (cs : List C)
+    → walk owns fits ps (map f cs) ≡ walk (λ p c. owns p (f c)) (λ p l. fits p (map f l)) ps cs
+walk_mapped owns fits f [] cs = ap (λ n. n == 0) (length_map f cs)
+  where
+    length_map : {C D : Type 0} (f : C → D) (cs : List C) → length (map f cs) ≡ length cs
+    length_map f [] = refl
+    length_map f (c ∷ cs) = ap suc (length_map f cs)
+walk_mapped owns fits f (p ∷ ps) cs =
+    let n = prefix_len (λ c. owns p (f c)) cs in
+    rw (prefix f (owns p) cs, take_of f n cs, drop_of f n cs, walk_mapped owns fits f ps (drop n cs)) refl
+  where
+    prefix : {C D : Type 0} (f : C → D) (q : D → Bool) (cs : List C) → prefix_len q (map f cs) ≡ prefix_len (λ c. q (f c)) cs
+    prefix f q [] = refl
+    prefix f q (c ∷ cs) = ap (λ n. cond (q (f c)) (1 + n) 0) (prefix f q cs)
+
+    take_of : {C D : Type 0} (f : C → D) (n : ℕ) (cs : List C) → take n (map f cs) ≡ map f (take n cs)
+    take_of f zero cs = refl
+    take_of f (suc n) [] = refl
+    take_of f (suc n) (c ∷ cs) = ap (λ l. f c ∷ l) (take_of f n cs)
+
+    drop_of : {C D : Type 0} (f : C → D) (n : ℕ) (cs : List C) → drop n (map f cs) ≡ map f (drop n cs)
+    drop_of f zero cs = refl
+    drop_of f (suc n) [] = refl
+    drop_of f (suc n) (c ∷ cs) = drop_of f n cs

@@ -1,0 +1,5 @@
+pub mod Order
+pub mod Readable
+pub mod OfState
+pub mod Tests
+pub mod Walk

@@ -1,0 +1,56 @@
+-- Rows whose columns fit the types in which they are read.
+use Rattle.std.specs.Prelude.{◌≡◌, ◌<◌, ◌≤◌, length, IsTrue, IfSome, true}
+use Rattle.std.specs.List.{AllByRecursion}
+use Rattle.uu_names.specs.Name.{is_site_name, is_word}
+use Rattle.uu_times.specs.System.{IsRetry}
+use Rattle.uu_core.specs.declared.job.JobHead.{JobHead}
+use Rattle.uu_core.specs.State.{last_second, most_failures, numbers_end}
+use Rattle.uu_tables.specs.declared.rows.SystemColumns.{SystemColumns}
+use Rattle.uu_tables.specs.declared.rows.LineColumns.{LineColumns}
+use Rattle.uu_tables.specs.declared.rows.RangeColumns.{RangeColumns}
+use Rattle.uu_tables.specs.declared.rows.EntryColumns.{EntryColumns}
+use Rattle.uu_tables.specs.Tables.{Tables, Piece}
+use Rattle.uu_check.specs.Tests.{is_head}
+
+pub record IsSystemRow (c : SystemColumns) : Type 0 where
+  pub name : IsTrue (is_site_name c.name)
+  pub max_retries : c.max_retries ≤ 1000000
+  pub last : c.call.last ≤ last_second
+  pub failures : c.call.failures ≤ most_failures
+  pub wait : c.call.wait ≤ 31536000
+  pub outcome : c.call.outcome ≤ 2
+  pub why : IfSome c.call.why (λ why. IsTrue (is_word why))
+
+pub record IsLineRow (l : LineColumns) : Type 0 where
+  pub system : IsTrue (is_site_name l.system)
+  pub place : l.place < 32
+  pub grade : l.grade < 62
+  pub retry : IfSome l.retry IsRetry
+
+pub record IsRangeRow (r : RangeColumns) : Type 0 where
+  pub system : IsTrue (is_site_name r.system)
+  pub place : r.place < 32
+  pub low : r.low < 10080
+  pub high : r.high < 10080
+
+pub record IsJobRow (h : JobHead) : Type 0 where
+  pub number : h.number < numbers_end
+  pub good : is_head h ≡ true
+
+pub record IsPieceRow (p : Piece) : Type 0 where
+  pub job : p.job < numbers_end
+  pub place : p.place < 64
+  pub length : length p.bytes ≤ 16384
+
+pub record IsEntryRow (e : EntryColumns) : Type 0 where
+  pub host : IsTrue (is_site_name e.host)
+  pub size : length e.bytes ≤ 65536
+
+pub record AreReadable (t : Tables) : Type 0 where
+  pub next : t.next ≤ numbers_end
+  pub systems : AllByRecursion IsSystemRow t.systems
+  pub lines : AllByRecursion IsLineRow t.lines
+  pub ranges : AllByRecursion IsRangeRow t.ranges
+  pub jobs : AllByRecursion IsJobRow t.jobs
+  pub pieces : AllByRecursion IsPieceRow t.pieces
+  pub entries : AllByRecursion IsEntryRow t.entries

@@ -1,0 +1,115 @@
+-- What is asked of the rows, one after the other.
+use Rattle.std.specs.Prelude.{ℕ, ◌+◌, ◌-◌, min, Bool, true, false, ◌&&◌, ◌||◌, ◌==◌, nat_le, nat_lt, List, [], ◌∷◌, length, Option, None, Some, Result, Ok, Err}
+use Rattle.std.specs.List.{list_all, list_any}
+use Rattle.std.specs.Ordering.{is_lt, nat_cmp}
+use Rattle.std.specs.Cmp.Lexicographic.{slice_cmp}
+use Rattle.uu_names.specs.Name.{is_site_name, is_word}
+use Rattle.uu_core.specs.declared.job.Kind.{Kind}
+use Rattle.uu_core.specs.declared.job.Kind.TheVariants.{Send, Request, Execute}
+use Rattle.uu_core.specs.declared.job.JobHead.{JobHead}
+use Rattle.uu_core.specs.State.{same_text, last_second, most_bytes, most_arguments, most_failures, numbers_end}
+use Rattle.uu_tables.specs.declared.rows.SystemColumns.{SystemColumns}
+use Rattle.uu_tables.specs.declared.rows.LineColumns.{LineColumns}
+use Rattle.uu_tables.specs.declared.rows.RangeColumns.{RangeColumns}
+use Rattle.uu_tables.specs.declared.rows.PieceSize.{PieceSize}
+use Rattle.uu_tables.specs.declared.rows.EntryColumns.{EntryColumns}
+use Rattle.uu_map.specs.declared.fault.MapFault.{MapFault}
+use Rattle.uu_map.specs.Text.{host_of}
+use Rattle.uu_check.specs.Walk.{walk, rises}
+
+-- ---- jobs and their pieces
+
+abbrev pub is_kind : Kind → Bool
+is_kind (Send source target) = is_word source && is_word target
+is_kind (Request source target) = is_word source && is_word target
+is_kind (Execute command arguments) = is_word command && list_all is_word arguments && nat_le (length arguments) most_arguments
+
+abbrev pub is_head : JobHead → Bool
+is_head h = nat_le 1 h.number && is_site_name h.system && nat_lt h.grade 62 && is_word h.user && is_kind h.kind && nat_le h.queued last_second && nat_le h.size most_bytes
+
+-- pieces from a place on hold so many bytes, as many as they can each
+abbrev pub are_cut : ℕ → ℕ → List PieceSize → Bool
+are_cut place size [] = size == 0
+are_cut place size (x ∷ xs) = (x.place == place) && nat_le 1 size && (x.length == min size 16384) && are_cut (place + 1) (size - min size 16384) xs
+
+abbrev pub owns_piece : JobHead → PieceSize → Bool
+owns_piece h x = x.job == h.number
+
+abbrev pub fits_job : JobHead → List PieceSize → Bool
+fits_job h xs = is_head h && are_cut 0 h.size xs
+
+abbrev pub job_before : JobHead → JobHead → Bool
+job_before a b = nat_lt a.number b.number
+
+abbrev pub is_below : ℕ → JobHead → Bool
+is_below next h = nat_lt h.number next
+
+-- ---- lines and their ranges
+
+-- ranges in order from a minute on, with at least one minute outside between two
+abbrev pub are_ranges : ℕ → List RangeColumns → Bool
+are_ranges start [] = true
+are_ranges start (r ∷ rs) = nat_le start r.low && nat_le r.low r.high && nat_lt r.high 10080 && are_ranges (r.high + 2) rs
+
+abbrev pub is_retry : Option ℕ → Bool
+is_retry None = true
+is_retry (Some minutes) = nat_le 1 minutes && nat_le minutes 525600
+
+abbrev pub owns_range : LineColumns → RangeColumns → Bool
+owns_range l r = same_text l.system r.system && (l.place == r.place)
+
+abbrev pub fits_line : LineColumns → List RangeColumns → Bool
+fits_line l rs = nat_lt l.grade 62 && is_retry l.retry && are_ranges 0 rs
+
+-- ---- systems and their lines
+
+-- the reason is there exactly where the last call failed, and a system that was never called has zeros
+abbrev pub is_outcome : Option (List ℕ) → ℕ → ℕ → ℕ → ℕ → Bool
+is_outcome None outcome last failures wait = (outcome == 2) || ((outcome == 0) && (last == 0) && (failures == 0) && (wait == 0))
+is_outcome (Some why) outcome last failures wait = (outcome == 1) && is_word why
+
+abbrev pub is_call : SystemColumns → Bool
+is_call s = nat_le s.call.last last_second && nat_le s.call.failures most_failures && nat_le s.call.wait 31536000 && is_outcome s.call.why s.call.outcome s.call.last s.call.failures s.call.wait
+
+abbrev pub are_placed : ℕ → List LineColumns → Bool
+are_placed place [] = true
+are_placed place (l ∷ ls) = (l.place == place) && are_placed (place + 1) ls
+
+abbrev pub owns_line : SystemColumns → LineColumns → Bool
+owns_line s l = same_text s.name l.system
+
+abbrev pub fits_system : SystemColumns → List LineColumns → Bool
+fits_system s ls = is_site_name s.name && nat_le s.max_retries 1000000 && is_call s && nat_le (length ls) 32 && are_placed 0 ls
+
+abbrev pub system_before : SystemColumns → SystemColumns → Bool
+system_before a b = is_lt (slice_cmp nat_cmp a.name b.name)
+
+-- ---- entries
+
+abbrev pub is_host : Result (List ℕ) MapFault → List ℕ → Bool
+is_host (Ok name) host = same_text name host
+is_host (Err fault) host = false
+
+-- the entry names its host
+abbrev pub is_entry : EntryColumns → Bool
+is_entry e = is_host (host_of e.bytes) e.host
+
+abbrev pub entry_before : EntryColumns → EntryColumns → Bool
+entry_before a b = is_lt (slice_cmp nat_cmp a.host b.host)
+
+abbrev pub are_entries : List EntryColumns → Bool
+are_entries entries = rises entry_before entries && list_all is_entry entries
+
+-- ---- all of them
+
+abbrev pub is_known : List SystemColumns → JobHead → Bool
+is_known systems h = list_any (λ (s : SystemColumns). same_text s.name h.system) systems
+
+abbrev pub are_systems : List SystemColumns → List LineColumns → List RangeColumns → Bool
+are_systems systems lines ranges = rises system_before systems && walk owns_line fits_system systems lines && walk owns_range fits_line lines ranges
+
+abbrev pub are_jobs : ℕ → List SystemColumns → List JobHead → List PieceSize → Bool
+are_jobs next systems jobs pieces = rises job_before jobs && list_all (is_below next) jobs && list_all (is_known systems) jobs && walk owns_piece fits_job jobs pieces
+
+abbrev pub is_spool : ℕ → List SystemColumns → List LineColumns → List RangeColumns → List JobHead → List PieceSize → List EntryColumns → Bool
+is_spool next systems lines ranges jobs pieces entries = nat_le 1 next && nat_le next numbers_end && are_systems systems lines ranges && are_jobs next systems jobs pieces && are_entries entries

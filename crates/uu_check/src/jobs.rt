@@ -1,0 +1,94 @@
+// Jobs and their pieces.
+ghost use Rattle.std.specs.Prelude.{◌≡◌, true};
+ghost use Rattle.std.specs.List.{list_all};
+ghost use Rattle.uu_names.specs.Name.{is_word};
+ghost use Rattle.uu_check.specs.Tests.{is_kind, is_head, are_cut, owns_piece, fits_job, job_before};
+
+use crate::walk::{Owner, Ranked};
+use uu_core::{JobHead, Kind};
+use uu_names::Word;
+use uu_tables::PieceSize;
+
+/// The most bytes of a piece.
+const PIECE: u32 = 16_384;
+
+/// The most bytes of a job.
+const MAX_BYTES: u32 = 1_048_576;
+
+/// The most arguments of a command.
+const MAX_ARGUMENTS: usize = 64;
+
+/// The last second that a moment can have.
+const LAST_SECOND: u64 = 4_102_444_800;
+
+fn words_are_words(words: &[Word])
+    ensures { list_all is_word words.now ≡ true }
+{
+    for word in words {
+        let _ = word.as_str();
+    }
+}
+
+fn is_kind(kind: &Kind) -> bool
+    ensures { result ≡ is_kind kind.now }
+{
+    match kind {
+        Kind::Send { source, target } | Kind::Request { source, target } => {
+            let _ = source.as_str();
+            let _ = target.as_str();
+            true
+        }
+        Kind::Execute { command, arguments } => {
+            let _ = command.as_str();
+            words_are_words(arguments.as_slice());
+            arguments.as_slice().len() <= MAX_ARGUMENTS
+        }
+    }
+}
+
+fn is_head(head: &JobHead) -> bool
+    ensures { result ≡ is_head head.now }
+{
+    let _ = head.system.as_str();
+    let _ = head.user.as_str();
+    let _ = head.grade.rank();
+    head.number >= 1 && head.queued <= LAST_SECOND && head.size <= MAX_BYTES && is_kind(&head.kind)
+}
+
+fn are_cut(size: u32, pieces: &[PieceSize]) -> bool
+    ensures { result ≡ are_cut 0 size pieces.now }
+{
+    let mut left = size;
+    let mut place = 0;
+    for piece in pieces {
+        let whole = left.min(PIECE);
+        if piece.place as usize != place || left == 0 || piece.length != whole {
+            return false;
+        }
+        left -= whole;
+        place += 1;
+    }
+    left == 0
+}
+
+impl Owner<PieceSize> for JobHead {
+    ghost owns = { owns_piece };
+
+    ghost fits = { fits_job };
+
+    fn owns(&self, child: &PieceSize) -> bool {
+        child.job == self.number
+    }
+
+    fn fits(&self, children: &[PieceSize]) -> bool {
+        is_head(self) && are_cut(self.size, children)
+    }
+}
+
+impl Ranked for JobHead {
+    ghost before = { job_before };
+
+    fn before(&self, other: &JobHead) -> bool {
+        self.number < other.number
+    }
+}

@@ -1,0 +1,21 @@
+//! Laws of the tables.
+ghost use Rattle.std.specs.Prelude.{◌≡◌};
+ghost use Rattle.uu_core.specs.State.{State, IsWellFormed};
+ghost use Rattle.uu_tables.specs.Tables.{tables_of};
+ghost use Rattle.uu_check.specs.Order.{AreInOrder};
+ghost use Rattle.uu_check.specs.Readable.{AreReadable};
+
+/// The tables of a state stand in the order of their keys, and no key stands twice.
+pub fn tables_are_in_order()
+    ensures { (s : State) → IsWellFormed s → AreInOrder (tables_of s) }
+{}
+
+/// The rows of a state fit the types in which they are read.
+pub fn tables_are_readable()
+    ensures { (s : State) → IsWellFormed s → AreReadable (tables_of s) }
+{}
+
+/// The tables tell the state: two states with the same tables are one.
+pub fn tables_tell_the_state()
+    ensures { (s t : State) → IsWellFormed s → IsWellFormed t → tables_of s ≡ tables_of t → s ≡ t }
+{}

@@ -1,0 +1,12 @@
+//! Which rows of the seven tables are those of a state of the spool: what is asked of a database before it is taken as one.
+#![tactic(auto)]
+
+mod entries;
+mod jobs;
+pub mod laws;
+mod spool;
+mod systems;
+mod walk;
+
+pub use spool::{Rows, are_tables};
+pub use walk::{Owner, Ranked, rise, walk_owners};

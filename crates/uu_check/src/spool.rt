@@ -1,0 +1,103 @@
+// Whether all tables are those of a spool.
+ghost use Rattle.std.specs.Prelude.{◌≡◌, ◌↔◌, true, IfOk, nat_le, ◌&&◌};
+ghost use Rattle.std.specs.List.{list_all};
+ghost use Rattle.uu_core.specs.State.{numbers_end};
+ghost use Rattle.uu_tables.specs.Tables.{Tables};
+ghost use Rattle.uu_check.specs.OfState.{AreTables, AreRowsOf};
+ghost use Rattle.uu_check.specs.Tests.{is_below, is_known, is_spool, are_systems, are_jobs, system_before};
+ghost use Rattle.uu_check.specs.Walk.{rises};
+
+use crate::entries::are_entries;
+use crate::walk::{rise, walk_owners};
+use std::alloc::{AllocError, Global};
+use uu_core::JobHead;
+use uu_tables::{EntryColumns, LineColumns, PieceSize, RangeColumns, SystemColumns};
+
+/// The number after the last job number.
+const NUMBERS_END: u32 = 4_294_967_295;
+
+fn are_below(next: u32, jobs: &[JobHead]) -> bool
+    ensures { result ≡ list_all (is_below next) jobs.now }
+{
+    jobs.iter().all(|job| job.number < next)
+}
+
+fn is_known(systems: &[SystemColumns], job: &JobHead) -> bool
+    requires { rises system_before systems.now ≡ true }
+    ensures { result ≡ is_known systems.now job.now }
+{
+    match systems.binary_search_by(|system| system.name.cmp(&job.system)) {
+        Ok(_) => true,
+        Err(_) => false,
+    }
+}
+
+fn are_known(systems: &[SystemColumns], jobs: &[JobHead]) -> bool
+    requires { rises system_before systems.now ≡ true }
+    ensures { result ≡ list_all (is_known systems.now) jobs.now }
+{
+    for job in jobs {
+        if !is_known(systems, job) {
+            return false;
+        }
+    }
+    true
+}
+
+fn are_systems(systems: &[SystemColumns], lines: &[LineColumns], ranges: &[RangeColumns]) -> bool
+    ensures { result ≡ are_systems systems.now lines.now ranges.now }
+{
+    rise(systems) && walk_owners(systems, lines) && walk_owners(lines, ranges)
+}
+
+fn are_jobs(next: u32, systems: &[SystemColumns], jobs: &[JobHead], pieces: &[PieceSize]) -> bool
+    requires { rises system_before systems.now ≡ true }
+    ensures { result ≡ are_jobs next systems.now jobs.now pieces.now }
+{
+    rise(jobs) && are_below(next, jobs) && are_known(systems, jobs) && walk_owners(jobs, pieces)
+}
+
+/// The rows of the tables, each table in the order of its key.
+#[derive(Clone, Copy, Debug)]
+pub struct Rows<'a> {
+    /// The next number.
+    pub next: u32,
+    /// The systems.
+    pub systems: &'a [SystemColumns],
+    /// Their lines.
+    pub lines: &'a [LineColumns],
+    /// The ranges of these.
+    pub ranges: &'a [RangeColumns],
+    /// The jobs.
+    pub jobs: &'a [JobHead],
+    /// Their pieces.
+    pub pieces: &'a [PieceSize],
+    /// The map entries.
+    pub entries: &'a [EntryColumns],
+}
+
+fn tested(rows: &Rows<'_>) -> bool
+    ensures { result ≡ (nat_le 1 rows.now.next && nat_le rows.now.next numbers_end && are_systems rows.now.systems.now rows.now.lines.now rows.now.ranges.now && are_jobs rows.now.next rows.now.systems.now rows.now.jobs.now rows.now.pieces.now) }
+{
+    rows.next >= 1
+        && rows.next <= NUMBERS_END
+        && are_systems(rows.systems, rows.lines, rows.ranges)
+        && are_jobs(rows.next, rows.systems, rows.jobs, rows.pieces)
+}
+
+fn pass(alloc: Global, rows: &Rows<'_>) -> Result<bool, AllocError>
+    ensures { IfOk result (λ good. good ≡ is_spool rows.now.next rows.now.systems.now rows.now.lines.now rows.now.ranges.now rows.now.jobs.now rows.now.pieces.now rows.now.entries.now) }
+{
+    if tested(rows) {
+        are_entries(alloc, rows.entries)
+    } else {
+        Ok(false)
+    }
+}
+
+/// Whether the rows are those of a state that a spool reaches.
+pub fn are_tables(alloc: Global, rows: &Rows<'_>) -> Result<bool, AllocError>
+    ensures { (t : Tables) → AreRowsOf rows.now t → IfOk result (λ good. (good ≡ true) ↔ AreTables t) }
+{
+    pass(alloc, rows)
+}

@@ -1,0 +1,127 @@
+// Systems, their lines, and the ranges of these.
+ghost use Rattle.std.specs.Prelude.{◌≡◌};
+ghost use Rattle.uu_check.specs.Tests.{are_ranges, is_retry, owns_range, fits_line, is_outcome, is_call, are_placed, owns_line, fits_system, system_before};
+
+use crate::walk::{Owner, Ranked};
+use uu_tables::{LineColumns, RangeColumns, SystemColumns};
+
+/// The minutes in a week.
+const WEEK: u32 = 10_080;
+
+/// The most minutes to wait.
+const RETRY_LIMIT: u32 = 525_600;
+
+/// The most lines of a system.
+const LINE_LIMIT: usize = 32;
+
+/// The most failures in a row.
+const FAILURES_LIMIT: u32 = 1_000_000;
+
+/// The most seconds that a system is left alone.
+const WAIT_LIMIT: u32 = 31_536_000;
+
+/// The last second that a moment can have.
+const LAST_SECOND: u32 = 4_102_444_800;
+
+fn are_ranges(ranges: &[RangeColumns]) -> bool
+    ensures { result ≡ are_ranges 0 ranges.now }
+{
+    let mut start = 0;
+    for range in ranges {
+        if range.low < start || range.high < range.low || range.high >= WEEK {
+            return false;
+        }
+        start = range.high + 2;
+    }
+    true
+}
+
+fn is_retry(retry: Option<u32>) -> bool
+    ensures { result ≡ is_retry retry }
+{
+    match retry {
+        None => true,
+        Some(minutes) => 1 <= minutes && minutes <= RETRY_LIMIT,
+    }
+}
+
+impl Owner<RangeColumns> for LineColumns {
+    ghost owns = { owns_range };
+
+    ghost fits = { fits_line };
+
+    fn owns(&self, child: &RangeColumns) -> bool {
+        self.system == child.system && self.place == child.place
+    }
+
+    fn fits(&self, children: &[RangeColumns]) -> bool {
+        let _ = self.grade.rank();
+        is_retry(self.retry) && are_ranges(children)
+    }
+}
+
+fn is_outcome(cells: &SystemColumns) -> bool
+    ensures { result ≡ is_outcome cells.now.call.why cells.now.call.outcome cells.now.call.last cells.now.call.failures cells.now.call.wait }
+{
+    match &cells.call.why {
+        None => {
+            cells.call.outcome == 2
+                || cells.call.outcome == 0
+                    && cells.call.last == 0
+                    && cells.call.failures == 0
+                    && cells.call.wait == 0
+        }
+        Some(why) => {
+            let _ = why.as_str();
+            cells.call.outcome == 1
+        }
+    }
+}
+
+fn is_call(cells: &SystemColumns) -> bool
+    ensures { result ≡ is_call cells.now }
+{
+    cells.call.last <= LAST_SECOND
+        && cells.call.failures <= FAILURES_LIMIT
+        && cells.call.wait <= WAIT_LIMIT
+        && is_outcome(cells)
+}
+
+fn are_placed(lines: &[LineColumns]) -> bool
+    ensures { result ≡ are_placed 0 lines.now }
+{
+    let mut place = 0;
+    for line in lines {
+        if line.place as usize != place {
+            return false;
+        }
+        place += 1;
+    }
+    true
+}
+
+impl Owner<LineColumns> for SystemColumns {
+    ghost owns = { owns_line };
+
+    ghost fits = { fits_system };
+
+    fn owns(&self, child: &LineColumns) -> bool {
+        self.name == child.system
+    }
+
+    fn fits(&self, children: &[LineColumns]) -> bool {
+        let _ = self.name.as_str();
+        self.max_retries <= FAILURES_LIMIT
+            && is_call(self)
+            && children.len() <= LINE_LIMIT
+            && are_placed(children)
+    }
+}
+
+impl Ranked for SystemColumns {
+    ghost before = { system_before };
+
+    fn before(&self, other: &SystemColumns) -> bool {
+        self.name < other.name
+    }
+}

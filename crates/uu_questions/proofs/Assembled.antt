@@ -1,0 +1,205 @@
+-- What is put together from the rows of a state's systems is these systems.
+use Rattle.std.proofs.Common.{◌≡◌, ℕ, ◌+◌, ◌<◌, ◌==◌, Bool, true, false, cond, List, [], ◌∷◌, ◌++◌, map, filter, take, drop, length, flat_map, refl, sym, ap, subst, ◌∙◌, arith, map-id}
+use Rattle.std.specs.Prelude.{◌&&◌}
+use Rattle.std.specs.List.{AllByRecursion, prefix_len}
+use Rattle.std.specs.Cmp.Lexicographic.{bytes_decides}
+use Rattle.std.proofs.lemmas.Bool.Decides.{nat_tests}
+use Rattle.std.proofs.lemmas.List.{map-append}
+use Rattle.std.proofs.lemmas.Grind.{flat_map-append}
+use Rattle.std.proofs.lemmas.Cmp.{nat_list_cmp_total}
+use Rattle.std.proofs.Common.{Less}
+use Rattle.std.specs.Ordering.{ordering_reverse}
+use Rattle.sqlite.specs.Tree.{IsAscending}
+use Rattle.sqlite_keyed.proofs.ListLemmas.{map-map}
+use Rattle.uu_times.specs.declared.system.Line.{Line}
+use Rattle.uu_core.specs.declared.system.SystemRow.{SystemRow}
+use Rattle.uu_core.specs.declared.system.Outcome.{Outcome}
+use Rattle.uu_core.specs.declared.system.Outcome.TheVariants.{Never, Failed, Done}
+use Rattle.uu_core.specs.State.{ComesBefore, same_text, is_system}
+use Rattle.uu_tables.specs.declared.rows.LineColumns.{LineColumns}
+use Rattle.uu_tables.specs.declared.rows.RangeColumns.{RangeColumns}
+use Rattle.uu_tables.specs.Tables.{PlacedLine, system_columns, placed, placed_from, line_columns, range_columns, ranges_of, outcome_number, reason_of}
+use Rattle.uu_questions.specs.Assembly.{is_line_of, is_range_of, is_range_of_line, own, others, range_of, lines_from, outcome_from, systems_from}
+
+-- ---- texts
+
+text_to : (a : List ℕ) → same_text a a ≡ true
+text_to a = (bytes_decides a a).1 refl
+
+text_from : (a b : List ℕ) → same_text a b ≡ true → a ≡ b
+text_from a b h = (bytes_decides a b).0 h
+
+not_true : (t : Bool) → (t ≡ true → ⊥) → t ≡ false
+not_true false h = refl
+not_true true h = absurd (h refl)
+
+apart : (a b : List ℕ) → ComesBefore a b → a ≡ b → ⊥
+apart a b h e = none (subst (ComesBefore a) (sym e) h)
+  where
+    turned : Less ≡ ordering_reverse Less → ⊥
+    turned q = cc
+
+    none : ComesBefore a a → ⊥
+    none k = turned (sym k ∙ nat_list_cmp_total.antisymm a a ∙ ap ordering_reverse k)
+
+-- a name that comes later is another
+later_other : (a b : List ℕ) → ComesBefore a b → same_text b a ≡ false
+later_other a b h = not_true (same_text b a) (λ e. apart a b h (sym (text_from b a e)))
+
+-- ---- the front of a list
+
+front : {C : Type 0} (p : C → Bool) (xs rest : List C) → AllByRecursion (λ c. p c ≡ true) xs → AllByRecursion (λ c. p c ≡ false) rest → prefix_len p (xs ++ rest) ≡ length xs
+front p [] [] all none = refl
+front p [] (c ∷ rest) all none = rw none.0 refl
+front p (c ∷ xs) rest all none = rw (all.0, front p xs rest all.1 none) (omega arith)
+
+take_front : {X : Type 0} (xs ys : List X) → take (length xs) (xs ++ ys) ≡ xs
+take_front [] ys = refl
+take_front (x ∷ xs) ys = ap (λ l. x ∷ l) (take_front xs ys)
+
+drop_front : {X : Type 0} (xs ys : List X) → drop (length xs) (xs ++ ys) ≡ ys
+drop_front [] ys = refl
+drop_front (x ∷ xs) ys = drop_front xs ys
+
+module _ {P C : Type 0} (owns : P → C → Bool) (owner : P) (xs rest : List C) (all : AllByRecursion (λ c. owns owner c ≡ true) xs) (none : AllByRecursion (λ c. owns owner c ≡ false) rest) where
+  own_is : own owns owner (xs ++ rest) ≡ xs
+  own_is = ap (λ n. take n (xs ++ rest)) (front (owns owner) xs rest all none) ∙ take_front xs rest
+
+  others_are : others owns owner (xs ++ rest) ≡ rest
+  others_are = ap (λ n. drop n (xs ++ rest)) (front (owns owner) xs rest all none) ∙ drop_front xs rest
+
+all_append : {X : Type 0} (P : X → Type 0) (xs ys : List X) → AllByRecursion P xs → AllByRecursion P ys → AllByRecursion P (xs ++ ys)
+all_append P [] ys h k = k
+all_append P (x ∷ xs) ys h k = (h.0, all_append P xs ys h.1 k)
+
+all_flat : {X C : Type 0} (P : C → Type 0) (f : X → List C) (xs : List X) → AllByRecursion (λ x. AllByRecursion P (f x)) xs → AllByRecursion P (flat_map f xs)
+all_flat P f [] h = tt
+all_flat P f (x ∷ xs) h = all_append P (f x) (flat_map f xs) h.0 (all_flat P f xs h.1)
+
+all_mapped : {X Y : Type 0} (P : Y → Type 0) (f : X → Y) (xs : List X) → AllByRecursion (λ x. P (f x)) xs → AllByRecursion P (map f xs)
+all_mapped P f [] h = tt
+all_mapped P f (x ∷ xs) h = (h.0, all_mapped P f xs h.1)
+
+-- ---- the lines of a system
+
+-- each range of a line passes the test, if the line's system and place do
+ranges_pass : (p : RangeColumns → Bool) (t : Bool) (name : List ℕ) (place : ℕ) (windows : List (ℕ × ℕ)) → ((w : ℕ × ℕ) → p (range_columns name place w) ≡ t) → AllByRecursion (λ r. p r ≡ t) (map (range_columns name place) windows)
+ranges_pass p t name place [] h = tt
+ranges_pass p t name place (w ∷ windows) h = (h w, ranges_pass p t name place windows h)
+
+windows_back : (name : List ℕ) (place : ℕ) (windows : List (ℕ × ℕ)) → map range_of (map (range_columns name place) windows) ≡ windows
+windows_back name place windows = map-map range_of (range_columns name place) windows ∙ map-id windows
+
+later_ranges : (name : List ℕ) (l : LineColumns) (place : ℕ) (lines : List Line) → l.place < place → AllByRecursion (λ r. is_range_of_line l r ≡ false) (flat_map ranges_of (placed_from name place lines))
+later_ranges name l place [] below = tt
+later_ranges name l place (line ∷ lines) below =
+    all_append _ (map (range_columns name place) line.windows) (flat_map ranges_of (placed_from name (place + 1) lines))
+    (ranges_pass (is_range_of_line l) false name place line.windows (λ w. let other : (place == l.place) ≡ false = grind (arith, nat_tests) in rw other (both_false (same_text name l.system))))
+    (later_ranges name l (place + 1) lines (omega (arith, below)))
+  where
+    both_false : (b : Bool) → (b && false) ≡ false
+    both_false true = refl
+    both_false false = refl
+
+lines_back : (name : List ℕ) (place : ℕ) (lines : List Line) → lines_from (map line_columns (placed_from name place lines)) (flat_map ranges_of (placed_from name place lines)) ≡ lines
+lines_back name place [] = refl
+lines_back name place (line ∷ lines) =
+    let p : PlacedLine = record { system = name; place = place; line = line } in
+    let l = line_columns p in
+    let rest = flat_map ranges_of (placed_from name (place + 1) lines) in
+    let here : (place == place) ≡ true = grind (arith, nat_tests) in
+    let mine = ranges_pass (is_range_of_line l) true name place line.windows (λ w. rw (text_to name, here) refl) in
+    let none = later_ranges name l (place + 1) lines (omega arith) in
+    let windows : map range_of (own is_range_of_line l (ranges_of p ++ rest)) ≡ line.windows = ap (map range_of) (own_is is_range_of_line l (ranges_of p) rest mine none) ∙ windows_back name place line.windows in
+    let more : lines_from (map line_columns (placed_from name (place + 1) lines)) (others is_range_of_line l (ranges_of p ++ rest)) ≡ lines =
+    ap (lines_from (map line_columns (placed_from name (place + 1) lines))) (others_are is_range_of_line l (ranges_of p) rest mine none) ∙ lines_back name (place + 1) lines in
+    λ i. record line { windows = windows i } ∷ more i
+
+-- ---- systems
+
+outcome_back : (o : Outcome) → outcome_from (outcome_number o) (reason_of o) ≡ o
+outcome_back Never = refl
+outcome_back (Failed why) = refl
+outcome_back Done = refl
+
+-- each line, and each of its ranges, is of the system whose it is
+lines_pass : (p : LineColumns → Bool) (t : Bool) (name : List ℕ) (place : ℕ) (lines : List Line) → ((l : LineColumns) → l.system ≡ name → p l ≡ t) → AllByRecursion (λ l. p l ≡ t) (map line_columns (placed_from name place lines))
+lines_pass p t name place [] h = tt
+lines_pass p t name place (line ∷ lines) h = (h _ refl, lines_pass p t name (place + 1) lines h)
+
+all_ranges_pass : (p : RangeColumns → Bool) (t : Bool) (name : List ℕ) (place : ℕ) (lines : List Line) → ((r : RangeColumns) → r.system ≡ name → p r ≡ t) → AllByRecursion (λ r. p r ≡ t) (flat_map ranges_of (placed_from name place lines))
+all_ranges_pass p t name place [] h = tt
+all_ranges_pass p t name place (line ∷ lines) h =
+    all_append _ (map (range_columns name place) line.windows) (flat_map ranges_of (placed_from name (place + 1) lines)) (ranges_pass p t name place line.windows (λ w. h _ refl)) (all_ranges_pass p t name (place + 1) lines h)
+
+abbrev lines_table : List SystemRow → List LineColumns
+lines_table rows = map line_columns (flat_map placed rows)
+
+abbrev ranges_table : List SystemRow → List RangeColumns
+ranges_table rows = flat_map ranges_of (flat_map placed rows)
+
+lines_split : (row : SystemRow) (rows : List SystemRow) → lines_table (row ∷ rows) ≡ map line_columns (placed row) ++ lines_table rows
+lines_split row rows = map-append line_columns (placed row) (flat_map placed rows)
+
+ranges_split : (row : SystemRow) (rows : List SystemRow) → ranges_table (row ∷ rows) ≡ flat_map ranges_of (placed row) ++ ranges_table rows
+ranges_split row rows = flat_map-append ranges_of (placed row) (flat_map placed rows)
+
+other_lines : (row : SystemRow) (rows : List SystemRow) → AllByRecursion (λ (r : SystemRow). ComesBefore row.def.name r.def.name) rows → AllByRecursion (λ l. is_line_of (system_columns row) l ≡ false) (lines_table rows)
+other_lines row [] h = tt
+other_lines row (r ∷ rows) h =
+    subst (AllByRecursion (λ l. is_line_of (system_columns row) l ≡ false)) (sym (lines_split r rows))
+    (all_append _ (map line_columns (placed r)) (lines_table rows) (lines_pass (is_line_of (system_columns row)) false r.def.name 0 r.def.lines (λ l e. ap (λ n. same_text n row.def.name) e ∙ later_other row.def.name r.def.name h.0)) (other_lines row rows h.1))
+
+other_ranges : (row : SystemRow) (rows : List SystemRow) → AllByRecursion (λ (r : SystemRow). ComesBefore row.def.name r.def.name) rows → AllByRecursion (λ l. is_range_of (system_columns row) l ≡ false) (ranges_table rows)
+other_ranges row [] h = tt
+other_ranges row (r ∷ rows) h =
+    subst (AllByRecursion (λ l. is_range_of (system_columns row) l ≡ false)) (sym (ranges_split r rows))
+    (all_append _ (flat_map ranges_of (placed r)) (ranges_table rows) (all_ranges_pass (is_range_of (system_columns row)) false r.def.name 0 r.def.lines (λ l e. ap (λ n. same_text n row.def.name) e ∙ later_other row.def.name r.def.name h.0)) (other_ranges row rows h.1))
+
+pub assembled : (rows : List SystemRow) → IsAscending (λ (a b : SystemRow). ComesBefore a.def.name b.def.name) rows → systems_from (map system_columns rows) (lines_table rows) (ranges_table rows) ≡ rows
+assembled [] up = refl
+assembled (row ∷ rows) up =
+    let s = system_columns row in
+    let name = row.def.name in
+    let ls = map line_columns (placed row) in
+    let rs = flat_map ranges_of (placed row) in
+    let mine = lines_pass (is_line_of s) true name 0 row.def.lines (λ l e. ap (λ n. same_text n name) e ∙ text_to name) in
+    let my_ranges = all_ranges_pass (is_range_of s) true name 0 row.def.lines (λ r e. ap (λ n. same_text n name) e ∙ text_to name) in
+    let none = other_lines row rows up.0 in
+    let no_range = other_ranges row rows up.0 in
+    let lines : lines_from (own is_line_of s (lines_table (row ∷ rows))) (own is_range_of s (ranges_table (row ∷ rows))) ≡ row.def.lines =
+    (λ i. lines_from ((ap (own is_line_of s) (lines_split row rows) ∙ own_is is_line_of s ls (lines_table rows) mine none) i) ((ap (own is_range_of s) (ranges_split row rows) ∙ own_is is_range_of s rs (ranges_table rows) my_ranges no_range) i))
+    ∙ lines_back name 0 row.def.lines in
+    let rest : systems_from (map system_columns rows) (others is_line_of s (lines_table (row ∷ rows))) (others is_range_of s (ranges_table (row ∷ rows))) ≡ rows =
+    (λ i. systems_from (map system_columns rows) ((ap (others is_line_of s) (lines_split row rows) ∙ others_are is_line_of s ls (lines_table rows) mine none) i) ((ap (others is_range_of s) (ranges_split row rows) ∙ others_are is_range_of s rs (ranges_table rows) my_ranges no_range) i))
+    ∙ assembled rows up.1 in
+    λ i. record { def = record row.def { lines = lines i }; call = record row.call { outcome = outcome_back row.call.outcome i } } ∷ rest i
+
+-- ---- one system
+
+filter_all_or_none : {C : Type 0} (p : C → Bool) (t : Bool) (xs : List C) → AllByRecursion (λ c. p c ≡ t) xs → filter p xs ≡ cond t xs []
+filter_all_or_none p true [] h = refl
+filter_all_or_none p false [] h = refl
+filter_all_or_none p true (x ∷ xs) h = rw h.0 (ap (λ l. x ∷ l) (filter_all_or_none p true xs h.1))
+filter_all_or_none p false (x ∷ xs) h = rw h.0 (filter_all_or_none p false xs h.1)
+
+filter_append : {C : Type 0} (p : C → Bool) (xs ys : List C) → filter p (xs ++ ys) ≡ filter p xs ++ filter p ys
+filter_append p [] ys = refl
+filter_append p (x ∷ xs) ys = elim (p x) as (λ b. cond b (x ∷ filter p (xs ++ ys)) (filter p (xs ++ ys)) ≡ cond b (x ∷ filter p xs) (filter p xs) ++ filter p ys) [ true ↦ ap (λ l. x ∷ l) (filter_append p xs ys) | false ↦ filter_append p xs ys ]
+
+-- the lines of the system of a name are those of the systems of that name
+pub lines_filtered : (name : List ℕ) (rows : List SystemRow) → filter (λ (l : LineColumns). same_text l.system name) (lines_table rows) ≡ lines_table (filter (is_system name) rows)
+lines_filtered name [] = refl
+lines_filtered name (row ∷ rows) =
+    let p = λ (l : LineColumns). same_text l.system name in
+    let here = filter_all_or_none p (is_system name row) (map line_columns (placed row)) (lines_pass p (is_system name row) row.def.name 0 row.def.lines (λ l e. ap (λ n. same_text n name) e)) in
+    ap (filter p) (lines_split row rows) ∙ filter_append p (map line_columns (placed row)) (lines_table rows) ∙ (λ i. here i ++ lines_filtered name rows i)
+    ∙ elim (is_system name row) as (λ b. cond b (map line_columns (placed row)) [] ++ lines_table (filter (is_system name) rows) ≡ lines_table (cond b (row ∷ filter (is_system name) rows) (filter (is_system name) rows))) [ true ↦ sym (lines_split row (filter (is_system name) rows)) | false ↦ refl ]
+
+pub ranges_filtered : (name : List ℕ) (rows : List SystemRow) → filter (λ (r : RangeColumns). same_text r.system name) (ranges_table rows) ≡ ranges_table (filter (is_system name) rows)
+ranges_filtered name [] = refl
+ranges_filtered name (row ∷ rows) =
+    let p = λ (r : RangeColumns). same_text r.system name in
+    let here = filter_all_or_none p (is_system name row) (flat_map ranges_of (placed row)) (all_ranges_pass p (is_system name row) row.def.name 0 row.def.lines (λ l e. ap (λ n. same_text n name) e)) in
+    ap (filter p) (ranges_split row rows) ∙ filter_append p (flat_map ranges_of (placed row)) (ranges_table rows) ∙ (λ i. here i ++ ranges_filtered name rows i)
+    ∙ elim (is_system name row) as (λ b. cond b (flat_map ranges_of (placed row)) [] ++ ranges_table (filter (is_system name) rows) ≡ ranges_table (cond b (row ∷ filter (is_system name) rows) (filter (is_system name) rows))) [ true ↦ sym (ranges_split row (filter (is_system name) rows)) | false ↦ refl ]

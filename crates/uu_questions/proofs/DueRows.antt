@@ -1,0 +1,204 @@
+-- The systems that may be called, and the walk along the jobs.
+use Rattle.std.proofs.Common.{◌≡◌, ◌<◌, ◌+◌, ℕ, zero, suc, pos, Bool, true, false, not, cond, leb, ◌&&◌, ◌||◌, max, List, [], ◌∷◌, ◌++◌, length, take, map, get_or, AllPairs, All, Option, Some, None, refl, ap, sym, subst, ◌∙◌, arith, append-nil, append_assoc, Ordering, Less, Equal, Greater, nat_cmp, IsPermutation}
+use Rattle.std.specs.List.{list_any, AllByRecursion}
+use Rattle.std.specs.Cmp.{IsTotalOrder, ranked}
+use Rattle.std.specs.Cmp.Lexicographic.{bytes_decides}
+use Rattle.std.specs.Ordering.{is_eq, is_gt, ordering_then, MatchOrdering}
+use Rattle.std.proofs.lemmas.Cmp.{nat_cmp_total, then_total}
+use Rattle.std.proofs.lemmas.Bool.Decides.{nat_tests}
+use Rattle.std.proofs.lemmas.List.{take_more}
+use Rattle.std.proofs.lemmas.List.Kept.{AllPairs-cons}
+use Rattle.std.proofs.lemmas.List.Sorted.{IsPermutation-sym}
+use Rattle.sqlite.specs.Order.{Row}
+use Rattle.sqlite.specs.Tree.{IsAscending}
+use Rattle.sqlite.specs.State as db
+use Rattle.sqlite_value.proofs.OrderLemmas.{value_cmp-Int}
+use Rattle.sqlite_typed.proofs.TestLemmas.{then_key, last_key}
+use Rattle.sqlite_keyed.specs.Lists.{sort_by, insert_sorted}
+use Rattle.sqlite_keyed.proofs.ListLemmas.{ascending_weaker, ascending-filter}
+use Rattle.sqlite_keyed.proofs.SortLemmas.{IsPermutation-sort_by}
+use Rattle.uu_sql.proofs.Answers.{answer_of}
+use Rattle.uu_sql.proofs.Sorted.{rises-insert_sorted}
+use Rattle.uu_times.specs.declared.moment.Moment.{Moment}
+use Rattle.uu_core.specs.declared.job.JobHead.{JobHead}
+use Rattle.uu_core.specs.declared.due.Due.{Due}
+use Rattle.uu_core.specs.declared.system.SystemRow.{SystemRow}
+use Rattle.uu_core.specs.State.{State, IsWellFormed, same_text, is_system, head_of}
+use Rattle.uu_core.specs.Due.{limit_now, is_within, may_be_called, goes_before, due_of, is_listed, walk, with_next, AreInOrder, AreDue}
+use Rattle.uu_schema.specs.Schema.{site, jobs}
+use Rattle.uu_schema.specs.Keyed.{columns}
+use Rattle.uu_schema.specs.Held.{job_places}
+use Rattle.uu_schema.specs.Cells.{job_cells}
+use Rattle.uu_questions.specs.Answers.{IsOf}
+use Rattle.uu_questions.specs.Listing.{by_rank}
+use Rattle.uu_questions.specs.Dues.{IsLeft, Offers, due_cells}
+use Rattle.uu_questions.specs.Walks.{Took}
+use Rattle.uu_questions.specs.Texts.{due_jobs_text}
+use Rattle.uu_questions.proofs.Meanings.{at_places, by_places, due_jobs_means}
+use Rattle.uu_questions.proofs.Typed.{typed_sorted}
+use Rattle.uu_questions.proofs.InTables.{all_pass}
+use Rattle.uu_questions.proofs.Known.{numbered, int_cmp-nat}
+use Rattle.uu_questions.proofs.Listed.{apart, numbers_rise}
+
+-- ---- the greater of two limits
+
+abbrev pub with_limit : Option ℕ → ℕ → ℕ
+with_limit None lowest = lowest
+with_limit (Some other) lowest = max lowest other
+
+pub any_push : {X : Type 0} (p : X → Bool) (xs : List X) (x : X) → list_any p (xs ++ x ∷ []) ≡ list_any p xs || p x
+any_push p [] x = or-false (p x)
+  where
+    or-false : (b : Bool) → b || false ≡ b
+    or-false true = refl
+    or-false false = refl
+any_push p (y ∷ xs) x = ap (λ b. p y || b) (any_push p xs x) ∙ or-assoc (p y) _ _
+  where
+    or-assoc : (a b c : Bool) → a || (b || c) ≡ (a || b) || c
+    or-assoc true b c = refl
+    or-assoc false b c = refl
+
+within_max : (a b grade : ℕ) → is_within (Some (max a b)) grade ≡ is_within (Some b) grade || leb grade a
+within_max a b grade = grind (arith, nat_tests)
+
+pub same_is : (a b : List ℕ) → same_text a b ≡ true → a ≡ b
+same_is a b = (bytes_decides a b).0
+
+pub limits_more : (rows : List SystemRow) (i : ℕ) (d : SystemRow) (at : Moment) (name : List ℕ) (grade : ℕ) → i < length rows
+    → may_be_called (take (i + 1) rows) at name grade ≡ may_be_called (take i rows) at name grade || (is_system name (get_or rows i d) && is_within (limit_now (get_or rows i d) at) grade)
+limits_more rows i d at name grade h =
+    ap (λ t. may_be_called t at name grade) (take_more rows i d h) ∙ any_push (λ row. is_system name row && is_within (limit_now row at) grade) (take i rows) (get_or rows i d)
+
+pub lowered : (old new : Option ℕ) (lowest now : ℕ) (same : Bool) (grade : ℕ) (found : Option ℕ) → new ≡ cond same (Some now) old → (same ≡ true → found ≡ old) → now ≡ with_limit found lowest → is_within new grade ≡ (is_within old grade || (same && leb grade lowest))
+lowered old new lowest now false grade found e f g = ap (λ o. is_within o grade) e ∙ or-false (is_within old grade)
+  where
+    or-false : (b : Bool) → b ≡ b || false
+    or-false true = refl
+    or-false false = refl
+lowered old new lowest now true grade found e f g =
+    ap (λ o. is_within o grade) e ∙ ap (λ n. leb grade n) (g ∙ ap (λ o. with_limit o lowest) (f refl)) ∙ by-old old
+  where
+    by-old : (o : Option ℕ) → leb grade (with_limit o lowest) ≡ (is_within o grade || leb grade lowest)
+    by-old None = refl
+    by-old (Some other) = grind (arith, nat_tests)
+
+-- a system that may not be called adds nothing
+pub not_more : (a b : Bool) (limit : Option ℕ) (grade : ℕ) → limit ≡ None → (a || (b && is_within limit grade)) ≡ a
+not_more a b limit grade e = ap (λ o. a || (b && is_within o grade)) e ∙ closed a b
+  where
+    closed : (a b : Bool) → (a || (b && false)) ≡ a
+    closed true b = refl
+    closed false true = refl
+    closed false false = refl
+
+-- ---- one job more
+
+-- the system of a job that is listed is free no more
+pub left_after : (may : Bool) (dues : List Due) (due : Due) (name : List ℕ) (grade : ℕ) (old new : Option ℕ) → is_within old grade ≡ (may && not (is_listed dues name)) → new ≡ cond (same_text due.system name) None old
+    → is_within new grade ≡ (may && not (is_listed (dues ++ due ∷ []) name))
+left_after may dues due name grade old new h e =
+    ap (λ o. is_within o grade) e ∙ by-same (same_text due.system name) ∙ ap (λ b. may && not b) (sym (any_push (λ (d : Due). same_text d.system name) dues due))
+  where
+    never : (a b : Bool) → a && not (b || true) ≡ false
+    never true true = refl
+    never true false = refl
+    never false b = refl
+
+    or-false : (b : Bool) → b ≡ b || false
+    or-false true = refl
+    or-false false = refl
+
+    by-same : (t : Bool) → is_within (cond t None old) grade ≡ (may && not (is_listed dues name || t))
+    by-same true = sym (never may (is_listed dues name))
+    by-same false = h ∙ ap (λ b. may && not b) (or-false (is_listed dues name))
+
+-- ---- the whole walk
+
+module _ {X : Type 0} (limit : X → List ℕ → Option ℕ) (dues : X → List Due) where
+  abbrev pub Walked : X → Row → X → Type 0
+  Walked old row new = Offers (limit old) (dues old) row (limit new) (dues new)
+
+  pub walked_on : ((rows : List SystemRow) (at : Moment) (jobs : List JobHead) (job : JobHead) → walk rows (jobs ++ job ∷ []) at ≡ with_next rows at (walk rows jobs at) job)
+      → (rows : List SystemRow) (at : Moment) (seen rest : List JobHead) (before after : X) → Took Walked before (map (λ j. due_cells (due_of j)) rest) after → IsLeft (may_be_called rows at) (limit before) (dues before) → dues before ≡ walk rows seen at
+      → dues after ≡ walk rows (seen ++ rest) at
+  walked_on law rows at seen [] before after h free is = ap dues (sym h) ∙ is ∙ ap (λ l. walk rows l at) (sym (append-nil seen))
+  walked_on law rows at seen (j ∷ rest) before after h free is =
+      let one = h.1 (may_be_called rows at) (due_of j) refl free in
+      walked_on law rows at (seen ++ j ∷ []) rest h.0 after h.2 one.0 (one.1 ∙ ap (λ d. with_next rows at d j) is ∙ sym (law rows at seen j)) ∙ ap (λ l. walk rows l at) (append_assoc seen (j ∷ []) rest)
+
+-- ---- the jobs by grade and number
+
+abbrev by_grade : List JobHead → List JobHead
+by_grade = sort_by by_rank
+
+grades_total : IsTotalOrder (λ (a b : JobHead). nat_cmp a.grade b.grade)
+grades_total = record { antisymm = λ x y. nat_cmp_total.antisymm x.grade y.grade; trans = λ x y z. nat_cmp_total.trans x.grade y.grade z.grade; congr = λ x y z. nat_cmp_total.congr x.grade y.grade z.grade }
+
+numbers_total : IsTotalOrder (λ (a b : JobHead). nat_cmp a.number b.number)
+numbers_total = record { antisymm = λ x y. nat_cmp_total.antisymm x.number y.number; trans = λ x y z. nat_cmp_total.trans x.number y.number z.number; congr = λ x y z. nat_cmp_total.congr x.number y.number z.number }
+
+ranks_total : IsTotalOrder by_rank
+ranks_total = then_total grades_total numbers_total
+
+all_inserted : (P : JobHead → Type 0) (new : JobHead) (xs : List JobHead) → P new → AllByRecursion P xs → AllByRecursion P (insert_sorted by_rank new xs)
+all_inserted P new [] h all = (h, tt)
+all_inserted P new (x ∷ xs) h all =
+    elim (is_gt (by_rank new x)) as (λ b. AllByRecursion P (cond b (x ∷ insert_sorted by_rank new xs) (new ∷ x ∷ xs))) [ true ↦ (all.0, all_inserted P new xs h all.1) | false ↦ (h, all) ]
+
+all_sorted : (P : JobHead → Type 0) (xs : List JobHead) → AllByRecursion P xs → AllByRecursion P (by_grade xs)
+all_sorted P [] all = tt
+all_sorted P (x ∷ xs) all = all_inserted P x (by_grade xs) all.0 (all_sorted P xs all.1)
+
+rises_sorted : (xs : List JobHead) → IsAscending (λ a b. is_eq (by_rank a b) ≡ false) xs → IsAscending (λ a b. by_rank a b ≡ Less) (by_grade xs)
+rises_sorted [] apart = tt
+rises_sorted (x ∷ xs) apart = rises-insert_sorted by_rank ranks_total x (by_grade xs) (all_sorted _ xs apart.0) (rises_sorted xs apart.1)
+
+before_is : (a b : JobHead) → by_rank a b ≡ Less → goes_before a b ≡ true
+before_is a b h = go (nat_cmp a.grade b.grade) (ranked a.grade b.grade _ refl) (nat_cmp a.number b.number) (ranked a.number b.number _ refl) h
+  where
+    go : (o : Ordering) → MatchOrdering o (a.grade < b.grade) (a.grade ≡ b.grade) (b.grade < a.grade) → (n : Ordering) → MatchOrdering n (a.number < b.number) (a.number ≡ b.number) (b.number < a.number) → ordering_then o n ≡ Less → goes_before a b ≡ true
+    go Less k n l e = grind (arith, nat_tests, k)
+    go Equal k Less l e = grind (arith, nat_tests, k, l)
+    go Equal k Equal l e = absurd (cc)
+    go Equal k Greater l e = absurd (cc)
+    go Greater k n l e = absurd (cc)
+
+all_places : {X : Type 0} (P : X → Type 0) (xs : List X) → AllByRecursion P xs → All P xs
+all_places P [] h i d within = absurd (omega (arith, within))
+all_places P (x ∷ xs) h zero d within = h.0
+all_places P (x ∷ xs) h (suc i) d within = all_places P xs h.1 i d (omega (arith, within))
+
+pairs_of : {X : Type 0} (R : X → X → Type 0) (xs : List X) → IsAscending R xs → AllPairs R xs
+pairs_of R [] h = λ i j d below within. absurd (omega (arith, within))
+pairs_of R (x ∷ xs) h = AllPairs-cons R x xs (all_places (R x) xs h.0) (pairs_of R xs h.1)
+
+pub in_order : (s : State) → IsWellFormed s → AreInOrder (by_grade (map head_of s.jobs))
+in_order s good =
+    pairs_of (λ a b. goes_before a b ≡ true) _ (ascending_weaker _ (λ a b. goes_before a b ≡ true) before_is _
+    (rises_sorted (map head_of s.jobs) (ascending_weaker _ (λ a b. is_eq (by_rank a b) ≡ false) apart _ (numbers_rise s good))))
+
+pub due_rows : (old new : db.State) (s : State) (rows : List Row) → IsOf s old → db.Shown due_jobs_text [] old new rows → rows ≡ map (λ j. due_cells (due_of j)) (by_grade (map head_of s.jobs))
+due_rows old new s rows of h =
+    let a = answer_of site due_jobs_text _ _ [] old new due_jobs_means of.stands.schema rows h in
+    typed_sorted jobs.tree [] (at_places (2 ∷ 3 ∷ 0 ∷ [])) (by_places (3 ∷ 0 ∷ [])) old.now.trees [] rows refl a (columns job_places) numbered (λ r. refl) (λ r. refl) job_cells (map head_of s.jobs) of.holds.jobs.same
+    (λ j. true) (λ j. refl)
+    by_rank (λ x y. then_key (value_cmp-Int (pos x.grade) (pos y.grade) ∙ int_cmp-nat x.grade y.grade) (last_key (value_cmp-Int (pos x.number) (pos y.number) ∙ int_cmp-nat x.number y.number)))
+    (ascending_weaker _ (λ x y. is_eq (by_rank x y) ≡ false) apart _ (ascending-filter _ (λ j. true) _ (numbers_rise s of.good)))
+    ∙ ap (λ l. map (λ j. due_cells (due_of j)) (by_grade l)) (all_pass (map head_of s.jobs))
+
+module _ {X : Type 0} (limit : X → List ℕ → Option ℕ) (dues : X → List Due)
+    (law : (rows : List SystemRow) (at : Moment) (jobs : List JobHead) (job : JobHead) → walk rows (jobs ++ job ∷ []) at ≡ with_next rows at (walk rows jobs at) job)
+    (start : (rows : List SystemRow) (at : Moment) → walk rows [] at ≡ [])
+    (lists : (rows : List SystemRow) (at : Moment) (jobs ordered : List JobHead) → IsPermutation jobs ordered → AreInOrder ordered → AreDue rows jobs at (walk rows ordered at)) where
+  and-not : (b : Bool) → b ≡ (b && true)
+  and-not true = refl
+  and-not false = refl
+
+  pub are_due : (old new : db.State) (s : State) (shown : List Row) (before after : X) → IsOf s old → db.Shown due_jobs_text [] old new shown → Took (Walked limit dues) before shown after → dues before ≡ []
+      → (rows : List SystemRow) (at : Moment) → ((name : List ℕ) (grade : ℕ) → is_within (limit before name) grade ≡ may_be_called rows at name grade) → AreDue rows (map head_of s.jobs) at (dues after)
+  are_due old new s shown before after of h took none rows at callable =
+      let ordered = by_grade (map head_of s.jobs) in
+      let left : IsLeft (may_be_called rows at) (limit before) (dues before) = λ name grade. callable name grade ∙ and-not (may_be_called rows at name grade) ∙ ap (λ l. may_be_called rows at name grade && not (is_listed l name)) (sym none) in
+      let went = subst (λ rs. Took (Walked limit dues) before rs after) (due_rows old new s shown of h) took in
+      let all : dues after ≡ walk rows ordered at = walked_on limit dues law rows at [] ordered before after went left (none ∙ sym (start rows at)) in
+      subst (AreDue rows (map head_of s.jobs) at) (sym all) (lists rows at (map head_of s.jobs) ordered (IsPermutation-sym _ _ (IsPermutation-sort_by by_rank ranks_total (map head_of s.jobs))) (in_order s of.good))

@@ -1,0 +1,103 @@
+-- The bytes of a job are those of its pieces.
+use Rattle.std.proofs.Common.{◌≡◌, ℕ, zero, suc, ◌+◌, ◌*◌, ◌<◌, ◌≤◌, ◌==◌, List, [], ◌∷◌, ◌++◌, Bool, true, false, cond, filter, flat_map, length, take, drop, refl, sym, ap, subst, ◌∙◌, Option, Some, None, option_map, Vec, arith, append-nil}
+use Rattle.std.specs.Prelude.{find}
+use Rattle.std.specs.declared.alloc.Global.{Global}
+use Rattle.std.specs.List.{AllByRecursion}
+use Rattle.std.proofs.lemmas.Bool.{cases_Bool}
+use Rattle.std.proofs.lemmas.Bool.Decides.{nat_tests}
+use Rattle.std.proofs.lemmas.List.{length-drop}
+use Rattle.std.proofs.Common.{inl, inr}
+use Rattle.sqlite.specs.Tree.{IsAscending}
+use Rattle.sqlite_keyed.proofs.ListLemmas.{filter_none, all_weaker}
+use Rattle.uu_core.specs.declared.job.JobHead.{JobHead}
+use Rattle.uu_core.specs.State.{State, Job, IsWellFormed, head_of, job_at, is_job}
+use Rattle.uu_tables.specs.Tables.{Piece, tables_of, pieces_of, piece_count}
+use Rattle.uu_questions.specs.Listing.{handed_out, whole}
+use Rattle.uu_questions.proofs.InOrder.{ascending_pairs}
+use Rattle.uu_questions.proofs.Listed.{is_piece_of}
+use Rattle.uu_questions.proofs.Rising.{pieces_from, as_pieces}
+
+abbrev bytes_of : List Piece → List ℕ
+bytes_of ps = flat_map (λ (p : Piece). p.bytes) ps
+
+-- ---- pieces together
+
+take_drop : (n : ℕ) (xs : List ℕ) → take n xs ++ drop n xs ≡ xs
+take_drop zero xs = refl
+take_drop (suc n) [] = refl
+take_drop (suc n) (x ∷ xs) = ap (λ l. x ∷ l) (take_drop n xs)
+
+none_left : (xs : List ℕ) → length xs ≤ 0 → xs ≡ []
+none_left [] h = refl
+none_left (x ∷ xs) h = absurd (omega (arith, h))
+
+together : (job place n : ℕ) (bytes : List ℕ) → length bytes ≤ n * 16384 → bytes_of (pieces_from job place n bytes) ≡ bytes
+together job place zero bytes h = sym (none_left bytes (omega (arith, h)))
+together job place (suc n) bytes h = ap (λ l. take 16384 bytes ++ l) (together job (place + 1) n (drop 16384 bytes) (let less = length-drop 16384 bytes in omega (arith, h, less))) ∙ take_drop 16384 bytes
+
+pub pieces_together : (j : Job) → bytes_of (pieces_of j) ≡ j.bytes
+pieces_together j = ap bytes_of (as_pieces j) ∙ together j.number 0 (piece_count (length j.bytes)) j.bytes (omega arith)
+
+-- ---- those of one job
+
+keep_all : {C : Type 0} (p : C → Bool) (t : Bool) (xs : List C) → AllByRecursion (λ c. p c ≡ t) xs → filter p xs ≡ cond t xs []
+keep_all p true [] h = refl
+keep_all p false [] h = refl
+keep_all p true (x ∷ xs) h = rw h.0 (ap (λ l. x ∷ l) (keep_all p true xs h.1))
+keep_all p false (x ∷ xs) h = rw h.0 (keep_all p false xs h.1)
+
+filter_append : {C : Type 0} (p : C → Bool) (xs ys : List C) → filter p (xs ++ ys) ≡ filter p xs ++ filter p ys
+filter_append p [] ys = refl
+filter_append p (x ∷ xs) ys = elim (p x) as (λ b. cond b (x ∷ filter p (xs ++ ys)) (filter p (xs ++ ys)) ≡ cond b (x ∷ filter p xs) (filter p xs) ++ filter p ys) [ true ↦ ap (λ l. x ∷ l) (filter_append p xs ys) | false ↦ filter_append p xs ys ]
+
+own_from : (n job place count : ℕ) (bytes : List ℕ) → AllByRecursion (λ p. is_piece_of n p ≡ (job == n)) (pieces_from job place count bytes)
+own_from n job place zero bytes = tt
+own_from n job place (suc count) bytes = (refl, own_from n job (place + 1) count (drop 16384 bytes))
+
+own_pieces : (n : ℕ) (j : Job) → AllByRecursion (λ p. is_piece_of n p ≡ is_job n j) (pieces_of j)
+own_pieces n j = subst (AllByRecursion (λ p. is_piece_of n p ≡ is_job n j)) (sym (as_pieces j)) (own_from n j.number 0 (piece_count (length j.bytes)) j.bytes)
+
+of_job : (n : ℕ) (jobs : List Job) → filter (is_piece_of n) (flat_map pieces_of jobs) ≡ flat_map pieces_of (filter (is_job n) jobs)
+of_job n [] = refl
+of_job n (j ∷ jobs) =
+    filter_append (is_piece_of n) (pieces_of j) (flat_map pieces_of jobs) ∙ (λ i. keep_all (is_piece_of n) (is_job n j) (pieces_of j) (own_pieces n j) i ++ of_job n jobs i)
+    ∙ elim (is_job n j) as (λ b. cond b (pieces_of j) [] ++ flat_map pieces_of (filter (is_job n) jobs) ≡ flat_map pieces_of (cond b (j ∷ filter (is_job n) jobs) (filter (is_job n) jobs))) [ true ↦ refl | false ↦ refl ]
+
+-- where numbers rise, a number is that of one job
+is_other : (n : ℕ) (x y : Job) → x.number ≡ n → x.number < y.number → is_job n y ≡ false
+is_other n x y same less = grind (arith, nat_tests)
+
+alone : (n : ℕ) (jobs : List Job) (j : Job) → IsAscending (λ (a b : Job). a.number < b.number) jobs → find (is_job n) jobs ≡ Some j → filter (is_job n) jobs ≡ j ∷ []
+alone n [] j up h = absurd (cc)
+alone n (x ∷ jobs) j up h = elim (cases_Bool (is_job n x)) [
+  | inl here ↦ rw here (
+      let same : x ≡ j = (let k = rw here at h in cc) in
+      let number : x.number ≡ n = grind (arith, nat_tests) in
+      ap (λ l. x ∷ l) (filter_none (is_job n) jobs (all_weaker (λ (b : Job). x.number < b.number) (λ b. is_job n b ≡ false) (λ b less. is_other n x b number less) jobs up.0)) ∙ ap (λ y. y ∷ []) same)
+  | inr there ↦ rw there (alone n jobs j up.1 (rw there at h))
+]
+
+pub job_together : (s : State) (n : ℕ) (j : Job) → IsWellFormed s → job_at s n ≡ Some j → bytes_of (filter (is_piece_of n) (tables_of s).pieces) ≡ j.bytes
+job_together s n j good is =
+    let one = alone n s.jobs j (ascending_pairs (λ (a b : Job). a.number < b.number) s.jobs good.rising) is in
+    ap bytes_of (of_job n s.jobs ∙ ap (flat_map pieces_of) one ∙ append-nil (pieces_of j)) ∙ pieces_together j
+
+-- ---- a job as it is handed out
+
+pub handed : (s : State) (n : ℕ) (head : JobHead) (bytes : Vec ℕ Global) → IsWellFormed s → Some head ≡ option_map head_of (job_at s n) → bytes.items ≡ bytes_of (filter (is_piece_of n) (tables_of s).pieces)
+    → option_map handed_out (Some (head, bytes)) ≡ option_map whole (job_at s n)
+handed s n head bytes good is all = go (job_at s n) refl is
+  where
+    go : (o : Option Job) → job_at s n ≡ o → Some head ≡ option_map head_of o → option_map handed_out (Some (head, bytes)) ≡ option_map whole o
+    go None e k = absurd (cc)
+    go (Some j) e k =
+        let same : head ≡ head_of j = cc in
+        let mine : bytes.items ≡ j.bytes = all ∙ job_together s n j good e in
+        λ i. Some (same i, mine i)
+
+pub not_there : (s : State) (n : ℕ) → None ≡ option_map head_of (job_at s n) → option_map handed_out None ≡ option_map whole (job_at s n)
+not_there s n is = go (job_at s n) is
+  where
+    go : (o : Option Job) → None ≡ option_map head_of o → option_map handed_out None ≡ option_map whole o
+    go None k = refl
+    go (Some j) k = absurd (cc)

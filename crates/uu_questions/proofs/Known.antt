@@ -1,0 +1,158 @@
+-- What the answers of the questions before a command say of the state.
+use Rattle.std.proofs.Common.{◌≡◌, ℕ, pos, List, [], ◌∷◌, Bool, true, false, not, ◌||◌, ◌==◌, nat_eq, length, map, filter, refl, sym, ap, subst, ◌∙◌, arith, Less, Equal, Greater, Ordering, int_cmp, nat_cmp, ◌<◌, Option, option_map, slice_get, take}
+use Rattle.std.specs.Prelude.{◌<ℤ◌, find, IfSome}
+use Rattle.std.proofs.lemmas.Option.{slice_get-map}
+use Rattle.std.specs.List.{list_any, list_all}
+use Rattle.std.specs.Ordering.{is_eq, int_eq, MatchOrdering}
+use Rattle.std.specs.Cmp.{ranked, nat_cmp_is, int_cmp_is, unsigned_tied}
+use Rattle.std.specs.List.Sorted.{IsPermutation}
+use Rattle.std.proofs.lemmas.Int.{ints}
+use Rattle.std.proofs.lemmas.Bool.Decides.{nat_tests}
+use Rattle.std.proofs.lemmas.List.{length-map}
+use Rattle.std.proofs.lemmas.List.Sorted.{length_permutation}
+use Rattle.std.proofs.lemmas.Map.Text.{is_eq-slice_cmp}
+use Rattle.sqlite.specs.declared.types.Value.TheVariants.{Null, Int, Text}
+use Rattle.sqlite.specs.Order.{Row}
+use Rattle.sqlite.specs.Tree.{IsAscending}
+use Rattle.sqlite.specs.Term.{eval_all, holds}
+use Rattle.sqlite.specs.Query.{Query, IsAnswer, Output, output, output_cmp}
+use Rattle.sqlite.specs.Program.{overlay}
+use Rattle.sqlite.specs.State as db
+use Rattle.sqlite_sql.specs.declared.ops.CompareOp.TheVariants.{Eq}
+use Rattle.sqlite.proofs.Callers.{one_permutation}
+use Rattle.sqlite_keyed.proofs.ListLemmas.{none_counted, slice_get-filter, ascending_weaker, ascending-filter, ascending-map}
+use Rattle.sqlite_typed.proofs.TestLemmas.{at_ints, at_texts, last_term, last_key}
+use Rattle.sqlite_value.proofs.OrderLemmas.{value_cmp-Int}
+use Rattle.uu_sql.specs.Layout.{where_is}
+use Rattle.uu_sql.proofs.Asks.{ordered}
+use Rattle.uu_sql.proofs.Answers.{answer_of, answer_moved}
+use Rattle.uu_core.specs.declared.job.JobHead.{JobHead}
+use Rattle.uu_core.specs.State.{State, Job, has_system, is_waiting, job_at, head_of, same_text}
+use Rattle.uu_tables.specs.declared.rows.SystemColumns.{SystemColumns}
+use Rattle.uu_tables.specs.Tables.{system_columns}
+use Rattle.uu_schema.specs.Schema.{site, spool, systems, jobs}
+use Rattle.uu_schema.specs.Keyed.{columns}
+use Rattle.uu_schema.specs.Made.{spool_row}
+use Rattle.uu_schema.specs.Held.{system_places, job_places}
+use Rattle.uu_schema.specs.Cells.{system_cells, job_cells}
+use Rattle.uu_questions.specs.Answers.{IsOf}
+use Rattle.uu_questions.specs.Texts.{next_text, known_text, waiting_text, head_text}
+use Rattle.uu_questions.proofs.Meanings.{at_places, by_places, is_first, next_means, known_means, waiting_means, head_means}
+use Rattle.uu_questions.proofs.Typed.{typed_moved, typed_only}
+use Rattle.uu_questions.specs.Readable.{IsHead}
+use Rattle.uu_questions.proofs.InOrder.{ascending_pairs}
+use Rattle.uu_questions.proofs.Back.{same_one, head_back, head_returns}
+use Rattle.uu_questions.proofs.OfState.{heads_good, found_good, found_mapped}
+
+-- ---- rows as a query sees them, from their columns alone
+
+-- where the rowid is not shown
+abbrev pub beside : Row → Row
+beside c = Null ∷ c
+
+-- where the first column is the rowid
+abbrev pub numbered : Row → Row
+numbered (v ∷ c) = v ∷ Null ∷ c
+numbered [] = []
+
+-- ---- comparisons
+
+compared : (a b : ℕ) (o : Ordering) → MatchOrdering o (a < b) (a ≡ b) (b < a) → MatchOrdering o (pos a <ℤ pos b) (pos a ≡ pos b) (pos b <ℤ pos a)
+compared a b Less h = omega (arith, ints, h)
+compared a b Equal h = ap pos h
+compared a b Greater h = omega (arith, ints, h)
+
+pub int_cmp-nat : (a b : ℕ) → int_cmp (pos a) (pos b) ≡ nat_cmp a b
+int_cmp-nat a b = sym (int_cmp_is (pos a) (pos b) (nat_cmp a b) (compared a b (nat_cmp a b) (ranked a b (nat_cmp a b) refl)))
+
+pub below_is : (a b : ℕ) → a < b → nat_cmp a b ≡ Less
+below_is a b h = sym (nat_cmp_is a b Less h)
+
+pub int_eq-nat : (a b : ℕ) → int_eq (pos a) (pos b) ≡ (a == b)
+int_eq-nat a b = ap is_eq (int_cmp-nat a b) ∙ unsigned_tied a b
+
+-- ---- the next number
+
+pub next_rows : (old new : db.State) (s : State) (rows : List Row) → IsOf s old → db.Shown next_text [] old new rows → rows ≡ (Int (pos s.next) ∷ []) ∷ []
+next_rows old new s rows of h =
+    let trees = old.now.trees in
+    let a = answer_of site next_text _ _ [] old new next_means of.stands.schema rows h in
+    let row = spool_row s.next in
+    let passes : list_all (holds ([] ∷ row ∷ [])) (is_first ∷ []) ≡ true = last_term (at_ints false Eq (pos 1) (pos 1)) in
+    let moved = answer_moved spool.tree (is_first ∷ []) (at_places (3 ∷ [])) [] trees [] rows refl a in
+    let shown : List Row → List Row = λ rs. map (λ r. eval_all (at_places (3 ∷ [])) ([] ∷ r ∷ [])) (filter (λ r. list_all (holds ([] ∷ r ∷ [])) (is_first ∷ [])) rs) in
+    let one : shown (row ∷ []) ≡ (Int (pos s.next) ∷ []) ∷ [] = rw passes refl in
+    one_permutation _ rows (subst (λ l. IsPermutation l rows) (ap shown of.holds.spool ∙ one) moved)
+
+-- ---- a system
+
+any_mapped : {A B : Type 0} (p : B → Bool) (f : A → B) (xs : List A) → list_any p (map f xs) ≡ list_any (λ x. p (f x)) xs
+any_mapped p f [] = refl
+any_mapped p f (x ∷ xs) = ap (λ b. p (f x) || b) (any_mapped p f xs)
+
+abbrev pub has_name : List ℕ → SystemColumns → Bool
+has_name name row = same_text row.name name
+
+pub known_rows : (old new : db.State) (s : State) (name : List ℕ) (rows : List Row) → IsOf s old → db.Shown known_text (Text name ∷ []) old new rows → nat_eq (length rows) 0 ≡ not (has_system s name)
+known_rows old new s name rows of h =
+    let trees = old.now.trees in
+    let params : Row = Text name ∷ [] in
+    let tests = where_is 1 0 ∷ [] in
+    let rs = map system_columns s.systems in
+    let a = answer_of site known_text _ _ params old new known_means of.stands.schema rows h in
+    let moved = typed_moved systems.tree tests (at_places (1 ∷ [])) [] trees params rows refl a (columns system_places) beside (λ r. refl) (λ r. refl) system_cells rs of.holds.systems.same
+    (has_name name) (λ x. last_term (at_texts false Eq x.name name ∙ is_eq-slice_cmp x.name name)) in
+    let lengths : length rows ≡ length (filter (has_name name) rs) = length_permutation _ _ moved ∙ length-map (filter (has_name name) rs) _ in
+    ap (λ n. nat_eq n 0) lengths ∙ none_counted (has_name name) rs ∙ ap not (any_mapped (has_name name) system_columns s.systems)
+
+-- ---- a job that waits for a system
+
+-- the first row shows whether there is one
+first_shows : (rows : List Row) → nat_eq (length (take 1 rows)) 0 ≡ nat_eq (length rows) 0
+first_shows [] = refl
+first_shows (r ∷ rows) = grind (arith, nat_tests)
+
+abbrev waits_for : List ℕ → JobHead → Bool
+waits_for name j = same_text j.system name
+
+pub waiting_rows : (old new : db.State) (s : State) (name : List ℕ) (rows : List Row) → IsOf s old → db.Shown waiting_text (Text name ∷ []) old new rows → nat_eq (length rows) 0 ≡ not (is_waiting s name)
+waiting_rows old new s name rows of h =
+    let trees = old.now.trees in
+    let params : Row = Text name ∷ [] in
+    let tests = where_is 2 0 ∷ [] in
+    let hs = map head_of s.jobs in
+    let a = answer_of site waiting_text _ _ params old new waiting_means of.stands.schema rows h in
+    let all : List Row = map (λ (o : Output). o.1) a.ordered in
+    let whole : IsAnswer (ordered jobs.tree tests (at_places (0 ∷ [])) []) (overlay trees []) params all = record { staged = a.staged; grouped = a.grouped; kept = a.kept; distinct = a.distinct; ordered = a.ordered; same = a.same; sorted = a.sorted; shown = refl } in
+    let moved = typed_moved jobs.tree tests (at_places (0 ∷ [])) [] trees params all refl whole (columns job_places) numbered (λ r. refl) (λ r. refl) job_cells hs of.holds.jobs.same
+    (waits_for name) (λ j. last_term (at_texts false Eq j.system name ∙ is_eq-slice_cmp j.system name)) in
+    let lengths : length all ≡ length (filter (waits_for name) hs) = length_permutation _ _ moved ∙ length-map (filter (waits_for name) hs) _ in
+    ap (λ (rs : List Row). nat_eq (length rs) 0) a.shown ∙ first_shows all ∙ ap (λ n. nat_eq n 0) lengths ∙ none_counted (waits_for name) hs ∙ ap not (any_mapped (waits_for name) head_of s.jobs)
+
+-- ---- the head of a job
+
+abbrev pub has_number : ℕ → JobHead → Bool
+has_number n j = j.number == n
+
+pub head_rows : (old new : db.State) (s : State) (n : ℕ) (rows : List Row) → IsOf s old → db.Shown head_text (Int (pos n) ∷ []) old new rows → rows ≡ map job_cells (filter (has_number n) (map head_of s.jobs))
+head_rows old new s n rows of h =
+    let trees = old.now.trees in
+    let params : Row = Int (pos n) ∷ [] in
+    let tests = where_is 0 0 ∷ [] in
+    let q : Query = ordered jobs.tree tests (at_places job_places) (by_places (0 ∷ [])) in
+    let a = answer_of site head_text _ _ params old new head_means of.stands.schema rows h in
+    let out : JobHead → Output = λ j. output q (params ∷ numbered (job_cells j) ∷ []) in
+    let less : (x y : JobHead) → x.number < y.number → output_cmp q (out x) (out y) ≡ Less = λ x y k.
+    last_key (value_cmp-Int (pos x.number) (pos y.number)) ∙ int_cmp-nat x.number y.number ∙ below_is x.number y.number k in
+    let rising : IsAscending (λ (x y : JobHead). x.number < y.number) (map head_of s.jobs) = ascending-map (λ (x y : JobHead). x.number < y.number) head_of s.jobs (ascending_pairs (λ (x y : Job). x.number < y.number) s.jobs of.good.rising) in
+    typed_only jobs.tree tests (at_places job_places) (by_places (0 ∷ [])) trees params rows refl a (columns job_places) numbered (λ r. refl) (λ r. refl) job_cells (map head_of s.jobs) of.holds.jobs.same
+    (has_number n) (λ j. last_term (at_ints false Eq (pos j.number) (pos n)) ∙ int_eq-nat j.number n)
+    (ascending_weaker _ (λ x y. output_cmp q (out x) (out y) ≡ Less) less _ (ascending-filter _ (has_number n) (map head_of s.jobs) rising))
+
+-- the first of the rows is the head of the job of this number
+pub head_found : (old new : db.State) (s : State) (n : ℕ) (rows : List Row) (found : Option JobHead) → IsOf s old → db.Shown head_text (Int (pos n) ∷ []) old new rows
+    → IfSome found IsHead → option_map job_cells found ≡ slice_get rows 0 → found ≡ option_map head_of (job_at s n)
+head_found old new s n rows found of h good is =
+    let first = ap (λ rs. slice_get rs 0) (head_rows old new s n rows of h) ∙ slice_get-map job_cells (filter (has_number n) (map head_of s.jobs)) 0 ∙ ap (option_map job_cells) (slice_get-filter (has_number n) (map head_of s.jobs)) in
+    same_one job_cells head_back IsHead head_returns found (find (has_number n) (map head_of s.jobs)) good (found_good IsHead (has_number n) (map head_of s.jobs) (heads_good s of.good)) (is ∙ first)
+    ∙ found_mapped (has_number n) head_of s.jobs

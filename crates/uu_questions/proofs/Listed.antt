@@ -1,0 +1,138 @@
+-- What the list of jobs, a job's pieces and an entry show of a state.
+use Rattle.std.proofs.Common.{◌≡◌, ℕ, pos, List, [], ◌∷◌, Bool, true, false, cond, ◌==◌, map, filter, refl, sym, ap, ap₂, ◌∙◌, ◌<◌, Less, Equal, Greater, Ordering, Option, Some, None, option_map, slice_get, Bor, nat_cmp}
+use Rattle.std.specs.Prelude.{IfSome, find, ⊤}
+use Rattle.std.specs.List.{AllByRecursion}
+use Rattle.std.specs.Ordering.{is_eq, ordering_then}
+use Rattle.std.proofs.lemmas.List.Sorted.{IsPermutation-sym}
+use Rattle.std.proofs.lemmas.Map.Text.{is_eq-slice_cmp}
+use Rattle.std.proofs.lemmas.Option.{slice_get-map}
+use Rattle.sqlite.specs.declared.types.Value.{Value}
+use Rattle.sqlite.specs.declared.types.Value.TheVariants.{Null, Int, Text, Blob}
+use Rattle.sqlite.specs.Order.{Row}
+use Rattle.sqlite.specs.Tree.{IsAscending}
+use Rattle.sqlite.specs.Query.{Query, Output, output, output_cmp}
+use Rattle.sqlite.specs.State as db
+use Rattle.sqlite.specs.Collation.TheVariants.{Binary}
+use Rattle.sqlite.specs.Values.{or_null, bound_value}
+use Rattle.sqlite_sql.specs.Ops.{binary}
+use Rattle.sqlite_sql.specs.declared.ops.BinaryOp.TheVariants.{Compare, Is, Or}
+use Rattle.sqlite_sql.specs.declared.ops.CompareOp.TheVariants.{Eq}
+use Rattle.sqlite_keyed.specs.Lists.{sort_by}
+use Rattle.sqlite_keyed.proofs.ListLemmas.{ascending_weaker, ascending-filter, ascending-map, slice_get-filter}
+use Rattle.sqlite_trees.proofs.ListLemmas.{all-permutation}
+use Rattle.sqlite_typed.proofs.TestLemmas.{truth_or, at_ints, at_texts, at_or, at_is_null, then_term, last_term, then_key, last_key}
+use Rattle.sqlite_value.specs.Order.{value_cmp}
+use Rattle.sqlite_value.proofs.OrderLemmas.{value_cmp-Int}
+use Rattle.uu_sql.specs.Layout.{where_is}
+use Rattle.uu_sql.proofs.Asks.{ordered}
+use Rattle.uu_sql.proofs.Answers.{answer_of}
+use Rattle.uu_sql.proofs.Sorted.{IsPermutation-insert_sorted}
+use Rattle.uu_core.specs.declared.job.JobHead.{JobHead}
+use Rattle.uu_core.specs.State.{State, Job, IsWellFormed, head_of, entry_at, same_text}
+use Rattle.uu_tables.specs.declared.rows.EntryColumns.{EntryColumns}
+use Rattle.uu_tables.specs.Tables.{Piece, tables_of, entry_columns}
+use Rattle.uu_schema.specs.Schema.{site, jobs, pieces}
+use Rattle.uu_schema.specs.Keyed.{columns}
+use Rattle.uu_schema.specs.Held.{job_places, piece_places}
+use Rattle.uu_schema.specs.Cells.{job_cells, piece_cells, entry_cells}
+use Rattle.uu_core.specs.declared.filter.Filter.{Filter}
+use Rattle.uu_questions.specs.Answers.{IsOf}
+use Rattle.uu_questions.specs.Listing.{is_wanted, fits, by_rank, listed, sought}
+use Rattle.uu_questions.specs.Order.{piece_cmp, entry_cmp}
+use Rattle.uu_questions.specs.Readable.{IsHead}
+use Rattle.uu_questions.specs.Texts.{jobs_text, pieces_text, entry_text}
+use Rattle.uu_questions.proofs.Meanings.{at_places, by_places, fit_terms, jobs_means, pieces_means, entry_means}
+use Rattle.uu_questions.proofs.Known.{beside, numbered, int_cmp-nat, int_eq-nat, below_is}
+use Rattle.uu_questions.proofs.Typed.{typed_sorted, typed_only}
+use Rattle.uu_questions.proofs.InTables.{entries_are}
+use Rattle.uu_questions.proofs.InOrder.{ascending_pairs}
+use Rattle.uu_questions.proofs.Back.{same_all, same_one, head_back, head_returns, entry_back, entry_returns}
+use Rattle.uu_questions.proofs.OfState.{heads_good, found_mapped}
+use Rattle.uu_questions.proofs.Rising.{pieces_rise}
+
+-- what is bound of a text that may be wanted
+pub wanted_bound : (text : Option (Bor (List ℕ))) (wanted : Option (List ℕ)) (value : Value) → value ≡ or_null (λ t. Text t.now) text → option_map (λ t. t.now) text ≡ wanted → bound_value value ≡ or_null Text wanted
+wanted_bound None wanted value is same = ap bound_value is ∙ ap (or_null Text) same
+wanted_bound (Some text) wanted value is same = ap bound_value is ∙ ap (or_null Text) same
+
+null_first : (text : List ℕ) → value_cmp Null (Text text) ≡ Less
+unfolding value_cmp
+null_first text = refl
+
+-- the term of one wanted text
+wanted_test : (wanted : Option (List ℕ)) (text : List ℕ)
+    → truth_or false (binary Or (binary (Is Binary) (or_null Text wanted) Null) (binary (Compare Eq Binary) (Text text) (or_null Text wanted))) ≡ is_wanted wanted text
+wanted_test None text = at_or false _ _ (at_is_null Text false null_first None) refl
+wanted_test (Some wanted) text = at_or false _ _ (at_is_null Text false null_first (Some wanted)) (at_texts false Eq text wanted ∙ is_eq-slice_cmp text wanted)
+
+no_tie_then : (o p : Ordering) → is_eq p ≡ false → is_eq (ordering_then o p) ≡ false
+no_tie_then Less p h = refl
+no_tie_then Equal p h = h
+no_tie_then Greater p h = refl
+
+pub apart : (x y : JobHead) → x.number < y.number → is_eq (by_rank x y) ≡ false
+apart x y h = no_tie_then (nat_cmp x.grade y.grade) (nat_cmp x.number y.number) (ap is_eq (below_is x.number y.number h))
+
+pub numbers_rise : (s : State) → IsWellFormed s → IsAscending (λ (x y : JobHead). x.number < y.number) (map head_of s.jobs)
+numbers_rise s good = ascending-map (λ (x y : JobHead). x.number < y.number) head_of s.jobs (ascending_pairs (λ (x y : Job). x.number < y.number) s.jobs good.rising)
+
+all_kept : {X : Type 0} (P : X → Type 0) (p : X → Bool) (xs : List X) → AllByRecursion P xs → AllByRecursion P (filter p xs)
+all_kept P p [] all = tt
+all_kept P p (x ∷ xs) all = elim (p x) as (λ b. AllByRecursion P (cond b (x ∷ filter p xs) (filter p xs))) [ true ↦ (all.0, all_kept P p xs all.1) | false ↦ all_kept P p xs all.1 ]
+
+all_sorted : (hs : List JobHead) → AllByRecursion IsHead hs → AllByRecursion IsHead (sort_by by_rank hs)
+all_sorted [] all = tt
+all_sorted (h ∷ hs) all = all-permutation IsHead _ _ (IsPermutation-sym _ _ (IsPermutation-insert_sorted by_rank h (sort_by by_rank hs))) (all.0, all_sorted hs all.1)
+
+pub jobs_listed : (old new : db.State) (s : State) (f : Filter) (rows : List Row) → IsOf s old → db.Shown jobs_text (sought f) old new rows → (found : List JobHead) → AllByRecursion IsHead found → rows ≡ map job_cells found → found ≡ listed f s
+jobs_listed old new s f rows of h found good read =
+    let order = by_places (3 ∷ 0 ∷ []) in
+    let q : Query = ordered jobs.tree fit_terms (at_places job_places) order in
+    let hs = map head_of s.jobs in
+    let a = answer_of site jobs_text _ _ (sought f) old new jobs_means of.stands.schema rows h in
+    let out : JobHead → Output = λ j. output q (sought f ∷ numbered (job_cells j) ∷ []) in
+    let is : (x y : JobHead) → output_cmp q (out x) (out y) ≡ by_rank x y = λ x y.
+    then_key (value_cmp-Int (pos x.grade) (pos y.grade)) (last_key (value_cmp-Int (pos x.number) (pos y.number))) ∙ ap₂ ordering_then (int_cmp-nat x.grade y.grade) (int_cmp-nat x.number y.number) in
+    let sorted = typed_sorted jobs.tree fit_terms (at_places job_places) order old.now.trees (sought f) rows refl a (columns job_places) numbered (λ r. refl) (λ r. refl) job_cells hs of.holds.jobs.same
+    (fits f) (λ j. then_term (wanted_test f.system j.system) (last_term (wanted_test f.user j.user))) by_rank is
+    (ascending-filter _ (fits f) hs (ascending_weaker _ (λ x y. is_eq (by_rank x y) ≡ false) apart hs (numbers_rise s of.good))) in
+    same_all job_cells head_back IsHead head_returns found (listed f s) good (all_sorted (filter (fits f) hs) (all_kept IsHead (fits f) hs (heads_good s of.good))) (sym read ∙ sorted)
+
+-- ---- an entry
+
+any_some : {X : Type 0} (o : Option X) → IfSome o (λ _. ⊤)
+any_some None = tt
+any_some (Some x) = tt
+
+pub entry_found : (old new : db.State) (s : State) (host : List ℕ) (rows : List Row) → IsOf s old → db.Shown entry_text (Text host ∷ []) old new rows → (found : Option EntryColumns) → option_map entry_cells found ≡ slice_get rows 0
+    → found ≡ option_map entry_columns (entry_at s host)
+entry_found old new s host rows of h found read =
+    let es = map entry_columns s.entries in
+    let p : EntryColumns → Bool = λ e. same_text e.host host in
+    let rise : IsAscending (λ x y. entry_cmp x y ≡ Less) es = ascending-map (λ x y. entry_cmp x y ≡ Less) entry_columns s.entries (ascending_pairs _ s.entries of.good.by_host) in
+    let is = entries_are old new rows of.stands.schema entry_text _ (Text host ∷ []) (where_is 1 0 ∷ []) h entry_means (λ r. refl) es of.holds.entries.same rise p (λ e. last_term (at_texts false Eq e.host host ∙ is_eq-slice_cmp e.host host)) in
+    same_one entry_cells entry_back (λ _. ⊤) (λ e _. entry_returns e) found (find p es) (any_some found) (any_some (find p es))
+    (read ∙ ap (λ rs. slice_get rs 0) is ∙ slice_get-map entry_cells (filter p es) 0 ∙ ap (option_map entry_cells) (slice_get-filter p es))
+    ∙ found_mapped p entry_columns s.entries
+
+-- ---- the bytes of a job
+
+abbrev pub is_piece_of : ℕ → Piece → Bool
+is_piece_of n p = p.job == n
+
+abbrev pub piece_shown : Piece → Row
+piece_shown p = Blob p.bytes ∷ []
+
+pub pieces_found : (old new : db.State) (s : State) (n : ℕ) (rows : List Row) → IsOf s old → db.Shown pieces_text (Int (pos n) ∷ []) old new rows → rows ≡ map piece_shown (filter (is_piece_of n) (tables_of s).pieces)
+pieces_found old new s n rows of h =
+    let params : Row = Int (pos n) ∷ [] in
+    let tests = where_is 1 0 ∷ [] in
+    let order = by_places (1 ∷ 2 ∷ []) in
+    let ps = (tables_of s).pieces in
+    let q : Query = ordered pieces.tree tests (at_places (3 ∷ [])) order in
+    let out : Piece → Output = λ x. output q (params ∷ beside (piece_cells x) ∷ []) in
+    let less : (x y : Piece) → piece_cmp x y ≡ Less → output_cmp q (out x) (out y) ≡ Less = λ x y e.
+    then_key (value_cmp-Int (pos x.job) (pos y.job) ∙ int_cmp-nat x.job y.job) (last_key (value_cmp-Int (pos x.place) (pos y.place)) ∙ int_cmp-nat x.place y.place) ∙ e in
+    typed_only pieces.tree tests (at_places (3 ∷ [])) order old.now.trees params rows refl (answer_of site pieces_text q _ params old new pieces_means of.stands.schema rows h) (columns piece_places) beside (λ r. refl) (λ r. refl)
+    piece_cells ps of.holds.pieces.same (is_piece_of n) (λ p. last_term (at_ints false Eq (pos p.job) (pos n)) ∙ int_eq-nat p.job n)
+    (ascending-filter _ (is_piece_of n) ps (ascending_weaker _ (λ x y. output_cmp q (out x) (out y) ≡ Less) less ps (pieces_rise s of.good)))

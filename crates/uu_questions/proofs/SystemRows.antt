@@ -1,0 +1,82 @@
+-- What the questions on systems, lines and ranges answer of a state.
+use Rattle.std.proofs.Common.{◌≡◌, ℕ, List, [], ◌∷◌, Bool, true, false, map, filter, refl, sym, ap, ◌∙◌, Less, slice_get, Option}
+use Rattle.sqlite.specs.declared.types.Value.TheVariants.{Text}
+use Rattle.sqlite.specs.Order.{Row}
+use Rattle.sqlite.specs.Tree.{IsAscending}
+use Rattle.sqlite.specs.State as db
+use Rattle.sqlite_sql.specs.declared.ops.CompareOp.TheVariants.{Eq}
+use Rattle.std.proofs.lemmas.Map.Text.{is_eq-slice_cmp}
+use Rattle.sqlite_typed.proofs.TestLemmas.{at_texts, last_term}
+use Rattle.sqlite_keyed.proofs.ListLemmas.{filter-map, map_back, ascending-map, ascending-filter, slice_get-filter}
+use Rattle.uu_sql.specs.Layout.{where_is}
+use Rattle.uu_core.specs.declared.system.SystemRow.{SystemRow}
+use Rattle.uu_core.specs.State.{State, IsWellFormed, is_system, same_text, system_at}
+use Rattle.uu_tables.specs.declared.rows.SystemColumns.{SystemColumns}
+use Rattle.uu_tables.specs.declared.rows.LineColumns.{LineColumns}
+use Rattle.uu_tables.specs.declared.rows.RangeColumns.{RangeColumns}
+use Rattle.uu_tables.specs.Tables.{tables_of, system_columns}
+use Rattle.uu_schema.specs.Cells.{system_cells, line_cells, range_cells}
+use Rattle.uu_questions.specs.Answers.{IsOf}
+use Rattle.uu_questions.specs.Assembly.{systems_from}
+use Rattle.uu_questions.specs.Order.{system_cmp}
+use Rattle.uu_questions.specs.Texts.{system_text, systems_text, lines_of_text, lines_text, ranges_of_text, ranges_text}
+use Rattle.uu_questions.proofs.Meanings.{system_means, systems_means, lines_of_means, lines_means, ranges_of_means, ranges_means}
+use Rattle.uu_questions.proofs.Back.{system_back, system_returns, line_back, line_returns, range_back, range_returns}
+use Rattle.uu_questions.proofs.Rising.{names_rise, lines_rise, ranges_rise}
+use Rattle.uu_questions.proofs.InTables.{systems_are, lines_are, ranges_are, all_pass}
+use Rattle.uu_questions.proofs.Assembled.{assembled, lines_filtered, ranges_filtered}
+
+pub same_cells : {X : Type 0} (cells : X → Row) (back : Row → X) → ((x : X) → back (cells x) ≡ x) → (xs ys : List X) → map cells xs ≡ map cells ys → xs ≡ ys
+same_cells cells back returns xs ys same = sym (map_back cells back returns xs) ∙ ap (map back) same ∙ map_back cells back returns ys
+
+systems_rise : (s : State) → IsWellFormed s → IsAscending (λ x y. system_cmp x y ≡ Less) (map system_columns s.systems)
+systems_rise s good = ascending-map (λ x y. system_cmp x y ≡ Less) system_columns s.systems (names_rise s good)
+
+module _ (old new : db.State) (s : State) (rows : List Row) (of : IsOf s old) where
+  pub system_found : (name : List ℕ) → db.Shown system_text (Text name ∷ []) old new rows → (found : List SystemColumns) → rows ≡ map system_cells found → found ≡ map system_columns (filter (is_system name) s.systems)
+  system_found name h found read =
+      let p : SystemColumns → Bool = λ x. same_text x.name name in
+      same_cells system_cells system_back system_returns found _ (sym read
+      ∙ systems_are old new rows of.stands.schema system_text _ (Text name ∷ []) (where_is 1 0 ∷ []) h system_means (λ r. refl) (map system_columns s.systems) of.holds.systems.same (systems_rise s of.good) p (λ x. last_term (at_texts false Eq x.name name ∙ is_eq-slice_cmp x.name name)))
+      ∙ filter-map p system_columns s.systems
+
+  pub systems_found : db.Shown systems_text [] old new rows → (found : List SystemColumns) → rows ≡ map system_cells found → found ≡ map system_columns s.systems
+  systems_found h found read =
+      same_cells system_cells system_back system_returns found _ (sym read
+      ∙ systems_are old new rows of.stands.schema systems_text _ [] [] h systems_means (λ r. refl) (map system_columns s.systems) of.holds.systems.same (systems_rise s of.good) (λ x. true) (λ x. refl))
+      ∙ all_pass (map system_columns s.systems)
+
+  pub lines_of_found : (name : List ℕ) → db.Shown lines_of_text (Text name ∷ []) old new rows → (found : List LineColumns) → rows ≡ map line_cells found → found ≡ filter (λ (l : LineColumns). same_text l.system name) (tables_of s).lines
+  lines_of_found name h found read =
+      same_cells line_cells line_back line_returns found _ (sym read
+      ∙ lines_are old new rows of.stands.schema lines_of_text _ (Text name ∷ []) (where_is 1 0 ∷ []) h lines_of_means (λ r. refl) (tables_of s).lines of.holds.lines.same (lines_rise s of.good) (λ x. same_text x.system name) (λ x. last_term (at_texts false Eq x.system name ∙ is_eq-slice_cmp x.system name)))
+
+  pub lines_found : db.Shown lines_text [] old new rows → (found : List LineColumns) → rows ≡ map line_cells found → found ≡ (tables_of s).lines
+  lines_found h found read =
+      same_cells line_cells line_back line_returns found _ (sym read
+      ∙ lines_are old new rows of.stands.schema lines_text _ [] [] h lines_means (λ r. refl) (tables_of s).lines of.holds.lines.same (lines_rise s of.good) (λ x. true) (λ x. refl))
+      ∙ all_pass (tables_of s).lines
+
+  pub ranges_of_found : (name : List ℕ) → db.Shown ranges_of_text (Text name ∷ []) old new rows → (found : List RangeColumns) → rows ≡ map range_cells found → found ≡ filter (λ (r : RangeColumns). same_text r.system name) (tables_of s).ranges
+  ranges_of_found name h found read =
+      same_cells range_cells range_back range_returns found _ (sym read
+      ∙ ranges_are old new rows of.stands.schema ranges_of_text _ (Text name ∷ []) (where_is 1 0 ∷ []) h ranges_of_means (λ r. refl) (tables_of s).ranges of.holds.ranges.same (ranges_rise s of.good) (λ x. same_text x.system name) (λ x. last_term (at_texts false Eq x.system name ∙ is_eq-slice_cmp x.system name)))
+
+  pub ranges_found : db.Shown ranges_text [] old new rows → (found : List RangeColumns) → rows ≡ map range_cells found → found ≡ (tables_of s).ranges
+  ranges_found h found read =
+      same_cells range_cells range_back range_returns found _ (sym read
+      ∙ ranges_are old new rows of.stands.schema ranges_text _ [] [] h ranges_means (λ r. refl) (tables_of s).ranges of.holds.ranges.same (ranges_rise s of.good) (λ x. true) (λ x. refl))
+      ∙ all_pass (tables_of s).ranges
+
+-- ---- put together
+
+pub all_together : (s : State) (systems : List SystemColumns) (lines : List LineColumns) (ranges : List RangeColumns) → IsWellFormed s → systems ≡ map system_columns s.systems → lines ≡ (tables_of s).lines → ranges ≡ (tables_of s).ranges
+    → systems_from systems lines ranges ≡ s.systems
+all_together s systems lines ranges good a b c = (λ i. systems_from (a i) (b i) (c i)) ∙ assembled s.systems (names_rise s good)
+
+pub one_together : (s : State) (name : List ℕ) (systems : List SystemColumns) (lines : List LineColumns) (ranges : List RangeColumns) → IsWellFormed s → systems ≡ map system_columns (filter (is_system name) s.systems)
+    → lines ≡ filter (λ (l : LineColumns). same_text l.system name) (tables_of s).lines → ranges ≡ filter (λ (r : RangeColumns). same_text r.system name) (tables_of s).ranges → (made : List SystemRow) → made ≡ systems_from systems lines ranges → (o : Option SystemRow) → o ≡ slice_get made 0 → o ≡ system_at s name
+one_together s name systems lines ranges good a b c made is o first =
+    let rows = filter (is_system name) s.systems in
+    let whole : systems_from systems lines ranges ≡ rows = (λ i. systems_from (a i) ((b ∙ lines_filtered name s.systems) i) ((c ∙ ranges_filtered name s.systems) i)) ∙ assembled rows (ascending-filter _ (is_system name) s.systems (names_rise s good)) in
+    first ∙ ap (λ l. slice_get l 0) (is ∙ whole) ∙ slice_get-filter (is_system name) s.systems

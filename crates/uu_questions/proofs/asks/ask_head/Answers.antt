@@ -1,0 +1,12 @@
+use Rattle.std.proofs.Common.{pos, [], ◌∷◌}
+use Rattle.sqlite.specs.declared.types.Value.TheVariants.{Int}
+use Rattle.sqlite.specs.Held.{state}
+use Rattle.uu_questions.specs.Texts.{head_text}
+use Rattle.uu_questions.proofs.Meanings.{head_means}
+use Rattle.uu_questions.proofs.Showing.{shows}
+use Rattle.uu_questions.proofs.asks.ask_head.Goals as goal
+
+pub returns-clause-shows : goal.returns-clause-shows
+returns-clause-shows g c =
+    shows head_text _ _ (Int (pos c.args.number) ∷ []) (state g.S.Store c.args.conn.now) (state g.S.Store c.query_all.new.self) head_means c.query_all.result
+    (rw c.params-to_sql.ensures at c.query_all.ensures.ok) (rw c.params-to_sql.ensures at c.query_all.ensures.err) (rw c.params-to_sql.ensures at c.query_all.ensures.survives)

@@ -1,0 +1,8 @@
+use Rattle.std.proofs.Common.{Ok, ap, ◌∙◌}
+use Rattle.sqlite.specs.Held.{state}
+use Rattle.uu_questions.proofs.Answering.{then_answers, answers_as, answered, answer_in, none_ok, none_known}
+use Rattle.uu_questions.proofs.before.nothing.Goals as goal
+
+pub returns-clause-answers : goal.returns-clause-answers
+returns-clause-answers g c =
+    answers_as _ _ (state g.S.Store c.args.conn.now) (state g.S.Store c.next_number.new.conn) c.next_number.result (Ok c.facts_of_system.result) c.next_number.ensures.answers (λ ok. answered _ _ c.in_ok-next.was) (λ s good h. tt)

@@ -1,0 +1,29 @@
+use Rattle.std.proofs.Common.{Ok, Some, None, sym, ◌∙◌}
+use Rattle.sqlite.specs.Held.{state}
+use Rattle.uu_questions.proofs.Answering.{then_answers, answers_as, answered, answer_in, none_ok, none_known}
+use Rattle.uu_questions.proofs.JobBytes.{handed, not_there}
+use Rattle.uu_questions.proofs.jobs.job_of_number.Goals as goal
+
+pub returns-clause-answers : goal.returns-clause-answers
+returns-clause-answers g c =
+    let a = state g.S.Store c.args.conn.now in
+    let b = state g.S.Store c.head_of_job.new.conn in
+    let d = state g.S.Store c.bytes_of_job.new.conn in
+    then_answers _ a b c.head_of_job.result c.head_of_job.ensures.answers (answered _ _ c.in_ok-head.was) _ d c.bytes_of_job.result c.bytes_of_job.ensures.answers _ (Ok (Some (c.in-Some.head, c.in_ok-bytes.bytes))) (λ ok. answered _ _ c.in_ok-bytes.was)
+    (λ s good h k. handed s c.args.number c.in-Some.head c.in_ok-bytes.bytes good (sym c.in-Some.is ∙ answer_in _ c.head_of_job.result _ c.in_ok-head.was h) (answer_in _ c.bytes_of_job.result _ c.in_ok-bytes.was k))
+
+pub returns-in_default-clause-answers : goal.returns-in_default-clause-answers
+returns-in_default-clause-answers g c =
+    let a = state g.S.Store c.args.conn.now in
+    let b = state g.S.Store c.head_of_job.new.conn in
+    answers_as _ _ a b c.head_of_job.result (Ok None) c.head_of_job.ensures.answers (λ ok. answered _ _ c.in_ok-head.was)
+    (λ s good h. not_there s c.args.number (sym c.in_default.is ∙ answer_in _ c.head_of_job.result _ c.in_ok-head.was h))
+
+pub returns-in_err-bytes-clause-answers : goal.returns-in_err-bytes-clause-answers
+returns-in_err-bytes-clause-answers g c =
+    let a = state g.S.Store c.args.conn.now in
+    let b = state g.S.Store c.head_of_job.new.conn in
+    let d = state g.S.Store c.bytes_of_job.new.conn in
+    let r = c.from_residual-in_err-bytes.result in
+    let fails = c.from_residual-in_err-bytes.ensures.0 in
+    then_answers _ a b c.head_of_job.result c.head_of_job.ensures.answers (answered _ _ c.in_ok-head.was) _ d c.bytes_of_job.result c.bytes_of_job.ensures.answers _ r (none_ok r c.bytes_of_job.result fails) (λ s good h k. none_known _ r fails)

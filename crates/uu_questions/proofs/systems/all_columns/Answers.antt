@@ -1,0 +1,13 @@
+use Rattle.std.proofs.lemmas.Result.{IfOk-weaker}
+use Rattle.sqlite.specs.Held.{state}
+use Rattle.uu_questions.specs.Texts.{systems_text}
+use Rattle.uu_questions.proofs.Answering.{then_read, answered}
+use Rattle.uu_questions.proofs.SystemRows.{systems_found}
+use Rattle.uu_questions.proofs.systems.all_columns.Goals as goal
+
+pub returns-clause-answers : goal.returns-clause-answers
+returns-clause-answers g c =
+    let a = state g.S.Store c.args.conn.now in
+    let b = state g.S.Store c.ask_systems.new.conn in
+    then_read _ systems_text _ a b c.ask_systems.result _ c.ask_systems.ensures.shows (answered _ _ c.in_ok-rows.was)
+    (λ clean s of. IfOk-weaker c.read_rows.result _ _ (λ found read. systems_found a b s c.in_ok-rows.rows.items of (c.in_ok-rows.ensures.shows.rows clean) found.items (rw c.deref.ensures.value at read)) c.read_rows.ensures.rows)

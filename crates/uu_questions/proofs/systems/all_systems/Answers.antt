@@ -1,0 +1,17 @@
+use Rattle.std.proofs.Common.{◌∙◌}
+use Rattle.std.proofs.lemmas.Result.{IfOk-weaker}
+use Rattle.sqlite.specs.Held.{state}
+use Rattle.uu_questions.proofs.Answering.{then_answers, answered, answer_in}
+use Rattle.uu_questions.proofs.SystemRows.{all_together}
+use Rattle.uu_questions.proofs.systems.all_systems.Goals as goal
+
+pub returns-clause-answers : goal.returns-clause-answers
+returns-clause-answers g c =
+    let a = state g.S.Store c.args.conn.now in
+    let b = state g.S.Store c.all_columns.new.conn in
+    let d = state g.S.Store c.all_line_rows.new.conn in
+    then_answers _ a b c.all_columns.result c.all_columns.ensures.answers (answered _ _ c.in_ok-columns.was) _ d c.all_line_rows.result c.all_line_rows.ensures.answers _ c.put_together.result (λ ok. answered _ _ c.in_ok-rows.was)
+    (λ s good h k.
+    let columns = answer_in _ c.all_columns.result _ c.in_ok-columns.was h in
+    let rows = answer_in _ c.all_line_rows.result _ c.in_ok-rows.was k in
+    IfOk-weaker c.put_together.result _ _ (λ made is. is ∙ all_together s _ _ _ good (c.deref.ensures.value ∙ columns) rows.0 rows.1) c.put_together.ensures)

@@ -1,0 +1,16 @@
+use Rattle.std.proofs.Common.{Ok, ◌∙◌}
+use Rattle.sqlite.specs.Held.{state}
+use Rattle.uu_questions.proofs.Answering.{then_answers, answered, answer_in}
+use Rattle.uu_questions.proofs.SystemRows.{one_together}
+use Rattle.uu_questions.proofs.systems.system_of_name.Goals as goal
+
+pub returns-clause-answers : goal.returns-clause-answers
+returns-clause-answers g c =
+    let a = state g.S.Store c.args.conn.now in
+    let b = state g.S.Store c.columns_of.new.conn in
+    let d = state g.S.Store c.line_rows_of.new.conn in
+    then_answers _ a b c.columns_of.result c.columns_of.ensures.answers (answered _ _ c.in_ok-columns.was) _ d c.line_rows_of.result c.line_rows_of.ensures.answers _ (Ok c.first_of.result) (λ ok. answered _ _ c.in_ok-rows.was)
+    (λ s good h k.
+    let columns = rw (c.as_str.ensures.text) at (answer_in _ c.columns_of.result _ c.in_ok-columns.was h) in
+    let rows = rw (c.as_str-2.ensures.text) at (answer_in _ c.line_rows_of.result _ c.in_ok-rows.was k) in
+    one_together s c.args.name.now _ _ _ good (c.deref.ensures.value ∙ columns) rows.0 rows.1 _ c.in_ok-put_together.ensures _ c.first_of.ensures)

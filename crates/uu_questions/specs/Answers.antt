@@ -1,0 +1,34 @@
+-- What a question of the spool does.
+use Rattle.std.specs.Prelude.{◌≡◌, ℕ, List, Vec, Result, IfOk, OnOk}
+use Rattle.std.specs.declared.alloc.Global.{Global}
+use Rattle.sqlite.specs.Order.{Row}
+use Rattle.sqlite.specs.declared.error.Error.{Error}
+use Rattle.sqlite.specs.State as db
+use Rattle.sqlite.specs.Effect.{Database}
+use Rattle.uu_sql.specs.Steps.{Stands, Told}
+use Rattle.uu_core.specs.State.{State, IsWellFormed}
+use Rattle.uu_tables.specs.Tables.{tables_of}
+use Rattle.uu_schema.specs.Schema.{site}
+use Rattle.uu_schema.specs.Held.{Holds}
+
+-- the database has the spool's tables, and they are those of a state that a spool reaches
+pub record IsAt (s : State) (database : Database) : Type 0 where
+  pub stands : Stands site database
+  pub good : IsWellFormed s
+  pub holds : Holds database.trees (tables_of s)
+
+abbrev pub IsOf : State → db.State → Type 0
+IsOf s shown = IsAt s shown.now
+
+-- A question commits nothing and, while the connection is open, changes nothing, whatever it answers. What it answers of the
+-- tables of a state is exact.
+pub record Answers {T : Type 0} (IsAnswer : State → T → Type 0) (old new : db.State) (r : Result T Error) : Type 0 where
+  pub told : Told site old new r
+  pub same : db.HasCleanDisk new → Stands site old.now → OnOk r (new.now ≡ old.now)
+  pub exact : db.HasCleanDisk new → (s : State) → IsOf s old → IfOk r (IsAnswer s)
+
+-- What a question in SQL shows are the rows that its text means, and it changes nothing.
+pub record Shows (text : List ℕ) (params : Row) (old new : db.State) (r : Result (Vec Row Global) Error) : Type 0 where
+  pub told : Told site old new r
+  pub same : db.HasCleanDisk new → Stands site old.now → OnOk r (new.now ≡ old.now)
+  pub rows : db.HasCleanDisk new → IfOk r (λ rows. db.Shown text params old new rows.items)

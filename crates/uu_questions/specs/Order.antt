@@ -1,0 +1,38 @@
+-- The orders of the tables' keys: names and hosts by their bytes, numbers by size. (SQLite: ORDER BY over BINARY texts and integers.)
+use Rattle.std.specs.declared.cmp.Ordering.{Ordering}
+use Rattle.std.specs.Ordering.{nat_cmp, ordering_then}
+use Rattle.std.specs.Cmp.Lexicographic.{slice_cmp}
+use Rattle.uu_core.specs.declared.job.JobHead.{JobHead}
+use Rattle.uu_tables.specs.declared.rows.SystemColumns.{SystemColumns}
+use Rattle.uu_tables.specs.declared.rows.LineColumns.{LineColumns}
+use Rattle.uu_tables.specs.declared.rows.RangeColumns.{RangeColumns}
+use Rattle.uu_tables.specs.declared.rows.PieceSize.{PieceSize}
+use Rattle.uu_tables.specs.declared.rows.EntryColumns.{EntryColumns}
+use Rattle.uu_tables.specs.Tables.{Piece}
+
+-- by name
+abbrev pub system_cmp : SystemColumns → SystemColumns → Ordering
+system_cmp a b = slice_cmp nat_cmp a.name b.name
+
+-- by system, then by place
+abbrev pub line_cmp : LineColumns → LineColumns → Ordering
+line_cmp a b = ordering_then (slice_cmp nat_cmp a.system b.system) (nat_cmp a.place b.place)
+
+-- by system, place, and first minute
+abbrev pub range_cmp : RangeColumns → RangeColumns → Ordering
+range_cmp a b = ordering_then (slice_cmp nat_cmp a.system b.system) (ordering_then (nat_cmp a.place b.place) (nat_cmp a.low b.low))
+
+-- by number
+abbrev pub head_cmp : JobHead → JobHead → Ordering
+head_cmp a b = nat_cmp a.number b.number
+
+-- by job, then by place
+abbrev pub piece_cmp : Piece → Piece → Ordering
+piece_cmp a b = ordering_then (nat_cmp a.job b.job) (nat_cmp a.place b.place)
+
+abbrev pub size_cmp : PieceSize → PieceSize → Ordering
+size_cmp a b = ordering_then (nat_cmp a.job b.job) (nat_cmp a.place b.place)
+
+-- by host
+abbrev pub entry_cmp : EntryColumns → EntryColumns → Ordering
+entry_cmp a b = slice_cmp nat_cmp a.host b.host

@@ -1,0 +1,64 @@
+-- Typed rows whose values are those of their types, so that their rows can be read.
+use Rattle.std.specs.Prelude.{ℕ, pos, ◌<◌, ◌^◌, [], ◌∷◌, All, IsTrue, IfSome}
+use Rattle.sqlite.specs.declared.types.Value.TheVariants.{Int}
+use Rattle.sqlite.specs.Order.{Row}
+use Rattle.uu_names.specs.Name.{is_site_name, is_word}
+use Rattle.uu_core.specs.declared.job.JobHead.{JobHead}
+use Rattle.uu_core.specs.declared.job.Kind.{Kind}
+use Rattle.uu_core.specs.declared.job.Kind.TheVariants.{Send, Request, Execute}
+use Rattle.uu_tables.specs.declared.rows.SystemColumns.{SystemColumns}
+use Rattle.uu_tables.specs.declared.rows.LineColumns.{LineColumns}
+use Rattle.uu_tables.specs.declared.rows.RangeColumns.{RangeColumns}
+use Rattle.uu_tables.specs.declared.rows.PieceSize.{PieceSize}
+use Rattle.uu_tables.specs.declared.rows.EntryColumns.{EntryColumns}
+
+-- a number of 32 bits
+abbrev pub IsSmall : ℕ → Type 0
+IsSmall n = n < 2 ^ 32
+
+pub record IsSystem (s : SystemColumns) : Type 0 where
+  pub name : IsTrue (is_site_name s.name)
+  pub max_retries : IsSmall s.max_retries
+  pub last : IsSmall s.call.last
+  pub failures : IsSmall s.call.failures
+  pub wait : IsSmall s.call.wait
+  pub outcome : IsSmall s.call.outcome
+  pub why : IfSome s.call.why (λ why. IsTrue (is_word why))
+
+pub record IsLine (l : LineColumns) : Type 0 where
+  pub system : IsTrue (is_site_name l.system)
+  pub place : IsSmall l.place
+  pub grade : l.grade < 62
+  pub retry : IfSome l.retry IsSmall
+
+pub record IsRange (r : RangeColumns) : Type 0 where
+  pub system : IsTrue (is_site_name r.system)
+  pub place : IsSmall r.place
+  pub low : IsSmall r.low
+  pub high : IsSmall r.high
+
+-- its words are words, so that the text of its arguments has one meaning
+abbrev pub HasWords : Kind → Type 0
+HasWords (Send source target) = IsTrue (is_word source) × IsTrue (is_word target)
+HasWords (Request source target) = IsTrue (is_word source) × IsTrue (is_word target)
+HasWords (Execute command arguments) = IsTrue (is_word command) × All (λ word. IsTrue (is_word word)) arguments
+
+pub record IsHead (h : JobHead) : Type 0 where
+  pub number : IsSmall h.number
+  pub system : IsTrue (is_site_name h.system)
+  pub grade : h.grade < 62
+  pub user : IsTrue (is_word h.user)
+  pub kind : HasWords h.kind
+  pub size : IsSmall h.size
+
+pub record IsSize (p : PieceSize) : Type 0 where
+  pub job : IsSmall p.job
+  pub place : IsSmall p.place
+  pub length : IsSmall p.length
+
+pub record IsEntry (e : EntryColumns) : Type 0 where
+  pub host : IsTrue (is_site_name e.host)
+
+-- what is asked of a piece: its bytes stay where they are
+abbrev pub size_cells : PieceSize → Row
+size_cells p = Int (pos p.job) ∷ Int (pos p.place) ∷ Int (pos p.length) ∷ []

@@ -1,0 +1,159 @@
+// Systems put together from the rows of three tables.
+ghost use Rattle.std.specs.Prelude.{◌≡◌, ◌≤◌, List, Bool, map, IfOk, length};
+ghost use Rattle.std.specs.List.{prefix_len};
+ghost use Rattle.uu_questions.specs.Assembly.{is_line_of, is_range_of, is_range_of_line, own, others, range_of, line_from, lines_from, call_from, system_from, systems_from, outcome_from};
+
+use crate::fault::RowFault;
+use std::alloc::{AllocError, Global};
+use uu_core::{CallState, Outcome, SystemRow};
+use uu_names::Word;
+use uu_tables::{CallColumns, LineColumns, RangeColumns, SystemColumns};
+use uu_times::{Line, Lines, SystemDef, Windows};
+
+/// A row to which rows of another table belong.
+pub(crate) trait Owner<C> {
+    ghost owns: { Self → C → Bool };
+
+    /// Whether the row belongs to this one.
+    fn owns(&self, child: &C) -> bool
+        ensures { result ≡ owns self.now child.now };
+}
+
+impl Owner<LineColumns> for SystemColumns {
+    ghost owns = { is_line_of };
+
+    fn owns(&self, child: &LineColumns) -> bool {
+        child.system == self.name
+    }
+}
+
+impl Owner<RangeColumns> for SystemColumns {
+    ghost owns = { is_range_of };
+
+    fn owns(&self, child: &RangeColumns) -> bool {
+        child.system == self.name
+    }
+}
+
+impl Owner<RangeColumns> for LineColumns {
+    ghost owns = { is_range_of_line };
+
+    fn owns(&self, child: &RangeColumns) -> bool {
+        child.system == self.system && child.place == self.place
+    }
+}
+
+// How many rows at the front belong to the owner.
+fn count_own<P: Owner<C>, C>(owner: &P, children: &[C]) -> usize
+    ensures within { result ≤ length children.now }
+    ensures count { result ≡ prefix_len (P.owns owner.now) children.now }
+{
+    let mut count = 0;
+    for child in children {
+        if !owner.owns(child) {
+            return count;
+        }
+        count += 1;
+    }
+    count
+}
+
+// The rows at the front that belong to the owner, and the rest.
+fn split_own<'a, P: Owner<C>, C>(owner: &P, children: &'a [C]) -> (&'a [C], &'a [C])
+    ensures own { result.0.now ≡ own P.owns owner.now children.now }
+    ensures others { result.1.now ≡ others P.owns owner.now children.now }
+{
+    children.split_at(count_own(owner, children))
+}
+
+fn minute_of(minute: u32) -> Result<u16, RowFault>
+    ensures { IfOk result (λ week. week ≡ minute) }
+{
+    u16::try_from(minute).map_err(|_| RowFault::Bad)
+}
+
+// The set of minutes whose ranges these are.
+fn windows_of(alloc: Global, ranges: &[RangeColumns]) -> Result<Windows, RowFault>
+    ensures { IfOk result (λ windows. windows ≡ map range_of ranges.now) }
+{
+    let mut runs = Vec::new(alloc);
+    for range in ranges {
+        runs.push((minute_of(range.low)?, minute_of(range.high)?))?;
+    }
+    Windows::from_ranges(alloc, &runs)?.ok_or(RowFault::Bad)
+}
+
+fn lines_of(
+    alloc: Global,
+    lines: &[LineColumns],
+    ranges: &[RangeColumns],
+) -> Result<Lines, RowFault>
+    ensures { IfOk result (λ made. made ≡ lines_from lines.now ranges.now) }
+{
+    let mut made = Vec::new(alloc);
+    let mut rest = ranges;
+    for line in lines {
+        let (own, others) = split_own(line, rest);
+        made.push(Line {
+            grade: line.grade,
+            windows: windows_of(alloc, own)?,
+            retry: line.retry,
+        })?;
+        rest = others;
+    }
+    Ok(Lines::new(made))
+}
+
+fn outcome_of(call: &CallColumns) -> Result<Outcome, RowFault>
+    ensures { IfOk result (λ outcome. outcome ≡ outcome_from call.now.outcome call.now.why) }
+{
+    match (call.outcome, &call.why) {
+        (0, None) => Ok(Outcome::Never),
+        (1, Some(why)) => Ok(Outcome::Failed(why.clone()?)),
+        (2, None) => Ok(Outcome::Done),
+        _ => Err(RowFault::Bad),
+    }
+}
+
+fn system_of(
+    alloc: Global,
+    system: &SystemColumns,
+    lines: &[LineColumns],
+    ranges: &[RangeColumns],
+) -> Result<SystemRow, RowFault>
+    ensures { IfOk result (λ row. row ≡ system_from system.now lines.now ranges.now) }
+{
+    let lines = lines_of(alloc, lines, ranges)?;
+    let def = SystemDef::new(system.name.clone()?, lines, system.max_retries).ok_or(RowFault::Bad)?;
+    Ok(SystemRow {
+        def,
+        call: CallState {
+            last: u64::from(system.call.last),
+            failures: system.call.failures,
+            wait: u64::from(system.call.wait),
+            outcome: outcome_of(&system.call)?,
+        },
+    })
+}
+
+/// The systems whose rows, with those of their lines and of the ranges of these, are given, each list in the order of its key.
+pub(crate) fn systems_of(
+    alloc: Global,
+    systems: &[SystemColumns],
+    lines: &[LineColumns],
+    ranges: &[RangeColumns],
+) -> Result<Vec<SystemRow>, RowFault>
+    ensures { IfOk result (λ made. made.items ≡ systems_from systems.now lines.now ranges.now) }
+{
+    let mut made = Vec::new(alloc);
+    let mut lines = lines;
+    let mut ranges = ranges;
+    for system in systems {
+        let (own_lines, other_lines) = split_own(system, lines);
+        let (own_ranges, other_ranges) = split_own(system, ranges);
+        made.push(system_of(alloc, system, own_lines, own_ranges)?)?;
+        lines = other_lines;
+        ranges = other_ranges;
+    }
+    Ok(made)
+}

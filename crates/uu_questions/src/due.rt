@@ -1,0 +1,198 @@
+// Which systems may be called now, and for which job.
+ghost use Rattle.std.specs.Prelude.{◌≡◌, ◌&&◌, ◌||◌, false, ℕ, Bool, List, map, IfOk, OnOk, nat_le, max};
+ghost use Rattle.std.specs.Ordering.{nat_cmp};
+ghost use Rattle.std.specs.Cmp.Lexicographic.{slice_cmp};
+ghost use Rattle.std.specs.BTreeMap.{get};
+ghost use Rattle.sqlite.specs.Held.{state};
+ghost use Rattle.uu_times.specs.declared.moment.Moment.{Moment};
+ghost use Rattle.uu_core.specs.declared.due.Due.{Due};
+ghost use Rattle.uu_core.specs.declared.system.SystemRow.{SystemRow};
+ghost use Rattle.uu_core.specs.State.{same_text, head_of};
+ghost use Rattle.uu_core.specs.Due.{is_within, limit_now, may_be_called, AreDue};
+ghost use Rattle.uu_questions.specs.Answers.{Answers};
+ghost use Rattle.uu_questions.specs.Dues.{IsLeft, Offers, due_cells, with_due};
+
+use crate::fault::RowFault;
+use crate::systems::all_systems;
+use crate::values::{grade_in, name_in, number_in};
+use crate::walk::{RowTaker, walk_rows};
+use sqlite::{Alter, Connection, Error, Row};
+use std::alloc::{AllocError, Global};
+use std::collections::BTreeMap;
+use uu_core::laws::{walks_go_job_by_job, walks_list_what_is_due};
+use uu_core::{Due, SystemRow, held, limit};
+use uu_names::{Grade, SiteName};
+use uu_times::Moment;
+
+// ---- the systems that may be called
+
+fn lower_of(grade: Grade, other: Grade) -> Grade
+    ensures { result ≡ max grade other }
+{
+    grade.max(other)
+}
+
+// The system may be called for this grade too, and for each that is higher.
+fn lower(
+    limits: &mut BTreeMap<SiteName, Grade>,
+    name: &SiteName,
+    lowest: Grade,
+) -> Result<(), AllocError>
+    ensures { OnOk result ((other : List ℕ) (grade : ℕ) → is_within (get (slice_cmp nat_cmp) limits.new other) grade
+        ≡ (is_within (get (slice_cmp nat_cmp) limits.old other) grade || (same_text name.now other && nat_le grade lowest))) }
+{
+    let lowest = match limits.get(name).copied() {
+        Some(other) => lower_of(lowest, other),
+        None => lowest,
+    };
+    limits.insert(name.clone()?, lowest)?;
+    Ok(())
+}
+
+fn limit_now(row: &SystemRow, at: &Moment) -> Option<Grade>
+    ensures { result ≡ limit_now row.now at.now }
+{
+    if held(&row.call, at) {
+        None
+    } else {
+        limit(row.def.lines.as_slice(), at.week)
+    }
+}
+
+// The lowest grade for which each system may be called now; a system that may not be called isn't there.
+fn limits(
+    alloc: Global,
+    rows: &[SystemRow],
+    at: &Moment,
+) -> Result<BTreeMap<SiteName, Grade>, AllocError>
+    ensures { IfOk result (λ limits. (name : List ℕ) (grade : ℕ) → is_within (get (slice_cmp nat_cmp) limits name) grade ≡ may_be_called rows.now at.now name grade) }
+{
+    let mut limits = BTreeMap::new(alloc);
+    for row in rows {
+        if let Some(lowest) = limit_now(row, at) {
+            lower(&mut limits, &row.def.name, lowest)?;
+        }
+    }
+    Ok(limits)
+}
+
+// The same of the systems that are known.
+fn callable<S: Alter>(
+    alloc: Global,
+    conn: &mut Connection<S>,
+    at: &Moment,
+) -> Result<BTreeMap<SiteName, Grade>, Error>
+    ensures idle { conn.old.in_transaction ≡ false → conn.new.in_transaction ≡ false }
+    ensures answers { Answers (λ s limits. (name : List ℕ) (grade : ℕ) → is_within (get (slice_cmp nat_cmp) limits name) grade ≡ may_be_called s.systems at.now name grade) (state S.Store conn.old) (state S.Store conn.new) result }
+{
+    let systems = all_systems(alloc, conn)?;
+    let limits = limits(alloc, &systems, at)?;
+    Ok(limits)
+}
+
+// ---- the walk along the jobs
+
+fn read_due(alloc: Global, row: &Row) -> Result<Due, RowFault>
+    ensures { IfOk result (λ due. (other : Due) → row.now ≡ due_cells other → due ≡ other) }
+{
+    Ok(Due {
+        system: name_in(alloc, row, 0)?,
+        grade: grade_in(row, 1)?,
+        number: number_in(row, 2)?,
+    })
+}
+
+// A job with its system and grade, as a row shows it.
+fn due_in(alloc: Global, row: &Row) -> Result<Due, Error>
+    ensures { IfOk result (λ due. (other : Due) → row.now ≡ due_cells other → due ≡ other) }
+{
+    match read_due(alloc, row) {
+        Ok(due) => Ok(due),
+        Err(fault) => Err(fault.as_error()),
+    }
+}
+
+fn is_free(left: &BTreeMap<SiteName, Grade>, due: &Due) -> bool
+    ensures { result ≡ is_within (get (slice_cmp nat_cmp) left.now due.now.system) due.now.grade }
+{
+    match left.get(&due.system) {
+        Some(lowest) => due.grade <= *lowest,
+        None => false,
+    }
+}
+
+// Lists the job if its system may be called for it, and lets the system go then.
+fn offer(
+    left: &mut BTreeMap<SiteName, Grade>,
+    dues: &mut Vec<Due>,
+    due: Due,
+) -> Result<(), AllocError>
+    ensures { OnOk result ((may : List ℕ → ℕ → Bool) → IsLeft may (get (slice_cmp nat_cmp) left.old) dues.old.items
+        → IsLeft may (get (slice_cmp nat_cmp) left.new) dues.new.items × (dues.new.items ≡ with_due may dues.old.items due)) }
+{
+    if is_free(left, &due) {
+        left.remove(&due.system);
+        dues.push(due)?;
+    }
+    Ok(())
+}
+
+// The systems that may still be called, each with the lowest grade for which, and what is listed so far.
+#[derive(Drop)]
+struct DueWalk {
+    alloc: Global,
+    left: BTreeMap<SiteName, Grade>,
+    dues: Vec<Due>,
+}
+
+impl RowTaker for DueWalk {
+    ghost takes = { λ old row new. Offers (get (slice_cmp nat_cmp) old.left) old.dues.items row (get (slice_cmp nat_cmp) new.left) new.dues.items };
+
+    fn take(&mut self, row: &Row) -> Result<(), Error> {
+        let due = due_in(self.alloc, row)?;
+        offer(&mut self.left, &mut self.dues, due)?;
+        Ok(())
+    }
+}
+
+// What is due, of systems with these limits.
+fn due_within<S: Alter>(
+    alloc: Global,
+    conn: &mut Connection<S>,
+    limits: BTreeMap<SiteName, Grade>,
+) -> Result<Vec<Due>, Error>
+    ensures idle { conn.old.in_transaction ≡ false → conn.new.in_transaction ≡ false }
+    ensures answers { Answers (λ s dues. (rows : List SystemRow) (at : Moment)
+        → ((name : List ℕ) (grade : ℕ) → is_within (get (slice_cmp nat_cmp) limits name) grade ≡ may_be_called rows at name grade)
+        → AreDue rows (map head_of s.jobs) at dues.items) (state S.Store conn.old) (state S.Store conn.new) result }
+{
+    walks_go_job_by_job();
+    walks_list_what_is_due();
+    let mut walk = DueWalk {
+        alloc,
+        left: limits,
+        dues: Vec::new(alloc),
+    };
+    walk_rows(
+        conn,
+        "SELECT system, rank, number FROM jobs ORDER BY rank, number",
+        &[],
+        &mut walk,
+    )?;
+    Ok(walk.dues)
+}
+
+/// The systems that may be called at this moment and have a job to be called for, each with the first of its jobs by grade and number
+/// whose grade is within its limit. They stand by grade and number of these jobs. The jobs are taken one at a time, without their
+/// bytes.
+pub fn systems_due<S: Alter>(
+    alloc: Global,
+    conn: &mut Connection<S>,
+    at: &Moment,
+) -> Result<Vec<Due>, Error>
+    ensures idle { conn.old.in_transaction ≡ false → conn.new.in_transaction ≡ false }
+    ensures answers { Answers (λ s dues. AreDue s.systems (map head_of s.jobs) at.now dues.items) (state S.Store conn.old) (state S.Store conn.new) result }
+{
+    let limits = callable(alloc, conn, at)?;
+    due_within(alloc, conn, limits)
+}

@@ -1,0 +1,41 @@
+// Map entries.
+ghost use Rattle.std.specs.Prelude.{◌≡◌, false, option_map, IfOk};
+ghost use Rattle.sqlite.specs.Held.{state};
+ghost use Rattle.uu_core.specs.State.{entry_at};
+ghost use Rattle.uu_tables.specs.Tables.{entry_columns};
+ghost use Rattle.uu_questions.specs.Answers.{Answers};
+
+use crate::asks::ask_entry;
+use crate::reading::first_row;
+use sqlite::{Alter, Connection, Error};
+use std::alloc::Global;
+use uu_names::SiteName;
+use uu_tables::EntryColumns;
+
+// The row of the map entry of this host, if it is there.
+fn row_of_host<S: Alter>(
+    alloc: Global,
+    conn: &mut Connection<S>,
+    host: &SiteName,
+) -> Result<Option<EntryColumns>, Error>
+    ensures idle { conn.old.in_transaction ≡ false → conn.new.in_transaction ≡ false }
+    ensures answers { Answers (λ s found. found ≡ option_map entry_columns (entry_at s host.now)) (state S.Store conn.old) (state S.Store conn.new) result }
+{
+    let rows = ask_entry(conn, host.as_str())?;
+    first_row(alloc, &rows)
+}
+
+/// The text of the map entry of this host, if it is there.
+pub fn entry_of_host<S: Alter>(
+    alloc: Global,
+    conn: &mut Connection<S>,
+    host: &SiteName,
+) -> Result<Option<Vec<u8>>, Error>
+    ensures idle { conn.old.in_transaction ≡ false → conn.new.in_transaction ≡ false }
+    ensures answers { Answers (λ s found. option_map (λ text. text.items) found ≡ option_map (λ entry. entry.bytes) (entry_at s host.now)) (state S.Store conn.old) (state S.Store conn.new) result }
+{
+    match row_of_host(alloc, conn, host)? {
+        Some(row) => Ok(Some(row.bytes.into_vec())),
+        None => Ok(None),
+    }
+}

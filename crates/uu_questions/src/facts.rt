@@ -1,0 +1,82 @@
+// What is asked before a command.
+ghost use Rattle.std.specs.Prelude.{◌≡◌, false, ℕ, pos, [], ◌∷◌, option_map, map, IfOk};
+ghost use Rattle.sqlite.specs.Held.{state};
+ghost use Rattle.sqlite.specs.declared.types.Value.TheVariants.{Int};
+ghost use Rattle.uu_core.specs.State.{has_system, is_waiting, job_at, head_of};
+ghost use Rattle.uu_core.specs.Laws.{AreFound};
+ghost use Rattle.uu_questions.specs.Answers.{Answers};
+
+use crate::asks::{ask_head, ask_known, ask_next, ask_waiting};
+use crate::reading::first_row;
+use sqlite::{Alter, Connection, Error, Row};
+use std::alloc::Global;
+use uu_core::JobHead;
+use uu_names::SiteName;
+
+/// Whether a system of this name is known.
+pub fn is_known<S: Alter>(conn: &mut Connection<S>, name: &SiteName) -> Result<bool, Error>
+    ensures idle { conn.old.in_transaction ≡ false → conn.new.in_transaction ≡ false }
+    ensures answers { Answers (λ s known. known ≡ has_system s name.now) (state S.Store conn.old) (state S.Store conn.new) result }
+{
+    let rows = ask_known(conn, name.as_str())?;
+    Ok(!rows.is_empty())
+}
+
+/// Whether a job waits for the system of this name.
+pub fn is_waiting<S: Alter>(conn: &mut Connection<S>, name: &SiteName) -> Result<bool, Error>
+    ensures idle { conn.old.in_transaction ≡ false → conn.new.in_transaction ≡ false }
+    ensures answers { Answers (λ s waiting. waiting ≡ is_waiting s name.now) (state S.Store conn.old) (state S.Store conn.new) result }
+{
+    let rows = ask_waiting(conn, name.as_str())?;
+    Ok(!rows.is_empty())
+}
+
+// The number that the rows of the question show. No row is no spool's.
+fn next_in(rows: &[Row]) -> Result<u32, Error>
+    ensures { IfOk result (λ next. (n : ℕ) → rows.now ≡ (Int (pos n) ∷ []) ∷ [] → next ≡ n) }
+{
+    match rows.first() {
+        Some(row) => row.get(0),
+        None => Err(Error::QueryReturnedNoRows),
+    }
+}
+
+/// The number of the next job.
+pub fn next_number<S: Alter>(conn: &mut Connection<S>) -> Result<u32, Error>
+    ensures idle { conn.old.in_transaction ≡ false → conn.new.in_transaction ≡ false }
+    ensures answers { Answers (λ s next. next ≡ s.next) (state S.Store conn.old) (state S.Store conn.new) result }
+{
+    let rows = ask_next(conn)?;
+    next_in(rows.as_slice())
+}
+
+/// The job of this number without its bytes, if it is there.
+pub fn head_of_job<S: Alter>(
+    alloc: Global,
+    conn: &mut Connection<S>,
+    number: u32,
+) -> Result<Option<JobHead>, Error>
+    ensures idle { conn.old.in_transaction ≡ false → conn.new.in_transaction ≡ false }
+    ensures answers { Answers (λ s head. head ≡ option_map head_of (job_at s number)) (state S.Store conn.old) (state S.Store conn.new) result }
+{
+    let rows = ask_head(conn, number)?;
+    first_row(alloc, &rows)
+}
+
+/// The jobs of these numbers without their bytes, as many as are there; a number that stands twice gives its job twice.
+pub fn heads_of_jobs<S: Alter>(
+    alloc: Global,
+    conn: &mut Connection<S>,
+    numbers: &[u32],
+) -> Result<Vec<JobHead>, Error>
+    ensures idle { conn.old.in_transaction ≡ false → conn.new.in_transaction ≡ false }
+    ensures answers { Answers (λ s found. AreFound numbers.now (map head_of s.jobs) found.items) (state S.Store conn.old) (state S.Store conn.new) result }
+{
+    let mut found = Vec::new(alloc);
+    for number in numbers {
+        if let Some(head) = head_of_job(alloc, conn, *number)? {
+            found.push(head)?;
+        }
+    }
+    Ok(found)
+}

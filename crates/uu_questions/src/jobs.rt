@@ -1,0 +1,88 @@
+// Jobs without their bytes, and one job with them.
+ghost use Rattle.std.specs.Prelude.{◌≡◌, ◌==◌, ◌++◌, false, ℕ, List, filter, flat_map, option_map};
+ghost use Rattle.sqlite.specs.Held.{state};
+ghost use Rattle.sqlite.specs.Order.{Row, column};
+ghost use Rattle.sqlite.specs.declared.types.Value.TheVariants.{Blob};
+ghost use Rattle.uu_core.specs.State.{job_at};
+ghost use Rattle.uu_tables.specs.Tables.{tables_of};
+ghost use Rattle.uu_questions.specs.Answers.{Answers};
+ghost use Rattle.uu_questions.specs.Listing.{listed, handed_out, whole};
+
+use crate::asks::ask_jobs;
+use crate::facts::head_of_job;
+use crate::reading::read_rows;
+use crate::walk::{RowTaker, walk_rows};
+use sqlite::types::ValueRef;
+use sqlite::{Alter, Connection, Error, Row, params};
+use std::alloc::Global;
+use uu_core::{Filter, JobHead};
+
+/// The jobs that fit, without their bytes, by (rank, number).
+pub fn list_jobs<S: Alter>(
+    alloc: Global,
+    conn: &mut Connection<S>,
+    filter: &Filter,
+) -> Result<Vec<JobHead>, Error>
+    ensures idle { conn.old.in_transaction ≡ false → conn.new.in_transaction ≡ false }
+    ensures answers { Answers (λ s heads. heads.items ≡ listed filter.now s) (state S.Store conn.old) (state S.Store conn.new) result }
+{
+    let rows = ask_jobs(conn, filter)?;
+    read_rows(alloc, &rows)
+}
+
+// The bytes of the pieces so far.
+#[derive(Drop)]
+struct Joined {
+    bytes: Vec<u8>,
+}
+
+impl RowTaker for Joined {
+    ghost takes = { λ old row new. (piece : List ℕ) × (column row 0 ≡ Blob piece) × (new.bytes.items ≡ old.bytes.items ++ piece) };
+
+    fn take(&mut self, row: &Row) -> Result<(), Error> {
+        match row.get_ref(0)? {
+            ValueRef::Blob(piece) => {
+                self.bytes.extend_from_slice(piece)?;
+                Ok(())
+            }
+            _ => Err(Error::QueryReturnedNoRows),
+        }
+    }
+}
+
+// The bytes of the job of this number, taken one piece at a time.
+fn bytes_of_job<S: Alter>(
+    alloc: Global,
+    conn: &mut Connection<S>,
+    number: u32,
+) -> Result<Vec<u8>, Error>
+    ensures idle { conn.old.in_transaction ≡ false → conn.new.in_transaction ≡ false }
+    ensures answers { Answers (λ s bytes. bytes.items ≡ flat_map (λ piece. piece.bytes) (filter (λ piece. piece.job == number) (tables_of s).pieces)) (state S.Store conn.old) (state S.Store conn.new) result }
+{
+    let mut joined = Joined {
+        bytes: Vec::new(alloc),
+    };
+    walk_rows(
+        conn,
+        "SELECT bytes FROM pieces WHERE job = ?1 ORDER BY job, place",
+        params![number],
+        &mut joined,
+    )?;
+    Ok(joined.bytes)
+}
+
+/// The job of this number with its bytes, if it is there. Beside the job itself one piece at a time is held.
+pub fn job_of_number<S: Alter>(
+    alloc: Global,
+    conn: &mut Connection<S>,
+    number: u32,
+) -> Result<Option<(JobHead, Vec<u8>)>, Error>
+    ensures idle { conn.old.in_transaction ≡ false → conn.new.in_transaction ≡ false }
+    ensures answers { Answers (λ s found. option_map handed_out found ≡ option_map whole (job_at s number)) (state S.Store conn.old) (state S.Store conn.new) result }
+{
+    let Some(head) = head_of_job(alloc, conn, number)? else {
+        return Ok(None);
+    };
+    let bytes = bytes_of_job(alloc, conn, number)?;
+    Ok(Some((head, bytes)))
+}

@@ -1,0 +1,161 @@
+// Systems with their lines, the ranges of these, and their calls.
+ghost use Rattle.std.specs.Prelude.{◌≡◌, false, ℕ, List, Vec, map, filter, IfOk, slice_get};
+ghost use Rattle.sqlite.specs.Held.{state};
+ghost use Rattle.uu_core.specs.State.{system_at, is_system, same_text};
+ghost use Rattle.uu_tables.specs.Tables.{tables_of, system_columns};
+ghost use Rattle.uu_questions.specs.Answers.{Answers};
+ghost use Rattle.uu_questions.specs.Assembly.{systems_from};
+
+use crate::asks::{ask_lines, ask_lines_of, ask_ranges, ask_ranges_of, ask_system, ask_systems};
+use crate::assembly::systems_of;
+use crate::reading::read_rows;
+use sqlite::{Alter, Connection, Error};
+use std::alloc::Global;
+use uu_core::SystemRow;
+use uu_names::SiteName;
+use uu_tables::{LineColumns, RangeColumns, SystemColumns};
+
+// The row of the system of this name, if it is there.
+fn columns_of<S: Alter>(
+    alloc: Global,
+    conn: &mut Connection<S>,
+    name: &str,
+) -> Result<Vec<SystemColumns>, Error>
+    ensures idle { conn.old.in_transaction ≡ false → conn.new.in_transaction ≡ false }
+    ensures answers { Answers (λ s found. found.items ≡ map system_columns (filter (is_system name.now) s.systems)) (state S.Store conn.old) (state S.Store conn.new) result }
+{
+    let rows = ask_system(conn, name)?;
+    read_rows(alloc, &rows)
+}
+
+// The rows of the lines of the system of this name.
+fn lines_of<S: Alter>(
+    alloc: Global,
+    conn: &mut Connection<S>,
+    name: &str,
+) -> Result<Vec<LineColumns>, Error>
+    ensures idle { conn.old.in_transaction ≡ false → conn.new.in_transaction ≡ false }
+    ensures answers { Answers (λ s lines. lines.items ≡ filter (λ line. same_text line.system name.now) (tables_of s).lines) (state S.Store conn.old) (state S.Store conn.new) result }
+{
+    let rows = ask_lines_of(conn, name)?;
+    read_rows(alloc, &rows)
+}
+
+// The rows of the ranges of these lines.
+fn ranges_of<S: Alter>(
+    alloc: Global,
+    conn: &mut Connection<S>,
+    name: &str,
+) -> Result<Vec<RangeColumns>, Error>
+    ensures idle { conn.old.in_transaction ≡ false → conn.new.in_transaction ≡ false }
+    ensures answers { Answers (λ s ranges. ranges.items ≡ filter (λ range. same_text range.system name.now) (tables_of s).ranges) (state S.Store conn.old) (state S.Store conn.new) result }
+{
+    let rows = ask_ranges_of(conn, name)?;
+    read_rows(alloc, &rows)
+}
+
+// The rows of all systems.
+fn all_columns<S: Alter>(
+    alloc: Global,
+    conn: &mut Connection<S>,
+) -> Result<Vec<SystemColumns>, Error>
+    ensures idle { conn.old.in_transaction ≡ false → conn.new.in_transaction ≡ false }
+    ensures answers { Answers (λ s found. found.items ≡ map system_columns s.systems) (state S.Store conn.old) (state S.Store conn.new) result }
+{
+    let rows = ask_systems(conn)?;
+    read_rows(alloc, &rows)
+}
+
+// The rows of all lines.
+fn all_lines<S: Alter>(alloc: Global, conn: &mut Connection<S>) -> Result<Vec<LineColumns>, Error>
+    ensures idle { conn.old.in_transaction ≡ false → conn.new.in_transaction ≡ false }
+    ensures answers { Answers (λ s lines. lines.items ≡ (tables_of s).lines) (state S.Store conn.old) (state S.Store conn.new) result }
+{
+    let rows = ask_lines(conn)?;
+    read_rows(alloc, &rows)
+}
+
+// The rows of all ranges.
+fn all_ranges<S: Alter>(alloc: Global, conn: &mut Connection<S>) -> Result<Vec<RangeColumns>, Error>
+    ensures idle { conn.old.in_transaction ≡ false → conn.new.in_transaction ≡ false }
+    ensures answers { Answers (λ s ranges. ranges.items ≡ (tables_of s).ranges) (state S.Store conn.old) (state S.Store conn.new) result }
+{
+    let rows = ask_ranges(conn)?;
+    read_rows(alloc, &rows)
+}
+
+// Lines with their ranges, as they are put together with their systems.
+#[derive(Drop)]
+struct LineRows {
+    lines: Vec<LineColumns>,
+    ranges: Vec<RangeColumns>,
+}
+
+// The rows of the lines of the system of this name, and of their ranges.
+fn line_rows_of<S: Alter>(
+    alloc: Global,
+    conn: &mut Connection<S>,
+    name: &str,
+) -> Result<LineRows, Error>
+    ensures idle { conn.old.in_transaction ≡ false → conn.new.in_transaction ≡ false }
+    ensures answers { Answers (λ s rows. (rows.lines.items ≡ filter (λ line. same_text line.system name.now) (tables_of s).lines) × (rows.ranges.items ≡ filter (λ range. same_text range.system name.now) (tables_of s).ranges)) (state S.Store conn.old) (state S.Store conn.new) result }
+{
+    let lines = lines_of(alloc, conn, name)?;
+    let ranges = ranges_of(alloc, conn, name)?;
+    Ok(LineRows { lines, ranges })
+}
+
+// The rows of all lines, and of their ranges.
+fn all_line_rows<S: Alter>(alloc: Global, conn: &mut Connection<S>) -> Result<LineRows, Error>
+    ensures idle { conn.old.in_transaction ≡ false → conn.new.in_transaction ≡ false }
+    ensures answers { Answers (λ s rows. (rows.lines.items ≡ (tables_of s).lines) × (rows.ranges.items ≡ (tables_of s).ranges)) (state S.Store conn.old) (state S.Store conn.new) result }
+{
+    let lines = all_lines(alloc, conn)?;
+    let ranges = all_ranges(alloc, conn)?;
+    Ok(LineRows { lines, ranges })
+}
+
+// The systems that the rows make.
+fn put_together(
+    alloc: Global,
+    systems: &[SystemColumns],
+    rows: &LineRows,
+) -> Result<Vec<SystemRow>, Error>
+    ensures { IfOk result (λ made. made.items ≡ systems_from systems.now rows.now.lines.items rows.now.ranges.items) }
+{
+    systems_of(alloc, systems, &rows.lines, &rows.ranges).map_err(|fault| fault.as_error())
+}
+
+// The first of some systems.
+fn first_of(systems: Vec<SystemRow>) -> Option<SystemRow>
+    ensures { result ≡ slice_get systems.items 0 }
+{
+    systems.into_iter().next()
+}
+
+/// The system of this name, if it is known, with its definition and its calls.
+pub fn system_of_name<S: Alter>(
+    alloc: Global,
+    conn: &mut Connection<S>,
+    name: &SiteName,
+) -> Result<Option<SystemRow>, Error>
+    ensures idle { conn.old.in_transaction ≡ false → conn.new.in_transaction ≡ false }
+    ensures answers { Answers (λ s found. found ≡ system_at s name.now) (state S.Store conn.old) (state S.Store conn.new) result }
+{
+    let columns = columns_of(alloc, conn, name.as_str())?;
+    let rows = line_rows_of(alloc, conn, name.as_str())?;
+    Ok(first_of(put_together(alloc, &columns, &rows)?))
+}
+
+/// All systems in the byte order of their names, with their definitions and their calls.
+pub fn all_systems<S: Alter>(
+    alloc: Global,
+    conn: &mut Connection<S>,
+) -> Result<Vec<SystemRow>, Error>
+    ensures idle { conn.old.in_transaction ≡ false → conn.new.in_transaction ≡ false }
+    ensures answers { Answers (λ s systems. systems.items ≡ s.systems) (state S.Store conn.old) (state S.Store conn.new) result }
+{
+    let columns = all_columns(alloc, conn)?;
+    let rows = all_line_rows(alloc, conn)?;
+    put_together(alloc, &columns, &rows)
+}

@@ -1,0 +1,43 @@
+// The rows of an answer, taken one at a time.
+ghost use Rattle.std.specs.Prelude.{◌≡◌, false, OnOk};
+ghost use Rattle.sqlite.specs.Order.{Row};
+ghost use Rattle.sqlite.specs.Held.{state};
+ghost use Rattle.sqlite.specs.Values.{bound};
+ghost use Rattle.sqlite.specs.Given.{IsPlain};
+ghost use Rattle.sqlite.specs.Listing.{understood};
+ghost use Rattle.uu_schema.specs.Schema.{site};
+ghost use Rattle.uu_questions.specs.Walks.{Walks};
+
+use sqlite::types::ValueRef;
+use sqlite::{Alter, Connection, Error, Row};
+
+/// What takes the rows of an answer, one after the other.
+pub(crate) trait RowTaker {
+    /// What it is before a row, the row, and what it is after it.
+    ghost takes: { Self → Row → Self → Type 0 };
+
+    /// Takes the next row.
+    fn take(&mut self, row: &Row) -> Result<(), Error>
+        ensures { OnOk result (takes self.old row.now self.new) };
+}
+
+/// Hands over each row that the question shows, one at a time.
+pub(crate) fn walk_rows<S: Alter, T: RowTaker>(
+    conn: &mut Connection<S>,
+    sql: &str,
+    params: &[ValueRef<'_>],
+    taker: &mut T,
+) -> Result<(), Error>
+    requires { IsPlain (understood site sql.now) }
+    ensures idle { conn.old.in_transaction ≡ false → conn.new.in_transaction ≡ false }
+    ensures walks { Walks T.takes sql.now (bound params.now) (state S.Store conn.old) (state S.Store conn.new) taker.old taker.new result }
+{
+    let mut rows = conn.query(sql, params)?;
+    'rows: for _ in 0..u64::MAX {
+        let Some(row) = rows.next()? else {
+            return Ok(());
+        };
+        taker.take(row)?;
+    }
+    Err(Error::QueryReturnedNoRows)
+}

@@ -1,0 +1,5 @@
+pub mod Texts
+pub mod Keeps
+pub mod Made
+pub mod Begun
+pub mod Numbers

@@ -1,0 +1,96 @@
+-- What the statements that make the tables make of the trees.
+use Rattle.std.proofs.Common.{◌≡◌, ℕ, pos, List, [], ◌∷◌, false, Ok, Result, None, refl, sym, ap, subst, ◌∙◌}
+use Rattle.sqlite.specs.Table.{Table}
+use Rattle.sqlite.specs.Schema.{Schema}
+use Rattle.sqlite.specs.Source.TheVariants.{Values}
+use Rattle.sqlite.specs.Command.TheVariants.{Insert, CreateTable}
+use Rattle.sqlite.specs.Compile.{table_defined_by}
+use Rattle.sqlite.specs.Change.{created}
+use Rattle.sqlite.specs.Does.{Tally, lacks_sequence}
+use Rattle.sqlite.specs.Tree.{put_row}
+use Rattle.sqlite.specs.Edit.{Edit, Applies}
+use Rattle.sqlite.specs.Effect.{Database}
+use Rattle.sqlite_schema.specs.declared.schema.Keys.TheVariants.{Enforced}
+use Rattle.sqlite_catalog.specs.Listing.{IsSound}
+use Rattle.sqlite_catalog.specs.Calls.{CreatesTable}
+use Rattle.sqlite.specs.Listing.{understood}
+use Rattle.sqlite.specs.State.{State, Writes, Executes}
+use Rattle.sqlite.proofs.Callers.{IsPlain, command_of, statement_of, runs_as}
+use Rattle.uu_sql.specs.Steps.{Stands}
+use Rattle.uu_sql.proofs.Rows.{cast_int, cast_null}
+use Rattle.uu_sql.proofs.Writes.{went, same_value, insert_ran, insert_applies, inserted}
+use Rattle.uu_schema.specs.Schema.{site, no_schema, with_spool, with_systems, with_lines, with_ranges, with_jobs, with_pieces, spool, systems, lines, ranges, jobs, pieces, entries, create_spool, create_systems, create_lines, create_ranges, create_jobs, create_pieces, create_entries, insert_spool}
+use Rattle.uu_schema.specs.Made.{spool_row, IsMade, IsBegun}
+use Rattle.uu_schema.proofs.Keeps.{keeps_one}
+use Rattle.uu_schema.proofs.Texts.{create_spool_is, create_spool_plain, create_systems_is, create_systems_plain, create_lines_is, create_lines_plain, create_ranges_is, create_ranges_plain, create_jobs_is, create_jobs_plain, create_pieces_is, create_pieces_plain, create_entries_is, create_entries_plain, created_spool, created_systems, created_lines, created_ranges, created_jobs, created_pieces, created_entries, insert_spool_is, insert_spool_plain, spool_terms}
+
+-- what a CREATE TABLE makes, of a text whose table is known
+module _ (old new : State) (from to : Schema) (text : List ℕ) (table : Table) (count : ℕ) (stands : Stands from old.now)
+    (is : (command_of (understood from text) ≡ CreateTable) × (statement_of text (understood from text) ≡ text) × (table_defined_by text ≡ Ok table)) (plain : IsPlain (understood from text))
+    (makes : created from table ≡ to) (plain_keys : lacks_sequence to ≡ false) where
+  pub record Made : Type 0 where
+    pub now_stands : Stands to new.now
+    pub creates : CreatesTable from text old.now.trees to new.now.trees
+
+  pub made : Executes text [] old new (Ok count) → Made
+  made h =
+      let w = subst (λ t. Writes old new None CreateTable t [] count) is.1 (runs_as text [] old new from stands.schema CreateTable is.0 plain count h) in
+      let all = went w.changed in
+      let first = went all.1 in
+      let it : CreatesTable old.now.schema text old.now.trees first.0.schema first.0.trees = first.1 in
+      let both : ◌≡◌ {A = Result Table _} (Ok it.table) (Ok table) = sym it.defined ∙ is.2 in
+      let same : it.table ≡ table = same_value both in
+      let schema : first.0.schema ≡ to = it.is ∙ ap (λ s. created s it.table) stands.schema ∙ ap (created from) same ∙ makes in
+      let none : lacks_sequence first.0.schema ≡ false = ap lacks_sequence schema ∙ plain_keys in
+      let now : new.now ≡ first.0 = ap (λ (p : Tally × Database). p.1) (same_value all.2) ∙ same_value (rw none at first.2) in
+      let after : new.now.schema ≡ to = ap (λ (d : Database). d.schema) now ∙ schema in
+      record {
+        now_stands = record { schema = after; sound = subst (λ s. IsSound s new.now.trees) after w.sound };
+        creates = subst (λ s. CreatesTable s text old.now.trees to new.now.trees) stands.schema (subst (λ s. CreatesTable old.now.schema text old.now.trees s new.now.trees) after (subst (λ (d : Database). CreatesTable old.now.schema text old.now.trees d.schema d.trees) (sym now) it));
+      }
+
+pub spool_made : (old new : State) (count : ℕ) → Stands no_schema old.now → Executes create_spool [] old new (Ok count) → Stands with_spool new.now × IsMade no_schema spool.tree old.now.trees new.now.trees
+spool_made old new count stands h =
+    let it = made old new no_schema with_spool create_spool spool count stands create_spool_is create_spool_plain created_spool refl h in
+    (it.now_stands, record { none = it.creates.empty; others = it.creates.others })
+
+pub systems_made : (old new : State) (count : ℕ) → Stands with_spool old.now → Executes create_systems [] old new (Ok count) → Stands with_systems new.now × IsMade with_spool systems.tree old.now.trees new.now.trees
+systems_made old new count stands h =
+    let it = made old new with_spool with_systems create_systems (record systems { tree = 0 }) count stands create_systems_is create_systems_plain created_systems refl h in
+    (it.now_stands, record { none = it.creates.empty; others = it.creates.others })
+
+pub lines_made : (old new : State) (count : ℕ) → Stands with_systems old.now → Executes create_lines [] old new (Ok count) → Stands with_lines new.now × IsMade with_systems lines.tree old.now.trees new.now.trees
+lines_made old new count stands h =
+    let it = made old new with_systems with_lines create_lines (record lines { tree = 0 }) count stands create_lines_is create_lines_plain created_lines refl h in
+    (it.now_stands, record { none = it.creates.empty; others = it.creates.others })
+
+pub ranges_made : (old new : State) (count : ℕ) → Stands with_lines old.now → Executes create_ranges [] old new (Ok count) → Stands with_ranges new.now × IsMade with_lines ranges.tree old.now.trees new.now.trees
+ranges_made old new count stands h =
+    let it = made old new with_lines with_ranges create_ranges (record ranges { tree = 0 }) count stands create_ranges_is create_ranges_plain created_ranges refl h in
+    (it.now_stands, record { none = it.creates.empty; others = it.creates.others })
+
+pub jobs_made : (old new : State) (count : ℕ) → Stands with_ranges old.now → Executes create_jobs [] old new (Ok count) → Stands with_jobs new.now × IsMade with_ranges jobs.tree old.now.trees new.now.trees
+jobs_made old new count stands h =
+    let it = made old new with_ranges with_jobs create_jobs (record jobs { tree = 0 }) count stands create_jobs_is create_jobs_plain created_jobs refl h in
+    (it.now_stands, record { none = it.creates.empty; others = it.creates.others })
+
+pub pieces_made : (old new : State) (count : ℕ) → Stands with_jobs old.now → Executes create_pieces [] old new (Ok count) → Stands with_pieces new.now × IsMade with_jobs pieces.tree old.now.trees new.now.trees
+pieces_made old new count stands h =
+    let it = made old new with_jobs with_pieces create_pieces (record pieces { tree = 0 }) count stands create_pieces_is create_pieces_plain created_pieces refl h in
+    (it.now_stands, record { none = it.creates.empty; others = it.creates.others })
+
+pub entries_made : (old new : State) (count : ℕ) → Stands with_pieces old.now → Executes create_entries [] old new (Ok count) → Stands site new.now × IsMade with_pieces entries.tree old.now.trees new.now.trees
+entries_made old new count stands h =
+    let it = made old new with_pieces site create_entries (record entries { tree = 0 }) count stands create_entries_is create_entries_plain created_entries refl h in
+    (it.now_stands, record { none = it.creates.empty; others = it.creates.others })
+
+pub spool_begun : (old new : State) (count : ℕ) → Stands site old.now → Executes insert_spool [] old new (Ok count) → Stands site new.now × IsBegun old.now.trees new.now.trees
+spool_begun old new count stands h =
+    let from = Values spool_terms 4 in
+    let w = runs_as insert_spool [] old new site stands.schema (Insert 0 from) insert_spool_is insert_spool_plain count h in
+    let text = statement_of insert_spool (understood site insert_spool) in
+    let ran = insert_ran old new site stands.schema 0 spool refl text [] count from w in
+    let edit : Edit = record { table = spool; gone = []; news = spool_row 1 ∷ [] } in
+    let is : inserted old new site stands.schema 0 spool refl text [] count spool_terms 4 ≡ edit = rw (cast_null, cast_int (pos 1)) in
+    let a = subst (λ (edit : Edit). Applies site Enforced old.now.trees edit new.now.trees) is (insert_applies old new site stands.schema 0 spool refl text [] count spool_terms 4 ran) in
+    (ran.stands, record { row = λ none. a.rows ∙ ap (put_row (spool_row 1)) none; others = keeps_one edit old.now.trees new.now.trees a })

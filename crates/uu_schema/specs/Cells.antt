@@ -1,0 +1,51 @@
+-- The cells of each typed row: the values of its columns, in order. (The numbers of the kinds and the text of arguments are this project's choice.)
+use Rattle.std.specs.Prelude.{ℕ, pos, List, [], ◌∷◌}
+use Rattle.std.specs.List.{join_with_byte}
+use Rattle.sqlite.specs.declared.types.Value.TheVariants.{Int, Text, Blob}
+use Rattle.sqlite.specs.Order.{Row}
+use Rattle.sqlite.specs.Values.{or_null}
+use Rattle.uu_core.specs.declared.job.JobHead.{JobHead}
+use Rattle.uu_core.specs.declared.job.Kind.{Kind}
+use Rattle.uu_core.specs.declared.job.Kind.TheVariants.{Send, Request, Execute}
+use Rattle.uu_tables.specs.declared.rows.SystemColumns.{SystemColumns}
+use Rattle.uu_tables.specs.declared.rows.LineColumns.{LineColumns}
+use Rattle.uu_tables.specs.declared.rows.RangeColumns.{RangeColumns}
+use Rattle.uu_tables.specs.declared.rows.EntryColumns.{EntryColumns}
+use Rattle.uu_tables.specs.Tables.{Piece}
+
+abbrev pub system_cells : SystemColumns → Row
+system_cells s =
+    Text s.name ∷ Int (pos s.max_retries) ∷ Int (pos s.call.last) ∷ Int (pos s.call.failures) ∷ Int (pos s.call.wait) ∷ Int (pos s.call.outcome) ∷ or_null Text s.call.why ∷ []
+
+abbrev pub line_cells : LineColumns → Row
+line_cells l = Text l.system ∷ Int (pos l.place) ∷ Int (pos l.grade) ∷ or_null (λ n. Int (pos n)) l.retry ∷ []
+
+abbrev pub range_cells : RangeColumns → Row
+range_cells r = Text r.system ∷ Int (pos r.place) ∷ Int (pos r.low) ∷ Int (pos r.high) ∷ []
+
+-- ---- a job: of a command its arguments stand in one text, with one space between two
+
+abbrev pub kind_number : Kind → ℕ
+kind_number (Send source target) = 0
+kind_number (Request source target) = 1
+kind_number (Execute command arguments) = 2
+
+abbrev pub first_word : Kind → List ℕ
+first_word (Send source target) = source
+first_word (Request source target) = source
+first_word (Execute command arguments) = command
+
+abbrev pub second_word : Kind → List ℕ
+second_word (Send source target) = target
+second_word (Request source target) = target
+second_word (Execute command arguments) = join_with_byte 32 arguments
+
+abbrev pub job_cells : JobHead → Row
+job_cells j =
+    Int (pos j.number) ∷ Text j.system ∷ Int (pos j.grade) ∷ Text j.user ∷ Int (pos (kind_number j.kind)) ∷ Int (pos j.queued) ∷ Text (first_word j.kind) ∷ Text (second_word j.kind) ∷ Int (pos j.size) ∷ []
+
+abbrev pub piece_cells : Piece → Row
+piece_cells p = Int (pos p.job) ∷ Int (pos p.place) ∷ Blob p.bytes ∷ []
+
+abbrev pub entry_cells : EntryColumns → Row
+entry_cells e = Text e.host ∷ Blob e.bytes ∷ []

@@ -1,0 +1,37 @@
+-- The faults of the store. (Their numbers are this project's choice.)
+use Rattle.std.specs.Prelude.{ℕ, ⊤}
+use Rattle.sqlite.specs.declared.error.ErrorCode.{ErrorCode}
+use Rattle.sqlite.specs.declared.error.ErrorCode.TheVariants.{SystemIoFailure, DatabaseCorrupt, DiskFull, TooBig}
+use Rattle.sqlite.specs.declared.error.Error.{Error}
+use Rattle.sqlite.specs.declared.error.Error.TheVariants.{SqliteFailure}
+use Rattle.uu_schema.specs.declared.fault.StoreKind.{StoreKind}
+use Rattle.uu_schema.specs.declared.fault.StoreKind.TheVariants.{Disk, Size, Database}
+use Rattle.uu_schema.specs.declared.fault.StoreFault.{StoreFault}
+use Rattle.uu_schema.specs.declared.fault.StoreFault.TheVariants.{Memory, Store, Failed, Foreign, Newer}
+
+-- which part of the store an error of the database tells of
+abbrev pub kind_of_code : ErrorCode → StoreKind
+kind_of_code SystemIoFailure = Disk
+kind_of_code DatabaseCorrupt = Disk
+kind_of_code DiskFull = Disk
+kind_of_code TooBig = Size
+kind_of_code _ = Database
+
+abbrev pub kind_of_error : Error → StoreKind
+kind_of_error (SqliteFailure code) = kind_of_code code
+kind_of_error _ = Database
+
+abbrev pub fault_code : StoreFault → ℕ
+fault_code Memory = 1
+fault_code (Store kind) = 2
+fault_code Failed = 3
+fault_code Foreign = 4
+fault_code Newer = 5
+
+-- a fault of the store beside those that only an opening or an earlier failure gives
+abbrev pub IsFresh : StoreFault → Type 0
+IsFresh Memory = ⊤
+IsFresh (Store kind) = ⊤
+IsFresh Failed = ⊥
+IsFresh Foreign = ⊥
+IsFresh Newer = ⊥

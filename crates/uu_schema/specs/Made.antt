@@ -1,0 +1,64 @@
+-- What the statements that make the tables make of the trees.
+use Rattle.std.specs.Prelude.{◌≡◌, ◌==◌, ℕ, pos, List, [], ◌∷◌, false}
+use Rattle.std.specs.List.{AllByRecursion, list_any}
+use Rattle.sqlite.specs.declared.types.Value.TheVariants.{Null, Int}
+use Rattle.sqlite.specs.Order.{Row}
+use Rattle.sqlite.specs.Schema.{Schema}
+use Rattle.sqlite.specs.Table.{Table}
+use Rattle.sqlite.specs.Tree.{Trees}
+use Rattle.uu_sql.specs.Steps.{Both}
+use Rattle.uu_schema.specs.Schema.{site, no_schema, with_spool, with_systems, with_lines, with_ranges, with_jobs, with_pieces, spool, systems, lines, ranges, jobs, pieces, entries}
+
+-- the tables but those at these trees have the rows that they had
+abbrev pub Keeps : List ℕ → Trees → Trees → Type 0
+Keeps written old new = AllByRecursion (λ (t : Table). list_any (λ n. n == t.tree) written ≡ false → new t.tree ≡ old t.tree) site.tables
+
+-- the version of these tables
+abbrev pub version : ℕ
+version = 1
+
+-- The row of `spool` as the port keeps it: the rowid, then the columns, where an INTEGER PRIMARY KEY is kept as Null.
+abbrev pub spool_row : ℕ → Row
+spool_row next = Int (pos 1) ∷ Null ∷ Int (pos version) ∷ Int (pos next) ∷ []
+
+-- the table at this tree is there without rows, and the others keep theirs
+pub record IsMade (from : Schema) (tree : ℕ) (old new : Trees) : Type 0 where
+  pub none : new tree ≡ []
+  pub others : AllByRecursion (λ (t : Table). new t.tree ≡ old t.tree) from.tables
+
+-- the one row of `spool` is there, and nothing else differs
+pub record IsBegun (old new : Trees) : Type 0 where
+  pub row : old spool.tree ≡ [] → new spool.tree ≡ spool_row 1 ∷ []
+  pub others : Keeps (spool.tree ∷ []) old new
+
+-- the tables from one of them on, and the row of `spool`
+abbrev pub FromEntries : Trees → Trees → Type 0
+FromEntries = Both (IsMade with_pieces entries.tree) IsBegun
+
+abbrev pub FromPieces : Trees → Trees → Type 0
+FromPieces = Both (IsMade with_jobs pieces.tree) FromEntries
+
+abbrev pub FromJobs : Trees → Trees → Type 0
+FromJobs = Both (IsMade with_ranges jobs.tree) FromPieces
+
+abbrev pub FromRanges : Trees → Trees → Type 0
+FromRanges = Both (IsMade with_lines ranges.tree) FromJobs
+
+abbrev pub FromLines : Trees → Trees → Type 0
+FromLines = Both (IsMade with_systems lines.tree) FromRanges
+
+abbrev pub FromSystems : Trees → Trees → Type 0
+FromSystems = Both (IsMade with_spool systems.tree) FromLines
+
+abbrev pub AllMade : Trees → Trees → Type 0
+AllMade = Both (IsMade no_schema spool.tree) FromSystems
+
+-- what the whole leaves: one row of `spool`, and no other
+pub record IsEmpty (db : Trees) : Type 0 where
+  pub row : db spool.tree ≡ spool_row 1 ∷ []
+  pub systems : db systems.tree ≡ []
+  pub lines : db lines.tree ≡ []
+  pub ranges : db ranges.tree ≡ []
+  pub jobs : db jobs.tree ≡ []
+  pub pieces : db pieces.tree ≡ []
+  pub entries : db entries.tree ≡ []

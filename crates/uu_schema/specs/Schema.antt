@@ -1,0 +1,132 @@
+-- The seven tables of the spool, version 1, and the texts that make them. (This project's choice.)
+use Rattle.std.specs.Prelude.{[], ◌∷◌, codes, List, ℕ}
+use Rattle.sqlite.specs.Table.{Table}
+use Rattle.sqlite.specs.Schema.{Schema}
+use Rattle.sqlite.specs.Kind.TheVariants.{Integer, Text, Blob}
+use Rattle.sqlite_schema.specs.declared.schema.Action.TheVariants.{NoAction, Cascade}
+use Rattle.sqlite_schema.specs.declared.schema.Reference.{Reference}
+use Rattle.sqlite_catalog.specs.Listing.{automatic}
+use Rattle.uu_sql.specs.Layout.{may, must, refers, by_number, by_key}
+
+-- ---- tables; trees are numbered in order of creation, each table first and then its index
+
+-- one row: the version of the tables and the next number
+abbrev pub spool : Table
+spool = by_number (codes "spool") 0 (may (codes "id") Integer ∷ must (codes "version") Integer ∷ must (codes "next") Integer ∷ []) []
+
+-- the systems, with what the last call left
+abbrev pub systems : Table
+systems = by_key (codes "systems") 1
+    (must (codes "name") Text ∷ must (codes "max_retries") Integer ∷ must (codes "last") Integer ∷ must (codes "failures") Integer ∷ must (codes "wait") Integer ∷ must (codes "outcome") Integer ∷ may (codes "why") Text
+    ∷ [])
+    (1 ∷ []) []
+
+-- a line goes with its system
+abbrev pub to_system : Reference
+to_system = refers (1 ∷ []) (codes "systems") (codes "name" ∷ []) Cascade
+
+-- the lines of the systems
+abbrev pub lines : Table
+lines = by_key (codes "lines") 3 (must (codes "system") Text ∷ must (codes "place") Integer ∷ must (codes "rank") Integer ∷ may (codes "retry") Integer ∷ []) (1 ∷ 2 ∷ []) (to_system ∷ [])
+
+-- a range goes with its line
+abbrev pub to_line : Reference
+to_line = refers (1 ∷ 2 ∷ []) (codes "lines") (codes "system" ∷ codes "place" ∷ []) Cascade
+
+-- the ranges of the lines
+abbrev pub ranges : Table
+ranges = by_key (codes "ranges") 5 (must (codes "system") Text ∷ must (codes "place") Integer ∷ must (codes "low") Integer ∷ must (codes "high") Integer ∷ []) (1 ∷ 2 ∷ 3 ∷ []) (to_line ∷ [])
+
+-- a system can't go while a job waits for it
+abbrev pub to_known_system : Reference
+to_known_system = refers (2 ∷ []) (codes "systems") (codes "name" ∷ []) NoAction
+
+-- the jobs without their bytes
+abbrev pub jobs : Table
+jobs = by_number (codes "jobs") 7
+    (may (codes "number") Integer ∷ must (codes "system") Text ∷ must (codes "rank") Integer ∷ must (codes "user") Text ∷ must (codes "kind") Integer ∷ must (codes "queued") Integer
+    ∷ must (codes "first_word") Text ∷ must (codes "second_word") Text ∷ must (codes "size") Integer ∷ [])
+    (to_known_system ∷ [])
+
+-- a piece goes with its job
+abbrev pub to_job : Reference
+to_job = refers (1 ∷ []) (codes "jobs") (codes "number" ∷ []) Cascade
+
+-- the bytes of the jobs, cut
+abbrev pub pieces : Table
+pieces = by_key (codes "pieces") 8 (must (codes "job") Integer ∷ must (codes "place") Integer ∷ must (codes "bytes") Blob ∷ []) (1 ∷ 2 ∷ []) (to_job ∷ [])
+
+-- the map entries
+abbrev pub entries : Table
+entries = by_key (codes "entries") 10 (must (codes "host") Text ∷ must (codes "bytes") Blob ∷ []) (1 ∷ []) []
+
+-- ---- schemas, from none to all
+
+abbrev pub no_schema : Schema
+no_schema = record { tables = []; indexes = []; views = [] }
+
+abbrev pub with_spool : Schema
+with_spool = record { tables = spool ∷ []; indexes = []; views = [] }
+
+abbrev pub with_systems : Schema
+with_systems = record { tables = spool ∷ systems ∷ []; indexes = automatic systems 0 (1 ∷ []) 2 ∷ []; views = [] }
+
+abbrev pub with_lines : Schema
+with_lines = record { tables = spool ∷ systems ∷ lines ∷ []; indexes = automatic systems 0 (1 ∷ []) 2 ∷ automatic lines 0 (1 ∷ 2 ∷ []) 4 ∷ []; views = [] }
+
+abbrev pub with_ranges : Schema
+with_ranges = record {
+  tables = spool ∷ systems ∷ lines ∷ ranges ∷ [];
+  indexes = automatic systems 0 (1 ∷ []) 2 ∷ automatic lines 0 (1 ∷ 2 ∷ []) 4 ∷ automatic ranges 0 (1 ∷ 2 ∷ 3 ∷ []) 6 ∷ [];
+  views = [];
+}
+
+abbrev pub with_jobs : Schema
+with_jobs = record {
+  tables = spool ∷ systems ∷ lines ∷ ranges ∷ jobs ∷ [];
+  indexes = automatic systems 0 (1 ∷ []) 2 ∷ automatic lines 0 (1 ∷ 2 ∷ []) 4 ∷ automatic ranges 0 (1 ∷ 2 ∷ 3 ∷ []) 6 ∷ [];
+  views = [];
+}
+
+abbrev pub with_pieces : Schema
+with_pieces = record {
+  tables = spool ∷ systems ∷ lines ∷ ranges ∷ jobs ∷ pieces ∷ [];
+  indexes = automatic systems 0 (1 ∷ []) 2 ∷ automatic lines 0 (1 ∷ 2 ∷ []) 4 ∷ automatic ranges 0 (1 ∷ 2 ∷ 3 ∷ []) 6 ∷ automatic pieces 0 (1 ∷ 2 ∷ []) 9 ∷ [];
+  views = [];
+}
+
+-- the whole
+abbrev pub site : Schema
+site = record {
+  tables = spool ∷ systems ∷ lines ∷ ranges ∷ jobs ∷ pieces ∷ entries ∷ [];
+  indexes =
+      automatic systems 0 (1 ∷ []) 2 ∷ automatic lines 0 (1 ∷ 2 ∷ []) 4 ∷ automatic ranges 0 (1 ∷ 2 ∷ 3 ∷ []) 6 ∷ automatic pieces 0 (1 ∷ 2 ∷ []) 9
+      ∷ automatic entries 0 (1 ∷ []) 11 ∷ [];
+  views = [];
+}
+
+-- ---- statements that make the tables
+
+abbrev pub create_spool : List ℕ
+create_spool = codes "CREATE TABLE spool (id INTEGER PRIMARY KEY, version INTEGER NOT NULL, next INTEGER NOT NULL) STRICT"
+
+abbrev pub create_systems : List ℕ
+create_systems = codes "CREATE TABLE systems (name TEXT NOT NULL PRIMARY KEY, max_retries INTEGER NOT NULL, last INTEGER NOT NULL, failures INTEGER NOT NULL, wait INTEGER NOT NULL, outcome INTEGER NOT NULL, why TEXT) STRICT"
+
+abbrev pub create_lines : List ℕ
+create_lines = codes "CREATE TABLE lines (system TEXT NOT NULL REFERENCES systems (name) ON DELETE CASCADE, place INTEGER NOT NULL, rank INTEGER NOT NULL, retry INTEGER, PRIMARY KEY (system, place)) STRICT"
+
+abbrev pub create_ranges : List ℕ
+create_ranges = codes "CREATE TABLE ranges (system TEXT NOT NULL, place INTEGER NOT NULL, low INTEGER NOT NULL, high INTEGER NOT NULL, PRIMARY KEY (system, place, low), FOREIGN KEY (system, place) REFERENCES lines (system, place) ON DELETE CASCADE) STRICT"
+
+abbrev pub create_jobs : List ℕ
+create_jobs = codes "CREATE TABLE jobs (number INTEGER PRIMARY KEY, system TEXT NOT NULL REFERENCES systems (name), rank INTEGER NOT NULL, user TEXT NOT NULL, kind INTEGER NOT NULL, queued INTEGER NOT NULL, first_word TEXT NOT NULL, second_word TEXT NOT NULL, size INTEGER NOT NULL) STRICT"
+
+abbrev pub create_pieces : List ℕ
+create_pieces = codes "CREATE TABLE pieces (job INTEGER NOT NULL REFERENCES jobs (number) ON DELETE CASCADE, place INTEGER NOT NULL, bytes BLOB NOT NULL, PRIMARY KEY (job, place)) STRICT"
+
+abbrev pub create_entries : List ℕ
+create_entries = codes "CREATE TABLE entries (host TEXT NOT NULL PRIMARY KEY, bytes BLOB NOT NULL) STRICT"
+
+abbrev pub insert_spool : List ℕ
+insert_spool = codes "INSERT INTO spool (id, version, next) VALUES (1, 1, 1)"

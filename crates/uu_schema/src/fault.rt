@@ -1,0 +1,143 @@
+// Why the store gives no answer.
+ghost use Rattle.std.specs.Prelude.{◌≡◌, false, IsTrue};
+ghost use Rattle.sqlite.specs.Held.{state};
+ghost use Rattle.sqlite.specs.State.{HasCleanDisk, Survives, IsUnchanged};
+ghost use Rattle.uu_schema.specs.Faults.{IsFresh, fault_code, kind_of_error};
+ghost use Rattle.uu_schema.specs.declared.fault.StoreFault.TheVariants.{Memory};
+ghost use Rattle.uu_schema.specs.declared.fault.Halt.TheVariants.{Before, Commit};
+ghost use Rattle.sqlite.specs.declared.error.Error.{Error};
+
+use sqlite::{Alter, Connection, Error as SqlError, ErrorCode};
+use std::alloc::{AllocError, AllocFailed};
+use thiserror::Error;
+use uu_sql::{is_alive, is_memory};
+
+/// Which part of the store failed.
+#[derive(Clone, Copy, Debug, PartialEq, Eq)]
+pub enum StoreKind {
+    /// The device failed or is full, or it returned other bytes than were written.
+    Disk,
+    /// A row or the file is too big.
+    Size,
+    /// Any other refusal of the database.
+    Database,
+}
+
+/// Why the store gives no answer.
+#[derive(Clone, Copy, Debug, PartialEq, Eq, Error)]
+pub enum StoreFault {
+    /// Memory was refused. Nothing changed, and the spool can be used.
+    #[error("out of memory")]
+    Memory,
+    /// The database failed. The command in hand may stand in the file or not; from then on every call but `release` answers `Failed`.
+    #[error("the store failed")]
+    Store(StoreKind),
+    /// An earlier call answered `Store`. The file is to be opened again.
+    #[error("the store failed before")]
+    Failed,
+    /// The database is not that of a spool.
+    #[error("not a spool")]
+    Foreign,
+    /// The database is that of a later version of this program.
+    #[error("a spool of a later version")]
+    Newer,
+}
+
+impl StoreFault {
+    /// The fault's number, from 1 for `Memory` to 5 for `Newer`.
+    pub fn code(&self) -> u8
+        ensures { result ≡ fault_code self.now }
+    {
+        match self {
+            StoreFault::Memory => 1,
+            StoreFault::Store(_) => 2,
+            StoreFault::Failed => 3,
+            StoreFault::Foreign => 4,
+            StoreFault::Newer => 5,
+        }
+    }
+}
+
+impl From<AllocError> for StoreFault {
+    ghost from_gives = { λ _ fault. fault ≡ Memory };
+
+    fn from(_refused: AllocError) -> StoreFault {
+        StoreFault::Memory
+    }
+}
+
+impl<T: Drop> From<AllocFailed<T>> for StoreFault {
+    ghost from_gives = { λ _ fault. fault ≡ Memory };
+
+    fn from(_refused: AllocFailed<T>) -> StoreFault {
+        StoreFault::Memory
+    }
+}
+
+/// Why a transaction stopped.
+#[derive(Debug, Drop)]
+pub enum Halt {
+    /// A statement or a growth before the commit was refused, and nothing is committed.
+    Before(SqlError),
+    /// The commit itself was refused, so that nobody knows what is kept.
+    Commit(SqlError),
+}
+
+impl From<SqlError> for Halt {
+    ghost from_gives = { λ error halt. halt ≡ Before error };
+
+    fn from(error: SqlError) -> Halt {
+        Halt::Before(error)
+    }
+}
+
+impl From<AllocError> for Halt {
+    fn from(_refused: AllocError) -> Halt {
+        Halt::Before(SqlError::SqliteFailure(ErrorCode::OutOfMemory))
+    }
+}
+
+/// Which part of the store an error of the database tells of.
+pub fn kind_of(error: &SqlError) -> StoreKind
+    ensures { result ≡ kind_of_error error.now }
+{
+    match error {
+        SqlError::SqliteFailure(ErrorCode::SystemIoFailure)
+        | SqlError::SqliteFailure(ErrorCode::DatabaseCorrupt)
+        | SqlError::SqliteFailure(ErrorCode::DiskFull) => StoreKind::Disk,
+        SqlError::SqliteFailure(ErrorCode::TooBig) => StoreKind::Size,
+        _ => StoreKind::Database,
+    }
+}
+
+/// What an error of the database means for the caller. It is want of memory only where the connection still answers.
+pub fn store_fault<S: Alter>(conn: &mut Connection<S>, error: &SqlError) -> StoreFault
+    requires { conn.old.in_transaction ≡ false }
+    ensures idle { conn.new.in_transaction ≡ false }
+    ensures fresh { IsFresh result }
+    ensures kind { (kind : _) → result ≡ StoreFault.Store kind → kind ≡ kind_of_error error.now }
+    ensures memory { HasCleanDisk (state S.Store conn.new) → result ≡ Memory → IsTrue (state S.Store conn.old).is_open × IsUnchanged (state S.Store conn.old) (state S.Store conn.new) }
+    ensures survives { Survives (state S.Store conn.old) (state S.Store conn.new) (λ _. ⊥) }
+{
+    if is_memory(error) && is_alive(conn) {
+        StoreFault::Memory
+    } else {
+        StoreFault::Store(kind_of(error))
+    }
+}
+
+/// What a command that stopped means for the caller. A commit that was refused is never want of memory, since what it
+/// left is not known; the database is not asked any more then.
+pub fn halt_fault<S: Alter>(conn: &mut Connection<S>, halt: &Halt) -> StoreFault
+    requires { conn.old.in_transaction ≡ false }
+    ensures idle { conn.new.in_transaction ≡ false }
+    ensures fresh { IsFresh result }
+    ensures commit { (error : Error) → halt.now ≡ Commit error → result ≡ StoreFault.Store (kind_of_error error) }
+    ensures memory { HasCleanDisk (state S.Store conn.new) → result ≡ Memory → IsTrue (state S.Store conn.old).is_open × IsUnchanged (state S.Store conn.old) (state S.Store conn.new) }
+    ensures survives { Survives (state S.Store conn.old) (state S.Store conn.new) (λ _. ⊥) }
+{
+    match halt {
+        Halt::Before(error) => store_fault(conn, error),
+        Halt::Commit(error) => StoreFault::Store(kind_of(error)),
+    }
+}

@@ -1,0 +1,9 @@
+//! The seven tables of the spool in a database: their schema, the rows that hold the typed ones, an empty spool, and
+//! why the store gives no answer.
+#![tactic(auto)]
+
+mod fault;
+mod tables;
+
+pub use fault::{Halt, StoreFault, StoreKind, halt_fault, kind_of, store_fault};
+pub use tables::create;

@@ -1,0 +1,158 @@
+// The tables of an empty spool.
+ghost use Rattle.std.specs.Prelude.{◌≡◌, false};
+ghost use Rattle.sqlite.specs.Held.{state};
+ghost use Rattle.uu_sql.specs.Steps.{Outcome, Whole};
+ghost use Rattle.uu_schema.specs.Schema.{no_schema, with_spool, with_systems, with_lines, with_ranges, with_jobs, with_pieces, site, spool, systems, lines, ranges, jobs, pieces, entries};
+ghost use Rattle.uu_schema.specs.Made.{IsMade, IsBegun, FromEntries, FromPieces, FromJobs, FromRanges, FromLines, FromSystems, AllMade};
+ghost use Rattle.uu_schema.specs.Held.{MakesEmpty};
+
+use crate::fault::Halt;
+use sqlite::{Alter, Connection, Error, Transaction};
+
+fn create_spool<S: Alter>(tx: &mut Transaction<'_, S>) -> Result<usize, Error>
+    ensures same_reference { tx.new.conn.ghost_name ≡ tx.old.conn.ghost_name }
+    ensures outcome { Outcome no_schema with_spool (IsMade no_schema spool.tree) (state S.Store tx.old.conn.now) (state S.Store tx.new.conn.now) result }
+{
+    tx.execute(
+        "CREATE TABLE spool (id INTEGER PRIMARY KEY, version INTEGER NOT NULL, next INTEGER NOT NULL) STRICT",
+        &[],
+    )
+}
+
+fn create_systems<S: Alter>(tx: &mut Transaction<'_, S>) -> Result<usize, Error>
+    ensures same_reference { tx.new.conn.ghost_name ≡ tx.old.conn.ghost_name }
+    ensures outcome { Outcome with_spool with_systems (IsMade with_spool systems.tree) (state S.Store tx.old.conn.now) (state S.Store tx.new.conn.now) result }
+{
+    tx.execute(
+        "CREATE TABLE systems (name TEXT NOT NULL PRIMARY KEY, max_retries INTEGER NOT NULL, last INTEGER NOT NULL, failures INTEGER NOT NULL, wait INTEGER NOT NULL, outcome INTEGER NOT NULL, why TEXT) STRICT",
+        &[],
+    )
+}
+
+fn create_lines<S: Alter>(tx: &mut Transaction<'_, S>) -> Result<usize, Error>
+    ensures same_reference { tx.new.conn.ghost_name ≡ tx.old.conn.ghost_name }
+    ensures outcome { Outcome with_systems with_lines (IsMade with_systems lines.tree) (state S.Store tx.old.conn.now) (state S.Store tx.new.conn.now) result }
+{
+    tx.execute(
+        "CREATE TABLE lines (system TEXT NOT NULL REFERENCES systems (name) ON DELETE CASCADE, place INTEGER NOT NULL, rank INTEGER NOT NULL, retry INTEGER, PRIMARY KEY (system, place)) STRICT",
+        &[],
+    )
+}
+
+fn create_ranges<S: Alter>(tx: &mut Transaction<'_, S>) -> Result<usize, Error>
+    ensures same_reference { tx.new.conn.ghost_name ≡ tx.old.conn.ghost_name }
+    ensures outcome { Outcome with_lines with_ranges (IsMade with_lines ranges.tree) (state S.Store tx.old.conn.now) (state S.Store tx.new.conn.now) result }
+{
+    tx.execute(
+        "CREATE TABLE ranges (system TEXT NOT NULL, place INTEGER NOT NULL, low INTEGER NOT NULL, high INTEGER NOT NULL, PRIMARY KEY (system, place, low), FOREIGN KEY (system, place) REFERENCES lines (system, place) ON DELETE CASCADE) STRICT",
+        &[],
+    )
+}
+
+fn create_jobs<S: Alter>(tx: &mut Transaction<'_, S>) -> Result<usize, Error>
+    ensures same_reference { tx.new.conn.ghost_name ≡ tx.old.conn.ghost_name }
+    ensures outcome { Outcome with_ranges with_jobs (IsMade with_ranges jobs.tree) (state S.Store tx.old.conn.now) (state S.Store tx.new.conn.now) result }
+{
+    tx.execute(
+        "CREATE TABLE jobs (number INTEGER PRIMARY KEY, system TEXT NOT NULL REFERENCES systems (name), rank INTEGER NOT NULL, user TEXT NOT NULL, kind INTEGER NOT NULL, queued INTEGER NOT NULL, first_word TEXT NOT NULL, second_word TEXT NOT NULL, size INTEGER NOT NULL) STRICT",
+        &[],
+    )
+}
+
+fn create_pieces<S: Alter>(tx: &mut Transaction<'_, S>) -> Result<usize, Error>
+    ensures same_reference { tx.new.conn.ghost_name ≡ tx.old.conn.ghost_name }
+    ensures outcome { Outcome with_jobs with_pieces (IsMade with_jobs pieces.tree) (state S.Store tx.old.conn.now) (state S.Store tx.new.conn.now) result }
+{
+    tx.execute(
+        "CREATE TABLE pieces (job INTEGER NOT NULL REFERENCES jobs (number) ON DELETE CASCADE, place INTEGER NOT NULL, bytes BLOB NOT NULL, PRIMARY KEY (job, place)) STRICT",
+        &[],
+    )
+}
+
+fn create_entries<S: Alter>(tx: &mut Transaction<'_, S>) -> Result<usize, Error>
+    ensures same_reference { tx.new.conn.ghost_name ≡ tx.old.conn.ghost_name }
+    ensures outcome { Outcome with_pieces site (IsMade with_pieces entries.tree) (state S.Store tx.old.conn.now) (state S.Store tx.new.conn.now) result }
+{
+    tx.execute(
+        "CREATE TABLE entries (host TEXT NOT NULL PRIMARY KEY, bytes BLOB NOT NULL) STRICT",
+        &[],
+    )
+}
+
+fn insert_spool<S: Alter>(tx: &mut Transaction<'_, S>) -> Result<usize, Error>
+    ensures same_reference { tx.new.conn.ghost_name ≡ tx.old.conn.ghost_name }
+    ensures outcome { Outcome site site IsBegun (state S.Store tx.old.conn.now) (state S.Store tx.new.conn.now) result }
+{
+    tx.execute(
+        "INSERT INTO spool (id, version, next) VALUES (1, 1, 1)",
+        &[],
+    )
+}
+
+// The last table, and the row of `spool`.
+fn create_from_entries<S: Alter>(tx: &mut Transaction<'_, S>) -> Result<usize, Error>
+    ensures same_reference { tx.new.conn.ghost_name ≡ tx.old.conn.ghost_name }
+    ensures outcome { Outcome with_pieces site FromEntries (state S.Store tx.old.conn.now) (state S.Store tx.new.conn.now) result }
+{
+    create_entries(tx)?;
+    insert_spool(tx)
+}
+
+fn create_from_pieces<S: Alter>(tx: &mut Transaction<'_, S>) -> Result<usize, Error>
+    ensures same_reference { tx.new.conn.ghost_name ≡ tx.old.conn.ghost_name }
+    ensures outcome { Outcome with_jobs site FromPieces (state S.Store tx.old.conn.now) (state S.Store tx.new.conn.now) result }
+{
+    create_pieces(tx)?;
+    create_from_entries(tx)
+}
+
+fn create_from_jobs<S: Alter>(tx: &mut Transaction<'_, S>) -> Result<usize, Error>
+    ensures same_reference { tx.new.conn.ghost_name ≡ tx.old.conn.ghost_name }
+    ensures outcome { Outcome with_ranges site FromJobs (state S.Store tx.old.conn.now) (state S.Store tx.new.conn.now) result }
+{
+    create_jobs(tx)?;
+    create_from_pieces(tx)
+}
+
+fn create_from_ranges<S: Alter>(tx: &mut Transaction<'_, S>) -> Result<usize, Error>
+    ensures same_reference { tx.new.conn.ghost_name ≡ tx.old.conn.ghost_name }
+    ensures outcome { Outcome with_lines site FromRanges (state S.Store tx.old.conn.now) (state S.Store tx.new.conn.now) result }
+{
+    create_ranges(tx)?;
+    create_from_jobs(tx)
+}
+
+fn create_from_lines<S: Alter>(tx: &mut Transaction<'_, S>) -> Result<usize, Error>
+    ensures same_reference { tx.new.conn.ghost_name ≡ tx.old.conn.ghost_name }
+    ensures outcome { Outcome with_systems site FromLines (state S.Store tx.old.conn.now) (state S.Store tx.new.conn.now) result }
+{
+    create_lines(tx)?;
+    create_from_ranges(tx)
+}
+
+fn create_from_systems<S: Alter>(tx: &mut Transaction<'_, S>) -> Result<usize, Error>
+    ensures same_reference { tx.new.conn.ghost_name ≡ tx.old.conn.ghost_name }
+    ensures outcome { Outcome with_spool site FromSystems (state S.Store tx.old.conn.now) (state S.Store tx.new.conn.now) result }
+{
+    create_systems(tx)?;
+    create_from_lines(tx)
+}
+
+fn create_tables<S: Alter>(tx: &mut Transaction<'_, S>) -> Result<usize, Error>
+    ensures same_reference { tx.new.conn.ghost_name ≡ tx.old.conn.ghost_name }
+    ensures outcome { Outcome no_schema site AllMade (state S.Store tx.old.conn.now) (state S.Store tx.new.conn.now) result }
+{
+    create_spool(tx)?;
+    create_from_systems(tx)
+}
+
+/// Makes the tables of an empty spool in a database without tables, all of them or none, in one transaction.
+pub fn create<S: Alter>(conn: &mut Connection<S>) -> Result<(), Halt>
+    requires { conn.old.in_transaction ≡ false }
+    ensures idle { conn.new.in_transaction ≡ false }
+    ensures whole { Whole no_schema site MakesEmpty (state S.Store conn.old) (state S.Store conn.new) result }
+{
+    let mut tx = conn.transaction();
+    create_tables(&mut tx)?;
+    tx.commit().map_err(Halt::Commit)
+}

@@ -1,0 +1,132 @@
+-- What is held after some tables changed and the others did not.
+use Rattle.std.proofs.Common.{◌≡◌, ℕ, List, [], ◌∷◌, refl, sym, subst, ◌∙◌}
+use Rattle.sqlite.specs.Tree.{Trees}
+use Rattle.uu_core.specs.declared.job.JobHead.{JobHead}
+use Rattle.uu_tables.specs.declared.rows.SystemColumns.{SystemColumns}
+use Rattle.uu_tables.specs.declared.rows.LineColumns.{LineColumns}
+use Rattle.uu_tables.specs.declared.rows.RangeColumns.{RangeColumns}
+use Rattle.uu_tables.specs.declared.rows.EntryColumns.{EntryColumns}
+use Rattle.uu_tables.specs.Tables.{Tables, Piece}
+use Rattle.uu_schema.specs.Schema.{spool, systems, lines, ranges, jobs, pieces, entries}
+use Rattle.uu_schema.specs.Made.{Keeps, spool_row}
+use Rattle.uu_schema.specs.Held.{Holds, AreSystems, AreLines, AreRanges, AreJobs, ArePieces, AreEntries}
+
+-- only `systems` changed
+pub holds_systems : (t : Tables) (old new : Trees) (new_systems : List SystemColumns) → Keeps (systems.tree ∷ []) old new → Holds old t → AreSystems new_systems (new systems.tree) → Holds new (record t { systems = new_systems })
+holds_systems t old new new_systems kept holds are_systems = record {
+  spool = kept.0 refl ∙ holds.spool;
+  systems = are_systems;
+  lines = subst (AreLines t.lines) (sym (kept.1.1.0 refl)) holds.lines;
+  ranges = subst (AreRanges t.ranges) (sym (kept.1.1.1.0 refl)) holds.ranges;
+  jobs = subst (AreJobs t.jobs) (sym (kept.1.1.1.1.0 refl)) holds.jobs;
+  pieces = subst (ArePieces t.pieces) (sym (kept.1.1.1.1.1.0 refl)) holds.pieces;
+  entries = subst (AreEntries t.entries) (sym (kept.1.1.1.1.1.1.0 refl)) holds.entries;
+}
+
+-- only `lines` changed
+pub holds_lines : (t : Tables) (old new : Trees) (new_lines : List LineColumns) → Keeps (lines.tree ∷ []) old new → Holds old t → AreLines new_lines (new lines.tree) → Holds new (record t { lines = new_lines })
+holds_lines t old new new_lines kept holds are_lines = record {
+  spool = kept.0 refl ∙ holds.spool;
+  systems = subst (AreSystems t.systems) (sym (kept.1.0 refl)) holds.systems;
+  lines = are_lines;
+  ranges = subst (AreRanges t.ranges) (sym (kept.1.1.1.0 refl)) holds.ranges;
+  jobs = subst (AreJobs t.jobs) (sym (kept.1.1.1.1.0 refl)) holds.jobs;
+  pieces = subst (ArePieces t.pieces) (sym (kept.1.1.1.1.1.0 refl)) holds.pieces;
+  entries = subst (AreEntries t.entries) (sym (kept.1.1.1.1.1.1.0 refl)) holds.entries;
+}
+
+-- only `ranges` changed
+pub holds_ranges : (t : Tables) (old new : Trees) (new_ranges : List RangeColumns) → Keeps (ranges.tree ∷ []) old new → Holds old t → AreRanges new_ranges (new ranges.tree) → Holds new (record t { ranges = new_ranges })
+holds_ranges t old new new_ranges kept holds are_ranges = record {
+  spool = kept.0 refl ∙ holds.spool;
+  systems = subst (AreSystems t.systems) (sym (kept.1.0 refl)) holds.systems;
+  lines = subst (AreLines t.lines) (sym (kept.1.1.0 refl)) holds.lines;
+  ranges = are_ranges;
+  jobs = subst (AreJobs t.jobs) (sym (kept.1.1.1.1.0 refl)) holds.jobs;
+  pieces = subst (ArePieces t.pieces) (sym (kept.1.1.1.1.1.0 refl)) holds.pieces;
+  entries = subst (AreEntries t.entries) (sym (kept.1.1.1.1.1.1.0 refl)) holds.entries;
+}
+
+-- only `jobs` changed
+pub holds_jobs : (t : Tables) (old new : Trees) (new_jobs : List JobHead) → Keeps (jobs.tree ∷ []) old new → Holds old t → AreJobs new_jobs (new jobs.tree) → Holds new (record t { jobs = new_jobs })
+holds_jobs t old new new_jobs kept holds are_jobs = record {
+  spool = kept.0 refl ∙ holds.spool;
+  systems = subst (AreSystems t.systems) (sym (kept.1.0 refl)) holds.systems;
+  lines = subst (AreLines t.lines) (sym (kept.1.1.0 refl)) holds.lines;
+  ranges = subst (AreRanges t.ranges) (sym (kept.1.1.1.0 refl)) holds.ranges;
+  jobs = are_jobs;
+  pieces = subst (ArePieces t.pieces) (sym (kept.1.1.1.1.1.0 refl)) holds.pieces;
+  entries = subst (AreEntries t.entries) (sym (kept.1.1.1.1.1.1.0 refl)) holds.entries;
+}
+
+-- only `pieces` changed
+pub holds_pieces : (t : Tables) (old new : Trees) (new_pieces : List Piece) → Keeps (pieces.tree ∷ []) old new → Holds old t → ArePieces new_pieces (new pieces.tree) → Holds new (record t { pieces = new_pieces })
+holds_pieces t old new new_pieces kept holds are_pieces = record {
+  spool = kept.0 refl ∙ holds.spool;
+  systems = subst (AreSystems t.systems) (sym (kept.1.0 refl)) holds.systems;
+  lines = subst (AreLines t.lines) (sym (kept.1.1.0 refl)) holds.lines;
+  ranges = subst (AreRanges t.ranges) (sym (kept.1.1.1.0 refl)) holds.ranges;
+  jobs = subst (AreJobs t.jobs) (sym (kept.1.1.1.1.0 refl)) holds.jobs;
+  pieces = are_pieces;
+  entries = subst (AreEntries t.entries) (sym (kept.1.1.1.1.1.1.0 refl)) holds.entries;
+}
+
+-- only `entries` changed
+pub holds_entries : (t : Tables) (old new : Trees) (new_entries : List EntryColumns) → Keeps (entries.tree ∷ []) old new → Holds old t → AreEntries new_entries (new entries.tree) → Holds new (record t { entries = new_entries })
+holds_entries t old new new_entries kept holds are_entries = record {
+  spool = kept.0 refl ∙ holds.spool;
+  systems = subst (AreSystems t.systems) (sym (kept.1.0 refl)) holds.systems;
+  lines = subst (AreLines t.lines) (sym (kept.1.1.0 refl)) holds.lines;
+  ranges = subst (AreRanges t.ranges) (sym (kept.1.1.1.0 refl)) holds.ranges;
+  jobs = subst (AreJobs t.jobs) (sym (kept.1.1.1.1.0 refl)) holds.jobs;
+  pieces = subst (ArePieces t.pieces) (sym (kept.1.1.1.1.1.0 refl)) holds.pieces;
+  entries = are_entries;
+}
+
+-- a system changed with its lines and their ranges
+pub holds_after_system : (t : Tables) (old new : Trees) (new_systems : List SystemColumns) (new_lines : List LineColumns) (new_ranges : List RangeColumns) → Keeps (systems.tree ∷ lines.tree ∷ ranges.tree ∷ []) old new → Holds old t → AreSystems new_systems (new systems.tree) → AreLines new_lines (new lines.tree) → AreRanges new_ranges (new ranges.tree) → Holds new (record t { systems = new_systems; lines = new_lines; ranges = new_ranges })
+holds_after_system t old new new_systems new_lines new_ranges kept holds are_systems are_lines are_ranges = record {
+  spool = kept.0 refl ∙ holds.spool;
+  systems = are_systems;
+  lines = are_lines;
+  ranges = are_ranges;
+  jobs = subst (AreJobs t.jobs) (sym (kept.1.1.1.1.0 refl)) holds.jobs;
+  pieces = subst (ArePieces t.pieces) (sym (kept.1.1.1.1.1.0 refl)) holds.pieces;
+  entries = subst (AreEntries t.entries) (sym (kept.1.1.1.1.1.1.0 refl)) holds.entries;
+}
+
+-- lines changed with their ranges
+pub holds_after_lines : (t : Tables) (old new : Trees) (new_lines : List LineColumns) (new_ranges : List RangeColumns) → Keeps (lines.tree ∷ ranges.tree ∷ []) old new → Holds old t → AreLines new_lines (new lines.tree) → AreRanges new_ranges (new ranges.tree) → Holds new (record t { lines = new_lines; ranges = new_ranges })
+holds_after_lines t old new new_lines new_ranges kept holds are_lines are_ranges = record {
+  spool = kept.0 refl ∙ holds.spool;
+  systems = subst (AreSystems t.systems) (sym (kept.1.0 refl)) holds.systems;
+  lines = are_lines;
+  ranges = are_ranges;
+  jobs = subst (AreJobs t.jobs) (sym (kept.1.1.1.1.0 refl)) holds.jobs;
+  pieces = subst (ArePieces t.pieces) (sym (kept.1.1.1.1.1.0 refl)) holds.pieces;
+  entries = subst (AreEntries t.entries) (sym (kept.1.1.1.1.1.1.0 refl)) holds.entries;
+}
+
+-- a job changed with its pieces
+pub holds_after_job : (t : Tables) (old new : Trees) (new_jobs : List JobHead) (new_pieces : List Piece) → Keeps (jobs.tree ∷ pieces.tree ∷ []) old new → Holds old t → AreJobs new_jobs (new jobs.tree) → ArePieces new_pieces (new pieces.tree) → Holds new (record t { jobs = new_jobs; pieces = new_pieces })
+holds_after_job t old new new_jobs new_pieces kept holds are_jobs are_pieces = record {
+  spool = kept.0 refl ∙ holds.spool;
+  systems = subst (AreSystems t.systems) (sym (kept.1.0 refl)) holds.systems;
+  lines = subst (AreLines t.lines) (sym (kept.1.1.0 refl)) holds.lines;
+  ranges = subst (AreRanges t.ranges) (sym (kept.1.1.1.0 refl)) holds.ranges;
+  jobs = are_jobs;
+  pieces = are_pieces;
+  entries = subst (AreEntries t.entries) (sym (kept.1.1.1.1.1.1.0 refl)) holds.entries;
+}
+
+-- only the next number changed
+pub holds_next : (t : Tables) (old new : Trees) (next : ℕ) → Keeps (spool.tree ∷ []) old new → Holds old t → new spool.tree ≡ spool_row next ∷ [] → Holds new (record t { next = next })
+holds_next t old new next kept holds is = record {
+  spool = is;
+  systems = subst (AreSystems t.systems) (sym (kept.1.0 refl)) holds.systems;
+  lines = subst (AreLines t.lines) (sym (kept.1.1.0 refl)) holds.lines;
+  ranges = subst (AreRanges t.ranges) (sym (kept.1.1.1.0 refl)) holds.ranges;
+  jobs = subst (AreJobs t.jobs) (sym (kept.1.1.1.1.0 refl)) holds.jobs;
+  pieces = subst (ArePieces t.pieces) (sym (kept.1.1.1.1.1.0 refl)) holds.pieces;
+  entries = subst (AreEntries t.entries) (sym (kept.1.1.1.1.1.1.0 refl)) holds.entries;
+}

@@ -1,0 +1,13 @@
+pub mod Texts
+pub mod Holding
+pub mod Keyed
+pub mod Unique
+pub mod Statements
+pub mod Added
+pub mod Altered
+pub mod Deeds
+pub mod Lost
+pub mod Removed
+pub mod Joined
+pub mod Loop
+pub mod Steps

@@ -1,0 +1,420 @@
+-- What each DELETE makes of the tables: its own rows go, and those that refer to them.
+use Rattle.std.proofs.Common.{◌≡◌, inl, inr, ℕ, ◌+◌, ℤ, pos, List, [], ◌∷◌, map, filter, slice_get, Bool, true, false, not, cond, Some, Ok, refl, sym, ap, subst, ◌∙◌, arith, true≢false, Ordering, Less, Equal, Greater}
+use Rattle.std.specs.Prelude.{◌||◌, IsTrue, nat_lt}
+use Rattle.std.specs.List.{AllByRecursion, list_any, list_all}
+use Rattle.std.specs.List.Sorted.{IsPermutation}
+use Rattle.std.specs.Ordering.{is_eq}
+use Rattle.std.proofs.lemmas.Bool.{cases_Bool, and_parts, or_cases}
+use Rattle.std.proofs.lemmas.Bool.Decides.{nat_tests}
+use Rattle.std.proofs.lemmas.Int.{ints}
+use Rattle.std.proofs.lemmas.Map.Text.{is_eq-slice_cmp}
+use Rattle.std.proofs.lemmas.Slice.Eq.{bytes_eq-Decides}
+use Rattle.sqlite.specs.declared.types.Value.{Value}
+use Rattle.sqlite.specs.declared.types.Value.TheVariants.{Null, Int, Real, Text, Blob}
+use Rattle.sqlite.specs.Collation.TheVariants.{Binary}
+use Rattle.sqlite.specs.Order.{Row, column, value_cmp}
+use Rattle.sqlite.specs.Ops.{binary, is_null, is_true, from_truth}
+use Rattle.sqlite.specs.Tree.{Trees, rowid, has_rowid}
+use Rattle.sqlite.specs.Table.{Table}
+use Rattle.sqlite.specs.View.{is_int}
+use Rattle.sqlite.specs.Term.{Term, holds}
+use Rattle.sqlite.specs.Edit.{taken_by}
+use Rattle.sqlite_value.specs.Keys.{plain, joined, first_key}
+use Rattle.sqlite_value.proofs.OrderLemmas.{value_cmp-Text, value_cmp-Int}
+use Rattle.sqlite_schema.specs.Names.{same_name}
+use Rattle.sqlite_schema.specs.Rules.{equal, agree, is_among, has_parent, Refers}
+use Rattle.sqlite_schema.specs.declared.schema.Keys.TheVariants.{Enforced}
+use Rattle.sqlite_schema.specs.declared.schema.Among.TheVariants.{All}
+use Rattle.sqlite_rules.specs.declared.action.Deed.TheVariants as deed
+use Rattle.sqlite_rules.specs.Action.{Work, works, pairs, loses, is_child_of, AreChildren, max_depth, Leads, Settles}
+use Rattle.sqlite_rules.specs.Calls.{ids_of}
+use Rattle.sqlite_rules.specs.Lists.{Has}
+use Rattle.sqlite_rules.proofs.ListLemmas.{all_has, some_has, has_filtered}
+use Rattle.sqlite_trees.proofs.ListLemmas.{filter_same as filter_same_on}
+use Rattle.sqlite_keyed.proofs.ListLemmas.{filter_same, all_weaker}
+use Rattle.sqlite.specs.State.{State, Executes}
+use Rattle.uu_sql.specs.Steps.{Stands}
+use Rattle.uu_sql.specs.Layout.{where_is}
+use Rattle.uu_sql.proofs.Rows.{at_text, at_key}
+use Rattle.uu_sql.proofs.Rowids.{picked_gone}
+use Rattle.uu_tables.specs.Tables.{Tables}
+use Rattle.uu_tables.specs.Changes.{without, has_name, is_line_of, is_range_of, has_number, is_piece_of, is_about}
+use Rattle.uu_schema.specs.Schema.{site, systems, lines, ranges, jobs, pieces, entries, to_system, to_line, to_job}
+use Rattle.uu_schema.specs.Made.{Keeps}
+use Rattle.uu_schema.specs.Cells.{system_cells, line_cells, range_cells, job_cells, piece_cells, entry_cells}
+use Rattle.uu_schema.specs.Held.{Holds, AreSystems, AreLines, AreRanges, AreJobs, ArePieces, AreEntries, system_key, line_key, range_key, job_key, piece_key, entry_key, system_places, line_places, range_places, job_places, piece_places, entry_places}
+use Rattle.uu_schema.proofs.Keeps.{keeps_one, keeps_more, keeps_all}
+use Rattle.uu_statements.specs.Texts.{delete_system, delete_lines, delete_job, delete_entry}
+use Rattle.uu_statements.proofs.Texts.{delete_system_is, delete_system_plain, delete_lines_is, delete_lines_plain, delete_job_is, delete_job_plain, delete_entry_is, delete_entry_plain}
+use Rattle.uu_statements.proofs.Keyed.{all_cells, fewer}
+use Rattle.uu_statements.proofs.Statements.{took, Took, takes}
+use Rattle.uu_statements.proofs.Altered.{is_text, text_test, is_number, number_test}
+use Rattle.uu_statements.proofs.Holding.{holds_entries, holds_after_system, holds_after_lines, holds_after_job}
+use Rattle.uu_statements.proofs.Deeds.{one_deed, nothing_due, removes, After}
+use Rattle.uu_statements.proofs.Lost.{AreApart, apart_of, Loses, loses_none, exactly, taken_as, of_taken, shown_of, children_lost}
+
+-- ---- what the keys set off
+
+abbrev due_lines : List Row → Work
+due_lines olds = record { depth = 0; child = lines; ref = to_system; places = 1 ∷ []; order = plain; deed = deed.Delete; moves = pairs olds [] }
+
+abbrev due_ranges : ℕ → List Row → Work
+due_ranges depth olds = record { depth = depth; child = ranges; ref = to_line; places = 1 ∷ 2 ∷ []; order = plain; deed = deed.Delete; moves = pairs olds [] }
+
+abbrev due_pieces : List Row → Work
+due_pieces olds = record { depth = 0; child = pieces; ref = to_job; places = 0 ∷ []; order = plain; deed = deed.Delete; moves = pairs olds [] }
+
+of_systems : (olds : List Row) → works site Enforced 0 1 olds [] ≡ cond (list_any (loses plain (1 ∷ [])) (pairs olds [])) (due_lines olds ∷ []) []
+unfolding same_name joined
+of_systems olds = elim (cases_Bool (list_any (loses plain (1 ∷ [])) (pairs olds []))) [ inl some ↦ rw some refl | inr none ↦ rw none refl ]
+
+of_lines : (depth : ℕ) (olds : List Row) → works site Enforced depth 3 olds [] ≡ cond (list_any (loses plain (1 ∷ 2 ∷ [])) (pairs olds [])) (due_ranges depth olds ∷ []) []
+unfolding same_name joined
+of_lines depth olds = elim (cases_Bool (list_any (loses plain (1 ∷ 2 ∷ [])) (pairs olds []))) [ inl some ↦ rw some refl | inr none ↦ rw none refl ]
+
+of_ranges : (depth : ℕ) (olds : List Row) → works site Enforced depth 5 olds [] ≡ []
+unfolding same_name joined
+of_ranges depth olds = refl
+
+of_jobs : (olds : List Row) → works site Enforced 0 7 olds [] ≡ cond (list_any (loses plain (0 ∷ [])) (pairs olds [])) (due_pieces olds ∷ []) []
+unfolding same_name joined
+of_jobs olds = elim (cases_Bool (list_any (loses plain (0 ∷ [])) (pairs olds []))) [ inl some ↦ rw some refl | inr none ↦ rw none refl ]
+
+of_pieces : (olds : List Row) → works site Enforced 1 8 olds [] ≡ []
+unfolding same_name joined
+of_pieces olds = refl
+
+of_entries : (olds : List Row) → works site Enforced 0 10 olds [] ≡ []
+unfolding same_name joined
+of_entries olds = refl
+
+pair_of : (olds : List Row) (move : Row × Row) → Has (pairs olds []) move → Has olds move.0
+pair_of [] move h = absurd h
+pair_of (x ∷ olds) move (inl first) = inl (ap (λ (m : Row × Row). m.0) first)
+pair_of (x ∷ olds) move (inr later) = inr (pair_of olds move later)
+
+-- ---- values
+
+truth : (b : Bool) → is_true (from_truth (Some b)) ≡ true → b ≡ true
+truth true e = refl
+truth false e = absurd (cc)
+
+text_is : (name : List ℕ) (v : Value) → is_eq (value_cmp v (Text name)) ≡ true → v ≡ Text name
+unfolding value_cmp
+text_is name Null h = absurd (cc)
+text_is name (Int n) h = absurd (cc)
+text_is name (Real x) h = absurd (cc)
+text_is name (Text t) h = ap Text ((bytes_eq-Decides t name).0 (sym (ap is_eq (value_cmp-Text t name) ∙ is_eq-slice_cmp t name) ∙ h))
+text_is name (Blob b) h = absurd (cc)
+
+text_from : (name : List ℕ) (v : Value) → equal Binary v (Text name) ≡ true → is_eq (value_cmp v (Text name)) ≡ true
+unfolding binary value_cmp
+text_from name Null e = absurd (cc)
+text_from name (Int n) e = truth _ e
+text_from name (Real x) e = truth _ e
+text_from name (Text t) e = truth _ e
+text_from name (Blob b) e = truth _ e
+
+null_text : (name : List ℕ) (v : Value) → is_null v ≡ true → is_eq (value_cmp v (Text name)) ≡ false
+unfolding value_cmp
+null_text name Null h = refl
+null_text name (Int n) h = absurd (cc)
+null_text name (Real x) h = absurd (cc)
+null_text name (Text t) h = absurd (cc)
+null_text name (Blob b) h = absurd (cc)
+
+equal_is : (o : Ordering) → is_eq o ≡ true → o ≡ Equal
+equal_is Less h = absurd (cc)
+equal_is Equal h = refl
+equal_is Greater h = absurd (cc)
+
+number_is : (n : ℤ) (v : Value) → is_int v ≡ true → is_eq (value_cmp v (Int n)) ≡ true → v ≡ Int n
+number_is n Null h e = absurd (cc)
+number_is n (Int m) h e = let same = sym (value_cmp-Int m n) ∙ equal_is _ e in ap Int (grind (arith, ints, nat_tests))
+number_is n (Real x) h e = absurd (cc)
+number_is n (Text t) h e = absurd (cc)
+number_is n (Blob b) h e = absurd (cc)
+
+number_from : (n : ℤ) (v : Value) → equal Binary v (Int n) ≡ true → is_eq (value_cmp v (Int n)) ≡ true
+unfolding binary
+number_from n Null e = absurd (cc)
+number_from n (Int m) e = truth _ e
+number_from n (Real x) e = truth _ e
+number_from n (Text t) e = truth _ e
+number_from n (Blob b) e = truth _ e
+
+null_number : (n : ℤ) (v : Value) → is_int v ≡ true → is_null v ≡ false
+null_number n Null h = absurd (cc)
+null_number n (Int m) h = refl
+null_number n (Real x) h = absurd (cc)
+null_number n (Text t) h = absurd (cc)
+null_number n (Blob b) h = absurd (cc)
+
+not_so : (b : Bool) → not b ≡ true → b ≡ false
+not_so true h = absurd (cc)
+not_so false h = refl
+
+unpassed : (b : Bool) → (b ≡ true → ⊥) → b ≡ false
+unpassed true h = absurd (h refl)
+unpassed false h = refl
+
+-- ---- rows that agree
+
+agree_first : (p q : ℕ) (more_a more_b : List ℕ) (a b : Row) → agree plain (p ∷ more_a) a (q ∷ more_b) b ≡ true → equal Binary (column a p) (column b q) ≡ true
+unfolding first_key
+agree_first p q more_a more_b a b h = (and_parts _ _ h).0
+
+-- a row that agrees with one of the name has it too
+named_by : (name : List ℕ) (a b : Row) → equal Binary (column a 1) (column b 1) ≡ true → is_text name 1 b ≡ true → is_text name 1 a ≡ true
+named_by name a b same h = text_from name (column a 1) (subst (λ v. equal Binary (column a 1) v ≡ true) (text_is name (column b 1) h) same)
+
+-- ---- rows that go with their parents
+
+-- some rows that pass the test go from the table at this tree, and nothing else differs
+record Falls (q : Row → Bool) (tree : ℕ) (old new : Trees) : Type 0 where
+  lost : Loses q (old tree) (new tree)
+  others : Keeps (tree ∷ []) old new
+
+none_falls : (q : Row → Bool) (tree : ℕ) (old new : Trees) → new ≡ old → Falls q tree old new
+none_falls q tree old new same = subst (Falls q tree old) (sym same) (record { lost = loses_none q (old tree); others = keeps_all (tree ∷ []) old })
+
+-- the children of a table to which nothing refers
+children_fall : (q : Row → Bool) (w : Work) (old new : Trees) → AreApart (old w.child.tree) → ((r : Row) → list_any (is_child_of (record w { deed = deed.Delete }) r) w.moves ≡ true → q r ≡ true) → nat_lt w.depth max_depth ≡ true
+    → ((olds : List Row) → works site Enforced (w.depth + 1) w.child.tree olds [] ≡ []) → (some : Bool) → Settles site Enforced old (cond some (record w { deed = deed.Delete } ∷ []) []) (Ok new) → Falls q w.child.tree old new
+children_fall q w old new apart means low none false s = none_falls q w.child.tree old new (nothing_due site Enforced s.0 old new s.1)
+children_fall q w old new apart means low none true s = let it = one_deed site Enforced old new w low s in after it.0 it.1 it.2
+  where
+    after : (ids : List ℤ) → AreChildren old (record w { deed = deed.Delete }) ids → After site Enforced old new w ids → Falls q w.child.tree old new
+    after ids children (inl unchanged) = none_falls q w.child.tree old new unchanged.1
+    after ids children (inr some) =
+        let edit = removes site Enforced w ids in
+        let same : new ≡ some.0 = nothing_due site Enforced some.2.0 some.0 new (subst (λ stack. Leads site Enforced some.2.0 some.0 stack (Ok new)) (none (taken_by old edit)) some.2.1) in
+        subst (Falls q w.child.tree old) (sym same) (record { lost = subst (Loses q (old w.child.tree)) (sym some.1.rows) (children_lost old (record w { deed = deed.Delete }) ids q apart children means); others = keeps_one edit old some.0 some.1 })
+
+-- ---- ranges go with their lines
+
+range_named : (name : List ℕ) (depth : ℕ) (olds : List Row) → ((x : Row) → Has olds x → is_text name 1 x ≡ true) → (r : Row) → list_any (is_child_of (due_ranges depth olds) r) (pairs olds []) ≡ true → is_text name 1 r ≡ true
+range_named name depth olds named r h =
+    let it = some_has (is_child_of (due_ranges depth olds) r) (pairs olds []) h in
+    named_by name r it.0.0 (agree_first 1 1 (2 ∷ []) (2 ∷ []) r it.0.0 (and_parts _ _ it.2).1) (named it.0.0 (pair_of olds it.0 it.1))
+
+ranges_fall : (name : List ℕ) (depth : ℕ) (old new : Trees) (olds : List Row) → AreApart (old 5) → ((x : Row) → Has olds x → is_text name 1 x ≡ true) → nat_lt depth max_depth ≡ true → Settles site Enforced old (works site Enforced depth 3 olds []) (Ok new)
+    → Falls (is_text name 1) 5 old new
+ranges_fall name depth old new olds apart named low settles = children_fall (is_text name 1) (due_ranges depth olds) old new apart (range_named name depth olds named) low (of_ranges (depth + 1)) (list_any (loses plain (1 ∷ 2 ∷ [])) (pairs olds []))
+    (subst (λ stack. Settles site Enforced old stack (Ok new)) (of_lines depth olds) settles)
+
+-- what is left has a line, so it lacks the name that no line has
+range_left : (name : List ℕ) (db : Trees) → ((x : Row) → Has (db 3) x → is_text name 1 x ≡ false) → (r : Row) → is_null (column r 2) ≡ false
+    → list_all (λ ref. not (is_among All ref) || has_parent site.tables db r ref) ranges.references ≡ true → is_text name 1 r ≡ false
+unfolding same_name joined
+range_left name db left r some h = elim (or_cases _ _ (and_parts _ true h).0) [
+  | inl null ↦ elim (or_cases (is_null (column r 1)) (is_null (column r 2) || false) null) [ inl here ↦ null_text name (column r 1) here | inr more ↦ absurd (let e = rw some at more in cc) ]
+  | inr held ↦
+      let it = some_has (λ parent. agree plain (1 ∷ 2 ∷ []) parent (1 ∷ 2 ∷ []) r) (db 3) held in
+      unpassed (is_text name 1 r) (λ named. true≢false (sym (named_by name it.0 r (agree_first 1 1 (2 ∷ []) (2 ∷ []) it.0 r it.2) named) ∙ left it.0 it.1))
+]
+
+-- ---- lines go with their systems
+
+line_named : (name : List ℕ) (olds : List Row) → ((x : Row) → Has olds x → is_text name 1 x ≡ true) → (r : Row) → list_any (is_child_of (due_lines olds) r) (pairs olds []) ≡ true → is_text name 1 r ≡ true
+line_named name olds named r h =
+    let it = some_has (is_child_of (due_lines olds) r) (pairs olds []) h in
+    named_by name r it.0.0 (agree_first 1 1 [] [] r it.0.0 (and_parts _ _ it.2).1) (named it.0.0 (pair_of olds it.0 it.1))
+
+line_left : (name : List ℕ) (db : Trees) → ((x : Row) → Has (db 1) x → is_text name 1 x ≡ false) → (r : Row) → list_all (λ ref. not (is_among All ref) || has_parent site.tables db r ref) lines.references ≡ true → is_text name 1 r ≡ false
+unfolding same_name joined
+line_left name db left r h = elim (or_cases _ _ (and_parts _ true h).0) [
+  | inl null ↦ elim (or_cases (is_null (column r 1)) false null) [ inl here ↦ null_text name (column r 1) here | inr never ↦ absurd (cc) ]
+  | inr held ↦
+      let it = some_has (λ parent. agree plain (1 ∷ []) parent (1 ∷ []) r) (db 1) held in
+      unpassed (is_text name 1 r) (λ named. true≢false (sym (named_by name it.0 r (agree_first 1 1 [] [] it.0 r it.2) named) ∙ left it.0 it.1))
+]
+
+record LinesFall (name : List ℕ) (old new : Trees) : Type 0 where
+  lines : Loses (is_text name 1) (old 3) (new 3)
+  ranges : Loses (is_text name 1) (old 5) (new 5)
+  others : Keeps (3 ∷ 5 ∷ []) old new
+
+no_line_falls : (name : List ℕ) (old new : Trees) → new ≡ old → LinesFall name old new
+no_line_falls name old new same = subst (LinesFall name old) (sym same) (record { lines = loses_none (is_text name 1) (old 3); ranges = loses_none (is_text name 1) (old 5); others = keeps_all (3 ∷ 5 ∷ []) old })
+
+lines_fall : (name : List ℕ) (old new : Trees) (olds : List Row) → AreApart (old 3) → AreApart (old 5) → ((x : Row) → Has olds x → is_text name 1 x ≡ true) → Settles site Enforced old (works site Enforced 0 1 olds []) (Ok new) → LinesFall name old new
+lines_fall name old new olds apart below named settles = go (list_any (loses plain (1 ∷ [])) (pairs olds [])) (subst (λ stack. Settles site Enforced old stack (Ok new)) (of_systems olds) settles)
+  where
+    after : (ids : List ℤ) → AreChildren old (due_lines olds) ids → After site Enforced old new (due_lines olds) ids → LinesFall name old new
+    after ids children (inl none) = no_line_falls name old new none.1
+    after ids children (inr some) =
+        let edit = removes site Enforced (due_lines olds) ids in
+        let mid = some.0 in
+        let lost = children_lost old (due_lines olds) ids (is_text name 1) apart children (line_named name olds named) in
+        let kept = keeps_one edit old mid some.1 in
+        let fall = ranges_fall name 1 mid new (taken_by old edit) (subst AreApart (sym (kept.1.1.1.0 refl)) below)
+        (λ x h. line_named name olds named x (of_taken (λ r. list_any (is_child_of (due_lines olds) r) (pairs olds [])) (old 3) ids apart children.sound x h)) refl some.2 in
+        record {
+          lines = subst (Loses (is_text name 1) (old 3)) (sym (fall.others.1.1.0 refl ∙ some.1.rows)) lost;
+          ranges = subst (λ rows. Loses (is_text name 1) rows (new 5)) (kept.1.1.1.0 refl) fall.lost;
+          others = keeps_more 3 (5 ∷ []) old mid new kept fall.others;
+        }
+
+    go : (some : Bool) → Settles site Enforced old (cond some (due_lines olds ∷ []) []) (Ok new) → LinesFall name old new
+    go false s = no_line_falls name old new (nothing_due site Enforced s.0 old new s.1)
+    go true s = let it = one_deed site Enforced old new (due_lines olds) refl s in after it.0 it.1 it.2
+
+-- ---- pieces go with their jobs
+
+piece_numbered : (n : ℤ) (olds : List Row) → ((x : Row) → Has olds x → column x 0 ≡ Int n) → (r : Row) → list_any (is_child_of (due_pieces olds) r) (pairs olds []) ≡ true → is_eq (value_cmp (column r 1) (Int n)) ≡ true
+piece_numbered n olds each r h =
+    let it = some_has (is_child_of (due_pieces olds) r) (pairs olds []) h in
+    number_from n (column r 1) (subst (λ v. equal Binary (column r 1) v ≡ true) (each it.0.0 (pair_of olds it.0 it.1)) (agree_first 1 0 [] [] r it.0.0 (and_parts _ _ it.2).1))
+
+piece_left : (n : ℤ) (db : Trees) → ((x : Row) → Has (db 7) x → has_rowid n x ≡ false) → (r : Row) → is_int (column r 1) ≡ true → list_all (λ ref. not (is_among All ref) || has_parent site.tables db r ref) pieces.references ≡ true
+    → is_eq (value_cmp (column r 1) (Int n)) ≡ false
+unfolding same_name joined
+piece_left n db left r int h = elim (or_cases _ _ (and_parts _ true h).0) [
+  | inl null ↦ elim (or_cases (is_null (column r 1)) false null) [ inl here ↦ absurd (true≢false (sym here ∙ null_number n (column r 1) int)) | inr never ↦ absurd (cc) ]
+  | inr held ↦
+      let it = some_has (λ parent. agree plain (0 ∷ []) parent (1 ∷ []) r) (db 7) held in
+      unpassed (is_eq (value_cmp (column r 1) (Int n)))
+      (λ tied. true≢false (sym (number_from n (column it.0 0) (subst (λ v. equal Binary (column it.0 0) v ≡ true) (number_is n (column r 1) int tied) (agree_first 0 1 [] [] it.0 r it.2))) ∙ left it.0 it.1))
+]
+
+pieces_fall : (n : ℤ) (old new : Trees) (olds : List Row) → AreApart (old 8) → ((x : Row) → Has olds x → column x 0 ≡ Int n) → Settles site Enforced old (works site Enforced 0 7 olds []) (Ok new) → Falls (λ r. is_eq (value_cmp (column r 1) (Int n))) 8 old new
+pieces_fall n old new olds apart each settles = children_fall (λ r. is_eq (value_cmp (column r 1) (Int n))) (due_pieces olds) old new apart (piece_numbered n olds each) refl of_pieces (list_any (loses plain (0 ∷ [])) (pairs olds []))
+    (subst (λ stack. Settles site Enforced old stack (Ok new)) (of_jobs olds) settles)
+
+-- ---- the table's own rows
+
+-- the rows that pass the test are gone, and what refers to them is to be seen to
+record Gone (table : Table) (q : Row → Bool) (old new : Trees) : Type 0 where
+  mid : Trees
+  olds : List Row
+  rows : mid table.tree ≡ filter (λ r. not (q r)) (old table.tree)
+  kept : Keeps (table.tree ∷ []) old mid
+  each : (x : Row) → Has olds x → Has (old table.tree) x × (q x ≡ true)
+  settles : Settles site Enforced mid (works site Enforced 0 table.tree olds []) (Ok new)
+
+gone : (old new : State) (stands : Stands site old.now) (sql : List ℕ) (params : Row) (count at : ℕ) (bare : Table) (found : slice_get site.tables at ≡ Some (record bare { is_counted = false })) (tests : List Term) (q : Row → Bool)
+    → Took old new stands sql params count at bare found tests → AreApart (old.now.trees bare.tree) → filter (λ r. list_all (holds (params ∷ r ∷ [])) tests) (old.now.trees bare.tree) ≡ filter q (old.now.trees bare.tree)
+    → Gone (record bare { is_counted = false }) q old.now.trees new.now.trees
+gone old new stands sql params count at bare found tests q it apart picks = elim it.wrote [
+  | inl refused ↦ absurd (let e = refused.2 in cc)
+  | inr (inl big) ↦ absurd (let e = big.3 in cc)
+  | inr (inr went) ↦
+      let db = old.now.trees in
+      let edit = takes old new stands sql params count at bare found (ids_of it.shown) in
+      let shown = subst (λ l. IsPermutation l it.shown) (ap (map (λ r. column r 0 ∷ [])) picks) it.order in
+      record {
+        mid = went.0;
+        olds = taken_by db edit;
+        rows = went.1.rows ∙ picked_gone q (db bare.tree) it.shown apart.once apart.numbered shown;
+        kept = keeps_one edit db went.0 went.1;
+        each = taken_as q (db bare.tree) (ids_of it.shown) apart (shown_of q (db bare.tree) it.shown apart shown);
+        settles = went.2;
+      }
+]
+
+none_left : (q : Row → Bool) (old new : List Row) → new ≡ filter (λ r. not (q r)) old → (x : Row) → Has new x → q x ≡ false
+none_left q old new is x h = not_so (q x) (has_filtered (λ r. not (q r)) old x (subst (λ rows. Has rows x) is h)).1
+
+-- ---- the tables with a name
+
+module _ (name : List ℕ) (t : Tables) (old new : Trees) (held : Holds old t) where
+  systems_left : new 1 ≡ filter (λ r. not (is_text name 1 r)) (old 1) → AreSystems (without (has_name name) t.systems) (new 1)
+  systems_left is = subst (AreSystems _) (sym is) (fewer system_key system_cells system_places (has_name name) (is_text name 1) (is_text name 0) (λ x. text_test name x.name) (λ r. refl) t.systems (old 1) held.systems)
+
+  lines_left : new 3 ≡ filter (λ r. not (is_text name 1 r)) (old 3) → AreLines (without (is_line_of name) t.lines) (new 3)
+  lines_left is = subst (AreLines _) (sym is) (fewer line_key line_cells line_places (is_line_of name) (is_text name 1) (is_text name 0) (λ x. text_test name x.system) (λ r. refl) t.lines (old 3) held.lines)
+
+  ranges_left : new 5 ≡ filter (λ r. not (is_text name 1 r)) (old 5) → AreRanges (without (is_range_of name) t.ranges) (new 5)
+  ranges_left is = subst (AreRanges _) (sym is) (fewer range_key range_cells range_places (is_range_of name) (is_text name 1) (is_text name 0) (λ x. text_test name x.system) (λ r. refl) t.ranges (old 5) held.ranges)
+
+  entries_left : new 10 ≡ filter (λ r. not (is_text name 1 r)) (old 10) → AreEntries (without (is_about name) t.entries) (new 10)
+  entries_left is = subst (AreEntries _) (sym is) (fewer entry_key entry_cells entry_places (is_about name) (is_text name 1) (is_text name 0) (λ x. text_test name x.host) (λ r. refl) t.entries (old 10) held.entries)
+
+  -- each range has a place
+  range_placed : AllByRecursion (λ r. is_null (column r 2) ≡ false) (old 5)
+  range_placed = all_cells range_key range_cells range_places (λ cs. is_null (column cs 1) ≡ false) (λ x. refl) t.ranges (old 5) held.ranges
+
+  -- ranges of which no line is left are all that go
+  all_ranges : Refers All site new → Loses (is_text name 1) (old 5) (new 5) → ((x : Row) → Has (new 3) x → is_text name 1 x ≡ false) → new 5 ≡ filter (λ r. not (is_text name 1 r)) (old 5)
+  all_ranges refers lost none = exactly (is_text name 1) (old 5) (new 5) lost
+      (λ x h. range_left name new none x (all_has (λ r. is_null (column r 2) ≡ false) (old 5) x range_placed (has_filtered (λ r. not (lost.picks r)) (old 5) x (subst (λ rows. Has rows x) lost.left h)).0) (all_has _ (new 5) x refers.1.1.1.0 h))
+
+-- ---- the statements
+
+pub entry_gone : (old new : State) (host : List ℕ) (count : ℕ) → Stands site old.now → Executes delete_entry (Text host ∷ []) old new (Ok count)
+    → Stands site new.now × ((t : Tables) → Holds old.now.trees t → Holds new.now.trees (record t { entries = without (is_about host) t.entries }))
+entry_gone old new host count stands h =
+    let db = old.now.trees in
+    let next = new.now.trees in
+    let it = took old new stands delete_entry (Text host ∷ []) count 6 entries refl (where_is 1 0 ∷ []) delete_entry_is delete_entry_plain h refl in (
+      it.now_stands,
+      λ t held.
+          let out = gone old new stands delete_entry (Text host ∷ []) count 6 entries refl (where_is 1 0 ∷ []) (is_text host 1) it (apart_of entry_key entry_cells entry_places t.entries (db 10) held.entries) (filter_same _ (is_text host 1) (at_text 1 host []) (db 10)) in
+          let same : next ≡ out.mid = nothing_due site Enforced out.settles.0 out.mid next (subst (λ stack. Leads site Enforced out.settles.0 out.mid stack (Ok next)) (of_entries out.olds) out.settles.1) in
+          subst (λ trees. Holds trees (record t { entries = without (is_about host) t.entries })) (sym same) (holds_entries t db out.mid _ out.kept held (entries_left host t db out.mid held out.rows)),
+    )
+
+pub lines_gone : (old new : State) (name : List ℕ) (count : ℕ) → Stands site old.now → Executes delete_lines (Text name ∷ []) old new (Ok count)
+    → Stands site new.now × ((t : Tables) → Holds old.now.trees t → Holds new.now.trees (record t { lines = without (is_line_of name) t.lines; ranges = without (is_range_of name) t.ranges }))
+lines_gone old new name count stands h =
+    let db = old.now.trees in
+    let next = new.now.trees in
+    let it = took old new stands delete_lines (Text name ∷ []) count 2 lines refl (where_is 1 0 ∷ []) delete_lines_is delete_lines_plain h refl in (
+      it.now_stands,
+      λ t held.
+          let out = gone old new stands delete_lines (Text name ∷ []) count 2 lines refl (where_is 1 0 ∷ []) (is_text name 1) it (apart_of line_key line_cells line_places t.lines (db 3) held.lines) (filter_same _ (is_text name 1) (at_text 1 name []) (db 3)) in
+          let below : out.mid 5 ≡ db 5 = out.kept.1.1.1.0 refl in
+          let fall = ranges_fall name 0 out.mid next out.olds (subst AreApart (sym below) (apart_of range_key range_cells range_places t.ranges (db 5) held.ranges)) (λ x there. (out.each x there).1) refl out.settles in
+          let own : next 3 ≡ filter (λ r. not (is_text name 1 r)) (db 3) = fall.others.1.1.0 refl ∙ out.rows in
+          let children = all_ranges name t db next held it.refers (subst (λ rows. Loses (is_text name 1) rows (next 5)) below fall.lost) (none_left (is_text name 1) (db 3) (next 3) own) in
+          holds_after_lines t db next _ _ (keeps_more 3 (5 ∷ []) db out.mid next out.kept fall.others) held (lines_left name t db next held own) (ranges_left name t db next held children),
+    )
+
+pub system_gone : (old new : State) (name : List ℕ) (count : ℕ) → Stands site old.now → Executes delete_system (Text name ∷ []) old new (Ok count)
+    → Stands site new.now × ((t : Tables) → Holds old.now.trees t
+    → Holds new.now.trees (record t { systems = without (has_name name) t.systems; lines = without (is_line_of name) t.lines; ranges = without (is_range_of name) t.ranges }))
+system_gone old new name count stands h =
+    let db = old.now.trees in
+    let next = new.now.trees in
+    let it = took old new stands delete_system (Text name ∷ []) count 1 systems refl (where_is 1 0 ∷ []) delete_system_is delete_system_plain h refl in (
+      it.now_stands,
+      λ t held.
+          let out = gone old new stands delete_system (Text name ∷ []) count 1 systems refl (where_is 1 0 ∷ []) (is_text name 1) it (apart_of system_key system_cells system_places t.systems (db 1) held.systems) (filter_same _ (is_text name 1) (at_text 1 name []) (db 1)) in
+          let lines_same : out.mid 3 ≡ db 3 = out.kept.1.1.0 refl in
+          let ranges_same : out.mid 5 ≡ db 5 = out.kept.1.1.1.0 refl in
+          let fall = lines_fall name out.mid next out.olds (subst AreApart (sym lines_same) (apart_of line_key line_cells line_places t.lines (db 3) held.lines)) (subst AreApart (sym ranges_same) (apart_of range_key range_cells range_places t.ranges (db 5) held.ranges))
+          (λ x there. (out.each x there).1) out.settles in
+          let own : next 1 ≡ filter (λ r. not (is_text name 1 r)) (db 1) = fall.others.1.0 refl ∙ out.rows in
+          let lost : Loses (is_text name 1) (db 3) (next 3) = subst (λ rows. Loses (is_text name 1) rows (next 3)) lines_same fall.lines in
+          let no_system = none_left (is_text name 1) (db 1) (next 1) own in
+          let children : next 3 ≡ filter (λ r. not (is_text name 1 r)) (db 3) = exactly (is_text name 1) (db 3) (next 3) lost (λ x there. line_left name next no_system x (all_has _ (next 3) x it.refers.1.1.0 there)) in
+          let grandchildren = all_ranges name t db next held it.refers (subst (λ rows. Loses (is_text name 1) rows (next 5)) ranges_same fall.ranges) (none_left (is_text name 1) (db 3) (next 3) children) in
+          holds_after_system t db next _ _ _ (keeps_more 1 (3 ∷ 5 ∷ []) db out.mid next out.kept fall.others) held (systems_left name t db next held own) (lines_left name t db next held children) (ranges_left name t db next held grandchildren),
+    )
+
+pub job_gone : (old new : State) (number count : ℕ) → Stands site old.now → Executes delete_job (Int (pos number) ∷ []) old new (Ok count)
+    → Stands site new.now × ((t : Tables) → Holds old.now.trees t → Holds new.now.trees (record t { jobs = without (has_number number) t.jobs; pieces = without (is_piece_of number) t.pieces }))
+job_gone old new number count stands h =
+    let db = old.now.trees in
+    let next = new.now.trees in
+    let n = pos number in
+    let it = took old new stands delete_job (Int n ∷ []) count 4 jobs refl (where_is 0 0 ∷ []) delete_job_is delete_job_plain h refl in (
+      it.now_stands,
+      λ t held.
+          let numbered = held.jobs.numbered in
+          let out = gone old new stands delete_job (Int n ∷ []) count 4 jobs refl (where_is 0 0 ∷ []) (has_rowid n) it (apart_of job_key job_cells job_places t.jobs (db 7) held.jobs)
+          (filter_same_on _ (has_rowid n) (db 7) (all_weaker (λ r. IsTrue (is_int (rowid r))) _ (λ r int. at_key n [] r int) (db 7) numbered)) in
+          let below : out.mid 8 ≡ db 8 = out.kept.1.1.1.1.1.0 refl in
+          let fall = pieces_fall n out.mid next out.olds (subst AreApart (sym below) (apart_of piece_key piece_cells piece_places t.pieces (db 8) held.pieces))
+          (λ x there. let e = out.each x there in number_is n (column x 0) (all_has (λ r. IsTrue (is_int (rowid r))) (db 7) x numbered e.0) e.1) out.settles in
+          let own : next 7 ≡ filter (λ r. not (has_rowid n r)) (db 7) = fall.others.1.1.1.1.0 refl ∙ out.rows in
+          let lost : Loses (is_number number 1) (db 8) (next 8) = subst (λ rows. Loses (is_number number 1) rows (next 8)) below fall.lost in
+          let ints : AllByRecursion (λ r. is_int (column r 1) ≡ true) (db 8) = all_cells piece_key piece_cells piece_places (λ cs. is_int (column cs 0) ≡ true) (λ x. refl) t.pieces (db 8) held.pieces in
+          let children : next 8 ≡ filter (λ r. not (is_number number 1 r)) (db 8) = exactly (is_number number 1) (db 8) (next 8) lost
+          (λ x there. piece_left n next (none_left (has_rowid n) (db 7) (next 7) own) x
+          (all_has (λ r. is_int (column r 1) ≡ true) (db 8) x ints (has_filtered (λ r. not (lost.picks r)) (db 8) x (subst (λ rows. Has rows x) lost.left there)).0) (all_has _ (next 8) x it.refers.1.1.1.1.1.0 there)) in
+          holds_after_job t db next _ _ (keeps_more 7 (8 ∷ []) db out.mid next out.kept fall.others) held
+          (subst (AreJobs _) (sym own) (fewer job_key job_cells job_places (has_number number) (has_rowid n) (is_number number 0) (λ x. number_test number x.number) (λ r. refl) t.jobs (db 7) held.jobs))
+          (subst (ArePieces _) (sym children) (fewer piece_key piece_cells piece_places (is_piece_of number) (is_number number 1) (is_number number 0) (λ x. number_test number x.job) (λ r. refl) t.pieces (db 8) held.pieces)),
+    )

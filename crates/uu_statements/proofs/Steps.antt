@@ -1,0 +1,129 @@
+-- How a command ends, once for all commands.
+use Rattle.std.proofs.Common.{◌≡◌, ◌⊎◌, inl, inr, [], Result, Ok, Err, sym, ap, subst, ◌∙◌, arith}
+use Rattle.std.specs.Prelude.{IsTrue, IsOk, IsErr}
+use Rattle.sqlite.specs.Tree.{Trees}
+use Rattle.sqlite.specs.State as db
+use Rattle.sqlite_catalog.specs.Listing.{IsSound}
+use Rattle.uu_sql.specs.Steps.{Rests, Asked, Told, Whole, Ends, Did}
+use Rattle.uu_sql.proofs.Steps.{told_same}
+use Rattle.uu_core.specs.declared.command.Command.{Command}
+use Rattle.uu_core.specs.declared.command.Reply.{Reply}
+use Rattle.uu_core.specs.State.{State}
+use Rattle.uu_core.specs.After.{after}
+use Rattle.uu_tables.specs.declared.plan.Plan.{Plan}
+use Rattle.uu_tables.specs.Tables.{tables_of}
+use Rattle.uu_tables.specs.Plans.{IsPlan}
+use Rattle.uu_schema.specs.Schema.{site}
+use Rattle.uu_schema.specs.Held.{Holds}
+use Rattle.uu_statements.specs.Makes.{MakesAll}
+use Rattle.uu_schema.specs.declared.fault.StoreFault.{StoreFault}
+use Rattle.uu_schema.specs.declared.fault.StoreFault.TheVariants.{Memory}
+use Rattle.uu_statements.specs.Step.{Encodes, IsStep, IsToldStep}
+
+module _ (s : State) (command : Command) (a : db.State) where
+  module _ (b : db.State) (plan : Plan) (planned : IsPlan s command plan) {T E : Type 0} (w : Result T E) (whole : Whole site site (MakesAll plan.changes.items) a b w) where
+    means : (old new : Trees) → Holds old (tables_of s) → MakesAll plan.changes.items old new → Holds new (tables_of (after s command).0)
+    means old new holds made = subst (Holds new) planned.tables (made (tables_of s) holds)
+
+    left : db.HasCleanDisk b → Rests a → Encodes a.now s → (trees : Trees) → b.may_leave trees → a.may_leave trees ⊎ (IsSound site trees × Holds trees (tables_of (after s command).0))
+    left clean rests enc trees may = elim (whole.survives.crash clean trees may) [
+      | inl was ↦ inl was
+      | inr made ↦ inr (let m = made enc.stands in (m.1, means a.now.trees trees enc.holds m.0))
+    ]
+
+    pub step_written : {F : Type 0} → IsOk w → IsStep {E = F} s command a b (Ok plan.reply)
+    step_written done = record {
+      ok = λ clean rests enc.
+          let did = did_of w (whole.ends clean enc.stands) done in
+          (planned.reply, did.rests, record { stands = did.stands; holds = means a.now.trees b.now.trees enc.holds did.step });
+      err = λ clean rests enc. tt;
+      stop = left;
+      clean = whole.survives.clean;
+    }
+      where
+        did_of : (w : Result T E) → Ends site (MakesAll plan.changes.items) a b w → IsOk w → Did site (MakesAll plan.changes.items) a b
+        did_of (Ok x) ends done = ends
+        did_of (Err e) ends done = absurd (cc)
+
+    pub step_unwritten : {F : Type 0} (r : Result Reply F) → IsErr r → IsErr w → IsStep s command a b r
+    step_unwritten (Ok x) fails undone = absurd (cc)
+    step_unwritten (Err e) fails undone = record {
+      ok = λ clean rests enc. tt;
+      err = λ clean rests enc is_open. back w (whole.ends clean enc.stands) undone rests is_open enc;
+      stop = left;
+      clean = whole.survives.clean;
+    }
+      where
+        back : (w : Result T E) → Ends site (MakesAll plan.changes.items) a b w → IsErr w → Rests a → IsTrue b.is_open → Encodes a.now s → Rests b × Encodes b.now s
+        back (Ok x) ends undone rests is_open enc = absurd (cc)
+        back (Err e) ends undone rests is_open enc =
+            let u = ends.undone is_open in
+            (record { is_open = is_open; idle = whole.idle; settled = u.0 ∙ sym u.1 }, subst (λ d. Encodes d s) (sym (u.0 ∙ sym rests.settled)) enc)
+
+-- ---- the fault that the caller is told
+
+is_memory : {T : Type 0} (fault : StoreFault) → ◌≡◌ {A = Result T StoreFault} (Err fault) (Err Memory) → fault ≡ Memory
+is_memory fault h = cc
+
+-- nothing differs, so the connection is at rest and encodes what it did
+unchanged : (s : State) (b d : db.State) → db.IsUnchanged b d → Rests b → Encodes b.now s → Rests d × Encodes d.now s
+unchanged s b d same rests enc =
+    (record { is_open = same.0.is_open; idle = same.0.mode ∙ rests.idle; settled = same.0.now_is ∙ rests.settled ∙ sym same.0.committed_is }, subst (λ now. Encodes now s) (sym same.0.now_is) enc)
+
+module _ (s : State) (command : Command) (a b : db.State) where
+  pub told_written : {E : Type 0} (reply : Reply) → IsStep {E = E} s command a b (Ok reply) → IsToldStep s command a b (Ok reply)
+  told_written reply step = record { ok = step.ok; memory = λ clean rests enc is. absurd (cc); stop = step.stop; clean = step.clean }
+
+  pub told_unwritten : {E : Type 0} (d : db.State) (e : E) (fault : StoreFault) → IsStep s command a b (Err e) → (db.HasCleanDisk d → fault ≡ Memory → IsTrue b.is_open × db.IsUnchanged b d) → db.Survives b d (λ _. ⊥)
+      → IsToldStep s command a d (Err fault)
+  told_unwritten d e fault step memory over = record {
+    ok = λ clean rests enc. tt;
+    memory = λ clean rests enc is.
+        let m = memory clean (is_memory fault is) in
+        let it = step.err (omega (arith, over.clean)) rests enc m.0 in unchanged s b d m.1 it.0 it.1;
+    stop = λ clean rests enc trees may. elim (over.crash clean trees may) [ inl was ↦ step.stop (omega (arith, over.clean)) rests enc trees was | inr none ↦ absurd none ];
+    clean = omega (arith, step.clean, over.clean);
+  }
+
+  -- a question was answered, and no other call was made
+  pub told_unplanned : {T E : Type 0} (q : Result T E) → IsOk q → Told site a b q → (fault : StoreFault) → IsToldStep s command a b (Err fault)
+  told_unplanned q ok told fault = record {
+    ok = λ clean rests enc. tt;
+    memory = λ clean rests enc is. here clean rests enc;
+    stop = λ clean rests enc trees may. elim (told.asked.survives.crash clean trees may) [ inl was ↦ inl was | inr never ↦ absurd (never (record { rests = rests; stands = enc.stands })) ];
+    clean = told.asked.survives.clean;
+  }
+    where
+      here : db.HasCleanDisk b → Rests a → Encodes a.now s → Rests b × Encodes b.now s
+      here clean rests enc = let it = told_same site a b q ok told clean (record { rests = rests; stands = enc.stands }) in (it.0.rests, subst (λ now. Encodes now s) (sym it.1) enc)
+
+  -- a question was refused
+  pub told_unanswered : (d : db.State) (fault : StoreFault) → Asked site a b → (db.HasCleanDisk d → fault ≡ Memory → IsTrue b.is_open × db.IsUnchanged b d) → db.Survives b d (λ _. ⊥) → IsToldStep s command a d (Err fault)
+  told_unanswered d fault asked memory over = record {
+    ok = λ clean rests enc. tt;
+    memory = λ clean rests enc is.
+        let m = memory clean (is_memory fault is) in
+        let it = asked.same (omega (arith, over.clean)) (record { rests = rests; stands = enc.stands }) m.0 in unchanged s b d m.1 it.0.rests (subst (λ now. Encodes now s) (sym it.1) enc);
+    stop = λ clean rests enc trees may. elim (over.crash clean trees may) [
+      | inl was ↦ elim (asked.survives.crash (omega (arith, over.clean)) trees was) [ inl first ↦ inl first | inr never ↦ absurd (never (record { rests = rests; stands = enc.stands })) ]
+      | inr none ↦ absurd none
+    ];
+    clean = omega (arith, asked.survives.clean, over.clean);
+  }
+
+  -- a question that was answered, and then the command
+  pub told_then_step : {T E : Type 0} (c : db.State) (q : Result T E) → IsOk q → Told site a b q → (r : Result Reply StoreFault) → IsToldStep s command b c r → IsToldStep s command a c r
+  told_then_step c q ok told r step = record {
+    ok = λ clean rests enc. let it = here clean rests enc in step.ok clean it.0 it.1;
+    memory = λ clean rests enc is. let it = here clean rests enc in step.memory clean it.0 it.1 is;
+    stop = λ clean rests enc trees may.
+        let it = here clean rests enc in
+        elim (step.stop clean it.0 it.1 trees may) [
+          | inl was ↦ elim (told.asked.survives.crash (omega (arith, step.clean)) trees was) [ inl first ↦ inl first | inr never ↦ absurd (never (record { rests = rests; stands = enc.stands })) ]
+          | inr made ↦ inr made
+        ];
+    clean = omega (arith, told.asked.survives.clean, step.clean);
+  }
+    where
+      here : db.HasCleanDisk c → Rests a → Encodes a.now s → Rests b × Encodes b.now s
+      here clean rests enc = let it = told_same site a b q ok told (omega (arith, step.clean)) (record { rests = rests; stands = enc.stands }) in (it.0.rests, subst (λ now. Encodes now s) (sym it.1) enc)

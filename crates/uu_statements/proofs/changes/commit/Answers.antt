@@ -1,0 +1,32 @@
+use Rattle.std.proofs.Common.{◌≡◌, false, subst, rules}
+use Rattle.sqlite.specs.Held.{state}
+use Rattle.uu_sql.specs.Steps.{Whole}
+use Rattle.uu_sql.proofs.Steps.{abandoned, committed, whole_as}
+use Rattle.uu_schema.specs.Schema.{site}
+use Rattle.uu_statements.specs.Makes.{MakesAll}
+use Rattle.uu_statements.proofs.changes.commit.Goals as goal
+
+pub returns : goal.returns
+returns g c =
+    let end = c.commit.new.self.0 in
+    let same : end ≡ c.conn-2-1.given.0 = search rules in
+    let Step = MakesAll c.args.changes.now in
+    record {
+      idle = subst (λ h. (state g.S.Store h).in_transaction ≡ false) same c.commit.ensures.ended;
+      whole = subst (λ h. Whole site site Step (state g.S.Store c.args.conn.now) (state g.S.Store h) c.map_err.result) same
+          (whole_as site site Step (state g.S.Store c.args.conn.now) (state g.S.Store end) c.commit.result c.map_err.result (search rules)
+          (committed site site g.S.Store Step c.args.conn.now (state g.S.Store c.write_all.new.tx.conn.now) (state g.S.Store end) c.commit.ensures.ended (g.met.S.Store.settled end.store) c.commit.result
+          (rw c.transaction-tx.ensures.begun at c.in_ok-write_all.ensures.outcome) c.commit.ensures.survives c.commit.ensures.ok c.commit.ensures.err));
+    }
+
+pub returns-in_err-write_all : goal.returns-in_err-write_all
+returns-in_err-write_all g c =
+    let end = c.drop-tx.new.self.0 in
+    let same : end ≡ c.conn-1.given.0 = search rules in
+    let Step = MakesAll c.args.changes.now in
+    record {
+      idle = subst (λ h. (state g.S.Store h).in_transaction ≡ false) same c.drop-tx.ensures.ended;
+      whole = subst (λ h. Whole site site Step (state g.S.Store c.args.conn.now) (state g.S.Store h) c.from_residual.result) same
+          (abandoned site site g.S.Store Step c.args.conn.now (state g.S.Store c.write_all.new.tx.conn.now) (state g.S.Store end) c.drop-tx.ensures.ended (g.met.S.Store.settled end.store) c.from_residual.result c.from_residual.ensures.0
+          (rw c.transaction-tx.ensures.begun at c.in_err-write_all.ensures.outcome) c.drop-tx.ensures.undone c.drop-tx.ensures.survives);
+    }

@@ -1,0 +1,4 @@
+pub mod Texts
+pub mod Makes
+pub mod Words
+pub mod Step

@@ -1,0 +1,54 @@
+// A command over a connection: planned without it, and carried out in one transaction.
+ghost use Rattle.std.specs.Prelude.{◌≡◌, ◌≤◌, [], IfErr, Ok, false};
+ghost use Rattle.sqlite.specs.View.{doubt};
+ghost use Rattle.sqlite.specs.Held.{state};
+ghost use Rattle.uu_core.specs.declared.command.Command.{Command};
+ghost use Rattle.uu_core.specs.State.{State};
+ghost use Rattle.uu_tables.specs.Plans.{IsPlan};
+ghost use Rattle.uu_schema.specs.Faults.{IsFresh};
+ghost use Rattle.uu_statements.specs.Step.{IsStep, IsToldStep};
+
+use crate::changes::commit;
+use sqlite::{Alter, Connection};
+use std::alloc::Global;
+use uu_core::Reply;
+use uu_schema::{Halt, StoreFault, halt_fault};
+use uu_tables::Plan;
+
+// Carries out what is planned. A plan without changes, as that of a refused command, makes no call of the database.
+fn write_plan<S: Alter>(
+    alloc: Global,
+    conn: &mut Connection<S>,
+    plan: Plan<'_>,
+) -> Result<Reply, Halt>
+    requires { conn.old.in_transaction ≡ false }
+    ensures idle { conn.new.in_transaction ≡ false }
+    ensures clean { doubt (state S.Store conn.old).is_clean ≤ doubt (state S.Store conn.new).is_clean }
+    ensures untouched { plan.entry.changes.items ≡ [] → (result ≡ Ok plan.entry.reply) × (conn.new ≡ conn.old) }
+    ensures step { (s : State) → (command : Command) → IsPlan s command plan.entry → IsStep s command (state S.Store conn.old) (state S.Store conn.new) result }
+{
+    if plan.changes.is_empty() {
+        return Ok(plan.reply);
+    }
+    commit(alloc, conn, plan.changes.as_slice())?;
+    Ok(plan.reply)
+}
+
+/// Carries out a command of which this is the plan: its changes in one transaction, or no call of the database where it has none.
+pub fn carry_out<S: Alter>(
+    alloc: Global,
+    conn: &mut Connection<S>,
+    plan: Plan<'_>,
+) -> Result<Reply, StoreFault>
+    requires { conn.old.in_transaction ≡ false }
+    ensures idle { conn.new.in_transaction ≡ false }
+    ensures fresh { IfErr result IsFresh }
+    ensures clean { doubt (state S.Store conn.old).is_clean ≤ doubt (state S.Store conn.new).is_clean }
+    ensures untouched { plan.entry.changes.items ≡ [] → (result ≡ Ok plan.entry.reply) × (conn.new ≡ conn.old) }
+    ensures step { (s : State) → (command : Command) → IsPlan s command plan.entry → IsToldStep s command (state S.Store conn.old) (state S.Store conn.new) result }
+{
+    match write_plan(alloc, conn, plan) {
+        Ok(reply) => Ok(reply),
+        Err(halt) => Err(halt_fault(conn, &halt)),
+    }
+}

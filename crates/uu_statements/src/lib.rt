@@ -1,0 +1,13 @@
+//! Changes of the spool's tables, each one statement, and the changes of a command as one transaction.
+#![tactic(auto)]
+
+mod changes;
+mod command;
+mod entries;
+mod jobs;
+mod lines;
+mod systems;
+mod words;
+
+pub use changes::commit;
+pub use command::carry_out;

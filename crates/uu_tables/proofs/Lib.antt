@@ -1,0 +1,12 @@
+pub mod DefineLemmas
+pub mod EntryLemmas
+pub mod InsertLemmas
+pub mod JobLemmas
+pub mod LineLemmas
+pub mod OrderLemmas
+pub mod PieceLemmas
+pub mod PlanLemmas
+pub mod ReportLemmas
+pub mod RowLemmas
+pub mod SystemLemmas
+pub mod WaitLemmas

@@ -1,0 +1,39 @@
+-- Systems that go, with their lines and ranges.
+use Rattle.std.proofs.Common.{◌≡◌, ℕ, ◌+◌, List, [], ◌∷◌, Bool, map, refl, ap, ◌∙◌}
+use Rattle.std.specs.List.{AllByRecursion, flat_map}
+use Rattle.uu_times.specs.declared.system.Line.{Line}
+use Rattle.uu_core.specs.declared.command.Command.TheVariants.{Remove}
+use Rattle.uu_core.specs.declared.system.SystemRow.{SystemRow}
+use Rattle.uu_core.specs.State.{State, is_system, same_text}
+use Rattle.uu_core.specs.After.{accept}
+use Rattle.uu_tables.specs.Tables.{PlacedLine, tables_of, system_columns, line_columns, range_columns, placed, placed_from, ranges_of}
+use Rattle.uu_tables.specs.Changes.{without, has_name, is_line_of, is_range_of}
+use Rattle.uu_tables.proofs.RowLemmas.{dropped, dropped_with, each_made}
+
+-- what each numbered line of a system has
+pub each_placed : (P : PlacedLine → Type 0) (name : List ℕ) → ((place : ℕ) (line : Line) → P (record { system = name; place = place; line = line })) → (place : ℕ) (lines : List Line) → AllByRecursion P (placed_from name place lines)
+each_placed P name h place [] = tt
+each_placed P name h place (line ∷ lines) = (h place line, each_placed P name h (place + 1) lines)
+
+abbrev is_of : List ℕ → PlacedLine → Bool
+is_of name p = same_text p.system name
+
+lines_go : (name : List ℕ) (row : SystemRow) → AllByRecursion (λ p. is_of name p ≡ is_system name row) (placed row)
+lines_go name row = each_placed (λ p. is_of name p ≡ is_system name row) row.def.name (λ place line. refl) 0 row.def.lines
+
+ranges_go : (name : List ℕ) (p : PlacedLine) → AllByRecursion (λ r. is_range_of name r ≡ is_of name p) (ranges_of p)
+ranges_go name p = each_made (λ r. is_range_of name r ≡ is_of name p) (range_columns p.system p.place) (λ range. refl) p.line.windows
+
+-- the lines and the ranges of a system go with it
+pub lines_without : (name : List ℕ) (rows : List SystemRow) → without (is_line_of name) (map line_columns (flat_map placed rows)) ≡ map line_columns (flat_map placed (without (is_system name) rows))
+lines_without name rows = dropped line_columns (is_of name) (is_line_of name) (λ p. refl) (flat_map placed rows) ∙ ap (map line_columns) (dropped_with placed (is_system name) (is_of name) (lines_go name) rows)
+
+pub ranges_without : (name : List ℕ) (rows : List SystemRow) → without (is_range_of name) (flat_map ranges_of (flat_map placed rows)) ≡ flat_map ranges_of (flat_map placed (without (is_system name) rows))
+ranges_without name rows = dropped_with ranges_of (is_of name) (is_range_of name) (ranges_go name) (flat_map placed rows) ∙ ap (flat_map ranges_of) (dropped_with placed (is_system name) (is_of name) (lines_go name) rows)
+
+pub removed : (s : State) (name : List ℕ) → record (tables_of s) { systems = without (has_name name) (map system_columns s.systems); lines = without (is_line_of name) (map line_columns (flat_map placed s.systems)); ranges = without (is_range_of name) (flat_map ranges_of (flat_map placed s.systems)) } ≡ tables_of (accept s (Remove name))
+removed s name = λ i. record (tables_of s) {
+  systems = dropped system_columns (is_system name) (has_name name) (λ row. refl) s.systems i;
+  lines = lines_without name s.systems i;
+  ranges = ranges_without name s.systems i;
+}

@@ -1,0 +1,104 @@
+-- What a change makes of the tables. (This project's choice.)
+use Rattle.std.specs.Prelude.{ℕ, Bool, not, ◌==◌, List, [], ◌∷◌, ◌++◌, map, filter, if◌then◌else◌}
+use Rattle.uu_times.specs.System.{System}
+use Rattle.uu_times.specs.declared.system.Line.{Line}
+use Rattle.uu_core.specs.declared.job.JobHead.{JobHead}
+use Rattle.uu_core.specs.State.{same_text}
+use Rattle.uu_core.specs.After.{is_before, never_called}
+use Rattle.uu_tables.specs.declared.rows.SystemColumns.{SystemColumns}
+use Rattle.uu_tables.specs.declared.rows.LineColumns.{LineColumns}
+use Rattle.uu_tables.specs.declared.rows.RangeColumns.{RangeColumns}
+use Rattle.uu_tables.specs.declared.rows.EntryColumns.{EntryColumns}
+use Rattle.uu_tables.specs.declared.change.JobColumns.{JobColumns}
+use Rattle.uu_tables.specs.declared.change.Change.{Change}
+use Rattle.uu_tables.specs.declared.change.Change.TheVariants.{AddSystem, SetMaxRetries, SetCall, RemoveSystem, RemoveLines, AddLine, AddRange, AddJob, SetGrade, SetQueued, RemoveJob, AddPiece, RemoveEntry, AddEntry, SetNext}
+use Rattle.uu_tables.specs.Tables.{Tables, Piece, system_columns, line_columns, range_columns}
+
+-- ---- changes of a list of rows
+
+-- one more row, behind those of its own name and of names before it
+abbrev pub insert_by : {V : Type 0} → (V → List ℕ) → V → List V → List V
+insert_by name row rows = filter (λ other. not (is_before name row other)) rows ++ row ∷ filter (λ other. is_before name row other) rows
+
+-- one more row behind all others
+abbrev pub append : {V : Type 0} → V → List V → List V
+append row rows = rows ++ row ∷ []
+
+-- the rows that pass the test change, the others stay
+abbrev pub alter : {V : Type 0} → (V → Bool) → (V → V) → List V → List V
+alter test change rows = map (λ row. if test row then change row else row) rows
+
+-- the rows that pass the test go
+abbrev pub without : {V : Type 0} → (V → Bool) → List V → List V
+without test rows = filter (λ row. not (test row)) rows
+
+-- ---- whose row it is
+
+abbrev pub has_name : List ℕ → SystemColumns → Bool
+has_name name row = same_text row.name name
+
+abbrev pub is_line_of : List ℕ → LineColumns → Bool
+is_line_of name row = same_text row.system name
+
+abbrev pub is_range_of : List ℕ → RangeColumns → Bool
+is_range_of name row = same_text row.system name
+
+abbrev pub has_number : ℕ → JobHead → Bool
+has_number number row = row.number == number
+
+abbrev pub is_piece_of : ℕ → Piece → Bool
+is_piece_of number row = row.job == number
+
+abbrev pub is_about : List ℕ → EntryColumns → Bool
+is_about host row = same_text row.host host
+
+-- ---- rows that are added
+
+-- a system that was never called
+abbrev pub new_system : System → SystemColumns
+new_system def = system_columns (record { def = def; call = never_called })
+
+abbrev pub new_line : List ℕ → ℕ → Line → LineColumns
+new_line name place line = line_columns (record { system = name; place = place; line = line })
+
+abbrev pub new_job : ℕ → JobColumns → JobHead
+new_job number columns = record {
+  number = number;
+  system = columns.system.now;
+  grade = columns.grade;
+  user = columns.user.now;
+  kind = columns.kind.now;
+  queued = columns.queued;
+  size = columns.size;
+}
+
+abbrev pub new_piece : ℕ → ℕ → List ℕ → Piece
+new_piece number place part = record { job = number; place = place; bytes = part }
+
+abbrev pub new_entry : List ℕ → List ℕ → EntryColumns
+new_entry host text = record { host = host; bytes = text }
+
+-- ---- what one change makes of the tables
+
+abbrev pub apply : Change → Tables → Tables
+apply (AddSystem def) t = record t { systems = insert_by (λ row. row.name) (new_system def.now) t.systems }
+apply (SetMaxRetries system max_retries) t = record t { systems = alter (has_name system.now) (λ row. record row { max_retries = max_retries }) t.systems }
+apply (SetCall system call) t = record t { systems = alter (has_name system.now) (λ row. record row { call = call }) t.systems }
+apply (RemoveSystem system) t =
+    record t { systems = without (has_name system.now) t.systems; lines = without (is_line_of system.now) t.lines; ranges = without (is_range_of system.now) t.ranges }
+apply (RemoveLines system) t = record t { lines = without (is_line_of system.now) t.lines; ranges = without (is_range_of system.now) t.ranges }
+apply (AddLine system place line) t = record t { lines = insert_by (λ row. row.system) (new_line system.now place line.now) t.lines }
+apply (AddRange system place low high) t = record t { ranges = insert_by (λ row. row.system) (range_columns system.now place (low, high)) t.ranges }
+apply (AddJob number columns) t = record t { jobs = append (new_job number columns) t.jobs }
+apply (SetGrade number grade) t = record t { jobs = alter (has_number number) (λ row. record row { grade = grade }) t.jobs }
+apply (SetQueued number queued) t = record t { jobs = alter (has_number number) (λ row. record row { queued = queued }) t.jobs }
+apply (RemoveJob number) t = record t { jobs = without (has_number number) t.jobs; pieces = without (is_piece_of number) t.pieces }
+apply (AddPiece job place bytes) t = record t { pieces = append (new_piece job place bytes.now) t.pieces }
+apply (RemoveEntry host) t = record t { entries = without (is_about host) t.entries }
+apply (AddEntry host bytes) t = record t { entries = insert_by (λ row. row.host) (new_entry host bytes.now) t.entries }
+apply (SetNext next) t = record t { next = next }
+
+-- some changes, one after the other
+abbrev pub applied : List Change → Tables → Tables
+applied [] t = t
+applied (change ∷ changes) t = applied changes (apply change t)

@@ -1,0 +1,125 @@
+-- The tables of a state as plain lists of rows, in the machine's own order. (The tables, their keys and the size of a piece are this
+-- project's choice.)
+use Rattle.std.specs.Prelude.{ℕ, ◌+◌, ◌*◌, ◌/◌, List, [], ◌∷◌, length, map, take, drop, Option, None, Some}
+use Rattle.std.specs.List.{flat_map, range_with_len}
+use Rattle.uu_times.specs.declared.system.Line.{Line}
+use Rattle.uu_core.specs.declared.job.JobHead.{JobHead}
+use Rattle.uu_core.specs.declared.system.CallState.{CallState}
+use Rattle.uu_core.specs.declared.system.SystemRow.{SystemRow}
+use Rattle.uu_core.specs.declared.system.Outcome.{Outcome}
+use Rattle.uu_core.specs.declared.system.Outcome.TheVariants.{Never, Failed, Done}
+use Rattle.uu_core.specs.State.{State, Job, MapEntry, head_of}
+use Rattle.uu_tables.specs.declared.rows.CallColumns.{CallColumns}
+use Rattle.uu_tables.specs.declared.rows.SystemColumns.{SystemColumns}
+use Rattle.uu_tables.specs.declared.rows.LineColumns.{LineColumns}
+use Rattle.uu_tables.specs.declared.rows.RangeColumns.{RangeColumns}
+use Rattle.uu_tables.specs.declared.rows.PieceSize.{PieceSize}
+use Rattle.uu_tables.specs.declared.rows.EntryColumns.{EntryColumns}
+
+-- a piece of a job's bytes
+pub record Piece : Type 0 where
+  pub job : ℕ
+  pub place : ℕ
+  pub bytes : List ℕ
+
+-- a time line with its system and its place there
+pub record PlacedLine : Type 0 where
+  pub system : List ℕ
+  pub place : ℕ
+  pub line : Line
+
+-- The number of the next job, and the rows of the other six tables.
+pub record Tables : Type 0 where
+  pub next : ℕ
+  pub systems : List SystemColumns
+  pub lines : List LineColumns
+  pub ranges : List RangeColumns
+  pub jobs : List JobHead
+  pub pieces : List Piece
+  pub entries : List EntryColumns
+
+-- ---- systems, lines, ranges
+
+abbrev pub outcome_number : Outcome → ℕ
+outcome_number Never = 0
+outcome_number (Failed why) = 1
+outcome_number Done = 2
+
+abbrev pub reason_of : Outcome → Option (List ℕ)
+reason_of Never = None
+reason_of (Failed why) = Some why
+reason_of Done = None
+
+abbrev pub call_columns : CallState → CallColumns
+call_columns call = record {
+  last = call.last;
+  failures = call.failures;
+  wait = call.wait;
+  outcome = outcome_number call.outcome;
+  why = reason_of call.outcome;
+}
+
+abbrev pub system_columns : SystemRow → SystemColumns
+system_columns row = record { name = row.def.name; max_retries = row.def.max_retries; call = call_columns row.call }
+
+-- lines of a system, numbered from a place on
+abbrev pub placed_from : List ℕ → ℕ → List Line → List PlacedLine
+placed_from name place [] = []
+placed_from name place (line ∷ lines) = record { system = name; place = place; line = line } ∷ placed_from name (place + 1) lines
+
+-- the lines of a system, numbered
+abbrev pub placed : SystemRow → List PlacedLine
+placed row = placed_from row.def.name 0 row.def.lines
+
+abbrev pub line_columns : PlacedLine → LineColumns
+line_columns p = record { system = p.system; place = p.place; grade = p.line.grade; retry = p.line.retry }
+
+abbrev pub range_columns : List ℕ → ℕ → ℕ × ℕ → RangeColumns
+range_columns name place range = record { system = name; place = place; low = range.0; high = range.1 }
+
+-- the ranges of a line
+abbrev pub ranges_of : PlacedLine → List RangeColumns
+ranges_of p = map (range_columns p.system p.place) p.line.windows
+
+-- ---- jobs, pieces
+
+-- the bytes of a whole piece
+abbrev pub piece_bytes : ℕ
+piece_bytes = 16384
+
+-- the piece of a job at a place
+abbrev pub piece : ℕ → List ℕ → ℕ → Piece
+piece number all place = record { job = number; place = place; bytes = take piece_bytes (drop (place * piece_bytes) all) }
+
+-- how many pieces so many bytes have
+abbrev pub piece_count : ℕ → ℕ
+piece_count size = (size + 16383) / piece_bytes
+
+-- the pieces of a job's bytes
+abbrev pub cut : ℕ → List ℕ → List Piece
+cut number all = map (piece number all) (range_with_len 0 (piece_count (length all)))
+
+abbrev pub pieces_of : Job → List Piece
+pieces_of job = cut job.number job.bytes
+
+-- a piece without its bytes
+abbrev pub size_of : Piece → PieceSize
+size_of p = record { job = p.job; place = p.place; length = length p.bytes }
+
+-- ---- entries
+
+abbrev pub entry_columns : MapEntry → EntryColumns
+entry_columns entry = record { host = entry.host; bytes = entry.bytes }
+
+-- ---- all of them
+
+abbrev pub tables_of : State → Tables
+tables_of s = record {
+  next = s.next;
+  systems = map system_columns s.systems;
+  lines = map line_columns (flat_map placed s.systems);
+  ranges = flat_map ranges_of (flat_map placed s.systems);
+  jobs = map head_of s.jobs;
+  pieces = flat_map pieces_of s.jobs;
+  entries = map entry_columns s.entries;
+}

@@ -1,0 +1,125 @@
+// One statement that writes, with its parameters.
+use crate::rows::CallColumns;
+use uu_core::Kind;
+use uu_names::{Grade, SiteName, Word};
+use uu_times::{Line, SystemDef};
+
+/// What the row of a new job holds beside its number.
+#[derive(Drop)]
+pub struct JobColumns<'a> {
+    /// The system for which it waits.
+    pub system: &'a SiteName,
+    /// Its grade, kept by its rank.
+    pub grade: Grade,
+    /// Whose it is.
+    pub user: &'a Word,
+    /// What it is for.
+    pub kind: &'a Kind,
+    /// When it was handed in, in UTC seconds.
+    pub queued: u32,
+    /// How many bytes it has.
+    pub size: u32,
+}
+
+/// A change of the tables that one statement makes. Where no row is of that name or number, it changes nothing.
+#[derive(Drop)]
+pub enum Change<'a> {
+    /// One more system, which was never called, without its lines.
+    AddSystem(&'a SystemDef),
+    /// Another number of failures after which calls of a system become rare.
+    SetMaxRetries {
+        /// The system.
+        system: &'a SiteName,
+        /// The number.
+        max_retries: u32,
+    },
+    /// Other calls of a system.
+    SetCall {
+        /// The system.
+        system: &'a SiteName,
+        /// How they went.
+        call: CallColumns,
+    },
+    /// The system goes, and its lines and their ranges with it.
+    RemoveSystem {
+        /// The system.
+        system: &'a SiteName,
+    },
+    /// The lines of a system go, and their ranges with them.
+    RemoveLines {
+        /// The system.
+        system: &'a SiteName,
+    },
+    /// One more line, without its ranges.
+    AddLine {
+        /// The system.
+        system: &'a SiteName,
+        /// The line's place among the system's.
+        place: u32,
+        /// The line.
+        line: &'a Line,
+    },
+    /// One more range of a line.
+    AddRange {
+        /// The system.
+        system: &'a SiteName,
+        /// The line's place.
+        place: u32,
+        /// The first minute of the week.
+        low: u32,
+        /// The last one.
+        high: u32,
+    },
+    /// One more job, without its bytes.
+    AddJob {
+        /// Its number.
+        number: u32,
+        /// The rest of its row.
+        columns: JobColumns<'a>,
+    },
+    /// Another grade for a job.
+    SetGrade {
+        /// The job's number.
+        number: u32,
+        /// The grade.
+        grade: Grade,
+    },
+    /// A job counts as handed in at another second.
+    SetQueued {
+        /// The job's number.
+        number: u32,
+        /// The second, in UTC.
+        queued: u32,
+    },
+    /// The job goes, and its pieces with it.
+    RemoveJob {
+        /// Its number.
+        number: u32,
+    },
+    /// One more piece of a job's bytes.
+    AddPiece {
+        /// The job's number.
+        job: u32,
+        /// The piece's place among the job's.
+        place: u32,
+        /// The bytes.
+        bytes: &'a [u8],
+    },
+    /// The map entry of a host goes.
+    RemoveEntry {
+        /// The host.
+        host: SiteName,
+    },
+    /// One more map entry.
+    AddEntry {
+        /// The host.
+        host: SiteName,
+        /// The entry's text.
+        bytes: &'a [u8],
+    },
+    /// Another number for the next job.
+    SetNext {
+        /// The number.
+        next: u32,
+    },
+}

@@ -1,0 +1,40 @@
+// What is asked of the tables before a command.
+ghost use Rattle.std.specs.Prelude.{◌≡◌, None, []};
+
+use std::alloc::Global;
+use uu_core::{JobHead, SystemRow};
+
+/// What is asked of the tables before a command, as far as the command names it. What it doesn't name isn't asked.
+#[derive(Debug, Drop)]
+pub struct Facts {
+    /// Whether the system is known: asked for `Define`, `Remove`, `Queue` and `Done`.
+    pub is_known: bool,
+    /// Whether a job waits for the system: asked for `Remove`.
+    pub is_waiting: bool,
+    /// The system, if it is known, with its definition and its calls: asked for `Failed`.
+    pub system: Option<SystemRow>,
+    /// The number of the next job: asked for `Queue`.
+    pub next: u32,
+    /// The job of the number, if it is there: asked for `Kill`, `Regrade` and `Rejuvenate`.
+    pub head: Option<JobHead>,
+    /// The jobs whose numbers are named, those that are there: asked for `Done`.
+    pub found: Vec<JobHead>,
+}
+
+impl Facts {
+    /// Nothing was asked.
+    pub fn new(alloc: Global) -> Facts
+        ensures system { result.system ≡ None }
+        ensures head { result.head ≡ None }
+        ensures found { result.found.items ≡ [] }
+    {
+        Facts {
+            is_known: false,
+            is_waiting: false,
+            system: None,
+            next: 1,
+            head: None,
+            found: Vec::new(alloc),
+        }
+    }
+}

@@ -1,0 +1,19 @@
+//! The seven tables of the spool as plain lists of typed rows, and what each command changes in them, decided without a
+//! database: a list of changes, each of which is one statement.
+#![tactic(auto)]
+
+mod change;
+mod facts;
+mod plan;
+mod rows;
+
+pub use change::{Change, JobColumns};
+pub use facts::Facts;
+pub use plan::{
+    PIECE_BYTES, Plan, make_plan, plan_define, plan_done, plan_entry, plan_failed, plan_kill,
+    plan_queue, plan_regrade, plan_rejuvenate, plan_remove,
+};
+pub use rows::{
+    CALL_FAILED, CALL_MADE, CallColumns, EntryColumns, LineColumns, NEVER_CALLED, PieceSize,
+    RangeColumns, SystemColumns,
+};

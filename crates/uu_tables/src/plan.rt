@@ -1,0 +1,72 @@
+// What a command answers, and what it changes in the tables.
+ghost use Rattle.std.specs.Prelude.{◌≡◌, [], ◌∷◌, IfOk};
+ghost use Rattle.uu_core.specs.State.{State, IsWellFormed};
+ghost use Rattle.uu_tables.specs.Plans.{AreFacts, IsPlan};
+
+mod entry;
+mod job;
+mod queue;
+mod report;
+mod system;
+
+use crate::change::Change;
+use crate::facts::Facts;
+pub use entry::plan_entry;
+pub use job::{plan_kill, plan_regrade, plan_rejuvenate};
+pub use queue::{PIECE_BYTES, plan_queue};
+pub use report::{plan_done, plan_failed};
+use std::alloc::{AllocError, Global};
+pub use system::{plan_define, plan_remove};
+use uu_core::{Command, Refusal, Reply};
+
+/// What a command answers, and what it changes.
+#[derive(Drop)]
+pub struct Plan<'a> {
+    /// The answer, once the changes are made.
+    pub reply: Reply,
+    /// The changes, one after the other; none, where the command is refused.
+    pub changes: Vec<Change<'a>>,
+}
+
+// Nothing changes.
+fn refused<'a>(alloc: Global, refusal: Refusal) -> Plan<'a>
+    ensures reply { result.reply ≡ Reply.Refused refusal }
+    ensures none { result.changes.items ≡ [] }
+{
+    Plan {
+        reply: Reply::Refused(refusal),
+        changes: Vec::new(alloc),
+    }
+}
+
+// One change, and the command is carried out.
+fn one_change<'a>(alloc: Global, change: Change<'a>) -> Result<Plan<'a>, AllocError>
+    ensures reply { IfOk result (λ plan. plan.reply ≡ Reply.Done) }
+    ensures changes { IfOk result (λ plan. plan.changes.items ≡ change.entry ∷ []) }
+{
+    Ok(Plan {
+        reply: Reply::Done,
+        changes: vec![in alloc; change]?,
+    })
+}
+
+/// What a command answers and changes, where these facts were asked for it.
+pub fn make_plan<'a>(
+    alloc: Global,
+    facts: &Facts,
+    command: &'a Command,
+) -> Result<Plan<'a>, AllocError>
+    ensures { (s : State) → IsWellFormed s → AreFacts facts.now s command.now → IfOk result (IsPlan s command.now) }
+{
+    match command {
+        Command::Define(def) => plan_define(alloc, facts, def),
+        Command::Remove(system) => plan_remove(alloc, facts, system),
+        Command::Queue(job) => plan_queue(alloc, facts, job),
+        Command::Kill { job, by } => plan_kill(alloc, facts, *job, by),
+        Command::Regrade { job, grade, by } => plan_regrade(alloc, facts, *job, *grade, by),
+        Command::Rejuvenate { job, at, by } => plan_rejuvenate(alloc, facts, *job, at, by),
+        Command::Failed { system, at, why } => plan_failed(alloc, facts, system, at, why),
+        Command::Done { system, at, jobs } => plan_done(alloc, facts, system, at, jobs.as_slice()),
+        Command::Entry(bytes) => plan_entry(alloc, bytes.as_slice()),
+    }
+}

@@ -1,0 +1,130 @@
+// Reports of calls.
+ghost use Rattle.std.specs.Prelude.{◌≡◌, ◌≤◌, List, IfOk, option_copied};
+ghost use Rattle.uu_core.specs.declared.command.Command.TheVariants.{Failed, Done};
+ghost use Rattle.uu_core.specs.State.{State, IsWellFormed, last_second};
+ghost use Rattle.uu_core.specs.declared.job.JobHead.{JobHead};
+ghost use Rattle.uu_core.specs.Refusal.{decided};
+ghost use Rattle.uu_core.specs.Verdict.{done_refusal};
+ghost use Rattle.uu_core.specs.Laws.{AreFound};
+ghost use Rattle.uu_core.specs.After.{failed_decision, done_call};
+ghost use Rattle.uu_tables.specs.Tables.{Tables, call_columns, outcome_number, reason_of};
+ghost use Rattle.uu_tables.specs.Changes.{applied};
+ghost use Rattle.uu_tables.specs.Parts.{without_jobs};
+ghost use Rattle.uu_tables.specs.Plans.{AreFacts, IsPlan};
+
+use super::{Plan, one_change, refused};
+use crate::change::Change;
+use crate::facts::Facts;
+use crate::rows::{CALL_FAILED, CALL_MADE, CallColumns, NEVER_CALLED};
+use std::alloc::{AllocError, Global};
+use uu_core::laws::named_jobs_decide;
+use uu_core::{CallState, Outcome, Refusal, Reply, SystemRow, decide_done, decide_failed};
+use uu_names::{SiteName, Word};
+use uu_times::Moment;
+
+// The number of an outcome, and the reason of one that failed.
+fn outcome_columns(outcome: Outcome) -> (u32, Option<Word>)
+    ensures { result ≡ (outcome_number outcome, reason_of outcome) }
+{
+    match outcome {
+        Outcome::Never => (NEVER_CALLED, None),
+        Outcome::Failed(why) => (CALL_FAILED, Some(why)),
+        Outcome::Done => (CALL_MADE, None),
+    }
+}
+
+// The columns of calls whose numbers are within their limits.
+fn call_columns(call: CallState) -> CallColumns
+    requires last { call.last ≤ last_second }
+    requires wait { call.wait ≤ 31536000 }
+    ensures { result ≡ call_columns call }
+{
+    let (outcome, why) = outcome_columns(call.outcome);
+    CallColumns {
+        last: call.last as u32,
+        failures: call.failures,
+        wait: call.wait as u32,
+        outcome,
+        why,
+    }
+}
+
+// The calls of a system, if it is known, after one that failed: its wait is a year at most, since its retry numbers are.
+fn failed_call(system: Option<&SystemRow>, at: &Moment, why: Word) -> Result<CallState, Refusal>
+    ensures call { result ≡ failed_decision (option_copied system.entry) at.now why }
+    ensures last { IfOk result (λ call. call.last ≤ last_second) }
+    ensures wait { IfOk result (λ call. call.wait ≤ 31536000) }
+{
+    if let Some(row) = system {
+        let _ = row.def.lines();
+    }
+    decide_failed(system, at, why)
+}
+
+/// A call that failed: the system's calls change.
+pub fn plan_failed<'a>(
+    alloc: Global,
+    facts: &Facts,
+    system: &'a SiteName,
+    at: &Moment,
+    why: &Word,
+) -> Result<Plan<'a>, AllocError>
+    ensures { (s : State) → IsWellFormed s → AreFacts facts.now s (Failed system.now at.now why.now) → IfOk result (IsPlan s (Failed system.now at.now why.now)) }
+{
+    match failed_call(facts.system.as_ref(), at, why.clone()?) {
+        Ok(call) => {
+            let call = call_columns(call);
+            one_change(alloc, Change::SetCall { system, call })
+        }
+        Err(refusal) => Ok(refused(alloc, refusal)),
+    }
+}
+
+// Adds the changes that remove the jobs of these numbers.
+fn remove_jobs<'a>(changes: &mut Vec<Change<'a>>, numbers: &[u32]) -> Result<(), AllocError>
+    ensures { IfOk result (λ _. (t : Tables) → applied changes.new.items t ≡ without_jobs numbers.now (applied changes.old.items t)) }
+{
+    for number in numbers {
+        changes.push(Change::RemoveJob { number: *number })?;
+    }
+    Ok(())
+}
+
+// The calls of a system after one in which jobs went through: the jobs that were found decide as all jobs do.
+fn done_call(
+    facts: &Facts,
+    system: &SiteName,
+    at: &Moment,
+    jobs: &[u32],
+) -> Result<CallState, Refusal>
+    ensures last { IfOk result (λ call. call.last ≤ last_second) }
+    ensures wait { IfOk result (λ call. call.wait ≤ 31536000) }
+    ensures call { (all : List JobHead) → AreFound jobs.now all facts.now.found.items → result ≡ decided (done_refusal facts.now.is_known system.now jobs.now all) (done_call at.now) }
+{
+    named_jobs_decide();
+    decide_done(facts.is_known, system, jobs, facts.found.as_slice(), at)
+}
+
+/// A call in which jobs went through: the system's calls change, and the jobs go.
+pub fn plan_done<'a>(
+    alloc: Global,
+    facts: &Facts,
+    system: &'a SiteName,
+    at: &Moment,
+    jobs: &[u32],
+) -> Result<Plan<'a>, AllocError>
+    ensures { (s : State) → AreFacts facts.now s (Done system.now at.now jobs.now) → IfOk result (IsPlan s (Done system.now at.now jobs.now)) }
+{
+    match done_call(facts, system, at, jobs) {
+        Ok(call) => {
+            let call = call_columns(call);
+            let mut changes = vec![in alloc; Change::SetCall { system, call }]?;
+            remove_jobs(&mut changes, jobs)?;
+            Ok(Plan {
+                reply: Reply::Done,
+                changes,
+            })
+        }
+        Err(refusal) => Ok(refused(alloc, refusal)),
+    }
+}

@@ -1,0 +1,108 @@
+// Systems that are defined and removed.
+ghost use Rattle.std.specs.Prelude.{◌≡◌, IfOk, map};
+ghost use Rattle.uu_core.specs.declared.command.Command.TheVariants.{Define, Remove};
+ghost use Rattle.uu_core.specs.State.{State, IsWellFormed};
+ghost use Rattle.uu_tables.specs.Tables.{Tables, placed_from, range_columns};
+ghost use Rattle.uu_tables.specs.Changes.{applied};
+ghost use Rattle.uu_tables.specs.Parts.{with_ranges, with_lines, with_definition};
+ghost use Rattle.uu_tables.specs.Plans.{AreFacts, IsPlan};
+
+use super::{Plan, one_change, refused};
+use crate::change::Change;
+use crate::facts::Facts;
+use std::alloc::{AllocError, Global};
+use uu_core::{Reply, decide_drop};
+use uu_names::SiteName;
+use uu_times::{SystemDef, Windows};
+
+// Adds the changes that add the ranges of a line.
+fn add_ranges<'a>(
+    changes: &mut Vec<Change<'a>>,
+    system: &'a SiteName,
+    place: u32,
+    windows: &Windows,
+) -> Result<(), AllocError>
+    ensures { IfOk result (λ _. (t : Tables) → applied changes.new.items t ≡ with_ranges (map (range_columns system.now place) windows.now) (applied changes.old.items t)) }
+{
+    for (low, high) in windows.ranges() {
+        let (low, high) = (u32::from(*low), u32::from(*high));
+        changes.push(Change::AddRange {
+            system,
+            place,
+            low,
+            high,
+        })?;
+    }
+    Ok(())
+}
+
+// Adds the changes that add the lines of a system, each with its ranges.
+fn add_lines<'a>(changes: &mut Vec<Change<'a>>, def: &'a SystemDef) -> Result<(), AllocError>
+    ensures { IfOk result (λ _. (t : Tables) → applied changes.new.items t ≡ with_lines (placed_from def.now.name 0 def.now.lines) (applied changes.old.items t)) }
+{
+    let system = &def.name;
+    for (at, line) in def.lines().iter().enumerate() {
+        let place = at as u32;
+        changes.push(Change::AddLine {
+            system,
+            place,
+            line,
+        })?;
+        add_ranges(changes, system, place, &line.windows)?;
+    }
+    Ok(())
+}
+
+// The changes that define a system, all but its lines.
+fn definition<'a>(
+    alloc: Global,
+    is_known: bool,
+    def: &'a SystemDef,
+) -> Result<Vec<Change<'a>>, AllocError>
+    ensures { IfOk result (λ changes. (t : Tables) → applied changes.items t ≡ with_definition is_known def.now t) }
+{
+    if is_known {
+        let system = &def.name;
+        let max_retries = def.max_retries;
+        Ok(vec![in alloc;
+            Change::SetMaxRetries {
+                system,
+                max_retries
+            },
+            Change::RemoveLines { system },
+        ]?)
+    } else {
+        Ok(vec![in alloc; Change::AddSystem(def)]?)
+    }
+}
+
+/// A system that is defined: a new one was never called, a known one keeps its calls, and its lines are those of the
+/// definition alone.
+pub fn plan_define<'a>(
+    alloc: Global,
+    facts: &Facts,
+    def: &'a SystemDef,
+) -> Result<Plan<'a>, AllocError>
+    ensures { (s : State) → IsWellFormed s → AreFacts facts.now s (Define def.now) → IfOk result (IsPlan s (Define def.now)) }
+{
+    let mut changes = definition(alloc, facts.is_known, def)?;
+    add_lines(&mut changes, def)?;
+    Ok(Plan {
+        reply: Reply::Done,
+        changes,
+    })
+}
+
+/// A system that goes, with its calls, its lines and their ranges.
+pub fn plan_remove<'a>(
+    alloc: Global,
+    facts: &Facts,
+    system: &'a SiteName,
+) -> Result<Plan<'a>, AllocError>
+    ensures { (s : State) → AreFacts facts.now s (Remove system.now) → IfOk result (IsPlan s (Remove system.now)) }
+{
+    match decide_drop(facts.is_known, facts.is_waiting) {
+        Ok(()) => one_change(alloc, Change::RemoveSystem { system }),
+        Err(refusal) => Ok(refused(alloc, refusal)),
+    }
+}
