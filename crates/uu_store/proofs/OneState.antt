@@ -1,80 +1,140 @@
--- A database encodes at most one state.
-use Rattle.std.proofs.Common.{◌≡◌, ◌⊎◌, inl, inr, ℕ, ◌<◌, List, [], ◌∷◌, map, refl, sym, ap, subst, ◌∙◌, arith, true≢false, Less}
+-- A database holds at most one state's tables.
+use Rattle.std.proofs.Common.{◌≡◌, inl, inr, suc, ◌<◌, List, [], ◌∷◌, map, All, AllPairs, Ordering, Less, refl, sym, ap, subst, ◌∙◌, arith}
 use Rattle.std.specs.List.{AllByRecursion}
 use Rattle.std.specs.List.Sorted.{IsPermutation}
-use Rattle.std.specs.Ordering.{is_eq, is_lt}
-use Rattle.std.proofs.lemmas.Cmp.{nat_list_cmp_total, tied_itself}
+use Rattle.std.specs.Cmp.{IsTotalOrder}
+use Rattle.std.specs.Ordering.{ordering_reverse}
+use Rattle.std.proofs.lemmas.Cmp.{nat_list_cmp_total, nat_cmp_total, on_total, then_total}
+use Rattle.std.proofs.lemmas.List.Elements.{All-head, All-tail}
 use Rattle.std.proofs.lemmas.List.Sorted.{IsPermutation-sym, IsPermutation-trans}
-use Rattle.sqlite.specs.declared.types.Value.TheVariants.{Text}
-use Rattle.sqlite.specs.Order.{Row, column}
+use Rattle.sqlite.specs.Order.{Row}
 use Rattle.sqlite.specs.Tree.{Trees, IsAscending}
 use Rattle.sqlite_rules.specs.Lists.{Has}
 use Rattle.sqlite_rules.proofs.ListLemmas.{all_has}
 use Rattle.sqlite_rules.proofs.ProbeLemmas.{has_mapped, mapped_has}
 use Rattle.uu_sql.proofs.Rowids.{has_moved}
-use Rattle.uu_core.specs.State.{Job, IsJob, head_of}
-use Rattle.uu_store.specs.Machine.{State, by_bytes}
-use Rattle.uu_store.specs.Encoded.{Holds, job_with}
-use Rattle.uu_store.proofs.Shown.{head_back, head_returns, text_back}
-use Rattle.uu_store.proofs.JobChecks.{row_of, size_shown}
-use Rattle.uu_store.proofs.TakenLemmas.{kind_words}
+use Rattle.uu_core.specs.declared.job.JobHead.{JobHead}
+use Rattle.uu_core.specs.State.{State, IsWellFormed, ComesBefore}
+use Rattle.uu_tables.specs.declared.rows.SystemColumns.{SystemColumns}
+use Rattle.uu_tables.specs.declared.rows.LineColumns.{LineColumns}
+use Rattle.uu_tables.specs.declared.rows.RangeColumns.{RangeColumns}
+use Rattle.uu_tables.specs.declared.rows.EntryColumns.{EntryColumns}
+use Rattle.uu_tables.specs.Tables.{Tables, Piece, tables_of}
+use Rattle.uu_check.specs.Order.{line_cmp, range_cmp, piece_cmp, AreInOrder}
+use Rattle.uu_check.specs.Readable.{IsJobRow, AreReadable}
+use Rattle.uu_schema.specs.Held.{Holds}
+use Rattle.uu_schema.specs.Cells.{system_cells, line_cells, range_cells, job_cells, piece_cells, entry_cells}
+use Rattle.uu_store.specs.Encoded.{HoldsState}
+use Rattle.uu_store.proofs.CellsTell.{same_system, same_line, same_range, same_job, same_piece, same_entry}
 
--- two lists in one strict order with the same members are one list
-module _ {A : Type 0} (R : A → A → Type 0) (never : (a b : A) → R a b → R b a → ⊥) where
-  later : (x y : A) (xs : List A) → IsAscending R (x ∷ xs) → Has xs y → R x y
-  later x y xs up there = all_has (R x) xs y up.0 there
+-- ---- lists in one strict order with the same members
 
-  first_is : (x y : A) (xs ys : List A) → IsAscending R (x ∷ xs) → IsAscending R (y ∷ ys) → Has (y ∷ ys) x → Has (x ∷ xs) y → x ≡ y
-  first_is x y xs ys up vp (inl same) k = same
-  first_is x y xs ys up vp (inr h) (inl same) = sym same
-  first_is x y xs ys up vp (inr h) (inr k) = absurd (never x y (later x y xs up k) (later y x ys vp h))
+by_recursion : {X : Type 0} (P : X → Type 0) (xs : List X) → All P xs → AllByRecursion P xs
+by_recursion P [] h = tt
+by_recursion P (x ∷ xs) h = (All-head P x xs h, by_recursion P xs (All-tail P x xs h))
 
-  tail_has : (x y a : A) (xs ys : List A) → x ≡ y → IsAscending R (x ∷ xs) → Has xs a → Has (y ∷ ys) a → Has ys a
-  tail_has x y a xs ys same up there (inl at) = let below = later x a xs up there in absurd (never x x (subst (R x) (at ∙ sym same) below) (subst (R x) (at ∙ sym same) below))
-  tail_has x y a xs ys same up there (inr h) = h
+module _ {X : Type 0} (R : X → X → Type 0) where
+  ascending : (xs : List X) → AllPairs R xs → IsAscending R xs
+  ascending [] h = tt
+  ascending (x ∷ xs) h =
+      let first : All (R x) xs = λ k d within. h 0 (suc k) d (omega arith) (omega (arith, within)) in
+      let rest : AllPairs R xs = λ i j d below within. h (suc i) (suc j) d (omega (arith, below)) (omega (arith, within)) in
+      (by_recursion (R x) xs first, ascending xs rest)
 
-  pub same_members : (xs ys : List A) → IsAscending R xs → IsAscending R ys → ((a : A) → Has xs a → Has ys a) → ((a : A) → Has ys a → Has xs a) → xs ≡ ys
-  same_members [] [] up vp to from = refl
-  same_members [] (y ∷ ys) up vp to from = absurd (from y (inl refl))
-  same_members (x ∷ xs) [] up vp to from = absurd (to x (inl refl))
-  same_members (x ∷ xs) (y ∷ ys) up vp to from =
-      let same = first_is x y xs ys up vp (to x (inl refl)) (from y (inl refl)) in
-      let rest = same_members xs ys up.1 vp.1 (λ a h. tail_has x y a xs ys same up h (to a (inr h))) (λ a h. tail_has y x a ys xs (sym same) vp h (from a (inr h))) in
-      λ i. same i ∷ rest i
+  module _ (never : (a b : X) → R a b → R b a → ⊥) where
+    later : (x y : X) (xs : List X) → IsAscending R (x ∷ xs) → Has xs y → R x y
+    later x y xs up there = all_has (R x) xs y up.0 there
 
--- ---- jobs
+    first_is : (x y : X) (xs ys : List X) → IsAscending R (x ∷ xs) → IsAscending R (y ∷ ys) → Has (y ∷ ys) x → Has (x ∷ xs) y → x ≡ y
+    first_is x y xs ys up vp (inl same) k = same
+    first_is x y xs ys up vp (inr h) (inl same) = sym same
+    first_is x y xs ys up vp (inr h) (inr k) = absurd (never x y (later x y xs up k) (later y x ys vp h))
 
-returned : (j : Job) → IsJob j → job_with (head_back (size_shown (row_of j))) (text_back (column (row_of j) 10)) ≡ j
-returned j good = λ i. job_with (head_returns (head_of j) (kind_words j.kind good.kind) i) j.bytes
+    tail_has : (x y a : X) (xs ys : List X) → x ≡ y → IsAscending R (x ∷ xs) → Has xs a → Has (y ∷ ys) a → Has ys a
+    tail_has x y a xs ys same up there (inl at) = let below = later x a xs up there in absurd (never x x (subst (R x) (at ∙ sym same) below) (subst (R x) (at ∙ sym same) below))
+    tail_has x y a xs ys same up there (inr h) = h
 
-same_job : (j k : Job) → IsJob j → IsJob k → row_of j ≡ row_of k → j ≡ k
-same_job j k good fine same = sym (returned j good) ∙ ap (λ r. job_with (head_back (size_shown r)) (text_back (column r 10))) same ∙ returned k fine
+    same_members : (xs ys : List X) → IsAscending R xs → IsAscending R ys → ((a : X) → Has xs a → Has ys a) → ((a : X) → Has ys a → Has xs a) → xs ≡ ys
+    same_members [] [] up vp to from = refl
+    same_members [] (y ∷ ys) up vp to from = absurd (from y (inl refl))
+    same_members (x ∷ xs) [] up vp to from = absurd (to x (inl refl))
+    same_members (x ∷ xs) (y ∷ ys) up vp to from =
+        let same = first_is x y xs ys up vp (to x (inl refl)) (from y (inl refl)) in
+        let rest = same_members xs ys up.1 vp.1 (λ a h. tail_has x y a xs ys same up h (to a (inr h))) (λ a h. tail_has y x a ys xs (sym same) vp h (from a (inr h))) in
+        λ i. same i ∷ rest i
 
-moved_jobs : (xs ys : List Job) → AllByRecursion IsJob xs → AllByRecursion IsJob ys → IsPermutation (map row_of xs) (map row_of ys) → (j : Job) → Has xs j → Has ys j
-moved_jobs xs ys good fine same j there =
-    let row = has_moved (map row_of xs) (map row_of ys) (row_of j) same (mapped_has row_of xs j there) in
-    let k = has_mapped row_of ys (row_of j) row in
-    subst (Has ys) (sym (same_job j k.0 (all_has IsJob xs j good there) (all_has IsJob ys k.0 fine k.1) k.2)) k.1
+    -- the typed rows that one table's rows show, where cells tell the typed row
+    module _ (cells : X → Row) (Good : X → Type 0) (told : (x y : X) → Good x → Good y → cells x ≡ cells y → x ≡ y) where
+      moved : (xs ys : List X) → AllByRecursion Good xs → AllByRecursion Good ys → IsPermutation (map cells xs) (map cells ys) → (x : X) → Has xs x → Has ys x
+      moved xs ys good fine same x there =
+          let row = has_moved (map cells xs) (map cells ys) (cells x) same (mapped_has cells xs x there) in
+          let y = has_mapped cells ys (cells x) row in
+          subst (Has ys) (sym (told x y.0 (all_has Good xs x good there) (all_has Good ys y.0 fine y.1) y.2)) y.1
 
--- ---- names
+      same_rows : (xs ys : List X) (rows : List Row) → AllPairs R xs → AllPairs R ys → AllByRecursion Good xs → AllByRecursion Good ys → IsPermutation (map cells xs) rows → IsPermutation (map cells ys) rows → xs ≡ ys
+      same_rows xs ys rows up vp good fine h k =
+          let same = IsPermutation-trans _ _ _ h (IsPermutation-sym _ _ k) in
+          same_members xs ys (ascending xs up) (ascending ys vp) (moved xs ys good fine same) (moved ys xs fine good (IsPermutation-sym _ _ same))
 
-moved_names : (xs ys : List (List ℕ)) → IsPermutation (map (λ n. Text n ∷ []) xs) (map (λ n. Text n ∷ []) ys) → (n : List ℕ) → Has xs n → Has ys n
-moved_names xs ys same n there =
-    let row = has_moved (map (λ n. Text n ∷ []) xs) (map (λ n. Text n ∷ []) ys) (Text n ∷ []) same (mapped_has (λ n. Text n ∷ []) xs n there) in
-    let k = has_mapped (λ n. Text n ∷ []) ys (Text n ∷ []) row in
-    let is : n ≡ k.0 = ap (λ (r : Row). text_back (column r 0)) k.2 in
-    subst (Has ys) (sym is) k.1
+-- ---- orders
 
-not_both : (a b : List ℕ) → by_bytes a b ≡ Less → by_bytes b a ≡ Less → ⊥
-not_both a b h k = let tie = tied_itself nat_list_cmp_total a in let less = nat_list_cmp_total.trans a b a h k in true≢false (ap is_eq (sym tie ∙ less))
+never_both : {K : Type 0} {cmp : K → K → Ordering} → IsTotalOrder cmp → (a b : K) → cmp a b ≡ Less → cmp b a ≡ Less → ⊥
+never_both total a b h k = turned (sym h ∙ total.antisymm a b ∙ ap ordering_reverse k)
+  where
+    turned : Less ≡ ordering_reverse Less → ⊥
+    turned e = cc
 
-pub one_state : (db : Trees) (s t : State) → Holds db s → Holds db t → s ≡ t
-one_state db s t one other =
-    let rows = IsPermutation-trans _ _ _ one.jobs (IsPermutation-sym _ _ other.jobs) in
-    let cells = IsPermutation-trans _ _ _ one.systems (IsPermutation-sym _ _ other.systems) in
-    let jobs : s.jobs ≡ t.jobs = same_members (λ (a b : Job). a.number < b.number) (λ a b h k. omega (arith, h, k)) s.jobs t.jobs one.good.rises other.good.rises
-    (moved_jobs s.jobs t.jobs one.good.jobs other.good.jobs rows) (moved_jobs t.jobs s.jobs other.good.jobs one.good.jobs (IsPermutation-sym _ _ rows)) in
-    let systems : s.systems ≡ t.systems = same_members (λ a b. by_bytes a b ≡ Less) not_both s.systems t.systems one.good.named other.good.named
-    (moved_names s.systems t.systems cells) (moved_names t.systems s.systems (IsPermutation-sym _ _ cells)) in
-    let next : s.next ≡ t.next = (let same = sym one.spool ∙ other.spool in cc) in
-    λ i. record { jobs = jobs i; systems = systems i; next = next i }
+lines_total : IsTotalOrder line_cmp
+lines_total = then_total (on_total (λ (l : LineColumns). l.system) nat_list_cmp_total) (on_total (λ (l : LineColumns). l.place) nat_cmp_total)
+
+ranges_total : IsTotalOrder range_cmp
+ranges_total = then_total (on_total (λ (r : RangeColumns). r.system) nat_list_cmp_total) (then_total (on_total (λ (r : RangeColumns). r.place) nat_cmp_total) (on_total (λ (r : RangeColumns). r.low) nat_cmp_total))
+
+pieces_total : IsTotalOrder piece_cmp
+pieces_total = then_total (on_total (λ (p : Piece). p.job) nat_cmp_total) (on_total (λ (p : Piece). p.place) nat_cmp_total)
+
+-- ---- tables
+
+module _ (trees : Trees) (t u : Tables) (order : AreInOrder t) (other_order : AreInOrder u) (readable : AreReadable t) (other_readable : AreReadable u) (holds : Holds trees t) (other_holds : Holds trees u) where
+  next_is : t.next ≡ u.next
+  next_is = let same = sym holds.spool ∙ other_holds.spool in cc
+
+  -- only of the rows of jobs has anything to be known
+  each_fine : {X : Type 0} (xs : List X) → AllByRecursion (λ _. Unit {0}) xs
+  each_fine [] = tt
+  each_fine (x ∷ xs) = (tt, each_fine xs)
+
+  systems_are : t.systems ≡ u.systems
+  systems_are = same_rows (λ (a b : SystemColumns). ComesBefore a.name b.name) (λ a b. never_both nat_list_cmp_total a.name b.name) system_cells (λ _. Unit {0}) (λ a b g f. same_system a b) t.systems u.systems _
+      order.systems other_order.systems (each_fine t.systems) (each_fine u.systems) holds.systems.same other_holds.systems.same
+
+  lines_are : t.lines ≡ u.lines
+  lines_are = same_rows (λ a b. line_cmp a b ≡ Less) (never_both lines_total) line_cells (λ _. Unit {0}) (λ a b g f. same_line a b) t.lines u.lines _
+      order.lines other_order.lines (each_fine t.lines) (each_fine u.lines) holds.lines.same other_holds.lines.same
+
+  ranges_are : t.ranges ≡ u.ranges
+  ranges_are = same_rows (λ a b. range_cmp a b ≡ Less) (never_both ranges_total) range_cells (λ _. Unit {0}) (λ a b g f. same_range a b) t.ranges u.ranges _
+      order.ranges other_order.ranges (each_fine t.ranges) (each_fine u.ranges) holds.ranges.same other_holds.ranges.same
+
+  jobs_are : t.jobs ≡ u.jobs
+  jobs_are = same_rows (λ (a b : JobHead). a.number < b.number) (λ a b h k. omega (arith, h, k)) job_cells IsJobRow same_job t.jobs u.jobs _
+      order.jobs other_order.jobs readable.jobs other_readable.jobs holds.jobs.same other_holds.jobs.same
+
+  pieces_are : t.pieces ≡ u.pieces
+  pieces_are = same_rows (λ a b. piece_cmp a b ≡ Less) (never_both pieces_total) piece_cells (λ _. Unit {0}) (λ a b g f. same_piece a b) t.pieces u.pieces _
+      order.pieces other_order.pieces (each_fine t.pieces) (each_fine u.pieces) holds.pieces.same other_holds.pieces.same
+
+  entries_are : t.entries ≡ u.entries
+  entries_are = same_rows (λ (a b : EntryColumns). ComesBefore a.host b.host) (λ a b. never_both nat_list_cmp_total a.host b.host) entry_cells (λ _. Unit {0}) (λ a b g f. same_entry a b) t.entries u.entries _
+      order.entries other_order.entries (each_fine t.entries) (each_fine u.entries) holds.entries.same other_holds.entries.same
+
+  same_tables : t ≡ u
+  same_tables = λ i. record { next = next_is i; systems = systems_are i; lines = lines_are i; ranges = ranges_are i; jobs = jobs_are i; pieces = pieces_are i; entries = entries_are i }
+
+-- ---- states, by what the laws of the tables say
+
+module _ (in_order : (s : State) → IsWellFormed s → AreInOrder (tables_of s)) (readable : (s : State) → IsWellFormed s → AreReadable (tables_of s)) (told : (s t : State) → IsWellFormed s → IsWellFormed t → tables_of s ≡ tables_of t → s ≡ t) where
+  pub one_state : (trees : Trees) (one other : State) → HoldsState trees one → HoldsState trees other → one ≡ other
+  one_state trees one other h k =
+      told one other h.good k.good
+      (same_tables trees (tables_of one) (tables_of other) (in_order one h.good) (in_order other k.good) (readable one h.good) (readable other k.good) h.tables k.tables)

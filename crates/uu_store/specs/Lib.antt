@@ -1,9 +1,7 @@
-pub mod Schema
-pub mod Rows
-pub mod Codes
-pub mod Machine
 pub mod Encoded
-pub mod Columns
-pub mod Taken
-pub mod Tables
+pub mod Calls
 pub mod Spool
+pub mod FoundTables
+pub mod Adoption
+pub mod Reading
+pub mod HandedOut

@@ -4,10 +4,10 @@ use Rattle.sqlite.specs.Store.{Ghosts}
 use Rattle.sqlite.specs.Held.{Held, state}
 use Rattle.sqlite.specs.State as db
 use Rattle.uu_sql.specs.Steps.{Rests}
+use Rattle.uu_core.specs.State.{State}
+use Rattle.uu_schema.specs.declared.fault.StoreFault.{StoreFault}
+use Rattle.uu_schema.specs.declared.fault.StoreFault.TheVariants.{Memory, Store, Failed, Foreign, Newer}
 use Rattle.uu_store.specs.declared.spool.Spool.{Spool}
-use Rattle.uu_store.specs.declared.fault.StoreFault.{StoreFault}
-use Rattle.uu_store.specs.declared.fault.StoreFault.TheVariants.{Memory, Store, Failed, Foreign, Newer}
-use Rattle.uu_store.specs.Machine.{State}
 use Rattle.uu_store.specs.Encoded.{Encodes}
 
 -- the connection that it owns

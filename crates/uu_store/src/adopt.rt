@@ -3,17 +3,19 @@ ghost use Rattle.std.specs.Prelude.{◌≡◌, ◌≢◌, false, IfErr};
 ghost use Rattle.sqlite.specs.Held.{state};
 ghost use Rattle.sqlite.specs.State.{HasCleanDisk};
 ghost use Rattle.uu_sql.specs.Steps.{Rests, Stands};
-ghost use Rattle.uu_store.specs.Schema.{no_schema};
-ghost use Rattle.uu_store.specs.Encoded.{Encodes, Begins, IsFresh};
-ghost use Rattle.uu_store.specs.Taken.{Judged};
+ghost use Rattle.uu_schema.specs.Schema.{no_schema};
+ghost use Rattle.uu_schema.specs.Faults.{IsFresh};
+ghost use Rattle.uu_store.specs.Calls.{CreatesTables, StaysUnclean};
+ghost use Rattle.uu_store.specs.Encoded.{Encodes};
+ghost use Rattle.uu_store.specs.Adoption.{IsInspected};
 
-use crate::check::judge;
-use crate::fault::{StoreFault, halt_fault};
+use crate::inspection::inspect;
 use crate::spool::Spool;
-use crate::statements::create;
 use crate::tables::{Found, found_in};
 use sqlite::{Alter, Connection};
 use std::alloc::Global;
+use uu_core::laws::states_stay_well_formed;
+use uu_schema::{StoreFault, create, halt_fault};
 
 /// Why a database was not taken, and the connection to it, with no transaction open.
 #[derive(Drop)]
@@ -26,12 +28,13 @@ pub struct AdoptFault<S: Alter> {
 }
 
 // An empty spool in a database that has none of its tables.
-fn begin<S: Alter>(conn: &mut Connection<S>) -> Result<(), StoreFault>
+fn create_tables<S: Alter>(conn: &mut Connection<S>) -> Result<(), StoreFault>
     requires { conn.old.in_transaction ≡ false }
     ensures fresh { IfErr result IsFresh }
     ensures idle { conn.new.in_transaction ≡ false }
-    ensures begins { Begins (state S.Store conn.old) (state S.Store conn.new) result }
+    ensures creates { CreatesTables (state S.Store conn.old) (state S.Store conn.new) result }
 {
+    states_stay_well_formed();
     match create(conn) {
         Ok(()) => Ok(()),
         Err(halt) => Err(halt_fault(conn, &halt)),
@@ -42,13 +45,13 @@ fn prepare<S: Alter>(alloc: Global, conn: &mut Connection<S>) -> Result<(), Stor
     requires { conn.old.in_transaction ≡ false }
     ensures fresh { IfErr result (λ fault. fault ≢ StoreFault.Failed) }
     ensures idle { conn.new.in_transaction ≡ false }
-    ensures judged { Judged (state S.Store conn.old) (state S.Store conn.new) result }
-    ensures begins { Begins (state S.Store conn.old) (state S.Store conn.new) result }
+    ensures inspected { IsInspected (state S.Store conn.old) (state S.Store conn.new) result }
+    ensures creates { CreatesTables (state S.Store conn.old) (state S.Store conn.new) result }
     ensures welcomed { Stands no_schema (state S.Store conn.old).now → IfErr result (λ fault. (fault ≢ StoreFault.Foreign) × (fault ≢ StoreFault.Newer)) }
 {
     match found_in(conn.schema()) {
-        Found::Nothing => begin(conn),
-        Found::Spool { whole } => judge(alloc, conn, whole),
+        Found::Nothing => create_tables(conn),
+        Found::Spool { whole } => inspect(alloc, conn, whole),
         Found::Other => Err(StoreFault::Foreign),
     }
 }
@@ -56,10 +59,11 @@ fn prepare<S: Alter>(alloc: Global, conn: &mut Connection<S>) -> Result<(), Stor
 impl<S: Alter> Spool<S> {
     ghost use Rattle.std.specs.Prelude.{IfOk, Err};
     ghost use Rattle.uu_sql.specs.Steps.{Stands};
-    ghost use Rattle.uu_store.specs.Schema.{site, no_schema};
-    ghost use Rattle.uu_store.specs.Machine.{empty};
-    ghost use Rattle.uu_store.specs.Encoded.{Leaves, IsAsBefore, StopsAs};
-    ghost use Rattle.uu_store.specs.Taken.{IsLater, UnlessFailed};
+    ghost use Rattle.uu_schema.specs.Schema.{site, no_schema};
+    ghost use Rattle.uu_core.specs.State.{empty};
+    ghost use Rattle.uu_store.specs.Encoded.{Leaves};
+    ghost use Rattle.uu_questions.specs.Version.{IsLater};
+    ghost use Rattle.uu_store.specs.Adoption.{UnlessFailed, IsAsBefore, StopsAs};
     ghost use Rattle.uu_store.specs.Spool.{disk, has_failed, Shows};
 
     /// Takes the database as a spool: one without the spool's tables gets them, in one transaction. One that has them, and no

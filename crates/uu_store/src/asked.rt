@@ -1,223 +1,51 @@
-// Questions and commands over a connection, with the fault that the caller is told.
-ghost use Rattle.std.specs.Prelude.{◌≡◌, false, IfOk, IfErr, ℕ, pos, [], ◌∷◌, option_map, IfSome, length};
-ghost use Rattle.sqlite.specs.declared.types.Value.TheVariants.{Int};
+// Commands and questions over a connection, with the fault that the caller is told.
+ghost use Rattle.std.specs.Prelude.{◌≡◌, ◌≤◌, true, false, IfOk, IfErr, IfSome, option_map, map, length};
+ghost use Rattle.std.specs.List.{AllByRecursion, list_all};
 ghost use Rattle.sqlite.specs.Held.{state};
-ghost use Rattle.sqlite.specs.State.{HasCleanDisk};
-ghost use Rattle.uu_sql.specs.Steps.{Told};
-ghost use Rattle.uu_store.specs.Schema.{site};
-ghost use Rattle.uu_core.specs.Refusal.{decided};
-ghost use Rattle.uu_core.specs.Verdict.{job_refusal};
-ghost use Rattle.uu_store.specs.Machine.{is_known, is_waiting, listed_heads, job_at, head_at};
-ghost use Rattle.uu_store.specs.Encoded.{Encodes, Obeys, Turns, Replies, IsFresh, job_shown};
+ghost use Rattle.sqlite.specs.View.{doubt};
+ghost use Rattle.uu_core.specs.State.{State, IsWellFormed, head_of, job_at, entry_at};
+ghost use Rattle.uu_core.specs.Due.{AreDue};
+ghost use Rattle.uu_tables.specs.Plans.{AreFacts};
+ghost use Rattle.uu_schema.specs.Faults.{IsFresh};
+ghost use Rattle.uu_questions.specs.Listing.{listed};
+ghost use Rattle.uu_store.specs.HandedOut.{IsBounded, IsTimed, is_bounded, is_timed, job_shown};
+ghost use Rattle.uu_statements.specs.Step.{IsToldStep};
+ghost use Rattle.uu_store.specs.Calls.{IsStep, IsAnswered};
 
-use crate::columns::columns_of;
-use crate::command::Command;
-use crate::fault::{Halt, StoreFault, halt_fault, store_fault};
-use crate::filter::Filter;
-use crate::rows::{first_head, heads_in, job_in};
-use crate::statements::{
-    add_job, add_system, ask_head, ask_job, ask_jobs, ask_next, ask_system, ask_waiting,
-    remove_job, remove_system, set_queued, set_rank,
-};
-use sqlite::{Alter, Connection, Error, Row};
+use sqlite::{Alter, Connection};
 use std::alloc::Global;
-use uu_core::{By, JobHead, NewJob, Refusal, Reply, decide_drop, decide_job, decide_queue};
-use uu_names::{Grade, SiteName};
-use uu_times::{Moment, SystemDef};
+use uu_core::laws::{commands_are_sound, states_stay_well_formed};
+use uu_core::{Command, Due, Filter, JobHead, Reply, SystemRow};
+use uu_names::SiteName;
+use uu_questions::{
+    all_systems, entry_of_host, facts_for, job_of_number, list_jobs, next_number, systems_due,
+};
+use uu_schema::{StoreFault, StoreKind, store_fault};
+use uu_statements::carry_out;
+use uu_tables::{Facts, make_plan};
+use uu_times::Moment;
 
-// Whether a system of this name is there.
-fn is_known<S: Alter>(conn: &mut Connection<S>, name: &str) -> Result<bool, Error>
-    ensures idle { conn.old.in_transaction ≡ false → conn.new.in_transaction ≡ false }
-    ensures told { Told site (state S.Store conn.old) (state S.Store conn.new) result }
-    ensures known { HasCleanDisk (state S.Store conn.new) → (s : _) → Encodes (state S.Store conn.old).now s → IfOk result (λ known. known ≡ is_known s name.now) }
-{
-    let rows = ask_system(conn, name)?;
-    Ok(!rows.is_empty())
-}
-
-// Whether a job waits for the system of this name.
-fn is_waiting<S: Alter>(conn: &mut Connection<S>, name: &str) -> Result<bool, Error>
-    ensures idle { conn.old.in_transaction ≡ false → conn.new.in_transaction ≡ false }
-    ensures told { Told site (state S.Store conn.old) (state S.Store conn.new) result }
-    ensures waiting { HasCleanDisk (state S.Store conn.new) → (s : _) → Encodes (state S.Store conn.old).now s → IfOk result (λ waiting. waiting ≡ is_waiting s name.now) }
-{
-    let jobs = ask_waiting(conn, name)?;
-    Ok(!jobs.is_empty())
-}
-
-// The number that the rows of the question show. No row is no spool's.
-fn next_in(rows: &[Row]) -> Result<u32, Error>
-    ensures { IfOk result (λ next. (n : ℕ) → rows.now ≡ (Int (pos n) ∷ []) ∷ [] → next ≡ n) }
-{
-    match rows.first() {
-        Some(row) => row.get(0),
-        None => Err(Error::QueryReturnedNoRows),
-    }
-}
-
-// The next number.
-fn next_number<S: Alter>(conn: &mut Connection<S>) -> Result<u32, Error>
-    ensures idle { conn.old.in_transaction ≡ false → conn.new.in_transaction ≡ false }
-    ensures told { Told site (state S.Store conn.old) (state S.Store conn.new) result }
-    ensures next { HasCleanDisk (state S.Store conn.new) → (s : _) → Encodes (state S.Store conn.old).now s → IfOk result (λ next. next ≡ s.next) }
-{
-    let rows = ask_next(conn)?;
-    next_in(rows.as_slice())
-}
-
-fn define<S: Alter>(conn: &mut Connection<S>, system: &SystemDef) -> Result<Reply, Halt>
-    requires { conn.old.in_transaction ≡ false }
-    ensures idle { conn.new.in_transaction ≡ false }
-    ensures obeys { (s : _) → Obeys s (Command.Define system.now) (state S.Store conn.old) (state S.Store conn.new) result }
-{
-    if !is_known(conn, system.name.as_str())? {
-        add_system(conn, system.name.as_str())?;
-    }
-    Ok(Reply::Done)
-}
-
-fn remove<S: Alter>(conn: &mut Connection<S>, name: &SiteName) -> Result<Reply, Halt>
-    requires { conn.old.in_transaction ≡ false }
-    ensures idle { conn.new.in_transaction ≡ false }
-    ensures obeys { (s : _) → Obeys s (Command.Remove name.now) (state S.Store conn.old) (state S.Store conn.new) result }
-{
-    let known = is_known(conn, name.as_str())?;
-    let waiting = is_waiting(conn, name.as_str())?;
-    match decide_drop(known, waiting) {
-        Ok(()) => {
-            remove_system(conn, name.as_str())?;
-            Ok(Reply::Done)
-        }
-        Err(refusal) => Ok(Reply::Refused(refusal)),
-    }
-}
-
-fn queue<S: Alter>(alloc: Global, conn: &mut Connection<S>, job: &NewJob) -> Result<Reply, Halt>
-    requires { conn.old.in_transaction ≡ false }
-    ensures idle { conn.new.in_transaction ≡ false }
-    ensures obeys { (s : _) → Obeys s (Command.Queue job.now) (state S.Store conn.old) (state S.Store conn.new) result }
-{
-    let known = is_known(conn, job.system.as_str())?;
-    let next = next_number(conn)?;
-    match decide_queue(known, next, job) {
-        Ok(number) => {
-            let columns = columns_of(alloc, job)?;
-            add_job(conn, number, &columns)?;
-            Ok(Reply::Number(number))
-        }
-        Err(refusal) => Ok(Reply::Refused(refusal)),
-    }
-}
-
-// The head of the job of this number, if it is there.
-fn head_of_job<S: Alter>(
+// The command, where these are the facts.
+fn carry_out_with<S: Alter>(
     alloc: Global,
     conn: &mut Connection<S>,
-    number: u32,
-) -> Result<Option<JobHead>, Error>
-    ensures idle { conn.old.in_transaction ≡ false → conn.new.in_transaction ≡ false }
-    ensures told { Told site (state S.Store conn.old) (state S.Store conn.new) result }
-    ensures head { HasCleanDisk (state S.Store conn.new) → (s : _) → Encodes (state S.Store conn.old).now s → IfOk result (λ head. head ≡ head_at s number) }
-{
-    let rows = ask_head(conn, number)?;
-    match first_head(alloc, &rows) {
-        Ok(head) => Ok(head),
-        Err(fault) => Err(fault.as_error()),
-    }
-}
-
-// Whether the job of this number may be touched, and if not, why.
-fn judge<S: Alter>(
-    alloc: Global,
-    conn: &mut Connection<S>,
-    number: u32,
-    by: &By,
-) -> Result<Result<(), Refusal>, Error>
-    ensures idle { conn.old.in_transaction ≡ false → conn.new.in_transaction ≡ false }
-    ensures told { Told site (state S.Store conn.old) (state S.Store conn.new) result }
-    ensures decision { HasCleanDisk (state S.Store conn.new) → (s : _) → Encodes (state S.Store conn.old).now s → IfOk result (λ decision. decision ≡ decided (job_refusal (head_at s number) by.now) tt) }
-{
-    let head = head_of_job(alloc, conn, number)?;
-    Ok(decide_job(head.as_ref(), by))
-}
-
-fn kill<S: Alter>(
-    alloc: Global,
-    conn: &mut Connection<S>,
-    number: u32,
-    by: &By,
-) -> Result<Reply, Halt>
+    facts: &Facts,
+    command: &Command,
+) -> Result<Reply, StoreFault>
     requires { conn.old.in_transaction ≡ false }
     ensures idle { conn.new.in_transaction ≡ false }
-    ensures obeys { (s : _) → Obeys s (Command.Kill number by.now) (state S.Store conn.old) (state S.Store conn.new) result }
+    ensures fresh { IfErr result IsFresh }
+    ensures clean { doubt (state S.Store conn.old).is_clean ≤ doubt (state S.Store conn.new).is_clean }
+    ensures step { (s : State) → IsWellFormed s → AreFacts facts.now s command.now → IsToldStep s command.now (state S.Store conn.old) (state S.Store conn.new) result }
 {
-    match judge(alloc, conn, number, by)? {
-        Ok(()) => {
-            remove_job(conn, number)?;
-            Ok(Reply::Done)
-        }
-        Err(refusal) => Ok(Reply::Refused(refusal)),
+    match make_plan(alloc, facts, command) {
+        Ok(plan) => carry_out(alloc, conn, plan),
+        Err(_) => Err(StoreFault::Memory),
     }
 }
 
-fn regrade<S: Alter>(
-    alloc: Global,
-    conn: &mut Connection<S>,
-    number: u32,
-    grade: Grade,
-    by: &By,
-) -> Result<Reply, Halt>
-    requires { conn.old.in_transaction ≡ false }
-    ensures idle { conn.new.in_transaction ≡ false }
-    ensures obeys { (s : _) → Obeys s (Command.Regrade number grade by.now) (state S.Store conn.old) (state S.Store conn.new) result }
-{
-    match judge(alloc, conn, number, by)? {
-        Ok(()) => {
-            set_rank(conn, number, u32::from(grade.rank()))?;
-            Ok(Reply::Done)
-        }
-        Err(refusal) => Ok(Reply::Refused(refusal)),
-    }
-}
-
-fn rejuvenate<S: Alter>(
-    alloc: Global,
-    conn: &mut Connection<S>,
-    number: u32,
-    at: &Moment,
-    by: &By,
-) -> Result<Reply, Halt>
-    requires { conn.old.in_transaction ≡ false }
-    ensures idle { conn.new.in_transaction ≡ false }
-    ensures obeys { (s : _) → Obeys s (Command.Rejuvenate number at.now by.now) (state S.Store conn.old) (state S.Store conn.new) result }
-{
-    match judge(alloc, conn, number, by)? {
-        Ok(()) => {
-            set_queued(conn, number, at.second as u32)?;
-            Ok(Reply::Done)
-        }
-        Err(refusal) => Ok(Reply::Refused(refusal)),
-    }
-}
-
-// The command's step, or the database's error.
-fn obey<S: Alter>(alloc: Global, conn: &mut Connection<S>, command: &Command) -> Result<Reply, Halt>
-    requires { conn.old.in_transaction ≡ false }
-    ensures idle { conn.new.in_transaction ≡ false }
-    ensures obeys { (s : _) → Obeys s command.now (state S.Store conn.old) (state S.Store conn.new) result }
-{
-    match command {
-        Command::Define(system) => define(conn, system),
-        Command::Remove(name) => remove(conn, name),
-        Command::Queue(job) => queue(alloc, conn, job),
-        Command::Kill { job, by } => kill(alloc, conn, *job, by),
-        Command::Regrade { job, grade, by } => regrade(alloc, conn, *job, *grade, by),
-        Command::Rejuvenate { job, at, by } => rejuvenate(alloc, conn, *job, at, by),
-    }
-}
-
-/// Carries out one command.
-pub(crate) fn carry_out<S: Alter>(
+/// Gives one command: what it names is asked, its changes are planned, and they are made in one transaction.
+pub(crate) fn give<S: Alter>(
     alloc: Global,
     conn: &mut Connection<S>,
     command: &Command,
@@ -225,15 +53,56 @@ pub(crate) fn carry_out<S: Alter>(
     requires { conn.old.in_transaction ≡ false }
     ensures idle { conn.new.in_transaction ≡ false }
     ensures fresh { IfErr result IsFresh }
-    ensures turns { (s : _) → Turns s command.now (state S.Store conn.old) (state S.Store conn.new) result }
+    ensures step { (s : State) → IsStep s command.now (state S.Store conn.old) (state S.Store conn.new) result }
 {
-    match obey(alloc, conn, command) {
-        Ok(reply) => Ok(reply),
-        Err(halt) => Err(halt_fault(conn, &halt)),
+    commands_are_sound(command);
+    states_stay_well_formed();
+    match facts_for(alloc, conn, command) {
+        Ok(facts) => carry_out_with(alloc, conn, &facts, command),
+        Err(error) => Err(store_fault(conn, &error)),
     }
 }
 
-/// The heads of the jobs that fit, by (rank, number).
+/// The next number.
+pub(crate) fn next<S: Alter>(conn: &mut Connection<S>) -> Result<u32, StoreFault>
+    requires { conn.old.in_transaction ≡ false }
+    ensures idle { conn.new.in_transaction ≡ false }
+    ensures fresh { IfErr result IsFresh }
+    ensures answered { IsAnswered (λ s next. next ≡ s.next) (state S.Store conn.old) (state S.Store conn.new) result }
+{
+    match next_number(conn) {
+        Ok(next) => Ok(next),
+        Err(error) => Err(store_fault(conn, &error)),
+    }
+}
+
+/// The last second that a moment can have.
+const LAST_SECOND: u64 = 4_102_444_800;
+
+/// The most bytes of a job.
+const MAX_BYTES: u32 = 1_048_576;
+
+// Whether the head is within the limits that a report relies on.
+fn is_bounded(head: &JobHead) -> bool
+    ensures { result ≡ is_bounded head.now }
+{
+    head.queued <= LAST_SECOND && head.size <= MAX_BYTES
+}
+
+fn are_bounded(heads: &[JobHead]) -> bool
+    ensures { result ≡ list_all is_bounded heads.now }
+{
+    heads.iter().all(|head| is_bounded(head))
+}
+
+// Whether the last call of each system is within the moments.
+fn are_timed(systems: &[SystemRow]) -> bool
+    ensures { result ≡ list_all is_timed systems.now }
+{
+    systems.iter().all(|system| system.call.last <= LAST_SECOND)
+}
+
+/// The heads of the jobs that fit, by grade and number.
 pub(crate) fn list<S: Alter>(
     alloc: Global,
     conn: &mut Connection<S>,
@@ -242,13 +111,17 @@ pub(crate) fn list<S: Alter>(
     requires { conn.old.in_transaction ≡ false }
     ensures idle { conn.new.in_transaction ≡ false }
     ensures fresh { IfErr result IsFresh }
-    ensures replies { Replies (λ s heads. heads.items ≡ listed_heads filter.now s) (state S.Store conn.old) (state S.Store conn.new) result }
+    ensures answered { IsAnswered (λ s heads. heads.items ≡ listed filter.now s) (state S.Store conn.old) (state S.Store conn.new) result }
+    ensures bounds { IfOk result (λ heads. AllByRecursion IsBounded heads.items) }
 {
-    match ask_jobs(conn, filter) {
-        Ok(rows) => match heads_in(alloc, &rows) {
-            Ok(heads) => Ok(heads),
-            Err(fault) => Err(fault.told()),
-        },
+    match list_jobs(alloc, conn, filter) {
+        Ok(heads) => {
+            if are_bounded(&heads) {
+                Ok(heads)
+            } else {
+                Err(StoreFault::Store(StoreKind::Database))
+            }
+        }
         Err(error) => Err(store_fault(conn, &error)),
     }
 }
@@ -262,26 +135,75 @@ pub(crate) fn find<S: Alter>(
     requires { conn.old.in_transaction ≡ false }
     ensures idle { conn.new.in_transaction ≡ false }
     ensures fresh { IfErr result IsFresh }
-    ensures replies { Replies (λ s found. (option_map job_shown found ≡ job_at s number) × IfSome found (λ job. job.0.size ≡ length job.1.items)) (state S.Store conn.old) (state S.Store conn.new) result }
+    ensures answered { IsAnswered (λ s found. (option_map job_shown found ≡ job_at s number) × IfSome found (λ job. job.0.size ≡ length job.1.items)) (state S.Store conn.old) (state S.Store conn.new) result }
+    ensures bounds { IfOk result (λ found. IfSome found (λ job. IsBounded job.0)) }
 {
-    match ask_job(conn, number) {
-        Ok(rows) => match job_in(alloc, &rows) {
-            Ok(job) => Ok(job),
-            Err(fault) => Err(fault.told()),
-        },
+    match job_of_number(alloc, conn, number) {
+        Ok(Some((head, bytes))) => {
+            if is_bounded(&head) {
+                Ok(Some((head, bytes)))
+            } else {
+                Err(StoreFault::Store(StoreKind::Database))
+            }
+        }
+        Ok(None) => Ok(None),
         Err(error) => Err(store_fault(conn, &error)),
     }
 }
 
-/// The next number.
-pub(crate) fn next<S: Alter>(conn: &mut Connection<S>) -> Result<u32, StoreFault>
+/// All systems in byte order of their names.
+pub(crate) fn systems<S: Alter>(
+    alloc: Global,
+    conn: &mut Connection<S>,
+) -> Result<Vec<SystemRow>, StoreFault>
     requires { conn.old.in_transaction ≡ false }
     ensures idle { conn.new.in_transaction ≡ false }
     ensures fresh { IfErr result IsFresh }
-    ensures replies { Replies (λ s next. next ≡ s.next) (state S.Store conn.old) (state S.Store conn.new) result }
+    ensures answered { IsAnswered (λ s systems. systems.items ≡ s.systems) (state S.Store conn.old) (state S.Store conn.new) result }
+    ensures bounds { IfOk result (λ systems. AllByRecursion IsTimed systems.items) }
 {
-    match next_number(conn) {
-        Ok(next) => Ok(next),
+    match all_systems(alloc, conn) {
+        Ok(systems) => {
+            if are_timed(&systems) {
+                Ok(systems)
+            } else {
+                Err(StoreFault::Store(StoreKind::Database))
+            }
+        }
+        Err(error) => Err(store_fault(conn, &error)),
+    }
+}
+
+/// The map entry of a host, if it is there.
+pub(crate) fn entry<S: Alter>(
+    alloc: Global,
+    conn: &mut Connection<S>,
+    host: &SiteName,
+) -> Result<Option<Vec<u8>>, StoreFault>
+    requires { conn.old.in_transaction ≡ false }
+    ensures idle { conn.new.in_transaction ≡ false }
+    ensures fresh { IfErr result IsFresh }
+    ensures answered { IsAnswered (λ s found. option_map (λ text. text.items) found ≡ option_map (λ entry. entry.bytes) (entry_at s host.now)) (state S.Store conn.old) (state S.Store conn.new) result }
+{
+    match entry_of_host(alloc, conn, host) {
+        Ok(answer) => Ok(answer),
+        Err(error) => Err(store_fault(conn, &error)),
+    }
+}
+
+/// What is due at the moment.
+pub(crate) fn due<S: Alter>(
+    alloc: Global,
+    conn: &mut Connection<S>,
+    at: &Moment,
+) -> Result<Vec<Due>, StoreFault>
+    requires { conn.old.in_transaction ≡ false }
+    ensures idle { conn.new.in_transaction ≡ false }
+    ensures fresh { IfErr result IsFresh }
+    ensures answered { IsAnswered (λ s dues. AreDue s.systems (map head_of s.jobs) at.now dues.items) (state S.Store conn.old) (state S.Store conn.new) result }
+{
+    match systems_due(alloc, conn, at) {
+        Ok(answer) => Ok(answer),
         Err(error) => Err(store_fault(conn, &error)),
     }
 }

@@ -3,26 +3,20 @@
 
 mod adopt;
 mod asked;
-mod check;
-mod columns;
-mod command;
-mod fault;
-mod filter;
+mod inspection;
 pub mod laws;
 mod open;
-mod rows;
+mod reading;
 mod spool;
-mod statements;
 mod tables;
-mod taking;
 
 pub use adopt::AdoptFault;
-pub use command::Command;
-pub use fault::{StoreFault, StoreKind};
-pub use filter::Filter;
 pub use open::{FileSpool, start, start_from};
 pub use spool::Spool;
-pub use uu_core::{By, JobHead, Kind, NewJob, Refusal, Reply};
+pub use uu_core::{
+    By, CallState, Command, Due, Filter, JobHead, Kind, NewJob, Outcome, Refusal, Reply, SystemRow,
+};
 pub use uu_map::Listed;
 pub use uu_names::{Grade, SiteName, Word};
+pub use uu_schema::{StoreFault, StoreKind};
 pub use uu_times::{Moment, SystemDef};

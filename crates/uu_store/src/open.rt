@@ -3,9 +3,10 @@ ghost use Rattle.std.specs.Prelude.{◌≡◌, ◌≢◌, false, IfOk, IfErr};
 ghost use Rattle.uu_store.specs.Spool.{has_failed};
 
 use crate::adopt::AdoptFault;
-use crate::fault::{StoreFault, kind_of};
 use crate::spool::Spool;
-use sqlite::{Connection, FileFrom, FileStore, Start, Wary};
+use sqlite::{Alter, Connection, Error, FileFrom, FileStore, Start, Wary};
+use std::alloc::Global;
+use uu_schema::{StoreFault, kind_of};
 use uu_sql::is_memory;
 
 /// A spool over a file.
@@ -21,15 +22,31 @@ pub fn start_from<T: Start>(
     ensures fresh { IfErr result (λ fault. fault ≢ StoreFault.Failed) }
 {
     match Connection::open_from(rt, path, true, start) {
-        Ok(conn) => match Spool::adopt(rt.alloc(), conn) {
-            Ok(spool) => Ok(spool),
-            Err(AdoptFault { fault, conn: _ }) => Err(fault),
-        },
-        Err((error, _)) => Err(if is_memory(&error) {
-            StoreFault::Memory
-        } else {
-            StoreFault::Store(kind_of(&error))
-        }),
+        Ok(conn) => adopted(rt.alloc(), conn),
+        Err((error, _)) => Err(opening_fault(&error)),
+    }
+}
+
+// The spool in a database that was opened.
+fn adopted<S: Alter + Drop>(alloc: Global, conn: Connection<S>) -> Result<Spool<S>, StoreFault>
+    requires { conn.in_transaction ≡ false }
+    ensures usable { IfOk result (λ spool. has_failed spool ≡ false) }
+    ensures fresh { IfErr result (λ fault. fault ≢ StoreFault.Failed) }
+{
+    match Spool::adopt(alloc, conn) {
+        Ok(spool) => Ok(spool),
+        Err(AdoptFault { fault, conn: _ }) => Err(fault),
+    }
+}
+
+// Why a file was not opened.
+fn opening_fault(error: &Error) -> StoreFault
+    ensures { result ≢ StoreFault.Failed }
+{
+    if is_memory(error) {
+        StoreFault::Memory
+    } else {
+        StoreFault::Store(kind_of(error))
     }
 }
 

@@ -1,18 +1,18 @@
 // The spool over one connection.
 ghost use Rattle.std.specs.Prelude.{◌≡◌, false};
 
-use crate::asked::{carry_out, find, list, next};
-use crate::command::Command;
-use crate::fault::StoreFault;
-use crate::filter::Filter;
+use crate::asked::{due, entry, find, give, list, next, systems};
 use sqlite::{Alter, Connection};
 use std::alloc::Global;
-use uu_core::{JobHead, Reply};
+use uu_core::{Command, Due, Filter, JobHead, Reply, SystemRow};
+use uu_names::SiteName;
+use uu_schema::StoreFault;
+use uu_times::Moment;
 
 /// A spool, over a connection that it owns.
 ///
 /// While nobody else writes the file and the disk returns what was written, a spool shows one state of the plain
-/// machine (`specs/Machine.antt`). A command is one step of the machine, and it is in the file once it is answered `Done` or `Number`.
+/// machine of `uu_core`. A command is one step of the machine, and it is in the file once it is answered `Done` or `Number`.
 #[derive(Drop)]
 pub struct Spool<S: Alter> {
     conn: Connection<S>,
@@ -21,11 +21,18 @@ pub struct Spool<S: Alter> {
 }
 
 impl<S: Alter> Spool<S> {
-    ghost use Rattle.std.specs.Prelude.{IsTrue, IfOk, IfErr, Err, MatchResult, option_map, IfSome, length};
+    ghost use Rattle.std.specs.Prelude.{IsTrue, IfOk, IfSome, Err, MatchResult, option_map, map, length};
+    ghost use Rattle.std.specs.List.{AllByRecursion};
+    ghost use Rattle.uu_core.specs.State.{head_of, job_at, entry_at};
+    ghost use Rattle.uu_core.specs.Due.{AreDue};
+    ghost use Rattle.uu_questions.specs.Listing.{listed};
+    ghost use Rattle.uu_store.specs.HandedOut.{IsBounded, IsTimed, job_shown};
     ghost use Rattle.sqlite.specs.State.{HasCleanDisk};
     ghost use Rattle.sqlite.specs.Held.{state};
-    ghost use Rattle.uu_store.specs.Machine.{after, reply_of, listed_heads, job_at};
-    ghost use Rattle.uu_store.specs.Encoded.{Leaves, LeavesEither, IsFresh, job_shown};
+    ghost use Rattle.uu_core.specs.After.{after};
+    ghost use Rattle.uu_schema.specs.Faults.{IsFresh};
+    ghost use Rattle.uu_store.specs.Calls.{StaysUnclean};
+    ghost use Rattle.uu_store.specs.Encoded.{Leaves, LeavesEither};
     ghost use Rattle.uu_store.specs.Spool.{connection_of, disk, has_failed, Shows, Marks};
 
     /// A spool over a connection whose tables are those of one.
@@ -63,18 +70,19 @@ impl<S: Alter> Spool<S> {
         fault
     }
 
-    /// Carries out one command. Its last call of the database is the commit.
+    /// Carries out one command. Its last call of the database is the commit; a refused command makes no change.
     pub fn command(&mut self, alloc: Global, command: Command) -> Result<Reply, StoreFault>
         ensures marked { MatchResult result (λ _. (has_failed self.old ≡ false) × (has_failed self.new ≡ false)) (Marks (has_failed self.old) (has_failed self.new)) }
 
         // On a clean store a command is one step of the machine.
-        ensures step { HasCleanDisk (disk self.new) → (s : _) → Shows self.old s → IfOk result (λ reply. (reply ≡ reply_of s command) × Shows self.new (after s command)) }
+        ensures step { HasCleanDisk (disk self.new) → (s : _) → Shows self.old s → IfOk result (λ reply. (reply ≡ (after s command).1) × Shows self.new (after s command).0) }
         ensures memory { HasCleanDisk (disk self.new) → (s : _) → Shows self.old s → result ≡ Err StoreFault.Memory → Shows self.new s }
 
         // What a stop at its end leaves.
-        ensures stop_ok { HasCleanDisk (disk self.new) → (s : _) → Shows self.old s → IfOk result (λ _. Leaves (disk self.new) (after s command)) }
+        ensures stop_ok { HasCleanDisk (disk self.new) → (s : _) → Shows self.old s → IfOk result (λ _. Leaves (disk self.new) (after s command).0) }
         ensures stop_memory { HasCleanDisk (disk self.new) → (s : _) → Shows self.old s → result ≡ Err StoreFault.Memory → Leaves (disk self.new) s }
-        ensures stop_store { HasCleanDisk (disk self.new) → (s : _) → Shows self.old s → LeavesEither (disk self.new) s (after s command) }
+        ensures stop_store { HasCleanDisk (disk self.new) → (s : _) → Shows self.old s → LeavesEither (disk self.new) s (after s command).0 }
+        ensures clean { StaysUnclean (disk self.old) (disk self.new) }
 
         // A spool that failed is left as it was.
         ensures failed { IsTrue (has_failed self.old) → (result ≡ Err StoreFault.Failed) × (self.new ≡ self.old) }
@@ -82,7 +90,7 @@ impl<S: Alter> Spool<S> {
         if self.failed {
             return Err(StoreFault::Failed);
         }
-        match carry_out(alloc, &mut self.conn, &command) {
+        match give(alloc, &mut self.conn, &command) {
             Ok(reply) => Ok(reply),
             Err(fault) => Err(self.noted(fault)),
         }
@@ -91,9 +99,11 @@ impl<S: Alter> Spool<S> {
     /// The heads of the jobs that fit, by grade, the highest first, and in one grade by number.
     pub fn jobs(&mut self, alloc: Global, filter: &Filter) -> Result<Vec<JobHead>, StoreFault>
         ensures marked { MatchResult result (λ _. (has_failed self.old ≡ false) × (has_failed self.new ≡ false)) (Marks (has_failed self.old) (has_failed self.new)) }
-        ensures answer { HasCleanDisk (disk self.new) → (s : _) → Shows self.old s → IfOk result (λ heads. (heads.items ≡ listed_heads filter.now s) × Shows self.new s) }
+        ensures answer { HasCleanDisk (disk self.new) → (s : _) → Shows self.old s → IfOk result (λ heads. (heads.items ≡ listed filter.now s) × Shows self.new s) }
+        ensures bounds { IfOk result (λ heads. AllByRecursion IsBounded heads.items) }
         ensures memory { HasCleanDisk (disk self.new) → (s : _) → Shows self.old s → result ≡ Err StoreFault.Memory → Shows self.new s }
         ensures stop { HasCleanDisk (disk self.new) → (s : _) → Shows self.old s → Leaves (disk self.new) s }
+        ensures clean { StaysUnclean (disk self.old) (disk self.new) }
         ensures failed { IsTrue (has_failed self.old) → (result ≡ Err StoreFault.Failed) × (self.new ≡ self.old) }
     {
         if self.failed {
@@ -114,8 +124,10 @@ impl<S: Alter> Spool<S> {
         ensures marked { MatchResult result (λ _. (has_failed self.old ≡ false) × (has_failed self.new ≡ false)) (Marks (has_failed self.old) (has_failed self.new)) }
         ensures answer { HasCleanDisk (disk self.new) → (s : _) → Shows self.old s → IfOk result (λ found. (option_map job_shown found ≡ job_at s number) × Shows self.new s) }
         ensures size { HasCleanDisk (disk self.new) → (s : _) → Shows self.old s → IfOk result (λ found. IfSome found (λ job. job.0.size ≡ length job.1.items)) }
+        ensures bounds { IfOk result (λ found. IfSome found (λ job. IsBounded job.0)) }
         ensures memory { HasCleanDisk (disk self.new) → (s : _) → Shows self.old s → result ≡ Err StoreFault.Memory → Shows self.new s }
         ensures stop { HasCleanDisk (disk self.new) → (s : _) → Shows self.old s → Leaves (disk self.new) s }
+        ensures clean { StaysUnclean (disk self.old) (disk self.new) }
         ensures failed { IsTrue (has_failed self.old) → (result ≡ Err StoreFault.Failed) × (self.new ≡ self.old) }
     {
         if self.failed {
@@ -127,12 +139,68 @@ impl<S: Alter> Spool<S> {
         }
     }
 
+    /// All systems with their definitions and call states, in byte order of their names.
+    pub fn systems(&mut self, alloc: Global) -> Result<Vec<SystemRow>, StoreFault>
+        ensures marked { MatchResult result (λ _. (has_failed self.old ≡ false) × (has_failed self.new ≡ false)) (Marks (has_failed self.old) (has_failed self.new)) }
+        ensures answer { HasCleanDisk (disk self.new) → (s : _) → Shows self.old s → IfOk result (λ systems. (systems.items ≡ s.systems) × Shows self.new s) }
+        ensures bounds { IfOk result (λ systems. AllByRecursion IsTimed systems.items) }
+        ensures memory { HasCleanDisk (disk self.new) → (s : _) → Shows self.old s → result ≡ Err StoreFault.Memory → Shows self.new s }
+        ensures stop { HasCleanDisk (disk self.new) → (s : _) → Shows self.old s → Leaves (disk self.new) s }
+        ensures clean { StaysUnclean (disk self.old) (disk self.new) }
+        ensures failed { IsTrue (has_failed self.old) → (result ≡ Err StoreFault.Failed) × (self.new ≡ self.old) }
+    {
+        if self.failed {
+            return Err(StoreFault::Failed);
+        }
+        match systems(alloc, &mut self.conn) {
+            Ok(answer) => Ok(answer),
+            Err(fault) => Err(self.noted(fault)),
+        }
+    }
+
+    /// What is due at the moment: each system that may be called then, with its first job by grade and number.
+    pub fn due(&mut self, alloc: Global, at: &Moment) -> Result<Vec<Due>, StoreFault>
+        ensures marked { MatchResult result (λ _. (has_failed self.old ≡ false) × (has_failed self.new ≡ false)) (Marks (has_failed self.old) (has_failed self.new)) }
+        ensures answer { HasCleanDisk (disk self.new) → (s : _) → Shows self.old s → IfOk result (λ dues. AreDue s.systems (map head_of s.jobs) at.now dues.items × Shows self.new s) }
+        ensures memory { HasCleanDisk (disk self.new) → (s : _) → Shows self.old s → result ≡ Err StoreFault.Memory → Shows self.new s }
+        ensures stop { HasCleanDisk (disk self.new) → (s : _) → Shows self.old s → Leaves (disk self.new) s }
+        ensures clean { StaysUnclean (disk self.old) (disk self.new) }
+        ensures failed { IsTrue (has_failed self.old) → (result ≡ Err StoreFault.Failed) × (self.new ≡ self.old) }
+    {
+        if self.failed {
+            return Err(StoreFault::Failed);
+        }
+        match due(alloc, &mut self.conn, at) {
+            Ok(answer) => Ok(answer),
+            Err(fault) => Err(self.noted(fault)),
+        }
+    }
+
+    /// The text of the map entry of a host, if it is there.
+    pub fn entry(&mut self, alloc: Global, host: &SiteName) -> Result<Option<Vec<u8>>, StoreFault>
+        ensures marked { MatchResult result (λ _. (has_failed self.old ≡ false) × (has_failed self.new ≡ false)) (Marks (has_failed self.old) (has_failed self.new)) }
+        ensures answer { HasCleanDisk (disk self.new) → (s : _) → Shows self.old s → IfOk result (λ found. (option_map (λ text. text.items) found ≡ option_map (λ entry. entry.bytes) (entry_at s host.now)) × Shows self.new s) }
+        ensures memory { HasCleanDisk (disk self.new) → (s : _) → Shows self.old s → result ≡ Err StoreFault.Memory → Shows self.new s }
+        ensures stop { HasCleanDisk (disk self.new) → (s : _) → Shows self.old s → Leaves (disk self.new) s }
+        ensures clean { StaysUnclean (disk self.old) (disk self.new) }
+        ensures failed { IsTrue (has_failed self.old) → (result ≡ Err StoreFault.Failed) × (self.new ≡ self.old) }
+    {
+        if self.failed {
+            return Err(StoreFault::Failed);
+        }
+        match entry(alloc, &mut self.conn, host) {
+            Ok(answer) => Ok(answer),
+            Err(fault) => Err(self.noted(fault)),
+        }
+    }
+
     /// The number that the next job gets.
     pub fn next(&mut self) -> Result<u32, StoreFault>
         ensures marked { MatchResult result (λ _. (has_failed self.old ≡ false) × (has_failed self.new ≡ false)) (Marks (has_failed self.old) (has_failed self.new)) }
         ensures answer { HasCleanDisk (disk self.new) → (s : _) → Shows self.old s → IfOk result (λ next. (next ≡ s.next) × Shows self.new s) }
         ensures memory { HasCleanDisk (disk self.new) → (s : _) → Shows self.old s → result ≡ Err StoreFault.Memory → Shows self.new s }
         ensures stop { HasCleanDisk (disk self.new) → (s : _) → Shows self.old s → Leaves (disk self.new) s }
+        ensures clean { StaysUnclean (disk self.old) (disk self.new) }
         ensures failed { IsTrue (has_failed self.old) → (result ≡ Err StoreFault.Failed) × (self.new ≡ self.old) }
     {
         if self.failed {

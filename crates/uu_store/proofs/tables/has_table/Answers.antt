@@ -2,7 +2,7 @@ use Rattle.std.proofs.Common.{◌≡◌, map, false, None, refl, sym, ap, ◌∙
 use Rattle.std.specs.List.{list_all}
 use Rattle.std.specs.Option.{option_copied, option_map_or}
 use Rattle.std.proofs.lemmas.List.Folds.{list_all-map}
-use Rattle.uu_store.specs.Tables.{table_of, has_column}
+use Rattle.uu_store.specs.FoundTables.{table_of, has_column}
 use Rattle.uu_store.proofs.tables.has_table.Goals as goal
 
 pub returns-in-Some : goal.returns-in-Some

@@ -9,4 +9,4 @@ returns-in-Err-clause-stop g c clean s shows =
     let same = c.noted.ensures.connection in
     subst (λ h. Leaves (state g.S.Store h) s) (sym same)
     (λ trees may. leaves s (state g.S.Store c.args.self.now.conn) (g.met.S.Store.settled c.args.self.now.conn.store) shows.rests shows.encodes trees
-    (c.list.ensures.replies.stop (clean_before c.noted.new.self c.list.new.conn same clean) s shows.rests shows.encodes trees may))
+    (c.list.ensures.answered.stop (clean_before c.noted.new.self c.list.new.conn same clean) s shows.rests shows.encodes trees may))

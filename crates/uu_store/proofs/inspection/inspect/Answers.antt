@@ -1,0 +1,25 @@
+use Rattle.std.proofs.Common.{◌≡◌, subst}
+use Rattle.sqlite.specs.Held.{state}
+use Rattle.uu_store.specs.Adoption.{Finds}
+use Rattle.uu_store.proofs.Resting.{answered}
+use Rattle.uu_store.proofs.Inspecting.{inspected_spool, inspected_foreign, inspected_later, inspected_err}
+use Rattle.uu_store.proofs.inspection.inspect.Goals as goal
+
+pub returns-in-Ok-Spool-clause-inspected : goal.returns-in-Ok-Spool-clause-inspected
+returns-in-Ok-Spool-clause-inspected g c whole =
+    inspected_spool (state g.S.Store c.args.conn.now) (state g.S.Store c.find_out.new.conn) c.find_out.result (answered _ _ c.in-Ok-Spool.is) c.find_out.ensures.told
+    (λ clean stands. subst (λ finding. Finds finding (state g.S.Store c.args.conn.now).now.trees) c.in-Ok-Spool.field-0-is (c.in-Ok-Spool.ensures.finding clean stands whole))
+
+pub returns-in-Ok-Foreign-clause-inspected : goal.returns-in-Ok-Foreign-clause-inspected
+returns-in-Ok-Foreign-clause-inspected g c whole =
+    inspected_foreign (state g.S.Store c.args.conn.now) (state g.S.Store c.find_out.new.conn) c.find_out.result (answered _ _ c.in-Ok-Foreign.is) c.find_out.ensures.told
+    (λ clean stands. subst (λ finding. Finds finding (state g.S.Store c.args.conn.now).now.trees) c.in-Ok-Foreign.field-0-is (c.in-Ok-Foreign.ensures.finding clean stands whole))
+
+pub returns-in-Ok-Later-clause-inspected : goal.returns-in-Ok-Later-clause-inspected
+returns-in-Ok-Later-clause-inspected g c whole =
+    inspected_later (state g.S.Store c.args.conn.now) (state g.S.Store c.find_out.new.conn) c.find_out.result (answered _ _ c.in-Ok-Later.is) c.find_out.ensures.told
+    (λ clean stands. subst (λ finding. Finds finding (state g.S.Store c.args.conn.now).now.trees) c.in-Ok-Later.field-0-is (c.in-Ok-Later.ensures.finding clean stands whole))
+
+pub returns-in-Err-clause-inspected : goal.returns-in-Err-clause-inspected
+returns-in-Err-clause-inspected g c whole =
+    inspected_err (state g.S.Store c.args.conn.now) (state g.S.Store c.find_out.new.conn) (state g.S.Store c.store_fault.new.conn) c.store_fault.result c.find_out.ensures.told.asked c.store_fault.ensures.fresh c.store_fault.ensures.memory c.store_fault.ensures.survives

@@ -1,0 +1,30 @@
+-- What is handed out of a job, and within which limits, whatever the store. (The limits are this project's choice.)
+use Rattle.std.specs.Prelude.{ℕ, ◌≤◌, Bool, ◌&&◌, nat_le, List, Vec}
+use Rattle.std.specs.declared.alloc.Global.{Global}
+use Rattle.uu_core.specs.declared.job.JobHead.{JobHead}
+use Rattle.uu_core.specs.declared.system.SystemRow.{SystemRow}
+use Rattle.uu_core.specs.State.{Job, last_second, most_bytes}
+
+-- a head and the bytes that go with it
+abbrev pub job_with : JobHead → List ℕ → Job
+job_with head bytes = record { number = head.number; system = head.system; grade = head.grade; user = head.user; kind = head.kind; queued = head.queued; bytes = bytes }
+
+-- a job as it is handed out
+abbrev pub job_shown : JobHead × Vec ℕ Global → Job
+job_shown job = job_with job.0 job.1.items
+
+-- within the limits that a report relies on
+pub record IsBounded (head : JobHead) : Type 0 where
+  pub queued : head.queued ≤ last_second
+  pub size : head.size ≤ most_bytes
+
+-- the last call is within the moments
+abbrev pub IsTimed : SystemRow → Type 0
+IsTimed row = row.call.last ≤ last_second
+
+-- the same as tests
+abbrev pub is_bounded : JobHead → Bool
+is_bounded head = nat_le head.queued last_second && nat_le head.size most_bytes
+
+abbrev pub is_timed : SystemRow → Bool
+is_timed row = nat_le row.call.last last_second

@@ -1,0 +1,344 @@
+// Worked rows: commands with their replies and questions with their answers, given to a spool in memory, and then to another beside the
+// plain machine.
+ghost use Rattle.std.specs.Prelude.{◌≡◌, false};
+
+use crate::order::{ANY, ANY_30, HIGH, MONDAY, NIGHT, OFFICE, Order, SUNDAY, Work};
+use crate::questions::Question::{Chosen, Due, Entry, Job, Jobs, Next, Systems};
+use crate::questions::Step::{Does, Says};
+use crate::questions::{Step, compare, play};
+use sqlite::{Alter, Connection, MemStore};
+use std::alloc::Global;
+use std::process::Abort;
+use uu_store::Reply::{Done, Number, Refused};
+use uu_store::{Refusal, Spool};
+
+/// The spool that this database has to be taken as.
+fn taken<S: Alter + Drop>(rt: &impl Abort, alloc: Global, conn: Connection<S>) -> Spool<S>
+    requires { conn.in_transaction ≡ false }
+{
+    match Spool::adopt(alloc, conn) {
+        Ok(spool) => spool,
+        Err(_) => panic!(rt; "it was not taken"),
+    }
+}
+
+fn fresh(rt: &impl Abort, alloc: Global) -> Spool<MemStore> {
+    let conn = Connection::open_in_memory(alloc).expect(rt, "memory");
+    taken(rt, alloc, conn)
+}
+
+/// Takes a fresh spool through steps, and another beside the plain machine.
+fn play_anew(rt: &impl Abort, alloc: Global, steps: &[Step]) {
+    play(rt, alloc, &mut fresh(rt, alloc), steps);
+    compare(rt, alloc, &mut fresh(rt, alloc), steps);
+}
+
+/// A system that may be called all week.
+const DUKE: Step = Does(Order::Define("duke", ANY, 26), Done);
+
+const UNC: Step = Does(Order::Define("unc", ANY, 26), Done);
+
+const SIZES: &[Step] = &[
+    DUKE,
+    Does(Order::Queue("duke", b'N', Work::Send, 1_048_576), Number(1)),
+    Does(
+        Order::Queue("duke", b'N', Work::Send, 1_048_577),
+        Refused(Refusal::TooLarge),
+    ),
+    Does(Order::File("duke", b'N'), Number(2)),
+    Does(
+        Order::Queue("unc", b'N', Work::Send, 1_048_577),
+        Refused(Refusal::TooLarge),
+    ),
+    Does(Order::File("unc", b'N'), Refused(Refusal::NoSystem)),
+    Does(
+        Order::Queue("duke", b'N', Work::Execute(65), 0),
+        Refused(Refusal::TooLarge),
+    ),
+    Does(Order::Queue("duke", b'N', Work::Execute(64), 0), Number(3)),
+    Says(
+        Jobs("", ""),
+        "1 duke ann N 1048576 1000000000 send /tmp/news ~/news/2 duke ann N 0 1000000000 send /tmp/news ~/news/3 duke ann N 0 1000000000 execute /tmp/news 64/",
+    ),
+    Says(Job(4), ""),
+    Says(Next, "4"),
+];
+
+#[test]
+fn sizes_of_jobs(rt: HostRuntime) {
+    play_anew(&rt, rt.alloc(), SIZES);
+}
+
+const FIVE_GRADES: &[Step] = &[
+    DUKE,
+    Does(Order::File("duke", b'z'), Number(1)),
+    Does(Order::File("duke", b'a'), Number(2)),
+    Does(Order::File("duke", b'9'), Number(3)),
+    Does(Order::File("duke", b'A'), Number(4)),
+    Does(Order::File("duke", b'0'), Number(5)),
+    Says(
+        Jobs("", ""),
+        "5 duke ann 0 0 1000000000 send /tmp/news ~/news/3 duke ann 9 0 1000000000 send /tmp/news ~/news/4 duke ann A 0 1000000000 send /tmp/news ~/news/2 duke ann a 0 1000000000 send /tmp/news ~/news/1 duke ann z 0 1000000000 send /tmp/news ~/news/",
+    ),
+];
+
+#[test]
+fn digits_come_before_letters(rt: HostRuntime) {
+    play_anew(&rt, rt.alloc(), FIVE_GRADES);
+}
+
+const REGRADING: &[Step] = &[
+    DUKE,
+    Does(Order::File("duke", b'a'), Number(1)),
+    Does(Order::File("duke", b'N'), Number(2)),
+    Says(
+        Jobs("duke", ""),
+        "2 duke ann N 0 1000000000 send /tmp/news ~/news/1 duke ann a 0 1000000000 send /tmp/news ~/news/",
+    ),
+    Does(Order::Regrade(1, b'N'), Done),
+    Says(
+        Jobs("duke", ""),
+        "1 duke ann N 0 1000000000 send /tmp/news ~/news/2 duke ann N 0 1000000000 send /tmp/news ~/news/",
+    ),
+    Does(Order::Regrade(3, b'N'), Refused(Refusal::NoJob)),
+];
+
+#[test]
+fn regrading_keeps_the_number(rt: HostRuntime) {
+    play_anew(&rt, rt.alloc(), REGRADING);
+}
+
+// Monday at 10:00 is minute 2,040 of the week, at which the lower grade's retry number counts.
+const TWO_LINES: &[Step] = &[
+    Does(Order::Define("duke", OFFICE, 26), Done),
+    Does(Order::Failed("duke", MONDAY), Done),
+    Says(
+        Systems,
+        "duke 26 [z 30 0-10079] [C 5 1980-2460 3420-3900 4860-5340 6300-6780 7740-8220] 1 1800 1000116000 busy/",
+    ),
+];
+
+#[test]
+fn the_wait_is_that_of_the_lower_grade(rt: HostRuntime) {
+    play_anew(&rt, rt.alloc(), TWO_LINES);
+}
+
+const AGAIN: Step = Does(Order::Failed("duke", SUNDAY), Done);
+
+const WAITS: &[Step] = &[
+    DUKE,
+    Says(Systems, "duke 26 [z 0 0-10079] 0 0 0 never/"),
+    AGAIN,
+    Says(Systems, "duke 26 [z 0 0-10079] 1 600 1000000000 busy/"),
+    AGAIN,
+    Says(Systems, "duke 26 [z 0 0-10079] 2 1200 1000000000 busy/"),
+    AGAIN,
+    Says(Systems, "duke 26 [z 0 0-10079] 3 2400 1000000000 busy/"),
+    AGAIN,
+    Says(Systems, "duke 26 [z 0 0-10079] 4 4800 1000000000 busy/"),
+    AGAIN,
+    Says(Systems, "duke 26 [z 0 0-10079] 5 9600 1000000000 busy/"),
+    AGAIN,
+    Says(Systems, "duke 26 [z 0 0-10079] 6 19200 1000000000 busy/"),
+    AGAIN,
+    Says(Systems, "duke 26 [z 0 0-10079] 7 38400 1000000000 busy/"),
+    AGAIN,
+    Says(Systems, "duke 26 [z 0 0-10079] 8 76800 1000000000 busy/"),
+    AGAIN,
+    Says(Systems, "duke 26 [z 0 0-10079] 9 86400 1000000000 busy/"),
+    // A new definition keeps the calls.
+    Does(Order::Define("duke", HIGH, 26), Done),
+    Says(Systems, "duke 26 [C 0 0-10079] 9 86400 1000000000 busy/"),
+    Does(Order::Called("duke", &[]), Done),
+    Says(Systems, "duke 26 [C 0 0-10079] 0 0 1000116000 done/"),
+];
+
+#[test]
+fn waits_grow_until_a_call_goes_through(rt: HostRuntime) {
+    play_anew(&rt, rt.alloc(), WAITS);
+}
+
+const MOST_RETRIES: &[Step] = &[
+    Does(Order::Define("duke", ANY_30, 2), Done),
+    Does(Order::File("duke", b'N'), Number(1)),
+    Does(Order::Failed("duke", SUNDAY), Done),
+    Says(Systems, "duke 2 [z 30 0-10079] 1 1800 1000000000 busy/"),
+    Does(Order::Failed("duke", MONDAY), Done),
+    Says(Systems, "duke 2 [z 30 0-10079] 2 86400 1000116000 busy/"),
+    Says(Due(MONDAY - 1), "duke N 1/"),
+    Says(Due(MONDAY), ""),
+    Says(Due(MONDAY + 86_399), ""),
+    Says(Due(MONDAY + 86_400), "duke N 1/"),
+];
+
+#[test]
+fn a_day_is_waited_after_the_most_retries(rt: HostRuntime) {
+    play_anew(&rt, rt.alloc(), MOST_RETRIES);
+}
+
+const THREE_LEFT: Step = Says(
+    Jobs("", ""),
+    "1 duke ann N 0 1000000000 send /tmp/news ~/news/2 duke ann N 0 1000000000 send /tmp/news ~/news/3 unc ann N 0 1000000000 send /tmp/news ~/news/",
+);
+
+// Job 4 of four is killed, and then reports are refused.
+const REPORTS: &[Step] = &[
+    UNC,
+    DUKE,
+    Does(Order::File("duke", b'N'), Number(1)),
+    Does(Order::File("duke", b'N'), Number(2)),
+    Does(Order::File("unc", b'N'), Number(3)),
+    Does(Order::File("duke", b'N'), Number(4)),
+    Does(Order::Kill(4, "ann", false), Done),
+    Does(Order::Called("duke", &[1, 1]), Refused(Refusal::JobTwice)),
+    THREE_LEFT,
+    Does(
+        Order::Called("duke", &[1, 3]),
+        Refused(Refusal::OtherSystem),
+    ),
+    THREE_LEFT,
+    Does(Order::Called("duke", &[1, 4]), Refused(Refusal::NoJob)),
+    THREE_LEFT,
+    Does(Order::Called("duke", &[1; 257]), Refused(Refusal::TooLarge)),
+    THREE_LEFT,
+    Does(Order::Called("duke", &[2, 1]), Done),
+    Says(
+        Jobs("", ""),
+        "3 unc ann N 0 1000000000 send /tmp/news ~/news/",
+    ),
+];
+
+#[test]
+fn refused_reports_leave_the_jobs(rt: HostRuntime) {
+    play_anew(&rt, rt.alloc(), REPORTS);
+}
+
+const USERS: &[Step] = &[
+    UNC,
+    DUKE,
+    Does(Order::File("duke", b'N'), Number(1)),
+    Does(Order::File("duke", b'N'), Number(2)),
+    Does(Order::File("unc", b'N'), Number(3)),
+    Does(Order::Kill(1, "bob", false), Refused(Refusal::NotYours)),
+    Does(Order::Kill(1, "ann", false), Done),
+    Does(Order::Kill(2, "root", true), Done),
+    Does(Order::Kill(7, "root", true), Refused(Refusal::NoJob)),
+    Does(Order::Remove("unc"), Refused(Refusal::Busy)),
+    Does(Order::Remove("phs"), Refused(Refusal::NoSystem)),
+    Does(Order::Failed("phs", MONDAY), Refused(Refusal::NoSystem)),
+    Does(Order::Called("phs", &[]), Refused(Refusal::NoSystem)),
+    Does(Order::Remove("duke"), Done),
+    Says(
+        Jobs("", ""),
+        "3 unc ann N 0 1000000000 send /tmp/news ~/news/",
+    ),
+    Says(Systems, "unc 26 [z 0 0-10079] 0 0 0 never/"),
+];
+
+#[test]
+fn refused_users_and_systems(rt: HostRuntime) {
+    play_anew(&rt, rt.alloc(), USERS);
+}
+
+const HELD_AND_LOW: &[Step] = &[
+    Does(Order::Define("duke", HIGH, 26), Done),
+    UNC,
+    Does(Order::Define("phs", &[], 26), Done),
+    Does(Order::File("duke", b'a'), Number(1)),
+    Does(Order::File("duke", b'B'), Number(2)),
+    Does(Order::File("unc", b'z'), Number(3)),
+    Does(Order::File("unc", b'9'), Number(4)),
+    Does(Order::File("phs", b'0'), Number(5)),
+    Says(Due(SUNDAY), "unc 9 4/duke B 2/"),
+    Says(Chosen(SUNDAY), "unc 9 4/duke B 2/"),
+    Does(Order::Failed("unc", SUNDAY), Done),
+    Says(Due(SUNDAY), "duke B 2/"),
+    Says(Chosen(SUNDAY), "duke B 2/"),
+    Does(Order::Kill(2, "root", true), Done),
+    Says(Due(SUNDAY), ""),
+    Says(Chosen(SUNDAY), ""),
+    Says(Due(SUNDAY + 600), "unc 9 4/"),
+    Says(Chosen(SUNDAY + 600), "unc 9 4/"),
+];
+
+#[test]
+fn held_systems_and_low_grades(rt: HostRuntime) {
+    play_anew(&rt, rt.alloc(), HELD_AND_LOW);
+}
+
+// From Monday 23:05 to Tuesday 07:55.
+const NIGHTS: &[Step] = &[
+    Does(Order::Define("duke", NIGHT, 26), Done),
+    Does(Order::File("duke", b'N'), Number(1)),
+    Says(
+        Systems,
+        "duke 26 [z 0 1440-1915 2825-3355 4265-4795 5705-6235 7145-7675 8585-8639] 0 0 0 never/",
+    ),
+    Says(Due(1_000_163_099), ""),
+    Says(Due(1_000_163_100), "duke N 1/"),
+    Says(Due(1_000_194_959), "duke N 1/"),
+    Says(Due(1_000_194_960), ""),
+    Says(Chosen(1_000_163_099), ""),
+    Says(Chosen(1_000_163_100), "duke N 1/"),
+    Says(Chosen(1_000_194_959), "duke N 1/"),
+    Says(Chosen(1_000_194_960), ""),
+];
+
+#[test]
+fn a_system_is_called_in_its_windows(rt: HostRuntime) {
+    play_anew(&rt, rt.alloc(), NIGHTS);
+}
+
+const REJUVENATED: &[Step] = &[
+    DUKE,
+    Does(Order::Queue("duke", b'N', Work::Send, 3), Number(1)),
+    Says(
+        Job(1),
+        "1 duke ann N 3 1000000000 send /tmp/news ~/news/abc",
+    ),
+    Does(Order::Rejuvenate(1), Done),
+    Says(
+        Jobs("duke", "ann"),
+        "1 duke ann N 3 1000116000 send /tmp/news ~/news/",
+    ),
+    Says(Jobs("", "bob"), ""),
+    Says(Jobs("unc", ""), ""),
+];
+
+#[test]
+fn a_rejuvenated_job_counts_as_handed_in_now(rt: HostRuntime) {
+    play_anew(&rt, rt.alloc(), REJUVENATED);
+}
+
+const ENTRIES: &[Step] = &[
+    Does(Order::Entry("#N unc\nunc duke(5)\n"), Done),
+    Says(Entry("unc"), "#N unc\nunc duke(5)\n"),
+    Does(Order::Entry("#N unc\nunc phs(7/2)\n"), Done),
+    Says(Entry("unc"), "#N unc\nunc phs(7/2)\n"),
+    Does(Order::Entry("#N a*b\n"), Refused(Refusal::BadEntry)),
+    Says(Entry("duke"), ""),
+];
+
+#[test]
+fn entries_are_replaced_whole(rt: HostRuntime) {
+    play_anew(&rt, rt.alloc(), ENTRIES);
+}
+
+const LAST_NUMBER: &[Step] = &[
+    Does(Order::File("duke", b'N'), Number(4_294_967_294)),
+    Says(Next, "4294967295"),
+    Does(Order::File("duke", b'N'), Refused(Refusal::NumbersOut)),
+    Says(Next, "4294967295"),
+];
+
+#[test]
+fn numbers_end(rt: HostRuntime) {
+    let alloc = rt.alloc();
+    let mut spool = fresh(&rt, alloc);
+    play(&rt, alloc, &mut spool, &[DUKE]);
+    let mut conn = spool.release();
+    let changed = conn.execute("UPDATE spool SET next = 4294967294", &[]);
+    assert_eq!(rt; changed.expect(&rt, "a change"), 1);
+    assert!(rt; conn.is_autocommit());
+    play(&rt, alloc, &mut taken(&rt, alloc, conn), LAST_NUMBER);
+}
