@@ -1,7 +1,5 @@
 pub mod FaultLemmas
 pub mod Letters
 pub mod ReportLemmas
-pub mod ProgramLemmas
-pub mod LineLemmas
 pub mod ServedLemmas
 pub mod Years

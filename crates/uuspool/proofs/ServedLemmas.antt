@@ -1,19 +1,20 @@
 -- What a line does, at equal tasks and seconds, and the faults of its task.
-use Rattle.std.proofs.Common.{◌≡◌, Bool, inl, ℕ, List, length, Result, Ok, Err, IfOk, ap, subst, sym}
-use Rattle.uu_core.specs.State.{head_of}
+use Rattle.std.proofs.Common.{◌≡◌, ℕ, List, length, Result, Ok, Err, IfOk, IsOkAnd, ap, subst, sym}
+use Rattle.std.specs.declared.alloc.AllocError.{AllocError}
+use Rattle.uu_core.specs.State.{State, head_of}
 use Rattle.uu_core.specs.declared.job.JobHead.{JobHead}
-use Rattle.uu_store.specs.Encoded.{job_with}
-use Rattle.uu_store.specs.Machine.{State}
-use Rattle.uu_store.specs.Spool.{Marks}
-use Rattle.uu_store.specs.declared.fault.StoreFault.{StoreFault}
-use Rattle.uu_store.specs.declared.fault.StoreFault.TheVariants as store
-use Rattle.uuspool.specs.Served.{IsDone, IsEarly, IsLate, IsOfCall, IsTaskFault, IsToldOf}
-use Rattle.clap.specs.Words.{Text}
+use Rattle.uu_core.specs.declared.job.NewJob.{NewJob}
+use Rattle.uu_store.specs.HandedOut.{job_with}
+use Rattle.uuspool.specs.Served.{IsDone, IsEarly, IsLate, IsTaskFault}
+use Rattle.uu_line.specs.Lines as line
+use Rattle.uu_line.specs.declared.fault.LineFault.{LineFault}
+use Rattle.uu_line.specs.declared.fault.LineFault.TheVariants as of_line
+use Rattle.uuspool.specs.Faults.{told_line}
 use Rattle.uuspool.specs.Lines.{IsAnswerTo}
-use Rattle.uuspool.specs.declared.line.CallLine.{CallLine}
+use Rattle.uu_line.specs.declared.line.CallLine.{CallLine}
 use Rattle.uuspool.specs.declared.fault.Fault.{Fault}
 use Rattle.uuspool.specs.declared.fault.Fault.TheVariants as fault
-use Rattle.uuspool.specs.declared.line.Task.{Task}
+use Rattle.uu_line.specs.declared.task.Task.{Task}
 use Rattle.uuspool.specs.declared.settings.Settings.{Settings}
 
 pub as_task : (settings : Settings) (user : List ℕ) (second : ℕ) (input : List ℕ) (s : State) (status : ℕ)
@@ -27,10 +28,6 @@ pub at_second : (settings : Settings) (user : List ℕ) (second other : ℕ) (in
     → IsDone settings user other input s status written shows asked → IsDone settings user second input s status written shows asked
 at_second settings user second other input s status written shows asked is done =
     subst (λ x. IsDone settings user x input s status written shows asked) is done
-
-pub IfOk-always : {V E : Type 0} (r : Result V E) (P : V → Type 0) → ((v : V) → P v) → IfOk r P
-IfOk-always (Ok v) P always = always v
-IfOk-always (Err e) P always = tt
 
 -- a fault that comes once the spool is asked is none of those before
 pub late_is_not_early : (f : Fault) → IsLate f → IsEarly f → ⊥
@@ -59,22 +56,15 @@ late_of_task asked fault.Memory late = late
 pub shown_head : (head : JobHead) (bytes : List ℕ) → head.size ≡ length bytes → head ≡ head_of (job_with head bytes)
 shown_head head bytes same = ap (λ size. record head { size = size }) same
 
--- the fault that words are answered with
-pub told_words : (words : List Text) (now : ℕ) (input : List ℕ) (f : Fault) → (let answer : Result CallLine Fault = Err f in IsAnswerTo words answer) → IsToldOf words now input f
-told_words words now input (fault.Words text help) answer = inl answer
-told_words words now input (fault.Name why) answer = answer
-told_words words now input (fault.Time why) answer = absurd answer
-told_words words now input fault.TwoSystems answer = answer
-told_words words now input fault.Input answer = absurd answer
-told_words words now input (fault.Store why) answer = absurd answer
-told_words words now input fault.Read answer = absurd answer
-told_words words now input fault.Write answer = absurd answer
-told_words words now input fault.Memory answer = tt
+-- a fault of a line is the answer to its words, as the program tells it
+pub told_answer : (words : List (List ℕ)) (why : LineFault) → (let answer : Result CallLine LineFault = Err why in line.IsAnswerTo words answer)
+    → (let answer : Result CallLine Fault = Err (told_line why) in IsAnswerTo words answer)
+told_answer words (of_line.Words text help) answer = answer
+told_answer words (of_line.Name why) answer = answer
+told_answer words of_line.TwoSystems answer = answer
+told_answer words of_line.Memory answer = tt
 
--- an open spool is never told as foreign or of a later version
-pub of_call : (before afterwards : Bool) (f : StoreFault) → Marks before afterwards f → IsOfCall f
-of_call before afterwards store.Memory marks = tt
-of_call before afterwards (store.Store kind) marks = tt
-of_call before afterwards store.Failed marks = tt
-of_call before afterwards store.Foreign marks = marks
-of_call before afterwards store.Newer marks = marks
+-- a job that was made and given
+pub made_and_given : (made : Result NewJob AllocError) (P Q : NewJob → Type 0) → IfOk made P → IsOkAnd made Q → (job : NewJob) × P job × Q job
+made_and_given (Ok job) P Q is given = (job, is, given)
+made_and_given (Err e) P Q is given = absurd given

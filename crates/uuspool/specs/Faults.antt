@@ -1,16 +1,18 @@
 -- What the program tells of a fault: its number, its exit status and its line. All of it is this
 -- project's choice.
-use Rattle.std.specs.Prelude.{ℕ, ◌==◌, ◌++◌, ◌∷◌, [], true, false, List, codes, if◌then◌else◌}
+use Rattle.std.specs.Prelude.{ℕ, ◌==◌, ◌++◌, ◌∷◌, [], true, false, List, codes, if◌then◌else◌, ⊤}
 use Rattle.std.specs.Fmt.{decimal}
 use Rattle.std.specs.String.{string_bytes}
 use Rattle.uu_names.specs.declared.fault.NameFault.{NameFault}
 use Rattle.uu_names.specs.declared.fault.NameFault.TheVariants as name
 use Rattle.uu_times.specs.declared.fault.TimeFault.{TimeFault}
 use Rattle.uu_times.specs.declared.fault.TimeFault.TheVariants as time
+use Rattle.uu_line.specs.declared.fault.LineFault.{LineFault}
+use Rattle.uu_line.specs.declared.fault.LineFault.TheVariants as line
 use Rattle.uuspool.specs.declared.fault.Fault.{Fault}
 use Rattle.uuspool.specs.declared.fault.Fault.TheVariants as fault
-use Rattle.uu_store.specs.declared.fault.StoreFault.{StoreFault}
-use Rattle.uu_store.specs.declared.fault.StoreFault.TheVariants as store
+use Rattle.uu_schema.specs.declared.fault.StoreFault.{StoreFault}
+use Rattle.uu_schema.specs.declared.fault.StoreFault.TheVariants as store
 
 -- the number of a fault
 abbrev pub code_of : Fault → ℕ
@@ -133,3 +135,16 @@ told_name why = fault.Name why
 abbrev pub told_time : TimeFault → Fault
 told_time time.Memory = fault.Memory
 told_time why = fault.Time why
+
+-- and a fault of a line, which is told as it is
+abbrev pub told_line : LineFault → Fault
+told_line (line.Words text help) = fault.Words text help
+told_line (line.Name why) = fault.Name why
+told_line line.TwoSystems = fault.TwoSystems
+told_line line.Memory = fault.Memory
+
+-- the faults of a sys file that is not read yet in full: words, or want of memory
+abbrev pub IsOfWords : Fault → Type 0
+IsOfWords (fault.Words text help) = ⊤
+IsOfWords fault.Memory = ⊤
+IsOfWords _ = ⊥

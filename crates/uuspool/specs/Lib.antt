@@ -2,6 +2,5 @@ pub mod Faults
 pub mod Input
 pub mod Reports
 pub mod Offsets
-pub mod Commands
 pub mod Lines
 pub mod Served

@@ -1,36 +1,36 @@
 -- What a line does to the spool, what it prints, and its status. All of it is this project's choice.
-use Rattle.std.specs.Prelude.{◌≡◌, ◌≢◌, ◌⊎◌, ℕ, ◌<◌, ◌≤◌, ℤ, Option, Some, None, List, [], ◌∷◌, ◌++◌, Err, IsTrue, length, ⊤, codes, unwrap_or}
+use Rattle.std.specs.Prelude.{◌≡◌, ◌⊎◌, ℕ, ◌<◌, ◌≤◌, ℤ, Option, Some, None, List, [], ◌∷◌, ◌++◌, Err, IsTrue, length, ⊤, codes, unwrap_or}
 use Rattle.std.specs.Fmt.{decimal}
 use Rattle.std.specs.List.{list_any}
 use Rattle.jiff.specs.Types.{DateTime}
-use Rattle.clap.specs.Words.{Text, fault_of}
 use Rattle.uu_names.specs.Envelope.{envelope_of}
 use Rattle.uu_times.specs.Moment.{IsPast, Shows, local_second}
 use Rattle.uu_times.specs.declared.moment.Moment.{Moment}
 use Rattle.uu_times.specs.declared.fault.TimeFault.TheVariants.{MomentRange}
-use Rattle.uu_core.specs.State.{Job, head_of}
+use Rattle.uu_core.specs.State.{State, Job, head_of, job_at}
 use Rattle.uu_core.specs.declared.refusal.Refusal.{Refusal}
 use Rattle.uu_core.specs.declared.refusal.Refusal.TheVariants.{NoSystem, NoJob, NotYours, JobTwice, OtherSystem, Busy, TooLarge, NumbersOut, BadEntry}
+use Rattle.uu_core.specs.declared.command.Command.{Command}
+use Rattle.uu_core.specs.declared.command.Command.TheVariants.{Remove, Queue, Kill, Regrade, Rejuvenate}
 use Rattle.uu_core.specs.declared.command.Reply.{Reply}
 use Rattle.uu_core.specs.declared.command.Reply.TheVariants.{Done, Number, Refused}
 use Rattle.uu_core.specs.declared.job.Kind.{Kind}
 use Rattle.uu_core.specs.declared.job.Kind.TheVariants.{Send, Request, Execute}
 use Rattle.uu_core.specs.declared.job.NewJob.{NewJob}
 use Rattle.uu_core.specs.declared.job.By.{By}
-use Rattle.uu_store.specs.declared.command.Command.{Command}
-use Rattle.uu_store.specs.declared.command.Command.TheVariants.{Remove, Queue, Kill, Regrade, Rejuvenate}
-use Rattle.uu_store.specs.declared.fault.StoreFault.{StoreFault}
-use Rattle.uu_store.specs.declared.fault.StoreFault.TheVariants as store
-use Rattle.uu_store.specs.Machine.{State, after, job_at, listed_heads, reply_of}
-use Rattle.uuspool.specs.Commands.{program}
-use Rattle.uuspool.specs.Lines.{IsAnswerTo, MeansLine, same_text, takes_input}
+use Rattle.uu_core.specs.After.{after}
+use Rattle.uu_schema.specs.declared.fault.StoreFault.{StoreFault}
+use Rattle.uu_schema.specs.declared.fault.StoreFault.TheVariants as store
+use Rattle.uu_questions.specs.Listing.{listed}
+use Rattle.uu_line.specs.Lines.{AreRefused, MeansLine, same_text, takes_input}
+use Rattle.uu_line.specs.declared.line.CallLine.{CallLine}
+use Rattle.uu_line.specs.declared.task.Task.{Task}
+use Rattle.uu_line.specs.declared.task.Task.TheVariants as task
+use Rattle.uuspool.specs.Lines.{IsAnswerTo}
 use Rattle.uuspool.specs.Reports.{IsJobLine, IsReport}
 use Rattle.uuspool.specs.declared.input.TheConstants.{INPUT_LIMIT}
 use Rattle.uuspool.specs.declared.fault.Fault.{Fault}
 use Rattle.uuspool.specs.declared.fault.Fault.TheVariants as fault
-use Rattle.uuspool.specs.declared.line.CallLine.{CallLine}
-use Rattle.uuspool.specs.declared.line.Task.{Task}
-use Rattle.uuspool.specs.declared.line.Task.TheVariants as task
 use Rattle.uuspool.specs.declared.settings.Settings.{Settings}
 
 abbrev pub refusal_name : Refusal → List ℕ
@@ -74,9 +74,9 @@ pub record IsMailed (settings : Settings) (user system : List ℕ) (grade : ℕ)
 
 -- a command is given: the reply is printed, and its status is the line's
 pub record IsGiven (s : State) (command : Command) (answered : ℕ) (written : List ℕ → Type 0) (shows : State → Type 0) : Type 0 where
-  pub status : answered ≡ reply_status (reply_of s command)
-  pub output : written (reply_text (reply_of s command))
-  pub state : shows (after s command)
+  pub status : answered ≡ reply_status (after s command).1
+  pub output : written (reply_text (after s command).1)
+  pub state : shows (after s command).0
 
 -- a user, who is an administrator where the settings name him
 abbrev pub by_of : Settings → List ℕ → By
@@ -103,7 +103,7 @@ IsDone settings user second input s status written shows (task.Execute grade sys
 IsDone settings user second input s status written shows (task.Mail grade system rests) =
     (job : NewJob) × IsMailed settings user system grade rests input second job × IsGiven s (Queue job) status written shows
 IsDone settings user second input s status written shows (task.List filter) =
-    (report : List ℕ) × IsReport settings.offset (listed_heads filter s) report
+    (report : List ℕ) × IsReport settings.offset (listed filter s) report
     × (status ≡ 0) × written report × shows s
 IsDone settings user second input s status written shows (task.Show number) =
     IsShown settings.offset (job_at s number) status written × shows s
@@ -155,16 +155,16 @@ IsTaskFault asked (fault.Words text help) = asked ≡ task.Load
 IsTaskFault asked fault = IsLate fault
 
 -- the words mean this line, its moment is none that is past the last, and its input is not too large
-pub record IsUnderstood (words : List Text) (now : ℕ) (input : List ℕ) (line : CallLine) : Type 0 where
+pub record IsUnderstood (words : List (List ℕ)) (now : ℕ) (input : List ℕ) (line : CallLine) : Type 0 where
   pub means : MeansLine words line
   pub moment : ¬ IsPast (second_of line now)
   pub fits : IsTrue (takes_input line.task) → length input ≤ INPUT_LIMIT
 
 -- Which fault is told: those of the words come first, then those of names, then different systems, then the moment,
 -- then the size of the input, and then those of the task. Want of memory may take the place of any.
-abbrev pub IsToldOf : List Text → ℕ → List ℕ → Fault → Type 0
+abbrev pub IsToldOf : List (List ℕ) → ℕ → List ℕ → Fault → Type 0
 IsToldOf words now input (fault.Words text help) =
-    (fault_of program words ≢ []) ⊎ ((line : CallLine) × IsUnderstood words now input line × (line.task ≡ task.Load))
+    AreRefused words ⊎ ((line : CallLine) × IsUnderstood words now input line × (line.task ≡ task.Load))
 IsToldOf words now input (fault.Name why) = IsAnswerTo words (Err (fault.Name why))
 IsToldOf words now input fault.TwoSystems = IsAnswerTo words (Err fault.TwoSystems)
 IsToldOf words now input (fault.Time why) =

@@ -7,6 +7,7 @@ ghost use Rattle.uuspool.specs.Faults.{code_of, status_of, line_of_fault, name_t
 
 use std::alloc::{AllocError, AllocFailed, Global};
 use thiserror::Error;
+use uu_line::LineFault;
 use uu_names::NameFault;
 use uu_store::StoreFault;
 use uu_times::TimeFault;
@@ -113,6 +114,22 @@ impl From<TimeFault> for Fault {
         match fault {
             TimeFault::Memory => Fault::Memory,
             fault => Fault::Time(fault),
+        }
+    }
+}
+
+impl From<LineFault> for Fault {
+    ghost use Rattle.std.specs.Prelude.{◌≡◌};
+    ghost use Rattle.uuspool.specs.Faults.{told_line};
+
+    ghost from_gives = { λ line fault. fault ≡ told_line line };
+
+    fn from(fault: LineFault) -> Fault {
+        match fault {
+            LineFault::Words { text, help } => Fault::Words { text, help },
+            LineFault::Name(name) => Fault::Name(name),
+            LineFault::TwoSystems => Fault::TwoSystems,
+            LineFault::Memory => Fault::Memory,
         }
     }
 }

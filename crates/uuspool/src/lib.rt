@@ -2,7 +2,6 @@
 //! line over a spool, its reports and its faults. The program itself is a thin crate over this one.
 #![tactic(auto)]
 
-mod commands;
 mod fault;
 mod input;
 mod line;
@@ -13,7 +12,8 @@ mod systems;
 
 pub use fault::{Fault, fault_line, fault_status};
 pub use input::{INPUT_LIMIT, READ_LIMIT, read_input};
-pub use line::{CallLine, Task, line_of};
+pub use line::line_of;
 pub use report::report_jobs;
 pub use serving::{moment_of, serve};
 pub use settings::{Settings, fixed_settings};
+pub use uu_line::{CallLine, Task};

@@ -1,14 +1,15 @@
 //! One line of the program, run over a spool.
-ghost use Rattle.std.specs.Prelude.{◌≡◌, Some, IfOk, IfErr, OnOk, codes, map, pos};
-ghost use Rattle.std.specs.List.{list_any};
+ghost use Rattle.std.specs.Prelude.{◌≡◌, ◌≤◌, Some, IfOk, IfErr, OnOk, IsOkAnd, codes, length, map, pos};
+ghost use Rattle.std.specs.List.{AllByRecursion, list_any};
 ghost use Rattle.std.specs.String.{string_bytes};
 ghost use Rattle.std.specs.Io.KnownBytes.{Appends};
 ghost use Rattle.sqlite.specs.State.{HasCleanDisk};
 ghost use Rattle.uu_names.specs.Envelope.{envelope_of};
 ghost use Rattle.uu_times.specs.Moment.{IsPast, local_second};
 ghost use Rattle.uu_times.specs.Moment as moment;
-ghost use Rattle.uu_store.specs.Machine.{after, job_at, listed_heads, reply_of};
-ghost use Rattle.uu_store.specs.Encoded.{job_with};
+ghost use Rattle.uu_core.specs.State.{job_at};
+ghost use Rattle.uu_questions.specs.Listing.{listed};
+ghost use Rattle.uu_store.specs.HandedOut.{IsBounded, job_with};
 ghost use Rattle.uu_store.specs.Spool.{Shows, disk};
 ghost use Rattle.uuspool.specs.Lines.{MeansLine, same_text};
 ghost use Rattle.uuspool.specs.Reports.{IsReport};
@@ -17,18 +18,18 @@ ghost use Rattle.uuspool.specs.Served as spec;
 
 use crate::fault::Fault;
 use crate::input::INPUT_LIMIT;
-use crate::line::{CallLine, Task, line_of};
+use crate::line::line_of;
 use crate::report::{job_line, report_jobs};
 use crate::settings::{Settings, memory};
 use crate::systems::systems_of;
 use sqlite::Alter;
 use std::alloc::{AllocError, Global};
 use std::io::Write;
-use uu_core::{By, JobHead, Kind, NewJob, Refusal, Reply};
+use uu_core::{By, Command, Filter, JobHead, Kind, NewJob, Refusal, Reply};
+use uu_line::{CallLine, Task};
 use uu_map::Listed;
 use uu_names::{Grade, SiteName, Word, envelope};
-use uu_store::{Command, Filter, Spool, StoreFault, StoreKind};
-use uu_times::moment::LAST_SECOND;
+use uu_store::Spool;
 use uu_times::{Moment, SystemDef, TimeFault};
 
 /// Runs the line that the words after the program's name mean, at the second `now` where the line
@@ -59,6 +60,25 @@ pub fn serve<S: Alter, W: Write>(
     ensures told { IfErr result (IsToldOf (map string_bytes words.now) now input.now) }
     ensures understood { OnOk result ((line : _) × IsUnderstood (map string_bytes words.now) now input.now line) }
 {
+    match understood_line(alloc, words, settings, now, input) {
+        Ok((line, at)) => carry_out(alloc, line, at, settings, input, spool, out),
+        Err(fault) => Err(fault),
+    }
+}
+
+// The line that the words mean and its moment, where its input is not too large.
+fn understood_line(
+    alloc: Global,
+    words: &[String],
+    settings: &Settings,
+    now: u64,
+    input: &[u8],
+) -> Result<(CallLine, Moment), Fault>
+    ensures line { IfOk result (λ understood. IsUnderstood (map string_bytes words.now) now input.now understood.0) }
+    ensures second { IfOk result (λ understood. understood.1.second ≡ spec.second_of understood.0 now) }
+    ensures local { IfOk result (λ understood. moment.Shows understood.1.local (local_second understood.1.second settings.now.offset)) }
+    ensures told { IfErr result (IsToldOf (map string_bytes words.now) now input.now) }
+{
     let line = match line_of(alloc, words) {
         Ok(line) => line,
         Err(fault) => return Err(fault),
@@ -70,7 +90,7 @@ pub fn serve<S: Alter, W: Write>(
     if line.task.has_input() && input.len() > INPUT_LIMIT {
         return Err(Fault::Input);
     }
-    carry_out(alloc, line, at, settings, input, spool, out)
+    Ok((line, at))
 }
 
 /// The moment of this second, on the site's clock.
@@ -119,8 +139,8 @@ fn carry_out<S: Alter, W: Write>(
             grade,
         } => {
             let kind = Kind::Send { source, target };
-            let job = new_job(alloc, user, system, grade, kind, input, at)?;
-            give(alloc, Command::Queue(job), spool, out)
+            let job = new_job(alloc, user, system, grade, kind, input, at);
+            queue(alloc, job, spool, out)
         }
         Task::Request {
             system,
@@ -129,8 +149,8 @@ fn carry_out<S: Alter, W: Write>(
             grade,
         } => {
             let kind = Kind::Request { source, target };
-            let job = new_job(alloc, user, system, grade, kind, &[], at)?;
-            give(alloc, Command::Queue(job), spool, out)
+            let job = new_job(alloc, user, system, grade, kind, &[], at);
+            queue(alloc, job, spool, out)
         }
         Task::Execute {
             grade,
@@ -139,8 +159,8 @@ fn carry_out<S: Alter, W: Write>(
             arguments,
         } => {
             let kind = Kind::Execute { command, arguments };
-            let job = new_job(alloc, user, system, grade, kind, input, at)?;
-            give(alloc, Command::Queue(job), spool, out)
+            let job = new_job(alloc, user, system, grade, kind, input, at);
+            queue(alloc, job, spool, out)
         }
         Task::Mail {
             grade,
@@ -280,15 +300,49 @@ fn define<S: Alter, W: Write>(
 {
     let mut status = 0;
     for system in systems {
-        let name = String::from_str(alloc, system.name.as_str())?;
-        let reply = spool
-            .command(alloc, Command::Define(system))
-            .map_err(Fault::Store)?;
-        let answer = reply_line(alloc, reply)?;
-        write(out, format!(in alloc; "{name} {answer}")?.as_bytes())?;
-        status = status.max(status_of(reply));
+        match define_system(alloc, system, spool, out) {
+            Ok(answered) => status = status.max(answered),
+            Err(fault) => return Err(fault),
+        }
     }
     Ok(status)
+}
+
+// Gives one definition, and prints the system's name with the answer.
+fn define_system<S: Alter, W: Write>(
+    alloc: Global,
+    system: SystemDef,
+    spool: &mut Spool<S>,
+    out: &mut W,
+) -> Result<u8, Fault>
+    ensures late { IfErr result IsLate }
+{
+    let name = String::from_str(alloc, system.name.as_str())?;
+    match spool.command(alloc, Command::Define(system)) {
+        Ok(reply) => {
+            let answer = reply_line(alloc, reply)?;
+            let line = format!(in alloc; "{name} {answer}")?;
+            print_answer(&line, reply, out)
+        }
+        Err(fault) => Err(Fault::Store(fault)),
+    }
+}
+
+// Gives a job to the spool, where there was memory to make it, and prints the answer.
+fn queue<S: Alter, W: Write>(
+    alloc: Global,
+    job: Result<NewJob, AllocError>,
+    spool: &mut Spool<S>,
+    out: &mut W,
+) -> Result<u8, Fault>
+    ensures done { HasCleanDisk (disk spool.new) → (s : _) → Shows spool.old s → IfOk result (λ status. IsOkAnd job (λ job.
+        IsGiven s (Command.Queue job) status (λ bytes. Appends (W.contents out.old) (W.contents out.new) bytes) (λ t. Shows spool.new t))) }
+    ensures late { IfErr result IsLate }
+{
+    match job {
+        Ok(job) => give(alloc, Command::Queue(job), spool, out),
+        Err(_) => Err(Fault::Memory),
+    }
 }
 
 // Gives a command, and prints the answer.
@@ -302,10 +356,24 @@ fn give<S: Alter, W: Write>(
         IsGiven s command status (λ bytes. Appends (W.contents out.old) (W.contents out.new) bytes) (λ t. Shows spool.new t)) }
     ensures late { IfErr result IsLate }
 {
-    let reply = spool.command(alloc, command).map_err(Fault::Store)?;
-    let answer = reply_line(alloc, reply)?;
-    write(out, answer.as_bytes())?;
-    Ok(status_of(reply))
+    match spool.command(alloc, command) {
+        Ok(reply) => {
+            let answer = reply_line(alloc, reply)?;
+            print_answer(&answer, reply, out)
+        }
+        Err(fault) => Err(Fault::Store(fault)),
+    }
+}
+
+// Prints what is said of an answer. The status is the answer's.
+fn print_answer<W: Write>(text: &str, reply: Reply, out: &mut W) -> Result<u8, Fault>
+    ensures printed { IfOk result (λ status. (status ≡ reply_status reply) × Appends (W.contents out.old) (W.contents out.new) text.now) }
+    ensures late { IfErr result IsLate }
+{
+    match write(out, text.as_bytes()) {
+        Ok(()) => Ok(status_of(reply)),
+        Err(fault) => Err(fault),
+    }
 }
 
 // Prints the report of the jobs that fit.
@@ -317,15 +385,29 @@ fn list<S: Alter, W: Write>(
     out: &mut W,
 ) -> Result<u8, Fault>
     ensures done { HasCleanDisk (disk spool.new) → (s : _) → Shows spool.old s → IfOk result (λ status.
-        (report : _) × IsReport settings.now.offset (listed_heads filter.now s) report × (status ≡ 0)
+        (report : _) × IsReport settings.now.offset (listed filter.now s) report × (status ≡ 0)
         × Appends (W.contents out.old) (W.contents out.new) report × Shows spool.new s) }
     ensures late { IfErr result IsLate }
 {
-    let jobs = spool.jobs(alloc, filter).map_err(Fault::Store)?;
-    if jobs.iter().any(|job| job.queued > LAST_SECOND) {
-        return Err(Fault::Store(StoreFault::Store(StoreKind::Database)));
+    match spool.jobs(alloc, filter) {
+        Ok(jobs) => print_report(alloc, &jobs, settings, out),
+        Err(fault) => Err(Fault::Store(fault)),
     }
-    let report = report_jobs(alloc, &jobs, settings)?;
+}
+
+// Prints the report of these jobs.
+fn print_report<W: Write>(
+    alloc: Global,
+    jobs: &[JobHead],
+    settings: &Settings,
+    out: &mut W,
+) -> Result<u8, Fault>
+    requires { AllByRecursion IsBounded jobs.now }
+    ensures printed { IfOk result (λ status. (report : _) × IsReport settings.now.offset jobs.now report × (status ≡ 0)
+        × Appends (W.contents out.old) (W.contents out.new) report) }
+    ensures late { IfErr result IsLate }
+{
+    let report = report_jobs(alloc, jobs, settings)?;
     write(out, &report)?;
     Ok(0)
 }
@@ -361,13 +443,11 @@ fn show_job<W: Write>(
     settings: &Settings,
     out: &mut W,
 ) -> Result<u8, Fault>
-    ensures shown { IfOk result (λ status. IsShown settings.now.offset (Some (job_with head.now bytes.now)) status
+    requires { IsBounded head.now }
+    ensures shown { head.now.size ≡ length bytes.now → IfOk result (λ status. IsShown settings.now.offset (Some (job_with head.now bytes.now)) status
         (λ shown. Appends (W.contents out.old) (W.contents out.new) shown)) }
     ensures late { IfErr result IsLate }
 {
-    if head.queued > LAST_SECOND || head.size as usize != bytes.len() {
-        return Err(Fault::Store(StoreFault::Store(StoreKind::Database)));
-    }
     let line = job_line(alloc, head, settings.offset)?;
     let mut shown = line.into_bytes();
     shown.extend_from_slice(bytes)?;

@@ -1,8 +1,8 @@
 //! The systems of a sys file, as far as the program knows its lines: blank ones, `system NAME` and
 //! `time Any`.
 
-ghost use Rattle.std.specs.Prelude.{⊤, IfErr};
-ghost use Rattle.uuspool.specs.Lines.{IsWordsWhere};
+ghost use Rattle.std.specs.Prelude.{IfErr};
+ghost use Rattle.uuspool.specs.Faults.{IsOfWords};
 
 use crate::fault::Fault;
 use std::alloc::Global;
@@ -16,7 +16,7 @@ use uu_times::{Lines, SystemDef};
 /// # Errors
 /// `Words` where a line is none of those that are known, else `Memory`.
 pub(crate) fn systems_of(alloc: Global, text: &[u8]) -> Result<Vec<SystemDef>, Fault>
-    ensures { IfErr result (IsWordsWhere ⊤) }
+    ensures { IfErr result IsOfWords }
 {
     let Ok(text) = str::from_utf8(text) else {
         return Err(bad_line(alloc));
@@ -32,7 +32,7 @@ pub(crate) fn systems_of(alloc: Global, text: &[u8]) -> Result<Vec<SystemDef>, F
 
 // A system of this name, with no time lines yet.
 fn definition(alloc: Global, name: SiteName) -> Result<SystemDef, Fault>
-    ensures { IfErr result (IsWordsWhere ⊤) }
+    ensures { IfErr result IsOfWords }
 {
     match SystemDef::new(name, Lines::new(Vec::new(alloc)), DEFAULT_MAX_RETRIES) {
         Some(system) => Ok(system),
@@ -42,7 +42,7 @@ fn definition(alloc: Global, name: SiteName) -> Result<SystemDef, Fault>
 
 // The system that a line begins, if it begins one.
 fn system_in(alloc: Global, line: &str) -> Result<Option<SiteName>, Fault>
-    ensures { IfErr result (IsWordsWhere ⊤) }
+    ensures { IfErr result IsOfWords }
 {
     let mut words = line.split(is_blank).filter(|word| !word.is_empty());
     match (words.next(), words.next(), words.next()) {
@@ -62,7 +62,7 @@ fn is_blank(character: char) -> bool {
 }
 
 fn bad_line(alloc: Global) -> Fault
-    ensures { IsWordsWhere ⊤ result }
+    ensures { IsOfWords result }
 {
     match String::from_str(alloc, "error: a line of the sys file is not known\n") {
         Ok(text) => Fault::Words { text, help: false },

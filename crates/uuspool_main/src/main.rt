@@ -2,13 +2,14 @@
 //! the library run the line.
 #![tactic(auto)]
 
+use sqlite::Alter;
 use std::io::Write;
 use std::process::ExitCode;
 use std::time::SystemTime;
 use std::{env, io};
-use uu_store::start;
+use uu_store::{Spool, StoreFault, start};
 use uuspool::{
-    CallLine, Fault, fault_line, fault_status, fixed_settings, line_of, moment_of, read_input,
+    Fault, Settings, fault_line, fault_status, fixed_settings, line_of, moment_of, read_input,
     serve,
 };
 
@@ -24,22 +25,12 @@ fn main(rt: HostRuntime) -> ExitCode {
 
 // Runs the line that the process was given.
 fn run(rt: &HostRuntime) -> Result<u8, Fault> {
-    let alloc = rt.alloc();
     let words = words_of(rt)?;
-    let line = line_of(alloc, &words)?;
-    let settings = fixed_settings(alloc)?;
-    let now = second_of(rt, &line)?;
-    moment_of(now, &settings)?;
-    let input = if line.task.has_input() {
-        read_input(alloc, &mut rt.stdin())?
-    } else {
-        Vec::new(alloc)
-    };
-    let mut spool = start(rt, settings.spool.as_str()).map_err(Fault::Store)?;
-    let mut out = io::writer(rt);
-    let answer = serve(alloc, &words, &settings, now, &input, &mut spool, &mut out);
-    drop(spool.release());
-    answer
+    let needs = needs_of(rt, &words)?;
+    let settings = fixed_settings(rt.alloc())?;
+    let now = now_for(rt, needs, &settings)?;
+    let input = input_for(rt, needs)?;
+    run_on_file(rt, &words, &settings, now, &input)
 }
 
 // The words after the program's name.
@@ -52,17 +43,93 @@ fn words_of(rt: &HostRuntime) -> Result<Vec<String>, Fault> {
     words.map_err(Fault::from)
 }
 
-// The second of the line, or of the clock where the line gives none.
-fn second_of(rt: &HostRuntime, line: &CallLine) -> Result<u64, Fault> {
-    if let Some(second) = line.at {
-        return Ok(second);
+// What a line is to be given.
+#[derive(Clone, Copy)]
+struct Needs {
+    // The second that the line itself gives.
+    at: Option<u64>,
+    // Whether the line takes an input.
+    input: bool,
+}
+
+// What the line that these words mean is to be given.
+fn needs_of(rt: &HostRuntime, words: &[String]) -> Result<Needs, Fault> {
+    match line_of(rt.alloc(), words) {
+        Ok(line) => Ok(Needs {
+            at: line.at,
+            input: line.task.has_input(),
+        }),
+        Err(fault) => Err(fault),
     }
+}
+
+// The second of the line, or of the clock where the line gives none, which has to be that of a moment.
+fn now_for(rt: &HostRuntime, needs: Needs, settings: &Settings) -> Result<u64, Fault> {
+    let now = match needs.at {
+        Some(second) => second,
+        None => second_of_clock(rt)?,
+    };
+    match moment_of(now, settings) {
+        Ok(_) => Ok(now),
+        Err(fault) => Err(fault),
+    }
+}
+
+fn second_of_clock(rt: &HostRuntime) -> Result<u64, Fault> {
     let Ok(now) = SystemTime::now(rt) else {
         return Err(Fault::Read);
     };
     match now.duration_since(SystemTime::UNIX_EPOCH) {
         Ok(since) => Ok(since.as_secs()),
         Err(_) => Err(Fault::Read),
+    }
+}
+
+// The input of the line, read whole where it takes one.
+fn input_for(rt: &HostRuntime, needs: Needs) -> Result<Vec<u8>, Fault> {
+    if needs.input {
+        read_input(rt.alloc(), &mut rt.stdin())
+    } else {
+        Ok(Vec::new(rt.alloc()))
+    }
+}
+
+// Runs the line over the file of the settings. No other function names the spool over a file, since
+// each that does is dear to prove.
+fn run_on_file(
+    rt: &HostRuntime,
+    words: &[String],
+    settings: &Settings,
+    now: u64,
+    input: &[u8],
+) -> Result<u8, Fault> {
+    let opened = start(rt, settings.spool.as_str());
+    run_on(rt, words, settings, now, input, opened)
+}
+
+// Runs the line over a spool, if it opened.
+fn run_on<S: Alter + Drop>(
+    rt: &HostRuntime,
+    words: &[String],
+    settings: &Settings,
+    now: u64,
+    input: &[u8],
+    opened: Result<Spool<S>, StoreFault>,
+) -> Result<u8, Fault> {
+    match opened {
+        Ok(mut spool) => {
+            let mut out = io::writer(rt);
+            serve(
+                rt.alloc(),
+                words,
+                settings,
+                now,
+                input,
+                &mut spool,
+                &mut out,
+            )
+        }
+        Err(fault) => Err(Fault::Store(fault)),
     }
 }
 

@@ -1,22 +1,14 @@
-//! Tests of the program's parts together: lines run over spools in memory, faults and what is told of
-//! them, and stops at each call of a disk.
+//! What only a call can show of the program's parts together: readers and writers that fail, the numbers of faults, and a
+//! database that is handed over. What a line prints stands in the transcripts.
 #![tactic(auto)]
 
 #[cfg(test)]
-mod adopting;
-#[cfg(test)]
-mod changing;
-#[cfg(test)]
 mod faults;
 #[cfg(test)]
-mod lines;
+mod handing_over;
 #[cfg(test)]
-mod listing;
+mod input;
 #[cfg(test)]
-mod removing;
-#[cfg(test)]
-mod stepping;
-#[cfg(test)]
-mod stops;
+mod output;
 #[cfg(test)]
 mod support;

@@ -1,10 +1,12 @@
-use Rattle.std.proofs.Common.{map}
+use Rattle.std.proofs.Common.{subst, sym, Result, Err, map}
 use Rattle.std.specs.String.{string_bytes}
-use Rattle.uuspool.proofs.LineLemmas.{answers_words, refuses_words}
+use Rattle.uu_line.specs.declared.line.CallLine.{CallLine}
+use Rattle.uuspool.specs.Lines.{IsAnswerTo}
+use Rattle.uuspool.specs.declared.fault.Fault.{Fault}
+use Rattle.uuspool.proofs.ServedLemmas.{told_answer}
 use Rattle.uuspool.proofs.line.line_of.Goals as goal
 
-pub returns-in-Ok : goal.returns-in-Ok
-returns-in-Ok c = answers_words (map string_bytes c.args.words.now) c.in-Ok.matches c.line_in.result c.in-Ok.ensures.entries c.line_in.ensures
-
 pub returns-in-Err : goal.returns-in-Err
-returns-in-Err c = refuses_words (map string_bytes c.args.words.now) c.in-Err.fault c.in-Err.ensures.refused
+returns-in-Err c =
+    subst (λ (f : Fault). let answer : Result CallLine Fault = Err f in IsAnswerTo (map string_bytes c.args.words.now) answer) (sym c.from.ensures)
+    (told_answer (map string_bytes c.args.words.now) c.in-Err.fault c.in-Err.ensures)

@@ -2,35 +2,35 @@ use Rattle.std.proofs.Common.{refl, subst}
 use Rattle.std.proofs.lemmas.Result.{IfOk-weaker}
 use Rattle.std.specs.Io.KnownBytes.{Appends}
 use Rattle.uu_store.specs.Spool.{Shows}
-use Rattle.uu_store.specs.declared.command.Command.TheVariants.{Rejuvenate}
+use Rattle.uu_core.specs.declared.command.Command.TheVariants.{Rejuvenate}
 use Rattle.uuspool.specs.Served.{IsGiven}
-use Rattle.uuspool.specs.declared.line.Task.TheVariants as task
-use Rattle.uuspool.proofs.ServedLemmas.{as_task}
+use Rattle.uu_line.specs.declared.task.Task.TheVariants as task
+use Rattle.uuspool.proofs.ServedLemmas.{as_task, made_and_given}
 use Rattle.uuspool.proofs.serving.carry_out.Goals as goal
 
-pub returns-in_ok-job-in-Send-clause-done : goal.returns-in_ok-job-in-Send-clause-done
-returns-in_ok-job-in-Send-clause-done g c clean s shown =
-    IfOk-weaker c.give-in-Send.result _ _ (λ status done. as_task c.args.settings.now c.args.line.user c.args.at.second c.args.input.now s status
-    (λ bytes. Appends (g.W.Write.contents c.args.out.now) (g.W.Write.contents c.give-in-Send.new.out) bytes) (λ t. Shows c.give-in-Send.new.spool t)
+pub returns-in-Send-clause-done : goal.returns-in-Send-clause-done
+returns-in-Send-clause-done g c clean s shown =
+    IfOk-weaker c.queue.result _ _ (λ status done. as_task c.args.settings.now c.args.line.user c.args.at.second c.args.input.now s status
+    (λ bytes. Appends (g.W.Write.contents c.args.out.now) (g.W.Write.contents c.queue.new.out) bytes) (λ t. Shows c.queue.new.spool t)
     c.args.line.task (task.Send c.in-Send.system c.in-Send.source c.in-Send.target c.in-Send.grade) c.in-Send.is
-    (c.in_ok-job-in-Send.job, c.in_ok-job-in-Send.ensures, done))
-    (c.give-in-Send.ensures.done clean s shown)
+    (made_and_given c.new_job-job.result _ _ c.new_job-job.ensures done))
+    (c.queue.ensures.done clean s shown)
 
-pub returns-in_ok-job-in-Request-clause-done : goal.returns-in_ok-job-in-Request-clause-done
-returns-in_ok-job-in-Request-clause-done g c clean s shown =
-    IfOk-weaker c.give-in-Request.result _ _ (λ status done. as_task c.args.settings.now c.args.line.user c.args.at.second c.args.input.now s status
-    (λ bytes. Appends (g.W.Write.contents c.args.out.now) (g.W.Write.contents c.give-in-Request.new.out) bytes) (λ t. Shows c.give-in-Request.new.spool t)
+pub returns-in-Request-clause-done : goal.returns-in-Request-clause-done
+returns-in-Request-clause-done g c clean s shown =
+    IfOk-weaker c.queue-in-Request.result _ _ (λ status done. as_task c.args.settings.now c.args.line.user c.args.at.second c.args.input.now s status
+    (λ bytes. Appends (g.W.Write.contents c.args.out.now) (g.W.Write.contents c.queue-in-Request.new.out) bytes) (λ t. Shows c.queue-in-Request.new.spool t)
     c.args.line.task (task.Request c.in-Request.system c.in-Request.source c.in-Request.target c.in-Request.grade) c.in-Request.is
-    (c.in_ok-job-in-Request.job, c.in_ok-job-in-Request.ensures, done))
-    (c.give-in-Request.ensures.done clean s shown)
+    (made_and_given c.new_job-job-in-Request.result _ _ c.new_job-job-in-Request.ensures done))
+    (c.queue-in-Request.ensures.done clean s shown)
 
-pub returns-in_ok-job-in-Execute-clause-done : goal.returns-in_ok-job-in-Execute-clause-done
-returns-in_ok-job-in-Execute-clause-done g c clean s shown =
-    IfOk-weaker c.give-in-Execute.result _ _ (λ status done. as_task c.args.settings.now c.args.line.user c.args.at.second c.args.input.now s status
-    (λ bytes. Appends (g.W.Write.contents c.args.out.now) (g.W.Write.contents c.give-in-Execute.new.out) bytes) (λ t. Shows c.give-in-Execute.new.spool t)
+pub returns-in-Execute-clause-done : goal.returns-in-Execute-clause-done
+returns-in-Execute-clause-done g c clean s shown =
+    IfOk-weaker c.queue-in-Execute.result _ _ (λ status done. as_task c.args.settings.now c.args.line.user c.args.at.second c.args.input.now s status
+    (λ bytes. Appends (g.W.Write.contents c.args.out.now) (g.W.Write.contents c.queue-in-Execute.new.out) bytes) (λ t. Shows c.queue-in-Execute.new.spool t)
     c.args.line.task (task.Execute c.in-Execute.grade c.in-Execute.system c.in-Execute.command c.in-Execute.arguments) c.in-Execute.is
-    (c.in_ok-job-in-Execute.job, c.in_ok-job-in-Execute.ensures, done))
-    (c.give-in-Execute.ensures.done clean s shown)
+    (made_and_given c.new_job-job-in-Execute.result _ _ c.new_job-job-in-Execute.ensures done))
+    (c.queue-in-Execute.ensures.done clean s shown)
 
 pub returns-in_ok-job-in-Mail-clause-done : goal.returns-in_ok-job-in-Mail-clause-done
 returns-in_ok-job-in-Mail-clause-done g c clean s shown =

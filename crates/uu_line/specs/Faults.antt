@@ -1,0 +1,10 @@
+-- How a line tells a fault of a name; this project's choice.
+use Rattle.uu_names.specs.declared.fault.NameFault.{NameFault}
+use Rattle.uu_names.specs.declared.fault.NameFault.TheVariants as name
+use Rattle.uu_line.specs.declared.fault.LineFault.{LineFault}
+use Rattle.uu_line.specs.declared.fault.LineFault.TheVariants as fault
+
+-- want of memory is a fault of its own
+abbrev pub told_name : NameFault → LineFault
+told_name name.Memory = fault.Memory
+told_name why = fault.Name why

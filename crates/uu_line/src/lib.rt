@@ -1,0 +1,13 @@
+//! The program's command line: from the words after the program's name to a line of typed values. It knows nothing of
+//! the spool.
+#![tactic(auto)]
+
+mod commands;
+mod fault;
+mod line;
+mod task;
+mod values;
+
+pub use fault::LineFault;
+pub use line::{CallLine, line_of};
+pub use task::Task;

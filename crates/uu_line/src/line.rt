@@ -1,0 +1,96 @@
+//! From words to a line of typed values.
+
+ghost use Rattle.std.specs.Prelude.{◌≢◌, [], IfOk, IfErr, map, codes};
+ghost use Rattle.std.specs.String.{string_bytes};
+ghost use Rattle.clap.specs.Words.{rows_of, found_of, one_of, kind_of, fault_of, subcommand_rows_of};
+ghost use Rattle.uu_line.specs.Commands.{program};
+ghost use Rattle.uu_line.specs.Lines.{HasEntriesOf, UnlessMemory, IsAnswerTo, IsWordsWhere};
+ghost use Rattle.uu_line.specs.Lines as spec;
+
+use crate::commands::program_command;
+use crate::fault::LineFault;
+use crate::task::{Task, task_in};
+use crate::values::word_in;
+use clap::ArgMatches;
+use clap::error::ErrorKind;
+use std::alloc::Global;
+use uu_core::Filter;
+use uu_names::Word;
+
+/// One line of the program.
+#[derive(Debug, Drop)]
+pub struct CallLine {
+    /// The second of `--at`, UTC, where it is given.
+    pub at: Option<u64>,
+    /// The user of `--as`, `uucp` where it is not given.
+    pub user: Word,
+    /// What is to be done.
+    pub task: Task,
+}
+
+/// The line that the words after the program's name mean.
+///
+/// # Errors
+/// `Words` exactly where `clap` refuses the words, with `help` where they ask for help. `Name` with the
+/// first fault of the user, and then of the arguments and options in the order of the subcommand's usage
+/// (`Task`). `TwoSystems` where the addresses of a message begin with different systems. Else `Memory`.
+pub fn line_of(alloc: Global, words: &[String]) -> Result<CallLine, LineFault>
+    ensures { IsAnswerTo (map string_bytes words.now) result }
+{
+    match entries_of(alloc, words) {
+        Ok(matches) => line_in(alloc, &matches),
+        Err(fault) => Err(fault),
+    }
+}
+
+// The line with these entries.
+fn line_in(alloc: Global, given: &ArgMatches<'_>) -> Result<CallLine, LineFault>
+    ensures { UnlessMemory (spec.MeansLineOf (spec.word_at (codes "as") (rows_of (found_of given.now)))
+        (one_of (codes "at") (rows_of (found_of given.now))) (subcommand_rows_of given.now)) result }
+{
+    let at = given.get_one::<u64>("at");
+    match word_in(alloc, given, "as") {
+        Ok(user) => match entered_in(alloc, given) {
+            Ok(task) => Ok(CallLine { at, user, task }),
+            Err(fault) => Err(fault),
+        },
+        Err(fault) => Err(fault),
+    }
+}
+
+// The entries that `clap` finds.
+fn entries_of<'a>(alloc: Global, words: &'a [String]) -> Result<ArgMatches<'a>, LineFault>
+    ensures entries { IfOk result (λ found. HasEntriesOf (map string_bytes words.now) found) }
+    ensures refused { IfErr result (IsWordsWhere (fault_of program (map string_bytes words.now) ≢ [])) }
+{
+    match program_command(alloc)?.try_get_matches_from(words) {
+        Ok(matches) => Ok(matches),
+        Err(error) => Err(refused(alloc, &error)),
+    }
+}
+
+// The fault of words that `clap` refuses.
+fn refused(alloc: Global, error: &clap::Error) -> LineFault
+    ensures { IsWordsWhere (kind_of error.now ≢ ErrorKind.OutOfMemory) result }
+{
+    if error.kind() == ErrorKind::OutOfMemory {
+        return LineFault::Memory;
+    }
+    let help = !error.use_stderr();
+    match format!(in alloc; "{error}") {
+        Ok(text) => LineFault::Words { text, help },
+        Err(_) => LineFault::Memory,
+    }
+}
+
+// The task of the subcommand that was entered; `clap` has seen to it that there is one.
+fn entered_in(alloc: Global, given: &ArgMatches<'_>) -> Result<Task, LineFault>
+    ensures { UnlessMemory (spec.MeansEntered (subcommand_rows_of given.now)) result }
+{
+    match given.subcommand() {
+        Some((name, given)) => task_in(alloc, name, given),
+        None => Ok(Task::List {
+            filter: Filter::all(),
+        }),
+    }
+}
