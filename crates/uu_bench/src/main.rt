@@ -6,7 +6,9 @@
 //!     uu_bench adopt            the time of adopting a spool with 64 jobs of 1 MiB
 #![tactic(auto)]
 
-use sqlite::{Alter, Connection, Error, params};
+ghost use Rattle.std.specs.Prelude.{◌≡◌, false};
+
+use sqlite::{Alter, Connection, Error, Transaction, params};
 use std::alloc::{AllocError, AllocFailed, Global};
 use std::process::ExitCode;
 use std::time::{Duration, Instant};
@@ -22,8 +24,16 @@ const FILE: &str = "bench.db";
 /// How many calls are timed together.
 const ROUND: u32 = 100;
 
+/// What is to be measured.
+#[derive(Clone, Copy)]
+enum Measure {
+    Queue { jobs: u32 },
+    List { jobs: u32 },
+    Adopt,
+}
+
 /// Why nothing was measured.
-#[derive(Drop)]
+#[derive(Clone, Copy)]
 enum Trouble {
     Words,
     Memory,
@@ -83,13 +93,9 @@ fn main(rt: HostRuntime) -> ExitCode {
 
 fn run(rt: &HostRuntime) -> Result<(), Trouble> {
     let words = words_of(rt)?;
-    let mut words = words.iter();
-    match (words.next(), words.next()) {
-        (None, _) => Ok(()),
-        (Some(word), Some(jobs)) if word.as_str() == "queue" => time_queue(rt, number(jobs)?),
-        (Some(word), Some(jobs)) if word.as_str() == "list" => time_list(rt, number(jobs)?),
-        (Some(word), None) if word.as_str() == "adopt" => time_adopt(rt),
-        _ => Err(Trouble::Words),
+    match measure_of(&words)? {
+        Some(measure) => measure_file(rt, measure),
+        None => Ok(()),
     }
 }
 
@@ -97,6 +103,25 @@ fn words_of(rt: &HostRuntime) -> Result<Vec<String>, Trouble> {
     match env::args(rt) {
         Ok(args) => Ok(args.skip(1).collect(rt.alloc())?),
         Err(_) => Err(Trouble::Words),
+    }
+}
+
+/// What the words ask for, if there are any.
+fn measure_of(words: &[String]) -> Result<Option<Measure>, Trouble> {
+    let mut words = words.iter();
+    let Some(word) = words.next() else {
+        return Ok(None);
+    };
+    let jobs = words.next();
+    match (word.as_str(), jobs) {
+        ("queue", Some(jobs)) => Ok(Some(Measure::Queue {
+            jobs: number(jobs)?,
+        })),
+        ("list", Some(jobs)) => Ok(Some(Measure::List {
+            jobs: number(jobs)?,
+        })),
+        ("adopt", None) => Ok(Some(Measure::Adopt)),
+        _ => Err(Trouble::Words),
     }
 }
 
@@ -133,6 +158,16 @@ fn fill<S: Alter>(
         return Err(Trouble::Words);
     };
     let _defined = spool.command(alloc, Command::Define(system))?;
+    queue(alloc, spool, jobs, size)
+}
+
+/// Queues so many jobs.
+fn queue<S: Alter>(
+    alloc: Global,
+    spool: &mut Spool<S>,
+    jobs: u32,
+    size: usize,
+) -> Result<(), Trouble> {
     for _ in 0..jobs {
         let _number = spool.command(alloc, job(alloc, size)?)?;
     }
@@ -147,9 +182,15 @@ fn statements<S: Alter>(conn: &mut Connection<S>, number: u32) -> Result<(), Tro
         return Err(Trouble::Store);
     }
     let mut tx = conn.transaction();
-    let bytes: &[u8] = b"x";
-    let _queued = tx.execute(
-        "INSERT INTO jobs (number, system, rank, user, kind, queued, first_word, second_word, size, bytes) VALUES (?1, ?2, ?3, ?4, ?5, ?6, ?7, ?8, ?9, ?10)",
+    insert(&mut tx, number)?;
+    tx.commit()?;
+    Ok(())
+}
+
+/// The statements that change the tables: a job, its one piece, and the next number.
+fn insert<S: Alter>(tx: &mut Transaction<'_, S>, number: u32) -> Result<(), Trouble> {
+    let _job = tx.execute(
+        "INSERT INTO jobs (number, system, rank, user, kind, queued, first_word, second_word, size) VALUES (?1, ?2, ?3, ?4, ?5, ?6, ?7, ?8, ?9)",
         params![
             number,
             "duke",
@@ -159,15 +200,18 @@ fn statements<S: Alter>(conn: &mut Connection<S>, number: u32) -> Result<(), Tro
             1_000_000_000u32,
             "/tmp/letter",
             "~/letter",
-            1u32,
-            bytes
+            1u32
         ],
+    )?;
+    let bytes: &[u8] = b"x";
+    let _piece = tx.execute(
+        "INSERT INTO pieces (job, place, bytes) VALUES (?1, ?2, ?3)",
+        params![number, 0u32, bytes],
     )?;
     let _next = tx.execute(
         "UPDATE spool SET next = ?1",
         params![number.saturating_add(1)],
     )?;
-    tx.commit()?;
     Ok(())
 }
 
@@ -185,52 +229,108 @@ fn now(rt: &HostRuntime) -> Result<Instant, Trouble> {
     }
 }
 
-fn time_queue(rt: &HostRuntime, jobs: u32) -> Result<(), Trouble> {
-    let alloc = rt.alloc();
-    let mut spool = start(rt, FILE)?;
-    fill(alloc, &mut spool, jobs, 1)?;
-    let begun = now(rt)?;
-    for _ in 0..ROUND {
-        let _number = spool.command(alloc, job(alloc, 1)?)?;
+/// Measures over the file. No other function names the spool over a file, since each that does is dear to prove.
+fn measure_file(rt: &HostRuntime, measure: Measure) -> Result<(), Trouble> {
+    let opened = start(rt, FILE);
+    measure_in(rt, measure, opened)
+}
+
+/// Measures in a spool, if it opened.
+fn measure_in<S: Alter + Drop>(
+    rt: &HostRuntime,
+    measure: Measure,
+    opened: Result<Spool<S>, StoreFault>,
+) -> Result<(), Trouble> {
+    let Ok(spool) = opened else {
+        return Err(Trouble::Store);
+    };
+    match measure {
+        Measure::Queue { jobs } => time_queue(rt, spool, jobs),
+        Measure::List { jobs } => time_list(rt, spool, jobs),
+        Measure::Adopt => time_adopt(rt, spool),
     }
-    let with = since(rt, begun)?;
-    let mut next = spool.next()?;
+}
+
+fn time_queue<S: Alter + Drop>(
+    rt: &HostRuntime,
+    spool: Spool<S>,
+    jobs: u32,
+) -> Result<(), Trouble> {
+    let mut spool = spool;
+    let (with, next) = time_commands(rt, &mut spool, jobs)?;
     let mut conn = spool.release();
-    let begun = now(rt)?;
-    for _ in 0..ROUND {
-        statements(&mut conn, next)?;
-        next = next.saturating_add(1);
-    }
-    let without = since(rt, begun)?;
+    let without = time_statements(rt, &mut conn, next)?;
     println!(rt;
         "{jobs} jobs, {ROUND} more: {with:?}; the same statements without the spool: {without:?}"
     )?;
     Ok(())
 }
 
-fn time_list(rt: &HostRuntime, jobs: u32) -> Result<(), Trouble> {
-    let alloc = rt.alloc();
-    let mut spool = start(rt, FILE)?;
-    fill(alloc, &mut spool, jobs, 1)?;
+/// The time of a round of commands in a spool of so many jobs, and the number that the next job gets.
+fn time_commands<S: Alter>(
+    rt: &HostRuntime,
+    spool: &mut Spool<S>,
+    jobs: u32,
+) -> Result<(Duration, u32), Trouble> {
+    fill(rt.alloc(), spool, jobs, 1)?;
     let begun = now(rt)?;
-    let heads = spool.jobs(alloc, &Filter::all())?;
+    queue(rt.alloc(), spool, ROUND, 1)?;
     let time = since(rt, begun)?;
-    let listed = heads.len();
+    Ok((time, spool.next()?))
+}
+
+/// The time of a round of statements, of which the first queues the job of this number.
+fn time_statements<S: Alter>(
+    rt: &HostRuntime,
+    conn: &mut Connection<S>,
+    first: u32,
+) -> Result<Duration, Trouble> {
+    let begun = now(rt)?;
+    let mut next = first;
+    for _ in 0..ROUND {
+        statements(conn, next)?;
+        next = next.saturating_add(1);
+    }
+    since(rt, begun)
+}
+
+fn time_list<S: Alter + Drop>(rt: &HostRuntime, spool: Spool<S>, jobs: u32) -> Result<(), Trouble> {
+    let mut spool = spool;
+    let (listed, time) = time_listing(rt, &mut spool, jobs)?;
     println!(rt; "listing {listed} jobs: {time:?}")?;
     Ok(())
 }
 
-fn time_adopt(rt: &HostRuntime) -> Result<(), Trouble> {
-    let alloc = rt.alloc();
-    let mut spool = start(rt, FILE)?;
-    fill(alloc, &mut spool, 64, 1_048_576)?;
-    let conn = spool.release();
+/// How many jobs a listing has in a spool of so many, and its time.
+fn time_listing<S: Alter>(
+    rt: &HostRuntime,
+    spool: &mut Spool<S>,
+    jobs: u32,
+) -> Result<(usize, Duration), Trouble> {
+    fill(rt.alloc(), spool, jobs, 1)?;
     let begun = now(rt)?;
-    let Ok(again) = Spool::adopt(alloc, conn) else {
-        return Err(Trouble::Store);
-    };
+    let heads = spool.jobs(rt.alloc(), &Filter::all())?;
     let time = since(rt, begun)?;
-    drop(again.release());
+    Ok((heads.len(), time))
+}
+
+fn time_adopt<S: Alter + Drop>(rt: &HostRuntime, spool: Spool<S>) -> Result<(), Trouble> {
+    let mut spool = spool;
+    fill(rt.alloc(), &mut spool, 64, 1_048_576)?;
+    let time = time_adopting(rt, spool.release())?;
     println!(rt; "adopting 64 jobs of 1 MiB: {time:?}")?;
     Ok(())
+}
+
+fn time_adopting<S: Alter + Drop>(
+    rt: &HostRuntime,
+    conn: Connection<S>,
+) -> Result<Duration, Trouble>
+    requires { conn.in_transaction ≡ false }
+{
+    let begun = now(rt)?;
+    match Spool::adopt(rt.alloc(), conn) {
+        Ok(_) => since(rt, begun),
+        Err(_) => Err(Trouble::Store),
+    }
 }
