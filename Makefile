@@ -2,7 +2,7 @@
 #
 #   make            proves what the program stands on and leaves it at build/uuspool
 #   make first-run  the main job on a real file, killed inside a write and reopened
-#   make test       the gate: every proof from nothing, every test, every run
+#   make test       the gate: every proof from nothing, every test, every run, and the worked lines of tests/
 #   make bench      what calls of the spool cost over a real file
 #   make install    build/uuspool and its man page below $(DESTDIR)$(PREFIX)
 #   make clean      removes build/ and the kept work of every crate
@@ -27,7 +27,8 @@ bench: build
 
 test:
 	@scripts/check-tree
-	@rt ci
+	@lanes=$$(scripts/lanes) && RT_JOBS=$$lanes rt ci
+	@scripts/transcripts
 
 install: build
 	install -D -m 755 build/uuspool '$(DESTDIR)$(PREFIX)/bin/uuspool'
