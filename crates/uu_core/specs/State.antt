@@ -4,7 +4,9 @@ use Rattle.std.specs.declared.cmp.Ordering.TheVariants.{Less}
 use Rattle.std.specs.Ordering.{nat_cmp}
 use Rattle.std.specs.Cmp.Lexicographic.{pointwise, slice_cmp}
 use Rattle.std.specs.List.{list_any}
+use Rattle.uu_names.specs.Grade.{grade_count}
 use Rattle.uu_names.specs.Name.{is_site_name, is_word}
+use Rattle.uu_times.specs.Moment as moments
 use Rattle.uu_times.specs.System.{System, AreWithinLimits}
 use Rattle.uu_times.specs.Ranges.{AreRuns}
 use Rattle.uu_times.specs.declared.system.Line.{Line}
@@ -80,22 +82,33 @@ head_of job = record { number = job.number; system = job.system; grade = job.gra
 
 -- ---- what is true of each state that a spool reaches (the limits are this project's choice)
 
--- the first second of the year 2100, the last that counts
+-- the last second of a moment
 abbrev pub last_second : ℕ
-last_second = 4102444800
+last_second = moments.last_second
 
--- the number after the last job number
+-- the number after the last job number, which no job has
 abbrev pub numbers_end : ℕ
 numbers_end = 4294967295
 
+-- the most bytes of a job
 abbrev pub most_bytes : ℕ
 most_bytes = 1048576
 
+-- the most arguments of an execution
 abbrev pub most_arguments : ℕ
 most_arguments = 64
 
+-- the most jobs in one report of a call
+abbrev pub most_done : ℕ
+most_done = 256
+
+-- failures in a row are counted up to this number
 abbrev pub most_failures : ℕ
 most_failures = 1000000
+
+-- the most seconds that a system is left alone: 365 days
+abbrev pub most_wait : ℕ
+most_wait = 31536000
 
 abbrev pub IsKind : Kind → Type 0
 IsKind (Send source target) = IsTrue (is_word source) × IsTrue (is_word target)
@@ -105,7 +118,7 @@ IsKind (Execute command arguments) = IsTrue (is_word command) × All (λ word. I
 pub record IsJob (job : Job) : Type 0 where
   pub number : 1 ≤ job.number
   pub system : IsTrue (is_site_name job.system)
-  pub grade : job.grade < 62
+  pub grade : job.grade < grade_count
   pub user : IsTrue (is_word job.user)
   pub kind : IsKind job.kind
   pub queued : job.queued ≤ last_second
@@ -120,11 +133,11 @@ IsOutcome Done call = ⊤
 pub record IsCall (call : CallState) : Type 0 where
   pub last : call.last ≤ last_second
   pub failures : call.failures ≤ most_failures
-  pub wait : call.wait ≤ 31536000
+  pub wait : call.wait ≤ most_wait
   pub outcome : IsOutcome call.outcome call
 
 abbrev pub IsLine : Line → Type 0
-IsLine line = (line.grade < 62) × AreRuns line.windows
+IsLine line = (line.grade < grade_count) × AreRuns line.windows
 
 pub record IsDefinition (def : System) : Type 0 where
   pub name : IsTrue (is_site_name def.name)

@@ -14,7 +14,7 @@ use Rattle.uu_core.specs.declared.job.Kind.TheVariants.{Send, Request, Execute}
 use Rattle.uu_core.specs.declared.refusal.Refusal.{Refusal}
 use Rattle.uu_core.specs.declared.refusal.Refusal.TheVariants.{NoSystem, NoJob, NotYours, JobTwice, OtherSystem, Busy, TooLarge, NumbersOut, BadEntry}
 use Rattle.uu_core.specs.Refusal.{first_reason}
-use Rattle.uu_core.specs.State.{State, same_text, has_system, is_waiting, job_at, head_of, most_bytes, most_arguments, numbers_end}
+use Rattle.uu_core.specs.State.{State, same_text, has_system, is_waiting, job_at, head_of, most_bytes, most_arguments, most_done, numbers_end}
 
 -- ---- the reasons against a command, each with whether it applies, and the one that is told
 
@@ -73,7 +73,7 @@ has_other system numbers jobs =
 -- a report of a call names at most 256 jobs, each once, which are there and wait for the system
 abbrev pub done_reasons : Bool → List ℕ → List ℕ → List JobHead → List (Bool × Refusal)
 done_reasons known system numbers jobs =
-    (nat_lt 256 (length numbers), TooLarge) ∷ (not known, NoSystem) ∷ (is_missing_one numbers jobs, NoJob) ∷ (has_repeat numbers, JobTwice)
+    (nat_lt most_done (length numbers), TooLarge) ∷ (not known, NoSystem) ∷ (is_missing_one numbers jobs, NoJob) ∷ (has_repeat numbers, JobTwice)
     ∷ (has_other system numbers jobs, OtherSystem) ∷ []
 
 abbrev pub done_refusal : Bool → List ℕ → List ℕ → List JobHead → Option Refusal

@@ -3,6 +3,7 @@
 use Rattle.std.specs.Prelude.{ℕ, ◌+◌, ◌-◌, ◌*◌, ◌^◌, min, max, Bool, ◌&&◌, ◌==◌, nat_le, nat_lt, List, map, filter, find, Option, option_and_then, unwrap_or, if◌then◌else◌}
 use Rattle.std.specs.List.{reduce}
 use Rattle.uu_times.specs.System.{System}
+use Rattle.uu_times.specs.Days.{day_minutes}
 use Rattle.uu_times.specs.Ranges.{holds}
 use Rattle.uu_times.specs.declared.system.Line.{Line}
 use Rattle.uu_core.specs.declared.system.CallState.{CallState}
@@ -25,9 +26,13 @@ line_at lines week =
 abbrev pub one_more : ℕ → ℕ
 one_more failures = min (failures + 1) most_failures
 
+-- the minutes to wait after a first failure where no retry number says
+abbrev pub first_wait : ℕ
+first_wait = 10
+
 -- the minutes to wait after so many failures where no retry number says: 10, 20, 40, .. up to a day
 abbrev pub growing_minutes : ℕ → ℕ
-growing_minutes failures = min 1440 (10 * 2 ^ (failures - 1))
+growing_minutes failures = min day_minutes (first_wait * 2 ^ (failures - 1))
 
 -- the minutes of the line's retry number, else the growing ones
 abbrev pub retry_minutes : List Line → ℕ → ℕ → ℕ
@@ -37,7 +42,7 @@ retry_minutes lines week failures =
 -- from `max-retries` failures on, a day at least
 abbrev pub wait_minutes : System → ℕ → ℕ → ℕ
 wait_minutes def week failures =
-    if nat_le def.max_retries failures then max (retry_minutes def.lines week failures) 1440
+    if nat_le def.max_retries failures then max (retry_minutes def.lines week failures) day_minutes
     else retry_minutes def.lines week failures
 
 -- the wait in seconds after so many failures, the last one at this minute of the week

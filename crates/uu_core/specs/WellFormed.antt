@@ -1,5 +1,6 @@
 -- What a command may hold; its types see to it.
 use Rattle.std.specs.Prelude.{◌<◌, ◌≤◌, IsTrue, All, ⊤}
+use Rattle.uu_names.specs.Grade.{grade_count}
 use Rattle.uu_names.specs.Name.{is_site_name, is_word}
 use Rattle.uu_core.specs.declared.command.Command.{Command}
 use Rattle.uu_core.specs.declared.command.Command.TheVariants.{Define, Remove, Queue, Kill, Regrade, Rejuvenate, Failed, Done, Entry}
@@ -16,7 +17,7 @@ HasWords (Execute command arguments) = IsTrue (is_word command) × All (λ word.
 
 pub record IsNewJob (job : NewJob) : Type 0 where
   pub system : IsTrue (is_site_name job.system)
-  pub grade : job.grade < 62
+  pub grade : job.grade < grade_count
   pub user : IsTrue (is_word job.user)
   pub kind : HasWords job.kind
   pub at : job.at.second ≤ last_second
@@ -27,7 +28,7 @@ IsCommand (Define def) = IsDefinition def
 IsCommand (Remove name) = ⊤
 IsCommand (Queue job) = IsNewJob job
 IsCommand (Kill job by) = ⊤
-IsCommand (Regrade job grade by) = grade < 62
+IsCommand (Regrade job grade by) = grade < grade_count
 IsCommand (Rejuvenate job at by) = at.second ≤ last_second
 IsCommand (Failed system at why) = (at.second ≤ last_second) × IsTrue (is_word why)
 IsCommand (Done system at jobs) = at.second ≤ last_second

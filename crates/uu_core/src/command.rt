@@ -1,8 +1,7 @@
 // What a spool is told, and what it answers.
 use crate::job::{By, NewJob};
 use crate::refusal::Refusal;
-use uu_map::Listed;
-use uu_names::{Grade, SiteName, Word};
+use uu_names::{Grade, Listed, SiteName, Word};
 use uu_times::{Moment, SystemDef};
 
 /// What a spool is told.

@@ -6,23 +6,12 @@ ghost use Rattle.uu_core.specs.Verdict.{drop_refusal, queue_refusal, job_refusal
 ghost use Rattle.uu_core.specs.After.{failed_decision, done_call};
 
 use crate::job::{By, JobHead, Kind, NewJob};
+use crate::limits::{MAX_ARGUMENTS, MAX_BYTES, MAX_DONE, NUMBERS_END};
 use crate::refusal::Refusal;
 use crate::system::{CallState, Outcome, SystemRow};
 use crate::waiting::{one_more, wait_after};
 use uu_names::{SiteName, Word};
 use uu_times::Moment;
-
-/// The most bytes of a job.
-pub const MAX_BYTES: usize = 1_048_576;
-
-/// The most arguments of an execution.
-pub const MAX_ARGUMENTS: usize = 64;
-
-/// The most jobs in one report of a call.
-pub const MAX_DONE: usize = 256;
-
-/// The number after the last job number.
-pub const NUMBERS_END: u32 = 4_294_967_295;
 
 /// Whether a system may be removed, where it is known or not, and a job waits for it or not.
 ///
@@ -52,7 +41,7 @@ fn has_many_arguments(kind: &Kind) -> bool
 fn is_too_large(job: &NewJob) -> bool
     ensures { result ≡ is_too_large job.now }
 {
-    job.bytes.as_slice().len() > MAX_BYTES || has_many_arguments(&job.kind)
+    job.bytes.as_slice().len() > MAX_BYTES as usize || has_many_arguments(&job.kind)
 }
 
 /// The number of a job that is handed in, where its system is known or not and `next` is the next number.

@@ -1,6 +1,5 @@
 // Jobs, and who may touch them.
-use uu_map::Listed;
-use uu_names::{Grade, SiteName, Word};
+use uu_names::{Grade, Listed, SiteName, Word};
 use uu_times::Moment;
 
 /// Who gives a command. The name is taken as given.

@@ -3,12 +3,10 @@ ghost use Rattle.std.specs.Prelude.{◌≡◌, ◌==◌, ◌&&◌, find, option_
 ghost use Rattle.uu_times.specs.Ranges.{holds};
 ghost use Rattle.uu_core.specs.Waiting.{limit_at, line_at, one_more, growing_minutes, retry_minutes, wait_minutes, wait_after, is_held};
 
+use crate::limits::MAX_FAILURES;
 use crate::system::CallState;
 use uu_names::Grade;
 use uu_times::{Line, Moment, SystemDef};
-
-/// The failures in a row are counted up to this number.
-pub const MAX_FAILURES: u32 = 1_000_000;
 
 /// The minutes of a day, which a system waits at least from its last retry on.
 const DAY: u32 = 1440;

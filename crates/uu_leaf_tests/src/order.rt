@@ -2,9 +2,8 @@
 use std::alloc::Global;
 use std::process::Abort;
 use uu_core::{By, Command, Kind, NewJob};
-use uu_map::Listed;
-use uu_names::{Grade, SiteName, Word};
-use uu_times::{Line, Lines, Moment, SystemDef, Windows};
+use uu_names::{Grade, Listed, SiteName, Word};
+use uu_times::{Line, Moment, SystemDef, Windows};
 
 // 2001-09-09 01:46:40, a Sunday, and 2001-09-10 10:00:00, the Monday after it.
 pub const SUNDAY: u64 = 1_000_000_000;
@@ -96,7 +95,7 @@ fn system(
     max_retries: u32,
 ) -> SystemDef {
     let name = site(rt, alloc, name);
-    SystemDef::new(name, Lines::new(lines), max_retries).expect(rt, "a system")
+    SystemDef::new(name, Listed::from_vec(lines), max_retries).expect(rt, "a system")
 }
 
 fn define(

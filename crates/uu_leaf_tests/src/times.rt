@@ -4,8 +4,8 @@ use crate::plain_times;
 use std::alloc::{AllocError, Global};
 use std::fmt::Write;
 use std::process::Abort;
-use uu_names::{Grade, SiteName};
-use uu_times::{Line, Lines, Moment, SystemDef, TimeFault, Timetables, Windows, read_time};
+use uu_names::{Grade, Listed, SiteName};
+use uu_times::{Line, Moment, SystemDef, TimeFault, Timetables, Windows, read_time};
 
 // The set of a time string that may name a predefined timetable.
 fn windows(alloc: Global, text: &str) -> Result<Windows, TimeFault> {
@@ -201,7 +201,7 @@ fn is_within_limits(rt: &impl Abort, alloc: Global, count: u32) -> bool {
     for _ in 0..count {
         lines.push(any_line(rt, alloc)).expect(rt, "memory");
     }
-    SystemDef::new(name, Lines::new(lines), 26).is_some()
+    SystemDef::new(name, Listed::from_vec(lines), 26).is_some()
 }
 
 #[test]

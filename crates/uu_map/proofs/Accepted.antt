@@ -10,7 +10,7 @@ use Rattle.uu_map.specs.declared.expression.Level.{Level}
 use Rattle.uu_map.specs.declared.expression.Stage.{Stage}
 use Rattle.uu_map.specs.declared.expression.Stage.TheVariants.{Operand, Operator, Done}
 use Rattle.uu_map.specs.Expression.{Sum, Product, Factor, kept, one_product, added, one_factor, scaled, amount, dead, group, signed, sum_text, product_text, factor_text}
-use Rattle.uu_map.specs.Reading.{State, one_less, sum_with, flipped, with_factor, closed, at_operand, at_operator, at_stage, step, finish, run, start}
+use Rattle.uu_map.specs.Internal.Reading.{State, one_less, sum_with, flipped, with_factor, closed, at_operand, at_operator, at_stage, step, finish, run, start}
 
 -- ---- what stands before a state
 

@@ -1,4 +1,4 @@
--- What is heard of an entry's statements is the one entry of the text.
+-- What an entry's statements say is the one entry of the text.
 use Rattle.std.proofs.Common.{◌≡◌, ℕ, ◌≤◌, false, cond, ◌⊎◌, List, [], ◌∷◌, ◌++◌, length, map, Option, Some, None, Result, Ok, Err, refl, sym, ap, ◌∙◌, subst, inl, inr, find, nat_lt, arith}
 use Rattle.std.specs.declared.cmp.Ordering.TheVariants.{Less, Equal, Greater}
 use Rattle.std.specs.Ordering.{ordering_reverse}
@@ -13,11 +13,11 @@ use Rattle.uu_map.specs.declared.entry.Entry.{Entry}
 use Rattle.uu_map.specs.declared.fault.MapFault.{MapFault}
 use Rattle.uu_map.specs.declared.fault.MapFault.TheVariants.{TooLarge}
 use Rattle.uu_map.specs.Statement.{Meaning}
-use Rattle.uu_map.specs.StatementReading.{statement_of}
+use Rattle.uu_map.specs.Internal.StatementReading.{statement_of}
 use Rattle.uu_map.specs.Text.{Numbered, is_name_line, host_by, host_of, statements_of}
 use Rattle.uu_map.specs.Listing.{listing_cmp, IsListing}
-use Rattle.uu_map.specs.Entry.{IsHeard, aliases_in, links_in, skipped_lines, IsEntry}
-use Rattle.uu_map.specs.Heard.{of_one, heard, Says}
+use Rattle.uu_map.specs.Entry.{IsParsed, aliases_in, links_in, skipped_lines, IsEntry}
+use Rattle.uu_map.specs.Internal.Parsing.{of_one, all_said, Says}
 use Rattle.uu_map.proofs.LeastCosts.{cost_total, In, in_from_contains, contains_from_in}
 use Rattle.uu_map.proofs.StatementTexts.{statement_is, statement_is_read}
 
@@ -26,27 +26,27 @@ use Rattle.uu_map.proofs.StatementTexts.{statement_is, statement_is_read}
 abbrev meanings : List ℕ → List Numbered → List (Option Meaning)
 meanings host ss = map (λ s. statement_of host s.text) ss
 
-heard_one : (host : List ℕ) (s : Numbered) (o : Option Meaning) → statement_of host s.text ≡ o → IsHeard host s o
-heard_one host s (Some m) e = statement_is host s.text m e
-heard_one host s None e = λ m is. let impossible : None ≡ Some m = sym e ∙ statement_is_read host s.text m is in cc
+parsed_one : (host : List ℕ) (s : Numbered) (o : Option Meaning) → statement_of host s.text ≡ o → IsParsed host s o
+parsed_one host s (Some m) e = statement_is host s.text m e
+parsed_one host s None e = λ m is. let impossible : None ≡ Some m = sym e ∙ statement_is_read host s.text m is in cc
 
-each_heard : (host : List ℕ) (ss : List Numbered) → AllZip (IsHeard host) ss (meanings host ss)
-each_heard host [] = tt
-each_heard host (s ∷ ss) = (heard_one host s (statement_of host s.text) refl, each_heard host ss)
+each_parsed : (host : List ℕ) (ss : List Numbered) → AllZip (IsParsed host) ss (meanings host ss)
+each_parsed host [] = tt
+each_parsed host (s ∷ ss) = (parsed_one host s (statement_of host s.text) refl, each_parsed host ss)
 
-heard_as : (host : List ℕ) (s : Numbered) (o : Option Meaning) → IsHeard host s o → o ≡ statement_of host s.text
-heard_as host s (Some m) is = sym (statement_is_read host s.text m is)
-heard_as host s None nothing = go (statement_of host s.text) refl
+parsed_as : (host : List ℕ) (s : Numbered) (o : Option Meaning) → IsParsed host s o → o ≡ statement_of host s.text
+parsed_as host s (Some m) is = sym (statement_is_read host s.text m is)
+parsed_as host s None nothing = go (statement_of host s.text) refl
   where
     go : (o : Option Meaning) → statement_of host s.text ≡ o → None ≡ o
     go None e = refl
     go (Some m) e = absurd (nothing m (statement_is host s.text m e))
 
-heard_once : (host : List ℕ) (ss : List Numbered) (os : List (Option Meaning)) → AllZip (IsHeard host) ss os → os ≡ meanings host ss
-heard_once host [] [] h = refl
-heard_once host [] (o ∷ os) h = absurd h
-heard_once host (s ∷ ss) [] h = absurd h
-heard_once host (s ∷ ss) (o ∷ os) h = ap (λ p. p ∷ os) (heard_as host s o h.0) ∙ ap (λ ps. statement_of host s.text ∷ ps) (heard_once host ss os h.1)
+parsed_once : (host : List ℕ) (ss : List Numbered) (os : List (Option Meaning)) → AllZip (IsParsed host) ss os → os ≡ meanings host ss
+parsed_once host [] [] h = refl
+parsed_once host [] (o ∷ os) h = absurd h
+parsed_once host (s ∷ ss) [] h = absurd h
+parsed_once host (s ∷ ss) (o ∷ os) h = ap (λ p. p ∷ os) (parsed_as host s o h.0) ∙ ap (λ ps. statement_of host s.text ∷ ps) (parsed_once host ss os h.1)
 
 -- ---- all statements
 
@@ -58,34 +58,34 @@ links_of_one : (line : ℕ) (o : Option Meaning) → (of_one line o).links ≡ l
 links_of_one line None = refl
 links_of_one line (Some m) = refl
 
-heard-aliases : (host : List ℕ) (ss : List Numbered) → (heard host ss).aliases ≡ flat_map aliases_in (meanings host ss)
-heard-aliases host [] = refl
-heard-aliases host (s ∷ ss) = ap (λ a. a ++ (heard host ss).aliases) (aliases_of_one s.line (statement_of host s.text)) ∙ ap (λ r. aliases_in (statement_of host s.text) ++ r) (heard-aliases host ss)
+said-aliases : (host : List ℕ) (ss : List Numbered) → (all_said host ss).aliases ≡ flat_map aliases_in (meanings host ss)
+said-aliases host [] = refl
+said-aliases host (s ∷ ss) = ap (λ a. a ++ (all_said host ss).aliases) (aliases_of_one s.line (statement_of host s.text)) ∙ ap (λ r. aliases_in (statement_of host s.text) ++ r) (said-aliases host ss)
 
-heard-links : (host : List ℕ) (ss : List Numbered) → (heard host ss).links ≡ flat_map links_in (meanings host ss)
-heard-links host [] = refl
-heard-links host (s ∷ ss) = ap (λ a. a ++ (heard host ss).links) (links_of_one s.line (statement_of host s.text)) ∙ ap (λ r. links_in (statement_of host s.text) ++ r) (heard-links host ss)
+said-links : (host : List ℕ) (ss : List Numbered) → (all_said host ss).links ≡ flat_map links_in (meanings host ss)
+said-links host [] = refl
+said-links host (s ∷ ss) = ap (λ a. a ++ (all_said host ss).links) (links_of_one s.line (statement_of host s.text)) ∙ ap (λ r. links_in (statement_of host s.text) ++ r) (said-links host ss)
 
 skipped_more : (s : Numbered) (ss : List Numbered) (o : Option Meaning) (os : List (Option Meaning)) (rest : List ℕ) → rest ≡ skipped_lines ss os → (of_one s.line o).skipped ++ rest ≡ skipped_lines (s ∷ ss) (o ∷ os)
 skipped_more s ss None os rest e = ap (λ r. s.line ∷ r) e
 skipped_more s ss (Some m) os rest e = e
 
-heard-skipped : (host : List ℕ) (ss : List Numbered) → (heard host ss).skipped ≡ skipped_lines ss (meanings host ss)
-heard-skipped host [] = refl
-heard-skipped host (s ∷ ss) = skipped_more s ss (statement_of host s.text) (meanings host ss) (heard host ss).skipped (heard-skipped host ss)
+said-skipped : (host : List ℕ) (ss : List Numbered) → (all_said host ss).skipped ≡ skipped_lines ss (meanings host ss)
+said-skipped host [] = refl
+said-skipped host (s ∷ ss) = skipped_more s ss (statement_of host s.text) (meanings host ss) (all_said host ss).skipped (said-skipped host ss)
 
 small_host : (text : List ℕ) → length text ≤ 65536 → host_of text ≡ host_by (find is_name_line (lines text))
 small_host text small = let fits : nat_lt 65536 (length text) ≡ false = grind (arith, nat_tests) in ap (λ b. cond b (Err TooLarge) (host_by (find is_name_line (lines text)))) fits
 
--- what was heard of the host that a text names is the entry of the text
-pub entry_is : (text host : List ℕ) (entry : Entry) → length text ≤ 65536 → Ok host ≡ host_by (find is_name_line (lines text)) → Says (heard host (statements_of text)) host entry → IsEntry text entry
+-- what was said of the host that a text names is the entry of the text
+pub entry_is : (text host : List ℕ) (entry : Entry) → length text ≤ 65536 → Ok host ≡ host_by (find is_name_line (lines text)) → Says (all_said host (statements_of text)) host entry → IsEntry text entry
 entry_is text host entry small eh says = record {
-  heard = meanings host (statements_of text);
+  meanings = meanings host (statements_of text);
   host = small_host text small ∙ (sym eh ∙ ap Ok (sym says.host_is));
-  each = subst (λ (h : List ℕ). AllZip (IsHeard h) (statements_of text) (meanings host (statements_of text))) (sym says.host_is) (each_heard host (statements_of text));
-  aliases = says.aliases ∙ heard-aliases host (statements_of text);
-  links = subst (λ (ls : List Link). IsListing ls entry.links) (heard-links host (statements_of text)) says.links;
-  skipped = says.skipped ∙ heard-skipped host (statements_of text);
+  each = subst (λ (h : List ℕ). AllZip (IsParsed h) (statements_of text) (meanings host (statements_of text))) (sym says.host_is) (each_parsed host (statements_of text));
+  aliases = says.aliases ∙ said-aliases host (statements_of text);
+  links = subst (λ (ls : List Link). IsListing ls entry.links) (said-links host (statements_of text)) says.links;
+  skipped = says.skipped ∙ said-skipped host (statements_of text);
 }
 
 -- ---- one listing
@@ -139,10 +139,10 @@ pub one_entry : (text : List ℕ) (a b : Entry) → IsEntry text a → IsEntry t
 one_entry text a b ea eb =
     let hosts : a.host ≡ b.host = ok_same a.host b.host (sym ea.host ∙ eb.host) in
     let ss : List Numbered = statements_of text in
-    let same : ea.heard ≡ eb.heard = heard_once a.host ss ea.heard ea.each ∙ (ap (λ h. meanings h ss) hosts ∙ sym (heard_once b.host ss eb.heard eb.each)) in
+    let same : ea.meanings ≡ eb.meanings = parsed_once a.host ss ea.meanings ea.each ∙ (ap (λ h. meanings h ss) hosts ∙ sym (parsed_once b.host ss eb.meanings eb.each)) in
     let aliases : a.aliases ≡ b.aliases = ea.aliases ∙ (ap (flat_map aliases_in) same ∙ sym eb.aliases) in
     let skipped : a.skipped ≡ b.skipped = ea.skipped ∙ (ap (skipped_lines ss) same ∙ sym eb.skipped) in
-    let links : a.links ≡ b.links = one_listing (flat_map links_in eb.heard) a.links b.links (subst (λ (os : List (Option Meaning)). IsListing (flat_map links_in os) a.links) same ea.links) eb.links in
+    let links : a.links ≡ b.links = one_listing (flat_map links_in eb.meanings) a.links b.links (subst (λ (os : List (Option Meaning)). IsListing (flat_map links_in os) a.links) same ea.links) eb.links in
     ap (λ (h : List ℕ). let e : Entry = record { host = h; aliases = a.aliases; links = a.links; skipped = a.skipped } in e) hosts
     ∙ (ap (λ (x : List (List ℕ)). let e : Entry = record { host = b.host; aliases = x; links = a.links; skipped = a.skipped } in e) aliases
     ∙ (ap (λ (x : List Link). let e : Entry = record { host = b.host; aliases = b.aliases; links = x; skipped = a.skipped } in e) links

@@ -11,7 +11,7 @@ use Rattle.uu_map.specs.declared.expression.Level.{Level}
 use Rattle.uu_map.specs.declared.expression.Stage.{Stage}
 use Rattle.uu_map.specs.declared.expression.Stage.TheVariants.{Operand, Operator}
 use Rattle.uu_map.specs.Expression.{Sum, Product, Factor, one_product, added, one_factor, scaled, amount, dead, group, signed, sum_text, product_text, factor_text, kept, sum_of, product_of, both, negated, with_sign, sum_value, product_value, factor_value, sum_fits, product_fits, factor_fits, sum_is_dead, product_is_dead, factor_is_dead, cost_of}
-use Rattle.uu_map.specs.Reading.{State, sum_with, product_with, negated_if, flipped, run, start}
+use Rattle.uu_map.specs.Internal.Reading.{State, sum_with, product_with, negated_if, flipped, run, start}
 
 -- ---- values on the way are kept
 

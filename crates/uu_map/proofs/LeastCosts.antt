@@ -15,7 +15,7 @@ use Rattle.uu_map.specs.declared.entry.Cost.{Cost}
 use Rattle.uu_map.specs.declared.entry.Cost.TheVariants.{Value, Dead}
 use Rattle.uu_map.specs.declared.entry.Link.{Link}
 use Rattle.uu_map.specs.Listing.{CostsAtMost, IsLeast, cost_cmp}
-use Rattle.uu_map.specs.Ranking.{by_name_cmp, firsts_after}
+use Rattle.uu_map.specs.Internal.Ranking.{by_name_cmp, firsts_after}
 
 -- ---- costs
 

@@ -2,7 +2,6 @@ pub mod Accepted
 pub mod EntryTexts
 pub mod Expressions
 pub mod LeastCosts
-pub mod Lines
 pub mod LinkTexts
 pub mod Parts
 pub mod Ranks

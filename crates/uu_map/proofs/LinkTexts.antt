@@ -16,10 +16,11 @@ use Rattle.uu_map.specs.declared.token.Additive.TheVariants.{Plus, Minus}
 use Rattle.uu_map.specs.declared.token.Multiplicative.TheVariants.{Times, Over}
 use Rattle.uu_map.specs.Expression.{kept, Sum, sum_text, sum_value, sum_fits, sum_is_dead, cost_of}
 use Rattle.uu_map.specs.Token as token
-use Rattle.uu_map.specs.Token.{is_blank, begins, runs_on, words, symbol_amount, amount_token, symbol_token, sign_token, word_token, decimal}
-use Rattle.uu_map.specs.Reading.{run, start}
+use Rattle.uu_map.specs.Token.{begins, runs_on, words, symbol_amount, amount_token, symbol_token, sign_token, word_token, decimal}
+use Rattle.uu_names.specs.Text.{is_blank}
+use Rattle.uu_map.specs.Internal.Reading.{run, start}
 use Rattle.uu_map.specs.Statement.{is_mark, all_blank, IsMarkAtMost, IsPriced, IsCost, IsLink, IsAlias}
-use Rattle.uu_map.specs.StatementReading.{skip, skip_mark, cost_behind, site_name, named_link, link_of, named_alias, alias_of}
+use Rattle.uu_map.specs.Internal.StatementReading.{skip, skip_mark, cost_behind, site_name, named_link, link_of, named_alias, alias_of}
 use Rattle.uu_map.proofs.Expressions.{reads_expression}
 use Rattle.uu_map.proofs.Accepted.{accepted_expression}
 

@@ -3,7 +3,7 @@ use Rattle.std.proofs.Common.{◌≡◌, ℕ, suc, ◌+◌, ◌<◌, Bool, true,
 use Rattle.std.proofs.lemmas.List.{append-nil}
 use Rattle.std.specs.List.{filter, onto_first, position_or_len}
 use Rattle.uu_map.specs.Statement.{cut, is_comma, all_blank, elements}
-use Rattle.uu_map.specs.StatementReading.{each_of, list_of}
+use Rattle.uu_map.specs.Internal.StatementReading.{each_of, list_of}
 
 one_more : (n : ℕ) → 1 + n ≡ suc n
 one_more n = omega arith

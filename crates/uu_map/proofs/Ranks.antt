@@ -18,7 +18,7 @@ use Rattle.uu_map.specs.declared.entry.Cost.TheVariants.{Value, Dead}
 use Rattle.uu_map.specs.declared.entry.Link.{Link}
 use Rattle.uu_map.specs.declared.least.Ranked.{Ranked}
 use Rattle.uu_map.specs.Listing.{IsLeast, cost_cmp, listing_cmp, IsListing}
-use Rattle.uu_map.specs.Ranking.{by_name_cmp, as_link, ranked_cmp, firsts_after}
+use Rattle.uu_map.specs.Internal.Ranking.{by_name_cmp, as_link, ranked_cmp, firsts_after}
 use Rattle.uu_map.proofs.LeastCosts.{cost_total, same_name, firsts_least}
 
 -- ---- the order of ranked links

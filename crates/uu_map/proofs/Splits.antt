@@ -7,7 +7,7 @@ use Rattle.std.proofs.lemmas.List.Sums.{count_by_more_yes, count_by_more_no}
 use Rattle.uu_map.specs.declared.entry.EntryText.{EntryText}
 use Rattle.uu_map.specs.declared.splitter.Start.{Start}
 use Rattle.uu_map.specs.Split.{is_newline, begins_line, begins_entry, entries_from, line_of}
-use Rattle.uu_map.specs.Splitting.{ended, starts_from, start_list, FoundUpTo}
+use Rattle.uu_map.specs.Internal.Splitting.{ended, starts_from, start_list, FoundUpTo}
 
 starts_at : List ℕ → ℕ → Bool
 starts_at text k = begins_line text k && begins_entry (drop k text)

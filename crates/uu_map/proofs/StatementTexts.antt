@@ -9,9 +9,10 @@ use Rattle.uu_names.specs.Name.{is_site_byte}
 use Rattle.uu_map.specs.declared.entry.Cost.{Cost}
 use Rattle.uu_map.specs.declared.entry.Link.{Link}
 use Rattle.uu_map.specs.Token as token
-use Rattle.uu_map.specs.Token.{is_blank, begins}
+use Rattle.uu_map.specs.Token.{begins}
+use Rattle.uu_names.specs.Text.{is_blank}
 use Rattle.uu_map.specs.Statement.{is_mark, is_comma, all_blank, cut, elements, IsLink, IsAlias, Meaning, IsStatement, alone, with_links, with_aliases}
-use Rattle.uu_map.specs.StatementReading.{skip, skip_mark, cost_behind, site_name, named_link, link_of, alias_of, each_of, list_of, is_equals, said_by, statement_of}
+use Rattle.uu_map.specs.Internal.StatementReading.{skip, skip_mark, cost_behind, site_name, named_link, link_of, alias_of, each_of, list_of, is_equals, said_by, statement_of}
 use Rattle.uu_map.proofs.LinkTexts.{one_more, some_same, front_passes, skip-front, link_is, link_is_read, alias_is, alias_is_read}
 
 -- ---- lists

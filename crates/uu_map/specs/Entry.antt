@@ -10,9 +10,9 @@ use Rattle.uu_map.specs.Text.{Numbered, host_of, statements_of}
 use Rattle.uu_map.specs.Listing.{IsListing}
 
 -- A statement is kept with its meaning, or it is skipped, as it has none.
-abbrev pub IsHeard : List ℕ → Numbered → Option Meaning → Type 0
-IsHeard host s (Some m) = IsStatement host s.text m
-IsHeard host s None = (m : Meaning) → IsStatement host s.text m → ⊥
+abbrev pub IsParsed : List ℕ → Numbered → Option Meaning → Type 0
+IsParsed host s (Some m) = IsStatement host s.text m
+IsParsed host s None = (m : Meaning) → IsStatement host s.text m → ⊥
 
 abbrev pub aliases_in : Option Meaning → List (List ℕ)
 aliases_in None = []
@@ -32,12 +32,12 @@ skipped_lines (s ∷ ss) [] = []
 -- The entry of a text: the host that it names, the aliases of its kept statements in the text's order, their links as
 -- they are listed, and the lines of the skipped ones.
 pub record IsEntry (text : List ℕ) (entry : Entry) : Type 0 where
-  pub heard : List (Option Meaning)
+  pub meanings : List (Option Meaning)
   pub host : host_of text ≡ Ok entry.host
-  pub each : AllZip (IsHeard entry.host) (statements_of text) heard
-  pub aliases : entry.aliases ≡ flat_map aliases_in heard
-  pub links : IsListing (flat_map links_in heard) entry.links
-  pub skipped : entry.skipped ≡ skipped_lines (statements_of text) heard
+  pub each : AllZip (IsParsed entry.host) (statements_of text) meanings
+  pub aliases : entry.aliases ≡ flat_map aliases_in meanings
+  pub links : IsListing (flat_map links_in meanings) entry.links
+  pub skipped : entry.skipped ≡ skipped_lines (statements_of text) meanings
 
 -- What reading a text answers: its entry, the fault of its host, or that there is no memory.
 abbrev pub IsAnswer : List ℕ → Result Entry MapFault → Type 0

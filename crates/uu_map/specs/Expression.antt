@@ -47,9 +47,13 @@ abbrev mutual
   factor_text (group s) = tokens.Open ∷ (sum_text s ++ tokens.Close ∷ [])
   factor_text (signed op f) = tokens.Additive op ∷ factor_text f
 
+-- the greatest value on the way, and the least is as far below 0
+abbrev pub most_value : ℕ
+most_value = 10 ^ 12
+
 -- a value on the way is from -10^12 to 10^12
 abbrev pub kept : ℤ → Option ℤ
-kept z = if nat_le (unsigned_abs z) (10 ^ 12) then Some z else None
+kept z = if nat_le (unsigned_abs z) most_value then Some z else None
 
 -- a sum or a difference, a product or a quotient, and a number after a minus sign
 abbrev pub sum_of : Additive → ℤ → ℤ → Option ℤ
@@ -130,10 +134,10 @@ abbrev mutual
   factor_is_dead (signed op f) = factor_is_dead f
 
 -- what an expression of this value costs: a negative value counts as 0, and with `DEAD` the value isn't looked at
-abbrev pub charge : ℤ → Cost
-charge (pos n) = Value n
-charge (negsuc n) = Value 0
+abbrev pub cost_of_value : ℤ → Cost
+cost_of_value (pos n) = Value n
+cost_of_value (negsuc n) = Value 0
 
 abbrev pub cost_of : Bool → Option ℤ → Option Cost
 cost_of true v = Some Dead
-cost_of false v = option_map charge v
+cost_of false v = option_map cost_of_value v

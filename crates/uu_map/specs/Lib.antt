@@ -2,13 +2,9 @@ pub use Rattle.uu_names.specs.Name
 pub mod Entry
 pub mod Expression
 pub mod Fault
-pub mod Heard
+pub mod Internal
 pub mod Listing
-pub mod Ranking
-pub mod Reading
 pub mod Split
-pub mod Splitting
 pub mod Statement
-pub mod StatementReading
 pub mod Text
 pub mod Token

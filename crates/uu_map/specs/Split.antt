@@ -2,11 +2,12 @@
 use Rattle.std.specs.Prelude.{ℕ, ◌+◌, ◌-◌, Bool, false, ◌&&◌, ◌||◌, List, [], ◌∷◌, length, take, drop, ◌==◌, filter, count_by, slice_index}
 use Rattle.std.specs.List.{range_with_len}
 use Rattle.std.specs.Str.Lines.{lines}
+use Rattle.uu_names.specs.Text.{line_feed}
 use Rattle.uu_map.specs.declared.entry.EntryText.{EntryText}
 use Rattle.uu_map.specs.Text.{is_name_line}
 
 abbrev pub is_newline : ℕ → Bool
-is_newline b = b == 10
+is_newline b = b == line_feed
 
 -- the first of these lines is a name line
 abbrev pub first_names : List (List ℕ) → Bool

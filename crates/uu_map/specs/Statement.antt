@@ -12,7 +12,8 @@ use Rattle.uu_map.specs.declared.entry.Cost.TheVariants.{Value}
 use Rattle.uu_map.specs.declared.entry.Link.{Link}
 use Rattle.uu_map.specs.declared.token.Token.TheVariants.{Open, Close}
 use Rattle.uu_map.specs.Expression.{Sum, sum_text, sum_value, sum_fits, sum_is_dead, cost_of}
-use Rattle.uu_map.specs.Token.{is_blank, tokens}
+use Rattle.uu_map.specs.Token.{tokens}
+use Rattle.uu_names.specs.Text.{is_blank}
 
 abbrev pub is_mark : ℕ → Bool
 is_mark b = b == byte "!" || b == byte "@" || b == byte ":" || b == byte "%"
@@ -38,15 +39,22 @@ IsMarkAtMost [] = ⊤
 IsMarkAtMost (b ∷ []) = IsTrue (is_mark b)
 IsMarkAtMost (b ∷ c ∷ bs) = ⊥
 
+-- the cost of a link for which none is written, and how deep parentheses and signs may nest (this project's choice)
+abbrev pub usual_cost : ℕ
+usual_cost = 4000
+
+abbrev pub most_depth : ℕ
+most_depth = 32
+
 -- What stands behind a link's name says the cost: nothing means 4000; an expression in parentheses, in which parentheses
 -- and signs nest at most 32 deep, costs its value.
 pub record IsPriced (text : List ℕ) (cost : Cost) (sum : Sum) : Type 0 where
   pub written : tokens text ≡ Open ∷ (sum_text sum ++ Close ∷ [])
-  pub fits : IsTrue (sum_fits 32 sum)
+  pub fits : IsTrue (sum_fits most_depth sum)
   pub price : cost_of (sum_is_dead sum) (sum_value sum) ≡ Some cost
 
 abbrev pub IsCost : List ℕ → Cost → Type 0
-IsCost text cost = ((tokens text ≡ []) × (cost ≡ Value 4000)) ⊎ ((sum : Sum) × IsPriced text cost sum)
+IsCost text cost = ((tokens text ≡ []) × (cost ≡ Value usual_cost)) ⊎ ((sum : Sum) × IsPriced text cost sum)
 
 -- a link as an element of a list: blanks, a mark or nothing, the name, a mark or nothing, and what says its cost
 pub record IsLink (text : List ℕ) (link : Link) : Type 0 where

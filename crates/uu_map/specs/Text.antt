@@ -7,7 +7,8 @@ use Rattle.std.specs.Str.Lines.{lines}
 use Rattle.uu_names.specs.Name.{is_site_name}
 use Rattle.uu_map.specs.declared.fault.MapFault.{MapFault}
 use Rattle.uu_map.specs.declared.fault.MapFault.TheVariants.{NoName, BadHost, TooLarge}
-use Rattle.uu_map.specs.Token.{is_blank, begins}
+use Rattle.uu_map.specs.Token.{begins}
+use Rattle.uu_names.specs.Text.{is_blank, space}
 use Rattle.uu_map.specs.Statement.{is_comma, all_blank}
 
 -- nothing, or a text that begins with a blank
@@ -36,9 +37,13 @@ abbrev pub host_by : Option (List ℕ) → Result (List ℕ) MapFault
 host_by None = Err NoName
 host_by (Some line) = as_host (named_by line)
 
+-- the most bytes of an entry (this project's choice)
+abbrev pub most_entry : ℕ
+most_entry = 65536
+
 -- the host of an entry, which has at most 65,536 bytes: its first name line names it
 abbrev pub host_of : List ℕ → Result (List ℕ) MapFault
-host_of text = if nat_lt 65536 (length text) then Err TooLarge else host_by (find is_name_line (lines text))
+host_of text = if nat_lt most_entry (length text) then Err TooLarge else host_by (find is_name_line (lines text))
 
 -- a text with the number of the line on which it begins
 pub record Numbered : Type 0 where
@@ -56,7 +61,7 @@ content n (line ∷ lines) = if all_blank (before_comment line) then content (n 
 
 -- two texts joined by a space
 abbrev pub joined : Numbered → Numbered → Numbered
-joined a b = record { line = a.line; text = a.text ++ 32 ∷ b.text }
+joined a b = record { line = a.line; text = a.text ++ space ∷ b.text }
 
 abbrev pub onto_statement : Numbered → List Numbered → List Numbered
 onto_statement a [] = a ∷ []

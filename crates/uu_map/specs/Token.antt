@@ -1,5 +1,5 @@
 -- What an expression is made of: the words of its text (blanks only part them), and what each stands for.
-use Rattle.std.specs.Prelude.{ℕ, ◌+◌, ◌-◌, ◌*◌, Bool, false, ◌||◌, List, [], ◌∷◌, Option, Some, None, option_map, ℤ, pos, negsuc, ◌==◌, codes, map, find, fold, if◌then◌else◌}
+use Rattle.std.specs.Prelude.{ℕ, ◌+◌, ◌-◌, ◌*◌, Bool, false, List, [], ◌∷◌, Option, Some, None, option_map, ℤ, pos, negsuc, ◌==◌, codes, map, find, fold, if◌then◌else◌}
 use Rattle.std.specs.List.{prefix_len, onto_first}
 use Rattle.std.specs.Char.{is_ascii_digit, is_ascii_uppercase}
 use Rattle.std.specs.Str.{byte, bytes_eq}
@@ -7,11 +7,8 @@ use Rattle.uu_map.specs.declared.token.Additive.TheVariants.{Plus, Minus}
 use Rattle.uu_map.specs.declared.token.Multiplicative.TheVariants.{Times, Over}
 use Rattle.uu_map.specs.declared.token.Token.{Token}
 use Rattle.uu_map.specs.declared.token.Token.TheVariants.{Amount, Dead, Open, Close, Additive, Multiplicative, Other}
+use Rattle.uu_names.specs.Text.{is_blank}
 use Rattle.uu_map.specs.Expression.{kept}
-
--- a blank is a space or a tab
-abbrev pub is_blank : ℕ → Bool
-is_blank b = b == 32 || b == 9
 
 abbrev pub begins : (ℕ → Bool) → List ℕ → Bool
 begins passes [] = false

@@ -1,6 +1,5 @@
 // What a map says of a site.
-use crate::listed::Listed;
-use uu_names::SiteName;
+use uu_names::{Listed, SiteName};
 
 /// Where an entry stands in a map text.
 #[derive(Clone, Copy, Debug, PartialEq, Eq)]

@@ -1,8 +1,9 @@
 // Expressions, computed while they are read.
 ghost use Rattle.std.specs.Prelude.{◌≡◌, ◌∷◌, option_map, IfOk, reverse};
-ghost use Rattle.uu_map.specs.Expression.{kept, sum_of, product_of, quotient_of, negated, charge};
+ghost use Rattle.uu_map.specs.Expression.{kept, sum_of, product_of, quotient_of, negated, cost_of_value};
+ghost use Rattle.uu_map.specs.Statement.{most_depth};
 ghost use Rattle.uu_map.specs.Token.{tokens};
-ghost use Rattle.uu_map.specs.Reading.{sum_with, product_with, negated_if, flipped, one_less, fresh, run, start};
+ghost use Rattle.uu_map.specs.Internal.Reading.{sum_with, product_with, negated_if, flipped, one_less, fresh, run, start};
 
 use crate::entry::Cost;
 use crate::token::{Additive, LIMIT, Multiplicative, Token, next_token};
@@ -139,17 +140,17 @@ fn fresh(room: u32) -> Level
     }
 }
 
-fn charge(value: i64) -> Cost
-    ensures { result ≡ charge value }
+fn cost_of_value(value: i64) -> Cost
+    ensures { result ≡ cost_of_value value }
 {
     Cost::Value(u64::try_from(value).unwrap_or(0))
 }
 
 impl Reading {
-    ghost use Rattle.uu_map.specs.Reading.{state_of, with_factor, at_operand, closed, at_operator, step, finish};
+    ghost use Rattle.uu_map.specs.Internal.Reading.{state_of, with_factor, at_operand, closed, at_operator, step, finish};
 
     fn new(alloc: Global) -> Reading
-        ensures { state_of result ≡ start 32 }
+        ensures { state_of result ≡ start most_depth }
     {
         Reading {
             outer: Vec::new(alloc),
@@ -207,10 +208,7 @@ impl Reading {
     {
         match token {
             Token::Amount(value) => {
-                let value = match value {
-                    None => None,
-                    Some(value) => kept(value),
-                };
+                let value = value.and_then(kept);
                 Ok(Some(Reading::with_factor(outer, level, dead, value)))
             }
             Token::Dead => Ok(Some(Reading::with_factor(outer, level, true, None))),
@@ -309,7 +307,7 @@ impl Reading {
     {
         match self.stage {
             Stage::Done(_) if self.dead => Some(Cost::Dead),
-            Stage::Done(value) => Some(charge(value?)),
+            Stage::Done(value) => Some(cost_of_value(value?)),
             _ => None,
         }
     }
@@ -318,7 +316,7 @@ impl Reading {
 /// What an expression costs that begins behind its opening parenthesis and ends with the closing one,
 /// or none where the text is no such expression.
 pub(crate) fn cost(alloc: Global, text: &[u8]) -> Result<Option<Cost>, AllocError>
-    ensures { IfOk result (λ cost. cost ≡ run (start 32) (tokens text.now)) }
+    ensures { IfOk result (λ cost. cost ≡ run (start most_depth) (tokens text.now)) }
 {
     let mut reading = Reading::new(alloc);
     let mut rest = text;

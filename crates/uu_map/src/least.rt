@@ -2,7 +2,7 @@
 ghost use Rattle.std.specs.Prelude.{◌≡◌, ◌↔◌, None, IfOk, Contains, IsPermutation, IsSorted, map, option_copied};
 ghost use Rattle.std.specs.List.Sorted.{IsStrictlySortedBy};
 ghost use Rattle.uu_map.specs.Listing.{IsListing};
-ghost use Rattle.uu_map.specs.Ranking.{by_name_cmp, as_link, ranked_cmp, has_name_of, firsts_after};
+ghost use Rattle.uu_map.specs.Internal.Ranking.{by_name_cmp, as_link, ranked_cmp, has_name_of, firsts_after};
 ghost use Rattle.uu_map.specs.declared.least.Ranked.{Ranked};
 
 use crate::entry::{Cost, Link};

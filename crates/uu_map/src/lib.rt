@@ -5,7 +5,6 @@ mod entry;
 mod expression;
 mod fault;
 mod least;
-mod listed;
 mod reader;
 mod splitter;
 mod statement;
@@ -14,6 +13,6 @@ mod token;
 
 pub use entry::{Cost, Entry, EntryText, Link};
 pub use fault::MapFault;
-pub use listed::Listed;
-pub use reader::read_entry;
+pub use reader::{MAX_ENTRY, read_entry};
 pub use splitter::split;
+pub use uu_names::Listed;

@@ -1,24 +1,24 @@
 // Entries, read line by line.
 ghost use Rattle.std.specs.Prelude.{◌≡◌, ◌≤◌, List, ◌∷◌, ◌++◌, length, IfOk, IfSome, Ok, option_copied, find};
 ghost use Rattle.std.specs.Str.Lines.{lines};
-ghost use Rattle.uu_map.specs.Text.{is_name_line, host_by, Numbered, joined, statements_of};
+ghost use Rattle.uu_map.specs.Text.{most_entry, is_name_line, host_by, Numbered, joined, statements_of};
 ghost use Rattle.uu_map.specs.declared.entry.Entry.{Entry};
 ghost use Rattle.uu_map.specs.Entry.{IsEntry, IsAnswer, AnswersUnlessMemory};
-ghost use Rattle.uu_map.specs.Token.{begins, is_blank};
-ghost use Rattle.uu_map.specs.Heard.{heard, nothing, as_heard, Says};
+ghost use Rattle.uu_map.specs.Token.{begins};
+ghost use Rattle.uu_names.specs.Text.{is_blank};
+ghost use Rattle.uu_map.specs.Internal.Parsing.{all_said, nothing_said, as_said, Says};
 
 use crate::entry::{Entry, Link};
 use crate::fault::MapFault;
 use crate::least::listed;
-use crate::listed::Listed;
 use crate::statement::{is_all_blank, site_name, statement_of};
-use crate::text::{before_comment, first_line, is_name_line, named_by};
-use crate::token::is_blank;
+use crate::text::{before_comment, is_name_line, named_by};
 use std::alloc::{AllocError, Global};
-use uu_names::SiteName;
+use uu_names::text::{first_line, is_blank};
+use uu_names::{Listed, SiteName};
 
-/// The most bytes of an entry.
-const MAX_LEN: usize = 65_536;
+/// The most bytes of a map entry (this project's choice).
+pub const MAX_ENTRY: usize = 65_536;
 
 // The first line that names a host.
 fn name_line(text: &[u8]) -> Option<&[u8]>
@@ -55,7 +55,7 @@ fn host(alloc: Global, text: &[u8]) -> Result<SiteName, MapFault>
 
 /// What the statements said so far.
 #[derive(Drop)]
-pub(crate) struct Hearing {
+pub(crate) struct Parsed {
     pub(crate) aliases: Vec<SiteName>,
     pub(crate) links: Vec<Link>,
     pub(crate) skipped: Vec<u32>,
@@ -69,7 +69,7 @@ pub(crate) struct Pending {
 }
 
 impl Pending {
-    ghost use Rattle.uu_map.specs.Heard.{numbered_of};
+    ghost use Rattle.uu_map.specs.Internal.Parsing.{numbered_of};
 
     fn new(alloc: Global, line: u32, text: &[u8]) -> Result<Pending, AllocError>
         ensures { IfOk result (λ pending. numbered_of pending ≡ record { line = line; text = text.now }) }
@@ -99,23 +99,23 @@ fn begins_with_blank(text: &[u8]) -> bool
     }
 }
 
-impl Hearing {
-    ghost use Rattle.uu_map.specs.Heard.{then_heard, of_one, numbered_of, pending_list, in_all};
-    ghost use Rattle.uu_map.specs.StatementReading.{statement_of};
+impl Parsed {
+    ghost use Rattle.uu_map.specs.Internal.Parsing.{then_said, of_one, numbered_of, pending_list, in_all};
+    ghost use Rattle.uu_map.specs.Internal.StatementReading.{statement_of};
 
-    fn new(alloc: Global) -> Hearing
-        ensures { as_heard result ≡ nothing }
+    fn new(alloc: Global) -> Parsed
+        ensures { as_said result ≡ nothing_said }
     {
-        Hearing {
+        Parsed {
             aliases: Vec::new(alloc),
             links: Vec::new(alloc),
             skipped: Vec::new(alloc),
         }
     }
 
-    // Hears one statement.
-    fn hear(&mut self, alloc: Global, host: &[u8], statement: &Pending) -> Result<(), AllocError>
-        ensures { IfOk result (λ _. as_heard self.new ≡ then_heard (as_heard self.old) (of_one statement.now.line (statement_of host.now statement.now.text.items))) }
+    // Adds what a statement says, or its line where it is skipped.
+    fn add(&mut self, alloc: Global, host: &[u8], statement: &Pending) -> Result<(), AllocError>
+        ensures { IfOk result (λ _. as_said self.new ≡ then_said (as_said self.old) (of_one statement.now.line (statement_of host.now statement.now.text.items))) }
     {
         match statement_of(alloc, host, &statement.text)? {
             None => self.skipped.push(statement.line)?,
@@ -137,8 +137,8 @@ impl Hearing {
         text: &[u8],
     ) -> Result<Pending, AllocError>
         ensures { IfOk result (λ next. (rest : List Numbered) →
-            in_all host.now (as_heard self.new) (numbered_of next ∷ rest)
-            ≡ in_all host.now (as_heard self.old) (pending_list pending ++ record { line = line; text = text.now } ∷ rest)) }
+            in_all host.now (as_said self.new) (numbered_of next ∷ rest)
+            ≡ in_all host.now (as_said self.old) (pending_list pending ++ record { line = line; text = text.now } ∷ rest)) }
     {
         match pending {
             None => Pending::new(alloc, line, text),
@@ -146,7 +146,7 @@ impl Hearing {
                 if begins_with_blank(text) {
                     pending.continued(line, text)
                 } else {
-                    self.hear(alloc, host, &pending)?;
+                    self.add(alloc, host, &pending)?;
                     Pending::new(alloc, line, text)
                 }
             }
@@ -154,11 +154,11 @@ impl Hearing {
     }
 
     /// What the statements of an entry say of the host.
-    pub(crate) fn of_entry(alloc: Global, host: &[u8], text: &[u8]) -> Result<Hearing, AllocError>
-        requires { length text.now ≤ 65536 }
-        ensures { IfOk result (λ hearing. as_heard hearing ≡ heard host.now (statements_of text.now)) }
+    pub(crate) fn of_entry(alloc: Global, host: &[u8], text: &[u8]) -> Result<Parsed, AllocError>
+        requires { length text.now ≤ most_entry }
+        ensures { IfOk result (λ parsed. as_said parsed ≡ all_said host.now (statements_of text.now)) }
     {
-        let mut hearing = Hearing::new(alloc);
+        let mut parsed = Parsed::new(alloc);
         let mut pending = None;
         let mut line = 0;
         let mut rest = text;
@@ -168,28 +168,28 @@ impl Hearing {
             line += 1;
             let said = before_comment(whole);
             if !is_all_blank(said) {
-                pending = Some(hearing.take_line(alloc, host, pending, line, said)?);
+                pending = Some(parsed.take_line(alloc, host, pending, line, said)?);
             }
         }
         if let Some(last) = pending {
-            hearing.hear(alloc, host, &last)?;
+            parsed.add(alloc, host, &last)?;
         }
-        Ok(hearing)
+        Ok(parsed)
     }
 }
 
 // What an entry of at most 65,536 bytes says of this host.
 fn entry_of(alloc: Global, host: SiteName, text: &[u8]) -> Result<Entry, AllocError>
-    requires { length text.now ≤ 65536 }
-    ensures { IfOk result (Says (heard host (statements_of text.now)) host) }
+    requires { length text.now ≤ most_entry }
+    ensures { IfOk result (Says (all_said host (statements_of text.now)) host) }
 {
-    let hearing = Hearing::of_entry(alloc, host.as_str().as_bytes(), text)?;
-    let links = listed(alloc, hearing.links)?;
+    let parsed = Parsed::of_entry(alloc, host.as_str().as_bytes(), text)?;
+    let links = listed(alloc, parsed.links)?;
     Ok(Entry {
         host,
-        aliases: Listed::from_vec(hearing.aliases),
+        aliases: Listed::from_vec(parsed.aliases),
         links: Listed::from_vec(links),
-        skipped: Listed::from_vec(hearing.skipped),
+        skipped: Listed::from_vec(parsed.skipped),
     })
 }
 
@@ -203,7 +203,7 @@ pub fn read_entry(alloc: Global, text: &[u8]) -> Result<Entry, MapFault>
     // No other entry is that of the text.
     ensures only { (entry : Entry) → IsEntry text.now entry → AnswersUnlessMemory result (Ok entry) }
 {
-    if text.len() > MAX_LEN {
+    if text.len() > MAX_ENTRY {
         return Err(MapFault::TooLarge);
     }
     let host = host(alloc, text)?;

@@ -1,12 +1,14 @@
 // The entries of a map text.
 ghost use Rattle.std.specs.Prelude.{◌≡◌, ◌<◌, ◌≤◌, ◌++◌, length, IfOk, IfErr, OnOk};
+ghost use Rattle.uu_names.specs.Text.{most_text};
 ghost use Rattle.uu_map.specs.Split.{entries_of, begins_entry};
-ghost use Rattle.uu_map.specs.Splitting.{ended};
+ghost use Rattle.uu_map.specs.Internal.Splitting.{ended};
 
 use crate::entry::EntryText;
 use crate::fault::MapFault;
-use crate::text::{first_line, is_name_line};
+use crate::text::is_name_line;
 use std::alloc::{AllocError, Global};
+use uu_names::text::first_line;
 
 fn begins_entry(text: &[u8]) -> bool
     requires { 0 < length text.now }
@@ -42,7 +44,7 @@ fn end_entry(
 }
 
 fn entries_of(alloc: Global, text: &[u8]) -> Result<Vec<EntryText>, AllocError>
-    requires { length text.now ≤ 4194304 }
+    requires { length text.now ≤ most_text }
     ensures { IfOk result (λ v. v.items ≡ entries_of text.now) }
 {
     let mut entries = Vec::new(alloc);
@@ -69,7 +71,7 @@ fn entries_of(alloc: Global, text: &[u8]) -> Result<Vec<EntryText>, AllocError>
 ///
 /// A text has at most 4,194,304 bytes. The one fault is [`MapFault::Memory`].
 pub fn split(alloc: Global, text: &[u8]) -> Result<Vec<EntryText>, MapFault>
-    requires { length text.now ≤ 4194304 }
+    requires { length text.now ≤ most_text }
     ensures entries { IfOk result (λ v. v.items ≡ entries_of text.now) }
     ensures memory { IfErr result (λ fault. fault ≡ MapFault.Memory) }
 {

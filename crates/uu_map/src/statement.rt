@@ -2,16 +2,17 @@
 ghost use Rattle.std.specs.Prelude.{◌≡◌, ◌<◌, ◌≤◌, ◌∷◌, [], length, take, drop, option_map, IfOk};
 ghost use Rattle.std.specs.List.{prefix_len};
 ghost use Rattle.uu_names.specs.Name.{is_site_byte};
-ghost use Rattle.uu_map.specs.Token.{is_blank, tokens};
+ghost use Rattle.uu_map.specs.Token.{tokens};
+ghost use Rattle.uu_names.specs.Text.{is_blank};
 ghost use Rattle.uu_map.specs.Statement.{is_mark, all_blank, cut, is_comma};
-ghost use Rattle.uu_map.specs.StatementReading.{skip, skip_mark, cost_behind, site_name, named_link, link_of, named_alias, alias_of, list_of, meaning_of, said_by, statement_of};
+ghost use Rattle.uu_map.specs.Internal.StatementReading.{skip, skip_mark, cost_behind, site_name, named_link, link_of, named_alias, alias_of, list_of, meaning_of, said_by, statement_of};
 
 use crate::entry::{Cost, Link};
 use crate::expression::cost;
-use crate::text::len_before;
-use crate::token::{Token, blanks_len, is_blank, next_token};
+use crate::token::{Token, next_token};
 use std::alloc::{AllocError, Global};
-use uu_names::{NameFault, SiteName};
+use uu_names::text::{blanks_len, is_blank, len_before};
+use uu_names::{NameFault, SiteName, is_site_byte};
 
 /// What a statement says of its host.
 #[derive(Drop)]
@@ -27,12 +28,6 @@ fn is_mark(byte: u8) -> bool
     ensures { result ≡ is_mark byte }
 {
     matches!(byte, b'!' | b'@' | b':' | b'%')
-}
-
-fn is_site_byte(byte: u8) -> bool
-    ensures { result ≡ is_site_byte byte }
-{
-    byte.is_ascii_alphanumeric() || matches!(byte, b'-' | b'_' | b'.')
 }
 
 pub(crate) fn is_all_blank(text: &[u8]) -> bool
@@ -62,12 +57,7 @@ fn name_len(text: &[u8]) -> usize
     ensures value { result ≡ prefix_len is_site_byte text.now }
     ensures bound { result ≤ length text.now }
 {
-    for (i, byte) in text.iter().enumerate() {
-        if !is_site_byte(*byte) {
-            return i;
-        }
-    }
-    text.len()
+    text.iter().take_while(|byte| is_site_byte(**byte)).count()
 }
 
 fn cost_behind(alloc: Global, text: &[u8]) -> Result<Option<Cost>, AllocError>
@@ -90,7 +80,7 @@ pub(crate) fn site_name(alloc: Global, text: &[u8]) -> Result<Option<SiteName>, 
     }
 }
 
-#[tactic(auto, unfolding(crate::specs::StatementReading::named_link))]
+#[tactic(auto, unfolding(crate::specs::Internal::StatementReading::named_link))]
 fn named_link(alloc: Global, text: &[u8]) -> Result<Option<Link>, AllocError>
     ensures { IfOk result (λ link. link ≡ named_link text.now) }
 {
@@ -104,14 +94,14 @@ fn named_link(alloc: Global, text: &[u8]) -> Result<Option<Link>, AllocError>
     Ok(Some(Link { to, cost }))
 }
 
-#[tactic(auto, unfolding(crate::specs::StatementReading::link_of))]
+#[tactic(auto, unfolding(crate::specs::Internal::StatementReading::link_of))]
 fn link_of(alloc: Global, text: &[u8]) -> Result<Option<Link>, AllocError>
     ensures { IfOk result (λ link. link ≡ link_of text.now) }
 {
     named_link(alloc, skip_mark(skip_blanks(text)))
 }
 
-#[tactic(auto, unfolding(crate::specs::StatementReading::named_alias))]
+#[tactic(auto, unfolding(crate::specs::Internal::StatementReading::named_alias))]
 fn named_alias(alloc: Global, text: &[u8]) -> Result<Option<SiteName>, AllocError>
     ensures { IfOk result (λ name. name ≡ named_alias text.now) }
 {
@@ -123,7 +113,7 @@ fn named_alias(alloc: Global, text: &[u8]) -> Result<Option<SiteName>, AllocErro
     }
 }
 
-#[tactic(auto, unfolding(crate::specs::StatementReading::alias_of))]
+#[tactic(auto, unfolding(crate::specs::Internal::StatementReading::alias_of))]
 fn alias_of(alloc: Global, text: &[u8]) -> Result<Option<SiteName>, AllocError>
     ensures { IfOk result (λ name. name ≡ alias_of text.now) }
 {
@@ -211,7 +201,7 @@ fn said_by(alloc: Global, text: &[u8]) -> Result<Option<Statement>, AllocError>
 }
 
 /// What a statement of the host says, or none where it is skipped.
-#[tactic(auto, unfolding(crate::specs::StatementReading::statement_of))]
+#[tactic(auto, unfolding(crate::specs::Internal::StatementReading::statement_of))]
 pub(crate) fn statement_of(
     alloc: Global,
     host: &[u8],

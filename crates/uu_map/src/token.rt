@@ -3,7 +3,9 @@ ghost use Rattle.std.specs.Prelude.{◌≡◌, ◌<◌, ◌≤◌, ◌∷◌, []
 ghost use Rattle.std.specs.List.{prefix_len};
 ghost use Rattle.std.specs.Char.{is_ascii_digit, is_ascii_uppercase};
 ghost use Rattle.uu_map.specs.Expression.{kept};
-ghost use Rattle.uu_map.specs.Token.{is_blank, words, symbol_token, decimal, sign_token, word_token, tokens, word_len};
+ghost use Rattle.uu_map.specs.Token.{words, symbol_token, decimal, sign_token, word_token, tokens, word_len};
+
+use uu_names::text::blanks_len;
 
 /// An operator between terms, or a sign.
 #[derive(Clone, Copy, Debug, PartialEq, Eq)]
@@ -37,46 +39,20 @@ pub(crate) enum Token {
 /// The greatest value on the way of an expression.
 pub(crate) const LIMIT: u64 = 1_000_000_000_000;
 
-pub(crate) fn is_blank(byte: u8) -> bool
-    ensures { result ≡ is_blank byte }
-{
-    byte == b' ' || byte == b'\t'
-}
-
-pub(crate) fn blanks_len(text: &[u8]) -> usize
-    ensures value { result ≡ prefix_len is_blank text.now }
-    ensures bound { result ≤ length text.now }
-{
-    for (i, byte) in text.iter().enumerate() {
-        if !is_blank(*byte) {
-            return i;
-        }
-    }
-    text.len()
-}
-
 fn digits_len(text: &[u8]) -> usize
     ensures value { result ≡ prefix_len is_ascii_digit text.now }
     ensures bound { result ≤ length text.now }
 {
-    for (i, byte) in text.iter().enumerate() {
-        if !byte.is_ascii_digit() {
-            return i;
-        }
-    }
-    text.len()
+    text.iter().take_while(|byte| byte.is_ascii_digit()).count()
 }
 
 fn capitals_len(text: &[u8]) -> usize
     ensures value { result ≡ prefix_len is_ascii_uppercase text.now }
     ensures bound { result ≤ length text.now }
 {
-    for (i, byte) in text.iter().enumerate() {
-        if !byte.is_ascii_uppercase() {
-            return i;
-        }
-    }
-    text.len()
+    text.iter()
+        .take_while(|byte| byte.is_ascii_uppercase())
+        .count()
 }
 
 // The number that digits are written for, or none past the limit.

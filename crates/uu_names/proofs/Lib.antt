@@ -1,4 +1,5 @@
 pub mod NameLemmas
+pub mod Lines
 pub mod EnvelopeJoins
 pub mod GradeTables
 pub mod PathParts

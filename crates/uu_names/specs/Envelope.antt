@@ -5,6 +5,7 @@ use Rattle.std.specs.List.{concat, starts_with}
 use Rattle.std.specs.Str.{byte}
 use Rattle.jiff.specs.Types.{DateTime}
 use Rattle.jiff.specs.Words.{weekday_of}
+use Rattle.uu_names.specs.Text.{line_feed}
 
 -- the name of the day that is so many days after a Monday
 abbrev pub day_name : ℕ → List ℕ
@@ -37,9 +38,6 @@ date_text local =
     (day_name (weekday_of local.date) ∷ codes " " ∷ month_name local.date.month ∷ codes " " ∷ two_places local.date.day ∷ codes " "
     ∷ two_digits local.time.hour ∷ codes ":" ∷ two_digits local.time.minute ∷ codes ":" ∷ two_digits local.time.second ∷ codes " "
     ∷ four_digits (unsigned_abs local.date.year) ∷ [])
-
-abbrev pub line_feed : ℕ
-line_feed = 10
 
 -- `From USER DATE remote from SITE` and a line feed
 abbrev pub from_line : List ℕ → DateTime → List ℕ → List ℕ

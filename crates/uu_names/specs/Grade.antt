@@ -6,6 +6,13 @@ use Rattle.std.specs.Str.{byte}
 abbrev pub grade_bytes : List ℕ
 grade_bytes = codes "0123456789ABCDEFGHIJKLMNOPQRSTUVWXYZabcdefghijklmnopqrstuvwxyz"
 
+-- how many grades there are, and the rank of the lowest, `z`
+abbrev pub grade_count : ℕ
+grade_count = 62
+
+abbrev pub lowest_grade : ℕ
+lowest_grade = 61
+
 -- the rank of a grade is its place in that order, from 0 to 61; no other byte has one
 abbrev pub rank_of : ℕ → Option ℕ
 rank_of byte = position (λ grade. grade == byte) grade_bytes

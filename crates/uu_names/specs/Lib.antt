@@ -5,3 +5,4 @@ pub mod Internal
 pub mod Name
 pub mod Path
 pub mod ReturnPath
+pub mod Text

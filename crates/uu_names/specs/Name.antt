@@ -18,13 +18,20 @@ is_word_byte b = is_ascii_graphic b
 abbrev pub has_form : (ℕ → Bool) → List ℕ → Bool
 has_form passes text = nat_le 1 (length text) && list_all passes text
 
+-- the most bytes of a site name, and of a word
+abbrev pub most_name : ℕ
+most_name = 63
+
+abbrev pub most_word : ℕ
+most_word = 255
+
 -- a site name is 1 to 63 such bytes; case is kept and compared
 abbrev pub is_site_name : List ℕ → Bool
-is_site_name text = has_form is_site_byte text && nat_le (length text) 63
+is_site_name text = has_form is_site_byte text && nat_le (length text) most_name
 
 -- a word is 1 to 255 such bytes
 abbrev pub is_word : List ℕ → Bool
-is_word text = has_form is_word_byte text && nat_le (length text) 255
+is_word text = has_form is_word_byte text && nat_le (length text) most_word
 
 -- What a text is, where each byte has to pass and a limit stands on their number. The form of the whole text is
 -- looked at before its length. A text of another form is refused at the first byte that does not pass, the empty text at 0.
@@ -34,8 +41,8 @@ checked_text passes limit bad_at text =
 
 -- what a text is as a site name
 abbrev pub site_name_of : List ℕ → Result (List ℕ) NameFault
-site_name_of = checked_text is_site_byte 63 BadName
+site_name_of = checked_text is_site_byte most_name BadName
 
 -- what a text is as a word
 abbrev pub word_of : List ℕ → Result (List ℕ) NameFault
-word_of = checked_text is_word_byte 255 BadWord
+word_of = checked_text is_word_byte most_word BadWord

@@ -5,7 +5,7 @@ use Rattle.std.specs.List.{list_all, join_with_byte, before_first, after_first}
 use Rattle.std.specs.Str.{byte}
 use Rattle.uu_names.specs.declared.fault.NameFault.{NameFault}
 use Rattle.uu_names.specs.declared.fault.NameFault.TheVariants.{BadGrade, BadName, BadPath, BadWord, NoEnvelope, TooLong, Memory}
-use Rattle.uu_names.specs.Name.{is_site_byte, is_word_byte, has_form}
+use Rattle.uu_names.specs.Name.{is_site_byte, is_word_byte, has_form, most_name}
 
 -- the sites in the order in which a message goes over them, and the local part
 pub record BangPath : Type 0 where
@@ -27,9 +27,13 @@ is_local_byte b = is_word_byte b && not (is_bang b)
 abbrev pub has_path_form : BangPath → Bool
 has_path_form path = nat_le 1 (length path.sites) && list_all (has_form is_site_byte) path.sites && has_form is_local_byte path.local_part
 
+-- the most bytes of a path's text
+abbrev pub most_path : ℕ
+most_path = 255
+
 -- the limits: 63 bytes for each site name, 255 for the text
 abbrev pub is_within_limits : BangPath → Bool
-is_within_limits path = list_all (λ site. nat_le (length site) 63) path.sites && nat_le (length (path_text path)) 255
+is_within_limits path = list_all (λ site. nat_le (length site) most_name) path.sites && nat_le (length (path_text path)) most_path
 
 -- the text is that of a path
 pub record IsPathText (text : List ℕ) : Type 0 where

@@ -2,28 +2,22 @@
 use Rattle.std.specs.Prelude.{◌≡◌, ◌⊎◌, ℕ, Bool, not, List, [], ◌∷◌, ◌++◌, ◌==◌, codes, length, IsTrue, if◌then◌else◌, map, take, ◌-◌, nat_eq, ⊤}
 use Rattle.std.specs.List.{concat, onto_first, join_with_byte, ends_with}
 use Rattle.std.specs.Str.{byte}
+use Rattle.std.specs.Str.Lines.{strip_carriage_return}
 use Rattle.uu_names.specs.declared.fault.NameFault.{NameFault}
 use Rattle.uu_names.specs.declared.fault.NameFault.TheVariants.{BadGrade, BadName, BadPath, BadWord, NoEnvelope, TooLong, Memory}
-use Rattle.uu_names.specs.Envelope.{line_feed}
 use Rattle.uu_names.specs.Name.{has_form, is_site_name}
 use Rattle.uu_names.specs.Path.{IsPathText, IsPathFault}
+use Rattle.uu_names.specs.Text.{line_feed}
 
 -- the lines of a text, each with its line feed, which the last may lack
 abbrev pub raw_lines : List ℕ → List (List ℕ)
 raw_lines [] = []
 raw_lines (b ∷ bs) = if b == line_feed then (b ∷ []) ∷ raw_lines bs else onto_first b (raw_lines bs)
 
-abbrev pub carriage_return : ℕ
-carriage_return = 13
-
--- a text without this byte at its end, if it stands there
-abbrev pub without_last : ℕ → List ℕ → List ℕ
-without_last b text = if ends_with nat_eq text (b ∷ []) then take (length text - 1) text else text
-
 -- a line without its line feed, and without a carriage return directly before that
 abbrev pub content : List ℕ → List ℕ
 content line =
-    if ends_with nat_eq line (line_feed ∷ []) then without_last carriage_return (without_last line_feed line) else line
+    if ends_with nat_eq line (line_feed ∷ []) then strip_carriage_return (take (length line - 1) line) else line
 
 abbrev pub is_no_space : ℕ → Bool
 is_no_space b = not (b == byte " ")

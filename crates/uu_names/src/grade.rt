@@ -1,9 +1,12 @@
 // The urgency of a job.
 ghost use Rattle.std.specs.Prelude.{◌≡◌, ℕ, ◌<◌, Some, ok_or, slice_get, SomeIff};
-ghost use Rattle.uu_names.specs.Grade.{rank_of, grade_bytes, default_grade};
+ghost use Rattle.uu_names.specs.Grade.{rank_of, grade_bytes, grade_count, default_grade};
 
 use crate::fault::NameFault;
 use std::marker::Model;
+
+/// How many grades there are.
+const COUNT: u8 = 62;
 
 /// A grade: one digit or letter of ASCII, seen as its rank, 0 to 61 for `0` to `9`, then `A` to `Z`, then `a` to `z`.
 /// A lower rank is a higher grade, so that grades are ordered by rank, the most urgent first (Taylor UUCP 1.07 manual, on grades).
@@ -17,7 +20,7 @@ impl Model for Grade {
 
     ghost view = { λ grade. grade.rank };
 
-    ghost invariant = { λ grade. grade.rank < 62 };
+    ghost invariant = { λ grade. grade.rank < grade_count };
 
     ghost inverse = { λ rank. record { rank = rank } };
 }
@@ -41,9 +44,9 @@ impl Grade {
 
     /// The grade of this rank, if it is one of 0 to 61.
     pub fn of_rank(rank: u8) -> Option<Grade>
-        ensures { SomeIff result (rank < 62) rank }
+        ensures { SomeIff result (rank < grade_count) rank }
     {
-        if rank < 62 {
+        if rank < COUNT {
             Some(Grade { rank })
         } else {
             None
@@ -53,7 +56,7 @@ impl Grade {
     /// The rank, from 0 to 61.
     pub fn rank(&self) -> u8
         ensures value { result ≡ self.now }
-        ensures range { result < 62 }
+        ensures range { result < grade_count }
     {
         self.rank
     }

@@ -1,14 +1,15 @@
 // The lines that the sites on a message's way have put before it.
 ghost use Rattle.std.specs.Prelude.{◌≡◌, ℕ, List, ◌+◌, ◌-◌, ◌<◌, ◌≤◌, [], ◌∷◌, length, take, drop, IfOk, IfErr, MatchOption, ⊤, ◌==◌, position};
-ghost use Rattle.uu_names.specs.Envelope.{line_feed};
 ghost use Rattle.std.specs.List.{suffix_len};
 ghost use Rattle.uu_names.specs.Fault.{UnlessMemory};
-ghost use Rattle.uu_names.specs.ReturnPath.{without_last, content, raw_lines, is_no_space, Sender, IsLeadingLine, IsReturnPath, IsReturnFault, Stops};
+ghost use Rattle.uu_names.specs.ReturnPath.{content, raw_lines, is_no_space, Sender, IsLeadingLine, IsReturnPath, IsReturnFault, Stops};
+ghost use Rattle.uu_names.specs.Text.{space, line_feed};
 ghost use Rattle.uu_names.specs.Internal.NextLine.{BeginsWithSender};
 
 use crate::fault::NameFault;
 use crate::path::Path;
 use crate::site_name::is_site_name;
+use crate::text::strip_carriage_return;
 use std::alloc::Global;
 
 // What a leading line says, and how many bytes it has with its ending.
@@ -19,23 +20,12 @@ struct Found<'a> {
     line_len: usize,
 }
 
-// The bytes without this one at their end.
-fn without_last(bytes: &[u8], last: u8) -> &[u8]
-    ensures { result.now ≡ without_last last bytes.now }
-{
-    if bytes.ends_with(&[last]) {
-        &bytes[..bytes.len() - 1]
-    } else {
-        bytes
-    }
-}
-
 // A line without its line feed, and without a carriage return directly before that.
 fn content(line: &[u8]) -> &[u8]
     ensures { result.now ≡ content line.now }
 {
     if line.ends_with(b"\n") {
-        without_last(without_last(line, b'\n'), b'\r')
+        strip_carriage_return(&line[..line.len() - 1])
     } else {
         line
     }
@@ -68,7 +58,7 @@ fn last_word_len(text: &[u8]) -> usize
 }
 
 fn first_space(text: &[u8]) -> Option<usize>
-    ensures { result ≡ position (λ byte. byte == 32) text.now }
+    ensures { result ≡ position (λ byte. byte == space) text.now }
 {
     text.iter().position(|byte| *byte == b' ')
 }

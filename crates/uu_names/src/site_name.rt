@@ -32,7 +32,8 @@ impl Model for SiteName {
 /// The most bytes of a site name.
 pub(crate) const MAX_LEN: usize = 63;
 
-pub(crate) fn is_site_byte(byte: u8) -> bool
+/// Whether a site name may have the byte: a letter or a digit of ASCII, `-`, `_` or `.`.
+pub fn is_site_byte(byte: u8) -> bool
     ensures { result ≡ is_site_byte byte }
 {
     byte.is_ascii_alphanumeric() || matches!(byte, b'-' | b'_' | b'.')

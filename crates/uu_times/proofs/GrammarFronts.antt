@@ -8,9 +8,9 @@ use Rattle.uu_times.specs.declared.days.Simple.{Simple}
 use Rattle.uu_times.specs.declared.scan.Found.{Found}
 use Rattle.uu_times.specs.declared.scan.Place.{Place}
 use Rattle.uu_times.specs.declared.scan.Place.TheVariants.{Start, Letter, An, Named, From, Dash, To, Whole}
-use Rattle.uu_times.specs.Days.{spans, no_days, with_days, has_day, in_hours, has_minute}
-use Rattle.uu_times.specs.Grammar.{DayWord, word_days, Spelling, Spells, minutes_of, days_of, simple_of, has_spelled, IsLongestFront}
-use Rattle.uu_times.specs.Scan.{is_time, is_end, minute_of, last_minute, two_letters, more_digits, start_digit, first_letter, second_letter, next_place, simple_at, is_separator, after, step, ending, going_on, scan, lower, list_of}
+use Rattle.uu_times.specs.Days.{spans, no_days, with_days, has_day, in_hours, has_minute, two_letters}
+use Rattle.uu_times.specs.Grammar.{DayWord, word_days, Spelling, Spells, bounds_of, days_of, simple_of, has_spelled, IsLongestFront, is_separator, lower}
+use Rattle.uu_times.specs.Internal.Scan.{is_time, is_end, minute_of, last_minute, more_digits, start_digit, first_letter, second_letter, next_place, simple_at, after, step, ending, going_on, scan, list_of}
 use Rattle.uu_times.proofs.GrammarLemmas.{scan-next, scan-ending, start-digit, end-digit, lists-read}
 use Rattle.uu_times.proofs.GrammarReads.{reads-lists}
 
@@ -327,6 +327,6 @@ has-words (word ∷ words) days day below =
 
 pub spelled-minutes : (spelling : Spelling) (minute : ℕ) → minute < 10080 → has_minute minute (simple_of spelling) ≡ has_spelled minute spelling
 spelled-minutes spelling minute below =
-    ap (λ b. b && in_hours (option_map minutes_of spelling.hours) (minute % 1440))
+    ap (λ b. b && in_hours (option_map bounds_of spelling.hours) (minute % 1440))
     (has-words spelling.words no_days (minute / 1440) (omega arith)
     ∙ ap (λ b. b || list_any (λ word. spans (word_days word) (minute / 1440)) spelling.words) (has-none (minute / 1440) (omega arith)))

@@ -10,8 +10,8 @@ use Rattle.uu_times.specs.declared.scan.Found.{Found}
 use Rattle.uu_times.specs.declared.scan.Place.{Place}
 use Rattle.uu_times.specs.declared.scan.Place.TheVariants.{Start, Named, From, Dash, To, Whole}
 use Rattle.uu_times.specs.Days.{no_days, with_days}
-use Rattle.uu_times.specs.Grammar.{DayWord, su, mo, tu, we, th, fr, sa, wk, any, word_text, word_days, Hours, Spelling, two_digits, hours_text, spelled, IsTime, IsEnd, AreHours, IsSpelling, Spells, minutes_of, days_of, simple_of}
-use Rattle.uu_times.specs.Scan.{is_time, is_end, minute_of, last_minute, more_digits, start_digit, end_digit, first_letter, next_place, simple_at, is_separator, after, ending, going_on, scan}
+use Rattle.uu_times.specs.Grammar.{DayWord, su, mo, tu, we, th, fr, sa, wk, any, word_text, word_days, Hours, Spelling, two_digits, hours_text, spelled, IsTime, IsEnd, AreHours, IsSpelling, Spells, bounds_of, days_of, simple_of, is_separator}
+use Rattle.uu_times.specs.Internal.Scan.{is_time, is_end, minute_of, last_minute, more_digits, start_digit, end_digit, first_letter, next_place, simple_at, after, ending, going_on, scan}
 
 -- a byte that leads on
 pub scan-next : (place next : Place) (letter : ℕ) (rest : List ℕ) (simples : List Simple) → is_separator letter ≡ false → next_place place letter ≡ Some next
@@ -186,7 +186,7 @@ minute-end hour minute (inr last) =
 abbrev pub made : Days → Option (ℕ × ℕ) → Simple
 made days hours = record { days = days; hours = hours }
 
-pub simple-behind : (days : Days) (hours : Option Hours) → AreHours hours → simple_at (place_behind days hours) ≡ Some (made days (option_map minutes_of hours))
+pub simple-behind : (days : Days) (hours : Option Hours) → AreHours hours → simple_at (place_behind days hours) ≡ Some (made days (option_map bounds_of hours))
 simple-behind days None are = refl
 simple-behind days (Some hours) are =
     ap (λ (m : ℕ). let h : ℕ × ℕ = (m, last_minute (written hours.to_hour hours.to_minute)) in Some (made days (Some h))) (minute-start hours.from_hour hours.from_minute are.0)

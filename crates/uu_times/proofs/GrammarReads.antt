@@ -8,9 +8,9 @@ use Rattle.uu_times.specs.declared.days.Simple.{Simple}
 use Rattle.uu_times.specs.declared.scan.Found.{Found}
 use Rattle.uu_times.specs.declared.scan.Place.{Place}
 use Rattle.uu_times.specs.declared.scan.Place.TheVariants.{Start, Letter, An, Named, From, Dash, To, Whole}
-use Rattle.uu_times.specs.Days.{no_days, with_days}
-use Rattle.uu_times.specs.Grammar.{DayWord, su, mo, tu, we, th, fr, sa, wk, any, word_text, word_days, Hours, Spelling, two_digits, hours_text, spelled, IsTime, IsEnd, AreHours, IsSpelling, Spells, minutes_of, days_of, simple_of}
-use Rattle.uu_times.specs.Scan.{is_time, is_end, two_letters, more_digits, start_digit, end_digit, first_letter, second_letter, next_place, simple_at, is_separator, after, ending, going_on, scan}
+use Rattle.uu_times.specs.Days.{no_days, with_days, two_letters}
+use Rattle.uu_times.specs.Grammar.{DayWord, su, mo, tu, we, th, fr, sa, wk, any, word_text, word_days, Hours, Spelling, two_digits, hours_text, spelled, IsTime, IsEnd, AreHours, IsSpelling, Spells, bounds_of, days_of, simple_of, is_separator}
+use Rattle.uu_times.specs.Internal.Scan.{is_time, is_end, more_digits, start_digit, end_digit, first_letter, second_letter, next_place, simple_at, after, ending, going_on, scan}
 use Rattle.uu_times.proofs.GrammarLemmas.{written, place_behind, simple-behind, made}
 
 -- what an equation of options says
@@ -323,8 +323,8 @@ ended-with days hours front text simple are words is same = record {
   spelling = record { words = words.front.words; hours = hours };
   is = (words.some, are);
   text_is = is ∙ ap (λ t. t ++ hours_text hours) words.front.spelled;
-  simple_is = sym (some-same (made days (option_map minutes_of hours)) simple (sym (simple-behind days hours are) ∙ same))
-      ∙ ap (λ (d : Days). made d (option_map minutes_of hours)) words.front.named;
+  simple_is = sym (some-same (made days (option_map bounds_of hours)) simple (sym (simple-behind days hours are) ∙ same))
+      ∙ ap (λ (d : Days). made d (option_map bounds_of hours)) words.front.named;
 }
 
 ends-at : (place : Place) (text : List ℕ) (simple : Simple) → Pending place text → simple_at place ≡ Some simple → Ended text simple

@@ -5,10 +5,13 @@ pub mod GrammarFronts
 pub mod GrammarReads
 pub mod LineLemmas
 pub mod NumberLemmas
+pub mod Predefined
 pub mod ReadingLemmas
 pub mod Runs
 pub mod ScanDaily
 pub mod ScanSteps
+pub mod StringLemmas
+pub mod TableLemmas
 pub mod TimeFronts
 pub mod UnionLemmas
 pub mod WordLemmas

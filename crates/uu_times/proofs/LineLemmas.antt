@@ -1,50 +1,9 @@
 -- Lines cut, joined and freed of comments.
-use Rattle.std.proofs.Common.{◌≡◌, ℕ, suc, ◌+◌, ◌<◌, true, false, ◌&&◌, List, [], ◌∷◌, ◌++◌, length, take, drop, get_or, All, inl, inr, refl, ap, sym, ◌∙◌, arith, add-one, drop-cons, append_assoc, append-nil, take-append-drop, nat_eq, nat_lt}
-use Rattle.std.proofs.lemmas.Bool.{cond_both, cond-true, cond-false, cases_Bool, ne_eqb, and_from, both_ways, lt-ltb}
-use Rattle.std.proofs.lemmas.List.{get_or-take, length-take-le}
-use Rattle.std.proofs.lemmas.List.Elements.{All-from_get_or}
-use Rattle.std.proofs.lemmas.List.Splits.{slice_split_none, slice_split_at}
-use Rattle.std.specs.List.{slice_split, onto_first}
-use Rattle.std.specs.Str.Lines.{lines, lines_of_parts, strip_carriage_return}
+use Rattle.std.proofs.Common.{◌≡◌, ℕ, suc, ◌+◌, ◌<◌, true, false, ◌&&◌, List, [], ◌∷◌, ◌++◌, length, drop, get_or, inl, inr, refl, ap, sym, ◌∙◌, arith, drop-cons, append_assoc, append-nil, nat_lt}
+use Rattle.std.proofs.lemmas.Bool.{cond_both, cond-true, cond-false, cases_Bool, and_from, both_ways, lt-ltb}
+use Rattle.std.specs.Str.{byte}
+use Rattle.std.specs.Str.Lines.{lines}
 use Rattle.uu_times.specs.Lines.{Numbered, goes_on, without_last, kept_part, joined_onto, joined, uncommented}
-
--- a split is never empty
-split-some : (text : List ℕ) → (part : List ℕ) × (parts : List (List ℕ)) × (slice_split (λ b. nat_eq b 10) text ≡ part ∷ parts)
-split-some [] = ([], [], refl)
-split-some (letter ∷ letters) =
-    let rest = split-some letters in
-    elim (cases_Bool (nat_eq letter 10)) [
-      | inl newline ↦ ([], slice_split (λ b. nat_eq b 10) letters, cond-true (nat_eq letter 10) ([] ∷ slice_split (λ b. nat_eq b 10) letters) (onto_first letter (slice_split (λ b. nat_eq b 10) letters)) newline)
-      | inr other ↦ (
-        letter ∷ rest.0,
-        rest.1,
-        cond-false (nat_eq letter 10) ([] ∷ slice_split (λ b. nat_eq b 10) letters) (onto_first letter (slice_split (λ b. nat_eq b 10) letters)) other
-            ∙ ap (onto_first letter) rest.2,
-      )
-    ]
-
--- a line before another
-lines-before : (line : List ℕ) (rest : List ℕ) → lines_of_parts (line ∷ slice_split (λ b. nat_eq b 10) rest) ≡ strip_carriage_return line ∷ lines rest
-lines-before line rest =
-    let some = split-some rest in
-    ap (λ parts. lines_of_parts (line ∷ parts)) some.2 ∙ ap (λ parts. strip_carriage_return line ∷ lines_of_parts parts) (sym some.2)
-
--- the only line of a text
-pub lines-only : (text : List ℕ) → 0 < length text → ((k : ℕ) → k < length text → get_or text k 0 ≡ 10 → ⊥) → lines text ≡ text ∷ []
-lines-only text some none =
-    ap lines_of_parts (slice_split_none (λ b. nat_eq b 10) text (All-from_get_or (λ b. nat_eq b 10 ≡ false) text 0 (λ k below. ne_eqb (get_or text k 0) 10 (none k below))))
-    ∙ cond-false (nat_eq (length text) 0) [] (text ∷ []) (ne_eqb (length text) 0 (omega arith))
-
--- the first line of a text
-pub lines-first : (text : List ℕ) (at : ℕ) → at < length text → get_or text at 0 ≡ 10 → ((k : ℕ) → k < at → get_or text k 0 ≡ 10 → ⊥)
-    → lines text ≡ strip_carriage_return (take at text) ∷ lines (drop (at + 1) text)
-lines-first text at below newline none =
-    let front : All (λ b. nat_eq b 10 ≡ false) (take at text) = All-from_get_or (λ b. nat_eq b 10 ≡ false) (take at text) 0
-    (λ k within. let less : k < at = omega (arith, length-take-le at text (omega arith)) in ne_eqb (get_or (take at text) k 0) 10 (λ is. none k less (sym (get_or-take at text k 0 less) ∙ is))) in
-    let cut : text ≡ take at text ++ 10 ∷ drop (at + 1) text = sym (take-append-drop at text) ∙ ap (λ rest. take at text ++ rest) (drop-cons text at 0 below ∙ ap (λ x. x ∷ drop (suc at) text) newline ∙ ap (λ i. 10 ∷ drop i text) (sym (add-one at))) in
-    ap (λ t. lines_of_parts (slice_split (λ b. nat_eq b 10) t)) cut
-    ∙ ap lines_of_parts (slice_split_at (λ b. nat_eq b 10) (take at text) 10 (drop (at + 1) text) front refl)
-    ∙ lines-before (take at text) (drop (at + 1) text)
 
 -- a front and a line joined to the rest one after the other
 joined_onto-twice : (number other : ℕ) (front line : List ℕ) (rest : List Numbered) → joined_onto number front (joined_onto other line rest) ≡ joined_onto number (front ++ line) rest
@@ -90,12 +49,12 @@ joined-last number count front line rest last =
     ]
 
 -- nothing is left of a comment
-nothing-after : (rest : List ℕ) → uncommented (35 ∷ rest) ≡ []
+nothing-after : (rest : List ℕ) → uncommented (byte "#" ∷ rest) ≡ []
 nothing-after [] = refl
 nothing-after (next ∷ more) = refl
 
 -- a comment ends the line
-pub uncommented-ends : (clean line : List ℕ) (at : ℕ) (all : List ℕ) → at < length line → get_or line at 0 ≡ 35 → clean ++ uncommented (drop at line) ≡ all → clean ≡ all
+pub uncommented-ends : (clean line : List ℕ) (at : ℕ) (all : List ℕ) → at < length line → get_or line at 0 ≡ byte "#" → clean ++ uncommented (drop at line) ≡ all → clean ≡ all
 uncommented-ends clean line at all below hash whole =
     sym (append-nil clean)
     ∙ ap (λ rest. clean ++ rest) (sym (ap uncommented (drop-cons line at 0 below ∙ ap (λ x. x ∷ drop (suc at) line) hash) ∙ nothing-after (drop (suc at) line)))

@@ -1,8 +1,9 @@
 -- The value of digits.
 use Rattle.std.proofs.Common.{ℕ, ◌+◌, ◌-◌, ◌*◌, ◌≤◌, List, [], ◌∷◌, arith}
-use Rattle.uu_times.specs.Deeds.{value_behind}
+use Rattle.std.specs.Str.{byte}
+use Rattle.uu_times.specs.Directives.{value_behind}
 
 -- more digits don't lessen it
 pub value-grows : (value : ℕ) (digits : List ℕ) → value ≤ value_behind value digits
 value-grows value [] = omega arith
-value-grows value (digit ∷ digits) = omega (arith, value-grows (value * 10 + (digit - 48)) digits)
+value-grows value (digit ∷ digits) = omega (arith, value-grows (value * 10 + (digit - byte "0")) digits)

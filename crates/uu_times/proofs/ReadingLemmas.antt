@@ -1,13 +1,13 @@
 -- Lines read one after the other.
-use Rattle.std.proofs.Common.{◌≡◌, ℕ, List, [], ◌∷◌, Result, Ok, Err, refl, ap, sym, ◌∙◌, length, nat_eq, true, arith}
+use Rattle.std.proofs.Common.{◌≡◌, ℕ, List, [], ◌∷◌, Result, Ok, Err, refl, ap, sym, ◌∙◌, length, nat_eq, true, arith, subst, IsErrAnd}
 use Rattle.std.proofs.lemmas.Bool.{eqb-true}
 use Rattle.std.specs.Str.Lines.{lines}
 use Rattle.uu_times.specs.declared.fault.TimeFault.{TimeFault}
 use Rattle.uu_times.specs.declared.fault.TimeFault.TheVariants.{Memory}
 use Rattle.uu_times.specs.Fault.{AnswersUnlessMemory}
-use Rattle.uu_times.specs.Deeds.{◌>>=◌}
+use Rattle.uu_times.specs.Directives.{◌>>=◌}
 use Rattle.uu_times.specs.Lines.{Numbered, joined}
-use Rattle.uu_times.specs.Reading.{Reading, Takes, line_read, lines_read}
+use Rattle.uu_times.specs.Internal.Reading.{Reading, Takes, line_read, lines_read}
 
 -- a line that is read
 pub reads-on : (reading next : Reading) (number : ℕ) (text : List ℕ) (all more : List Numbered) (whole : Result Reading TimeFault)
@@ -35,6 +35,11 @@ pub takes-fault : (fault : TimeFault) (reading next : Reading) (number : ℕ) (t
     → AnswersUnlessMemory (Err fault) whole
 takes-fault Memory reading next number text all more whole is takes answer = tt
 takes-fault fault reading next number text all more whole is takes answer = sym (reads-fault reading number text all more whole fault is takes answer)
+
+-- a fault that is passed on
+pub passed-on : (result whole : Result Reading TimeFault) (fault : TimeFault) → IsErrAnd result (λ f. f ≡ fault) → AnswersUnlessMemory (Err fault) whole → AnswersUnlessMemory result whole
+passed-on (Ok reading) whole fault is answers = absurd is
+passed-on (Err f) whole fault is answers = subst (λ (f : TimeFault). AnswersUnlessMemory (Err f) whole) (sym is) answers
 
 pub empty_if : (rest : List ℕ) → (nat_eq (length rest) 0) ≡ true → rest ≡ []
 empty_if [] none = refl

@@ -10,9 +10,10 @@ use Rattle.uu_times.specs.declared.days.Simple.{Simple}
 use Rattle.uu_times.specs.declared.scan.Found.{Found}
 use Rattle.uu_times.specs.declared.scan.Place.{Place}
 use Rattle.uu_times.specs.declared.scan.Place.TheVariants.{Start, Letter, An, Named, From, Dash, To, Whole}
-use Rattle.uu_times.specs.Scan.{is_time, is_end, minute_of, last_minute, two_letters, first_letter, second_letter, more_digits, start_digit, next_place, simple_at, is_separator, after, step, ending, going_on, scan, lower, list_of}
-use Rattle.uu_times.specs.Days.{no_days, with_days}
-use Rattle.uu_times.specs.Union.{IsDaily}
+use Rattle.uu_times.specs.Internal.Scan.{is_time, is_end, minute_of, last_minute, first_letter, second_letter, more_digits, start_digit, next_place, simple_at, after, step, ending, going_on, scan, list_of}
+use Rattle.uu_times.specs.Grammar.{is_separator, lower}
+use Rattle.uu_times.specs.Days.{no_days, with_days, two_letters}
+use Rattle.uu_times.specs.Internal.Union.{IsDaily}
 
 -- the digits at a place are of times
 abbrev pub HasTimes : Place → Type 0

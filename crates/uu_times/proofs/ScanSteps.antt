@@ -5,7 +5,8 @@ use Rattle.std.specs.Char.{to_ascii_lowercase}
 use Rattle.uu_times.specs.declared.days.Simple.{Simple}
 use Rattle.uu_times.specs.declared.scan.Place.{Place}
 use Rattle.uu_times.specs.declared.scan.Found.{Found}
-use Rattle.uu_times.specs.Scan.{after, step, ending, going_on, simple_at, scan, lower}
+use Rattle.uu_times.specs.Internal.Scan.{after, step, ending, going_on, simple_at, scan}
+use Rattle.uu_times.specs.Grammar.{lower}
 
 -- one byte, and then the rest
 pub scan-at : (place : Place) (text : List ℕ) (i : ℕ) → i < length text

@@ -7,7 +7,7 @@ use Rattle.uu_times.specs.Days.{any_has}
 use Rattle.uu_times.specs.Fault.{AnswersUnlessMemory}
 use Rattle.uu_times.specs.Grammar.{IsLongestFront}
 use Rattle.uu_times.specs.Ranges.{maximal_runs}
-use Rattle.uu_times.specs.Scan.{list_of}
+use Rattle.uu_times.specs.Internal.Scan.{list_of}
 use Rattle.uu_times.specs.Tables.{Tables, table_at, unreadable, TellsFront, time_of}
 use Rattle.uu_times.proofs.GrammarFronts.{unread-longest}
 

@@ -11,7 +11,7 @@ use Rattle.uu_times.specs.declared.days.Simple.{Simple}
 use Rattle.uu_times.specs.Days.{has_day, in_hours, has_minute, any_has}
 use Rattle.uu_times.specs.Ranges.{within, holds, AreRunsFrom, AreRuns, maximal_runs}
 use Rattle.uu_times.proofs.Runs.{maximal_runs-runs}
-use Rattle.uu_times.specs.Union.{IsDaily, day_ranges, ranges_on, days_ranges, week_ranges, merged_from, merged}
+use Rattle.uu_times.specs.Internal.Union.{IsDaily, day_ranges, ranges_on, days_ranges, week_ranges, merged_from, merged}
 
 -- the hours of a day
 holds-day : (day minute : ℕ) (hours : Option (ℕ × ℕ)) → IfSome hours (λ h. (h.0 < 1440) × (h.1 < 1440))

@@ -5,7 +5,8 @@ use Rattle.std.proofs.lemmas.List.{get_or-drop, get_or-take, length-take-le}
 use Rattle.std.proofs.lemmas.List.Elements.{All-from_get_or, All-head, All-tail}
 use Rattle.std.proofs.lemmas.List.Splits.{slice_split_none, slice_split_at, slice_split-cons_yes}
 use Rattle.std.specs.List.{slice_split}
-use Rattle.uu_times.specs.Lines.{is_blank, words_of}
+use Rattle.uu_times.specs.Lines.{words_of}
+use Rattle.uu_names.specs.Text.{is_blank}
 
 -- what is kept of the parts between blanks
 abbrev pub kept : List (List ℕ) → List (List ℕ)

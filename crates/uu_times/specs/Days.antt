@@ -1,12 +1,30 @@
 -- Days of the week and hours of the day. Day 0 is Sunday.
 use Rattle.std.specs.Prelude.{ℕ, ◌/◌, ◌%◌, Bool, true, false, ◌&&◌, ◌||◌, nat_le, ◌==◌, if◌then◌else◌, Option, None, Some, List}
 use Rattle.std.specs.List.{list_any}
+use Rattle.std.specs.Str.{byte}
 use Rattle.uu_times.specs.declared.days.Days.{Days}
 use Rattle.uu_times.specs.declared.days.Simple.{Simple}
+
+-- how many minutes a day has
+abbrev pub day_minutes : ℕ
+day_minutes = 1440
 
 -- the day is one of those from first to last
 abbrev pub spans : ℕ × ℕ → ℕ → Bool
 spans days day = nat_le days.0 day && nat_le day days.1
+
+-- the first and the last day that a day word of two letters names, in lower case: `wk` is Monday to Friday
+abbrev pub two_letters : ℕ → ℕ → Option (ℕ × ℕ)
+two_letters first second =
+    if first == byte "s" && second == byte "u" then Some (0, 0)
+    else (if first == byte "m" && second == byte "o" then Some (1, 1)
+    else (if first == byte "t" && second == byte "u" then Some (2, 2)
+    else (if first == byte "w" && second == byte "e" then Some (3, 3)
+    else (if first == byte "t" && second == byte "h" then Some (4, 4)
+    else (if first == byte "f" && second == byte "r" then Some (5, 5)
+    else (if first == byte "s" && second == byte "a" then Some (6, 6)
+    else (if first == byte "w" && second == byte "k" then Some (1, 5)
+    else None)))))))
 
 -- no day
 abbrev pub no_days : Days
@@ -45,7 +63,7 @@ in_hours (Some hours) minute =
 
 -- whether the simple string has the minute of the week
 abbrev pub has_minute : ℕ → Simple → Bool
-has_minute minute simple = has_day simple.days (minute / 1440) && in_hours simple.hours (minute % 1440)
+has_minute minute simple = has_day simple.days (minute / day_minutes) && in_hours simple.hours (minute % day_minutes)
 
 -- whether one of the simple strings has it
 abbrev pub any_has : List Simple → ℕ → Bool

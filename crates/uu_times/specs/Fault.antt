@@ -20,3 +20,8 @@ code_of Memory = 11
 abbrev pub AnswersUnlessMemory : {V : Type 0} → Result V TimeFault → Result V TimeFault → Type 0
 AnswersUnlessMemory (Err Memory) expected = ⊤
 AnswersUnlessMemory answer expected = answer ≡ expected
+
+-- the fact, unless the fault is want of memory
+abbrev pub UnlessMemory : TimeFault → Type 0 → Type 0
+UnlessMemory Memory fact = ⊤
+UnlessMemory fault fact = fact

@@ -1,12 +1,20 @@
 -- Lists of simple strings as they are written, in lower case, and the minutes that they stand for (Taylor UUCP 1.07 manual, "Time
 -- Strings"; that day words may stand in a row, that hours keep to their days and that both end minutes count is this project's choice).
-use Rattle.std.specs.Prelude.{◌≡◌, ◌⊎◌, ℕ, ◌+◌, ◌*◌, ◌/◌, ◌%◌, ◌<◌, ◌≤◌, Bool, true, ◌&&◌, ◌==◌, if◌then◌else◌, Option, None, Some, IfSome, option_map, List, [], ◌∷◌, ◌++◌, length, take, codes}
+use Rattle.std.specs.Prelude.{◌≡◌, ◌⊎◌, ℕ, ◌+◌, ◌*◌, ◌/◌, ◌%◌, ◌<◌, ◌≤◌, Bool, true, ◌&&◌, ◌||◌, ◌==◌, if◌then◌else◌, Option, None, Some, IfSome, option_map, List, [], ◌∷◌, ◌++◌, length, take, map, codes}
 use Rattle.std.specs.List.{flat_map, list_any}
+use Rattle.std.specs.Char.{to_ascii_lowercase}
 use Rattle.std.specs.Str.{byte}
 use Rattle.uu_times.specs.declared.days.Days.{Days}
 use Rattle.uu_times.specs.declared.days.Simple.{Simple}
-use Rattle.uu_times.specs.Days.{spans, no_days, with_days, in_hours}
-use Rattle.uu_times.specs.Scan.{is_separator, lower}
+use Rattle.uu_times.specs.Days.{day_minutes, spans, no_days, with_days, in_hours}
+
+-- a text in lower case, since case doesn't count
+abbrev pub lower : List ℕ → List ℕ
+lower text = map to_ascii_lowercase text
+
+-- simple strings are separated by `|` or `,`
+abbrev pub is_separator : ℕ → Bool
+is_separator letter = letter == byte "|" || letter == byte ","
 
 -- the day words
 pub data DayWord : Type 0 where
@@ -56,7 +64,7 @@ pub record Spelling : Type 0 where
   pub hours : Option Hours
 
 abbrev pub two_digits : ℕ → List ℕ
-two_digits number = (48 + number / 10) ∷ (48 + number % 10) ∷ []
+two_digits number = (byte "0" + number / 10) ∷ (byte "0" + number % 10) ∷ []
 
 abbrev pub hours_text : Option Hours → List ℕ
 hours_text None = []
@@ -91,15 +99,15 @@ Spells text (spelling ∷ next ∷ more) =
     × ((letter : ℕ) × (rest : List ℕ) × (is_separator letter ≡ true) × (text ≡ spelled spelling ++ letter ∷ rest) × Spells rest (next ∷ more))
 
 -- the first minute of the hours, and the last, which is 23:59 for 24:00
-abbrev pub minutes_of : Hours → ℕ × ℕ
-minutes_of hours =
+abbrev pub bounds_of : Hours → ℕ × ℕ
+bounds_of hours =
     (60 * hours.from_hour + hours.from_minute, if hours.to_hour == 24 then 1439 else 60 * hours.to_hour + hours.to_minute)
 
 -- the minute of the week lies on a day that is named, within the hours
 abbrev pub has_spelled : ℕ → Spelling → Bool
 has_spelled minute spelling =
-    list_any (λ word. spans (word_days word) (minute / 1440)) spelling.words
-    && in_hours (option_map minutes_of spelling.hours) (minute % 1440)
+    list_any (λ word. spans (word_days word) (minute / day_minutes)) spelling.words
+    && in_hours (option_map bounds_of spelling.hours) (minute % day_minutes)
 
 -- the days of words, behind other days
 abbrev pub days_of : Days → List DayWord → Days
@@ -108,7 +116,7 @@ days_of days (word ∷ words) = days_of (with_days days (word_days word)) words
 
 -- what is kept of a simple string
 abbrev pub simple_of : Spelling → Simple
-simple_of spelling = record { days = days_of no_days spelling.words; hours = option_map minutes_of spelling.hours }
+simple_of spelling = record { days = days_of no_days spelling.words; hours = option_map bounds_of spelling.hours }
 
 -- a text begins a list of simple strings, whatever its case
 abbrev pub BeginsList : List ℕ → Type 0

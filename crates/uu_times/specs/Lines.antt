@@ -1,8 +1,9 @@
 -- The lines of a sys file and their words (Taylor UUCP 1.07 manual, "Configuration File Overview"; that lines are joined before
 -- comments are cut is this project's choice).
-use Rattle.std.specs.Prelude.{ℕ, ◌+◌, ◌-◌, Bool, ◌&&◌, ◌||◌, nat_lt, ◌==◌, if◌then◌else◌, List, [], ◌∷◌, ◌++◌, length, take, slice_index, filter, Option, None, Some}
+use Rattle.std.specs.Prelude.{ℕ, ◌+◌, ◌-◌, Bool, ◌&&◌, nat_lt, ◌==◌, if◌then◌else◌, List, [], ◌∷◌, ◌++◌, length, take, slice_index, filter, Option, None, Some}
 use Rattle.std.specs.List.{slice_split}
 use Rattle.std.specs.Str.{byte}
+use Rattle.uu_names.specs.Text.{is_blank}
 
 -- a line with its number
 pub record Numbered : Type 0 where
@@ -40,10 +41,6 @@ uncommented (letter ∷ []) = if letter == byte "#" then [] else letter ∷ []
 uncommented (letter ∷ next ∷ more) =
     if letter == byte "#" then []
     else (if letter == byte "\\" && next == byte "#" then next ∷ uncommented more else letter ∷ uncommented (next ∷ more))
-
--- a space or a tab
-abbrev pub is_blank : ℕ → Bool
-is_blank letter = letter == 32 || letter == 9
 
 -- the words of a text are separated by blanks
 unfoldable pub words_of : List ℕ → List (List ℕ)

@@ -4,13 +4,20 @@ use Rattle.std.specs.Int.{int_div_euclid, int_rem_euclid}
 use Rattle.jiff.specs.Types.{DateTime}
 use Rattle.jiff.specs.Words.{epoch_day, time_nanos}
 
--- past the first second of the year 2100
+-- the last second of a moment: the first one of the year 2100 (this project's choice)
+abbrev pub last_second : ℕ
+last_second = 4102444800
+
+-- the most minutes between a clock and UTC: a day less a minute
+abbrev pub most_offset : ℕ
+most_offset = 1439
+
 abbrev pub IsPast : ℕ → Type 0
-IsPast second = 4102444800 < second
+IsPast second = last_second < second
 
 -- a day or more from UTC, in minutes
 abbrev pub IsFarOff : ℤ → Type 0
-IsFarOff offset = (offset <ℤ neg_ℤ (pos 1439)) ⊎ (pos 1439 <ℤ offset)
+IsFarOff offset = (offset <ℤ neg_ℤ (pos most_offset)) ⊎ (pos most_offset <ℤ offset)
 
 -- the second that a clock shows which is so many minutes ahead of UTC
 abbrev pub local_second : ℕ → ℤ → ℤ

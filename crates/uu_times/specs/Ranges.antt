@@ -1,6 +1,10 @@
--- A set of week minutes and its ranges. A minute of the week is below 10,080.
+-- A set of week minutes and its ranges. Minute 0 is Sunday 00:00, local, and 10,079 Saturday 23:59.
 use Rattle.std.specs.Prelude.{ℕ, zero, suc, ◌+◌, ◌<◌, ◌≤◌, Bool, ◌&&◌, nat_le, ◌==◌, if◌then◌else◌, List, [], ◌∷◌}
 use Rattle.std.specs.List.{list_any}
+
+-- how many minutes a week has
+abbrev pub week_minutes : ℕ
+week_minutes = 10080
 
 -- the minute lies in the range, both ends included
 abbrev pub within : ℕ → ℕ × ℕ → Bool
@@ -14,7 +18,7 @@ holds ranges minute = list_any (within minute) ranges
 abbrev pub AreRunsFrom : ℕ → List (ℕ × ℕ) → Type 0
 AreRunsFrom start [] = Unit {0}
 AreRunsFrom start (range ∷ ranges) =
-    (start ≤ range.0) × (range.0 ≤ range.1) × (range.1 < 10080) × AreRunsFrom (range.1 + 2) ranges
+    (start ≤ range.0) × (range.0 ≤ range.1) × (range.1 < week_minutes) × AreRunsFrom (range.1 + 2) ranges
 
 -- ranges of week minutes in order, with at least one minute outside between two
 abbrev pub AreRuns : List (ℕ × ℕ) → Type 0
@@ -34,4 +38,4 @@ runs_from set start (suc count) =
 
 -- the maximal runs of a set of week minutes: first and last minute of each, in order
 unfoldable pub maximal_runs : (ℕ → Bool) → List (ℕ × ℕ)
-maximal_runs set = runs_from set 0 10080
+maximal_runs set = runs_from set 0 week_minutes

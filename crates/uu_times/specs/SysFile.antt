@@ -1,104 +1,123 @@
 -- What a sys file says (Taylor UUCP 1.07 manual, "The Sys File"; that a section's own lines take the place of the defaults, and
 -- the faults, are as this project chose).
-use Rattle.std.specs.Prelude.{ℕ, nat_le, if◌then◌else◌, Option, None, Some, Result, Ok, Err, List, [], ◌∷◌, ◌++◌, length}
+use Rattle.std.specs.Prelude.{ℕ, nat_le, if◌then◌else◌, Option, None, Some, unwrap_or, Result, Ok, Err, List, [], ◌∷◌, ◌++◌, length}
 use Rattle.std.specs.Cmp.Lexicographic.{slice_cmp}
 use Rattle.std.specs.BTreeMap.{insert_entry}
 use Rattle.std.specs.Ordering.{nat_cmp}
-use Rattle.std.specs.List.{list_any, filter_map}
+use Rattle.std.specs.Option.{option_or}
+use Rattle.std.specs.List.{list_any, filter_map, last_or}
 use Rattle.std.specs.Str.{bytes_eq}
 use Rattle.std.specs.Str.Lines.{lines}
-use Rattle.uu_times.specs.declared.deed.Deed.{Deed}
-use Rattle.uu_times.specs.declared.deed.Deed.TheVariants.{Begin, Time, Retries, Table, Skip}
+use Rattle.uu_times.specs.declared.directive.Directive.{Directive}
+use Rattle.uu_times.specs.declared.directive.Directive.TheVariants.{Begin, Time, Retries, Table, Skip}
 use Rattle.uu_times.specs.declared.fault.TimeFault.{TimeFault}
 use Rattle.uu_times.specs.declared.fault.TimeFault.TheVariants.{SystemTwice, TableTwice, TooManyLines}
 use Rattle.uu_times.specs.declared.system.Line.{Line}
 use Rattle.uu_times.specs.declared.system.SysFile.{SysFile}
-use Rattle.uu_times.specs.Deeds.{◌>>=◌, line_says}
+use Rattle.uu_times.specs.Directives.{◌>>=◌, line_says}
 use Rattle.uu_times.specs.Lines.{Numbered, joined}
-use Rattle.uu_times.specs.Section.{Part, number_or, system_of}
-use Rattle.uu_times.specs.System.{System}
+use Rattle.uu_times.specs.System.{System, most_lines, default_retries}
 use Rattle.uu_times.specs.Tables.{Tables, predefined_tables}
 
 -- the time line that a line is, the number of failures, the name of a system or of a timetable, the number of a skipped line
-abbrev pub time_in : Deed → Option Line
+abbrev pub time_in : Directive → Option Line
 time_in (Time line) = Some line
 time_in _ = None
 
-abbrev pub number_in : Deed → Option ℕ
+abbrev pub number_in : Directive → Option ℕ
 number_in (Retries number) = Some number
 number_in _ = None
 
-abbrev pub name_in : Deed → Option (List ℕ)
+abbrev pub name_in : Directive → Option (List ℕ)
 name_in (Begin name) = Some name
 name_in _ = None
 
-abbrev pub table_in : Deed → Option (List ℕ)
+abbrev pub table_in : Directive → Option (List ℕ)
 table_in (Table name windows) = Some name
 table_in _ = None
 
-abbrev pub skip_in : Deed → Option ℕ
+abbrev pub skip_in : Directive → Option ℕ
 skip_in (Skip line) = Some line
 skip_in _ = None
 
--- the timetables known behind lines: each definition takes the place of one of its name
-abbrev pub known : Tables → List Deed → Tables
+-- the minutes that a line gives the timetable of this name, in lower case
+abbrev pub windows_named : List ℕ → Directive → Option (List (ℕ × ℕ))
+windows_named name (Table other windows) = if bytes_eq name other then Some windows else None
+windows_named name _ = None
+
+-- The timetables known behind lines: each definition takes the place of one of its name. `laws::the_last_timetable_counts` says what is
+-- found there.
+abbrev pub known : Tables → List Directive → Tables
 known tables [] = tables
-known tables (Table name windows ∷ deeds) = known (insert_entry (slice_cmp nat_cmp) tables name windows) deeds
-known tables (deed ∷ deeds) = known tables deeds
+known tables (Table name windows ∷ directives) = known (insert_entry (slice_cmp nat_cmp) tables name windows) directives
+known tables (directive ∷ directives) = known tables directives
 
 -- the lines up to the next `system` line
-abbrev pub section : List Deed → List Deed
+abbrev pub section : List Directive → List Directive
 section [] = []
-section (Begin name ∷ deeds) = []
-section (deed ∷ deeds) = deed ∷ section deeds
+section (Begin name ∷ directives) = []
+section (directive ∷ directives) = directive ∷ section directives
 
 -- the lines since the last `system` line, where the first ones come before the others
-abbrev pub present : List Deed → List Deed → List Deed
+abbrev pub present : List Directive → List Directive → List Directive
 present before [] = before
-present before (Begin name ∷ deeds) = present [] deeds
-present before (deed ∷ deeds) = present (before ++ deed ∷ []) deeds
+present before (Begin name ∷ directives) = present [] directives
+present before (directive ∷ directives) = present (before ++ directive ∷ []) directives
 
--- the last of some numbers
-abbrev pub last_of : List ℕ → Option ℕ
-last_of [] = None
-last_of (number ∷ numbers) = number_or (last_of numbers) (Some number)
+-- the first list, or another where it is empty
+abbrev pub lines_or : List Line → List Line → List Line
+lines_or [] others = others
+lines_or (line ∷ lines) others = line ∷ lines
 
--- what the lines of a section say of a system
-abbrev pub part_of : List Deed → Part
-part_of deeds = record { lines = filter_map time_in deeds; max_retries = last_of (filter_map number_in deeds) }
+-- the time lines of a section, and its last number of failures
+pub record Part : Type 0 where
+  pub lines : List Line
+  pub max_retries : Option ℕ
+
+-- the system of a section: what the section doesn't say is taken from the defaults
+abbrev pub system_of : List ℕ → Part → Part → System
+system_of name part defaults = record {
+  name = name;
+  lines = lines_or part.lines defaults.lines;
+  max_retries = unwrap_or (option_or part.max_retries defaults.max_retries) default_retries;
+}
+
+-- what the lines of a section say of a system: its time lines, and the last of its numbers of failures
+abbrev pub part_of : List Directive → Part
+part_of directives = record { lines = filter_map time_in directives; max_retries = last_or None (filter_map number_in directives) }
 
 -- the systems: for each `system` line its section, and the defaults where that says nothing
-abbrev pub systems_of : Part → List Deed → List System
+abbrev pub systems_of : Part → List Directive → List System
 systems_of defaults [] = []
-systems_of defaults (Begin name ∷ deeds) = system_of name (part_of (section deeds)) defaults ∷ systems_of defaults deeds
-systems_of defaults (deed ∷ deeds) = systems_of defaults deeds
+systems_of defaults (Begin name ∷ directives) = system_of name (part_of (section directives)) defaults ∷ systems_of defaults directives
+systems_of defaults (directive ∷ directives) = systems_of defaults directives
 
 -- what can be wrong with a line, where these come before it: a second section of a system, a 33rd time line of a section, a
 -- second definition of a timetable
-abbrev pub checked : List Deed → ℕ → Deed → Result Deed TimeFault
+abbrev pub checked : List Directive → ℕ → Directive → Result Directive TimeFault
 checked before line (Begin name) = if list_any (bytes_eq name) (filter_map name_in before) then Err (SystemTwice line) else Ok (Begin name)
-checked before line (Time time) = if nat_le 32 (length (filter_map time_in (present [] before))) then Err (TooManyLines line) else Ok (Time time)
+checked before line (Time time) = if nat_le most_lines (length (filter_map time_in (present [] before))) then Err (TooManyLines line) else Ok (Time time)
 checked before line (Retries number) = Ok (Retries number)
 checked before line (Table name windows) = if list_any (bytes_eq name) (filter_map table_in before) then Err (TableTwice line) else Ok (Table name windows)
 checked before line (Skip number) = Ok (Skip number)
 
-abbrev pub checked_if : List Deed → ℕ → Option Deed → Result (List Deed) TimeFault
+abbrev pub checked_if : List Directive → ℕ → Option Directive → Result (List Directive) TimeFault
 checked_if before line None = Ok before
-checked_if before line (Some deed) = checked before line deed >>= λ said. Ok (before ++ said ∷ [])
+checked_if before line (Some directive) = checked before line directive >>= λ said. Ok (before ++ said ∷ [])
 
 -- a line's own fault, or one that comes of the lines before it, or those and what it says
-abbrev pub line_taken : List Deed → ℕ → List ℕ → Result (List Deed) TimeFault
+abbrev pub line_taken : List Directive → ℕ → List ℕ → Result (List Directive) TimeFault
 line_taken before line text = line_says (known predefined_tables before) line text >>= λ said. checked_if before line said
 
 -- What the lines say, where some come before them: the first faulty line gives the fault.
-unfoldable pub deeds_of : List Deed → List Numbered → Result (List Deed) TimeFault
-deeds_of before [] = Ok before
-deeds_of before (line ∷ more) = line_taken before line.number line.line >>= λ deeds. deeds_of deeds more
+unfoldable pub directives_of : List Directive → List Numbered → Result (List Directive) TimeFault
+directives_of before [] = Ok before
+directives_of before (line ∷ more) = line_taken before line.number line.line >>= λ directives. directives_of directives more
 
 -- the lines before the first `system` line are the defaults
-abbrev pub file_with : List Deed → SysFile
-file_with deeds = record { systems = systems_of (part_of (section deeds)) deeds; skipped = filter_map skip_in deeds }
+abbrev pub file_with : List Directive → SysFile
+file_with directives = record { systems = systems_of (part_of (section directives)) directives; skipped = filter_map skip_in directives }
 
 -- what a sys file says, or the fault of its first faulty line
 abbrev pub sys_file_of : List ℕ → Result SysFile TimeFault
-sys_file_of text = deeds_of [] (joined 1 (lines text)) >>= λ deeds. Ok (file_with deeds)
+sys_file_of text = directives_of [] (joined 1 (lines text)) >>= λ directives. Ok (file_with directives)

@@ -8,9 +8,24 @@ pub record System : Type 0 where
   pub lines : List Line
   pub max_retries : ℕ
 
+-- the most time lines of a system
+abbrev pub most_lines : ℕ
+most_lines = 32
+
+-- the most minutes before a call is tried again: a year
+abbrev pub most_retry_minutes : ℕ
+most_retry_minutes = 525600
+
+-- the most failures in a row after which calls may become rare, and their number where a sys file doesn't say
+abbrev pub most_retries : ℕ
+most_retries = 1000000
+
+abbrev pub default_retries : ℕ
+default_retries = 26
+
 -- a minute to a year
 abbrev pub IsRetry : ℕ → Type 0
-IsRetry minutes = (1 ≤ minutes) × (minutes ≤ 525600)
+IsRetry minutes = (1 ≤ minutes) × (minutes ≤ most_retry_minutes)
 
 -- a line's retry number, where it has one, is within its limits
 abbrev pub HasRetry : Line → Type 0
@@ -18,4 +33,4 @@ HasRetry line = IfSome line.retry IsRetry
 
 -- at most 32 lines, each retry number within its limits, and at most a million failures
 abbrev pub AreWithinLimits : List Line → ℕ → Type 0
-AreWithinLimits lines max_retries = (length lines ≤ 32) × All HasRetry lines × (max_retries ≤ 1000000)
+AreWithinLimits lines max_retries = (length lines ≤ most_lines) × All HasRetry lines × (max_retries ≤ most_retries)

@@ -1,19 +1,19 @@
 -- Time strings and the timetables that they may name (Taylor UUCP 1.07 manual, "Time Strings"; how a timetable is named
 -- and the predefined ones are this project's choice).
-use Rattle.std.specs.Prelude.{ℕ, Bool, false, ◌&&◌, ◌||◌, not, nat_le, ◌==◌, if◌then◌else◌, Option, None, Some, is_some, Result, Ok, Err, List, [], ◌∷◌, length, slice_index, codes, ⊤}
+use Rattle.std.specs.Prelude.{◌≡◌, ℕ, Bool, false, ◌&&◌, ◌||◌, not, nat_le, ◌==◌, if◌then◌else◌, Option, None, Some, is_some, Result, Ok, Err, List, [], ◌∷◌, length, slice_index, codes, ⊤}
 use Rattle.std.specs.Cmp.Lexicographic.{slice_cmp}
 use Rattle.std.specs.Ordering.{nat_cmp}
 use Rattle.std.specs.BTreeMap.{insert_entry, is_at}
 use Rattle.std.specs.Map.{lookup}
-use Rattle.std.specs.List.{list_all}
+use Rattle.std.specs.List.{list_all, list_any}
 use Rattle.std.specs.Char.{is_ascii_alphabetic, is_ascii_alphanumeric}
 use Rattle.std.specs.Str.{byte, bytes_eq}
 use Rattle.uu_times.specs.declared.fault.TimeFault.{TimeFault}
 use Rattle.uu_times.specs.declared.fault.TimeFault.TheVariants.{BadTime, UnknownTable}
-use Rattle.uu_times.specs.Days.{any_has}
-use Rattle.uu_times.specs.Grammar.{IsLongestFront}
+use Rattle.uu_times.specs.Days.{any_has, two_letters}
+use Rattle.uu_times.specs.Grammar.{Spelling, Spells, has_spelled, IsLongestFront, lower}
 use Rattle.uu_times.specs.Ranges.{maximal_runs}
-use Rattle.uu_times.specs.Scan.{lower, list_of, two_letters}
+use Rattle.uu_times.specs.Internal.Scan.{list_of}
 
 -- timetables: their names in lower case, in order, and the runs of their minutes
 abbrev pub Tables : Type 0
@@ -23,8 +23,12 @@ Tables = List (List ℕ × List (ℕ × ℕ))
 abbrev pub is_table_byte : ℕ → Bool
 is_table_byte letter = is_ascii_alphanumeric letter || letter == byte "-" || letter == byte "_"
 
+-- how many bytes may stand behind the first
+abbrev pub most_table_rest : ℕ
+most_table_rest = 31
+
 abbrev pub is_table_rest : List ℕ → Bool
-is_table_rest rest = nat_le (length rest) 31 && list_all is_table_byte rest
+is_table_rest rest = nat_le (length rest) most_table_rest && list_all is_table_byte rest
 
 -- a timetable's name is a letter and 0 to 31 letters, digits, `-` or `_` behind it
 abbrev pub is_table_name : List ℕ → Bool
@@ -60,17 +64,42 @@ abbrev pub windows_in : ℕ → List ℕ → Result (List (ℕ × ℕ)) TimeFaul
 windows_in line text = elim (list_of text) [ Ok simples ↦ Ok (maximal_runs (any_has simples)) | Err at ↦ Err (unreadable line text at) ]
 
 -- The set of a time string on a line: none for `Never`, that of a timetable for its name, and else that of a list of simple
--- strings. The whole text is compared, in this order.
+-- strings. The whole text is compared, in this order. `laws::time_strings_are_read` ties it to `IsTimeString`.
 abbrev pub time_of : Tables → ℕ → List ℕ → Result (List (ℕ × ℕ)) TimeFault
 time_of tables line text =
     if bytes_eq (lower text) (codes "never") then Ok []
     else elim (table_at tables text) [ Some windows ↦ Ok windows | None ↦ windows_in line text ]
 
+-- the runs of the minutes that simple strings stand for
+abbrev pub spelled_minutes : List Spelling → List (ℕ × ℕ)
+spelled_minutes spellings = maximal_runs (λ minute. list_any (has_spelled minute) spellings)
+
+-- `Never`, whatever its case
+abbrev pub IsNever : List ℕ → Type 0
+IsNever text = lower text ≡ codes "never"
+
+-- What a time string means: no minute for `Never`, else those of the timetable that it names, and else those of the list of simple
+-- strings that it is.
+pub data IsTimeString (tables : Tables) (text : List ℕ) : List (ℕ × ℕ) → Type 0 where
+  never : IsNever text → IsTimeString tables text []
+  named : (windows : List (ℕ × ℕ)) → ¬ IsNever text → table_at tables text ≡ Some windows → IsTimeString tables text windows
+  listed : (spellings : List Spelling) → ¬ IsNever text → table_at tables text ≡ None → Spells (lower text) spellings → IsTimeString tables text (spelled_minutes spellings)
+
 -- a timetable of simple strings
 abbrev pub with_list : Tables → List ℕ → List ℕ → Tables
 with_list tables name text = elim (list_of text) [ Ok simples ↦ with_table tables name (maximal_runs (any_has simples)) | Err at ↦ tables ]
 
--- the timetables that are there from the start
+-- the names and the strings of the timetables that are there from the start
+abbrev pub predefined_strings : List (List ℕ × List ℕ)
+predefined_strings =
+    (codes "Evening", codes "Wk1705-0755,Sa,Su") ∷ (codes "Night", codes "Wk2305-0755,Sa,Su2305-1655") ∷ (codes "NonPeak", codes "Wk1805-0655,Sa,Su")
+    ∷ []
+
+-- the name means in the timetables what the string is written for
+abbrev pub IsReadAs : Tables → List ℕ × List ℕ → Type 0
+IsReadAs tables table = (spellings : List Spelling) × Spells (lower table.1) spellings × (table_at tables table.0 ≡ Some (spelled_minutes spellings))
+
+-- These timetables. `laws::predefined_tables_are_read` says that each of their strings is read.
 unfoldable pub predefined_tables : Tables
 predefined_tables =
     with_list (with_list (with_list [] (codes "Evening") (codes "Wk1705-0755,Sa,Su"))

@@ -1,10 +1,14 @@
 //! Laws of the definitions that the contracts cite.
-ghost use Rattle.std.specs.Prelude.{◌≡◌, ◌<◌, ℕ, Bool, List, Ok, Err, map};
+ghost use Rattle.std.specs.Prelude.{◌≡◌, ◌<◌, ℕ, Bool, List, Ok, Err, All, IsTrue, IfOk, IfErr, map};
+ghost use Rattle.std.specs.List.{filter_map, last_or};
 ghost use Rattle.uu_times.specs.Days.{has_minute};
-ghost use Rattle.uu_times.specs.Grammar.{Spelling, Spells, simple_of, has_spelled, IsLongestFront};
+ghost use Rattle.uu_times.specs.Grammar.{Spelling, Spells, simple_of, has_spelled, IsLongestFront, lower};
 ghost use Rattle.uu_times.specs.Ranges.{holds, AreRuns, maximal_runs};
-ghost use Rattle.uu_times.specs.Scan.{lower, list_of};
+ghost use Rattle.uu_times.specs.Internal.Scan.{list_of};
+ghost use Rattle.uu_times.specs.SysFile.{known, windows_named};
+ghost use Rattle.uu_times.specs.Tables.{Tables, is_table_name, table_at, predefined_strings, predefined_tables, time_of, IsReadAs, IsTimeString};
 ghost use Rattle.uu_times.specs.declared.days.Simple.{Simple};
+ghost use Rattle.uu_times.specs.declared.directive.Directive.{Directive};
 
 /// A set of week minutes is the union of its maximal runs, which are in order and apart; and a list that
 /// [`Windows::from_ranges`](crate::Windows::from_ranges) accepts is the list of the maximal runs of its union.
@@ -22,4 +26,22 @@ pub fn lists_are_what_is_written()
         → (spellings : List Spelling) × Spells (lower text) spellings × (simples ≡ map simple_of spellings) }
     ensures minutes { (spelling : Spelling) (minute : ℕ) → minute < 10080 → has_minute minute (simple_of spelling) ≡ has_spelled minute spelling }
     ensures unread { (text : List ℕ) (at : ℕ) → list_of text ≡ Err at → IsLongestFront text at }
+{}
+
+/// What is read of a time string is what the string means by the grammar, and a string that is refused means nothing.
+pub fn time_strings_are_read()
+    ensures read { (tables : Tables) (line : ℕ) (text : List ℕ) → IfOk (time_of tables line text) (IsTimeString tables text) }
+    ensures refused { (tables : Tables) (line : ℕ) (text : List ℕ) → IfErr (time_of tables line text) (λ _. (windows : List (ℕ × ℕ)) → ¬ IsTimeString tables text windows) }
+{}
+
+/// A name stands for the last timetable of that name, whatever its case, behind any lines of a sys file: one that the lines define, or
+/// else one that was there before them.
+pub fn the_last_timetable_counts()
+    ensures { (tables : Tables) (lines : List Directive) (name : List ℕ) → IsTrue (is_table_name name)
+        → table_at (known tables lines) name ≡ last_or (table_at tables name) (filter_map (windows_named (lower name)) lines) }
+{}
+
+/// The string of each timetable that is there from the start is a list of simple strings, and its name stands for their minutes.
+pub fn predefined_tables_are_read()
+    ensures { All (IsReadAs predefined_tables) predefined_strings }
 {}

@@ -2,7 +2,7 @@
 #![tactic(auto)]
 
 mod days;
-mod deed;
+mod directive;
 pub mod fault;
 pub mod laws;
 mod lines;
@@ -18,6 +18,6 @@ pub mod windows;
 pub use fault::TimeFault;
 pub use moment::Moment;
 pub use sys_file::read_sys;
-pub use system::{Line, LineNumbers, Lines, SysFile, SystemDef, Systems};
+pub use system::{Line, SysFile, SystemDef};
 pub use timetable::{Timetables, read_time};
 pub use windows::Windows;

@@ -1,48 +1,14 @@
 // The lines of a sys file and their words.
-ghost use Rattle.std.specs.Prelude.{◌≡◌, ◌+◌, ◌<◌, ◌≤◌, ℕ, [], ◌∷◌, length, ◌≢◌, ◌&&◌, ◌-◌, true, false, drop, slice_index, nat_lt, option_map, MatchOption, IfOk, IfSome, IfNone};
+ghost use Rattle.std.specs.Prelude.{◌≡◌, ◌+◌, ◌<◌, ◌≤◌, ℕ, [], ◌∷◌, length, ◌≢◌, ◌&&◌, drop, slice_index, nat_lt, option_map, MatchOption, IfOk};
 ghost use Rattle.std.specs.Option.{option_copied};
-ghost use Rattle.std.specs.Str.Lines.{lines, strip_carriage_return};
-ghost use Rattle.uu_times.specs.Lines.{goes_on, kept_part, joined, uncommented, is_blank, words_of, one_word, one_or_two};
+ghost use Rattle.std.specs.List.{position_or_len};
+ghost use Rattle.std.specs.Str.{byte};
+ghost use Rattle.std.specs.Str.Lines.{lines};
+ghost use Rattle.uu_times.specs.Lines.{goes_on, kept_part, joined, uncommented, words_of, one_word, one_or_two};
+ghost use Rattle.uu_names.specs.Text.{is_blank, most_text};
 
 use std::alloc::{AllocError, Global};
-
-// The line without the carriage return at its end, if it has one.
-fn strip_carriage_return(line: &[u8]) -> &[u8]
-    ensures value { result.now ≡ strip_carriage_return line.now }
-    ensures bound { length result.now ≤ length line.now }
-{
-    if !line.is_empty() && line[line.len() - 1] == b'\r' {
-        &line[..line.len() - 1]
-    } else {
-        line
-    }
-}
-
-// The place of the first newline.
-fn newline_at(text: &[u8]) -> Option<usize>
-    ensures none { IfNone result ((k : ℕ) → k < length text.now → slice_index text.now k ≢ 10) }
-    ensures before { IfSome result (λ at. (k : ℕ) → k < at → slice_index text.now k ≢ 10) }
-    ensures there { IfSome result (λ at. (at < length text.now) × (slice_index text.now at ≡ 10)) }
-{
-    for (at, letter) in text.iter().enumerate() {
-        if *letter == b'\n' {
-            return Some(at);
-        }
-    }
-    None
-}
-
-// The first line of a text, and the text behind it.
-fn next_line(text: &[u8]) -> (&[u8], &[u8])
-    requires { 0 < length text.now }
-    ensures lines { lines text.now ≡ result.0.now ∷ lines result.1.now }
-    ensures shorter { length result.1.now < length text.now }
-{
-    match newline_at(text) {
-        None => (text, &[]),
-        Some(end) => (strip_carriage_return(&text[..end]), &text[end + 1..]),
-    }
-}
+use uu_names::text::{blanks_len, first_line, is_blank};
 
 // Whether the line is joined with the next.
 fn goes_on(line: &[u8]) -> bool
@@ -80,7 +46,7 @@ fn kept_part(line: &[u8]) -> &[u8]
 /// The first joined line of a text.
 pub fn joined_line(alloc: Global, text: &[u8]) -> Result<Joined<'_>, AllocError>
     requires some { 0 < length text.now }
-    requires short { length text.now ≤ 4194304 }
+    requires short { length text.now ≤ most_text }
     ensures line { IfOk result (λ first. (number : ℕ) → joined number (lines text.now)
         ≡ record { number = number; line = first.line.items } ∷ joined (number + first.count) (lines first.rest.now)) }
     ensures shorter { IfOk result (λ first. first.count + length first.rest.now ≤ length text.now) }
@@ -88,10 +54,10 @@ pub fn joined_line(alloc: Global, text: &[u8]) -> Result<Joined<'_>, AllocError>
 {
     let mut line = Vec::new(alloc);
     let mut before = 0;
-    let (mut next, mut rest) = next_line(text);
+    let (mut next, mut rest) = first_line(text);
     while is_joined(next, rest) {
         line.extend_from_slice(kept_part(next))?;
-        let (following, behind) = next_line(rest);
+        let (following, behind) = first_line(rest);
         next = following;
         rest = behind;
         before += 1;
@@ -109,7 +75,7 @@ fn kept_at(line: &[u8], at: usize) -> usize
     requires { at < length line.now }
     ensures low { at ≤ result }
     ensures high { result < length line.now }
-    ensures kept { slice_index line.now at ≢ 35
+    ensures kept { slice_index line.now at ≢ byte "#"
         → uncommented (drop at line.now) ≡ slice_index line.now result ∷ uncommented (drop (result + 1) line.now) }
 {
     if line[at] == b'\\' && at + 1 < line.len() && line[at + 1] == b'#' {
@@ -136,39 +102,12 @@ pub fn uncommented(alloc: Global, line: &[u8]) -> Result<Vec<u8>, AllocError>
     Ok(clean)
 }
 
-// Whether the byte separates words.
-fn is_blank(letter: u8) -> bool
-    ensures { result ≡ is_blank letter }
-{
-    letter == b' ' || letter == b'\t'
-}
-
-// How many bytes at the front are blanks.
-fn blanks(text: &[u8]) -> usize
-    ensures front { (k : ℕ) → k < result → is_blank (slice_index text.now k) ≡ true }
+// How many bytes stand before the first blank.
+fn letters_len(text: &[u8]) -> usize
+    ensures value { result ≡ position_or_len is_blank text.now }
     ensures bound { result ≤ length text.now }
-    ensures behind { result < length text.now → is_blank (slice_index text.now result) ≡ false }
 {
-    for (at, letter) in text.iter().enumerate() {
-        if !is_blank(*letter) {
-            return at;
-        }
-    }
-    text.len()
-}
-
-// How many bytes at the front are no blanks.
-fn letters(text: &[u8]) -> usize
-    ensures front { (k : ℕ) → k < result → is_blank (slice_index text.now k) ≡ false }
-    ensures bound { result ≤ length text.now }
-    ensures behind { result < length text.now → is_blank (slice_index text.now result) ≡ true }
-{
-    for (at, letter) in text.iter().enumerate() {
-        if is_blank(*letter) {
-            return at;
-        }
-    }
-    text.len()
+    text.iter().take_while(|letter| !is_blank(**letter)).count()
 }
 
 /// The first word of a text, and the text behind it.
@@ -176,12 +115,12 @@ pub fn next_word(text: &[u8]) -> Option<(&[u8], &[u8])>
     ensures { MatchOption result (words_of text.now ≡ [])
         (λ found. words_of text.now ≡ found.0.now ∷ words_of found.1.now) }
 {
-    let start = blanks(text);
+    let start = blanks_len(text);
     if start == text.len() {
         return None;
     }
     let (_, word) = text.split_at(start);
-    Some(word.split_at(letters(word)))
+    Some(word.split_at(letters_len(word)))
 }
 
 /// The word of a text that has exactly one.

@@ -1,8 +1,10 @@
 //! A moment: an instant with the local time and the minute of the local week.
 ghost use Rattle.std.specs.Prelude.{◌≡◌, ◌⊎◌, ◌<◌, ◌≤◌, ◌↔◌, ◌*ℤ◌, ◌≤ℤ◌, IfOk, IfErr, pos, neg_ℤ};
-ghost use Rattle.uu_times.specs.Moment.{IsPast, IsFarOff, local_second, week_minute, Shows};
+ghost use Rattle.uu_times.specs.Ranges.{week_minutes};
+ghost use Rattle.uu_times.specs.Moment.{last_second, most_offset, IsPast, IsFarOff, local_second, week_minute, Shows};
 
 use crate::TimeFault;
+use crate::windows::WEEK;
 use jiff::Timestamp;
 use jiff::civil::DateTime;
 use jiff::tz::Offset;
@@ -14,6 +16,12 @@ pub const LAST_SECOND: u64 = 4_102_444_800;
 /// The most minutes that local time may lie before or after UTC: a day less a minute.
 pub const OFFSET_LIMIT: i32 = 1439;
 
+/// The seconds of a day.
+const DAY_SECONDS: i64 = 86_400;
+
+/// The first minute of a Wednesday, counted from Sunday 00:00 on.
+const WEDNESDAY: u64 = 4320;
+
 /// An instant as a site's clock shows it.
 #[derive(Clone, Copy, Debug, PartialEq, Eq)]
 pub struct Moment {
@@ -23,8 +31,8 @@ pub struct Moment {
     pub week: u16,
     /// The local date and time.
     pub local: DateTime,
-    ghost in_range: { second ≤ 4102444800 },
-    ghost in_week: { week < 10080 },
+    ghost in_range: { second ≤ last_second },
+    ghost in_week: { week < week_minutes },
 }
 
 impl Moment {
@@ -56,22 +64,22 @@ impl Moment {
 
 // The minute of the week at the second, so many minutes from UTC.
 fn week_minute(second: u64, offset: i32) -> u16
-    requires in_range { second ≤ 4102444800 }
-    requires low { neg_ℤ (pos 1439) ≤ℤ offset }
-    requires high { offset ≤ℤ pos 1439 }
+    requires in_range { second ≤ last_second }
+    requires low { neg_ℤ (pos most_offset) ≤ℤ offset }
+    requires high { offset ≤ℤ pos most_offset }
     ensures value { pos result ≡ week_minute (local_second second offset) }
-    ensures in_week { result < 10080 }
+    ensures in_week { result < week_minutes }
 {
-    // Counted from 1969-12-31 on, since the clock may show that day.
-    let shown = (second as i64 + 60 * offset as i64 + 86_400) as u64;
-    ((shown / 60 + 4320) % 10_080) as u16
+    // Counted from 1969-12-31 on, since the clock may show that day, a Wednesday.
+    let shown = (second as i64 + 60 * offset as i64 + DAY_SECONDS) as u64;
+    ((shown / 60 + WEDNESDAY) % WEEK as u64) as u16
 }
 
 // What a clock so many minutes from UTC shows at the second.
 fn local_time(second: u64, offset: i32) -> DateTime
-    requires in_range { second ≤ 4102444800 }
-    requires low { neg_ℤ (pos 1439) ≤ℤ offset }
-    requires high { offset ≤ℤ pos 1439 }
+    requires in_range { second ≤ last_second }
+    requires low { neg_ℤ (pos most_offset) ≤ℤ offset }
+    requires high { offset ≤ℤ pos most_offset }
     ensures { Shows result (local_second second offset) }
 {
     let timestamp = Timestamp::from_second(second as i64).unwrap();

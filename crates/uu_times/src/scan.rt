@@ -1,7 +1,9 @@
 // Lists of simple strings, read byte by byte.
 ghost use Rattle.std.specs.Prelude.{◌≡◌, Ok, Err, Some};
-ghost use Rattle.uu_times.specs.Scan.{is_time, is_end, minute_of, last_minute, two_letters, first_letter, second_letter, more_digits, start_digit, end_digit, next_place, simple_at, is_separator, step, list_of};
-ghost use Rattle.uu_times.specs.Listed.{Lists};
+ghost use Rattle.uu_times.specs.Internal.Scan.{is_time, is_end, minute_of, last_minute, first_letter, second_letter, more_digits, start_digit, end_digit, next_place, simple_at, step, list_of};
+ghost use Rattle.uu_times.specs.Days.{two_letters};
+ghost use Rattle.uu_times.specs.Grammar.{is_separator};
+ghost use Rattle.uu_times.specs.Internal.Listed.{Lists};
 
 use crate::days::{Days, NO_DAYS, Simple};
 use std::alloc::{AllocFailed, Global};
@@ -91,10 +93,8 @@ fn second_letter(days: Days, first: u8, letter: u8) -> Option<Place>
     if first == b'a' && letter == b'n' {
         return Some(Place::An(days));
     }
-    match two_letters(first, letter) {
-        Some(more) => Some(Place::Named(days.with(more))),
-        None => None,
-    }
+    let more = two_letters(first, letter)?;
+    Some(Place::Named(days.with(more)))
 }
 
 // The digits with one more, which counts so many times its value.
@@ -206,13 +206,11 @@ pub fn list_of(alloc: Global, text: &[u8]) -> Result<Vec<Simple>, Unlisted>
     let mut place = Place::Start;
     for (at, byte) in text.iter().enumerate() {
         let letter = byte.to_ascii_lowercase();
-        let found = match step(place, letter) {
-            None => return Err(Unlisted::At(at)),
-            Some(found) => found,
+        let Some(found) = step(place, letter) else {
+            return Err(Unlisted::At(at));
         };
-        match found.simple {
-            None => {}
-            Some(simple) => simples.push(simple)?,
+        if let Some(simple) = found.simple {
+            simples.push(simple)?;
         }
         place = found.next;
     }

@@ -1,14 +1,15 @@
 // The sections of a sys file, as they are read.
 ghost use Rattle.std.specs.Prelude.{◌≡◌, ◌≤◌, ◌<◌, ◌++◌, ◌∷◌, [], Some, OnOk, IfOk, length, nat_le, option_map};
-ghost use Rattle.uu_times.specs.Section.{no_part, no_parts, lines_or, number_or, system_of, begin_part, with_line, with_retries, all_systems};
-ghost use Rattle.uu_times.specs.System.{HasRetry};
+ghost use Rattle.uu_times.specs.Internal.Section.{no_part, no_parts, begin_part, with_line, with_retries, all_systems};
+ghost use Rattle.uu_times.specs.SysFile.{lines_or, system_of};
+ghost use Rattle.uu_times.specs.System.{HasRetry, most_lines, most_retries};
 
-use crate::system::{DEFAULT_MAX_RETRIES, LINE_LIMIT, Lines};
+use crate::system::{DEFAULT_MAX_RETRIES, LINE_LIMIT};
 use crate::{Line, SystemDef};
 use std::alloc::{AllocError, Global};
 use std::marker::Model;
 use std::mem;
-use uu_names::SiteName;
+use uu_names::{Listed, SiteName};
 
 /// The time lines of a section, and its last number of failures.
 #[derive(Drop)]
@@ -18,7 +19,8 @@ pub struct Section {
 }
 
 impl Model for Section {
-    ghost use Rattle.uu_times.specs.Section.{Part, IsWithin};
+    ghost use Rattle.uu_times.specs.Internal.Section.{IsWithin};
+    ghost use Rattle.uu_times.specs.SysFile.{Part};
 
     ghost Value = { Part };
 
@@ -50,13 +52,13 @@ impl Section {
 
     // Whether no further time line may stand in the section.
     fn is_full(&self) -> bool
-        ensures { result ≡ nat_le 32 (length self.now.lines) }
+        ensures { result ≡ nat_le most_lines (length self.now.lines) }
     {
         self.lines.len() >= LINE_LIMIT
     }
 
     fn push(&mut self, line: Line) -> Result<(), AllocError>
-        requires room { length self.old.lines < 32 }
+        requires room { length self.old.lines < most_lines }
         requires line { HasRetry line }
         ensures { OnOk result (self.new ≡ record { lines = self.old.lines ++ line ∷ []; max_retries = self.old.max_retries }) }
     {
@@ -65,7 +67,7 @@ impl Section {
     }
 
     fn set_retries(&mut self, number: u32)
-        requires { number ≤ 1000000 }
+        requires { number ≤ most_retries }
         ensures { self.new ≡ record { lines = self.old.lines; max_retries = Some number } }
     {
         self.max_retries = Some(number);
@@ -91,7 +93,7 @@ impl Section {
             .unwrap_or(DEFAULT_MAX_RETRIES);
         Ok(SystemDef {
             name,
-            lines: Lines::new(lines),
+            lines: Listed::from_vec(lines),
             max_retries,
         })
     }
@@ -107,7 +109,7 @@ pub struct Sections {
 }
 
 impl Model for Sections {
-    ghost use Rattle.uu_times.specs.Section.{Parts};
+    ghost use Rattle.uu_times.specs.Internal.Section.{Parts};
 
     ghost Value = { Parts };
 
@@ -129,14 +131,14 @@ impl Sections {
 
     /// Whether no further time line may stand in the present section.
     pub fn is_full(&self) -> bool
-        ensures { result ≡ nat_le 32 (length self.now.part.lines) }
+        ensures { result ≡ nat_le most_lines (length self.now.part.lines) }
     {
         self.section.is_full()
     }
 
     /// Adds a time line to the present section.
     pub fn push(&mut self, line: Line) -> Result<(), AllocError>
-        requires room { length self.old.part.lines < 32 }
+        requires room { length self.old.part.lines < most_lines }
         requires line { HasRetry line }
         ensures { OnOk result (self.new ≡ with_line self.old line) }
     {
@@ -145,7 +147,7 @@ impl Sections {
 
     /// Sets the number of failures of the present section.
     pub fn set_retries(&mut self, number: u32)
-        requires { number ≤ 1000000 }
+        requires { number ≤ most_retries }
         ensures { self.new ≡ with_retries self.old number }
     {
         self.section.set_retries(number);

@@ -1,36 +1,36 @@
 //! Sys files.
 ghost use Rattle.std.specs.Prelude.{◌≡◌, ◌≤◌, [], Ok, Err, OnOk, IfOk, IfSome, length, MatchResult};
-ghost use Rattle.uu_times.specs.Deeds.{IsValid};
+ghost use Rattle.uu_times.specs.Directives.{IsValid};
 ghost use Rattle.uu_times.specs.SysFile.{sys_file_of};
 ghost use Rattle.uu_times.specs.System.{HasRetry};
-ghost use Rattle.uu_times.specs.declared.deed.Deed.TheVariants.{Begin, Time, Table};
+ghost use Rattle.uu_times.specs.declared.directive.Directive.TheVariants.{Begin, Time, Table};
 ghost use Rattle.std.specs.Str.Lines.{lines};
+ghost use Rattle.uu_names.specs.Text.{most_text};
 ghost use Rattle.uu_times.specs.Fault.{AnswersUnlessMemory};
 ghost use Rattle.uu_times.specs.Lines.{joined};
-ghost use Rattle.uu_times.specs.Reading.{has_seen, with_seen, no_reading, absorbed, line_read, lines_read, file_of, file_read, Takes};
+ghost use Rattle.uu_times.specs.Internal.Reading.{has_seen, with_seen, no_reading, absorbed, line_read, lines_read, file_of, file_read, Takes};
 
-use crate::deed::{Deed, line_says};
+use crate::directive::{Directive, line_says};
 use crate::lines::joined_line;
 use crate::section::Sections;
-use crate::system::{LineNumbers, Systems};
 use crate::{Line, SysFile, TimeFault, Timetables, Windows};
 use std::alloc::{AllocError, Global};
-use std::collections::BTreeMap;
+use std::collections::BTreeSet;
 use std::marker::Model;
-use uu_names::SiteName;
+use uu_names::{Listed, SiteName};
 
 // Names that were seen.
 #[derive(Drop)]
 struct Names {
-    names: BTreeMap<SiteName, bool>,
+    names: BTreeSet<SiteName>,
 }
 
 impl Model for Names {
-    ghost use Rattle.std.specs.Prelude.{List, ℕ, Bool};
+    ghost use Rattle.std.specs.Prelude.{List, ℕ};
 
-    ghost Value = { List (List ℕ × Bool) };
+    ghost Value = { List (List ℕ) };
 
-    ghost view = { λ n. n.names.entries };
+    ghost view = { λ n. n.names.keys };
 }
 
 impl Names {
@@ -38,20 +38,20 @@ impl Names {
         ensures { result ≡ [] }
     {
         Names {
-            names: BTreeMap::new(alloc),
+            names: BTreeSet::new(alloc),
         }
     }
 
     fn contains(&self, name: &SiteName) -> bool
         ensures { result ≡ has_seen self.now name.now }
     {
-        self.names.get(name).is_some()
+        self.names.contains(name)
     }
 
     fn insert(&mut self, name: SiteName) -> Result<(), AllocError>
         ensures { OnOk result (self.new ≡ with_seen self.old name) }
     {
-        self.names.insert(name, true)?;
+        self.names.insert(name)?;
         Ok(())
     }
 }
@@ -67,7 +67,7 @@ struct Reader {
 }
 
 impl Model for Reader {
-    ghost use Rattle.uu_times.specs.Reading.{Reading};
+    ghost use Rattle.uu_times.specs.Internal.Reading.{Reading};
 
     ghost Value = { Reading };
 
@@ -121,19 +121,19 @@ impl Reader {
     }
 
     // Takes in what a line says.
-    fn absorb(&mut self, alloc: Global, line: u32, deed: Deed) -> Result<(), TimeFault>
-        requires { IsValid deed }
-        ensures { Takes result self.new (absorbed self.old line deed) }
+    fn absorb(&mut self, alloc: Global, line: u32, directive: Directive) -> Result<(), TimeFault>
+        requires { IsValid directive }
+        ensures { Takes result self.new (absorbed self.old line directive) }
     {
-        match deed {
-            Deed::Begin(name) => self.begin(alloc, line, name),
-            Deed::Time(time) => self.push(line, time),
-            Deed::Retries(number) => {
+        match directive {
+            Directive::Begin(name) => self.begin(alloc, line, name),
+            Directive::Time(time) => self.push(line, time),
+            Directive::Retries(number) => {
                 self.sections.set_retries(number);
                 Ok(())
             }
-            Deed::Table(name, windows) => self.define(line, name, windows),
-            Deed::Skip(number) => {
+            Directive::Table(name, windows) => self.define(line, name, windows),
+            Directive::Skip(number) => {
                 self.skipped.push(number)?;
                 Ok(())
             }
@@ -146,7 +146,7 @@ impl Reader {
     {
         match line_says(alloc, &self.tables, line, text)? {
             None => Ok(()),
-            Some(deed) => self.absorb(alloc, line, deed),
+            Some(directive) => self.absorb(alloc, line, directive),
         }
     }
 
@@ -162,15 +162,15 @@ impl Reader {
             skipped,
         } = self;
         Ok(SysFile {
-            systems: Systems::new(sections.into_systems(alloc)?),
-            skipped: LineNumbers::new(skipped),
+            systems: Listed::from_vec(sections.into_systems(alloc)?),
+            skipped: Listed::from_vec(skipped),
         })
     }
 }
 
 // Reads the lines of a sys file.
 fn read_lines(alloc: Global, text: &[u8]) -> Result<Reader, TimeFault>
-    requires { length text.now ≤ 4194304 }
+    requires { length text.now ≤ most_text }
     ensures { AnswersUnlessMemory result (lines_read no_reading (joined 1 (lines text.now))) }
 {
     let mut reader = Reader::new(alloc)?;
@@ -178,10 +178,7 @@ fn read_lines(alloc: Global, text: &[u8]) -> Result<Reader, TimeFault>
     let mut number = 1;
     while !rest.is_empty() {
         let first = joined_line(alloc, rest)?;
-        match reader.read_line(alloc, number, &first.line) {
-            Ok(()) => {}
-            Err(fault) => return Err(fault),
-        }
+        reader.read_line(alloc, number, &first.line)?;
         rest = first.rest;
         number += first.count;
     }
@@ -190,7 +187,7 @@ fn read_lines(alloc: Global, text: &[u8]) -> Result<Reader, TimeFault>
 
 // Reads a sys file line by line.
 fn read_file(alloc: Global, text: &[u8]) -> Result<SysFile, TimeFault>
-    requires { length text.now ≤ 4194304 }
+    requires { length text.now ≤ most_text }
     ensures { AnswersUnlessMemory result (file_read text.now) }
 {
     let reader = read_lines(alloc, text)?;
@@ -200,11 +197,20 @@ fn read_file(alloc: Global, text: &[u8]) -> Result<SysFile, TimeFault>
 /// Reads a sys file of at most 4,194,304 bytes: its systems in order, each with the time lines and the number of failures of its
 /// section or else the defaults, and the numbers of the lines that were skipped, since they begin with another keyword.
 ///
-/// The fault is that of the first faulty line, with its number (Taylor UUCP 1.07 manual, "The Sys File"; a timetable may be
-/// defined here too). Time and memory grow as the text does, but for the search of names and the sort of a line's ranges; tests
+/// What a line's time string means by the grammar is [`time_strings_are_read`](crate::laws::time_strings_are_read), and which timetable a
+/// name stands for [`the_last_timetable_counts`](crate::laws::the_last_timetable_counts). (Taylor UUCP 1.07 manual, "The Sys File"; a
+/// timetable may be defined here too.) Time and memory grow as the text does, but for the search of names and the sort of a line's ranges; tests
 /// measure the time alone, and no clause speaks of either.
+///
+/// # Errors
+/// The fault of the first faulty line, with its number, which for a joined line is that of its first one. First what the line says by itself:
+/// [`TimeFault::BadSystem`] where a `system` line has not exactly one site name; [`TimeFault::BadWords`] where the words behind another keyword
+/// are too few or too many, or no grade or no timetable's name where one is wanted; [`TimeFault::UnknownTable`] or [`TimeFault::BadTime`] for its
+/// time string, as [`read_time`](crate::read_time) has them; [`TimeFault::BadNumber`]. Then what the lines before it forbid:
+/// [`TimeFault::SystemTwice`], [`TimeFault::TooManyLines`] for the 33rd time line of a section, [`TimeFault::TableTwice`]. Else
+/// [`TimeFault::Memory`].
 pub fn read_sys(alloc: Global, text: &[u8]) -> Result<SysFile, TimeFault>
-    requires { length text.now ≤ 4194304 }
+    requires { length text.now ≤ most_text }
     ensures { AnswersUnlessMemory result (sys_file_of text.now) }
 {
     read_file(alloc, text)

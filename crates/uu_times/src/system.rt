@@ -5,7 +5,7 @@ ghost use Rattle.uu_times.specs.System.{AreWithinLimits, HasRetry};
 use crate::Windows;
 use std::alloc::AllocError;
 use std::marker::Model;
-use uu_names::{Grade, SiteName};
+use uu_names::{Grade, Listed, SiteName};
 
 /// The most time lines of a system.
 pub const LINE_LIMIT: usize = 32;
@@ -45,52 +45,13 @@ impl Clone for Line {
     }
 }
 
-/// The time lines of a system in the order of the text, seen as a list.
-#[derive(Debug, Drop)]
-pub struct Lines {
-    entries: Vec<Line>,
-}
-
-impl Model for Lines {
-    ghost use Rattle.std.specs.Prelude.{List};
-    ghost use Rattle.uu_times.specs.declared.system.Line.{Line};
-
-    ghost Value = { List Line };
-
-    ghost view = { λ l. l.entries.items };
-}
-
-impl Lines {
-    /// These lines.
-    pub fn new(lines: Vec<Line>) -> Lines
-        ensures { result ≡ lines.items }
-    {
-        Lines { entries: lines }
-    }
-
-    /// The lines in order.
-    pub fn as_slice(&self) -> &[Line]
-        ensures { result.now ≡ self.now }
-    {
-        self.entries.as_slice()
-    }
-
-    /// The lines, given back.
-    pub fn into_vec(self) -> Vec<Line>
-        ensures { result.items ≡ self }
-    {
-        let Lines { entries } = self;
-        entries
-    }
-}
-
 /// A system that may be called, seen as its three parts, which are within their limits.
 #[derive(Debug, Drop)]
 pub struct SystemDef {
     /// The system's name.
     pub name: SiteName,
     /// When it may be called, at most 32 lines; never, where there is none.
-    pub lines: Lines,
+    pub lines: Listed<Line>,
     /// After how many failures in a row calls become rare, at most 1,000,000.
     pub max_retries: u32,
 }
@@ -108,7 +69,7 @@ impl Model for SystemDef {
 impl SystemDef {
     /// A system of these parts, and `None` where there are more than 32 lines, a retry number isn't 1 to
     /// 525,600, or `max_retries` is over 1,000,000.
-    pub fn new(name: SiteName, lines: Lines, max_retries: u32) -> Option<SystemDef>
+    pub fn new(name: SiteName, lines: Listed<Line>, max_retries: u32) -> Option<SystemDef>
         ensures within { IsSome result ↔ AreWithinLimits lines max_retries }
         ensures name { IfSome result (λ system. system.name ≡ name) }
         ensures lines { IfSome result (λ system. system.lines ≡ lines) }
@@ -153,88 +114,11 @@ fn has_retry(line: &Line) -> bool
     }
 }
 
-/// The systems of a sys file in the order of the text, seen as a list.
-#[derive(Debug, Drop)]
-pub struct Systems {
-    systems: Vec<SystemDef>,
-}
-
-impl Model for Systems {
-    ghost use Rattle.std.specs.Prelude.{List};
-    ghost use Rattle.uu_times.specs.System.{System};
-
-    ghost Value = { List System };
-
-    ghost view = { λ s. s.systems.items };
-}
-
-impl Systems {
-    /// These systems.
-    pub fn new(systems: Vec<SystemDef>) -> Systems
-        ensures { result ≡ systems.items }
-    {
-        Systems { systems }
-    }
-
-    /// The systems in order.
-    pub fn as_slice(&self) -> &[SystemDef]
-        ensures { result.now ≡ self.now }
-    {
-        self.systems.as_slice()
-    }
-
-    /// The systems, given back.
-    pub fn into_vec(self) -> Vec<SystemDef>
-        ensures { result.items ≡ self }
-    {
-        let Systems { systems } = self;
-        systems
-    }
-}
-
-/// Numbers of lines, counted from 1, seen as a list.
-#[derive(Debug, Drop)]
-pub struct LineNumbers {
-    numbers: Vec<u32>,
-}
-
-impl Model for LineNumbers {
-    ghost use Rattle.std.specs.Prelude.{List, ℕ};
-
-    ghost Value = { List ℕ };
-
-    ghost view = { λ n. n.numbers.items };
-}
-
-impl LineNumbers {
-    /// These numbers.
-    pub fn new(numbers: Vec<u32>) -> LineNumbers
-        ensures { result ≡ numbers.items }
-    {
-        LineNumbers { numbers }
-    }
-
-    /// The numbers in order.
-    pub fn as_slice(&self) -> &[u32]
-        ensures { result.now ≡ self.now }
-    {
-        self.numbers.as_slice()
-    }
-
-    /// The numbers, given back.
-    pub fn into_vec(self) -> Vec<u32>
-        ensures { result.items ≡ self }
-    {
-        let LineNumbers { numbers } = self;
-        numbers
-    }
-}
-
 /// What a sys file says.
 #[derive(Debug, Drop)]
 pub struct SysFile {
     /// Its systems, in the order of their sections.
-    pub systems: Systems,
-    /// The lines that were skipped, since they begin with another keyword.
-    pub skipped: LineNumbers,
+    pub systems: Listed<SystemDef>,
+    /// The numbers of the lines that were skipped, since they begin with another keyword, counted from 1.
+    pub skipped: Listed<u32>,
 }

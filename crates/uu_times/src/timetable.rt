@@ -1,5 +1,5 @@
 //! Timetables, and the time strings that may name them.
-ghost use Rattle.std.specs.Prelude.{◌≡◌, Ok, Err, IfOk, IfErr, IsTrue, map, OnOk, slice_index};
+ghost use Rattle.std.specs.Prelude.{◌≡◌, ℕ, List, Ok, Err, IfOk, IfErr, IsTrue, map, OnOk, slice_index};
 ghost use Rattle.std.specs.BTreeMap.{insert_entry};
 ghost use Rattle.std.specs.Char.{to_ascii_lowercase};
 ghost use Rattle.std.specs.Cmp.Lexicographic.{slice_cmp};
@@ -7,9 +7,9 @@ ghost use Rattle.std.specs.Ordering.{nat_cmp};
 ghost use Rattle.std.specs.List.{list_all};
 ghost use Rattle.std.specs.Str.{bytes_eq};
 ghost use Rattle.uu_names.specs.Name.{is_site_name};
-ghost use Rattle.uu_times.specs.Fault.{AnswersUnlessMemory};
-ghost use Rattle.uu_times.specs.Scan.{lower};
-ghost use Rattle.uu_times.specs.Tables.{is_table_byte, is_table_rest, is_table_name, table_at, with_table, with_list, begins_with_day, unreadable, TellsFront, windows_in, time_of, predefined_tables};
+ghost use Rattle.uu_times.specs.Fault.{AnswersUnlessMemory, UnlessMemory};
+ghost use Rattle.uu_times.specs.Grammar.{lower};
+ghost use Rattle.uu_times.specs.Tables.{is_table_byte, is_table_rest, is_table_name, table_at, with_table, with_list, begins_with_day, unreadable, TellsFront, IsTimeString, windows_in, time_of, predefined_tables};
 
 use crate::scan::{Unlisted, list_of, two_letters};
 use crate::union::windows_of;
@@ -18,6 +18,9 @@ use std::alloc::{AllocError, Global};
 use std::collections::BTreeMap;
 use std::marker::Model;
 use uu_names::{NameFault, SiteName};
+
+/// The most bytes of a timetable's name behind the first.
+const MAX_TABLE_REST: usize = 31;
 
 /// Timetables by their names, in lower case, seen as the list of names and runs in order of the names.
 #[derive(Drop)]
@@ -114,14 +117,11 @@ pub(crate) fn key_of(alloc: Global, name: &[u8]) -> Result<SiteName, AllocError>
     ensures { IfOk result (λ key. key ≡ lower name.now) }
 {
     let letters = lower(alloc, name)?;
-    match SiteName::from_bytes(alloc, &letters) {
-        Ok(key) => Ok(key),
-        Err(_) => Err(AllocError),
-    }
+    SiteName::from_bytes(alloc, &letters).map_err(|_| AllocError)
 }
 
-/// Whether the bytes are the word, whatever their case.
-pub(crate) fn is_word(bytes: &[u8], word: &[u8]) -> bool
+/// Whether the bytes are those of the word, whatever their case.
+pub(crate) fn equals_in_any_case(bytes: &[u8], word: &[u8]) -> bool
     ensures { result ≡ bytes_eq (lower bytes.now) (lower word.now) }
 {
     bytes.eq_ignore_ascii_case(word)
@@ -145,7 +145,7 @@ fn are_table_bytes(rest: &[u8]) -> bool
 fn is_table_rest(rest: &[u8]) -> bool
     ensures { result ≡ is_table_rest rest.now }
 {
-    rest.len() <= 31 && are_table_bytes(rest)
+    rest.len() <= MAX_TABLE_REST && are_table_bytes(rest)
 }
 
 /// Whether the text has the form of a timetable's name.
@@ -210,7 +210,7 @@ pub(crate) fn time_of(
 ) -> Result<Windows, TimeFault>
     ensures { AnswersUnlessMemory result (time_of tables.now line text.now) }
 {
-    if is_word(text, b"never") {
+    if equals_in_any_case(text, b"never") {
         return Ok(Windows::never(alloc)?);
     }
     match tables.find(alloc, text)? {
@@ -222,10 +222,15 @@ pub(crate) fn time_of(
 /// The set of a time string.
 ///
 /// It is empty for `Never`, that of a timetable for its name, and else that of a list of simple strings; case doesn't
-/// count. A text that is none of these is `UnknownTable(0)` where it has the form of a timetable's name and doesn't begin
-/// with a day word, and else `BadTime(0, at)`, where `at` is the length of the longest front of the text that begins a list of
-/// simple strings.
+/// count. Minutes are those of the local week; 0 is Sunday 00:00.
+///
+/// # Errors
+/// A text that is none of these is [`TimeFault::UnknownTable`] where it has the form of a timetable's name and doesn't begin
+/// with a day word, and else [`TimeFault::BadTime`] with the length of the longest front of the text that begins a list of
+/// simple strings; the line of both is 0. Else [`TimeFault::Memory`].
 pub fn read_time(alloc: Global, text: &str, tables: &Timetables) -> Result<Windows, TimeFault>
+    ensures string { IfOk result (λ windows. IsTimeString tables.now text.now windows) }
+    ensures refused { IfErr result (λ fault. UnlessMemory fault ((windows : List (ℕ × ℕ)) → ¬ IsTimeString tables.now text.now windows)) }
     ensures value { AnswersUnlessMemory result (time_of tables.now 0 text.now) }
     ensures offset { IfErr result (TellsFront text.now) }
 {

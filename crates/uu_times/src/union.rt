@@ -2,7 +2,7 @@
 ghost use Rattle.std.specs.Prelude.{◌≡◌, ◌≤◌, ◌<◌, ◌++◌, All, IfOk, IfSome, OnOk};
 ghost use Rattle.uu_times.specs.Days.{any_has};
 ghost use Rattle.uu_times.specs.Ranges.{maximal_runs};
-ghost use Rattle.uu_times.specs.Union.{IsDaily, day_ranges, ranges_on, days_ranges, week_ranges, merged};
+ghost use Rattle.uu_times.specs.Internal.Union.{IsDaily, day_ranges, ranges_on, days_ranges, week_ranges, merged};
 
 use crate::Windows;
 use crate::days::Simple;
@@ -31,7 +31,7 @@ fn week_ranges(alloc: Global, simples: &[Simple]) -> Result<Vec<(u16, u16)>, All
 }
 
 // Adds the ranges of a simple string.
-#[tactic(auto, unfolding(crate::specs::Union::days_ranges))]
+#[tactic(auto, unfolding(crate::specs::Internal::Union::days_ranges))]
 fn push_simple(ranges: &mut Vec<(u16, u16)>, simple: &Simple) -> Result<(), AllocError>
     requires { IsDaily simple.now }
     ensures { OnOk result (ranges.new.items ≡ ranges.old.items ++ days_ranges simple.now 7) }

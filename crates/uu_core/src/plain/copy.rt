@@ -6,8 +6,7 @@ use crate::job::{JobHead, Kind};
 use crate::plain::PlainJob;
 use crate::system::{CallState, Outcome};
 use std::alloc::{AllocError, Global};
-use uu_map::Listed;
-use uu_names::Word;
+use uu_names::{Listed, Word};
 
 fn copy_words(alloc: Global, words: &[Word]) -> Result<Listed<Word>, AllocError>
     ensures { IfOk result (λ copy. copy ≡ words.now) }

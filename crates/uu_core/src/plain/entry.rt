@@ -2,8 +2,7 @@
 ghost use Rattle.std.specs.Prelude.{◌≡◌};
 
 use std::marker::Model;
-use uu_map::Listed;
-use uu_names::SiteName;
+use uu_names::{Listed, SiteName};
 
 /// A map entry, kept under its host.
 #[derive(Debug, Drop)]

@@ -5,8 +5,7 @@ ghost use Rattle.uu_core.specs.After.{job_of};
 
 use crate::job::{JobHead, NewJob};
 use std::marker::Model;
-use uu_map::Listed;
-use uu_names::Grade;
+use uu_names::{Grade, Listed};
 use uu_times::Moment;
 
 /// A job of a spool with all its bytes.

@@ -16,8 +16,8 @@ use crate::job::{By, NewJob};
 use crate::refusal::Refusal;
 use crate::system::SystemRow;
 use std::alloc::{AllocError, Global};
-use uu_map::{Entry, Listed, MapFault, read_entry};
-use uu_names::{Grade, SiteName, Word};
+use uu_map::{Entry, MapFault, read_entry};
+use uu_names::{Grade, Listed, SiteName, Word};
 use uu_times::{Moment, SystemDef};
 
 #[derive(Debug, Drop)]

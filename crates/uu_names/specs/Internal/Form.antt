@@ -4,7 +4,7 @@ use Rattle.uu_names.specs.declared.fault.NameFault.{NameFault}
 use Rattle.uu_names.specs.declared.fault.NameFault.TheVariants.{BadName, BadWord}
 use Rattle.uu_names.specs.declared.form.Form.{Form}
 use Rattle.uu_names.specs.declared.form.Form.TheVariants.{SiteName, Word}
-use Rattle.uu_names.specs.Name.{is_site_byte, is_word_byte, checked_text}
+use Rattle.uu_names.specs.Name.{is_site_byte, is_word_byte, most_name, most_word, checked_text}
 
 -- the bytes that a text of the form may have
 abbrev pub allows : Form → ℕ → Bool
@@ -13,8 +13,8 @@ allows Word = is_word_byte
 
 -- the most bytes of such a text
 abbrev pub limit_of : Form → ℕ
-limit_of SiteName = 63
-limit_of Word = 255
+limit_of SiteName = most_name
+limit_of Word = most_word
 
 -- how a text of another form is refused
 abbrev pub bad_at : Form → ℕ → NameFault

@@ -1,6 +1,6 @@
 use Rattle.std.proofs.Common.{◌≡◌, length}
 use Rattle.uu_map.specs.Token.{tokens}
-use Rattle.uu_map.specs.Reading.{state_of, run, start}
+use Rattle.uu_map.specs.Internal.Reading.{state_of, run, start}
 use Rattle.uu_map.proofs.expression.cost.Given as goal
 
 abbrev pub invariant-loop-token : goal.invariant-loop-token

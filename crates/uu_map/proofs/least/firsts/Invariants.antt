@@ -1,6 +1,6 @@
 use Rattle.std.proofs.Common.{◌≡◌, ◌++◌, None, map, drop}
 use Rattle.std.specs.Prelude.{option_copied}
-use Rattle.uu_map.specs.Ranking.{as_link, firsts_after}
+use Rattle.uu_map.specs.Internal.Ranking.{as_link, firsts_after}
 use Rattle.uu_map.proofs.least.firsts.Given as goal
 
 abbrev pub invariant-loop-link : goal.invariant-loop-link

@@ -1,7 +1,7 @@
 use Rattle.std.proofs.Common.{◌≡◌, ◌∙◌, ap, None, map}
 use Rattle.std.proofs.lemmas.Result.{IfOk-weaker}
 use Rattle.uu_map.specs.Listing.{IsListing}
-use Rattle.uu_map.specs.Ranking.{as_link, firsts_after}
+use Rattle.uu_map.specs.Internal.Ranking.{as_link, firsts_after}
 use Rattle.uu_map.proofs.Ranks.{listing}
 use Rattle.uu_map.proofs.least.listed.Goals as goal
 

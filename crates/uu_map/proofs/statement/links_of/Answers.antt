@@ -1,6 +1,6 @@
 use Rattle.std.proofs.Common.{◌≡◌, ◌++◌, length, option_map, sym, ap, ◌∙◌, arith}
 use Rattle.std.proofs.lemmas.Bool.Decides.{nat_tests}
-use Rattle.uu_map.specs.StatementReading.{link_of, list_of}
+use Rattle.uu_map.specs.Internal.StatementReading.{link_of, list_of}
 use Rattle.uu_map.proofs.Parts.{list_blank, list_refused, list_more, list_end}
 use Rattle.uu_map.proofs.statement.links_of.Goals as goal
 

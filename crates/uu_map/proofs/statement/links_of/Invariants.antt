@@ -1,5 +1,5 @@
 use Rattle.std.proofs.Common.{◌≡◌, ◌++◌, length, option_map}
-use Rattle.uu_map.specs.StatementReading.{link_of, list_of}
+use Rattle.uu_map.specs.Internal.StatementReading.{link_of, list_of}
 use Rattle.uu_map.proofs.statement.links_of.Given as goal
 
 abbrev pub invariant-loop-rest : goal.invariant-loop-rest

@@ -1,7 +1,8 @@
 -- The pieces in a row.
 use Rattle.std.proofs.Common.{◌∷◌, [], codes, ◌∙◌}
 use Rattle.std.proofs.lemmas.Result.{IfOk-weaker}
-use Rattle.uu_names.specs.Envelope.{date_text, line_feed}
+use Rattle.uu_names.specs.Envelope.{date_text}
+use Rattle.uu_names.specs.Text.{line_feed}
 use Rattle.uu_names.proofs.EnvelopeJoins.{joined}
 use Rattle.uu_names.proofs.from_line.append_from_line.Goals as goal
 

@@ -1,4 +1,4 @@
-use Rattle.uu_times.specs.Scan.{lower}
+use Rattle.uu_times.specs.Grammar.{lower}
 use Rattle.uu_times.proofs.GrammarFronts.{unread-longest, spelled-minutes}
 use Rattle.uu_times.proofs.GrammarLemmas.{lists-read}
 use Rattle.uu_times.proofs.GrammarReads.{reads-lists}

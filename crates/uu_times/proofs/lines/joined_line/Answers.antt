@@ -7,12 +7,12 @@ use Rattle.uu_times.proofs.lines.joined_line.Goals as goal
 
 pub loop-line-init : goal.loop-line-init
 loop-line-init c =
-    let next = c.next_line.result.0.now in
-    let rest = lines c.next_line.result.1.now in (
+    let next = c.first_line.result.0.now in
+    let rest = lines c.first_line.result.1.now in (
       λ number.
           ap (λ (front : List ℕ). joined_onto number front (joined (number + 0) (next ∷ rest))) c.new-line.ensures.items
           ∙ joined-start number next rest
-          ∙ ap (joined number) (sym c.next_line.ensures.lines),
+          ∙ ap (joined number) (sym c.first_line.ensures.lines),
       omega arith,
     )
 
@@ -21,13 +21,13 @@ loop-line-preserved c =
     let front = c.loop-line.line.items in
     let before = c.loop-line.before in
     let next = c.loop-line.next.now in
-    let following = c.next_line-in-loop-line.result.0.now in
-    let behind = lines c.next_line-in-loop-line.result.1.now in
+    let following = c.first_line-in-loop-line.result.0.now in
+    let behind = lines c.first_line-in-loop-line.result.1.now in
     let on : goes_on next ≡ true = (and_parts (goes_on next) (nat_lt 0 (length c.loop-line.rest.now)) (sym c.is_joined.ensures ∙ c.loop-line-test.true)).0 in (
       λ number.
           ap (λ (items : List ℕ). joined_onto number items (joined (number + (before + 1)) (following ∷ behind)))
           (c.in_ok-extend_from_slice.ensures.items ∙ ap (λ kept. front ++ kept) c.kept_part.ensures)
-          ∙ ap (λ (rest : List (List ℕ)). joined_onto number (front ++ kept_part next) (joined (number + (before + 1)) rest)) (sym c.next_line-in-loop-line.ensures.lines)
+          ∙ ap (λ (rest : List (List ℕ)). joined_onto number (front ++ kept_part next) (joined (number + (before + 1)) rest)) (sym c.first_line-in-loop-line.ensures.lines)
           ∙ joined-more number before front next (lines c.loop-line.rest.now) on
           ∙ c.loop-line.invariant.0 number,
       omega arith,

@@ -1,5 +1,6 @@
 use Rattle.std.proofs.Common.{◌≡◌, drop}
-use Rattle.uu_times.specs.Scan.{after, scan, lower, list_of}
+use Rattle.uu_times.specs.Internal.Scan.{after, scan, list_of}
+use Rattle.uu_times.specs.Grammar.{lower}
 use Rattle.uu_times.proofs.scan.list_of.Given as goal
 
 -- the simple strings so far, and those of the rest, are those of the whole text

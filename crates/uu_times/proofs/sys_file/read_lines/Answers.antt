@@ -1,18 +1,19 @@
 use Rattle.std.proofs.Common.{◌+◌, ◌∷◌, ℕ, List, ap, sym, ◌∙◌, arith}
 use Rattle.std.specs.Str.Lines.{lines}
 use Rattle.uu_times.specs.Lines.{Numbered, joined}
-use Rattle.uu_times.specs.Reading.{no_reading, lines_read}
-use Rattle.uu_times.proofs.ReadingLemmas.{reads-on, takes-fault, reads-end, empty_if}
+use Rattle.uu_times.specs.Internal.Reading.{no_reading, lines_read}
+use Rattle.uu_times.proofs.ReadingLemmas.{reads-on, takes-fault, passed-on, reads-end, empty_if}
 use Rattle.uu_times.proofs.sys_file.read_lines.Goals as goal
 
-pub returns-in-Err : goal.returns-in-Err
-returns-in-Err c =
+pub returns-in_err-read_line : goal.returns-in_err-read_line
+returns-in_err-read_line c =
     let number = c.loop-rest.number in
     let all = joined number (lines c.loop-rest.rest.now) in
     let more = joined (number + c.in_ok-first.first.count) (lines c.in_ok-first.first.rest.now) in
-    takes-fault c.in-Err.fault c.loop-rest.reader c.read_line.new.self number c.deref.result.now all more (lines_read no_reading (joined 1 (lines c.args.text.now)))
+    passed-on c.from_residual-in_err-read_line.result (lines_read no_reading (joined 1 (lines c.args.text.now))) _ c.from_residual-in_err-read_line.ensures.1
+    (takes-fault _ c.loop-rest.reader c.read_line.new.self number c.deref.result.now all more (lines_read no_reading (joined 1 (lines c.args.text.now)))
     (c.in_ok-first.ensures.line number ∙ ap (λ (line : List ℕ). let first : Numbered = record { number = number; line = line } in first ∷ more) (sym c.deref.ensures.value))
-    c.in-Err.ensures c.loop-rest.invariant.0
+    c.in_err-read_line.ensures c.loop-rest.invariant.0)
 
 pub loop-rest-preserved : goal.loop-rest-preserved
 loop-rest-preserved c =
@@ -21,7 +22,7 @@ loop-rest-preserved c =
     let more = joined (number + c.in_ok-first.first.count) (lines c.in_ok-first.first.rest.now) in (
       reads-on c.loop-rest.reader c.read_line.new.self number c.deref.result.now all more (lines_read no_reading (joined 1 (lines c.args.text.now)))
           (c.in_ok-first.ensures.line number ∙ ap (λ (line : List ℕ). let first : Numbered = record { number = number; line = line } in first ∷ more) (sym c.deref.ensures.value))
-          c.in-Ok.ensures c.loop-rest.invariant.0,
+          c.in_ok-read_line.ensures c.loop-rest.invariant.0,
       omega (arith, c.in_ok-first.ensures.shorter),
       omega arith,
     )

@@ -1,7 +1,7 @@
 use Rattle.std.proofs.Common.{◌≡◌, ◌+◌, ◌≤◌, length}
 use Rattle.std.specs.Str.Lines.{lines}
 use Rattle.uu_times.specs.Lines.{joined}
-use Rattle.uu_times.specs.Reading.{no_reading, lines_read}
+use Rattle.uu_times.specs.Internal.Reading.{no_reading, lines_read}
 use Rattle.uu_times.proofs.sys_file.read_lines.Given as goal
 
 -- what was read and the rest give what the whole text gives

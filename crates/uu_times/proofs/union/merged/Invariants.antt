@@ -1,5 +1,5 @@
 use Rattle.std.proofs.Common.{◌≡◌, ◌++◌, drop}
-use Rattle.uu_times.specs.Union.{merged, merged_from}
+use Rattle.uu_times.specs.Internal.Union.{merged, merged_from}
 use Rattle.uu_times.proofs.union.merged.Given as goal
 
 -- the runs so far, and those of the rest

@@ -1,5 +1,5 @@
 use Rattle.std.proofs.Common.{◌++◌, ap, sym, ◌∙◌, append_assoc}
-use Rattle.uu_times.specs.Union.{ranges_on, days_ranges}
+use Rattle.uu_times.specs.Internal.Union.{ranges_on, days_ranges}
 use Rattle.uu_times.proofs.UnionLemmas.{days_ranges-more}
 use Rattle.uu_times.proofs.union.push_simple.Goals as goal
 

@@ -1,5 +1,5 @@
 use Rattle.std.proofs.Common.{◌≡◌, ◌++◌}
-use Rattle.uu_times.specs.Union.{days_ranges}
+use Rattle.uu_times.specs.Internal.Union.{days_ranges}
 use Rattle.uu_times.proofs.union.push_simple.Given as goal
 
 -- the ranges of the days so far are there

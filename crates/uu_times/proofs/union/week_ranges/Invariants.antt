@@ -1,5 +1,5 @@
 use Rattle.std.proofs.Common.{◌≡◌, ◌++◌, drop}
-use Rattle.uu_times.specs.Union.{week_ranges}
+use Rattle.uu_times.specs.Internal.Union.{week_ranges}
 use Rattle.uu_times.proofs.union.week_ranges.Given as goal
 
 -- the ranges so far, and those of the rest

@@ -4,7 +4,7 @@ use Rattle.std.proofs.lemmas.List.Sorted.{IsNonDecreasingBy-from_sort_by_key}
 use Rattle.std.proofs.lemmas.Result.{IfOk-weaker}
 use Rattle.uu_times.specs.Days.{any_has}
 use Rattle.uu_times.specs.Ranges.{AreRuns, maximal_runs}
-use Rattle.uu_times.specs.Union.{week_ranges, merged}
+use Rattle.uu_times.specs.Internal.Union.{week_ranges, merged}
 use Rattle.uu_times.proofs.UnionLemmas.{merged-runs}
 use Rattle.uu_times.proofs.union.windows_of.Goals as goal
 

@@ -1,5 +1,5 @@
 use Rattle.std.proofs.Common.{All, sym, subst}
-use Rattle.uu_times.specs.Union.{IsDaily}
+use Rattle.uu_times.specs.Internal.Union.{IsDaily}
 use Rattle.uu_times.proofs.ScanDaily.{daily-list_of}
 use Rattle.uu_times.proofs.timetable.Timetables.insert_list.Goals as goal
 

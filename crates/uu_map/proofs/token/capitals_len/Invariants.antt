@@ -1,6 +1,0 @@
-use Rattle.std.proofs.Common.{◌≡◌, ℕ, ◌<◌, true, get_or}
-use Rattle.std.specs.Char.{is_ascii_uppercase}
-use Rattle.uu_map.proofs.token.capitals_len.Given as goal
-
-abbrev pub invariant-loop-i : goal.invariant-loop-i
-invariant-loop-i l = (k : ℕ) → k < l.i → is_ascii_uppercase (get_or l.text k 0) ≡ true
