@@ -1,5 +1,5 @@
 -- From what a question in SQL shows to what the question answers.
-use Rattle.std.proofs.Common.{◌≡◌, Result, Ok, Err, ap, sym, subst, ◌∙◌, refl, arith, Bool, true, false, not, is_ok}
+use Rattle.std.proofs.Common.{◌≡◌, Result, Ok, Err, sym, subst, ◌∙◌, refl, arith, Bool, true, false, not}
 use Rattle.std.specs.Prelude.{ℕ, List, Vec, IfOk, OnOk, IsOk, IsErr}
 use Rattle.std.specs.declared.alloc.Global.{Global}
 use Rattle.sqlite.specs.declared.error.Error.{Error}
@@ -9,7 +9,8 @@ use Rattle.uu_sql.specs.Steps.{Stands, Told}
 use Rattle.uu_sql.proofs.Steps.{told_also, told_not, told_told}
 use Rattle.uu_core.specs.State.{State, IsWellFormed}
 use Rattle.uu_schema.specs.Schema.{site}
-use Rattle.uu_questions.specs.Answers.{IsAt, IsOf, Answers, Shows}
+use Rattle.uu_questions.specs.Answers.{IsAt, IsOf, Answers}
+use Rattle.uu_rows.specs.Shows.{Shows}
 
 from_ok : {T E P : Type 0} (r : Result T E) → IsOk r → OnOk r P → P
 from_ok (Ok x) ok p = p
@@ -37,9 +38,6 @@ module _ {T : Type 0} (IsAnswer : State → T → Type 0) (text : List ℕ) (par
   then_read ok exact = record { told = told_also site a b r q ok h.told; same = λ clean stands. to_any q (from_ok r ok (h.same clean stands)); exact = exact }
 
 -- ---- what answered, and what did not
-
-pub answered : {T E : Type 0} (r : Result T E) (x : T) → r ≡ Ok x → IsOk r
-answered r x is = ap is_ok is
 
 pub not_not : (b : Bool) → not (not b) ≡ b
 not_not true = refl

@@ -23,13 +23,13 @@ use Rattle.uu_questions.specs.Assembly.{is_line_of, is_range_of, is_range_of_lin
 
 -- ---- texts
 
-text_to : (a : List ℕ) → same_text a a ≡ true
+pub text_to : (a : List ℕ) → same_text a a ≡ true
 text_to a = (bytes_decides a a).1 refl
 
-text_from : (a b : List ℕ) → same_text a b ≡ true → a ≡ b
+pub text_from : (a b : List ℕ) → same_text a b ≡ true → a ≡ b
 text_from a b h = (bytes_decides a b).0 h
 
-not_true : (t : Bool) → (t ≡ true → ⊥) → t ≡ false
+pub not_true : (t : Bool) → (t ≡ true → ⊥) → t ≡ false
 not_true false h = refl
 not_true true h = absurd (h refl)
 

@@ -2,7 +2,6 @@
 use Rattle.std.proofs.Common.{◌≡◌, ◌<◌, ◌+◌, ℕ, zero, suc, pos, Bool, true, false, not, cond, leb, ◌&&◌, ◌||◌, max, List, [], ◌∷◌, ◌++◌, length, take, map, get_or, AllPairs, All, Option, Some, None, refl, ap, sym, subst, ◌∙◌, arith, append-nil, append_assoc, Ordering, Less, Equal, Greater, nat_cmp, IsPermutation}
 use Rattle.std.specs.List.{list_any, AllByRecursion}
 use Rattle.std.specs.Cmp.{IsTotalOrder, ranked}
-use Rattle.std.specs.Cmp.Lexicographic.{bytes_decides}
 use Rattle.std.specs.Ordering.{is_eq, is_gt, ordering_then, MatchOrdering}
 use Rattle.std.proofs.lemmas.Cmp.{nat_cmp_total, then_total}
 use Rattle.std.proofs.lemmas.Bool.Decides.{nat_tests}
@@ -23,8 +22,8 @@ use Rattle.uu_times.specs.declared.moment.Moment.{Moment}
 use Rattle.uu_core.specs.declared.job.JobHead.{JobHead}
 use Rattle.uu_core.specs.declared.due.Due.{Due}
 use Rattle.uu_core.specs.declared.system.SystemRow.{SystemRow}
-use Rattle.uu_core.specs.State.{State, IsWellFormed, same_text, is_system, head_of}
-use Rattle.uu_core.specs.Due.{limit_now, is_within, may_be_called, goes_before, due_of, is_listed, walk, with_next, AreInOrder, AreDue}
+use Rattle.uu_core.specs.State.{State, IsWellFormed, same_text, head_of}
+use Rattle.uu_core.specs.Due.{is_within, may_be_called, goes_before, due_of, is_listed, walk, with_next, AreInOrder, AreDue}
 use Rattle.uu_schema.specs.Schema.{site, jobs}
 use Rattle.uu_schema.specs.Keyed.{columns}
 use Rattle.uu_schema.specs.Held.{job_places}
@@ -34,10 +33,11 @@ use Rattle.uu_questions.specs.Listing.{by_rank}
 use Rattle.uu_questions.specs.Dues.{IsLeft, Offers, due_cells}
 use Rattle.uu_questions.specs.Walks.{Took}
 use Rattle.uu_questions.specs.Texts.{due_jobs_text}
-use Rattle.uu_questions.proofs.Meanings.{at_places, by_places, due_jobs_means}
-use Rattle.uu_questions.proofs.Typed.{typed_sorted}
-use Rattle.uu_questions.proofs.InTables.{all_pass}
-use Rattle.uu_questions.proofs.Known.{numbered, int_cmp-nat}
+use Rattle.uu_rows.proofs.Meanings.{at_places, by_places}
+use Rattle.uu_questions.proofs.Meanings.{due_jobs_means}
+use Rattle.uu_rows.proofs.Typed.{typed_sorted}
+use Rattle.uu_rows.proofs.InTables.{all_pass}
+use Rattle.uu_rows.proofs.Comparing.{numbered, int_cmp-nat}
 use Rattle.uu_questions.proofs.Listed.{apart, numbers_rise}
 
 -- ---- the greater of two limits
@@ -46,35 +46,23 @@ abbrev pub with_limit : Option ℕ → ℕ → ℕ
 with_limit None lowest = lowest
 with_limit (Some other) lowest = max lowest other
 
+pub or-false : (b : Bool) → b || false ≡ b
+or-false true = refl
+or-false false = refl
+
 pub any_push : {X : Type 0} (p : X → Bool) (xs : List X) (x : X) → list_any p (xs ++ x ∷ []) ≡ list_any p xs || p x
 any_push p [] x = or-false (p x)
-  where
-    or-false : (b : Bool) → b || false ≡ b
-    or-false true = refl
-    or-false false = refl
 any_push p (y ∷ xs) x = ap (λ b. p y || b) (any_push p xs x) ∙ or-assoc (p y) _ _
   where
     or-assoc : (a b c : Bool) → a || (b || c) ≡ (a || b) || c
     or-assoc true b c = refl
     or-assoc false b c = refl
 
-within_max : (a b grade : ℕ) → is_within (Some (max a b)) grade ≡ is_within (Some b) grade || leb grade a
-within_max a b grade = grind (arith, nat_tests)
-
-pub same_is : (a b : List ℕ) → same_text a b ≡ true → a ≡ b
-same_is a b = (bytes_decides a b).0
-
-pub limits_more : (rows : List SystemRow) (i : ℕ) (d : SystemRow) (at : Moment) (name : List ℕ) (grade : ℕ) → i < length rows
-    → may_be_called (take (i + 1) rows) at name grade ≡ may_be_called (take i rows) at name grade || (is_system name (get_or rows i d) && is_within (limit_now (get_or rows i d) at) grade)
-limits_more rows i d at name grade h =
-    ap (λ t. may_be_called t at name grade) (take_more rows i d h) ∙ any_push (λ row. is_system name row && is_within (limit_now row at) grade) (take i rows) (get_or rows i d)
+pub any_more : {X : Type 0} (p : X → Bool) (xs : List X) (i : ℕ) (d : X) → i < length xs → list_any p (take (i + 1) xs) ≡ list_any p (take i xs) || p (get_or xs i d)
+any_more p xs i d h = ap (list_any p) (take_more xs i d h) ∙ any_push p (take i xs) (get_or xs i d)
 
 pub lowered : (old new : Option ℕ) (lowest now : ℕ) (same : Bool) (grade : ℕ) (found : Option ℕ) → new ≡ cond same (Some now) old → (same ≡ true → found ≡ old) → now ≡ with_limit found lowest → is_within new grade ≡ (is_within old grade || (same && leb grade lowest))
-lowered old new lowest now false grade found e f g = ap (λ o. is_within o grade) e ∙ or-false (is_within old grade)
-  where
-    or-false : (b : Bool) → b ≡ b || false
-    or-false true = refl
-    or-false false = refl
+lowered old new lowest now false grade found e f g = ap (λ o. is_within o grade) e ∙ sym (or-false (is_within old grade))
 lowered old new lowest now true grade found e f g =
     ap (λ o. is_within o grade) e ∙ ap (λ n. leb grade n) (g ∙ ap (λ o. with_limit o lowest) (f refl)) ∙ by-old old
   where
@@ -82,35 +70,26 @@ lowered old new lowest now true grade found e f g =
     by-old None = refl
     by-old (Some other) = grind (arith, nat_tests)
 
--- a system that may not be called adds nothing
-pub not_more : (a b : Bool) (limit : Option ℕ) (grade : ℕ) → limit ≡ None → (a || (b && is_within limit grade)) ≡ a
-not_more a b limit grade e = ap (λ o. a || (b && is_within o grade)) e ∙ closed a b
-  where
-    closed : (a b : Bool) → (a || (b && false)) ≡ a
-    closed true b = refl
-    closed false true = refl
-    closed false false = refl
-
 -- ---- one job more
 
--- the system of a job that is listed is free no more
-pub left_after : (may : Bool) (dues : List Due) (due : Due) (name : List ℕ) (grade : ℕ) (old new : Option ℕ) → is_within old grade ≡ (may && not (is_listed dues name)) → new ≡ cond (same_text due.system name) None old
-    → is_within new grade ≡ (may && not (is_listed (dues ++ due ∷ []) name))
-left_after may dues due name grade old new h e =
-    ap (λ o. is_within o grade) e ∙ by-same (same_text due.system name) ∙ ap (λ b. may && not b) (sym (any_push (λ (d : Due). same_text d.system name) dues due))
+-- what is let go is free no more
+pub let_go : (may gone same : Bool) (grade : ℕ) (old new : Option ℕ) → is_within old grade ≡ (may && not gone) → new ≡ cond same None old → is_within new grade ≡ (may && not (gone || same))
+let_go may gone same grade old new h e = ap (λ o. is_within o grade) e ∙ by-same same
   where
     never : (a b : Bool) → a && not (b || true) ≡ false
     never true true = refl
     never true false = refl
     never false b = refl
 
-    or-false : (b : Bool) → b ≡ b || false
-    or-false true = refl
-    or-false false = refl
+    by-same : (t : Bool) → is_within (cond t None old) grade ≡ (may && not (gone || t))
+    by-same true = sym (never may gone)
+    by-same false = h ∙ ap (λ b. may && not b) (sym (or-false gone))
 
-    by-same : (t : Bool) → is_within (cond t None old) grade ≡ (may && not (is_listed dues name || t))
-    by-same true = sym (never may (is_listed dues name))
-    by-same false = h ∙ ap (λ b. may && not b) (or-false (is_listed dues name))
+-- so is the system of a job that is listed
+pub left_after : (may : Bool) (dues : List Due) (due : Due) (name : List ℕ) (grade : ℕ) (old new : Option ℕ) → is_within old grade ≡ (may && not (is_listed dues name)) → new ≡ cond (same_text due.system name) None old
+    → is_within new grade ≡ (may && not (is_listed (dues ++ due ∷ []) name))
+left_after may dues due name grade old new h e =
+    let_go may (is_listed dues name) (same_text due.system name) grade old new h e ∙ ap (λ b. may && not b) (sym (any_push (λ (d : Due). same_text d.system name) dues due))
 
 -- ---- the whole walk
 

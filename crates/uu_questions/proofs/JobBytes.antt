@@ -12,10 +12,11 @@ use Rattle.sqlite_keyed.proofs.ListLemmas.{filter_none, all_weaker}
 use Rattle.uu_core.specs.declared.job.JobHead.{JobHead}
 use Rattle.uu_core.specs.State.{State, Job, IsWellFormed, head_of, job_at, is_job}
 use Rattle.uu_tables.specs.Tables.{Piece, tables_of, pieces_of, piece_count}
+use Rattle.uu_check.proofs.Cuts.{pieces_from}
 use Rattle.uu_questions.specs.Listing.{handed_out, whole}
 use Rattle.uu_questions.proofs.InOrder.{ascending_pairs}
 use Rattle.uu_questions.proofs.Listed.{is_piece_of}
-use Rattle.uu_questions.proofs.Rising.{pieces_from, as_pieces}
+use Rattle.uu_questions.proofs.Rising.{as_pieces}
 
 abbrev bytes_of : List Piece → List ℕ
 bytes_of ps = flat_map (λ (p : Piece). p.bytes) ps

@@ -1,17 +1,14 @@
 -- What the answers of the questions before a command say of the state.
-use Rattle.std.proofs.Common.{◌≡◌, ℕ, pos, List, [], ◌∷◌, Bool, true, false, not, ◌||◌, ◌==◌, nat_eq, length, map, filter, refl, sym, ap, subst, ◌∙◌, arith, Less, Equal, Greater, Ordering, int_cmp, nat_cmp, ◌<◌, Option, option_map, slice_get, take}
-use Rattle.std.specs.Prelude.{◌<ℤ◌, find, IfSome}
+use Rattle.std.proofs.Common.{◌≡◌, ℕ, pos, List, [], ◌∷◌, Bool, true, false, not, ◌||◌, ◌==◌, nat_eq, length, map, filter, refl, ap, subst, ◌∙◌, arith, Less, ◌<◌, Option, option_map, slice_get, take}
+use Rattle.std.specs.Prelude.{find, IfSome}
 use Rattle.std.proofs.lemmas.Option.{slice_get-map}
 use Rattle.std.specs.List.{list_any, list_all}
-use Rattle.std.specs.Ordering.{is_eq, int_eq, MatchOrdering}
-use Rattle.std.specs.Cmp.{ranked, nat_cmp_is, int_cmp_is, unsigned_tied}
 use Rattle.std.specs.List.Sorted.{IsPermutation}
-use Rattle.std.proofs.lemmas.Int.{ints}
 use Rattle.std.proofs.lemmas.Bool.Decides.{nat_tests}
 use Rattle.std.proofs.lemmas.List.{length-map}
 use Rattle.std.proofs.lemmas.List.Sorted.{length_permutation}
 use Rattle.std.proofs.lemmas.Map.Text.{is_eq-slice_cmp}
-use Rattle.sqlite.specs.declared.types.Value.TheVariants.{Null, Int, Text}
+use Rattle.sqlite.specs.declared.types.Value.TheVariants.{Int, Text}
 use Rattle.sqlite.specs.Order.{Row}
 use Rattle.sqlite.specs.Tree.{IsAscending}
 use Rattle.sqlite.specs.Term.{eval_all, holds}
@@ -37,39 +34,14 @@ use Rattle.uu_schema.specs.Held.{system_places, job_places}
 use Rattle.uu_schema.specs.Cells.{system_cells, job_cells}
 use Rattle.uu_questions.specs.Answers.{IsOf}
 use Rattle.uu_questions.specs.Texts.{next_text, known_text, waiting_text, head_text}
-use Rattle.uu_questions.proofs.Meanings.{at_places, by_places, is_first, next_means, known_means, waiting_means, head_means}
-use Rattle.uu_questions.proofs.Typed.{typed_moved, typed_only}
-use Rattle.uu_questions.specs.Readable.{IsHead}
+use Rattle.uu_rows.proofs.Meanings.{at_places, by_places, is_first}
+use Rattle.uu_questions.proofs.Meanings.{next_means, known_means, waiting_means, head_means}
+use Rattle.uu_rows.proofs.Comparing.{beside, numbered, int_cmp-nat, below_is, int_eq-nat}
+use Rattle.uu_rows.proofs.Typed.{typed_moved, typed_only}
+use Rattle.uu_rows.specs.Readable.{IsHead}
 use Rattle.uu_questions.proofs.InOrder.{ascending_pairs}
-use Rattle.uu_questions.proofs.Back.{same_one, head_back, head_returns}
+use Rattle.uu_rows.proofs.Back.{same_one, head_back, head_returns}
 use Rattle.uu_questions.proofs.OfState.{heads_good, found_good, found_mapped}
-
--- ---- rows as a query sees them, from their columns alone
-
--- where the rowid is not shown
-abbrev pub beside : Row → Row
-beside c = Null ∷ c
-
--- where the first column is the rowid
-abbrev pub numbered : Row → Row
-numbered (v ∷ c) = v ∷ Null ∷ c
-numbered [] = []
-
--- ---- comparisons
-
-compared : (a b : ℕ) (o : Ordering) → MatchOrdering o (a < b) (a ≡ b) (b < a) → MatchOrdering o (pos a <ℤ pos b) (pos a ≡ pos b) (pos b <ℤ pos a)
-compared a b Less h = omega (arith, ints, h)
-compared a b Equal h = ap pos h
-compared a b Greater h = omega (arith, ints, h)
-
-pub int_cmp-nat : (a b : ℕ) → int_cmp (pos a) (pos b) ≡ nat_cmp a b
-int_cmp-nat a b = sym (int_cmp_is (pos a) (pos b) (nat_cmp a b) (compared a b (nat_cmp a b) (ranked a b (nat_cmp a b) refl)))
-
-pub below_is : (a b : ℕ) → a < b → nat_cmp a b ≡ Less
-below_is a b h = sym (nat_cmp_is a b Less h)
-
-pub int_eq-nat : (a b : ℕ) → int_eq (pos a) (pos b) ≡ (a == b)
-int_eq-nat a b = ap is_eq (int_cmp-nat a b) ∙ unsigned_tied a b
 
 -- ---- the next number
 
@@ -86,7 +58,7 @@ next_rows old new s rows of h =
 
 -- ---- a system
 
-any_mapped : {A B : Type 0} (p : B → Bool) (f : A → B) (xs : List A) → list_any p (map f xs) ≡ list_any (λ x. p (f x)) xs
+pub any_mapped : {A B : Type 0} (p : B → Bool) (f : A → B) (xs : List A) → list_any p (map f xs) ≡ list_any (λ x. p (f x)) xs
 any_mapped p f [] = refl
 any_mapped p f (x ∷ xs) = ap (λ b. p (f x) || b) (any_mapped p f xs)
 

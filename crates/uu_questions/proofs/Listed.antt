@@ -38,15 +38,16 @@ use Rattle.uu_schema.specs.Cells.{job_cells, piece_cells, entry_cells}
 use Rattle.uu_core.specs.declared.filter.Filter.{Filter}
 use Rattle.uu_questions.specs.Answers.{IsOf}
 use Rattle.uu_questions.specs.Listing.{is_wanted, fits, by_rank, listed, sought}
-use Rattle.uu_questions.specs.Order.{piece_cmp, entry_cmp}
-use Rattle.uu_questions.specs.Readable.{IsHead}
+use Rattle.uu_rows.specs.Order.{piece_cmp, entry_cmp}
+use Rattle.uu_rows.specs.Readable.{IsHead}
 use Rattle.uu_questions.specs.Texts.{jobs_text, pieces_text, entry_text}
-use Rattle.uu_questions.proofs.Meanings.{at_places, by_places, fit_terms, jobs_means, pieces_means, entry_means}
-use Rattle.uu_questions.proofs.Known.{beside, numbered, int_cmp-nat, int_eq-nat, below_is}
-use Rattle.uu_questions.proofs.Typed.{typed_sorted, typed_only}
-use Rattle.uu_questions.proofs.InTables.{entries_are}
+use Rattle.uu_rows.proofs.Meanings.{at_places, by_places}
+use Rattle.uu_questions.proofs.Meanings.{fit_terms, jobs_means, pieces_means, entry_means}
+use Rattle.uu_rows.proofs.Comparing.{beside, numbered, int_cmp-nat, int_eq-nat, below_is}
+use Rattle.uu_rows.proofs.Typed.{typed_sorted, typed_only}
+use Rattle.uu_rows.proofs.InTables.{entries_are}
 use Rattle.uu_questions.proofs.InOrder.{ascending_pairs}
-use Rattle.uu_questions.proofs.Back.{same_all, same_one, head_back, head_returns, entry_back, entry_returns}
+use Rattle.uu_rows.proofs.Back.{same_all, same_one, head_back, head_returns, entry_back, entry_returns}
 use Rattle.uu_questions.proofs.OfState.{heads_good, found_mapped}
 use Rattle.uu_questions.proofs.Rising.{pieces_rise}
 

@@ -18,18 +18,20 @@ use Rattle.uu_tables.specs.Tables.{tables_of, system_columns}
 use Rattle.uu_schema.specs.Cells.{system_cells, line_cells, range_cells}
 use Rattle.uu_questions.specs.Answers.{IsOf}
 use Rattle.uu_questions.specs.Assembly.{systems_from}
-use Rattle.uu_questions.specs.Order.{system_cmp}
-use Rattle.uu_questions.specs.Texts.{system_text, systems_text, lines_of_text, lines_text, ranges_of_text, ranges_text}
-use Rattle.uu_questions.proofs.Meanings.{system_means, systems_means, lines_of_means, lines_means, ranges_of_means, ranges_means}
-use Rattle.uu_questions.proofs.Back.{system_back, system_returns, line_back, line_returns, range_back, range_returns}
+use Rattle.uu_rows.specs.Order.{system_cmp}
+use Rattle.uu_questions.specs.Texts.{system_text, lines_of_text, ranges_of_text}
+use Rattle.uu_rows.specs.Texts.{systems_text, lines_text, ranges_text}
+use Rattle.uu_questions.proofs.Meanings.{system_means, lines_of_means, ranges_of_means}
+use Rattle.uu_rows.proofs.Meanings.{systems_means, lines_means, ranges_means}
+use Rattle.uu_rows.proofs.Back.{system_back, system_returns, line_back, line_returns, range_back, range_returns}
 use Rattle.uu_questions.proofs.Rising.{names_rise, lines_rise, ranges_rise}
-use Rattle.uu_questions.proofs.InTables.{systems_are, lines_are, ranges_are, all_pass}
+use Rattle.uu_rows.proofs.InTables.{systems_are, lines_are, ranges_are, all_pass}
 use Rattle.uu_questions.proofs.Assembled.{assembled, lines_filtered, ranges_filtered}
 
 pub same_cells : {X : Type 0} (cells : X → Row) (back : Row → X) → ((x : X) → back (cells x) ≡ x) → (xs ys : List X) → map cells xs ≡ map cells ys → xs ≡ ys
 same_cells cells back returns xs ys same = sym (map_back cells back returns xs) ∙ ap (map back) same ∙ map_back cells back returns ys
 
-systems_rise : (s : State) → IsWellFormed s → IsAscending (λ x y. system_cmp x y ≡ Less) (map system_columns s.systems)
+pub systems_rise : (s : State) → IsWellFormed s → IsAscending (λ x y. system_cmp x y ≡ Less) (map system_columns s.systems)
 systems_rise s good = ascending-map (λ x y. system_cmp x y ≡ Less) system_columns s.systems (names_rise s good)
 
 module _ (old new : db.State) (s : State) (rows : List Row) (of : IsOf s old) where

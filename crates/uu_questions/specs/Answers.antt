@@ -1,7 +1,5 @@
 -- What a question of the spool does.
-use Rattle.std.specs.Prelude.{◌≡◌, ℕ, List, Vec, Result, IfOk, OnOk}
-use Rattle.std.specs.declared.alloc.Global.{Global}
-use Rattle.sqlite.specs.Order.{Row}
+use Rattle.std.specs.Prelude.{◌≡◌, Result, IfOk, OnOk}
 use Rattle.sqlite.specs.declared.error.Error.{Error}
 use Rattle.sqlite.specs.State as db
 use Rattle.sqlite.specs.Effect.{Database}
@@ -26,9 +24,3 @@ pub record Answers {T : Type 0} (IsAnswer : State → T → Type 0) (old new : d
   pub told : Told site old new r
   pub same : db.HasCleanDisk new → Stands site old.now → OnOk r (new.now ≡ old.now)
   pub exact : db.HasCleanDisk new → (s : State) → IsOf s old → IfOk r (IsAnswer s)
-
--- What a question in SQL shows are the rows that its text means, and it changes nothing.
-pub record Shows (text : List ℕ) (params : Row) (old new : db.State) (r : Result (Vec Row Global) Error) : Type 0 where
-  pub told : Told site old new r
-  pub same : db.HasCleanDisk new → Stands site old.now → OnOk r (new.now ≡ old.now)
-  pub rows : db.HasCleanDisk new → IfOk r (λ rows. db.Shown text params old new rows.items)

@@ -1,9 +1,27 @@
--- A walk along the jobs that lists each system once, for the first job for which it may be called.
-use Rattle.std.specs.Prelude.{◌≡◌, ℕ, pos, Bool, not, ◌&&◌, if◌then◌else◌, List, [], ◌∷◌, ◌++◌, Option}
+-- Which systems may be called, and a walk along the jobs that lists each of them once, for the first job for which it may be called.
+use Rattle.std.specs.Prelude.{◌≡◌, ℕ, pos, nat_le, Bool, not, ◌&&◌, if◌then◌else◌, List, [], ◌∷◌, ◌++◌, Option}
+use Rattle.std.specs.List.{list_any}
 use Rattle.sqlite.specs.declared.types.Value.TheVariants.{Int, Text}
 use Rattle.sqlite.specs.Order.{Row}
 use Rattle.uu_core.specs.declared.due.Due.{Due}
+use Rattle.uu_core.specs.declared.system.SystemRow.{SystemRow}
+use Rattle.uu_core.specs.State.{is_system, same_text}
+use Rattle.uu_core.specs.Waiting.{limit_at}
 use Rattle.uu_core.specs.Due.{is_within, is_listed}
+use Rattle.uu_tables.specs.declared.rows.LineColumns.{LineColumns}
+use Rattle.uu_tables.specs.declared.rows.SystemColumns.{SystemColumns}
+
+-- one of the lines is of the system of this name, and of this grade or a lower one
+abbrev pub lets_through : List LineColumns → List ℕ → ℕ → Bool
+lets_through lines name grade = list_any (λ line. same_text line.system name && nat_le grade line.grade) lines
+
+-- the windows of one of the lines of the system of this name hold the minute, and its grade is this one or a lower one
+abbrev pub is_open : List SystemRow → ℕ → List ℕ → ℕ → Bool
+is_open rows week name grade = list_any (λ row. is_system name row && is_within (limit_at row.def.lines week) grade) rows
+
+-- a system of this name is one of them
+abbrev pub is_among : List SystemColumns → List ℕ → Bool
+is_among systems name = list_any (λ system. same_text system.name name) systems
 
 -- what is asked of a job
 abbrev pub due_cells : Due → Row

@@ -1,11 +1,6 @@
-pub mod Values
-pub mod Readable
 pub mod Texts
 pub mod Answers
 pub mod Assembly
-pub mod Order
-pub mod Taking
-pub mod Version
 pub mod Listing
 pub mod Walks
 pub mod Dues

@@ -2,9 +2,9 @@
 ghost use Rattle.std.specs.Prelude.{◌≡◌, false, pos, [], ◌∷◌};
 ghost use Rattle.sqlite.specs.Held.{state};
 ghost use Rattle.sqlite.specs.declared.types.Value.TheVariants.{Int, Text};
-ghost use Rattle.uu_questions.specs.Texts.{next_text, known_text, waiting_text, head_text, system_text, lines_of_text, ranges_of_text, version_text, spool_text, systems_text, lines_text, ranges_text, heads_text, sizes_text, entries_text, system_rowids_text, line_rowids_text, range_rowids_text, job_rowids_text, piece_rowids_text, entry_rowids_text, entry_text, jobs_text};
+ghost use Rattle.uu_questions.specs.Texts.{next_text, known_text, waiting_text, head_text, system_text, lines_of_text, ranges_of_text, entry_text, jobs_text, held_text, open_text};
 ghost use Rattle.uu_questions.specs.Listing.{sought};
-ghost use Rattle.uu_questions.specs.Answers.{Shows};
+ghost use Rattle.uu_rows.specs.Shows.{Shows};
 
 use sqlite::{Alter, Connection, Error, Row, params};
 use uu_core::Filter;
@@ -86,133 +86,6 @@ pub(crate) fn ask_ranges_of<S: Alter>(
     )
 }
 
-/// The version in the row of `id` 1, if it is there.
-pub(crate) fn ask_version<S: Alter>(conn: &mut Connection<S>) -> Result<Vec<Row>, Error>
-    ensures idle { conn.old.in_transaction ≡ false → conn.new.in_transaction ≡ false }
-    ensures shows { Shows version_text [] (state S.Store conn.old) (state S.Store conn.new) result }
-{
-    conn.query_all("SELECT version FROM spool WHERE id = 1", &[])
-}
-
-/// What the table `spool` holds.
-pub(crate) fn ask_spool<S: Alter>(conn: &mut Connection<S>) -> Result<Vec<Row>, Error>
-    ensures idle { conn.old.in_transaction ≡ false → conn.new.in_transaction ≡ false }
-    ensures shows { Shows spool_text [] (state S.Store conn.old) (state S.Store conn.new) result }
-{
-    conn.query_all("SELECT id, version, next FROM spool", &[])
-}
-
-/// All systems, by name.
-pub(crate) fn ask_systems<S: Alter>(conn: &mut Connection<S>) -> Result<Vec<Row>, Error>
-    ensures idle { conn.old.in_transaction ≡ false → conn.new.in_transaction ≡ false }
-    ensures shows { Shows systems_text [] (state S.Store conn.old) (state S.Store conn.new) result }
-{
-    conn.query_all(
-        "SELECT name, max_retries, last, failures, wait, outcome, why FROM systems ORDER BY name",
-        &[],
-    )
-}
-
-/// All lines, by system and place.
-pub(crate) fn ask_lines<S: Alter>(conn: &mut Connection<S>) -> Result<Vec<Row>, Error>
-    ensures idle { conn.old.in_transaction ≡ false → conn.new.in_transaction ≡ false }
-    ensures shows { Shows lines_text [] (state S.Store conn.old) (state S.Store conn.new) result }
-{
-    conn.query_all(
-        "SELECT system, place, rank, retry FROM lines ORDER BY system, place",
-        &[],
-    )
-}
-
-/// All ranges, by system, place and first minute.
-pub(crate) fn ask_ranges<S: Alter>(conn: &mut Connection<S>) -> Result<Vec<Row>, Error>
-    ensures idle { conn.old.in_transaction ≡ false → conn.new.in_transaction ≡ false }
-    ensures shows { Shows ranges_text [] (state S.Store conn.old) (state S.Store conn.new) result }
-{
-    conn.query_all(
-        "SELECT system, place, low, high FROM ranges ORDER BY system, place, low",
-        &[],
-    )
-}
-
-/// The heads of all jobs, by number.
-pub(crate) fn ask_heads<S: Alter>(conn: &mut Connection<S>) -> Result<Vec<Row>, Error>
-    ensures idle { conn.old.in_transaction ≡ false → conn.new.in_transaction ≡ false }
-    ensures shows { Shows heads_text [] (state S.Store conn.old) (state S.Store conn.new) result }
-{
-    conn.query_all(
-        "SELECT number, system, rank, user, kind, queued, first_word, second_word, size FROM jobs ORDER BY number",
-        &[],
-    )
-}
-
-/// The number of bytes of every piece, by job and place.
-pub(crate) fn ask_sizes<S: Alter>(conn: &mut Connection<S>) -> Result<Vec<Row>, Error>
-    ensures idle { conn.old.in_transaction ≡ false → conn.new.in_transaction ≡ false }
-    ensures shows { Shows sizes_text [] (state S.Store conn.old) (state S.Store conn.new) result }
-{
-    conn.query_all(
-        "SELECT job, place, length(bytes) FROM pieces ORDER BY job, place",
-        &[],
-    )
-}
-
-/// All map entries, by host.
-pub(crate) fn ask_entries<S: Alter>(conn: &mut Connection<S>) -> Result<Vec<Row>, Error>
-    ensures idle { conn.old.in_transaction ≡ false → conn.new.in_transaction ≡ false }
-    ensures shows { Shows entries_text [] (state S.Store conn.old) (state S.Store conn.new) result }
-{
-    conn.query_all("SELECT host, bytes FROM entries ORDER BY host", &[])
-}
-
-/// The rowids of the systems, from the least on.
-pub(crate) fn ask_system_rowids<S: Alter>(conn: &mut Connection<S>) -> Result<Vec<Row>, Error>
-    ensures idle { conn.old.in_transaction ≡ false → conn.new.in_transaction ≡ false }
-    ensures shows { Shows system_rowids_text [] (state S.Store conn.old) (state S.Store conn.new) result }
-{
-    conn.query_all("SELECT rowid FROM systems ORDER BY rowid", &[])
-}
-
-/// The rowids of the lines, from the least on.
-pub(crate) fn ask_line_rowids<S: Alter>(conn: &mut Connection<S>) -> Result<Vec<Row>, Error>
-    ensures idle { conn.old.in_transaction ≡ false → conn.new.in_transaction ≡ false }
-    ensures shows { Shows line_rowids_text [] (state S.Store conn.old) (state S.Store conn.new) result }
-{
-    conn.query_all("SELECT rowid FROM lines ORDER BY rowid", &[])
-}
-
-/// The rowids of the ranges, from the least on.
-pub(crate) fn ask_range_rowids<S: Alter>(conn: &mut Connection<S>) -> Result<Vec<Row>, Error>
-    ensures idle { conn.old.in_transaction ≡ false → conn.new.in_transaction ≡ false }
-    ensures shows { Shows range_rowids_text [] (state S.Store conn.old) (state S.Store conn.new) result }
-{
-    conn.query_all("SELECT rowid FROM ranges ORDER BY rowid", &[])
-}
-
-/// The rowids of the jobs, from the least on.
-pub(crate) fn ask_job_rowids<S: Alter>(conn: &mut Connection<S>) -> Result<Vec<Row>, Error>
-    ensures idle { conn.old.in_transaction ≡ false → conn.new.in_transaction ≡ false }
-    ensures shows { Shows job_rowids_text [] (state S.Store conn.old) (state S.Store conn.new) result }
-{
-    conn.query_all("SELECT rowid FROM jobs ORDER BY rowid", &[])
-}
-
-/// The rowids of the pieces, from the least on.
-pub(crate) fn ask_piece_rowids<S: Alter>(conn: &mut Connection<S>) -> Result<Vec<Row>, Error>
-    ensures idle { conn.old.in_transaction ≡ false → conn.new.in_transaction ≡ false }
-    ensures shows { Shows piece_rowids_text [] (state S.Store conn.old) (state S.Store conn.new) result }
-{
-    conn.query_all("SELECT rowid FROM pieces ORDER BY rowid", &[])
-}
-
-/// The rowids of the map entries, from the least on.
-pub(crate) fn ask_entry_rowids<S: Alter>(conn: &mut Connection<S>) -> Result<Vec<Row>, Error>
-    ensures idle { conn.old.in_transaction ≡ false → conn.new.in_transaction ≡ false }
-    ensures shows { Shows entry_rowids_text [] (state S.Store conn.old) (state S.Store conn.new) result }
-{
-    conn.query_all("SELECT rowid FROM entries ORDER BY rowid", &[])
-}
-
 /// The map entry of this host, if it is there.
 pub(crate) fn ask_entry<S: Alter>(conn: &mut Connection<S>, name: &str) -> Result<Vec<Row>, Error>
     ensures idle { conn.old.in_transaction ≡ false → conn.new.in_transaction ≡ false }
@@ -237,5 +110,27 @@ pub(crate) fn ask_jobs<S: Alter>(
     conn.query_all(
         "SELECT number, system, rank, user, kind, queued, first_word, second_word, size FROM jobs WHERE (?1 IS NULL OR system = ?1) AND (?2 IS NULL OR user = ?2) ORDER BY rank, number",
         params![system, user],
+    )
+}
+
+/// The systems that are left alone at this second, by name.
+pub(crate) fn ask_held<S: Alter>(conn: &mut Connection<S>, second: u32) -> Result<Vec<Row>, Error>
+    ensures idle { conn.old.in_transaction ≡ false → conn.new.in_transaction ≡ false }
+    ensures shows { Shows held_text (Int (pos second) ∷ []) (state S.Store conn.old) (state S.Store conn.new) result }
+{
+    conn.query_all(
+        "SELECT name, max_retries, last, failures, wait, outcome, why FROM systems WHERE last <= ?1 AND ?1 < last + wait ORDER BY name",
+        params![second],
+    )
+}
+
+/// The lines whose windows hold this minute of the week.
+pub(crate) fn ask_open<S: Alter>(conn: &mut Connection<S>, week: u32) -> Result<Vec<Row>, Error>
+    ensures idle { conn.old.in_transaction ≡ false → conn.new.in_transaction ≡ false }
+    ensures shows { Shows open_text (Int (pos week) ∷ []) (state S.Store conn.old) (state S.Store conn.new) result }
+{
+    conn.query_all(
+        "SELECT lines.system, lines.place, lines.rank, lines.retry FROM lines JOIN ranges ON ranges.system = lines.system AND ranges.place = lines.place WHERE ranges.low <= ?1 AND ?1 <= ranges.high",
+        params![week],
     )
 }

@@ -3,12 +3,12 @@ ghost use Rattle.std.specs.Prelude.{◌≡◌, ◌≤◌, List, Bool, map, IfOk,
 ghost use Rattle.std.specs.List.{prefix_len};
 ghost use Rattle.uu_questions.specs.Assembly.{is_line_of, is_range_of, is_range_of_line, own, others, range_of, line_from, lines_from, call_from, system_from, systems_from, outcome_from};
 
-use crate::fault::RowFault;
 use std::alloc::{AllocError, Global};
 use uu_core::{CallState, Outcome, SystemRow};
-use uu_names::Word;
+use uu_names::{Listed, Word};
+use uu_rows::RowFault;
 use uu_tables::{CallColumns, LineColumns, RangeColumns, SystemColumns};
-use uu_times::{Line, Lines, SystemDef, Windows};
+use uu_times::{Line, SystemDef, Windows};
 
 /// A row to which rows of another table belong.
 pub(crate) trait Owner<C> {
@@ -87,7 +87,7 @@ fn lines_of(
     alloc: Global,
     lines: &[LineColumns],
     ranges: &[RangeColumns],
-) -> Result<Lines, RowFault>
+) -> Result<Listed<Line>, RowFault>
     ensures { IfOk result (λ made. made ≡ lines_from lines.now ranges.now) }
 {
     let mut made = Vec::new(alloc);
@@ -101,7 +101,7 @@ fn lines_of(
         })?;
         rest = others;
     }
-    Ok(Lines::new(made))
+    Ok(Listed::from_vec(made))
 }
 
 fn outcome_of(call: &CallColumns) -> Result<Outcome, RowFault>

@@ -1,5 +1,5 @@
-// Which systems may be called now, and for which job.
-ghost use Rattle.std.specs.Prelude.{◌≡◌, ◌&&◌, ◌||◌, false, ℕ, Bool, List, map, IfOk, OnOk, nat_le, max};
+// For which job each system is called now.
+ghost use Rattle.std.specs.Prelude.{◌≡◌, false, ℕ, Bool, List, map, IfOk, OnOk};
 ghost use Rattle.std.specs.Ordering.{nat_cmp};
 ghost use Rattle.std.specs.Cmp.Lexicographic.{slice_cmp};
 ghost use Rattle.std.specs.BTreeMap.{get};
@@ -7,90 +7,21 @@ ghost use Rattle.sqlite.specs.Held.{state};
 ghost use Rattle.uu_times.specs.declared.moment.Moment.{Moment};
 ghost use Rattle.uu_core.specs.declared.due.Due.{Due};
 ghost use Rattle.uu_core.specs.declared.system.SystemRow.{SystemRow};
-ghost use Rattle.uu_core.specs.State.{same_text, head_of};
-ghost use Rattle.uu_core.specs.Due.{is_within, limit_now, may_be_called, AreDue};
+ghost use Rattle.uu_core.specs.State.{head_of};
+ghost use Rattle.uu_core.specs.Due.{is_within, may_be_called, AreDue};
 ghost use Rattle.uu_questions.specs.Answers.{Answers};
 ghost use Rattle.uu_questions.specs.Dues.{IsLeft, Offers, due_cells, with_due};
 
-use crate::fault::RowFault;
-use crate::systems::all_systems;
-use crate::values::{grade_in, name_in, number_in};
+use crate::callable::callable;
 use crate::walk::{RowTaker, walk_rows};
 use sqlite::{Alter, Connection, Error, Row};
 use std::alloc::{AllocError, Global};
 use std::collections::BTreeMap;
+use uu_core::Due;
 use uu_core::laws::{walks_go_job_by_job, walks_list_what_is_due};
-use uu_core::{Due, SystemRow, held, limit};
 use uu_names::{Grade, SiteName};
+use uu_rows::{RowFault, grade_in, name_in, number_in};
 use uu_times::Moment;
-
-// ---- the systems that may be called
-
-fn lower_of(grade: Grade, other: Grade) -> Grade
-    ensures { result ≡ max grade other }
-{
-    grade.max(other)
-}
-
-// The system may be called for this grade too, and for each that is higher.
-fn lower(
-    limits: &mut BTreeMap<SiteName, Grade>,
-    name: &SiteName,
-    lowest: Grade,
-) -> Result<(), AllocError>
-    ensures { OnOk result ((other : List ℕ) (grade : ℕ) → is_within (get (slice_cmp nat_cmp) limits.new other) grade
-        ≡ (is_within (get (slice_cmp nat_cmp) limits.old other) grade || (same_text name.now other && nat_le grade lowest))) }
-{
-    let lowest = match limits.get(name).copied() {
-        Some(other) => lower_of(lowest, other),
-        None => lowest,
-    };
-    limits.insert(name.clone()?, lowest)?;
-    Ok(())
-}
-
-fn limit_now(row: &SystemRow, at: &Moment) -> Option<Grade>
-    ensures { result ≡ limit_now row.now at.now }
-{
-    if held(&row.call, at) {
-        None
-    } else {
-        limit(row.def.lines.as_slice(), at.week)
-    }
-}
-
-// The lowest grade for which each system may be called now; a system that may not be called isn't there.
-fn limits(
-    alloc: Global,
-    rows: &[SystemRow],
-    at: &Moment,
-) -> Result<BTreeMap<SiteName, Grade>, AllocError>
-    ensures { IfOk result (λ limits. (name : List ℕ) (grade : ℕ) → is_within (get (slice_cmp nat_cmp) limits name) grade ≡ may_be_called rows.now at.now name grade) }
-{
-    let mut limits = BTreeMap::new(alloc);
-    for row in rows {
-        if let Some(lowest) = limit_now(row, at) {
-            lower(&mut limits, &row.def.name, lowest)?;
-        }
-    }
-    Ok(limits)
-}
-
-// The same of the systems that are known.
-fn callable<S: Alter>(
-    alloc: Global,
-    conn: &mut Connection<S>,
-    at: &Moment,
-) -> Result<BTreeMap<SiteName, Grade>, Error>
-    ensures idle { conn.old.in_transaction ≡ false → conn.new.in_transaction ≡ false }
-    ensures answers { Answers (λ s limits. (name : List ℕ) (grade : ℕ) → is_within (get (slice_cmp nat_cmp) limits name) grade ≡ may_be_called s.systems at.now name grade) (state S.Store conn.old) (state S.Store conn.new) result }
-{
-    let systems = all_systems(alloc, conn)?;
-    let limits = limits(alloc, &systems, at)?;
-    Ok(limits)
-}
-
-// ---- the walk along the jobs
 
 fn read_due(alloc: Global, row: &Row) -> Result<Due, RowFault>
     ensures { IfOk result (λ due. (other : Due) → row.now ≡ due_cells other → due ≡ other) }
@@ -183,8 +114,8 @@ fn due_within<S: Alter>(
 }
 
 /// The systems that may be called at this moment and have a job to be called for, each with the first of its jobs by grade and number
-/// whose grade is within its limit. They stand by grade and number of these jobs. The jobs are taken one at a time, without their
-/// bytes.
+/// whose grade is within its limit. They stand by grade and number of these jobs. Three questions are asked: which lines have windows
+/// that hold the minute, which systems are left alone, and the jobs, which are taken one at a time, without their bytes.
 pub fn systems_due<S: Alter>(
     alloc: Global,
     conn: &mut Connection<S>,

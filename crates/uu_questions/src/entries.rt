@@ -6,10 +6,10 @@ ghost use Rattle.uu_tables.specs.Tables.{entry_columns};
 ghost use Rattle.uu_questions.specs.Answers.{Answers};
 
 use crate::asks::ask_entry;
-use crate::reading::first_row;
 use sqlite::{Alter, Connection, Error};
 use std::alloc::Global;
 use uu_names::SiteName;
+use uu_rows::first_row;
 use uu_tables::EntryColumns;
 
 // The row of the map entry of this host, if it is there.

@@ -7,11 +7,11 @@ ghost use Rattle.uu_core.specs.Laws.{AreFound};
 ghost use Rattle.uu_questions.specs.Answers.{Answers};
 
 use crate::asks::{ask_head, ask_known, ask_next, ask_waiting};
-use crate::reading::first_row;
 use sqlite::{Alter, Connection, Error, Row};
 use std::alloc::Global;
 use uu_core::JobHead;
 use uu_names::SiteName;
+use uu_rows::first_row;
 
 /// Whether a system of this name is known.
 pub fn is_known<S: Alter>(conn: &mut Connection<S>, name: &SiteName) -> Result<bool, Error>

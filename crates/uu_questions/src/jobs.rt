@@ -10,12 +10,12 @@ ghost use Rattle.uu_questions.specs.Listing.{listed, handed_out, whole};
 
 use crate::asks::ask_jobs;
 use crate::facts::head_of_job;
-use crate::reading::read_rows;
 use crate::walk::{RowTaker, walk_rows};
 use sqlite::types::ValueRef;
 use sqlite::{Alter, Connection, Error, Row, params};
 use std::alloc::Global;
 use uu_core::{Filter, JobHead};
+use uu_rows::read_rows;
 
 /// The jobs that fit, without their bytes, by (rank, number).
 pub fn list_jobs<S: Alter>(

@@ -6,13 +6,13 @@ ghost use Rattle.uu_tables.specs.Tables.{tables_of, system_columns};
 ghost use Rattle.uu_questions.specs.Answers.{Answers};
 ghost use Rattle.uu_questions.specs.Assembly.{systems_from};
 
-use crate::asks::{ask_lines, ask_lines_of, ask_ranges, ask_ranges_of, ask_system, ask_systems};
+use crate::asks::{ask_lines_of, ask_ranges_of, ask_system};
 use crate::assembly::systems_of;
-use crate::reading::read_rows;
 use sqlite::{Alter, Connection, Error};
 use std::alloc::Global;
 use uu_core::SystemRow;
 use uu_names::SiteName;
+use uu_rows::{ask_lines, ask_ranges, ask_systems, read_rows};
 use uu_tables::{LineColumns, RangeColumns, SystemColumns};
 
 // The row of the system of this name, if it is there.

@@ -3,7 +3,7 @@ use Rattle.sqlite.specs.declared.types.Value.TheVariants.{Int}
 use Rattle.sqlite.specs.Held.{state}
 use Rattle.uu_questions.specs.Texts.{head_text}
 use Rattle.uu_questions.proofs.Meanings.{head_means}
-use Rattle.uu_questions.proofs.Showing.{shows}
+use Rattle.uu_rows.proofs.Showing.{shows}
 use Rattle.uu_questions.proofs.asks.ask_head.Goals as goal
 
 pub returns-clause-shows : goal.returns-clause-shows

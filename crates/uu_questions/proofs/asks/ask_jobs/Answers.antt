@@ -3,10 +3,10 @@ use Rattle.sqlite.specs.Held.{state}
 use Rattle.sqlite.specs.Values.{bound}
 use Rattle.uu_questions.specs.Texts.{jobs_text}
 use Rattle.uu_questions.specs.Listing.{sought}
-use Rattle.uu_questions.specs.Answers.{Shows}
+use Rattle.uu_rows.specs.Shows.{Shows}
 use Rattle.uu_questions.proofs.Meanings.{jobs_means}
 use Rattle.uu_questions.proofs.Listed.{wanted_bound}
-use Rattle.uu_questions.proofs.Showing.{shows}
+use Rattle.uu_rows.proofs.Showing.{shows}
 use Rattle.uu_questions.proofs.asks.ask_jobs.Goals as goal
 
 pub returns-clause-shows : goal.returns-clause-shows

@@ -2,7 +2,7 @@ use Rattle.std.proofs.Common.{[]}
 use Rattle.sqlite.specs.Held.{state}
 use Rattle.uu_questions.specs.Texts.{next_text}
 use Rattle.uu_questions.proofs.Meanings.{next_means}
-use Rattle.uu_questions.proofs.Showing.{shows}
+use Rattle.uu_rows.proofs.Showing.{shows}
 use Rattle.uu_questions.proofs.asks.ask_next.Goals as goal
 
 pub returns-clause-shows : goal.returns-clause-shows

@@ -3,7 +3,7 @@ use Rattle.sqlite.specs.declared.types.Value.TheVariants.{Text}
 use Rattle.sqlite.specs.Held.{state}
 use Rattle.uu_questions.specs.Texts.{waiting_text}
 use Rattle.uu_questions.proofs.Meanings.{waiting_means}
-use Rattle.uu_questions.proofs.Showing.{shows}
+use Rattle.uu_rows.proofs.Showing.{shows}
 use Rattle.uu_questions.proofs.asks.ask_waiting.Goals as goal
 
 pub returns-clause-shows : goal.returns-clause-shows

@@ -1,8 +1,9 @@
-use Rattle.std.proofs.Common.{Ok, ap, sym, subst, map, ◌∙◌}
+use Rattle.std.proofs.Common.{Ok, sym, subst, map, ◌∙◌}
 use Rattle.uu_core.specs.State.{head_of}
 use Rattle.uu_core.specs.Laws.{AreFound}
 use Rattle.sqlite.specs.Held.{state}
-use Rattle.uu_questions.proofs.Answering.{then_answers, answers_as, answered, answer_in, none_ok, none_known}
+use Rattle.uu_questions.proofs.Answering.{then_answers, answer_in, none_ok, none_known}
+use Rattle.uu_rows.proofs.Showing.{answered}
 use Rattle.uu_questions.proofs.before.known_and_found.Goals as goal
 
 pub returns-clause-answers : goal.returns-clause-answers

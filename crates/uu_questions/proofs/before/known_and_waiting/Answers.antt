@@ -1,6 +1,7 @@
-use Rattle.std.proofs.Common.{Ok, ap, ◌∙◌}
+use Rattle.std.proofs.Common.{Ok, ◌∙◌}
 use Rattle.sqlite.specs.Held.{state}
-use Rattle.uu_questions.proofs.Answering.{then_answers, answers_as, answered, answer_in, none_ok, none_known}
+use Rattle.uu_questions.proofs.Answering.{then_answers, answer_in, none_ok, none_known}
+use Rattle.uu_rows.proofs.Showing.{answered}
 use Rattle.uu_questions.proofs.before.known_and_waiting.Goals as goal
 
 pub returns-clause-answers : goal.returns-clause-answers

@@ -5,7 +5,7 @@ use Rattle.sqlite.specs.Held.{state}
 use Rattle.uu_questions.specs.declared.due.DueWalk.{DueWalk}
 use Rattle.uu_questions.specs.Texts.{due_jobs_text}
 use Rattle.uu_questions.proofs.Meanings.{due_jobs_means}
-use Rattle.uu_questions.proofs.Answering.{answered}
+use Rattle.uu_rows.proofs.Showing.{answered}
 use Rattle.uu_questions.proofs.WalkLemmas.{walk_answers}
 use Rattle.uu_questions.proofs.DueRows.{Walked, are_due}
 use Rattle.uu_questions.proofs.due.due_within.Goals as goal

@@ -4,7 +4,8 @@ use Rattle.sqlite.specs.Held.{state}
 use Rattle.uu_core.specs.State.{entry_at}
 use Rattle.uu_tables.specs.Tables.{entry_columns}
 use Rattle.uu_questions.specs.Texts.{entry_text}
-use Rattle.uu_questions.proofs.Answering.{then_read, answered}
+use Rattle.uu_questions.proofs.Answering.{then_read}
+use Rattle.uu_rows.proofs.Showing.{answered}
 use Rattle.uu_questions.proofs.Listed.{entry_found}
 use Rattle.uu_questions.proofs.entries.row_of_host.Goals as goal
 

@@ -1,7 +1,8 @@
 use Rattle.std.proofs.Common.{ap, ◌∙◌, slice_get}
 use Rattle.sqlite.specs.Held.{state}
 use Rattle.uu_questions.specs.Texts.{head_text}
-use Rattle.uu_questions.proofs.Answering.{then_read, answered, both_ok}
+use Rattle.uu_questions.proofs.Answering.{then_read, both_ok}
+use Rattle.uu_rows.proofs.Showing.{answered}
 use Rattle.uu_questions.proofs.Known.{head_found}
 use Rattle.uu_questions.proofs.facts.head_of_job.Goals as goal
 

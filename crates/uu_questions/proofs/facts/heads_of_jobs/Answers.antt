@@ -2,7 +2,8 @@ use Rattle.std.proofs.Common.{◌≡◌, map, Ok, refl, sym, ap, ◌∙◌, arit
 use Rattle.std.proofs.lemmas.List.{take_all}
 use Rattle.sqlite.specs.Held.{state}
 use Rattle.uu_core.specs.State.{head_of}
-use Rattle.uu_questions.proofs.Answering.{then_answers, answers_as, answered, answer_in, none_known}
+use Rattle.uu_questions.proofs.Answering.{then_answers, answers_as, answer_in, none_known}
+use Rattle.uu_rows.proofs.Showing.{answered}
 use Rattle.uu_questions.proofs.OfState.{found_mapped}
 use Rattle.uu_questions.proofs.FoundJobs.{found_in, found_more, are_found, one_or_none}
 use Rattle.uu_questions.proofs.facts.heads_of_jobs.Goals as goal

@@ -2,7 +2,8 @@ use Rattle.std.proofs.Common.{ap, ◌∙◌, nat_eq, not}
 use Rattle.sqlite.specs.Held.{state}
 use Rattle.uu_core.specs.State.{is_waiting}
 use Rattle.uu_questions.specs.Texts.{waiting_text}
-use Rattle.uu_questions.proofs.Answering.{then_read, answered, not_not}
+use Rattle.uu_questions.proofs.Answering.{then_read, not_not}
+use Rattle.uu_rows.proofs.Showing.{answered}
 use Rattle.uu_questions.proofs.Known.{waiting_rows}
 use Rattle.uu_questions.proofs.facts.is_waiting.Goals as goal
 

@@ -2,7 +2,8 @@ use Rattle.std.proofs.Common.{◌∙◌}
 use Rattle.std.proofs.lemmas.Result.{IfOk-weaker}
 use Rattle.sqlite.specs.Held.{state}
 use Rattle.uu_questions.specs.Texts.{next_text}
-use Rattle.uu_questions.proofs.Answering.{then_read, answered}
+use Rattle.uu_questions.proofs.Answering.{then_read}
+use Rattle.uu_rows.proofs.Showing.{answered}
 use Rattle.uu_questions.proofs.Known.{next_rows}
 use Rattle.uu_questions.proofs.facts.next_number.Goals as goal
 

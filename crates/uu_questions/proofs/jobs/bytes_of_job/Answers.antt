@@ -4,7 +4,7 @@ use Rattle.sqlite.specs.Held.{state}
 use Rattle.uu_questions.specs.declared.jobs.Joined.{Joined}
 use Rattle.uu_questions.specs.Texts.{pieces_text}
 use Rattle.uu_questions.proofs.Meanings.{pieces_means}
-use Rattle.uu_questions.proofs.Answering.{answered}
+use Rattle.uu_rows.proofs.Showing.{answered}
 use Rattle.uu_questions.proofs.WalkLemmas.{walk_answers}
 use Rattle.uu_questions.proofs.PieceRows.{Joins, pieces_joined}
 use Rattle.uu_questions.proofs.jobs.bytes_of_job.Goals as goal

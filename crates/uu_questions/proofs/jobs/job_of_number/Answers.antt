@@ -1,6 +1,7 @@
 use Rattle.std.proofs.Common.{Ok, Some, None, sym, ◌∙◌}
 use Rattle.sqlite.specs.Held.{state}
-use Rattle.uu_questions.proofs.Answering.{then_answers, answers_as, answered, answer_in, none_ok, none_known}
+use Rattle.uu_questions.proofs.Answering.{then_answers, answers_as, answer_in, none_ok, none_known}
+use Rattle.uu_rows.proofs.Showing.{answered}
 use Rattle.uu_questions.proofs.JobBytes.{handed, not_there}
 use Rattle.uu_questions.proofs.jobs.job_of_number.Goals as goal
 

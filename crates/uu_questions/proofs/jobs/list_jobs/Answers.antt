@@ -1,6 +1,7 @@
 use Rattle.sqlite.specs.Held.{state}
 use Rattle.uu_questions.specs.Texts.{jobs_text}
-use Rattle.uu_questions.proofs.Answering.{then_read, answered, both_ok}
+use Rattle.uu_questions.proofs.Answering.{then_read, both_ok}
+use Rattle.uu_rows.proofs.Showing.{answered}
 use Rattle.uu_questions.proofs.Listed.{jobs_listed}
 use Rattle.uu_questions.proofs.jobs.list_jobs.Goals as goal
 

@@ -1,7 +1,8 @@
 use Rattle.std.proofs.lemmas.Result.{IfOk-weaker}
 use Rattle.sqlite.specs.Held.{state}
-use Rattle.uu_questions.specs.Texts.{ranges_text}
-use Rattle.uu_questions.proofs.Answering.{then_read, answered}
+use Rattle.uu_rows.specs.Texts.{ranges_text}
+use Rattle.uu_questions.proofs.Answering.{then_read}
+use Rattle.uu_rows.proofs.Showing.{answered}
 use Rattle.uu_questions.proofs.SystemRows.{ranges_found}
 use Rattle.uu_questions.proofs.systems.all_ranges.Goals as goal
 

@@ -1,7 +1,8 @@
 use Rattle.std.proofs.Common.{◌∙◌}
 use Rattle.std.proofs.lemmas.Result.{IfOk-weaker}
 use Rattle.sqlite.specs.Held.{state}
-use Rattle.uu_questions.proofs.Answering.{then_answers, answered, answer_in}
+use Rattle.uu_questions.proofs.Answering.{then_answers, answer_in}
+use Rattle.uu_rows.proofs.Showing.{answered}
 use Rattle.uu_questions.proofs.SystemRows.{all_together}
 use Rattle.uu_questions.proofs.systems.all_systems.Goals as goal
 

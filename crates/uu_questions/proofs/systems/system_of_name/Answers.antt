@@ -1,6 +1,7 @@
 use Rattle.std.proofs.Common.{Ok, ◌∙◌}
 use Rattle.sqlite.specs.Held.{state}
-use Rattle.uu_questions.proofs.Answering.{then_answers, answered, answer_in}
+use Rattle.uu_questions.proofs.Answering.{then_answers, answer_in}
+use Rattle.uu_rows.proofs.Showing.{answered}
 use Rattle.uu_questions.proofs.SystemRows.{one_together}
 use Rattle.uu_questions.proofs.systems.system_of_name.Goals as goal
 

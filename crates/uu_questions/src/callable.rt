@@ -1,0 +1,140 @@
+// Which systems may be called now, and for which grades.
+ghost use Rattle.std.specs.Prelude.{◌≡◌, ◌&&◌, ◌||◌, not, false, ℕ, List, map, filter, IfOk, OnOk, nat_le, max};
+ghost use Rattle.std.specs.Ordering.{nat_cmp};
+ghost use Rattle.std.specs.Cmp.Lexicographic.{slice_cmp};
+ghost use Rattle.std.specs.BTreeMap.{get};
+ghost use Rattle.sqlite.specs.Held.{state};
+ghost use Rattle.uu_core.specs.State.{same_text};
+ghost use Rattle.uu_core.specs.Waiting.{is_held};
+ghost use Rattle.uu_core.specs.Due.{is_within, may_be_called};
+ghost use Rattle.uu_tables.specs.Tables.{system_columns};
+ghost use Rattle.uu_questions.specs.Answers.{Answers};
+ghost use Rattle.uu_questions.specs.Dues.{lets_through, is_open, is_among};
+
+use crate::asks::{ask_held, ask_open};
+use sqlite::{Alter, Connection, Error};
+use std::alloc::{AllocError, Global};
+use std::collections::BTreeMap;
+use uu_names::{Grade, SiteName};
+use uu_rows::read_rows;
+use uu_tables::{LineColumns, SystemColumns};
+use uu_times::Moment;
+
+// ---- what the tables say
+
+// A moment's second, which 32 bits hold.
+fn second_of(at: &Moment) -> u32
+    ensures { result ≡ at.now.second }
+{
+    at.second as u32
+}
+
+// The minute of the week.
+fn week_of(at: &Moment) -> u32
+    ensures { result ≡ at.now.week }
+{
+    u32::from(at.week)
+}
+
+// The systems that are left alone now.
+fn held_systems<S: Alter>(
+    alloc: Global,
+    conn: &mut Connection<S>,
+    at: &Moment,
+) -> Result<Vec<SystemColumns>, Error>
+    ensures idle { conn.old.in_transaction ≡ false → conn.new.in_transaction ≡ false }
+    ensures answers { Answers (λ s held. held.items ≡ map system_columns (filter (λ row. is_held row.call at.now.second) s.systems)) (state S.Store conn.old) (state S.Store conn.new) result }
+{
+    let rows = ask_held(conn, second_of(at))?;
+    read_rows(alloc, &rows)
+}
+
+// The lines whose windows hold the minute of the week.
+fn open_lines<S: Alter>(
+    alloc: Global,
+    conn: &mut Connection<S>,
+    at: &Moment,
+) -> Result<Vec<LineColumns>, Error>
+    ensures idle { conn.old.in_transaction ≡ false → conn.new.in_transaction ≡ false }
+    ensures answers { Answers (λ s lines. (name : List ℕ) (grade : ℕ) → lets_through lines.items name grade ≡ is_open s.systems at.now.week name grade) (state S.Store conn.old) (state S.Store conn.new) result }
+{
+    let rows = ask_open(conn, week_of(at))?;
+    read_rows(alloc, &rows)
+}
+
+// ---- limits
+
+fn lower_of(grade: Grade, other: Grade) -> Grade
+    ensures { result ≡ max grade other }
+{
+    grade.max(other)
+}
+
+// The system may be called for this grade too, and for each that is higher.
+fn lower(
+    limits: &mut BTreeMap<SiteName, Grade>,
+    name: &SiteName,
+    lowest: Grade,
+) -> Result<(), AllocError>
+    ensures { OnOk result ((other : List ℕ) (grade : ℕ) → is_within (get (slice_cmp nat_cmp) limits.new other) grade
+        ≡ (is_within (get (slice_cmp nat_cmp) limits.old other) grade || (same_text name.now other && nat_le grade lowest))) }
+{
+    let lowest = match limits.get(name).copied() {
+        Some(other) => lower_of(lowest, other),
+        None => lowest,
+    };
+    limits.insert(name.clone()?, lowest)?;
+    Ok(())
+}
+
+// The lowest grade of the lines of each system.
+fn lowest_of(alloc: Global, lines: &[LineColumns]) -> Result<BTreeMap<SiteName, Grade>, AllocError>
+    ensures { IfOk result (λ limits. (name : List ℕ) (grade : ℕ) → is_within (get (slice_cmp nat_cmp) limits name) grade ≡ lets_through lines.now name grade) }
+{
+    let mut limits = BTreeMap::new(alloc);
+    for line in lines {
+        lower(&mut limits, &line.system, line.grade)?;
+    }
+    Ok(limits)
+}
+
+// The same without these systems.
+fn without(
+    limits: BTreeMap<SiteName, Grade>,
+    systems: &[SystemColumns],
+) -> BTreeMap<SiteName, Grade>
+    ensures { (name : List ℕ) (grade : ℕ) → is_within (get (slice_cmp nat_cmp) result name) grade ≡ (is_within (get (slice_cmp nat_cmp) limits name) grade && not (is_among systems.now name)) }
+{
+    let mut left = limits;
+    for system in systems {
+        left.remove(&system.name);
+    }
+    left
+}
+
+// The lowest grade for which each system may be called; a system that may not be called isn't there.
+fn limits(
+    alloc: Global,
+    lines: &[LineColumns],
+    held: &[SystemColumns],
+) -> Result<BTreeMap<SiteName, Grade>, Error>
+    ensures { IfOk result (λ limits. (name : List ℕ) (grade : ℕ) → is_within (get (slice_cmp nat_cmp) limits name) grade ≡ (lets_through lines.now name grade && not (is_among held.now name))) }
+{
+    let lowest = lowest_of(alloc, lines)?;
+    Ok(without(lowest, held))
+}
+
+/// The lowest grade for which each system may be called at this moment; a system that may not be called isn't there. Only the
+/// lines whose windows hold the minute and the systems that are left alone are read.
+pub(crate) fn callable<S: Alter>(
+    alloc: Global,
+    conn: &mut Connection<S>,
+    at: &Moment,
+) -> Result<BTreeMap<SiteName, Grade>, Error>
+    ensures idle { conn.old.in_transaction ≡ false → conn.new.in_transaction ≡ false }
+    ensures answers { Answers (λ s limits. (name : List ℕ) (grade : ℕ) → is_within (get (slice_cmp nat_cmp) limits name) grade ≡ may_be_called s.systems at.now name grade) (state S.Store conn.old) (state S.Store conn.new) result }
+{
+    let lines = open_lines(alloc, conn, at)?;
+    let held = held_systems(alloc, conn, at)?;
+    limits(alloc, &lines, &held)
+}

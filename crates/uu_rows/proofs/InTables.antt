@@ -1,0 +1,91 @@
+-- The ordered question on a table shows the rows of any list that rises and that the table holds.
+use Rattle.std.proofs.Common.{◌≡◌, ℕ, pos, List, [], ◌∷◌, Bool, true, map, filter, refl, ap, ◌∙◌, Less}
+use Rattle.std.specs.List.{list_all}
+use Rattle.std.specs.List.Sorted.{IsPermutation}
+use Rattle.sqlite.specs.Order.{Row}
+use Rattle.sqlite.specs.Tree.{IsAscending}
+use Rattle.sqlite.specs.Term.{Term, holds}
+use Rattle.sqlite.specs.Query.{Query, Output, output, output_cmp}
+use Rattle.sqlite.specs.State as db
+use Rattle.sqlite_keyed.proofs.ListLemmas.{ascending_weaker, ascending-filter}
+use Rattle.sqlite_typed.proofs.TestLemmas.{then_key, last_key}
+use Rattle.sqlite_value.proofs.OrderLemmas.{value_cmp-Int, value_cmp-Text}
+use Rattle.uu_sql.proofs.Asks.{Means, ordered}
+use Rattle.uu_sql.proofs.Answers.{answer_of}
+use Rattle.uu_core.specs.declared.job.JobHead.{JobHead}
+use Rattle.uu_tables.specs.declared.rows.SystemColumns.{SystemColumns}
+use Rattle.uu_tables.specs.declared.rows.LineColumns.{LineColumns}
+use Rattle.uu_tables.specs.declared.rows.RangeColumns.{RangeColumns}
+use Rattle.uu_tables.specs.declared.rows.EntryColumns.{EntryColumns}
+use Rattle.uu_schema.specs.Schema.{site, systems, lines, ranges, jobs, entries}
+use Rattle.uu_schema.specs.Keyed.{columns}
+use Rattle.uu_schema.specs.Held.{system_places, line_places, range_places, job_places, entry_places}
+use Rattle.uu_schema.specs.Cells.{system_cells, line_cells, range_cells, job_cells, entry_cells}
+use Rattle.uu_rows.specs.Order.{system_cmp, line_cmp, range_cmp, head_cmp, entry_cmp}
+use Rattle.uu_rows.proofs.Meanings.{at_places, by_places}
+use Rattle.uu_rows.proofs.Typed.{typed_only}
+use Rattle.uu_rows.proofs.Comparing.{beside, numbered, int_cmp-nat}
+
+pub all_pass : {X : Type 0} (xs : List X) → filter (λ x. true) xs ≡ xs
+all_pass [] = refl
+all_pass (x ∷ xs) = ap (λ l. x ∷ l) (all_pass xs)
+
+module _ (old new : db.State) (rows : List Row) (has : old.now.schema ≡ site) (text : List ℕ) (names : List (List ℕ)) (params : Row) (tests : List Term) (h : db.Shown text params old new rows) where
+  abbrev passes : Row → Bool
+  passes r = list_all (holds (params ∷ r ∷ [])) tests
+
+  -- the test sees no more of a row than its columns
+  abbrev pub Sees : List ℕ → (Row → Row) → Type 0
+  Sees places see = (r : Row) → passes (see (columns places r)) ≡ passes r
+
+  pub systems_are : Means site text (ordered systems.tree tests (at_places system_places) (by_places (1 ∷ []))) names → Sees system_places beside → (xs : List SystemColumns)
+      → IsPermutation (map system_cells xs) (map (columns system_places) (old.now.trees systems.tree)) → IsAscending (λ x y. system_cmp x y ≡ Less) xs
+      → (p : SystemColumns → Bool) → ((x : SystemColumns) → passes (beside (system_cells x)) ≡ p x) → rows ≡ map system_cells (filter p xs)
+  systems_are means sees xs held rise p picks =
+      let q : Query = ordered systems.tree tests (at_places system_places) (by_places (1 ∷ [])) in
+      let out : SystemColumns → Output = λ x. output q (params ∷ beside (system_cells x) ∷ []) in
+      let less : (x y : SystemColumns) → system_cmp x y ≡ Less → output_cmp q (out x) (out y) ≡ Less = λ x y k. last_key (value_cmp-Text x.name y.name) ∙ k in
+      typed_only systems.tree tests (at_places system_places) (by_places (1 ∷ [])) old.now.trees params rows refl (answer_of site text q names params old new means has rows h) (columns system_places) beside sees (λ r. refl)
+      system_cells xs held p picks (ascending-filter _ p xs (ascending_weaker _ (λ x y. output_cmp q (out x) (out y) ≡ Less) less xs rise))
+
+  pub lines_are : Means site text (ordered lines.tree tests (at_places line_places) (by_places (1 ∷ 2 ∷ []))) names → Sees line_places beside → (xs : List LineColumns)
+      → IsPermutation (map line_cells xs) (map (columns line_places) (old.now.trees lines.tree)) → IsAscending (λ x y. line_cmp x y ≡ Less) xs
+      → (p : LineColumns → Bool) → ((x : LineColumns) → passes (beside (line_cells x)) ≡ p x) → rows ≡ map line_cells (filter p xs)
+  lines_are means sees xs held rise p picks =
+      let q : Query = ordered lines.tree tests (at_places line_places) (by_places (1 ∷ 2 ∷ [])) in
+      let out : LineColumns → Output = λ x. output q (params ∷ beside (line_cells x) ∷ []) in
+      let less : (x y : LineColumns) → line_cmp x y ≡ Less → output_cmp q (out x) (out y) ≡ Less = λ x y k.
+      then_key (value_cmp-Text x.system y.system) (last_key (value_cmp-Int (pos x.place) (pos y.place)) ∙ int_cmp-nat x.place y.place) ∙ k in
+      typed_only lines.tree tests (at_places line_places) (by_places (1 ∷ 2 ∷ [])) old.now.trees params rows refl (answer_of site text q names params old new means has rows h) (columns line_places) beside sees (λ r. refl)
+      line_cells xs held p picks (ascending-filter _ p xs (ascending_weaker _ (λ x y. output_cmp q (out x) (out y) ≡ Less) less xs rise))
+
+  pub ranges_are : Means site text (ordered ranges.tree tests (at_places range_places) (by_places (1 ∷ 2 ∷ 3 ∷ []))) names → Sees range_places beside → (xs : List RangeColumns)
+      → IsPermutation (map range_cells xs) (map (columns range_places) (old.now.trees ranges.tree)) → IsAscending (λ x y. range_cmp x y ≡ Less) xs
+      → (p : RangeColumns → Bool) → ((x : RangeColumns) → passes (beside (range_cells x)) ≡ p x) → rows ≡ map range_cells (filter p xs)
+  ranges_are means sees xs held rise p picks =
+      let q : Query = ordered ranges.tree tests (at_places range_places) (by_places (1 ∷ 2 ∷ 3 ∷ [])) in
+      let out : RangeColumns → Output = λ x. output q (params ∷ beside (range_cells x) ∷ []) in
+      let less : (x y : RangeColumns) → range_cmp x y ≡ Less → output_cmp q (out x) (out y) ≡ Less = λ x y k.
+      then_key (value_cmp-Text x.system y.system) (then_key (value_cmp-Int (pos x.place) (pos y.place) ∙ int_cmp-nat x.place y.place) (last_key (value_cmp-Int (pos x.low) (pos y.low)) ∙ int_cmp-nat x.low y.low)) ∙ k in
+      typed_only ranges.tree tests (at_places range_places) (by_places (1 ∷ 2 ∷ 3 ∷ [])) old.now.trees params rows refl (answer_of site text q names params old new means has rows h) (columns range_places) beside sees (λ r. refl)
+      range_cells xs held p picks (ascending-filter _ p xs (ascending_weaker _ (λ x y. output_cmp q (out x) (out y) ≡ Less) less xs rise))
+
+  pub heads_are : Means site text (ordered jobs.tree tests (at_places job_places) (by_places (0 ∷ []))) names → Sees job_places numbered → (xs : List JobHead)
+      → IsPermutation (map job_cells xs) (map (columns job_places) (old.now.trees jobs.tree)) → IsAscending (λ x y. head_cmp x y ≡ Less) xs
+      → (p : JobHead → Bool) → ((x : JobHead) → passes (numbered (job_cells x)) ≡ p x) → rows ≡ map job_cells (filter p xs)
+  heads_are means sees xs held rise p picks =
+      let q : Query = ordered jobs.tree tests (at_places job_places) (by_places (0 ∷ [])) in
+      let out : JobHead → Output = λ x. output q (params ∷ numbered (job_cells x) ∷ []) in
+      let less : (x y : JobHead) → head_cmp x y ≡ Less → output_cmp q (out x) (out y) ≡ Less = λ x y k. last_key (value_cmp-Int (pos x.number) (pos y.number)) ∙ int_cmp-nat x.number y.number ∙ k in
+      typed_only jobs.tree tests (at_places job_places) (by_places (0 ∷ [])) old.now.trees params rows refl (answer_of site text q names params old new means has rows h) (columns job_places) numbered sees (λ r. refl)
+      job_cells xs held p picks (ascending-filter _ p xs (ascending_weaker _ (λ x y. output_cmp q (out x) (out y) ≡ Less) less xs rise))
+
+  pub entries_are : Means site text (ordered entries.tree tests (at_places entry_places) (by_places (1 ∷ []))) names → Sees entry_places beside → (xs : List EntryColumns)
+      → IsPermutation (map entry_cells xs) (map (columns entry_places) (old.now.trees entries.tree)) → IsAscending (λ x y. entry_cmp x y ≡ Less) xs
+      → (p : EntryColumns → Bool) → ((x : EntryColumns) → passes (beside (entry_cells x)) ≡ p x) → rows ≡ map entry_cells (filter p xs)
+  entries_are means sees xs held rise p picks =
+      let q : Query = ordered entries.tree tests (at_places entry_places) (by_places (1 ∷ [])) in
+      let out : EntryColumns → Output = λ x. output q (params ∷ beside (entry_cells x) ∷ []) in
+      let less : (x y : EntryColumns) → entry_cmp x y ≡ Less → output_cmp q (out x) (out y) ≡ Less = λ x y k. last_key (value_cmp-Text x.host y.host) ∙ k in
+      typed_only entries.tree tests (at_places entry_places) (by_places (1 ∷ [])) old.now.trees params rows refl (answer_of site text q names params old new means has rows h) (columns entry_places) beside sees (λ r. refl)
+      entry_cells xs held p picks (ascending-filter _ p xs (ascending_weaker _ (λ x y. output_cmp q (out x) (out y) ≡ Less) less xs rise))

@@ -1,0 +1,11 @@
+pub mod Meanings
+pub mod Typed
+pub mod Columns
+pub mod Ascii
+pub mod Refused
+pub mod Words
+pub mod RowByRow
+pub mod Showing
+pub mod Back
+pub mod Comparing
+pub mod InTables

@@ -1,0 +1,52 @@
+-- What each text means under the schema.
+use Rattle.std.proofs.Common.{◌∷◌, [], refl, List, ℕ, pos, codes}
+use Rattle.sqlite.specs.declared.types.Value.TheVariants.{Int}
+use Rattle.sqlite.specs.Term.{Term, lit, col}
+use Rattle.sqlite_tied.specs.Compute.{everything}
+use Rattle.sqlite.specs.Listing.{understood}
+use Rattle.sqlite_value.specs.declared.keys.Key.{Key}
+use Rattle.uu_sql.specs.Layout.{equal_terms}
+use Rattle.uu_sql.proofs.Asks.{Means, ordered, up}
+use Rattle.uu_schema.specs.Schema.{site, systems, lines, ranges}
+use Rattle.uu_rows.specs.Texts.{systems_text, lines_text, ranges_text}
+
+-- the columns at these places, and an order by them
+abbrev pub at_places : List ℕ → List Term
+at_places [] = []
+at_places (n ∷ places) = col 1 n ∷ at_places places
+
+abbrev pub by_places : List ℕ → List (Term × Key)
+by_places [] = []
+by_places (n ∷ places) = up (col 1 n) ∷ by_places places
+
+-- the row of `id` 1
+abbrev pub is_first : Term
+is_first = equal_terms (col 1 0) (lit (Int (pos 1)))
+
+-- ---- the names of the columns
+
+abbrev pub head_names : List (List ℕ)
+head_names = codes "number" ∷ codes "system" ∷ codes "rank" ∷ codes "user" ∷ codes "kind" ∷ codes "queued" ∷ codes "first_word" ∷ codes "second_word" ∷ codes "size" ∷ []
+
+abbrev pub system_names : List (List ℕ)
+system_names = codes "name" ∷ codes "max_retries" ∷ codes "last" ∷ codes "failures" ∷ codes "wait" ∷ codes "outcome" ∷ codes "why" ∷ []
+
+abbrev pub line_names : List (List ℕ)
+line_names = codes "system" ∷ codes "place" ∷ codes "rank" ∷ codes "retry" ∷ []
+
+abbrev pub range_names : List (List ℕ)
+range_names = codes "system" ∷ codes "place" ∷ codes "low" ∷ codes "high" ∷ []
+
+-- ---- every row of a table
+
+pub systems_means : Means site systems_text (ordered systems.tree [] (at_places (1 ∷ 2 ∷ 3 ∷ 4 ∷ 5 ∷ 6 ∷ 7 ∷ [])) (by_places (1 ∷ []))) system_names
+unfolding understood everything
+systems_means = record { command = refl; plain = (refl, refl); listing = refl }
+
+pub lines_means : Means site lines_text (ordered lines.tree [] (at_places (1 ∷ 2 ∷ 3 ∷ 4 ∷ [])) (by_places (1 ∷ 2 ∷ []))) line_names
+unfolding understood everything
+lines_means = record { command = refl; plain = (refl, refl); listing = refl }
+
+pub ranges_means : Means site ranges_text (ordered ranges.tree [] (at_places (1 ∷ 2 ∷ 3 ∷ 4 ∷ [])) (by_places (1 ∷ 2 ∷ 3 ∷ []))) range_names
+unfolding understood everything
+ranges_means = record { command = refl; plain = (refl, refl); listing = refl }

@@ -1,0 +1,5 @@
+pub mod Values
+pub mod Readable
+pub mod Texts
+pub mod Shows
+pub mod Order

@@ -1,0 +1,11 @@
+-- The texts of the questions on every row of the systems, of their lines and of the ranges of these, in the order of their keys. (This project's choice.)
+use Rattle.std.specs.Prelude.{List, ℕ, codes}
+
+abbrev pub systems_text : List ℕ
+systems_text = codes "SELECT name, max_retries, last, failures, wait, outcome, why FROM systems ORDER BY name"
+
+abbrev pub lines_text : List ℕ
+lines_text = codes "SELECT system, place, rank, retry FROM lines ORDER BY system, place"
+
+abbrev pub ranges_text : List ℕ
+ranges_text = codes "SELECT system, place, low, high FROM ranges ORDER BY system, place, low"

@@ -1,0 +1,15 @@
+//! Rows of the spool's tables, read as typed rows: what each column has to hold, and the rows of a table in the order of its key.
+//! Want of memory is `RowFault::Memory`; a row that the tables allow and the format does not is `RowFault::Bad`.
+#![tactic(auto)]
+
+mod asks;
+mod fault;
+mod reading;
+mod rows;
+mod values;
+
+pub use asks::{ask_lines, ask_ranges, ask_systems};
+pub use fault::{RowFault, read_fault};
+pub use reading::{TypedRow, first_row, read_all, read_rows};
+pub use rows::has_width;
+pub use values::{grade_in, name_in, number_in};

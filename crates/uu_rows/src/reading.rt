@@ -1,0 +1,59 @@
+// Rows of a table as typed rows.
+ghost use Rattle.std.specs.Prelude.{◌≡◌, List, map, option_map, slice_get, IfOk, IfSome};
+ghost use Rattle.std.specs.List.{AllByRecursion};
+ghost use Rattle.sqlite.specs.Order.{Row};
+ghost use Rattle.uu_rows.specs.Values.{NotIf};
+
+use crate::fault::RowFault;
+use sqlite::{Error, Row};
+use std::alloc::Global;
+
+/// A typed row of a table.
+pub trait TypedRow: Drop {
+    /// The columns of its row.
+    ghost cells: { Self → Row };
+
+    /// Its values are those of their types, so that its row can be read.
+    ghost IsReadable: { Self → Type 0 };
+
+    /// The typed row that has these columns.
+    fn read(alloc: Global, row: &Row) -> Result<Self, RowFault>
+        ensures row { IfOk result (λ typed. row.now ≡ cells typed) }
+        ensures readable { IfOk result (λ typed. IsReadable typed) }
+        ensures bad { (typed : Self) → IsReadable typed → NotIf result (row.now ≡ cells typed) };
+}
+
+/// The typed rows that have the columns of these rows, in their order.
+pub fn read_all<T: TypedRow>(alloc: Global, rows: &[Row]) -> Result<Vec<T>, RowFault>
+    ensures rows { IfOk result (λ all. rows.now ≡ map T.cells all.items) }
+    ensures readable { IfOk result (λ all. AllByRecursion T.IsReadable all.items) }
+    ensures bad { (all : List T) → AllByRecursion T.IsReadable all → NotIf result (rows.now ≡ map T.cells all) }
+{
+    let mut all = Vec::new(alloc);
+    for row in rows {
+        all.push(T::read(alloc, row)?)?;
+    }
+    Ok(all)
+}
+
+/// The same, where a row that the format does not allow is an error of the database.
+pub fn read_rows<T: TypedRow>(alloc: Global, rows: &[Row]) -> Result<Vec<T>, Error>
+    ensures rows { IfOk result (λ all. rows.now ≡ map T.cells all.items) }
+    ensures readable { IfOk result (λ all. AllByRecursion T.IsReadable all.items) }
+{
+    read_all(alloc, rows).map_err(|fault| fault.as_error())
+}
+
+/// The first of the rows as a typed row, if there is one.
+pub fn first_row<T: TypedRow>(alloc: Global, rows: &[Row]) -> Result<Option<T>, Error>
+    ensures row { IfOk result (λ found. option_map T.cells found ≡ slice_get rows.now 0) }
+    ensures readable { IfOk result (λ found. IfSome found T.IsReadable) }
+{
+    match rows.first() {
+        None => Ok(None),
+        Some(row) => match T::read(alloc, row) {
+            Ok(typed) => Ok(Some(typed)),
+            Err(fault) => Err(fault.as_error()),
+        },
+    }
+}

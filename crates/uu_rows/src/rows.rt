@@ -1,0 +1,166 @@
+// Rows of each table, read from what a question shows of them.
+ghost use Rattle.std.specs.Prelude.{◌≡◌, ℕ, pos, [], ◌∷◌, length, IfOk};
+ghost use Rattle.sqlite.specs.declared.types.Value.TheVariants.{Int, Text};
+ghost use Rattle.sqlite.specs.Order.{column};
+ghost use Rattle.uu_schema.specs.Cells.{system_cells, line_cells, range_cells, job_cells, entry_cells, kind_number, first_word, second_word};
+ghost use Rattle.uu_rows.specs.Values.{NotIf, number_cell};
+ghost use Rattle.uu_rows.specs.Readable.{IsSystem, IsLine, IsRange, IsHead, IsSize, IsEntry, HasWords, size_cells};
+
+use crate::fault::RowFault;
+use crate::reading::TypedRow;
+use crate::values::{
+    arguments_in, bytes_in, grade_in, name_in, number_in, number_or_null_in, seconds_in, word_in,
+    word_or_null_in,
+};
+use sqlite::Row;
+use std::alloc::Global;
+use uu_core::{JobHead, Kind};
+use uu_names::Listed;
+use uu_tables::{CallColumns, EntryColumns, LineColumns, PieceSize, RangeColumns, SystemColumns};
+
+/// The row, if it has this many columns.
+pub fn has_width(row: &Row, width: usize) -> Result<(), RowFault>
+    ensures width { IfOk result (λ _. length row.now ≡ width) }
+    ensures bad { NotIf result (length row.now ≡ width) }
+{
+    if row.column_count() == width {
+        Ok(())
+    } else {
+        Err(RowFault::Bad)
+    }
+}
+
+impl TypedRow for SystemColumns {
+    ghost cells = { system_cells };
+
+    ghost IsReadable = { IsSystem };
+
+    fn read(alloc: Global, row: &Row) -> Result<SystemColumns, RowFault> {
+        has_width(row, 7)?;
+        Ok(SystemColumns {
+            name: name_in(alloc, row, 0)?,
+            max_retries: number_in(row, 1)?,
+            call: CallColumns {
+                last: number_in(row, 2)?,
+                failures: number_in(row, 3)?,
+                wait: number_in(row, 4)?,
+                outcome: number_in(row, 5)?,
+                why: word_or_null_in(alloc, row, 6)?,
+            },
+        })
+    }
+}
+
+impl TypedRow for LineColumns {
+    ghost cells = { line_cells };
+
+    ghost IsReadable = { IsLine };
+
+    fn read(alloc: Global, row: &Row) -> Result<LineColumns, RowFault> {
+        has_width(row, 4)?;
+        Ok(LineColumns {
+            system: name_in(alloc, row, 0)?,
+            place: number_in(row, 1)?,
+            grade: grade_in(row, 2)?,
+            retry: number_or_null_in(row, 3)?,
+        })
+    }
+}
+
+impl TypedRow for RangeColumns {
+    ghost cells = { range_cells };
+
+    ghost IsReadable = { IsRange };
+
+    fn read(alloc: Global, row: &Row) -> Result<RangeColumns, RowFault> {
+        has_width(row, 4)?;
+        Ok(RangeColumns {
+            system: name_in(alloc, row, 0)?,
+            place: number_in(row, 1)?,
+            low: number_in(row, 2)?,
+            high: number_in(row, 3)?,
+        })
+    }
+}
+
+impl TypedRow for PieceSize {
+    ghost cells = { size_cells };
+
+    ghost IsReadable = { IsSize };
+
+    fn read(_alloc: Global, row: &Row) -> Result<PieceSize, RowFault> {
+        has_width(row, 3)?;
+        Ok(PieceSize {
+            job: number_in(row, 0)?,
+            place: number_in(row, 1)?,
+            length: number_in(row, 2)?,
+        })
+    }
+}
+
+impl TypedRow for EntryColumns {
+    ghost cells = { entry_cells };
+
+    ghost IsReadable = { IsEntry };
+
+    fn read(alloc: Global, row: &Row) -> Result<EntryColumns, RowFault> {
+        has_width(row, 2)?;
+        Ok(EntryColumns {
+            host: name_in(alloc, row, 0)?,
+            bytes: Listed::from_vec(bytes_in(row, 1)?),
+        })
+    }
+}
+
+// The number by which a row names a job that sends a file, one that fetches a file, and one that runs a command.
+const SEND: u32 = 0;
+
+const REQUEST: u32 = 1;
+
+const EXECUTE: u32 = 2;
+
+// What the job is for.
+fn kind_in(alloc: Global, row: &Row) -> Result<Kind, RowFault>
+    ensures number { IfOk result (λ kind. column row.now 4 ≡ number_cell (kind_number kind)) }
+    ensures first { IfOk result (λ kind. column row.now 6 ≡ Text (first_word kind)) }
+    ensures second { IfOk result (λ kind. column row.now 7 ≡ Text (second_word kind)) }
+    ensures words { IfOk result HasWords }
+    ensures bad { (kind : _) → HasWords kind → column row.now 4 ≡ number_cell (kind_number kind) → column row.now 6 ≡ Text (first_word kind) → NotIf result (column row.now 7 ≡ Text (second_word kind)) }
+{
+    let number = number_in(row, 4)?;
+    let first = word_in(alloc, row, 6)?;
+    match number {
+        SEND => Ok(Kind::Send {
+            source: first,
+            target: word_in(alloc, row, 7)?,
+        }),
+        REQUEST => Ok(Kind::Request {
+            source: first,
+            target: word_in(alloc, row, 7)?,
+        }),
+        EXECUTE => Ok(Kind::Execute {
+            command: first,
+            arguments: arguments_in(alloc, row, 7)?,
+        }),
+        _ => Err(RowFault::Bad),
+    }
+}
+
+impl TypedRow for JobHead {
+    ghost cells = { job_cells };
+
+    ghost IsReadable = { IsHead };
+
+    fn read(alloc: Global, row: &Row) -> Result<JobHead, RowFault> {
+        has_width(row, 9)?;
+        Ok(JobHead {
+            number: number_in(row, 0)?,
+            system: name_in(alloc, row, 1)?,
+            grade: grade_in(row, 2)?,
+            user: word_in(alloc, row, 3)?,
+            kind: kind_in(alloc, row)?,
+            queued: seconds_in(row, 5)?,
+            size: number_in(row, 8)?,
+        })
+    }
+}

@@ -1,0 +1,69 @@
+-- What is taken of each table.
+use Rattle.std.proofs.Common.{◌≡◌, ℕ, List, [], ◌∷◌, true, map, refl, ap, subst, ◌∙◌, Option, Vec}
+use Rattle.std.specs.declared.alloc.Global.{Global}
+use Rattle.sqlite.specs.Order.{Row, column}
+use Rattle.sqlite.specs.Effect.{Database}
+use Rattle.sqlite.specs.Query.{IsAnswer}
+use Rattle.sqlite.specs.Program.{overlay}
+use Rattle.sqlite.specs.State as db
+use Rattle.uu_sql.specs.Steps.{Stands}
+use Rattle.uu_sql.proofs.Asks.{Means}
+use Rattle.uu_sql.proofs.Answers.{answer_of}
+use Rattle.uu_core.specs.declared.job.JobHead.{JobHead}
+use Rattle.uu_tables.specs.declared.rows.SystemColumns.{SystemColumns}
+use Rattle.uu_tables.specs.declared.rows.LineColumns.{LineColumns}
+use Rattle.uu_tables.specs.declared.rows.RangeColumns.{RangeColumns}
+use Rattle.uu_tables.specs.declared.rows.EntryColumns.{EntryColumns}
+use Rattle.uu_schema.specs.Schema.{site, systems, lines, ranges, jobs, entries}
+use Rattle.uu_schema.specs.Held.{system_key, line_key, range_key, job_key, entry_key, system_places, line_places, range_places, job_places, entry_places}
+use Rattle.uu_schema.specs.Cells.{system_cells, line_cells, range_cells, job_cells, entry_cells}
+use Rattle.uu_rows.specs.Readable.{IsSystem, IsLine, IsRange, IsHead, IsEntry}
+use Rattle.uu_rows.specs.Order.{system_cmp, line_cmp, range_cmp, head_cmp, entry_cmp}
+use Rattle.uu_rows.specs.Texts.{systems_text, lines_text, ranges_text}
+use Rattle.uu_taking.specs.Texts.{heads_text, entries_text, system_rowids_text, line_rowids_text, range_rowids_text, job_rowids_text, entry_rowids_text}
+use Rattle.uu_taking.specs.Taking.{Finds, IsRead}
+use Rattle.uu_rows.proofs.Meanings.{by_places, systems_means, lines_means, ranges_means}
+use Rattle.uu_taking.proofs.Meanings.{rowids_of, heads_means, entries_means, system_rowids_means, line_rowids_means, range_rowids_means, job_rowids_means, entry_rowids_means}
+use Rattle.uu_rows.proofs.Back.{text_back, number_back, system_back, system_returns, line_back, line_returns, range_back, range_returns, head_back, head_returns, entry_back, entry_returns}
+use Rattle.uu_rows.proofs.InTables.{systems_are, lines_are, ranges_are, heads_are, entries_are, all_pass}
+use Rattle.uu_taking.proofs.Tables.{finds}
+
+module _ (a b c : db.State) (rows ids : List Row) (stands : Stands site a.now) (same : b.now ≡ a.now) where
+  -- the answer of the question on the rowids, asked second
+  pub ids_answer : (tree : ℕ) (text : List ℕ) (names : List (List ℕ)) → Means site text (rowids_of tree) names → db.Shown text [] b c ids → IsAnswer (rowids_of tree) (overlay a.now.trees []) [] ids
+  ids_answer tree text names means h = subst (λ (d : Database). IsAnswer (rowids_of tree) (overlay d.trees []) [] ids) same (answer_of site text _ names [] b c means (ap (λ (d : Database). d.schema) same ∙ stands.schema) ids h)
+
+  pub systems_taken : db.Shown systems_text [] a b rows → db.Shown system_rowids_text [] b c ids → (found : Option (Vec SystemColumns Global)) → IsRead system_cells IsSystem rows ids found
+      → Finds system_key system_cells system_places IsSystem system_cmp (a.now.trees systems.tree) found
+  systems_taken h k found read =
+      finds system_key system_cells system_places IsSystem system_cmp system_back (λ x good. system_returns x) (λ x y e. ap (λ (r : Row). text_back (column r 0)) e) systems.tree (by_places (1 ∷ [])) a.now.trees refl rows ids
+      (answer_of site systems_text _ _ [] a b systems_means stands.schema rows h) (ids_answer systems.tree system_rowids_text _ system_rowids_means k)
+      (λ xs held rise. systems_are a b rows stands.schema systems_text _ [] [] h systems_means (λ r. refl) xs held rise (λ x. true) (λ x. refl) ∙ ap (map system_cells) (all_pass xs)) found read
+
+  pub lines_taken : db.Shown lines_text [] a b rows → db.Shown line_rowids_text [] b c ids → (found : Option (Vec LineColumns Global)) → IsRead line_cells IsLine rows ids found
+      → Finds line_key line_cells line_places IsLine line_cmp (a.now.trees lines.tree) found
+  lines_taken h k found read =
+      finds line_key line_cells line_places IsLine line_cmp line_back (λ x good. line_returns x) (λ x y e. ap (λ (r : Row). (text_back (column r 0), number_back (column r 1))) e) lines.tree (by_places (1 ∷ 2 ∷ [])) a.now.trees refl rows ids
+      (answer_of site lines_text _ _ [] a b lines_means stands.schema rows h) (ids_answer lines.tree line_rowids_text _ line_rowids_means k)
+      (λ xs held rise. lines_are a b rows stands.schema lines_text _ [] [] h lines_means (λ r. refl) xs held rise (λ x. true) (λ x. refl) ∙ ap (map line_cells) (all_pass xs)) found read
+
+  pub ranges_taken : db.Shown ranges_text [] a b rows → db.Shown range_rowids_text [] b c ids → (found : Option (Vec RangeColumns Global)) → IsRead range_cells IsRange rows ids found
+      → Finds range_key range_cells range_places IsRange range_cmp (a.now.trees ranges.tree) found
+  ranges_taken h k found read =
+      finds range_key range_cells range_places IsRange range_cmp range_back (λ x good. range_returns x) (λ x y e. ap (λ (r : Row). (text_back (column r 0), number_back (column r 1), number_back (column r 2))) e) ranges.tree (by_places (1 ∷ 2 ∷ 3 ∷ [])) a.now.trees refl rows ids
+      (answer_of site ranges_text _ _ [] a b ranges_means stands.schema rows h) (ids_answer ranges.tree range_rowids_text _ range_rowids_means k)
+      (λ xs held rise. ranges_are a b rows stands.schema ranges_text _ [] [] h ranges_means (λ r. refl) xs held rise (λ x. true) (λ x. refl) ∙ ap (map range_cells) (all_pass xs)) found read
+
+  pub heads_taken : db.Shown heads_text [] a b rows → db.Shown job_rowids_text [] b c ids → (found : Option (Vec JobHead Global)) → IsRead job_cells IsHead rows ids found
+      → Finds job_key job_cells job_places IsHead head_cmp (a.now.trees jobs.tree) found
+  heads_taken h k found read =
+      finds job_key job_cells job_places IsHead head_cmp head_back (head_returns) (λ x y e. ap (λ (r : Row). number_back (column r 0)) e) jobs.tree (by_places (0 ∷ [])) a.now.trees refl rows ids
+      (answer_of site heads_text _ _ [] a b heads_means stands.schema rows h) (ids_answer jobs.tree job_rowids_text _ job_rowids_means k)
+      (λ xs held rise. heads_are a b rows stands.schema heads_text _ [] [] h heads_means (λ r. refl) xs held rise (λ x. true) (λ x. refl) ∙ ap (map job_cells) (all_pass xs)) found read
+
+  pub entries_taken : db.Shown entries_text [] a b rows → db.Shown entry_rowids_text [] b c ids → (found : Option (Vec EntryColumns Global)) → IsRead entry_cells IsEntry rows ids found
+      → Finds entry_key entry_cells entry_places IsEntry entry_cmp (a.now.trees entries.tree) found
+  entries_taken h k found read =
+      finds entry_key entry_cells entry_places IsEntry entry_cmp entry_back (λ x good. entry_returns x) (λ x y e. ap (λ (r : Row). text_back (column r 0)) e) entries.tree (by_places (1 ∷ [])) a.now.trees refl rows ids
+      (answer_of site entries_text _ _ [] a b entries_means stands.schema rows h) (ids_answer entries.tree entry_rowids_text _ entry_rowids_means k)
+      (λ xs held rise. entries_are a b rows stands.schema entries_text _ [] [] h entries_means (λ r. refl) xs held rise (λ x. true) (λ x. refl) ∙ ap (map entry_cells) (all_pass xs)) found read

@@ -1,0 +1,92 @@
+-- What the questions on every row of a table answer, when a database is looked at as a spool.
+use Rattle.std.specs.Prelude.{◌≡◌, ◌<ℤ◌, ℤ, ℕ, pos, int_lt, Bool, true, false, ◌&&◌, List, [], ◌∷◌, Vec, Option, map, Result, IfOk, OnOk, IfSome, MatchOption}
+use Rattle.std.specs.declared.alloc.Global.{Global}
+use Rattle.std.specs.declared.cmp.Ordering.{Ordering}
+use Rattle.std.specs.declared.cmp.Ordering.TheVariants.{Less}
+use Rattle.std.specs.List.{AllByRecursion}
+use Rattle.std.specs.List.Sorted.{IsPermutation}
+use Rattle.sqlite.specs.declared.error.Error.{Error}
+use Rattle.sqlite.specs.declared.types.Value.TheVariants.{Int}
+use Rattle.sqlite.specs.Order.{Row}
+use Rattle.sqlite.specs.Tree.{IsAscending}
+use Rattle.sqlite.specs.State as db
+use Rattle.uu_sql.specs.Steps.{Stands, Told}
+use Rattle.uu_sql.specs.Rowids.{AreNumbered, OnceEach}
+use Rattle.uu_tables.specs.declared.rows.PieceSize.{PieceSize}
+use Rattle.uu_tables.specs.Tables.{Piece, size_of}
+use Rattle.uu_schema.specs.Schema.{site}
+use Rattle.uu_schema.specs.Made.{version}
+use Rattle.uu_schema.specs.Held.{piece_key, piece_places}
+use Rattle.uu_schema.specs.Cells.{piece_cells}
+use Rattle.uu_rows.specs.Readable.{IsSize}
+use Rattle.uu_rows.specs.Order.{piece_cmp}
+use Rattle.uu_schema.specs.Keyed.{Keyed, columns}
+use Rattle.uu_taking.specs.declared.integer.Integer.{Integer}
+
+-- ---- rowids that rise
+
+abbrev pub id_cells : Integer → Row
+id_cells id = Int id.value ∷ []
+
+-- each is below the next
+abbrev pub rise_from : ℤ → List Integer → Bool
+rise_from last [] = true
+rise_from last (id ∷ ids) = int_lt last id.value && rise_from id.value ids
+
+abbrev pub rise : List Integer → Bool
+rise [] = true
+rise (id ∷ ids) = rise_from id.value ids
+
+pub record AreRowids (rows : List Row) : Type 0 where
+  pub ids : List Integer
+  pub rows_are : rows ≡ map id_cells ids
+  pub rising : IsAscending (λ (a b : Integer). a.value <ℤ b.value) ids
+
+-- ---- a table's rows as typed rows
+
+-- The table's rows have the columns of these, in any order, and rowids that tell them apart.
+pub record AreRows {X : Type 0} (cells : X → Row) (places : List ℕ) (xs : List X) (rows : List Row) : Type 0 where
+  pub same : IsPermutation (map cells xs) (map (columns places) rows)
+  pub numbered : AreNumbered rows
+  pub once : OnceEach rows
+
+-- rows that can be read, in the strict order of their keys
+pub record AreInOrder {X : Type 0} (IsReadable : X → Type 0) (cmp : X → X → Ordering) (xs : List X) : Type 0 where
+  pub readable : AllByRecursion IsReadable xs
+  pub rise : IsAscending (λ a b. cmp a b ≡ Less) xs
+
+-- Exactly the rows that the table holds are found. None are found only where no list of such rows in the order of its key
+-- is the table's; and where one is, that one is found.
+pub record Finds {K X : Type 0} (key : X → K) (cells : X → Row) (places : List ℕ) (IsReadable : X → Type 0) (cmp : X → X → Ordering) (rows : List Row) (found : Option (Vec X Global)) : Type 0 where
+  pub all : IfSome found (λ all. AreRows cells places all.items rows × AllByRecursion IsReadable all.items)
+  pub only : (xs : List X) → AreInOrder IsReadable cmp xs → Keyed key cells places xs rows → MatchOption found ⊥ (λ all. all.items ≡ xs)
+
+-- the answer to a question that has two
+abbrev pub Tells : Bool → Type 0 → Type 0 → Type 0
+Tells good Yes No = (good ≡ true → Yes) × (good ≡ false → No)
+
+-- The question commits nothing and changes nothing, whatever it answers, and what it answers is so.
+pub record Takes {T : Type 0} (IsAnswer : (ℕ → List Row) → T → Type 0) (old new : db.State) (r : Result T Error) : Type 0 where
+  pub told : Told site old new r
+  pub same : db.HasCleanDisk new → Stands site old.now → OnOk r (new.now ≡ old.now)
+  pub found : db.HasCleanDisk new → Stands site old.now → IfOk r (IsAnswer old.now.trees)
+
+-- what is read of the rows of two questions: all typed rows, and rowids that rise
+pub record AreRead {X : Type 0} (cells : X → Row) (IsReadable : X → Type 0) (rows ids : List Row) (all : List X) : Type 0 where
+  pub rows_are : rows ≡ map cells all
+  pub readable : AllByRecursion IsReadable all
+  pub rowids : AreRowids ids
+
+abbrev pub IsRead : {X : Type 0} → (X → Row) → (X → Type 0) → List Row → List Row → Option (Vec X Global) → Type 0
+IsRead cells IsReadable rows ids found = MatchOption found ((all : List _) → ¬ AreRead cells IsReadable rows ids all) (λ all. AreRead cells IsReadable rows ids all.items)
+
+-- what the question on the table `spool` shows of its one row
+abbrev pub spool_cells : ℕ → Row
+spool_cells next = Int (pos 1) ∷ Int (pos version) ∷ Int (pos next) ∷ []
+
+-- ---- pieces: of each the number of its bytes is asked, and its bytes stay where they are
+
+-- Exactly the sizes of the pieces that the table holds are found, whatever the bytes.
+pub record FindsSizes (rows : List Row) (found : Option (Vec PieceSize Global)) : Type 0 where
+  pub all : IfSome found (λ all. (ps : List Piece) × AreRows piece_cells piece_places ps rows × (map size_of ps ≡ all.items) × AllByRecursion IsSize all.items)
+  pub only : (ps : List Piece) → AllByRecursion (λ p. IsSize (size_of p)) ps → IsAscending (λ a b. piece_cmp a b ≡ Less) ps → Keyed piece_key piece_cells piece_places ps rows → MatchOption found ⊥ (λ all. all.items ≡ map size_of ps)

@@ -1,0 +1,14 @@
+//! Every row of each of the spool's tables, read when a database is looked at as a spool, and the version that it names. Each
+//! question commits nothing and changes nothing, whatever it answers. Rows that the format does not allow are `None`, and want of
+//! memory is `OutOfMemory`.
+#![tactic(auto)]
+
+mod asks;
+mod integer;
+mod spool;
+mod taking;
+mod version;
+
+pub use spool::take_next;
+pub use taking::{take_entries, take_heads, take_lines, take_ranges, take_sizes, take_systems};
+pub use version::names_later;

@@ -1,0 +1,51 @@
+// The version that the table `spool` names.
+ghost use Rattle.std.specs.Prelude.{◌≡◌, true, false, Ok};
+ghost use Rattle.sqlite.specs.Held.{state};
+ghost use Rattle.uu_taking.specs.Version.{HasLater, ShowsLater, IsLater};
+ghost use Rattle.uu_taking.specs.Taking.{Takes, Tells};
+
+use crate::asks::ask_version;
+use crate::integer::integer_in;
+use sqlite::{Alter, Connection, Error, Row};
+use uu_rows::RowFault;
+
+/// The version of the tables that this program makes and reads.
+const VERSION: i64 = 1;
+
+// Whether the row shows a later version than ours.
+fn is_later(row: &Row) -> Result<bool, RowFault>
+    ensures later { result ≡ Ok true → ShowsLater row.now }
+    ensures none { result ≡ Ok false → ¬ ShowsLater row.now }
+{
+    match integer_in(row) {
+        Ok(version) => Ok(version.value > VERSION),
+        Err(RowFault::Bad) => Ok(false),
+        Err(RowFault::Memory) => Err(RowFault::Memory),
+    }
+}
+
+// Whether one of the rows of the question on the version shows a later one than ours.
+fn later_in(rows: &[Row]) -> Result<bool, RowFault>
+    ensures later { result ≡ Ok true → HasLater rows.now }
+    ensures none { result ≡ Ok false → ¬ HasLater rows.now }
+{
+    for row in rows {
+        if is_later(row)? {
+            return Ok(true);
+        }
+    }
+    Ok(false)
+}
+
+/// Whether the table `spool` names a later version than this program's. Asked before all else, since the other tables of a later
+/// version may differ.
+pub fn names_later<S: Alter>(conn: &mut Connection<S>) -> Result<bool, Error>
+    ensures idle { conn.old.in_transaction ≡ false → conn.new.in_transaction ≡ false }
+    ensures takes { Takes (λ trees later. Tells later (IsLater trees) (¬ IsLater trees)) (state S.Store conn.old) (state S.Store conn.new) result }
+{
+    let rows = ask_version(conn)?;
+    match later_in(&rows) {
+        Ok(later) => Ok(later),
+        Err(fault) => Err(fault.as_error()),
+    }
+}
