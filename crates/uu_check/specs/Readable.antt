@@ -1,10 +1,13 @@
 -- Rows whose columns fit the types in which they are read.
 use Rattle.std.specs.Prelude.{◌≡◌, ◌<◌, ◌≤◌, length, IsTrue, IfSome, true}
 use Rattle.std.specs.List.{AllByRecursion}
+use Rattle.uu_names.specs.Grade.{grade_count}
 use Rattle.uu_names.specs.Name.{is_site_name, is_word}
-use Rattle.uu_times.specs.System.{IsRetry}
+use Rattle.uu_times.specs.Ranges.{week_minutes}
+use Rattle.uu_times.specs.System.{IsRetry, most_lines, most_retries}
+use Rattle.uu_map.specs.Text.{most_entry}
 use Rattle.uu_core.specs.declared.job.JobHead.{JobHead}
-use Rattle.uu_core.specs.State.{last_second, most_failures, numbers_end}
+use Rattle.uu_core.specs.State.{last_second, most_failures, most_wait, numbers_end}
 use Rattle.uu_tables.specs.declared.rows.SystemColumns.{SystemColumns}
 use Rattle.uu_tables.specs.declared.rows.LineColumns.{LineColumns}
 use Rattle.uu_tables.specs.declared.rows.RangeColumns.{RangeColumns}
@@ -14,24 +17,24 @@ use Rattle.uu_check.specs.Tests.{is_head}
 
 pub record IsSystemRow (c : SystemColumns) : Type 0 where
   pub name : IsTrue (is_site_name c.name)
-  pub max_retries : c.max_retries ≤ 1000000
+  pub max_retries : c.max_retries ≤ most_retries
   pub last : c.call.last ≤ last_second
   pub failures : c.call.failures ≤ most_failures
-  pub wait : c.call.wait ≤ 31536000
+  pub wait : c.call.wait ≤ most_wait
   pub outcome : c.call.outcome ≤ 2
   pub why : IfSome c.call.why (λ why. IsTrue (is_word why))
 
 pub record IsLineRow (l : LineColumns) : Type 0 where
   pub system : IsTrue (is_site_name l.system)
-  pub place : l.place < 32
-  pub grade : l.grade < 62
+  pub place : l.place < most_lines
+  pub grade : l.grade < grade_count
   pub retry : IfSome l.retry IsRetry
 
 pub record IsRangeRow (r : RangeColumns) : Type 0 where
   pub system : IsTrue (is_site_name r.system)
-  pub place : r.place < 32
-  pub low : r.low < 10080
-  pub high : r.high < 10080
+  pub place : r.place < most_lines
+  pub low : r.low < week_minutes
+  pub high : r.high < week_minutes
 
 pub record IsJobRow (h : JobHead) : Type 0 where
   pub number : h.number < numbers_end
@@ -44,7 +47,7 @@ pub record IsPieceRow (p : Piece) : Type 0 where
 
 pub record IsEntryRow (e : EntryColumns) : Type 0 where
   pub host : IsTrue (is_site_name e.host)
-  pub size : length e.bytes ≤ 65536
+  pub size : length e.bytes ≤ most_entry
 
 pub record AreReadable (t : Tables) : Type 0 where
   pub next : t.next ≤ numbers_end

@@ -3,11 +3,14 @@ use Rattle.std.specs.Prelude.{ℕ, ◌+◌, ◌-◌, min, Bool, true, false, ◌
 use Rattle.std.specs.List.{list_all, list_any}
 use Rattle.std.specs.Ordering.{is_lt, nat_cmp}
 use Rattle.std.specs.Cmp.Lexicographic.{slice_cmp}
+use Rattle.uu_names.specs.Grade.{grade_count}
 use Rattle.uu_names.specs.Name.{is_site_name, is_word}
+use Rattle.uu_times.specs.Ranges.{week_minutes}
+use Rattle.uu_times.specs.System.{most_lines, most_retry_minutes, most_retries}
 use Rattle.uu_core.specs.declared.job.Kind.{Kind}
 use Rattle.uu_core.specs.declared.job.Kind.TheVariants.{Send, Request, Execute}
 use Rattle.uu_core.specs.declared.job.JobHead.{JobHead}
-use Rattle.uu_core.specs.State.{same_text, last_second, most_bytes, most_arguments, most_failures, numbers_end}
+use Rattle.uu_core.specs.State.{same_text, last_second, most_bytes, most_arguments, most_failures, most_wait, numbers_end}
 use Rattle.uu_tables.specs.declared.rows.SystemColumns.{SystemColumns}
 use Rattle.uu_tables.specs.declared.rows.LineColumns.{LineColumns}
 use Rattle.uu_tables.specs.declared.rows.RangeColumns.{RangeColumns}
@@ -25,7 +28,7 @@ is_kind (Request source target) = is_word source && is_word target
 is_kind (Execute command arguments) = is_word command && list_all is_word arguments && nat_le (length arguments) most_arguments
 
 abbrev pub is_head : JobHead → Bool
-is_head h = nat_le 1 h.number && is_site_name h.system && nat_lt h.grade 62 && is_word h.user && is_kind h.kind && nat_le h.queued last_second && nat_le h.size most_bytes
+is_head h = nat_le 1 h.number && is_site_name h.system && nat_lt h.grade grade_count && is_word h.user && is_kind h.kind && nat_le h.queued last_second && nat_le h.size most_bytes
 
 -- pieces from a place on hold so many bytes, as many as they can each
 abbrev pub are_cut : ℕ → ℕ → List PieceSize → Bool
@@ -49,17 +52,17 @@ is_below next h = nat_lt h.number next
 -- ranges in order from a minute on, with at least one minute outside between two
 abbrev pub are_ranges : ℕ → List RangeColumns → Bool
 are_ranges start [] = true
-are_ranges start (r ∷ rs) = nat_le start r.low && nat_le r.low r.high && nat_lt r.high 10080 && are_ranges (r.high + 2) rs
+are_ranges start (r ∷ rs) = nat_le start r.low && nat_le r.low r.high && nat_lt r.high week_minutes && are_ranges (r.high + 2) rs
 
 abbrev pub is_retry : Option ℕ → Bool
 is_retry None = true
-is_retry (Some minutes) = nat_le 1 minutes && nat_le minutes 525600
+is_retry (Some minutes) = nat_le 1 minutes && nat_le minutes most_retry_minutes
 
 abbrev pub owns_range : LineColumns → RangeColumns → Bool
 owns_range l r = same_text l.system r.system && (l.place == r.place)
 
 abbrev pub fits_line : LineColumns → List RangeColumns → Bool
-fits_line l rs = nat_lt l.grade 62 && is_retry l.retry && are_ranges 0 rs
+fits_line l rs = nat_lt l.grade grade_count && is_retry l.retry && are_ranges 0 rs
 
 -- ---- systems and their lines
 
@@ -69,7 +72,7 @@ is_outcome None outcome last failures wait = (outcome == 2) || ((outcome == 0) &
 is_outcome (Some why) outcome last failures wait = (outcome == 1) && is_word why
 
 abbrev pub is_call : SystemColumns → Bool
-is_call s = nat_le s.call.last last_second && nat_le s.call.failures most_failures && nat_le s.call.wait 31536000 && is_outcome s.call.why s.call.outcome s.call.last s.call.failures s.call.wait
+is_call s = nat_le s.call.last last_second && nat_le s.call.failures most_failures && nat_le s.call.wait most_wait && is_outcome s.call.why s.call.outcome s.call.last s.call.failures s.call.wait
 
 abbrev pub are_placed : ℕ → List LineColumns → Bool
 are_placed place [] = true
@@ -79,7 +82,7 @@ abbrev pub owns_line : SystemColumns → LineColumns → Bool
 owns_line s l = same_text s.name l.system
 
 abbrev pub fits_system : SystemColumns → List LineColumns → Bool
-fits_system s ls = is_site_name s.name && nat_le s.max_retries 1000000 && is_call s && nat_le (length ls) 32 && are_placed 0 ls
+fits_system s ls = is_site_name s.name && nat_le s.max_retries most_retries && is_call s && nat_le (length ls) most_lines && are_placed 0 ls
 
 abbrev pub system_before : SystemColumns → SystemColumns → Bool
 system_before a b = is_lt (slice_cmp nat_cmp a.name b.name)

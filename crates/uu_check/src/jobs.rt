@@ -5,21 +5,14 @@ ghost use Rattle.uu_names.specs.Name.{is_word};
 ghost use Rattle.uu_check.specs.Tests.{is_kind, is_head, are_cut, owns_piece, fits_job, job_before};
 
 use crate::walk::{Owner, Ranked};
+use uu_core::limits::{MAX_ARGUMENTS, MAX_BYTES};
 use uu_core::{JobHead, Kind};
 use uu_names::Word;
 use uu_tables::PieceSize;
+use uu_times::moment::LAST_SECOND;
 
 /// The most bytes of a piece.
 const PIECE: u32 = 16_384;
-
-/// The most bytes of a job.
-const MAX_BYTES: u32 = 1_048_576;
-
-/// The most arguments of a command.
-const MAX_ARGUMENTS: usize = 64;
-
-/// The last second that a moment can have.
-const LAST_SECOND: u64 = 4_102_444_800;
 
 fn words_are_words(words: &[Word])
     ensures { list_all is_word words.now ≡ true }

@@ -11,10 +11,8 @@ use crate::entries::are_entries;
 use crate::walk::{rise, walk_owners};
 use std::alloc::{AllocError, Global};
 use uu_core::JobHead;
+use uu_core::limits::NUMBERS_END;
 use uu_tables::{EntryColumns, LineColumns, PieceSize, RangeColumns, SystemColumns};
-
-/// The number after the last job number.
-const NUMBERS_END: u32 = 4_294_967_295;
 
 fn are_below(next: u32, jobs: &[JobHead]) -> bool
     ensures { result ≡ list_all (is_below next) jobs.now }

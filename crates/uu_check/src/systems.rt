@@ -3,32 +3,18 @@ ghost use Rattle.std.specs.Prelude.{◌≡◌};
 ghost use Rattle.uu_check.specs.Tests.{are_ranges, is_retry, owns_range, fits_line, is_outcome, is_call, are_placed, owns_line, fits_system, system_before};
 
 use crate::walk::{Owner, Ranked};
+use uu_core::limits::{MAX_FAILURES, MAX_WAIT};
 use uu_tables::{LineColumns, RangeColumns, SystemColumns};
-
-/// The minutes in a week.
-const WEEK: u32 = 10_080;
-
-/// The most minutes to wait.
-const RETRY_LIMIT: u32 = 525_600;
-
-/// The most lines of a system.
-const LINE_LIMIT: usize = 32;
-
-/// The most failures in a row.
-const FAILURES_LIMIT: u32 = 1_000_000;
-
-/// The most seconds that a system is left alone.
-const WAIT_LIMIT: u32 = 31_536_000;
-
-/// The last second that a moment can have.
-const LAST_SECOND: u32 = 4_102_444_800;
+use uu_times::moment::LAST_SECOND;
+use uu_times::system::{LINE_LIMIT, MAX_RETRIES_LIMIT, RETRY_LIMIT};
+use uu_times::windows::WEEK;
 
 fn are_ranges(ranges: &[RangeColumns]) -> bool
     ensures { result ≡ are_ranges 0 ranges.now }
 {
     let mut start = 0;
     for range in ranges {
-        if range.low < start || range.high < range.low || range.high >= WEEK {
+        if range.low < start || range.high < range.low || range.high >= u32::from(WEEK) {
             return false;
         }
         start = range.high + 2;
@@ -81,9 +67,9 @@ fn is_outcome(cells: &SystemColumns) -> bool
 fn is_call(cells: &SystemColumns) -> bool
     ensures { result ≡ is_call cells.now }
 {
-    cells.call.last <= LAST_SECOND
-        && cells.call.failures <= FAILURES_LIMIT
-        && cells.call.wait <= WAIT_LIMIT
+    u64::from(cells.call.last) <= LAST_SECOND
+        && cells.call.failures <= MAX_FAILURES
+        && cells.call.wait <= MAX_WAIT
         && is_outcome(cells)
 }
 
@@ -111,7 +97,7 @@ impl Owner<LineColumns> for SystemColumns {
 
     fn fits(&self, children: &[LineColumns]) -> bool {
         let _ = self.name.as_str();
-        self.max_retries <= FAILURES_LIMIT
+        self.max_retries <= MAX_RETRIES_LIMIT
             && is_call(self)
             && children.len() <= LINE_LIMIT
             && are_placed(children)

@@ -1,10 +1,13 @@
 // The tables of an empty spool.
-ghost use Rattle.std.specs.Prelude.{◌≡◌, false};
+ghost use Rattle.std.specs.Prelude.{◌≡◌, Err, false};
 ghost use Rattle.sqlite.specs.Held.{state};
+ghost use Rattle.sqlite.specs.State.{Survives};
+ghost use Rattle.sqlite.specs.declared.error.Error.{Error};
 ghost use Rattle.uu_sql.specs.Steps.{Outcome, Whole};
 ghost use Rattle.uu_schema.specs.Schema.{no_schema, with_spool, with_systems, with_lines, with_ranges, with_jobs, with_pieces, site, spool, systems, lines, ranges, jobs, pieces, entries};
 ghost use Rattle.uu_schema.specs.Made.{IsMade, IsBegun, FromEntries, FromPieces, FromJobs, FromRanges, FromLines, FromSystems, AllMade};
 ghost use Rattle.uu_schema.specs.Held.{MakesEmpty};
+ghost use Rattle.uu_schema.specs.declared.fault.Halt.TheVariants.{Before};
 
 use crate::fault::Halt;
 use sqlite::{Alter, Connection, Error, Transaction};
@@ -151,6 +154,9 @@ pub fn create<S: Alter>(conn: &mut Connection<S>) -> Result<(), Halt>
     requires { conn.old.in_transaction ≡ false }
     ensures idle { conn.new.in_transaction ≡ false }
     ensures whole { Whole no_schema site MakesEmpty (state S.Store conn.old) (state S.Store conn.new) result }
+
+    // Nothing of a transaction that stopped before its commit can be kept, whatever the database. A commit that was refused is not such a one.
+    ensures before { (error : Error) → result ≡ Err (Before error) → Survives (state S.Store conn.old) (state S.Store conn.new) (λ _. ⊥) }
 {
     let mut tx = conn.transaction();
     create_tables(&mut tx)?;

@@ -1,8 +1,10 @@
 -- How a command ends, once for all commands.
-use Rattle.std.proofs.Common.{◌≡◌, ◌⊎◌, inl, inr, [], Result, Ok, Err, sym, ap, subst, ◌∙◌, arith}
+use Rattle.std.proofs.Common.{◌≡◌, ◌⊎◌, refl, inl, inr, [], Result, Ok, Err, sym, ap, subst, ◌∙◌, arith}
 use Rattle.std.specs.Prelude.{IsTrue, IsOk, IsErr}
 use Rattle.sqlite.specs.Tree.{Trees}
 use Rattle.sqlite.specs.State as db
+use Rattle.sqlite.specs.declared.error.Error.{Error}
+use Rattle.sqlite.proofs.StateLemmas.{survives_then}
 use Rattle.sqlite_catalog.specs.Listing.{IsSound}
 use Rattle.uu_sql.specs.Steps.{Rests, Asked, Told, Whole, Ends, Did}
 use Rattle.uu_sql.proofs.Steps.{told_same}
@@ -13,11 +15,15 @@ use Rattle.uu_core.specs.After.{after}
 use Rattle.uu_tables.specs.declared.plan.Plan.{Plan}
 use Rattle.uu_tables.specs.Tables.{tables_of}
 use Rattle.uu_tables.specs.Plans.{IsPlan}
+use Rattle.uu_schema.specs.Faults.{kind_of_error}
 use Rattle.uu_schema.specs.Schema.{site}
 use Rattle.uu_schema.specs.Held.{Holds}
 use Rattle.uu_statements.specs.Makes.{MakesAll}
 use Rattle.uu_schema.specs.declared.fault.StoreFault.{StoreFault}
-use Rattle.uu_schema.specs.declared.fault.StoreFault.TheVariants.{Memory}
+use Rattle.uu_schema.specs.declared.fault.StoreKind.{StoreKind}
+use Rattle.uu_schema.specs.declared.fault.StoreFault.TheVariants.{Memory, Store}
+use Rattle.uu_schema.specs.declared.fault.Halt.{Halt}
+use Rattle.uu_schema.specs.declared.fault.Halt.TheVariants.{Before, Commit}
 use Rattle.uu_statements.specs.Step.{Encodes, IsStep, IsToldStep}
 
 module _ (s : State) (command : Command) (a : db.State) where
@@ -62,8 +68,19 @@ module _ (s : State) (command : Command) (a : db.State) where
 
 -- ---- the fault that the caller is told
 
-is_memory : {T : Type 0} (fault : StoreFault) → ◌≡◌ {A = Result T StoreFault} (Err fault) (Err Memory) → fault ≡ Memory
+pub is_memory : {T : Type 0} (fault : StoreFault) → ◌≡◌ {A = Result T StoreFault} (Err fault) (Err Memory) → fault ≡ Memory
 is_memory fault h = cc
+
+store_is_not_memory : (kind : StoreKind) → Store kind ≡ Memory → ⊥
+store_is_not_memory kind h = absurd (cc)
+
+-- want of memory is told only of what stopped before its commit
+pub memory_before : {T : Type 0} (a b d : db.State) (halt : Halt) (fault : StoreFault)
+    → ((error : Error) → ◌≡◌ {A = Result T Halt} (Err halt) (Err (Before error)) → db.Survives a b (λ _. ⊥))
+    → ((error : Error) → halt ≡ Commit error → fault ≡ Store (kind_of_error error))
+    → db.Survives b d (λ _. ⊥) → fault ≡ Memory → db.Survives a d (λ _. ⊥)
+memory_before a b d (Before error) fault before commit over is = survives_then a b d (λ _. ⊥) (λ _. ⊥) (λ _. ⊥) (λ _ db none. none) (λ _ db none. none) (before error refl) over
+memory_before a b d (Commit error) fault before commit over is = absurd (store_is_not_memory (kind_of_error error) (sym (commit error refl) ∙ is))
 
 -- nothing differs, so the connection is at rest and encodes what it did
 unchanged : (s : State) (b d : db.State) → db.IsUnchanged b d → Rests b → Encodes b.now s → Rests d × Encodes d.now s

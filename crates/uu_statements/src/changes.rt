@@ -1,8 +1,11 @@
 // Changes, one statement each, and some of them all or none.
-ghost use Rattle.std.specs.Prelude.{◌≡◌, false};
+ghost use Rattle.std.specs.Prelude.{◌≡◌, Err, false};
 ghost use Rattle.sqlite.specs.Held.{state};
+ghost use Rattle.sqlite.specs.State.{Survives};
+ghost use Rattle.sqlite.specs.declared.error.Error.{Error};
 ghost use Rattle.uu_sql.specs.Steps.{Outcome, Whole};
 ghost use Rattle.uu_schema.specs.Schema.{site};
+ghost use Rattle.uu_schema.specs.declared.fault.Halt.TheVariants.{Before};
 ghost use Rattle.uu_statements.specs.Makes.{Makes, MakesAll};
 
 use crate::entries::{add_entry, remove_entry};
@@ -78,6 +81,9 @@ pub fn commit<S: Alter>(
     requires { conn.old.in_transaction ≡ false }
     ensures idle { conn.new.in_transaction ≡ false }
     ensures whole { Whole site site (MakesAll changes.now) (state S.Store conn.old) (state S.Store conn.new) result }
+
+    // Nothing of a transaction that stopped before its commit can be kept, whatever the database. A commit that was refused is not such a one.
+    ensures before { (error : Error) → result ≡ Err (Before error) → Survives (state S.Store conn.old) (state S.Store conn.new) (λ _. ⊥) }
 {
     let mut tx = conn.transaction();
     write_all(alloc, &mut tx, changes)?;

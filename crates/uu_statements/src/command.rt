@@ -1,11 +1,15 @@
 // A command over a connection: planned without it, and carried out in one transaction.
-ghost use Rattle.std.specs.Prelude.{◌≡◌, ◌≤◌, [], IfErr, Ok, false};
+ghost use Rattle.std.specs.Prelude.{◌≡◌, ◌≤◌, [], IfErr, Ok, Err, false};
 ghost use Rattle.sqlite.specs.View.{doubt};
 ghost use Rattle.sqlite.specs.Held.{state};
+ghost use Rattle.sqlite.specs.State.{Survives};
+ghost use Rattle.sqlite.specs.declared.error.Error.{Error};
 ghost use Rattle.uu_core.specs.declared.command.Command.{Command};
 ghost use Rattle.uu_core.specs.State.{State};
 ghost use Rattle.uu_tables.specs.Plans.{IsPlan};
 ghost use Rattle.uu_schema.specs.Faults.{IsFresh};
+ghost use Rattle.uu_schema.specs.declared.fault.Halt.TheVariants.{Before};
+ghost use Rattle.uu_schema.specs.declared.fault.StoreFault.TheVariants.{Memory};
 ghost use Rattle.uu_statements.specs.Step.{IsStep, IsToldStep};
 
 use crate::changes::commit;
@@ -26,6 +30,7 @@ fn write_plan<S: Alter>(
     ensures clean { doubt (state S.Store conn.old).is_clean ≤ doubt (state S.Store conn.new).is_clean }
     ensures untouched { plan.entry.changes.items ≡ [] → (result ≡ Ok plan.entry.reply) × (conn.new ≡ conn.old) }
     ensures step { (s : State) → (command : Command) → IsPlan s command plan.entry → IsStep s command (state S.Store conn.old) (state S.Store conn.new) result }
+    ensures before { (error : Error) → result ≡ Err (Before error) → Survives (state S.Store conn.old) (state S.Store conn.new) (λ _. ⊥) }
 {
     if plan.changes.is_empty() {
         return Ok(plan.reply);
@@ -46,6 +51,9 @@ pub fn carry_out<S: Alter>(
     ensures clean { doubt (state S.Store conn.old).is_clean ≤ doubt (state S.Store conn.new).is_clean }
     ensures untouched { plan.entry.changes.items ≡ [] → (result ≡ Ok plan.entry.reply) × (conn.new ≡ conn.old) }
     ensures step { (s : State) → (command : Command) → IsPlan s command plan.entry → IsToldStep s command (state S.Store conn.old) (state S.Store conn.new) result }
+
+    // Want of memory is never told of a commit that was refused: a stop leaves what it could leave before, whatever the database.
+    ensures memory { result ≡ Err Memory → Survives (state S.Store conn.old) (state S.Store conn.new) (λ _. ⊥) }
 {
     match write_plan(alloc, conn, plan) {
         Ok(reply) => Ok(reply),

@@ -1,6 +1,5 @@
 // Rows of the tables, as their columns are read and written. A job's row is its `JobHead`.
-use uu_map::Listed;
-use uu_names::{Grade, SiteName, Word};
+use uu_names::{Grade, Listed, SiteName, Word};
 
 /// The number of the outcome of a system that was never called.
 pub const NEVER_CALLED: u32 = 0;

@@ -1,5 +1,8 @@
 use Rattle.std.proofs.Common.{◌≡◌, false, subst, rules}
 use Rattle.sqlite.specs.Held.{state}
+use Rattle.sqlite.specs.State.{Survives}
+use Rattle.sqlite.proofs.StateLemmas.{survives_then}
+use Rattle.sqlite.proofs.Callers.{survives_begin}
 use Rattle.uu_sql.specs.Steps.{Whole}
 use Rattle.uu_sql.proofs.Steps.{abandoned, committed, whole_as, weaker}
 use Rattle.uu_schema.specs.Schema.{site, no_schema}
@@ -19,6 +22,7 @@ returns g c =
           (whole_as no_schema site Step (state g.S.Store c.args.conn.now) (state g.S.Store end) c.commit.result c.map_err.result (search rules)
           (committed no_schema site g.S.Store Step c.args.conn.now (state g.S.Store c.create_tables.new.tx.conn.now) (state g.S.Store end) c.commit.ensures.ended (g.met.S.Store.settled end.store) c.commit.result
           (rw c.transaction-tx.ensures.begun at made) c.commit.ensures.survives c.commit.ensures.ok c.commit.ensures.err));
+      before = λ error is. absurd (search rules);
     }
 
 pub returns-in_err-create_tables : goal.returns-in_err-create_tables
@@ -31,4 +35,7 @@ returns-in_err-create_tables g c =
       whole = subst (λ h. Whole no_schema site Step (state g.S.Store c.args.conn.now) (state g.S.Store h) c.from_residual.result) same
           (abandoned no_schema site g.S.Store Step c.args.conn.now (state g.S.Store c.create_tables.new.tx.conn.now) (state g.S.Store end) c.drop-tx.ensures.ended (g.met.S.Store.settled end.store) c.from_residual.result c.from_residual.ensures.0
           (rw c.transaction-tx.ensures.begun at c.in_err-create_tables.ensures.outcome) c.drop-tx.ensures.undone c.drop-tx.ensures.survives);
+      before = λ error is. subst (λ h. Survives (state g.S.Store c.args.conn.now) (state g.S.Store h) (λ _. ⊥)) same
+          (survives_then (state g.S.Store c.args.conn.now) (state g.S.Store c.create_tables.new.tx.conn.now) (state g.S.Store end) (λ _. ⊥) (λ _. ⊥) (λ _. ⊥) (λ _ db none. none) (λ _ db none. none)
+          (survives_begin g.S.Store c.args.conn.now (state g.S.Store c.create_tables.new.tx.conn.now) (λ _. ⊥) (rw c.transaction-tx.ensures.begun at c.in_err-create_tables.ensures.outcome).survives) c.drop-tx.ensures.survives);
     }

@@ -1,5 +1,8 @@
 use Rattle.std.proofs.Common.{◌≡◌, false, subst, rules}
 use Rattle.sqlite.specs.Held.{state}
+use Rattle.sqlite.specs.State.{Survives}
+use Rattle.sqlite.proofs.StateLemmas.{survives_then}
+use Rattle.sqlite.proofs.Callers.{survives_begin}
 use Rattle.uu_sql.specs.Steps.{Whole}
 use Rattle.uu_sql.proofs.Steps.{abandoned, committed, whole_as}
 use Rattle.uu_schema.specs.Schema.{site}
@@ -17,6 +20,7 @@ returns g c =
           (whole_as site site Step (state g.S.Store c.args.conn.now) (state g.S.Store end) c.commit.result c.map_err.result (search rules)
           (committed site site g.S.Store Step c.args.conn.now (state g.S.Store c.write_all.new.tx.conn.now) (state g.S.Store end) c.commit.ensures.ended (g.met.S.Store.settled end.store) c.commit.result
           (rw c.transaction-tx.ensures.begun at c.in_ok-write_all.ensures.outcome) c.commit.ensures.survives c.commit.ensures.ok c.commit.ensures.err));
+      before = λ error is. absurd (search rules);
     }
 
 pub returns-in_err-write_all : goal.returns-in_err-write_all
@@ -29,4 +33,7 @@ returns-in_err-write_all g c =
       whole = subst (λ h. Whole site site Step (state g.S.Store c.args.conn.now) (state g.S.Store h) c.from_residual.result) same
           (abandoned site site g.S.Store Step c.args.conn.now (state g.S.Store c.write_all.new.tx.conn.now) (state g.S.Store end) c.drop-tx.ensures.ended (g.met.S.Store.settled end.store) c.from_residual.result c.from_residual.ensures.0
           (rw c.transaction-tx.ensures.begun at c.in_err-write_all.ensures.outcome) c.drop-tx.ensures.undone c.drop-tx.ensures.survives);
+      before = λ error is. subst (λ h. Survives (state g.S.Store c.args.conn.now) (state g.S.Store h) (λ _. ⊥)) same
+          (survives_then (state g.S.Store c.args.conn.now) (state g.S.Store c.write_all.new.tx.conn.now) (state g.S.Store end) (λ _. ⊥) (λ _. ⊥) (λ _. ⊥) (λ _ db none. none) (λ _ db none. none)
+          (survives_begin g.S.Store c.args.conn.now (state g.S.Store c.write_all.new.tx.conn.now) (λ _. ⊥) (rw c.transaction-tx.ensures.begun at c.in_err-write_all.ensures.outcome).survives) c.drop-tx.ensures.survives);
     }

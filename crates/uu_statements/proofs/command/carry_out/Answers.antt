@@ -1,5 +1,5 @@
 use Rattle.sqlite.specs.Held.{state}
-use Rattle.uu_statements.proofs.Steps.{told_written, told_unwritten}
+use Rattle.uu_statements.proofs.Steps.{told_written, told_unwritten, memory_before, is_memory}
 use Rattle.uu_statements.proofs.command.carry_out.Goals as goal
 
 pub returns-in-Ok-clause-step : goal.returns-in-Ok-clause-step
@@ -10,3 +10,8 @@ pub returns-in-Err-clause-step : goal.returns-in-Err-clause-step
 returns-in-Err-clause-step g c s command planned =
     told_unwritten s command (state g.S.Store c.args.conn.now) (state g.S.Store c.write_plan.new.conn) (state g.S.Store c.halt_fault.new.conn) c.in-Err.halt c.halt_fault.result
     (rw c.in-Err.is at (c.write_plan.ensures.step s command planned)) c.halt_fault.ensures.memory c.halt_fault.ensures.survives
+
+pub returns-in-Err-clause-memory : goal.returns-in-Err-clause-memory
+returns-in-Err-clause-memory g c is =
+    memory_before (state g.S.Store c.args.conn.now) (state g.S.Store c.write_plan.new.conn) (state g.S.Store c.halt_fault.new.conn) c.in-Err.halt c.halt_fault.result
+    (rw c.in-Err.is at c.write_plan.ensures.before) c.halt_fault.ensures.commit c.halt_fault.ensures.survives (is_memory c.halt_fault.result is)
