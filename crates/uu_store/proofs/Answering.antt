@@ -1,6 +1,6 @@
 -- How a question ends, with the fault that the caller is told.
-use Rattle.std.proofs.Common.{◌≡◌, refl, inl, inr, Result, Ok, Err, arith}
-use Rattle.std.specs.Prelude.{IsTrue, IsOk, IfOk}
+use Rattle.std.proofs.Common.{◌≡◌, refl, sym, subst, inl, inr, Bool, true, false, Result, Ok, Err, arith}
+use Rattle.std.specs.Prelude.{IsTrue, IfOk}
 use Rattle.sqlite.specs.declared.error.Error.{Error}
 use Rattle.sqlite.specs.State as db
 use Rattle.uu_sql.specs.Steps.{Rests}
@@ -8,10 +8,12 @@ use Rattle.uu_sql.proofs.Steps.{told_same}
 use Rattle.uu_core.specs.State.{State}
 use Rattle.uu_schema.specs.Schema.{site}
 use Rattle.uu_schema.specs.declared.fault.StoreFault.{StoreFault}
-use Rattle.uu_schema.specs.declared.fault.StoreFault.TheVariants.{Memory}
+use Rattle.uu_schema.specs.declared.fault.StoreFault.TheVariants.{Memory, Store}
+use Rattle.uu_schema.specs.declared.fault.StoreKind.TheVariants.{Database}
 use Rattle.uu_questions.specs.Answers.{Answers}
 use Rattle.uu_store.specs.Calls.{IsAnswered}
 use Rattle.uu_store.specs.Encoded.{Encodes}
+use Rattle.uu_store.specs.HandedOut.{within_limits}
 use Rattle.uu_store.proofs.Resting.{ready, moved, unchanged, is_memory, asked_of}
 
 module _ {T : Type 0} (IsAnswer : State → T → Type 0) (a b : db.State) where
@@ -52,6 +54,14 @@ module _ {T : Type 0} (IsAnswer : State → T → Type 0) (a b : db.State) where
     stop = λ clean s rests enc trees may. elim (it.told.asked.survives.crash clean trees may) [ inl was ↦ was | inr never ↦ absurd (never (ready s a rests enc)) ];
     clean = it.told.asked.survives.clean;
   }
+
+  -- what was answered is handed out where it is within the limits
+  pub answered_within : (fine : Bool) (answer : T) (r : Result T StoreFault) → r ≡ within_limits fine answer → Answers {T = T} IsAnswer a b (Ok answer) → IsAnswered IsAnswer a b r
+  answered_within fine answer r is it = subst (IsAnswered IsAnswer a b) (sym is) (by_test fine)
+    where
+      by_test : (fine : Bool) → IsAnswered IsAnswer a b (within_limits fine answer)
+      by_test true = answered_ok answer it
+      by_test false = answered_past answer (Store Database) (λ same. absurd (cc)) it
 
 -- the same answer, said in other words
 pub answered_as : {T : Type 0} (P R : State → T → Type 0) (a b : db.State) (answer : T) → ((s : State) → P s answer → R s answer) → Answers {T = T} P a b (Ok answer) → Answers {T = T} R a b (Ok answer)

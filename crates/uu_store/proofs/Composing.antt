@@ -4,10 +4,10 @@ use Rattle.std.specs.Prelude.{IfOk, OnOk, IsOk, IsErr}
 use Rattle.sqlite.specs.declared.error.Error.{Error}
 use Rattle.sqlite.specs.Tree.{Trees}
 use Rattle.sqlite.specs.State.{State as DbState, HasCleanDisk}
-use Rattle.uu_sql.specs.Steps.{Stands, Told}
+use Rattle.uu_sql.specs.Steps.{Stands}
 use Rattle.uu_sql.proofs.Steps.{told_also, told_not, told_told}
 use Rattle.uu_schema.specs.Schema.{site}
-use Rattle.uu_questions.specs.Taking.{Takes}
+use Rattle.uu_taking.specs.Taking.{Takes}
 
 from_ok : {T E P : Type 0} (r : Result T E) → IsOk r → OnOk r P → P
 from_ok (Ok x) ok p = p

@@ -6,7 +6,7 @@ use Rattle.sqlite.specs.Tree.{Trees}
 use Rattle.sqlite.specs.State as db
 use Rattle.sqlite_schema.specs.Names.{same_name}
 use Rattle.uu_sql.specs.Steps.{Stands, Rests, Whole, Did, Ends}
-use Rattle.uu_core.specs.State.{State, IsWellFormed, empty}
+use Rattle.uu_core.specs.State.{IsWellFormed, empty}
 use Rattle.uu_schema.specs.Schema.{site, no_schema}
 use Rattle.uu_schema.specs.Held.{MakesEmpty}
 use Rattle.uu_schema.specs.declared.fault.StoreFault.{StoreFault}

@@ -1,5 +1,5 @@
 -- What a stop leaves, by the law that while a connection is open it leaves the last commit.
-use Rattle.std.proofs.Common.{◌≡◌, Result, Ok, Bool, false, ◌⊎◌, inl, inr, ap, sym, subst, ◌∙◌}
+use Rattle.std.proofs.Common.{◌≡◌, Ok, Bool, false, ◌⊎◌, inl, inr, ap, sym, subst, ◌∙◌}
 use Rattle.std.specs.Prelude.{IsTrue}
 use Rattle.sqlite.specs.Tree.{Trees}
 use Rattle.sqlite.specs.Effect.{Database}

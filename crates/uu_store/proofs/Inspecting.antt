@@ -1,6 +1,6 @@
 -- How looking at a database ends, with the fault that the caller is told.
 use Rattle.std.proofs.Common.{◌≡◌, ◌≢◌, inl, inr, Result, Ok, Err, refl, sym, ap, subst, ◌∙◌, arith}
-use Rattle.std.specs.Prelude.{IsTrue, IsOk, OnOk, ⊤}
+use Rattle.std.specs.Prelude.{IsTrue, IsOk}
 use Rattle.sqlite.specs.Tree.{Trees}
 use Rattle.sqlite.specs.State as db
 use Rattle.uu_sql.specs.Steps.{Stands, Rests, Ready, Asked, Told}
@@ -14,7 +14,7 @@ use Rattle.uu_core.specs.State.{State}
 use Rattle.uu_schema.specs.Faults.{IsFresh}
 use Rattle.uu_store.specs.Encoded.{HoldsState, Encodes}
 use Rattle.uu_store.specs.Calls.{CreatesTables}
-use Rattle.uu_questions.specs.Version.{IsLater}
+use Rattle.uu_taking.specs.Version.{IsLater}
 use Rattle.uu_store.specs.Adoption.{IsOfNone, IsInspected, UnlessStore, UnlessFailed, IsAsBefore, StopsAs}
 use Rattle.uu_store.proofs.Resting.{ready, moved}
 use Rattle.uu_store.proofs.Ending.{Settles, leaves}

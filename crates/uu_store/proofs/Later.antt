@@ -9,7 +9,7 @@ use Rattle.sqlite_rules.specs.Lists.{Has}
 use Rattle.uu_core.specs.State.{State}
 use Rattle.uu_schema.specs.Made.{spool_row, version}
 use Rattle.uu_store.specs.Encoded.{HoldsState}
-use Rattle.uu_questions.specs.Version.{IsLater}
+use Rattle.uu_taking.specs.Version.{IsLater}
 
 pub not_later : (trees : Trees) (s : State) → HoldsState trees s → IsLater trees → ⊥
 not_later trees s holds it = go (subst (λ rows. Has rows it.row) holds.tables.spool it.there)

@@ -12,3 +12,11 @@ pub mod Words
 pub mod CellsTell
 pub mod OneState
 pub mod Handing
+pub mod Adopting
+pub mod Running
+pub mod Reopening
+pub mod Acknowledging
+pub mod Accounting
+pub mod Images
+pub mod Opening
+pub mod FileRuns

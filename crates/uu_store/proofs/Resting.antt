@@ -9,7 +9,7 @@ use Rattle.uu_schema.specs.Schema.{site}
 use Rattle.uu_schema.specs.declared.fault.StoreFault.{StoreFault}
 use Rattle.uu_schema.specs.declared.fault.StoreFault.TheVariants.{Memory}
 use Rattle.uu_questions.specs.Answers.{IsOf}
-use Rattle.uu_store.specs.Encoded.{Encodes, HoldsState}
+use Rattle.uu_store.specs.Encoded.{Encodes}
 
 pub ready : (s : State) (a : db.State) → Rests a → Encodes a.now s → Ready site a
 ready s a rests enc = record { rests = rests; stands = enc.stands }

@@ -1,13 +1,11 @@
 -- The tables of a well-formed state are such as are read, each in the strict order of its key, and no key stands twice.
-use Rattle.std.proofs.Common.{◌≡◌, ◌≢◌, ℕ, ◌<◌, ◌≤◌, ◌^◌, List, map, Less, Equal, Ordering, Option, None, Some, IfSome, refl, sym, ap, ◌∙◌, arith}
+use Rattle.std.proofs.Common.{◌≡◌, ℕ, ◌<◌, List, Less, Equal, Ordering, Option, None, Some, IfSome, refl, ap, arith}
 use Rattle.std.specs.List.{AllByRecursion}
-use Rattle.std.specs.Ordering.{nat_cmp}
-use Rattle.std.specs.Cmp.Lexicographic.{slice_cmp}
 use Rattle.sqlite.specs.Order.{Row}
 use Rattle.sqlite.specs.Tree.{IsAscending}
 use Rattle.sqlite_keyed.proofs.ListLemmas.{ascending_weaker, all_weaker}
 use Rattle.uu_times.specs.System.{IsRetry}
-use Rattle.uu_core.specs.State.{State, IsWellFormed, ComesBefore}
+use Rattle.uu_core.specs.State.{State, IsWellFormed}
 use Rattle.uu_core.specs.declared.job.JobHead.{JobHead}
 use Rattle.uu_tables.specs.declared.rows.SystemColumns.{SystemColumns}
 use Rattle.uu_tables.specs.declared.rows.LineColumns.{LineColumns}
@@ -20,9 +18,9 @@ use Rattle.uu_check.proofs.Rising.{in_order}
 use Rattle.uu_check.proofs.Reading.{readable}
 use Rattle.uu_schema.specs.Keyed.{Keyed}
 use Rattle.uu_schema.specs.Held.{system_key, line_key, range_key, job_key, piece_key, entry_key}
-use Rattle.uu_questions.specs.Readable.{IsSmall, IsSystem, IsLine, IsRange, IsHead, IsSize, IsEntry}
-use Rattle.uu_questions.specs.Order.{system_cmp, line_cmp, range_cmp, head_cmp, piece_cmp, entry_cmp}
-use Rattle.uu_questions.specs.Taking.{AreInOrder, AreRows}
+use Rattle.uu_rows.specs.Readable.{IsSmall, IsSystem, IsLine, IsRange, IsHead, IsSize, IsEntry}
+use Rattle.uu_rows.specs.Order.{system_cmp, line_cmp, range_cmp, head_cmp, piece_cmp, entry_cmp}
+use Rattle.uu_taking.specs.Taking.{AreInOrder, AreRows}
 use Rattle.uu_questions.proofs.InOrder.{ascending_pairs}
 use Rattle.uu_questions.proofs.OfState.{heads_good}
 use Rattle.uu_questions.proofs.Rising.{same_name, same_number}

@@ -1,13 +1,11 @@
 -- How a command ends: what it names is asked first, and then it is carried out.
-use Rattle.std.proofs.Common.{◌≡◌, ◌⊎◌, ◌≤◌, inl, inr, refl, sym, subst, Result, Ok, Err, arith}
-use Rattle.std.specs.Prelude.{IsTrue, IfOk}
+use Rattle.std.proofs.Common.{◌≡◌, ◌≤◌, inl, inr, refl, Result, Ok, Err, arith}
+use Rattle.std.specs.Prelude.{IsTrue}
 use Rattle.std.proofs.lemmas.Result.{IfOk-weaker}
 use Rattle.sqlite.specs.declared.error.Error.{Error}
-use Rattle.sqlite.specs.Tree.{Trees}
 use Rattle.sqlite.specs.Effect.{Database}
 use Rattle.sqlite.specs.State as db
 use Rattle.sqlite.specs.View.{doubt}
-use Rattle.sqlite_catalog.specs.Listing.{IsSound}
 use Rattle.uu_sql.specs.Steps.{Rests}
 use Rattle.uu_sql.proofs.Steps.{told_same}
 use Rattle.uu_core.specs.declared.command.Command.{Command}

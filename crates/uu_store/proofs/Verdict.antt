@@ -1,17 +1,17 @@
 -- From the rows that are read to whether they are those of a state.
-use Rattle.std.proofs.Common.{◌≡◌, ℕ, List, Bool, true, false, map, Option, None, Some, Result, Ok, Err, refl, sym, ap, subst, ◌∙◌, true≢false}
+use Rattle.std.proofs.Common.{◌≡◌, Bool, true, None, Result, Ok, Err, refl, sym, ap, subst, ◌∙◌, true≢false}
 use Rattle.std.specs.Prelude.{◌↔◌, IfOk, ◌∷◌, []}
 use Rattle.sqlite.specs.Tree.{Trees}
 use Rattle.uu_core.specs.State.{State, IsWellFormed}
-use Rattle.uu_tables.specs.Tables.{Tables, Piece, tables_of, size_of}
+use Rattle.uu_tables.specs.Tables.{Tables, tables_of}
 use Rattle.uu_check.specs.declared.spool.Rows.{Rows}
 use Rattle.uu_check.specs.OfState.{AreTables, AreRowsOf}
 use Rattle.uu_schema.specs.Schema.{systems, lines, ranges, jobs, pieces, entries}
 use Rattle.uu_schema.specs.Made.{spool_row}
 use Rattle.uu_schema.specs.Held.{Holds, system_key, line_key, range_key, job_key, piece_key, entry_key, system_places, line_places, range_places, job_places, piece_places, entry_places}
 use Rattle.uu_schema.specs.Cells.{system_cells, line_cells, range_cells, job_cells, piece_cells, entry_cells}
-use Rattle.uu_questions.specs.Order.{system_cmp, line_cmp, range_cmp, head_cmp, piece_cmp, entry_cmp}
-use Rattle.uu_questions.specs.Taking.{AreRows, Tells}
+use Rattle.uu_rows.specs.Order.{system_cmp, line_cmp, range_cmp, head_cmp, piece_cmp, entry_cmp}
+use Rattle.uu_taking.specs.Taking.{AreRows, Tells}
 use Rattle.uu_store.specs.declared.reading.AllRows.{AllRows}
 use Rattle.uu_store.specs.Encoded.{HoldsState}
 use Rattle.uu_store.specs.Adoption.{IsOfNone}

@@ -8,7 +8,7 @@ use Rattle.uu_core.specs.State.{State, empty}
 use Rattle.uu_schema.specs.Schema.{site, no_schema}
 use Rattle.uu_schema.specs.declared.fault.StoreFault.{StoreFault}
 use Rattle.uu_schema.specs.declared.fault.StoreFault.TheVariants.{Store, Newer, Foreign as ForeignFault}
-use Rattle.uu_questions.specs.Version.{IsLater}
+use Rattle.uu_taking.specs.Version.{IsLater}
 use Rattle.uu_store.specs.declared.inspection.Finding.{Finding}
 use Rattle.uu_store.specs.declared.inspection.Finding.TheVariants.{Spool, Foreign, Later}
 use Rattle.uu_store.specs.Encoded.{Encodes, HoldsState, Leaves}

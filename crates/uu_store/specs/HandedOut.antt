@@ -1,9 +1,12 @@
 -- What is handed out of a job, and within which limits, whatever the store. (The limits are this project's choice.)
-use Rattle.std.specs.Prelude.{ℕ, ◌≤◌, Bool, ◌&&◌, nat_le, List, Vec}
+use Rattle.std.specs.Prelude.{ℕ, ◌≤◌, Bool, true, false, ◌&&◌, nat_le, List, Vec, Option, Some, None, Result, Ok, Err}
 use Rattle.std.specs.declared.alloc.Global.{Global}
 use Rattle.uu_core.specs.declared.job.JobHead.{JobHead}
 use Rattle.uu_core.specs.declared.system.SystemRow.{SystemRow}
 use Rattle.uu_core.specs.State.{Job, last_second, most_bytes}
+use Rattle.uu_schema.specs.declared.fault.StoreFault.{StoreFault}
+use Rattle.uu_schema.specs.declared.fault.StoreFault.TheVariants.{Store}
+use Rattle.uu_schema.specs.declared.fault.StoreKind.TheVariants.{Database}
 
 -- a head and the bytes that go with it
 abbrev pub job_with : JobHead → List ℕ → Job
@@ -28,3 +31,13 @@ is_bounded head = nat_le head.queued last_second && nat_le head.size most_bytes
 
 abbrev pub is_timed : SystemRow → Bool
 is_timed row = nat_le row.call.last last_second
+
+-- a job that isn't there is within every limit
+abbrev pub is_found_bounded : Option (JobHead × Vec ℕ Global) → Bool
+is_found_bounded None = true
+is_found_bounded (Some job) = is_bounded job.0
+
+-- an answer within the limits is handed out as it is, and any other is a failure of the store
+abbrev pub within_limits : {T : Type 0} → Bool → T → Result T StoreFault
+within_limits true answer = Ok answer
+within_limits false answer = Err (Store Database)

@@ -1,7 +1,15 @@
 pub mod Encoded
+pub mod Kept
 pub mod Calls
 pub mod Spool
 pub mod FoundTables
 pub mod Adoption
 pub mod Reading
 pub mod HandedOut
+pub mod Runs
+pub mod Exchanges
+pub mod Stretches
+pub mod Acknowledged
+pub mod Remembered
+pub mod Openings
+pub mod Files

@@ -1,5 +1,5 @@
 -- What is read of a database's seven tables, when it is looked at as a spool.
-use Rattle.std.specs.Prelude.{◌≡◌, ◌≢◌, ℕ, List, [], ◌∷◌, Vec, Option, Some, MatchOption}
+use Rattle.std.specs.Prelude.{◌≡◌, ◌≢◌, ℕ, [], ◌∷◌, Vec, Option, Some, MatchOption}
 use Rattle.std.specs.declared.alloc.Global.{Global}
 use Rattle.sqlite.specs.Tree.{Trees}
 use Rattle.uu_core.specs.declared.job.JobHead.{JobHead}
@@ -12,9 +12,9 @@ use Rattle.uu_schema.specs.Schema.{spool, systems, lines, ranges, jobs, pieces, 
 use Rattle.uu_schema.specs.Made.{spool_row}
 use Rattle.uu_schema.specs.Held.{system_key, line_key, range_key, job_key, entry_key, system_places, line_places, range_places, job_places, entry_places}
 use Rattle.uu_schema.specs.Cells.{system_cells, line_cells, range_cells, job_cells, entry_cells}
-use Rattle.uu_questions.specs.Readable.{IsSmall, IsSystem, IsLine, IsRange, IsHead, IsEntry}
-use Rattle.uu_questions.specs.Order.{system_cmp, line_cmp, range_cmp, head_cmp, entry_cmp}
-use Rattle.uu_questions.specs.Taking.{Finds, FindsSizes}
+use Rattle.uu_rows.specs.Readable.{IsSmall, IsSystem, IsLine, IsRange, IsHead, IsEntry}
+use Rattle.uu_rows.specs.Order.{system_cmp, line_cmp, range_cmp, head_cmp, entry_cmp}
+use Rattle.uu_taking.specs.Taking.{Finds, FindsSizes}
 use Rattle.uu_store.specs.Adoption.{IsOfNone}
 use Rattle.uu_store.specs.declared.reading.Callers.{Callers}
 use Rattle.uu_store.specs.declared.reading.Waiting.{Waiting}

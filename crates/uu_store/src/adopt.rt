@@ -10,6 +10,7 @@ ghost use Rattle.uu_store.specs.Encoded.{Encodes};
 ghost use Rattle.uu_store.specs.Adoption.{IsInspected};
 
 use crate::inspection::inspect;
+use crate::laws::no_answered_command_is_lost_over;
 use crate::spool::Spool;
 use crate::tables::{Found, found_in};
 use sqlite::{Alter, Connection};
@@ -33,6 +34,7 @@ fn create_tables<S: Alter>(conn: &mut Connection<S>) -> Result<(), StoreFault>
     ensures fresh { IfErr result IsFresh }
     ensures idle { conn.new.in_transaction ≡ false }
     ensures creates { CreatesTables (state S.Store conn.old) (state S.Store conn.new) result }
+    ensures clean { StaysUnclean (state S.Store conn.old) (state S.Store conn.new) }
 {
     states_stay_well_formed();
     match create(conn) {
@@ -48,6 +50,7 @@ fn prepare<S: Alter>(alloc: Global, conn: &mut Connection<S>) -> Result<(), Stor
     ensures inspected { IsInspected (state S.Store conn.old) (state S.Store conn.new) result }
     ensures creates { CreatesTables (state S.Store conn.old) (state S.Store conn.new) result }
     ensures welcomed { Stands no_schema (state S.Store conn.old).now → IfErr result (λ fault. (fault ≢ StoreFault.Foreign) × (fault ≢ StoreFault.Newer)) }
+    ensures clean { StaysUnclean (state S.Store conn.old) (state S.Store conn.new) }
 {
     match found_in(conn.schema()) {
         Found::Nothing => create_tables(conn),
@@ -62,9 +65,11 @@ impl<S: Alter> Spool<S> {
     ghost use Rattle.uu_schema.specs.Schema.{site, no_schema};
     ghost use Rattle.uu_core.specs.State.{empty};
     ghost use Rattle.uu_store.specs.Encoded.{Leaves};
-    ghost use Rattle.uu_questions.specs.Version.{IsLater};
+    ghost use Rattle.uu_taking.specs.Version.{IsLater};
     ghost use Rattle.uu_store.specs.Adoption.{UnlessFailed, IsAsBefore, StopsAs};
-    ghost use Rattle.uu_store.specs.Spool.{disk, has_failed, Shows};
+    ghost use Rattle.uu_store.specs.Spool.{disk, has_failed};
+    ghost use Rattle.uu_store.specs.Stretches.{Adopted, TurnedAway};
+    ghost use Rattle.uu_store.specs.Remembered.{Remembers};
 
     /// Takes the database as a spool: one without the spool's tables gets them, in one transaction. One that has them, and no
     /// others, is taken exactly where its rows are those of a spool's state.
@@ -79,29 +84,33 @@ impl<S: Alter> Spool<S> {
 
         // What it gives can be used, and `Failed` never comes.
         ensures usable { IfOk result (λ spool. has_failed spool ≡ false) }
-        ensures fresh { IfErr result (λ e. e.fault ≢ StoreFault.Failed) }
+        ensures never_failed { IfErr result (λ e. e.fault ≢ StoreFault.Failed) }
 
-        // A database that encodes a state is taken as it is, and one that encodes none isn't.
-        ensures kept { IfOk result (λ spool. HasCleanDisk (disk spool) → (s : _) → Rests (state S.Store conn) → Encodes (state S.Store conn).now s → Shows spool s) }
-        ensures read { IfOk result (λ spool. HasCleanDisk (disk spool) → Stands site (state S.Store conn).now → (s : _) × Encodes (state S.Store conn).now s) }
-        ensures taken { IfErr result (λ e. HasCleanDisk (state S.Store e.conn) → (s : _) → Encodes (state S.Store conn).now s → (e.fault ≢ StoreFault.Foreign) × (e.fault ≢ StoreFault.Newer)) }
+        // A database that encodes a state is taken as it is, and an empty one becomes an empty spool. One that encodes no state isn't taken.
+        ensures adopted { IfOk result (λ spool. Adopted conn spool) }
+        ensures encoded_before { IfOk result (λ spool. HasCleanDisk (disk spool) → Stands site (state S.Store conn).now → (s : _) × Encodes (state S.Store conn).now s) }
 
-        // Of one that has the tables, a refusal by name tells why.
-        ensures refused { IfErr result (λ e. HasCleanDisk (state S.Store e.conn) → Stands site (state S.Store conn).now → e.fault ≡ StoreFault.Foreign → (¬ IsLater (state S.Store conn).now.trees) × ((s : _) → ¬ Encodes (state S.Store conn).now s)) }
-        ensures newer { IfErr result (λ e. HasCleanDisk (state S.Store e.conn) → Stands site (state S.Store conn).now → e.fault ≡ StoreFault.Newer → IsLater (state S.Store conn).now.trees) }
+        // A spool is never refused by name, and neither is an empty database.
+        ensures spool_never_refused { IfErr result (λ e. HasCleanDisk (state S.Store e.conn) → (s : _) → Encodes (state S.Store conn).now s → (e.fault ≢ StoreFault.Foreign) × (e.fault ≢ StoreFault.Newer)) }
+        ensures empty_never_refused { IfErr result (λ e. Stands no_schema (state S.Store conn).now → (e.fault ≢ StoreFault.Foreign) × (e.fault ≢ StoreFault.Newer)) }
 
-        // An empty one becomes an empty spool.
-        ensures begun { IfOk result (λ spool. HasCleanDisk (disk spool) → Rests (state S.Store conn) → Stands no_schema (state S.Store conn).now → Shows spool empty) }
-        ensures welcomed { IfErr result (λ e. Stands no_schema (state S.Store conn).now → (e.fault ≢ StoreFault.Foreign) × (e.fault ≢ StoreFault.Newer)) }
+        // Of a database that has the tables, a refusal by name tells why.
+        ensures foreign_encodes_no_state { IfErr result (λ e. HasCleanDisk (state S.Store e.conn) → Stands site (state S.Store conn).now → e.fault ≡ StoreFault.Foreign → (¬ IsLater (state S.Store conn).now.trees) × ((s : _) → ¬ Encodes (state S.Store conn).now s)) }
+        ensures newer_names_a_later_version { IfErr result (λ e. HasCleanDisk (state S.Store e.conn) → Stands site (state S.Store conn).now → e.fault ≡ StoreFault.Newer → IsLater (state S.Store conn).now.trees) }
 
         // A refusal leaves it as it was.
-        ensures unchanged { IfErr result (λ e. HasCleanDisk (state S.Store e.conn) → Rests (state S.Store conn) → UnlessFailed e.fault (IsAsBefore (state S.Store conn) (state S.Store e.conn))) }
+        ensures refusal_changes_nothing { IfErr result (λ e. HasCleanDisk (state S.Store e.conn) → Rests (state S.Store conn) → UnlessFailed e.fault (IsAsBefore (state S.Store conn) (state S.Store e.conn))) }
 
         // What a stop at its end leaves: the state that was encoded, or of an empty one nothing or an empty spool.
-        ensures stop_ok { IfOk result (λ spool. HasCleanDisk (disk spool) → Rests (state S.Store conn) → StopsAs (state S.Store conn) (disk spool)) }
-        ensures stop_err { IfErr result (λ e. HasCleanDisk (state S.Store e.conn) → Rests (state S.Store conn) → StopsAs (state S.Store conn) (state S.Store e.conn)) }
-        ensures stop_begun { IfOk result (λ spool. HasCleanDisk (disk spool) → Rests (state S.Store conn) → Stands no_schema (state S.Store conn).now → Leaves (disk spool) empty) }
+        ensures stop_when_taken { IfOk result (λ spool. HasCleanDisk (disk spool) → Rests (state S.Store conn) → StopsAs (state S.Store conn) (disk spool)) }
+        ensures stop_when_created { IfOk result (λ spool. HasCleanDisk (disk spool) → Rests (state S.Store conn) → Stands no_schema (state S.Store conn).now → Leaves (disk spool) empty) }
+        ensures stop_when_turned_away { IfErr result (λ e. HasCleanDisk (state S.Store e.conn) → Rests (state S.Store conn) → StopsAs (state S.Store conn) (state S.Store e.conn)) }
+        ensures turned_away { IfErr result (λ e. TurnedAway S.Store conn e.conn) }
+
+        // No answered command is lost, over any stretches before.
+        ensures remembers { IfOk result (Remembers conn) }
     {
+        no_answered_command_is_lost_over::<S>();
         let mut conn = conn;
         match prepare(alloc, &mut conn) {
             Ok(()) => Ok(Spool::over(conn)),

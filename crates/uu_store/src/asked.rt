@@ -8,13 +8,14 @@ ghost use Rattle.uu_core.specs.Due.{AreDue};
 ghost use Rattle.uu_tables.specs.Plans.{AreFacts};
 ghost use Rattle.uu_schema.specs.Faults.{IsFresh};
 ghost use Rattle.uu_questions.specs.Listing.{listed};
-ghost use Rattle.uu_store.specs.HandedOut.{IsBounded, IsTimed, is_bounded, is_timed, job_shown};
+ghost use Rattle.uu_store.specs.HandedOut.{IsBounded, IsTimed, is_bounded, is_found_bounded, is_timed, job_shown, within_limits};
 ghost use Rattle.uu_statements.specs.Step.{IsToldStep};
 ghost use Rattle.uu_store.specs.Calls.{IsStep, IsAnswered};
 
 use sqlite::{Alter, Connection};
 use std::alloc::Global;
 use uu_core::laws::{commands_are_sound, states_stay_well_formed};
+use uu_core::limits::MAX_BYTES;
 use uu_core::{Command, Due, Filter, JobHead, Reply, SystemRow};
 use uu_names::SiteName;
 use uu_questions::{
@@ -24,6 +25,7 @@ use uu_schema::{StoreFault, StoreKind, store_fault};
 use uu_statements::carry_out;
 use uu_tables::{Facts, make_plan};
 use uu_times::Moment;
+use uu_times::moment::LAST_SECOND;
 
 // The command, where these are the facts.
 fn carry_out_with<S: Alter>(
@@ -76,12 +78,6 @@ pub(crate) fn next<S: Alter>(conn: &mut Connection<S>) -> Result<u32, StoreFault
     }
 }
 
-/// The last second that a moment can have.
-const LAST_SECOND: u64 = 4_102_444_800;
-
-/// The most bytes of a job.
-const MAX_BYTES: u32 = 1_048_576;
-
 // Whether the head is within the limits that a report relies on.
 fn is_bounded(head: &JobHead) -> bool
     ensures { result ≡ is_bounded head.now }
@@ -95,11 +91,49 @@ fn are_bounded(heads: &[JobHead]) -> bool
     heads.iter().all(|head| is_bounded(head))
 }
 
+// The heads, unless one of them is past the limits.
+fn bounded_heads(heads: Vec<JobHead>) -> Result<Vec<JobHead>, StoreFault>
+    ensures { result ≡ within_limits (list_all is_bounded heads.items) heads }
+{
+    if are_bounded(&heads) {
+        Ok(heads)
+    } else {
+        Err(StoreFault::Store(StoreKind::Database))
+    }
+}
+
+// What was found, unless it is a job past the limits.
+fn bounded_job(found: Option<(JobHead, Vec<u8>)>) -> Result<Option<(JobHead, Vec<u8>)>, StoreFault>
+    ensures { result ≡ within_limits (is_found_bounded found) found }
+{
+    match found {
+        Some((head, bytes)) => {
+            if is_bounded(&head) {
+                Ok(Some((head, bytes)))
+            } else {
+                Err(StoreFault::Store(StoreKind::Database))
+            }
+        }
+        None => Ok(None),
+    }
+}
+
 // Whether the last call of each system is within the moments.
 fn are_timed(systems: &[SystemRow]) -> bool
     ensures { result ≡ list_all is_timed systems.now }
 {
     systems.iter().all(|system| system.call.last <= LAST_SECOND)
+}
+
+// The systems, unless the last call of one of them is past the moments.
+fn timed_systems(systems: Vec<SystemRow>) -> Result<Vec<SystemRow>, StoreFault>
+    ensures { result ≡ within_limits (list_all is_timed systems.items) systems }
+{
+    if are_timed(&systems) {
+        Ok(systems)
+    } else {
+        Err(StoreFault::Store(StoreKind::Database))
+    }
 }
 
 /// The heads of the jobs that fit, by grade and number.
@@ -115,13 +149,7 @@ pub(crate) fn list<S: Alter>(
     ensures bounds { IfOk result (λ heads. AllByRecursion IsBounded heads.items) }
 {
     match list_jobs(alloc, conn, filter) {
-        Ok(heads) => {
-            if are_bounded(&heads) {
-                Ok(heads)
-            } else {
-                Err(StoreFault::Store(StoreKind::Database))
-            }
-        }
+        Ok(heads) => bounded_heads(heads),
         Err(error) => Err(store_fault(conn, &error)),
     }
 }
@@ -139,14 +167,7 @@ pub(crate) fn find<S: Alter>(
     ensures bounds { IfOk result (λ found. IfSome found (λ job. IsBounded job.0)) }
 {
     match job_of_number(alloc, conn, number) {
-        Ok(Some((head, bytes))) => {
-            if is_bounded(&head) {
-                Ok(Some((head, bytes)))
-            } else {
-                Err(StoreFault::Store(StoreKind::Database))
-            }
-        }
-        Ok(None) => Ok(None),
+        Ok(found) => bounded_job(found),
         Err(error) => Err(store_fault(conn, &error)),
     }
 }
@@ -163,13 +184,7 @@ pub(crate) fn systems<S: Alter>(
     ensures bounds { IfOk result (λ systems. AllByRecursion IsTimed systems.items) }
 {
     match all_systems(alloc, conn) {
-        Ok(systems) => {
-            if are_timed(&systems) {
-                Ok(systems)
-            } else {
-                Err(StoreFault::Store(StoreKind::Database))
-            }
-        }
+        Ok(systems) => timed_systems(systems),
         Err(error) => Err(store_fault(conn, &error)),
     }
 }

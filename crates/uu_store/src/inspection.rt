@@ -5,12 +5,13 @@ ghost use Rattle.sqlite.specs.State.{HasCleanDisk};
 ghost use Rattle.uu_sql.specs.Steps.{Stands, Told};
 ghost use Rattle.uu_schema.specs.Schema.{site};
 ghost use Rattle.uu_store.specs.Adoption.{Finds, IsInspected};
+ghost use Rattle.uu_store.specs.Calls.{StaysUnclean};
 
 use crate::reading::are_of_a_state;
 use sqlite::{Alter, Connection, Error};
 use std::alloc::Global;
-use uu_questions::names_later;
 use uu_schema::{StoreFault, store_fault};
+use uu_taking::names_later;
 
 /// What a database with a table `spool` is found to be.
 #[derive(Clone, Copy, Debug, PartialEq, Eq)]
@@ -56,6 +57,7 @@ pub(crate) fn inspect<S: Alter>(
     ensures fresh { IfErr result (λ fault. fault ≢ StoreFault.Failed) }
     ensures idle { conn.new.in_transaction ≡ false }
     ensures inspected { whole ≡ true → IsInspected (state S.Store conn.old) (state S.Store conn.new) result }
+    ensures clean { StaysUnclean (state S.Store conn.old) (state S.Store conn.new) }
 {
     match find_out(alloc, conn, whole) {
         Ok(Finding::Spool) => Ok(()),

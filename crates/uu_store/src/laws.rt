@@ -1,10 +1,32 @@
 //! What follows from the definitions.
-ghost use Rattle.std.specs.Prelude.{◌≡◌};
+ghost use Rattle.std.specs.Prelude.{◌≡◌, ◌++◌, ℕ, List, length, Option};
 ghost use Rattle.sqlite.specs.Tree.{Trees};
-ghost use Rattle.uu_core.specs.State.{State};
+ghost use Rattle.sqlite.specs.Held.{Held, state};
+ghost use Rattle.sqlite.specs.State as db;
+ghost use Rattle.sqlite.specs.State.{IsLive};
+ghost use Rattle.sqlite_wal.specs.Recovery.{Image};
+ghost use Rattle.uu_sql.specs.Steps.{Rests};
+ghost use Rattle.uu_core.specs.declared.command.Command.{Command};
+ghost use Rattle.uu_core.specs.declared.command.Reply.{Reply};
+ghost use Rattle.uu_core.specs.declared.job.NewJob.{NewJob};
+ghost use Rattle.uu_core.specs.State.{State, IsWellFormed};
+ghost use Rattle.uu_schema.specs.declared.fault.StoreFault.{StoreFault};
+ghost use Rattle.uu_store.specs.declared.spool.Spool.{Spool};
 ghost use Rattle.uu_store.specs.Encoded.{HoldsState};
+ghost use Rattle.uu_store.specs.Kept.{Stores, KeepsOnly};
+ghost use Rattle.uu_store.specs.Runs.{GoesOn, Ran};
+ghost use Rattle.uu_store.specs.Exchanges.{Exchange, Passes};
+ghost use Rattle.uu_store.specs.Stretches.{Stretch, StretchOver, Reopens, LeadTo, StoresAfter, Led, exchanges, told};
+ghost use Rattle.uu_store.specs.Acknowledged.{IsAcknowledged, IsAccountedFor, StoresJob};
+ghost use Rattle.uu_store.specs.Files.{FileStretch, AllFilesPassed, last_left, file_exchanges, KeepsAfter, KeepsJob};
+ghost use Rattle.uu_store.specs.Openings.{ImageKeeps};
 
+use sqlite::Alter;
 use uu_check::laws::{tables_are_in_order, tables_are_readable, tables_tell_the_state};
+use uu_core::laws::{
+    jobs_are_handed_in, jobs_stay_through_runs, numbers_are_not_used_again,
+    runs_follow_one_another, states_stay_well_formed,
+};
 
 /// A database encodes at most one state: whatever a call says of the state that is shown, it says of one alone.
 pub fn one_database_has_one_state()
@@ -13,4 +35,86 @@ pub fn one_database_has_one_state()
     tables_are_in_order();
     tables_are_readable();
     tables_tell_the_state();
+}
+
+/// Where every command of a run was answered, it and the next run are one run of all the commands. (A question is a run of none.)
+pub fn runs_are_one_run<S: Alter>()
+    ensures { (old mid new : Spool S S.Store) (one other : List Command) (first second : List Reply) (was stopped : Option StoreFault)
+        → length first ≡ length one → GoesOn was → Ran one old mid first was → Ran other mid new second stopped → Ran (one ++ other) old new (first ++ second) stopped }
+{
+    runs_follow_one_another();
+}
+
+/// A connection at rest leaves what it stores, and an opening after a stop may find it as it is.
+pub fn a_store_at_rest_leaves_what_it_stores<S: Alter>()
+    ensures left { (held : Held S) (s : State) → Rests (state S.Store held) → Stores (state S.Store held).now s → KeepsOnly (state S.Store held).may_leave s }
+    ensures again { (held : Held S) → Rests (state S.Store held) → IsLive (state S.Store held) → Reopens (state S.Store held).may_leave (state S.Store held) }
+{}
+
+/// Stretches of work that follow one another: what could be left before them, the stretches, and what an opening after the last one found.
+pub trait History {
+    ghost before: { Trees → Type 0 };
+
+    ghost stretches: { List Stretch };
+
+    ghost found: { db.State };
+}
+
+/// Whatever commands a spool is given, over any stretches, and wherever each of them is stopped: what is found then stores exactly the state
+/// that the machine reaches by the commands that count. Of each stretch these are a prefix, with every command that was answered, as it was
+/// answered, and at most one more. A job whose number was told is there, unless an accepted command let it go.
+pub fn no_answered_command_is_lost<H: History>()
+    ensures commands { (s : State) → KeepsOnly H.before s → LeadTo H.before H.stretches H.found → ∥ StoresAfter s (exchanges H.stretches) H.found ∥₁ }
+    ensures jobs { (s : State) (new : NewJob) (number : ℕ) → KeepsOnly H.before s → LeadTo H.before H.stretches H.found
+        → IsAcknowledged (exchanges H.stretches) new number → ∥ StoresJob s (exchanges H.stretches) new number H.found ∥₁ }
+{
+    runs_follow_one_another();
+    states_stay_well_formed();
+    acknowledged_jobs_are_accounted_for();
+}
+
+/// What [`no_answered_command_is_lost`] says, of stretches over a store of one kind: they are values there, and need no trait.
+pub fn no_answered_command_is_lost_over<S: Alter>()
+    ensures commands { (s : State) (before : Held S) (stretches : List (StretchOver S)) (found : Held S)
+        → Led S.Store s before stretches found → ∥ StoresAfter s (told S.Store stretches) (state S.Store found) ∥₁ }
+    ensures jobs { (s : State) (before : Held S) (stretches : List (StretchOver S)) (found : Held S) (new : NewJob) (number : ℕ)
+        → Led S.Store s before stretches found → IsAcknowledged (told S.Store stretches) new number → ∥ StoresJob s (told S.Store stretches) new number (state S.Store found) ∥₁ }
+{
+    runs_follow_one_another();
+    states_stay_well_formed();
+    acknowledged_jobs_are_accounted_for();
+}
+
+/// A job whose number was told is there with all its bytes after the commands that count, until an accepted one kills it or delivers it, and
+/// no other job has its number.
+pub fn acknowledged_jobs_are_accounted_for()
+    ensures { (s : State) (told : List Exchange) (counted : List Command) (new : NewJob) (number : ℕ)
+        → IsWellFormed s → Passes s told counted → IsAcknowledged told new number → IsAccountedFor s counted new number }
+{
+    runs_follow_one_another();
+    numbers_are_not_used_again();
+    jobs_stay_through_runs();
+    jobs_are_handed_in();
+}
+
+/// Stretches of work over the two files of a spool that follow one another, and what the files held before the first.
+pub trait FileHistory {
+    ghost before: { Image };
+
+    ghost stretches: { List FileStretch };
+}
+
+/// Whatever commands a spool over files is given, over any stretches, and wherever each of them is stopped, also within its opening: the files
+/// keep exactly the state that the machine reaches by the commands that count. Of each stretch these are a prefix, with every command that was
+/// answered, as it was answered, and at most one more.
+pub fn no_answered_command_is_lost_in_files<H: FileHistory>()
+    ensures commands { (s : State) → ImageKeeps H.before s → AllFilesPassed H.before H.stretches → ∥ KeepsAfter s H.stretches (last_left H.before H.stretches) ∥₁ }
+
+    // A job whose number was told is accounted for by the commands that count.
+    ensures jobs { (s : State) (new : NewJob) (number : ℕ) → ImageKeeps H.before s → AllFilesPassed H.before H.stretches
+        → IsAcknowledged (file_exchanges H.stretches) new number → ∥ KeepsJob s (file_exchanges H.stretches) new number (last_left H.before H.stretches) ∥₁ }
+{
+    runs_follow_one_another();
+    states_stay_well_formed();
+    acknowledged_jobs_are_accounted_for();
 }

@@ -7,16 +7,19 @@ mod inspection;
 pub mod laws;
 mod open;
 mod reading;
+mod run;
 mod spool;
+mod stretch;
 mod tables;
 
 pub use adopt::AdoptFault;
-pub use open::{FileSpool, start, start_from};
+pub use open::{FileSpool, open_spool, start, start_from};
+pub use run::RunEnd;
 pub use spool::Spool;
+pub use stretch::{start_again, work};
 pub use uu_core::{
     By, CallState, Command, Due, Filter, JobHead, Kind, NewJob, Outcome, Refusal, Reply, SystemRow,
 };
-pub use uu_map::Listed;
-pub use uu_names::{Grade, SiteName, Word};
+pub use uu_names::{Grade, Listed, SiteName, Word};
 pub use uu_schema::{StoreFault, StoreKind};
 pub use uu_times::{Moment, SystemDef};

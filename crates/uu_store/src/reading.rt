@@ -3,7 +3,7 @@ ghost use Rattle.std.specs.Prelude.{◌≡◌, false, IfOk};
 ghost use Rattle.sqlite.specs.Tree.{Trees};
 ghost use Rattle.sqlite.specs.Held.{state};
 ghost use Rattle.uu_core.specs.State.{State};
-ghost use Rattle.uu_questions.specs.Taking.{Takes, Tells};
+ghost use Rattle.uu_taking.specs.Taking.{Takes, Tells};
 ghost use Rattle.uu_store.specs.Encoded.{HoldsState};
 ghost use Rattle.uu_store.specs.Adoption.{IsOfNone};
 ghost use Rattle.uu_store.specs.Reading.{FindsSystems, FindsLines, FindsRanges, FindsJobs, FindsPieces, FindsEntries, FindsNext, AreCallers, AreWaiting, AreTheRest, AreAllRows, OrNone};
@@ -12,10 +12,10 @@ use sqlite::{Alter, Connection, Error, ErrorCode};
 use std::alloc::{AllocError, Global};
 use uu_check::{Rows, are_tables};
 use uu_core::JobHead;
-use uu_questions::{
+use uu_tables::{EntryColumns, LineColumns, PieceSize, RangeColumns, SystemColumns};
+use uu_taking::{
     take_entries, take_heads, take_lines, take_next, take_ranges, take_sizes, take_systems,
 };
-use uu_tables::{EntryColumns, LineColumns, PieceSize, RangeColumns, SystemColumns};
 
 /// The rows that say who is called, and when.
 #[derive(Drop)]

@@ -21,7 +21,7 @@ pub struct Spool<S: Alter> {
 }
 
 impl<S: Alter> Spool<S> {
-    ghost use Rattle.std.specs.Prelude.{IsTrue, IfOk, IfSome, Err, MatchResult, option_map, map, length};
+    ghost use Rattle.std.specs.Prelude.{[], ◌∷◌, IsTrue, IfOk, IfSome, Err, MatchResult, option_map, map, length};
     ghost use Rattle.std.specs.List.{AllByRecursion};
     ghost use Rattle.uu_core.specs.State.{head_of, job_at, entry_at};
     ghost use Rattle.uu_core.specs.Due.{AreDue};
@@ -29,11 +29,14 @@ impl<S: Alter> Spool<S> {
     ghost use Rattle.uu_store.specs.HandedOut.{IsBounded, IsTimed, job_shown};
     ghost use Rattle.sqlite.specs.State.{HasCleanDisk};
     ghost use Rattle.sqlite.specs.Held.{state};
+    ghost use Rattle.sqlite.specs.View.{IsClean};
     ghost use Rattle.uu_core.specs.After.{after};
     ghost use Rattle.uu_schema.specs.Faults.{IsFresh};
     ghost use Rattle.uu_store.specs.Calls.{StaysUnclean};
     ghost use Rattle.uu_store.specs.Encoded.{Leaves, LeavesEither};
     ghost use Rattle.uu_store.specs.Spool.{connection_of, disk, has_failed, Shows, Marks};
+    ghost use Rattle.uu_store.specs.Runs.{Ran, reply_in, fault_in};
+    ghost use Rattle.uu_store.specs.Stretches.{IsLetGo};
 
     /// A spool over a connection whose tables are those of one.
     pub(crate) fn over(conn: Connection<S>) -> Spool<S>
@@ -55,6 +58,23 @@ impl<S: Alter> Spool<S> {
     {
         let Spool { conn, failed: _ } = self;
         conn
+    }
+
+    /// Gives back the store under the connection, where an open transaction is undone. It takes no memory.
+    pub fn into_store(self) -> S
+    where
+        S: Drop,
+        ensures let_go { IsLetGo S.Store (connection_of self).store result }
+        ensures numbered { IsClean (S.Store.view result) → IsTrue (S.Store.view result).is_numbered }
+    {
+        self.release().into_store()
+    }
+
+    /// Whether an earlier call answered that the store failed.
+    pub(crate) fn is_failed(&self) -> bool
+        ensures { result ≡ has_failed self.now }
+    {
+        self.failed
     }
 
     // After a fault of the store no statement is given any more.
@@ -86,6 +106,9 @@ impl<S: Alter> Spool<S> {
 
         // A spool that failed is left as it was.
         ensures failed { IsTrue (has_failed self.old) → (result ≡ Err StoreFault.Failed) × (self.new ≡ self.old) }
+
+        // So it is a run of one command.
+        ensures ran { Ran (command ∷ []) self.old self.new (reply_in result) (fault_in result) }
     {
         if self.failed {
             return Err(StoreFault::Failed);
@@ -104,6 +127,7 @@ impl<S: Alter> Spool<S> {
         ensures memory { HasCleanDisk (disk self.new) → (s : _) → Shows self.old s → result ≡ Err StoreFault.Memory → Shows self.new s }
         ensures stop { HasCleanDisk (disk self.new) → (s : _) → Shows self.old s → Leaves (disk self.new) s }
         ensures clean { StaysUnclean (disk self.old) (disk self.new) }
+        ensures ran { Ran [] self.old self.new [] (fault_in result) }
         ensures failed { IsTrue (has_failed self.old) → (result ≡ Err StoreFault.Failed) × (self.new ≡ self.old) }
     {
         if self.failed {
@@ -128,6 +152,7 @@ impl<S: Alter> Spool<S> {
         ensures memory { HasCleanDisk (disk self.new) → (s : _) → Shows self.old s → result ≡ Err StoreFault.Memory → Shows self.new s }
         ensures stop { HasCleanDisk (disk self.new) → (s : _) → Shows self.old s → Leaves (disk self.new) s }
         ensures clean { StaysUnclean (disk self.old) (disk self.new) }
+        ensures ran { Ran [] self.old self.new [] (fault_in result) }
         ensures failed { IsTrue (has_failed self.old) → (result ≡ Err StoreFault.Failed) × (self.new ≡ self.old) }
     {
         if self.failed {
@@ -147,6 +172,7 @@ impl<S: Alter> Spool<S> {
         ensures memory { HasCleanDisk (disk self.new) → (s : _) → Shows self.old s → result ≡ Err StoreFault.Memory → Shows self.new s }
         ensures stop { HasCleanDisk (disk self.new) → (s : _) → Shows self.old s → Leaves (disk self.new) s }
         ensures clean { StaysUnclean (disk self.old) (disk self.new) }
+        ensures ran { Ran [] self.old self.new [] (fault_in result) }
         ensures failed { IsTrue (has_failed self.old) → (result ≡ Err StoreFault.Failed) × (self.new ≡ self.old) }
     {
         if self.failed {
@@ -165,6 +191,7 @@ impl<S: Alter> Spool<S> {
         ensures memory { HasCleanDisk (disk self.new) → (s : _) → Shows self.old s → result ≡ Err StoreFault.Memory → Shows self.new s }
         ensures stop { HasCleanDisk (disk self.new) → (s : _) → Shows self.old s → Leaves (disk self.new) s }
         ensures clean { StaysUnclean (disk self.old) (disk self.new) }
+        ensures ran { Ran [] self.old self.new [] (fault_in result) }
         ensures failed { IsTrue (has_failed self.old) → (result ≡ Err StoreFault.Failed) × (self.new ≡ self.old) }
     {
         if self.failed {
@@ -183,6 +210,7 @@ impl<S: Alter> Spool<S> {
         ensures memory { HasCleanDisk (disk self.new) → (s : _) → Shows self.old s → result ≡ Err StoreFault.Memory → Shows self.new s }
         ensures stop { HasCleanDisk (disk self.new) → (s : _) → Shows self.old s → Leaves (disk self.new) s }
         ensures clean { StaysUnclean (disk self.old) (disk self.new) }
+        ensures ran { Ran [] self.old self.new [] (fault_in result) }
         ensures failed { IsTrue (has_failed self.old) → (result ≡ Err StoreFault.Failed) × (self.new ≡ self.old) }
     {
         if self.failed {
@@ -201,6 +229,7 @@ impl<S: Alter> Spool<S> {
         ensures memory { HasCleanDisk (disk self.new) → (s : _) → Shows self.old s → result ≡ Err StoreFault.Memory → Shows self.new s }
         ensures stop { HasCleanDisk (disk self.new) → (s : _) → Shows self.old s → Leaves (disk self.new) s }
         ensures clean { StaysUnclean (disk self.old) (disk self.new) }
+        ensures ran { Ran [] self.old self.new [] (fault_in result) }
         ensures failed { IsTrue (has_failed self.old) → (result ≡ Err StoreFault.Failed) × (self.new ≡ self.old) }
     {
         if self.failed {

@@ -1,4 +1,4 @@
-use Rattle.std.proofs.Common.{◌≡◌, subst}
+use Rattle.std.proofs.Common.{subst, arith}
 use Rattle.sqlite.specs.Held.{state}
 use Rattle.uu_store.specs.Adoption.{Finds}
 use Rattle.uu_store.proofs.Resting.{answered}
@@ -23,3 +23,15 @@ returns-in-Ok-Later-clause-inspected g c whole =
 pub returns-in-Err-clause-inspected : goal.returns-in-Err-clause-inspected
 returns-in-Err-clause-inspected g c whole =
     inspected_err (state g.S.Store c.args.conn.now) (state g.S.Store c.find_out.new.conn) (state g.S.Store c.store_fault.new.conn) c.store_fault.result c.find_out.ensures.told.asked c.store_fault.ensures.fresh c.store_fault.ensures.memory c.store_fault.ensures.survives
+
+pub returns-in-Ok-Spool-clause-clean : goal.returns-in-Ok-Spool-clause-clean
+returns-in-Ok-Spool-clause-clean g c = c.find_out.ensures.told.asked.survives.clean
+
+pub returns-in-Ok-Foreign-clause-clean : goal.returns-in-Ok-Foreign-clause-clean
+returns-in-Ok-Foreign-clause-clean g c = c.find_out.ensures.told.asked.survives.clean
+
+pub returns-in-Ok-Later-clause-clean : goal.returns-in-Ok-Later-clause-clean
+returns-in-Ok-Later-clause-clean g c = c.find_out.ensures.told.asked.survives.clean
+
+pub returns-in-Err-clause-clean : goal.returns-in-Err-clause-clean
+returns-in-Err-clause-clean g c = omega (arith, c.find_out.ensures.told.asked.survives.clean, c.store_fault.ensures.survives.clean)

@@ -1,4 +1,4 @@
-use Rattle.std.proofs.Common.{◌≡◌, Ok, refl}
+use Rattle.std.proofs.Common.{Ok, refl}
 use Rattle.sqlite.specs.Held.{state}
 use Rattle.uu_store.specs.Reading.{AreCallers, OrNone}
 use Rattle.uu_store.proofs.Composing.{takes_as, takes_none, then_takes}

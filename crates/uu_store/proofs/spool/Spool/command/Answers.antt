@@ -1,11 +1,13 @@
-use Rattle.std.proofs.Common.{◌≡◌, Result, Err, ap, sym, subst, ◌∙◌}
+use Rattle.std.proofs.Common.{◌≡◌, Result, Ok, Err, ap, sym, subst, ◌∙◌}
 use Rattle.sqlite.specs.Held.{state}
 use Rattle.uu_schema.specs.declared.fault.StoreFault.{StoreFault}
 use Rattle.uu_core.specs.After.{after}
 use Rattle.uu_core.specs.State.{empty}
 use Rattle.uu_store.specs.Calls.{StaysUnclean}
 use Rattle.uu_store.specs.Encoded.{Leaves, LeavesEither}
+use Rattle.uu_store.specs.Spool.{connection_of}
 use Rattle.uu_store.proofs.Ending.{leaves, leaves_either, noted_memory, shows_again, clean_before}
+use Rattle.uu_store.proofs.Running.{ran_one}
 use Rattle.uu_store.proofs.spool.Spool.command.Goals as goal
 
 pub returns-in-Ok-clause-step : goal.returns-in-Ok-clause-step
@@ -53,3 +55,11 @@ returns-in-Ok-clause-clean g c = (c.give.ensures.step empty).clean
 pub returns-clause-clean : goal.returns-clause-clean
 returns-clause-clean g c =
     subst (λ h. StaysUnclean (state g.S.Store c.args.self.now.conn) (state g.S.Store h)) (sym c.noted.ensures.connection) (c.give.ensures.step empty).clean
+
+pub returns-in-Ok-clause-ran : goal.returns-in-Ok-clause-ran
+returns-in-Ok-clause-ran g c =
+    ran_one c.args.self.now _ c.args.command (Ok c.in-Ok.reply) (g.met.S.Store.settled c.give.new.conn.store) (returns-in-Ok-clause-step g c) (λ clean s shows is. absurd (cc)) (returns-in-Ok-clause-stop_store g c) (returns-in-Ok-clause-clean g c)
+
+pub returns-clause-ran : goal.returns-clause-ran
+returns-clause-ran g c =
+    ran_one c.args.self.now c.noted.new.self c.args.command (Err c.noted.result) (g.met.S.Store.settled (connection_of c.noted.new.self).store) (λ clean s shows. tt) (returns-clause-memory g c) (returns-clause-stop_store g c) (returns-clause-clean g c)

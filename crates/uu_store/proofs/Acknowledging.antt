@@ -1,0 +1,246 @@
+-- That a job whose number was told is accounted for.
+use Rattle.std.proofs.Common.{◌≡◌, ◌⊎◌, ◌≤◌, ◌<◌, inl, inr, ℕ, zero, suc, ◌+◌, Bool, true, false, List, [], ◌∷◌, ◌++◌, length, get_or, find, Option, Some, None, All, Contains, refl, sym, ap, subst, ◌∙◌, append_assoc, arith}
+use Rattle.std.specs.Prelude.{zip}
+use Rattle.std.proofs.lemmas.Bool.{eqb-true}
+use Rattle.std.proofs.lemmas.Bool.Decides.{nat_tests}
+use Rattle.std.proofs.lemmas.List.{length-append}
+use Rattle.std.proofs.lemmas.List.Elements.{All-cons, All-nil, All-contains, Contains-append_right}
+use Rattle.uu_core.specs.declared.command.Command.{Command}
+use Rattle.uu_core.specs.declared.command.Command.TheVariants.{Queue}
+use Rattle.uu_core.specs.declared.command.Reply.{Reply}
+use Rattle.uu_core.specs.declared.command.Reply.TheVariants.{Number, Refused}
+use Rattle.uu_core.specs.declared.refusal.Refusal.{Refusal}
+use Rattle.uu_core.specs.declared.job.NewJob.{NewJob}
+use Rattle.uu_core.specs.State.{State, Job, IsWellFormed, is_job}
+use Rattle.uu_core.specs.Verdict.{verdict}
+use Rattle.uu_core.specs.After.{after, after_verdict, job_of}
+use Rattle.uu_core.specs.Run.{state_after, replies_to}
+use Rattle.uu_core.specs.Laws.{accepted_of, unless_refused, lets_go, IsSameJob, IsAmong, IsHandedIn, IsOfRun}
+use Rattle.uu_store.specs.Exchanges.{Exchange, Counts, Passes}
+use Rattle.uu_store.specs.Acknowledged.{IsThere, WasLetGo, IsAccountedFor}
+
+-- ---- lists
+
+first_of : {X : Type 0} (x : X) (xs : List X) → Contains (x ∷ xs) x
+first_of x xs = (0, omega arith, refl)
+
+first_or_later : {X : Type 0} (x y : X) (xs : List X) → Contains (x ∷ xs) y → (x ≡ y) ⊎ Contains xs y
+first_or_later x y xs h = by-place h.0 h.1 h.2
+  where
+    by-place : (k : ℕ) → k < length (x ∷ xs) → get_or (x ∷ xs) k y ≡ y → (x ≡ y) ⊎ Contains xs y
+    by-place zero l e = inl e
+    by-place (suc k) l e = inr (k, omega arith, e)
+
+none_in : {X : Type 0} (y : X) → Contains [] y → ⊥
+none_in y h = omega (arith, h.1)
+
+later_of : {X : Type 0} (x y : X) (xs : List X) → Contains xs y → Contains (x ∷ xs) y
+later_of x y xs h = Contains-append_right (x ∷ []) xs y h
+
+-- a pair of two lists is one of their fronts, where the second front is no shorter
+of_fronts : {X Y : Type 0} (xs more : List X) (ys others : List Y) (p : X × Y) → length ys ≤ length xs → Contains (zip (xs ++ more) ys) p → Contains (zip xs (ys ++ others)) p
+of_fronts [] [] ys others p le h = absurd (none_in p h)
+of_fronts [] (x ∷ more) [] others p le h = absurd (none_in p h)
+of_fronts [] (x ∷ more) (y ∷ ys) others p le h = absurd (omega (arith, le))
+of_fronts (x ∷ xs) more [] others p le h = absurd (none_in p h)
+of_fronts (x ∷ xs) more (y ∷ ys) others p le h = elim (first_or_later (x, y) p (zip (xs ++ more) ys) h) [
+  | inl same ↦ subst (Contains (zip (x ∷ xs) (y ∷ ys ++ others))) same (first_of (x, y) (zip xs (ys ++ others)))
+  | inr later ↦ later_of (x, y) p (zip xs (ys ++ others)) (of_fronts xs more ys others p (omega (arith, le)) later)
+]
+
+-- all fail the test, or one passes
+all_or_one : {X : Type 0} (p : X → Bool) (xs : List X) → All (λ x. p x ≡ false) xs ⊎ ((x : X) × Contains xs x × (p x ≡ true))
+all_or_one p [] = inl (All-nil (λ x. p x ≡ false))
+all_or_one {X} p (x ∷ xs) = by-test (p x) refl (all_or_one p xs)
+  where
+    by-test : (t : Bool) → p x ≡ t → All (λ x. p x ≡ false) xs ⊎ ((y : X) × Contains xs y × (p y ≡ true)) → All (λ x. p x ≡ false) (x ∷ xs) ⊎ ((y : X) × Contains (x ∷ xs) y × (p y ≡ true))
+    by-test true is rest = inr (x, first_of x xs, is)
+    by-test false is (inl none) = inl (All-cons (λ x. p x ≡ false) x xs is none)
+    by-test false is (inr one) = inr (one.0, later_of x one.0 xs one.1, one.2)
+
+-- what is found where one passes
+found_one : {X : Type 0} (p : X → Bool) (xs : List X) (x : X) → Contains xs x → p x ≡ true → (y : X) × (find p xs ≡ Some y) × Contains xs y × (p y ≡ true)
+found_one p [] x h e = absurd (none_in x h)
+found_one {X} p (y ∷ xs) x h e = by-test (p y) refl (first_or_later y x xs h) (λ later. found_one p xs x later e)
+  where
+    by-test : (t : Bool) → p y ≡ t → (y ≡ x) ⊎ Contains xs x → (Contains xs x → (z : X) × (find p xs ≡ Some z) × Contains xs z × (p z ≡ true)) → (z : X) × (find p (y ∷ xs) ≡ Some z) × Contains (y ∷ xs) z × (p z ≡ true)
+    by-test true f which again = (y, rw f refl, first_of y xs, f)
+    by-test false f (inl same) again = absurd (let q : true ≡ false = sym e ∙ ap p (sym same) ∙ f in cc)
+    by-test false f (inr later) again = let r = again later in (r.0, rw f r.1, later_of y r.0 xs r.2, r.3)
+
+-- ---- the same job
+
+itself : (job : Job) → IsSameJob job job
+itself job = record { number = refl; system = refl; user = refl; kind = refl; bytes = refl }
+
+-- a job that is the same as one that it came from
+follow_same : {one mid last : Job} → IsSameJob one mid → IsSameJob last mid → IsSameJob one last
+follow_same first second = record {
+  number = sym second.number ∙ first.number;
+  system = sym second.system ∙ first.system;
+  user = sym second.user ∙ first.user;
+  kind = sym second.kind ∙ first.kind;
+  bytes = sym second.bytes ∙ first.bytes;
+}
+
+has_number : (number : ℕ) (job : Job) → job.number ≡ number → is_job number job ≡ true
+has_number number job is = grind (arith, nat_tests, is)
+
+new_of : (one other : NewJob) → Queue one ≡ Queue other → one ≡ other
+new_of one other same = cc
+
+replies_length : (s : State) (commands : List Command) → length (replies_to s commands) ≡ length commands
+replies_length s [] = refl
+replies_length s (command ∷ commands) = ap suc (replies_length (after s command).0 commands)
+
+-- ---- an acknowledged job is handed in by one of the commands that count
+
+-- the command of a pair of commands and their replies, with what was given before and behind it
+pub record Placed (s : State) (commands : List Command) (command : Command) (reply : Reply) : Type 0 where
+  pub before : List Command
+  pub behind : List Command
+  pub is : commands ≡ before ++ command ∷ behind
+  pub told : (after (state_after s before) command).1 ≡ reply
+
+placed : (s : State) (commands : List Command) (command : Command) (reply : Reply) → Contains (zip commands (replies_to s commands)) (command, reply) → Placed s commands command reply
+placed s [] command reply h = absurd (none_in (command, reply) h)
+placed s (first ∷ commands) command reply h = elim (first_or_later (first, (after s first).1) (command, reply) _ h) [
+  | inl same ↦ (record { before = []; behind = commands; is = ap (λ (p : Command × Reply). p.0 ∷ commands) same; told = ap (λ c. (after s c).1) (sym (ap (λ (p : Command × Reply). p.0) same)) ∙ ap (λ (p : Command × Reply). p.1) same })
+  | inr later ↦ (let it = placed (after s first).0 commands command reply later in record { before = first ∷ it.before; behind = it.behind; is = ap (λ l. first ∷ l) it.is; told = it.told })
+]
+
+module _
+    (follow : (state : State) (first second : List Command) → state_after state (first ++ second) ≡ state_after (state_after state first) second)
+  where
+    -- behind others
+    placed_behind : (s : State) (front commands : List Command) (command : Command) (reply : Reply) → Placed (state_after s front) commands command reply → Placed s (front ++ commands) command reply
+    placed_behind s front commands command reply it = record {
+      before = front ++ it.before;
+      behind = it.behind;
+      is = ap (λ l. front ++ l) it.is ∙ sym (append_assoc front it.before (command ∷ it.behind));
+      told = ap (λ t. (after t command).1) (follow s front it.before) ∙ it.told;
+    }
+
+    placed_before : (s : State) (commands back : List Command) (command : Command) (reply : Reply) → Placed s commands command reply → Placed s (commands ++ back) command reply
+    placed_before s commands back command reply it = record {
+      before = it.before;
+      behind = it.behind ++ back;
+      is = ap (λ l. l ++ back) it.is ∙ append_assoc it.before (command ∷ it.behind) back;
+      told = it.told;
+    }
+
+    of_exchange : (it : Exchange) (s : State) (here : List Command) (command : Command) (reply : Reply) → Counts it s here → Contains (zip it.commands it.replies) (command, reply) → Placed s here command reply
+    of_exchange it s here command reply counts h =
+        placed s here command reply
+        (subst (λ r. Contains (zip here r) (command, reply)) (sym counts.answers)
+        (of_fronts here counts.rest it.replies counts.unheard (command, reply) no_longer (subst (λ l. Contains (zip l it.replies) (command, reply)) counts.prefix h)))
+      where
+        no_longer : length it.replies ≤ length here
+        no_longer = let e = ap length counts.answers in let r = replies_length s here in let l = length-append it.replies counts.unheard in omega (arith, e, r, l)
+
+    pub of_exchanges : (exchanges : List Exchange) (s : State) (counted : List Command) (it : Exchange) (command : Command) (reply : Reply) → Passes s exchanges counted → Contains exchanges it → Contains (zip it.commands it.replies) (command, reply) → Placed s counted command reply
+    of_exchanges [] s counted it command reply passes there h = absurd (none_in it there)
+    of_exchanges (first ∷ more) s counted it command reply (here, later, is, counts, passes) there h = subst (λ l. Placed s l command reply) (sym is) (elim (first_or_later first it more there) [
+      | inl same ↦ placed_before s here later command reply (of_exchange first s here command reply counts (subst (λ (e : Exchange). Contains (zip e.commands e.replies) (command, reply)) (sym same) h))
+      | inr behind ↦ placed_behind s here later command reply (of_exchanges more (state_after s here) later it command reply passes behind h)
+    ])
+
+    -- ---- accepted commands
+
+    accepted_append : (s : State) (first second : List Command) → accepted_of s (first ++ second) ≡ accepted_of s first ++ accepted_of (state_after s first) second
+    accepted_append s [] second = refl
+    accepted_append s (command ∷ first) second = by-verdict (verdict s command) (accepted_append (after s command).0 first second)
+      where
+        by-verdict : (v : Option Refusal) → accepted_of (after s command).0 (first ++ second) ≡ accepted_of (after s command).0 first ++ accepted_of (state_after (after s command).0 first) second
+            → unless_refused v command (accepted_of (after s command).0 (first ++ second)) ≡ unless_refused v command (accepted_of (after s command).0 first) ++ accepted_of (state_after (after s command).0 first) second
+        by-verdict None again = ap (λ l. command ∷ l) again
+        by-verdict (Some refusal) again = again
+
+    -- ---- one job
+
+    module _
+        (rise : (state : State) (commands : List Command) → state.next ≤ (state_after state commands).next)
+        (used : (state : State) (job : NewJob) (number : ℕ) → (after state (Queue job)).1 ≡ Number number → (number ≡ state.next) × ((after state (Queue job)).0.next ≡ number + 1))
+        (queued : (state : State) (job : NewJob) → verdict state (Queue job) ≡ None → Contains (after state (Queue job)).0.jobs (job_of state.next job))
+        (stays : (state : State) (commands : List Command) (job : Job) → Contains state.jobs job → All (λ command. lets_go command job.number ≡ false) (accepted_of state commands) → IsAmong (state_after state commands).jobs job)
+        (made : (state : State) (command : Command) (later : Job) → Contains (after state command).0.jobs later → IsAmong state.jobs later ⊎ IsHandedIn state command later)
+        (made_in : (state : State) (commands : List Command) (later : Job) → Contains (state_after state commands).jobs later → IsAmong state.jobs later ⊎ IsOfRun state commands later)
+        (s : State) (good : IsWellFormed s) (new : NewJob) (number : ℕ)
+      where
+        -- the reply to a run's command is what the next number was
+        number_of_run : (state : State) (commands : List Command) (job : Job) → IsOfRun state commands job → state.next ≤ job.number × (job.number < (state_after state commands).next)
+        number_of_run state commands job it =
+            let at = state_after state it.before in
+            let reply = ap (λ v. (after_verdict v at (Queue it.new)).1) it.accepted in
+            let next = used at it.new at.next reply in
+            let low = rise state it.before in
+            let high = rise (after at (Queue it.new)).0 it.behind in
+            let same : (state_after state commands).next ≡ (state_after (after at (Queue it.new)).0 it.behind).next = ap (λ (l : State). l.next) (ap (state_after state) it.run_is ∙ follow state it.before (Queue it.new ∷ it.behind)) in
+            let is : job.number ≡ at.next = it.same.number in
+            (omega (arith, low, is), omega (arith, high, is, same, next.1))
+
+        -- so no job of an earlier state has it
+        below : (commands : List Command) (job : Job) → Contains (state_after s commands).jobs job → job.number < (state_after s commands).next
+        below commands job there = elim (made_in s commands job there) [
+          | inl was ↦ (let small = All-contains (λ (j : Job). j.number < s.next) s.jobs was.later good.below_next was.there in let up = rise s commands in let same = was.same.number in omega (arith, small, up, same))
+          | inr ours ↦ (number_of_run s commands job ours).1
+        ]
+
+        module _ (counted : List Command) (it : Placed s counted (Queue new) (Number number)) where
+          abbrev at : State
+          at = state_after s it.before
+
+          abbrev then : State
+          then = (after at (Queue new)).0
+
+          next : (number ≡ at.next) × (then.next ≡ number + 1)
+          next = used at new number it.told
+
+          accepted : verdict at (Queue new) ≡ None
+          accepted = by-verdict (verdict at (Queue new)) refl it.told
+            where
+              by-verdict : (v : Option Refusal) → verdict at (Queue new) ≡ v → (after_verdict v at (Queue new)).1 ≡ Number number → verdict at (Queue new) ≡ None
+              by-verdict None is told = is
+              by-verdict (Some refusal) is told = absurd (apart told)
+                where
+                  apart : Refused refusal ≡ Number number → ⊥
+                  apart q = cc
+
+          last : state_after s counted ≡ state_after then it.behind
+          last = ap (state_after s) it.is ∙ follow s it.before (Queue new ∷ it.behind)
+
+          -- every job of this number is the one that was handed in
+          then_alone : (job : Job) → Contains then.jobs job → job.number ≡ number → IsSameJob (job_of number new) job
+          then_alone job there is = elim (made at (Queue new) job there) [
+            | inl was ↦ (let low = below it.before was.later was.there in let same = was.same.number in absurd (omega (arith, low, same, is, next.0)))
+            | inr ours ↦ subst (IsSameJob (job_of number new)) (sym (ours.job_is ∙ ap (λ n. job_of n ours.new) (sym next.0) ∙ ap (job_of number) (sym (new_of new ours.new ours.command_is)))) (itself (job_of number new))
+          ]
+
+          alone : (job : Job) → Contains (state_after then it.behind).jobs job → job.number ≡ number → IsSameJob (job_of number new) job
+          alone job there is = elim (made_in then it.behind job there) [
+            | inl was ↦ follow_same (then_alone was.later was.there (was.same.number ∙ is)) was.same
+            | inr ours ↦ absurd (let low = (number_of_run then it.behind job ours).0 in omega (arith, low, is, next.1))
+          ]
+
+          kept : IsThere (state_after then it.behind) new number ⊎ WasLetGo s counted number
+          kept = elim (all_or_one (λ c. lets_go c number) (accepted_of then it.behind)) [
+            | inl none ↦ inl (there none)
+            | inr one ↦ inr (one.0, subst (λ l. Contains l one.0) (sym (ap (accepted_of s) it.is ∙ accepted_append s it.before (Queue new ∷ it.behind))) (Contains-append_right (accepted_of s it.before) _ one.0 (behind_it one.0 one.1)), one.2)
+          ]
+            where
+              behind_it : (c : Command) → Contains (accepted_of then it.behind) c → Contains (accepted_of at (Queue new ∷ it.behind)) c
+              behind_it c h = subst (λ v. Contains (unless_refused v (Queue new) (accepted_of then it.behind)) c) (sym accepted) (later_of (Queue new) c (accepted_of then it.behind) h)
+
+              there : All (λ c. lets_go c number ≡ false) (accepted_of then it.behind) → IsThere (state_after then it.behind) new number
+              there none =
+                  let job = job_of number new in
+                  let first : Contains then.jobs job = subst (λ n. Contains then.jobs (job_of n new)) (sym next.0) (queued at new accepted) in
+                  let among = stays then it.behind job first none in
+                  let found = found_one (is_job number) (state_after then it.behind).jobs among.later among.there (has_number number among.later among.same.number) in
+                  (found.0, found.1, alone found.0 found.2 (eqb-true found.0.number number found.3))
+
+          pub accounted : IsAccountedFor s counted new number
+          accounted = record {
+            kept = subst (λ t. IsThere t new number ⊎ WasLetGo s counted number) (sym last) kept;
+            alone = λ job there is. alone job (subst (λ (t : State). Contains t.jobs job) last there) is;
+          }

@@ -1,0 +1,86 @@
+-- Taking a database as a spool, as the beginning of a stretch.
+use Rattle.std.proofs.Common.{◌≡◌, false, inl, inr, ℕ, List, [], Option, Result, Ok, sym, ap, subst, ◌∙◌}
+use Rattle.std.proofs.Math.Logic.{∥∥₁_map}
+use Rattle.sqlite.specs.Effect.{Database}
+use Rattle.sqlite.specs.Store.{Ghosts}
+use Rattle.sqlite.specs.Held.{Held, state}
+use Rattle.sqlite.specs.State as db
+use Rattle.sqlite.specs.View.{IsClean, IsQuiet}
+use Rattle.sqlite_catalog.specs.Listing.{IsSound}
+use Rattle.uu_sql.specs.Steps.{Rests}
+use Rattle.uu_core.specs.declared.command.Command.{Command}
+use Rattle.uu_core.specs.declared.command.Reply.{Reply}
+use Rattle.uu_core.specs.declared.job.NewJob.{NewJob}
+use Rattle.uu_core.specs.State.{State}
+use Rattle.uu_core.specs.Run.{state_after}
+use Rattle.uu_schema.specs.Schema.{no_schema}
+use Rattle.uu_schema.specs.declared.fault.StoreFault.{StoreFault}
+use Rattle.uu_store.specs.declared.spool.Spool.{Spool}
+use Rattle.uu_store.specs.Adoption.{IsInspected, StopsAs}
+use Rattle.uu_store.specs.Calls.{CreatesTables, StaysUnclean}
+use Rattle.uu_store.specs.Encoded.{Encodes, HoldsState}
+use Rattle.uu_store.specs.Kept.{Stores, KeepsOnly}
+use Rattle.uu_store.specs.Spool.{connection_of, has_failed, Shows}
+use Rattle.uu_store.specs.Runs.{Ran}
+use Rattle.uu_store.specs.Stretches.{Adopted, TurnedAway, IsLetGo, Passed, StoresAfter, StretchOver, Led, stretch, told}
+use Rattle.uu_store.specs.Acknowledged.{IsAcknowledged, StoresJob}
+use Rattle.uu_store.specs.Remembered.{Remembers}
+use Rattle.uu_store.proofs.Ending.{Settles, leaves, shows_again, clean_before}
+use Rattle.uu_store.proofs.Inspecting.{kept_as, stops_as}
+
+module _ {S : Type 0} (g : Ghosts S) (was now : Held S) where
+  abbrev a : db.State
+  a = state g was
+
+  abbrev b : db.State
+  b = state g now
+
+  pub adopted_as : (spool : Spool S g) → connection_of spool ≡ now → has_failed spool ≡ false → IsInspected a b (Ok tt) → CreatesTables a b (Ok tt) → StaysUnclean a b → Adopted was spool
+  adopted_as spool same usable inspected creates stays = record {
+    shows = λ clean s rests stores. shown (clean_before spool now same clean) s rests stores;
+    clean = subst (λ h. StaysUnclean a (state g h)) (sym same) stays;
+  }
+    where
+      shown : db.HasCleanDisk b → (s : State) → Rests a → Stores a.now s → Shows spool s
+      shown clean s rests (inl enc) = let it = kept_as a b inspected clean s rests enc in shows_again spool now s same usable it.0 it.1
+      shown clean s rests (inr none) = let it = creates.ok clean rests none.0 in shows_again spool now s same usable it.0 (subst (Encodes b.now) (sym none.1) it.1)
+
+  -- a stop leaves the state, also where the tables are made
+  keeps_as : (s : State) → StopsAs a b → Stores a.now s → KeepsOnly b.may_leave s
+  keeps_as s stops (inl enc) trees may = inl (stops.state s enc trees may)
+  keeps_as s stops (inr none) trees may = elim (stops.none none.0 trees may) [
+    | inl same ↦ inr (subst (IsSound no_schema) (sym same) none.0.sound, none.1)
+    | inr made ↦ inl (made.0, subst (HoldsState trees) (sym none.1) made.1)
+  ]
+
+  pub turned_away_as : (r : Result (Unit {0}) StoreFault) → Settles a → IsInspected a b r → CreatesTables a b r → StaysUnclean a b → TurnedAway g was now
+  turned_away_as r settles inspected creates stays = record { stop = λ clean s rests stores. keeps_as s (stops_as a b r settles clean rests inspected creates) stores; clean = stays }
+
+-- a connection at rest leaves what it stores
+pub rests_leaves : (s : State) (a : db.State) → Settles a → Rests a → Stores a.now s → KeepsOnly a.may_leave s
+rests_leaves s a settles rests (inl enc) trees may = inl (leaves s a settles rests enc trees may)
+rests_leaves s a settles rests (inr none) trees may =
+    let is = settles trees rests.is_open may in inr (subst (IsSound no_schema) (sym (is ∙ sym (ap (λ (d : Database). d.trees) rests.settled))) none.0.sound, none.1)
+
+-- ---- a whole stretch
+
+pub let_go_of : {S : Type 0} (g : Ghosts S) (last stopped : S) → IsQuiet g.view g.faults g.recovers g.is_shielded last stopped → IsLetGo g last stopped
+let_go_of g last stopped quiet = record { left = quiet.outcomes; clean = quiet.clean }
+
+module _ {S : Type 0} (g : Ghosts S) (opened : Held S) (commands : List Command) (replies : List Reply) (stopped : S) where
+  pub passed_worked : (begun ended : Spool S g) (fault : Option StoreFault) → Adopted opened begun → Ran commands begun ended replies fault → IsLetGo g (connection_of ended).store stopped → IsClean (g.view stopped) → Passed (stretch g opened commands replies stopped)
+  passed_worked begun ended fault adopted ran let_go clean = record { work = inl (record { begun = begun; ended = ended; fault = fault; adopted = adopted; ran = ran; let_go = let_go }); clean = clean }
+
+  pub passed_unworked : (last : Held S) → TurnedAway g opened last → replies ≡ [] → IsLetGo g last.store stopped → IsClean (g.view stopped) → Passed (stretch g opened commands replies stopped)
+  passed_unworked last turned_away none let_go clean = record { work = inr (record { last = last; turned_away = turned_away; no_reply = none; let_go = let_go }); clean = clean }
+
+-- ---- what is stored is shown
+
+module _ {S : Type 0} {g : Ghosts S} (found : Held S) (spool : Spool S g) (adopted : Adopted found spool) where
+  pub remembers : ((s : State) (before : Held S) (stretches : List (StretchOver S)) → Led g s before stretches found → ∥ StoresAfter s (told g stretches) (state g found) ∥₁)
+      → ((s : State) (before : Held S) (stretches : List (StretchOver S)) (new : NewJob) (number : ℕ) → Led g s before stretches found → IsAcknowledged (told g stretches) new number → ∥ StoresJob s (told g stretches) new number (state g found) ∥₁)
+      → Remembers found spool
+  remembers commands jobs = record {
+    commands = λ clean s before stretches led. ∥∥₁_map (commands s before stretches led) (λ then. (then.0, then.1, adopted.shows clean (state_after s then.0) then.2 then.3));
+    jobs = λ clean s before stretches led new number acknowledged. ∥∥₁_map (jobs s before stretches new number led acknowledged) (λ then. (then.0, then.1, adopted.shows clean (state_after s then.0) then.2 then.3, then.4));
+  }

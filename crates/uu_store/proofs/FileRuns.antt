@@ -1,0 +1,94 @@
+-- Stretches of work over files.
+use Rattle.std.proofs.Common.{◌⊎◌, inl, inr, ℕ, List, [], ◌∷◌, ◌++◌, Option, refl, sym, ap, subst, arith}
+use Rattle.std.proofs.Math.Logic.{∥∥₁_elim, ∥∥₁_map}
+use Rattle.std.specs.Prelude.{IsTrue}
+use Rattle.sqlite_disk.specs.declared.Disk as disk
+use Rattle.sqlite_store.specs.declared.store.FileStore.{FileStore}
+use Rattle.sqlite_store.specs.FileStore.{recovers, view}
+use Rattle.sqlite_wal.specs.Recovery.{Image}
+use Rattle.sqlite.specs.View.{IsClean}
+use Rattle.sqlite.specs.Tree.{Trees}
+use Rattle.sqlite.specs.Held.{Held, AreDatabases}
+use Rattle.sqlite.specs.Files.{HoldsDatabase, file_state, over_files}
+use Rattle.sqlite.proofs.Theorems.{opens_again}
+use Rattle.uu_core.specs.declared.command.Command.{Command}
+use Rattle.uu_core.specs.declared.command.Reply.{Reply}
+use Rattle.uu_core.specs.declared.job.NewJob.{NewJob}
+use Rattle.uu_core.specs.State.{State, IsWellFormed, empty}
+use Rattle.uu_core.specs.Run.{state_after}
+use Rattle.uu_schema.specs.declared.fault.StoreFault.{StoreFault}
+use Rattle.uu_store.specs.declared.spool.Spool.{Spool}
+use Rattle.uu_store.specs.Kept.{Keeps, KeepsEither}
+use Rattle.uu_store.specs.Spool.{connection_of}
+use Rattle.uu_store.specs.Runs.{Ran}
+use Rattle.uu_store.specs.Exchanges.{Exchange, Counts, Passes}
+use Rattle.uu_store.specs.Stretches.{IsLetGo, stretch}
+use Rattle.uu_store.specs.Acknowledged.{IsAcknowledged, IsAccountedFor}
+use Rattle.uu_store.specs.Openings.{ImageKeeps, Started}
+use Rattle.uu_store.specs.Files.{End, not_started, let_go, FileStretch, IsOverFiles, Ended, AllFilesPassed, last_left, file_exchanges, KeepsAfter, KeepsJob, IsStretch}
+use Rattle.uu_store.proofs.Running.{StatesFollow, RepliesFollow}
+use Rattle.uu_store.proofs.Reopening.{LeavesTwo, leaves_two}
+use Rattle.uu_store.proofs.Accounting.{good_of}
+use Rattle.uu_store.proofs.Opening.{keeps_sound, found_stores}
+
+databases : (could_leave : Trees → Type 0) (s t : State) → KeepsEither could_leave s t → AreDatabases could_leave
+databases could_leave s t keeps trees may = elim (keeps trees may) [ inl it ↦ keeps_sound s trees it | inr it ↦ keeps_sound t trees it ]
+
+-- commands of one exchange that count, and the state after them is kept
+abbrev OneCounts : Exchange → State → Image → Type 0
+OneCounts exchange s left = (here : List Command) × Counts exchange s here × ImageKeeps left (state_after s here)
+
+module _ (states : StatesFollow) (answers : RepliesFollow) where
+  over_them : {D : Type 0} {g : disk.Ghosts D} (before : Image) (exchange : Exchange) (opened : Held (FileStore D g)) (stopped : FileStore D g) (left : Image) (s : State) → ImageKeeps before s
+      → IsOverFiles before exchange opened stopped left → ∥ OneCounts exchange s left ∥₁
+  over_them before exchange opened stopped left s keeps is =
+      let found = found_stores before s (file_state opened) is.found keeps in
+      let l = leaves_two answers (stretch over_files opened exchange.commands exchange.replies stopped) s is.passed found.0 found.1 in
+      ∥∥₁_map (opens_again stopped is.numbered (databases (recovers stopped) (state_after s l.one) (state_after s l.other) l.keeps) left is.may) (λ db. one l db.0 db.2 (l.keeps db.0 db.1))
+    where
+      one : (l : LeavesTwo (stretch over_files opened exchange.commands exchange.replies stopped) s) (trees : Trees) → HoldsDatabase left trees → Keeps trees (state_after s l.one) ⊎ Keeps trees (state_after s l.other) → OneCounts exchange s left
+      one l trees held (inl kept) = (l.one, l.counts_one, inl (trees, held, kept))
+      one l trees held (inr kept) = (l.other, l.counts_other, inl (trees, held, kept))
+
+  ended : (before : Image) (exchange : Exchange) (left : Image) (end : End) (s : State) → ImageKeeps before s → Ended before exchange left end → ∥ OneCounts exchange s left ∥₁
+  ended before exchange left not_started s keeps (no_reply, kept) = ∥∥₁_map (kept s keeps) (λ still. ([], none, still))
+    where
+      none : Counts exchange s []
+      none = record { rest = exchange.commands; prefix = refl; unheard = []; at_most_one = omega arith; answers = ap (λ l. l ++ []) (sym no_reply) }
+  ended before exchange left (let_go D g opened stopped) s keeps is = over_them before exchange opened stopped left s keeps is
+
+  pub files_pass : (stretches : List FileStretch) (before : Image) (s : State) → ImageKeeps before s → AllFilesPassed before stretches → ∥ KeepsAfter s stretches (last_left before stretches) ∥₁
+  files_pass [] before s keeps all = ∣ ([], refl, keeps) ∣₁
+  files_pass (it ∷ more) before s keeps all =
+      ∥∥₁_elim (ended before it.exchange it.left it.end s keeps all.0) squash₁ (λ one. ∥∥₁_map (files_pass more it.left (state_after s one.0) one.2 all.1) (next one))
+    where
+      next : (one : OneCounts it.exchange s it.left) → KeepsAfter (state_after s one.0) more (last_left it.left more) → KeepsAfter s (it ∷ more) (last_left it.left more)
+      next (here, counts, kept) (later, passes, still) = (here ++ later, (here, later, refl, counts, passes), subst (ImageKeeps (last_left it.left more)) (sym (states s here later)) still)
+
+-- ---- the jobs whose numbers were told
+
+good_in : IsWellFormed empty → (image : Image) (s : State) → ImageKeeps image s → IsWellFormed s
+good_in none image s (inl held) = good_of none held.0 s held.2
+good_in none image s (inr nothing) = subst IsWellFormed (sym nothing.1) none
+
+pub jobs_pass : IsWellFormed empty
+    → ((s : State) (told : List Exchange) (counted : List Command) (new : NewJob) (number : ℕ) → IsWellFormed s → Passes s told counted → IsAcknowledged told new number → IsAccountedFor s counted new number)
+    → (stretches : List FileStretch) (before left : Image) (s : State) (new : NewJob) (number : ℕ) → ImageKeeps before s → IsAcknowledged (file_exchanges stretches) new number → ∥ KeepsAfter s stretches left ∥₁
+    → ∥ KeepsJob s (file_exchanges stretches) new number left ∥₁
+jobs_pass none account stretches before left s new number keeps told after =
+    ∥∥₁_map after (λ then. (then.0, then.1, then.2, account s (file_exchanges stretches) then.0 new number (good_in none before s keeps) then.1 told))
+
+-- ---- a stretch, by what its calls ensure
+
+module _ {D : Type 0} {g : disk.Ghosts D} (image : Image) (commands : List Command) (begun ended : Spool (FileStore D g) over_files) (replies : List Reply) (fault : Option StoreFault) (stopped : FileStore D g) where
+  pub stretch_is : Started image begun → Ran commands begun ended replies fault → IsLetGo over_files (connection_of ended).store stopped → (IsClean (view stopped) → IsTrue (view stopped).is_numbered)
+      → IsStretch image commands replies stopped
+  stretch_is started ran last numbered = record {
+    opened = started.opened;
+    passed = λ clean left may. (record {
+      found = started.found (omega (arith, started.adopted.clean, ran.clean, last.clean, clean));
+      passed = record { work = inl (record { begun = begun; ended = ended; fault = fault; adopted = started.adopted; ran = ran; let_go = last }); clean = clean };
+      numbered = numbered clean;
+      may = may;
+    });
+  }

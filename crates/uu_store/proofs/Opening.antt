@@ -1,0 +1,107 @@
+-- From what the files of a spool hold to what it shows.
+use Rattle.std.proofs.Common.{◌≡◌, ◌≢◌, inl, inr, [], Option, Some, None, refl, sym, ap, subst, ◌∙◌, arith}
+use Rattle.std.specs.Prelude.{IsTrue, IfSome, length}
+use Rattle.sqlite.specs.Tree.{Trees}
+use Rattle.sqlite.specs.Schema.{Schema}
+use Rattle.sqlite.specs.Effect.{Database}
+use Rattle.sqlite.specs.Store.{Ghosts}
+use Rattle.sqlite.specs.Held.{Held, state}
+use Rattle.sqlite.specs.State as db
+use Rattle.sqlite.specs.Start.{FindsIn}
+use Rattle.sqlite.specs.View.{IsClean}
+use Rattle.sqlite.specs.Files.{file_state, over_files}
+use Rattle.sqlite.proofs.ListingLemmas.{empty_is_sound}
+use Rattle.sqlite_wal.specs.Recovery.{Image}
+use Rattle.sqlite_catalog.specs.Listing.{IsSound}
+use Rattle.sqlite_trees.specs.Objects.{catalog_tree}
+use Rattle.sqlite_trees.specs.View.{IsQuiet}
+use Rattle.sqlite_trees.proofs.Doubt.{no_doubt}
+use Rattle.sqlite_disk.specs.declared.Disk as disk
+use Rattle.sqlite_store.specs.declared.store.FileStore.{FileStore}
+use Rattle.sqlite_store.specs.FileStore.{view}
+use Rattle.sqlite_store.specs.FileStore as store
+use Rattle.sqlite.specs.declared.file.Leftover.TheVariants as left
+use Rattle.uu_sql.specs.Steps.{Rests, Stands}
+use Rattle.uu_core.specs.State.{State, empty}
+use Rattle.uu_schema.specs.Schema.{site, no_schema}
+use Rattle.uu_store.specs.declared.spool.Spool.{Spool}
+use Rattle.uu_store.specs.Encoded.{Encodes}
+use Rattle.uu_store.specs.Kept.{Keeps, Stores}
+use Rattle.uu_store.specs.Spool.{disk, Shows}
+use Rattle.uu_store.specs.Stretches.{Adopted, TurnedAway}
+use Rattle.uu_schema.specs.declared.fault.StoreFault.{StoreFault}
+use Rattle.uu_schema.specs.declared.fault.StoreFault.TheVariants.{Foreign, Newer}
+use Rattle.uu_store.specs.Openings.{ImageKeeps, IsFound, IsNotTaken, LeavesAsKept}
+use Rattle.uu_store.proofs.Images.{unfound, stop_has}
+use Rattle.uu_store.proofs.Reopening.{stores_of}
+
+pub none_fits : (s : State) → s ≡ empty → (trees : Trees) → trees catalog_tree ≡ [] → Keeps trees s
+none_fits s is trees none = inr (empty_is_sound trees none, is)
+
+pub keeps_sound : (s : State) (trees : Trees) → Keeps trees s → (schema : Schema) × IsSound schema trees
+keeps_sound s trees (inl it) = (site, it.0)
+keeps_sound s trees (inr it) = (no_schema, it.0)
+
+-- what is opened is at rest, and stores the state that the files kept
+pub found_stores : (image : Image) (s : State) (opened : db.State) → IsFound image opened → ImageKeeps image s → Rests opened × Stores opened.now s
+found_stores image s opened found keeps = (rests, stores_of opened s found.live rests (keeps_now keeps))
+  where
+    rests : Rests opened
+    rests = record { is_open = found.opens.is_open; idle = found.opens.autocommit; settled = found.opens.clean }
+
+    now_is : opened.now.trees ≡ opened.committed.trees
+    now_is = ap (λ (d : Database). d.trees) found.opens.clean
+
+    keeps_now : ImageKeeps image s → Keeps opened.now.trees s
+    keeps_now (inl held) = subst (λ trees. Keeps trees s) (sym (now_is ∙ found.finds.holds held.0 held.1)) held.2
+    keeps_now (inr none) = none_fits s none.1 opened.now.trees (ap (λ (trees : Trees). trees catalog_tree) now_is ∙ unfound image none.0 opened.committed.trees found.finds.reads)
+
+pub is_found : (image : Image) (opened : db.State) → (db.HasCleanDisk opened → db.Opens opened × db.IsLive opened) → (db.HasCleanDisk opened → FindsIn image opened) → db.HasCleanDisk opened → IsFound image opened
+is_found image opened opens finds clean = let it = opens clean in record { opens = it.0; live = it.1; finds = finds clean }
+
+module _ {S : Type 0} (g : Ghosts S) (image : Image) (opened : Held S) (found : db.HasCleanDisk (state g opened) → IsFound image (state g opened)) where
+  pub started_shows : (spool : Spool S g) → Adopted opened spool → db.HasCleanDisk (disk spool) → (s : State) → ImageKeeps image s → Shows spool s
+  started_shows spool adopted clean s keeps =
+      let it = found_stores image s (state g opened) (found (omega (arith, adopted.clean, clean))) keeps in
+      adopted.shows clean s it.0 it.1
+
+-- ---- where the database was not taken
+
+pub not_taken : {S : Type 0} (g : Ghosts S) (was last : Held S) (stopped : S) (fault : StoreFault) → TurnedAway g was last → IsQuiet g.view g.faults g.recovers g.is_shielded last.store stopped
+    → (IsClean (g.view stopped) → IsTrue (g.view stopped).is_numbered) → (db.HasCleanDisk (state g last) → (s : State) → Encodes (state g was).now s → (fault ≢ Foreign) × (fault ≢ Newer))
+    → (Stands no_schema (state g was).now → (fault ≢ Foreign) × (fault ≢ Newer)) → IsNotTaken g was stopped fault
+not_taken g was last stopped fault away quiet numbered ours welcomed = record {
+  last = last;
+  turned_away = away;
+  let_go = record { left = quiet.outcomes; clean = quiet.clean };
+  numbered = numbered;
+  ours = λ clean s stores. elim stores [ inl enc ↦ ours (omega (arith, quiet.clean, clean)) s enc | inr none ↦ welcomed none.0 ];
+}
+
+module _ {D : Type 0} {g : disk.Ghosts D} (image : Image) (opened : Held (FileStore D g)) (found : db.HasCleanDisk (file_state opened) → IsFound image (file_state opened)) (stopped : FileStore D g) (fault : StoreFault)
+    (away : IsNotTaken over_files opened stopped fault) (clean : IsTrue (view stopped).is_clean) where
+  found_away : IsFound image (file_state opened)
+  found_away = let sure = no_doubt (view stopped).is_clean clean in found (omega (arith, away.turned_away.clean, away.let_go.clean, sure))
+
+  pub away_ours : (s : State) → ImageKeeps image s → (fault ≢ Foreign) × (fault ≢ Newer)
+  away_ours s keeps = away.ours (no_doubt (view stopped).is_clean clean) s (found_stores image s (file_state opened) found_away keeps).1
+
+  pub away_keeps : (s : State) → ImageKeeps image s → (trees : Trees) → store.recovers stopped trees → Keeps trees s
+  away_keeps s keeps trees may =
+      let sure = no_doubt (view stopped).is_clean clean in
+      let it = found_stores image s (file_state opened) found_away keeps in
+      away.turned_away.stop (omega (arith, away.let_go.clean, sure)) s it.0 it.1 trees (away.let_go.left trees may)
+
+pub away_leaves : {D : Type 0} {g : disk.Ghosts D} (image : Image) (opened : Held (FileStore D g)) → (db.HasCleanDisk (file_state opened) → IsFound image (file_state opened)) → (stopped : FileStore D g) (fault : StoreFault)
+    → IsNotTaken over_files opened stopped fault → LeavesAsKept image (left.Store stopped)
+away_leaves image opened found stopped fault away clean taken s keeps left may =
+    stop_has (λ trees. Keeps trees s) (s ≡ empty) (keeps_sound s) (none_fits s) stopped taken (away_keeps image opened found stopped fault away clean s keeps) left may
+
+-- ---- where nothing was opened
+
+pub some_weaker : {T : Type 0} {A B : T → Type 0} (o : Option T) → ((x : T) → A x → B x) → IfSome o A → IfSome o B
+some_weaker None from h = tt
+some_weaker (Some x) from h = from x h
+
+pub started_empty : (image : Image) → image.db ≡ [] → ImageKeeps image empty
+started_empty image none = inr (inl (inl (ap length none)), refl)

@@ -1,0 +1,165 @@
+-- What is found after a stop.
+use Rattle.std.proofs.Common.{◌≡◌, ◌⊎◌, ◌≤◌, inl, inr, ℕ, ◌+◌, List, [], ◌∷◌, ◌++◌, length, take, drop, refl, sym, ap, subst, ◌∙◌, append-nil, arith}
+use Rattle.std.proofs.Math.Logic.{∥∥₁_elim, ∥∥₁_map}
+use Rattle.std.proofs.lemmas.List.{take_all, length-take, take-append-drop}
+use Rattle.sqlite.specs.Schema.{Schema}
+use Rattle.sqlite.specs.Tree.{Trees}
+use Rattle.sqlite.specs.Held.{state}
+use Rattle.sqlite.specs.State as db
+use Rattle.sqlite_catalog.specs.Listing.{IsSound}
+use Rattle.uu_sql.specs.Objects.{IsSimple}
+use Rattle.uu_sql.specs.Steps.{Stands, Rests}
+use Rattle.uu_sql.proofs.Objects.{one_schema}
+use Rattle.uu_core.specs.declared.command.Command.{Command}
+use Rattle.uu_core.specs.State.{State}
+use Rattle.uu_core.specs.After.{after}
+use Rattle.uu_core.specs.Run.{state_after, replies_to}
+use Rattle.uu_schema.specs.Schema.{site, no_schema}
+use Rattle.uu_store.specs.Kept.{Stores, Keeps, KeepsOnly, KeepsEither}
+use Rattle.uu_store.specs.Spool.{disk, Shows}
+use Rattle.uu_store.specs.Exchanges.{Exchange, Counts}
+use Rattle.uu_store.specs.Stretches.{Stretch, opened_as, left_by, Worked, Unworked, Passed, Reopens, LeadTo, exchanges, StoresAfter}
+use Rattle.uu_store.proofs.Running.{StatesFollow, RepliesFollow, take_next}
+
+simple_site : IsSimple site
+simple_site = record { views = refl; keys = (omega arith, (omega arith, (omega arith, (omega arith, (omega arith, (omega arith, (omega arith, tt))))))) }
+
+pub simple_none : IsSimple no_schema
+simple_none = record { views = refl; keys = tt }
+
+-- the schema that an opening reads is the one that was written
+pub stands_again : (known : Schema) → IsSimple known → (found : db.State) → db.IsLive found → Rests found → IsSound known found.now.trees → Stands known found.now
+stands_again known simple found live rests sound = record { schema = one_schema found.now.trees known found.now.schema simple sound (live rests.is_open).0; sound = sound }
+
+pub stores_of : (found : db.State) (s : State) → db.IsLive found → Rests found → Keeps found.now.trees s → Stores found.now s
+stores_of found s live rests (inl it) = inl (record { stands = stands_again site simple_site found live rests it.0; holds = it.1 })
+stores_of found s live rests (inr it) = inr (stands_again no_schema simple_none found live rests it.0, it.1)
+
+pub stores_either : (could_leave : Trees → Type 0) (found : db.State) → Reopens could_leave found → (s t : State) → KeepsEither could_leave s t → ∥ Stores found.now s ⊎ Stores found.now t ∥₁
+stores_either could_leave found r s t keeps = ∥∥₁_map r.left (λ left. either (keeps found.now.trees left))
+  where
+    either : Keeps found.now.trees s ⊎ Keeps found.now.trees t → Stores found.now s ⊎ Stores found.now t
+    either (inl h) = inl (stores_of found s r.live r.rests h)
+    either (inr h) = inr (stores_of found t r.live r.rests h)
+
+-- ---- one stretch
+
+-- what a stretch that began with a state may leave: the state after one of two lists of commands, both of which count
+pub record LeavesTwo (it : Stretch) (s : State) : Type 0 where
+  pub one : List Command
+  pub other : List Command
+  pub keeps : KeepsEither (left_by it) (state_after s one) (state_after s other)
+  pub counts_one : Counts it.exchange s one
+  pub counts_other : Counts it.exchange s other
+
+module _ (answers_follow : RepliesFollow) (s : State) (it : Exchange) (k : ℕ) (is : length it.replies ≡ k) (within : k ≤ length it.commands) (answers : it.replies ≡ replies_to s (take k it.commands)) where
+  counts_first : Counts it s (take k it.commands)
+  counts_first = record {
+    rest = drop k it.commands;
+    prefix = sym (take-append-drop k it.commands);
+    unheard = [];
+    at_most_one = omega arith;
+    answers = sym answers ∙ sym (append-nil it.replies);
+  }
+
+  -- the command in hand
+  counts_next : (rest : List Command) → drop k it.commands ≡ rest → Counts it s (take (k + 1) it.commands)
+  counts_next [] past = subst (Counts it s) (sym same) counts_first
+    where
+      long : length it.commands ≤ k
+      long = let all = ap length (take-append-drop k it.commands) in let parts = ap (λ l. length (take k it.commands ++ l)) past in let none = ap length (append-nil (take k it.commands)) in let first = length-take k it.commands in omega (arith, all, parts, none, first)
+
+      same : take (k + 1) it.commands ≡ take k it.commands
+      same = take_all (k + 1) it.commands (omega (arith, long)) ∙ sym (take_all k it.commands long)
+  counts_next (command ∷ rest) is_next = record {
+    rest = drop (k + 1) it.commands;
+    prefix = sym (take-append-drop (k + 1) it.commands);
+    unheard = (after (state_after s (take k it.commands)) command).1 ∷ [];
+    at_most_one = omega arith;
+    answers = ap (replies_to s) next ∙ answers_follow s (take k it.commands) (command ∷ []) ∙ ap (λ l. l ++ (after (state_after s (take k it.commands)) command).1 ∷ []) (sym answers);
+  }
+    where
+      next : take (k + 1) it.commands ≡ take k it.commands ++ command ∷ []
+      next = take_next it.commands (take k it.commands) rest command k (sym (take-append-drop k it.commands) ∙ ap (λ l. take k it.commands ++ l) is_next) (let n = length-take k it.commands in omega (arith, n, within))
+
+module _ (answers_follow : RepliesFollow) (it : Stretch) (s : State) (passed : Passed it) (rests : Rests (opened_as it)) (stores : Stores (opened_as it).now s) where
+  abbrev k : ℕ
+  k = length it.exchange.replies
+
+  worked : Worked it → LeavesTwo it s
+  worked w =
+      let clean : db.HasCleanDisk (disk w.ended) = omega (arith, w.let_go.clean, passed.clean) in
+      let shows : Shows w.begun s = w.adopted.shows (omega (arith, w.ran.clean, clean)) s rests stores in
+      let from = w.ran.from clean s shows in
+      record {
+        one = take k it.exchange.commands;
+        other = take (k + 1) it.exchange.commands;
+        keeps = λ trees may. (let left = from.stop_store trees (w.let_go.left trees may) in elim left.1 [ inl h ↦ inl (inl (left.0, h)) | inr h ↦ inr (inl (left.0, h)) ]);
+        counts_one = counts_first answers_follow s it.exchange k refl w.ran.within from.answers;
+        counts_other = counts_next answers_follow s it.exchange k refl w.ran.within from.answers (drop k it.exchange.commands) refl;
+      }
+
+  unworked : Unworked it → LeavesTwo it s
+  unworked w = record { one = []; other = []; keeps = λ trees may. inl (w.turned_away.stop clean s rests stores trees (w.let_go.left trees may)); counts_one = none; counts_other = none }
+    where
+      clean : db.HasCleanDisk (state it.store w.last)
+      clean = omega (arith, w.let_go.clean, passed.clean)
+
+      none : Counts it.exchange s []
+      none = record { rest = it.exchange.commands; prefix = refl; unheard = []; at_most_one = omega arith; answers = ap (λ l. l ++ []) (sym w.no_reply) }
+
+  pub leaves_two : LeavesTwo it s
+  leaves_two = elim passed.work [ inl w ↦ worked w | inr w ↦ unworked w ]
+
+-- of one of the two states that a stretch may leave, the commands that count
+pub counted : (it : Stretch) (s : State) (l : LeavesTwo it s) (t : State) → (t ≡ state_after s l.one) ⊎ (t ≡ state_after s l.other) → (here : List Command) × Counts it.exchange s here × (t ≡ state_after s here)
+counted it s l t (inl is) = (l.one, l.counts_one, is)
+counted it s l t (inr is) = (l.other, l.counts_other, is)
+
+-- ---- any sequence of stretches
+
+-- from one of two states on
+abbrev GoesFrom : State → State → List Stretch → db.State → Type 0
+GoesFrom a b more found = (t : State) × ((t ≡ a) ⊎ (t ≡ b)) × StoresAfter t (exchanges more) found
+
+abbrev Goes : (Trees → Type 0) → List Stretch → db.State → Type 0
+Goes could_leave more found = (a b : State) → KeepsEither could_leave a b → ∥ GoesFrom a b more found ∥₁
+
+module _ (states : StatesFollow) (answers : RepliesFollow) where
+  -- one more exchange before others
+  pub passes_more : (it : Exchange) (more : List Exchange) (s : State) (here : List Command) (found : db.State) → Counts it s here → StoresAfter (state_after s here) more found → StoresAfter s (it ∷ more) found
+  passes_more it more s here found counts then =
+      (here ++ then.0, (here, then.0, refl, counts, then.1), then.2, subst (Stores found.now) (sym (states s here then.0)) then.3)
+
+  one_more : (it : Stretch) (more : List Stretch) (found : db.State) (s : State) → Passed it → Rests (opened_as it) → Stores (opened_as it).now s → Goes (left_by it) more found → ∥ StoresAfter s (exchanges (it ∷ more)) found ∥₁
+  one_more it more found s passed rests stores goes = let l = leaves_two answers it s passed rests stores in ∥∥₁_map (goes (state_after s l.one) (state_after s l.other) l.keeps) (next l)
+    where
+      next : (l : LeavesTwo it s) → GoesFrom (state_after s l.one) (state_after s l.other) more found → StoresAfter s (exchanges (it ∷ more)) found
+      next l (t, which, then) = let c = counted it s l t which in passes_more it.exchange (exchanges more) s c.0 found c.1 (subst (λ u. StoresAfter u (exchanges more) found) c.2 then)
+
+  passes : (stretches : List Stretch) (could_leave : Trees → Type 0) (found : db.State) → LeadTo could_leave stretches found → Goes could_leave stretches found
+  passes [] could_leave found reopens a b keeps = ∥∥₁_map (stores_either could_leave found reopens a b keeps) ends
+    where
+      ends : Stores found.now a ⊎ Stores found.now b → GoesFrom a b [] found
+      ends (inl h) = (a, inl refl, ([], refl, reopens.rests, h))
+      ends (inr h) = (b, inr refl, ([], refl, reopens.rests, h))
+  passes (it ∷ more) could_leave found lead a b keeps = ∥∥₁_elim (stores_either could_leave (opened_as it) lead.0 a b keeps) squash₁ (next (passes more (left_by it) found lead.2))
+    where
+      next : Goes (left_by it) more found → Stores (opened_as it).now a ⊎ Stores (opened_as it).now b → ∥ GoesFrom a b (it ∷ more) found ∥₁
+      next goes (inl h) = ∥∥₁_map (one_more it more found a lead.1 lead.0.rests h goes) (λ then. (a, inl refl, then))
+      next goes (inr h) = ∥∥₁_map (one_more it more found b lead.1 lead.0.rests h goes) (λ then. (b, inr refl, then))
+
+  pub passes_from : (stretches : List Stretch) (could_leave : Trees → Type 0) (found : db.State) (s : State) → KeepsOnly could_leave s → LeadTo could_leave stretches found → ∥ StoresAfter s (exchanges stretches) found ∥₁
+  passes_from stretches could_leave found s leaves lead = ∥∥₁_map (passes stretches could_leave found lead s s (λ trees may. inl (leaves trees may))) same
+    where
+      same : GoesFrom s s stretches found → StoresAfter s (exchanges stretches) found
+      same (t, which, then) = let is : t ≡ s = elim which [ inl h ↦ h | inr h ↦ h ] in subst (λ u. StoresAfter u (exchanges stretches) found) is then
+
+-- ---- what could be left is there
+
+abbrev pub Outcome : (Trees → Type 0) → Type 0
+Outcome could_leave = (trees : Trees) × could_leave trees
+
+pub left_somehow : (stretches : List Stretch) (could_leave : Trees → Type 0) (found : db.State) → LeadTo could_leave stretches found → ∥ Outcome could_leave ∥₁
+left_somehow [] could_leave found reopens = ∥∥₁_map reopens.left (λ left. (found.now.trees, left))
+left_somehow (it ∷ more) could_leave found lead = ∥∥₁_map lead.0.left (λ left. ((opened_as it).now.trees, left))

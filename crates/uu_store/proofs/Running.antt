@@ -1,0 +1,238 @@
+-- Commands over a spool, one after the other.
+use Rattle.std.proofs.Common.{◌≡◌, inl, ℕ, zero, suc, ◌+◌, true, false, true≢false, List, [], ◌∷◌, ◌++◌, length, take, Option, Some, None, Result, Ok, Err, refl, sym, ap, subst, ◌∙◌, append_assoc, append-nil, arith}
+use Rattle.std.specs.Prelude.{IfOk}
+use Rattle.std.proofs.lemmas.List.{length-append}
+use Rattle.std.proofs.Math.Seq.{take-append_seam}
+use Rattle.sqlite.specs.Store.{Ghosts}
+use Rattle.sqlite.specs.Held.{Held, state}
+use Rattle.sqlite.specs.State as db
+use Rattle.uu_core.specs.declared.command.Command.{Command}
+use Rattle.uu_core.specs.declared.command.Reply.{Reply}
+use Rattle.uu_core.specs.State.{State}
+use Rattle.uu_core.specs.After.{after}
+use Rattle.uu_core.specs.Run.{state_after, replies_to}
+use Rattle.uu_schema.specs.declared.fault.StoreFault.{StoreFault}
+use Rattle.uu_schema.specs.declared.fault.StoreFault.TheVariants.{Memory, Store, Failed, Foreign, Newer}
+use Rattle.uu_store.specs.declared.spool.Spool.{Spool}
+use Rattle.uu_store.specs.Calls.{StaysUnclean, IsAnswered}
+use Rattle.uu_store.specs.Encoded.{Leaves, LeavesEither}
+use Rattle.uu_store.specs.Spool.{connection_of, disk, has_failed, Shows, Marks}
+use Rattle.uu_store.specs.Runs.{GoesOn, RanFrom, Ran, reply_in, fault_in}
+use Rattle.uu_store.proofs.Ending.{Settles, leaves, noted_memory, shows_again, clean_before}
+
+-- ---- the first of a list
+
+pub take_every : {A : Type 0} (xs : List A) (n : ℕ) → n ≡ length xs → take n xs ≡ xs
+take_every xs n is = ap (λ k. take k xs) is ∙ ap (take (length xs)) (sym (append-nil xs)) ∙ take-append_seam xs []
+
+pub take_front : {A : Type 0} (all front back : List A) (n : ℕ) → all ≡ front ++ back → n ≡ length front → take n all ≡ front
+take_front all front back n is count = ap (take n) is ∙ ap (λ k. take k (front ++ back)) count ∙ take-append_seam front back
+
+pub take_next : {A : Type 0} (all front back : List A) (x : A) (n : ℕ) → all ≡ front ++ x ∷ back → n ≡ length front → take (n + 1) all ≡ front ++ x ∷ []
+take_next all front back x n is count =
+    take_front all (front ++ x ∷ []) back (n + 1) (is ∙ sym (append_assoc front (x ∷ []) back)) (let e = length-append front (x ∷ []) in omega (arith, e, count))
+
+pub none_left : {A : Type 0} (xs : List A) → length xs ≡ 0 → xs ≡ []
+none_left [] none = refl
+none_left (x ∷ xs) none = absurd (omega (arith, none))
+
+-- past the end of the first list
+take_past : {A : Type 0} (one other : List A) (m n : ℕ) → m ≡ length one → take (m + n) (one ++ other) ≡ one ++ take n other
+take_past [] other m n is = ap (λ k. take (k + n) other) is ∙ ap (λ k. take k other) (omega arith)
+take_past (x ∷ one) other zero n is = absurd (omega (arith, is))
+take_past (x ∷ one) other (suc m) n is = ap (λ k. take k (x ∷ one ++ other)) (let e : suc m + n ≡ suc (m + n) = omega arith in e) ∙ ap (λ l. x ∷ l) (take_past one other m n (omega (arith, is)))
+
+-- ---- the machine's laws that are used
+
+abbrev pub StatesFollow : Type 0
+StatesFollow = (state : State) (first second : List Command) → state_after state (first ++ second) ≡ state_after (state_after state first) second
+
+abbrev pub RepliesFollow : Type 0
+RepliesFollow = (state : State) (first second : List Command) → replies_to state (first ++ second) ≡ replies_to state first ++ replies_to (state_after state first) second
+
+memory_of : (fault : StoreFault) → GoesOn (Some fault) → fault ≡ Memory
+memory_of Memory on = refl
+memory_of (Store kind) on = absurd on
+memory_of Failed on = absurd on
+memory_of Foreign on = absurd on
+memory_of Newer on = absurd on
+
+-- ---- a run so far
+
+-- each command that was given so far was answered, as the machine answers it
+pub record Running {S : Type 0} {g : Ghosts S} (old now : Spool S g) (given : List Command) (replies : List Reply) : Type 0 where
+  pub was : has_failed old ≡ false
+  pub usable : has_failed now ≡ false
+  pub count : length replies ≡ length given
+  pub shows : db.HasCleanDisk (disk now) → (s : State) → Shows old s → (replies ≡ replies_to s given) × Shows now (state_after s given)
+  pub clean : StaysUnclean (disk old) (disk now)
+
+module _ {S : Type 0} {g : Ghosts S} (old : Spool S g) where
+  pub running_none : has_failed old ≡ false → Running old old [] []
+  running_none usable = record { was = usable; usable = usable; count = refl; shows = λ clean s shows. (refl, shows); clean = omega arith }
+
+  pub running_more : StatesFollow → RepliesFollow → (mid now : Spool S g) (given : List Command) (command : Command) (replies : List Reply) (reply : Reply) → Running old mid given replies → has_failed now ≡ false
+      → (db.HasCleanDisk (disk now) → (s : State) → Shows mid s → (reply ≡ (after s command).1) × Shows now (after s command).0) → StaysUnclean (disk mid) (disk now) → Running old now (given ++ command ∷ []) (replies ++ reply ∷ [])
+  running_more states answers mid now given command replies reply r usable step stays = record {
+    was = r.was;
+    usable = usable;
+    count = let a = length-append given (command ∷ []) in let b = length-append replies (reply ∷ []) in let n = r.count in omega (arith, a, b, n);
+    shows = λ clean s shows.
+        let was = r.shows (omega (arith, stays, clean)) s shows in
+        let it = step clean (state_after s given) was.1 in
+        (ap (λ l. l ++ reply ∷ []) was.0 ∙ ap (λ x. replies_to s given ++ x ∷ []) it.0 ∙ sym (answers s given (command ∷ [])), subst (Shows now) (sym (states s given (command ∷ []))) it.1);
+    clean = omega (arith, r.clean, stays);
+  }
+
+  -- ---- how it ends
+
+  module _ (commands : List Command) where
+    pub ran_every : (now : Spool S g) (given : List Command) (replies : List Reply) → Settles (disk now) → given ≡ commands → Running old now given replies → Ran commands old now replies None
+    ran_every now given replies settles all r = record { within = omega (arith, count); from = from; clean = r.clean }
+      where
+        count : length replies ≡ length commands
+        count = r.count ∙ ap length all
+
+        first : take (length replies) commands ≡ given
+        first = take_every commands (length replies) count ∙ sym all
+
+        from : db.HasCleanDisk (disk now) → (s : State) → Shows old s → RanFrom s commands now replies None
+        from clean s shows =
+            let it = r.shows clean s shows in
+            let here : Shows now (state_after s (take (length replies) commands)) = subst (λ l. Shows now (state_after s l)) (sym first) it.1 in
+            let stop = leaves _ (disk now) settles here.rests here.encodes in
+            record {
+              answers = it.0 ∙ ap (replies_to s) (sym first);
+              shows = λ on. here;
+              stop = λ on. stop;
+              stop_store = λ trees may. (let left = stop trees may in (left.0, inl left.1));
+            }
+
+    pub ran_stopped : StatesFollow → (mid now : Spool S g) (given : List Command) (command : Command) (rest : List Command) (replies : List Reply) (result : Result Reply StoreFault) (fault : StoreFault)
+        → commands ≡ given ++ command ∷ rest → Running old mid given replies → result ≡ Err fault
+        → (db.HasCleanDisk (disk now) → (s : State) → Shows mid s → result ≡ Err Memory → Shows now s)
+        → (db.HasCleanDisk (disk now) → (s : State) → Shows mid s → result ≡ Err Memory → Leaves (disk now) s)
+        → (db.HasCleanDisk (disk now) → (s : State) → Shows mid s → LeavesEither (disk now) s (after s command).0)
+        → StaysUnclean (disk mid) (disk now) → Ran commands old now replies (Some fault)
+    ran_stopped states mid now given command rest replies result fault all r is memory stop_memory stop_store stays = record { within = omega (arith, less, r.count); from = from; clean = omega (arith, r.clean, stays) }
+      where
+        first : take (length replies) commands ≡ given
+        first = take_front commands given (command ∷ rest) (length replies) all r.count
+
+        next : take (length replies + 1) commands ≡ given ++ command ∷ []
+        next = take_next commands given rest command (length replies) all r.count
+
+        less : length commands ≡ length given + length (command ∷ rest)
+        less = ap length all ∙ length-append given (command ∷ rest)
+
+        from : db.HasCleanDisk (disk now) → (s : State) → Shows old s → RanFrom s commands now replies (Some fault)
+        from clean s shows =
+            let it = r.shows (omega (arith, stays, clean)) s shows in
+            record {
+              answers = it.0 ∙ ap (replies_to s) (sym first);
+              shows = λ on. subst (λ l. Shows now (state_after s l)) (sym first) (memory clean (state_after s given) it.1 (is ∙ ap Err (memory_of fault on)));
+              stop = λ on. subst (λ l. Leaves (disk now) (state_after s l)) (sym first) (stop_memory clean (state_after s given) it.1 (is ∙ ap Err (memory_of fault on)));
+              stop_store =
+                  subst (λ t. LeavesEither (disk now) (state_after s (take (length replies) commands)) t) (sym (ap (state_after s) next ∙ states s given (command ∷ [])))
+                  (subst (λ l. LeavesEither (disk now) (state_after s l) (after (state_after s given) command).0) (sym first) (stop_store clean (state_after s given) it.1));
+            }
+
+    -- nothing was given
+    unstarted : (fault : StoreFault) → ((s : State) → Shows old s → Leaves (disk old) s) → Ran commands old old [] (Some fault)
+    unstarted fault stop = record {
+      within = omega arith;
+      from = λ clean s shows. (record { answers = refl; shows = λ on. shows; stop = λ on. stop s shows; stop_store = λ trees may. (let it = stop s shows trees may in (it.0, inl it.1)) });
+      clean = omega arith;
+    }
+
+    pub ran_failed : has_failed old ≡ true → Ran commands old old [] (Some Failed)
+    ran_failed failed = unstarted Failed (λ s shows. absurd (true≢false (sym failed ∙ shows.usable)))
+
+    pub ran_refused : Settles (disk old) → Ran commands old old [] (Some Memory)
+    ran_refused settles = unstarted Memory (λ s shows. leaves s (disk old) settles shows.rests shows.encodes)
+
+-- ---- one call
+
+-- a command alone
+pub ran_one : {S : Type 0} {g : Ghosts S} (old new : Spool S g) (command : Command) (result : Result Reply StoreFault) → Settles (disk new) → (db.HasCleanDisk (disk new) → (s : State) → Shows old s → IfOk result (λ reply. (reply ≡ (after s command).1) × Shows new (after s command).0))
+    → (db.HasCleanDisk (disk new) → (s : State) → Shows old s → result ≡ Err Memory → Shows new s)
+    → (db.HasCleanDisk (disk new) → (s : State) → Shows old s → LeavesEither (disk new) s (after s command).0) → StaysUnclean (disk old) (disk new) → Ran (command ∷ []) old new (reply_in result) (fault_in result)
+ran_one old new command (Ok reply) settles step memory stop stays = record {
+  within = omega arith;
+  from = λ clean s shows.
+      let it = step clean s shows in
+      let left = leaves (after s command).0 (disk new) settles it.1.rests it.1.encodes in
+      record { answers = ap (λ x. x ∷ []) it.0; shows = λ on. it.1; stop = λ on. left; stop_store = λ trees may. (let l = left trees may in (l.0, inl l.1)) };
+  clean = stays;
+}
+ran_one old new command (Err fault) settles step memory stop stays = record {
+  within = omega arith;
+  from = λ clean s shows.
+      let same = λ (on : GoesOn (Some fault)). memory clean s shows (ap Err (memory_of fault on)) in
+      record { answers = refl; shows = same; stop = λ on. (let it = same on in leaves s (disk new) settles it.rests it.encodes); stop_store = stop clean s shows };
+  clean = stays;
+}
+
+-- a question
+module _ {S : Type 0} {g : Ghosts S} {T : Type 0} (IsAnswer : State → T → Type 0) (old now : Spool S g) (held : Held S) (same : connection_of now ≡ held) (settles : Settles (disk old)) where
+  still : (r : Result T StoreFault) → IsAnswered IsAnswer (disk old) (state g held) r → db.HasCleanDisk (disk now) → (s : State) → Shows old s → Leaves (disk now) s
+  still r it clean s shows = subst (λ h. Leaves (state g h) s) (sym same) (λ trees may.
+      leaves s (disk old) settles shows.rests shows.encodes trees (it.stop (clean_before now held same clean) s shows.rests shows.encodes trees may))
+
+  asked_from : (s : State) (stopped : Option StoreFault) → (GoesOn stopped → Shows now s) → Leaves (disk now) s → RanFrom s [] now [] stopped
+  asked_from s stopped shows stop = record { answers = refl; shows = shows; stop = λ on. stop; stop_store = λ trees may. (let it = stop trees may in (it.0, inl it.1)) }
+
+  pub ran_answered : (answer : T) → has_failed now ≡ false → IsAnswered IsAnswer (disk old) (state g held) (Ok answer) → Ran [] old now [] None
+  ran_answered answer usable it = record {
+    within = omega arith;
+    from = λ clean s shows.
+        let at = it.ok (clean_before now held same clean) s shows.rests shows.encodes in
+        asked_from s None (λ on. shows_again now held s same usable at.1 at.2) (still (Ok answer) it clean s shows);
+    clean = subst (λ h. StaysUnclean (disk old) (state g h)) (sym same) it.clean;
+  }
+
+  pub ran_unanswered : (fault told : StoreFault) → told ≡ fault → Marks (has_failed old) (has_failed now) fault → IsAnswered IsAnswer (disk old) (state g held) (Err fault) → Ran [] old now [] (Some told)
+  ran_unanswered fault told is marks it = record {
+    within = omega arith;
+    from = λ clean s shows. asked_from s (Some told) (again clean s shows) (still (Err fault) it clean s shows);
+    clean = subst (λ h. StaysUnclean (disk old) (state g h)) (sym same) it.clean;
+  }
+    where
+      again : db.HasCleanDisk (disk now) → (s : State) → Shows old s → GoesOn (Some told) → Shows now s
+      again clean s shows on =
+          let memory = sym is ∙ memory_of told on in
+          let at = it.memory (clean_before now held same clean) s shows.rests shows.encodes (ap Err memory) in
+          shows_again now held s same (noted_memory (has_failed old) (has_failed now) fault marks memory) at.0 at.1
+
+-- ---- one run after another, where the first answered every command
+
+module _ (states : StatesFollow) (answers : RepliesFollow) {S : Type 0} {g : Ghosts S} (old mid new : Spool S g) (one other : List Command) (first second : List Reply) (was stopped : Option StoreFault) where
+  pub ran_then : length first ≡ length one → GoesOn was → Ran one old mid first was → Ran other mid new second stopped → Ran (one ++ other) old new (first ++ second) stopped
+  ran_then every on p q = record { within = omega (arith, lengths, length-append one other, q.within, every); from = from; clean = omega (arith, p.clean, q.clean) }
+    where
+      lengths : length (first ++ second) ≡ length first + length second
+      lengths = length-append first second
+
+      joined : (n m : ℕ) → m ≡ length first + n → take m (one ++ other) ≡ one ++ take n other
+      joined n m is = ap (λ k. take k (one ++ other)) is ∙ take_past one other (length first) n every
+
+      after_is : (s : State) (n m : ℕ) → m ≡ length first + n → state_after s (take m (one ++ other)) ≡ state_after (state_after s one) (take n other)
+      after_is s n m is = ap (state_after s) (joined n m is) ∙ states s one (take n other)
+
+      whole : take (length first) one ≡ one
+      whole = take_every one (length first) every
+
+      from : db.HasCleanDisk (disk new) → (s : State) → Shows old s → RanFrom s (one ++ other) new (first ++ second) stopped
+      from clean s shows =
+          let early : db.HasCleanDisk (disk mid) = omega (arith, q.clean, clean) in
+          let a = p.from early s shows in
+          let b = q.from clean (state_after s one) (subst (λ l. Shows mid (state_after s l)) whole (a.shows on)) in
+          let here = after_is s (length second) (length (first ++ second)) lengths in
+          let next = after_is s (length second + 1) (length (first ++ second) + 1) (omega (arith, lengths)) in
+          record {
+            answers = ap (λ l. l ++ second) (a.answers ∙ ap (replies_to s) whole) ∙ ap (λ l. replies_to s one ++ l) b.answers ∙ sym (answers s one (take (length second) other)) ∙ ap (replies_to s) (sym (joined (length second) (length (first ++ second)) lengths));
+            shows = λ go. subst (Shows new) (sym here) (b.shows go);
+            stop = λ go. subst (Leaves (disk new)) (sym here) (b.stop go);
+            stop_store = subst (λ t. LeavesEither (disk new) t (state_after s (take (length (first ++ second) + 1) (one ++ other)))) (sym here)
+                (subst (LeavesEither (disk new) (state_after (state_after s one) (take (length second) other))) (sym next) b.stop_store);
+          }

@@ -1,0 +1,42 @@
+-- What becomes of a job whose number was told.
+use Rattle.std.specs.Prelude.{◌≡◌, ◌⊎◌, ℕ, true, List, Some, Contains, zip}
+use Rattle.sqlite.specs.State as db
+use Rattle.sqlite.specs.Store.{Ghosts}
+use Rattle.uu_sql.specs.Steps.{Rests}
+use Rattle.uu_core.specs.declared.command.Command.{Command}
+use Rattle.uu_core.specs.declared.command.Command.TheVariants.{Queue}
+use Rattle.uu_core.specs.declared.command.Reply.TheVariants.{Number}
+use Rattle.uu_core.specs.declared.job.NewJob.{NewJob}
+use Rattle.uu_core.specs.State.{State, Job, job_at}
+use Rattle.uu_core.specs.After.{job_of}
+use Rattle.uu_core.specs.Run.{state_after}
+use Rattle.uu_core.specs.Laws.{accepted_of, lets_go, IsSameJob}
+use Rattle.uu_store.specs.declared.spool.Spool.{Spool}
+use Rattle.uu_store.specs.Kept.{Stores}
+use Rattle.uu_store.specs.Spool.{Shows}
+use Rattle.uu_store.specs.Exchanges.{Exchange, Passes}
+
+-- the job was handed in, and the reply was this number
+abbrev pub IsAcknowledged : List Exchange → NewJob → ℕ → Type 0
+IsAcknowledged exchanges new number = (it : Exchange) × Contains exchanges it × Contains (zip it.commands it.replies) (Queue new, Number number)
+
+-- the job is there under its number, with all its bytes; its grade and its time of queueing may have changed
+abbrev pub IsThere : State → NewJob → ℕ → Type 0
+IsThere state new number = (job : Job) × (job_at state number ≡ Some job) × IsSameJob (job_of number new) job
+
+-- an accepted command let it go: it was killed, or a call delivered it
+abbrev pub WasLetGo : State → List Command → ℕ → Type 0
+WasLetGo s counted number = (command : Command) × Contains (accepted_of s counted) command × (lets_go command number ≡ true)
+
+-- after these commands it is there unless it was let go, and no other job has its number
+pub record IsAccountedFor (s : State) (counted : List Command) (new : NewJob) (number : ℕ) : Type 0 where
+  pub kept : IsThere (state_after s counted) new number ⊎ WasLetGo s counted number
+  pub alone : (job : Job) → Contains (state_after s counted).jobs job → job.number ≡ number → IsSameJob (job_of number new) job
+
+-- what was found stores the state after the commands that count, and the job is accounted for by these
+abbrev pub StoresJob : State → List Exchange → NewJob → ℕ → db.State → Type 0
+StoresJob s told new number found = (counted : List Command) × Passes s told counted × Rests found × Stores found.now (state_after s counted) × IsAccountedFor s counted new number
+
+-- the spool shows the state after the commands that count, and the job is accounted for by these
+abbrev pub ShowsJob : {S : Type 0} {g : Ghosts S} → State → List Exchange → NewJob → ℕ → Spool S g → Type 0
+ShowsJob s told new number spool = (counted : List Command) × Passes s told counted × Shows spool (state_after s counted) × IsAccountedFor s counted new number

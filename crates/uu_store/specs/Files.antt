@@ -1,0 +1,71 @@
+-- Stretches of work over the two files of a spool, each from an opening by path to a stop.
+use Rattle.std.specs.Prelude.{◌≡◌, ℕ, List, [], ◌∷◌, map, IsTrue, ⊤}
+use Rattle.sqlite_disk.specs.declared.Disk as disk
+use Rattle.sqlite_wal.specs.Recovery.{Image}
+use Rattle.sqlite_store.specs.declared.store.FileStore.{FileStore}
+use Rattle.sqlite_store.specs.FileStore.{state as files_of, view}
+use Rattle.sqlite.specs.Held.{Held}
+use Rattle.sqlite.specs.View.{IsClean}
+use Rattle.sqlite.specs.Files.{over_files, file_state}
+use Rattle.uu_core.specs.declared.command.Command.{Command}
+use Rattle.uu_core.specs.declared.command.Reply.{Reply}
+use Rattle.uu_core.specs.declared.job.NewJob.{NewJob}
+use Rattle.uu_core.specs.State.{State}
+use Rattle.uu_core.specs.Run.{state_after}
+use Rattle.uu_store.specs.Exchanges.{Exchange, Passes}
+use Rattle.uu_store.specs.Acknowledged.{IsAccountedFor}
+use Rattle.uu_store.specs.Stretches.{Passed, stretch}
+use Rattle.uu_store.specs.Openings.{ImageKeeps, IsFound}
+
+-- how a stretch ended
+pub data End : Type 1 where
+  -- no spool was started
+  not_started : End
+  -- over what was opened a spool was started, which ran the commands, and its store was let go so
+  let_go : (D : Type 0) (g : disk.Ghosts D) → Held (FileStore D g) → FileStore D g → End
+
+-- the commands and the replies, the end, and what the files hold after the stop
+pub record FileStretch : Type 1 where
+  pub exchange : Exchange
+  pub end : End
+  pub left : Image
+
+-- the opening found what the files held, and the stop left one of the contents that it could leave
+pub record IsOverFiles {D : Type 0} {g : disk.Ghosts D} (before : Image) (exchange : Exchange) (opened : Held (FileStore D g)) (stopped : FileStore D g) (left : Image) : Type 0 where
+  pub found : IsFound before (file_state opened)
+  pub passed : Passed (stretch over_files opened exchange.commands exchange.replies stopped)
+  pub numbered : IsTrue (view stopped).is_numbered
+  pub may : (files_of stopped).may_leave left
+
+-- Where no spool was started, no reply came, and the files keep what they kept.
+abbrev pub Ended : Image → Exchange → Image → End → Type 0
+Ended before exchange left not_started = (exchange.replies ≡ []) × ((s : State) → ImageKeeps before s → ∥ ImageKeeps left s ∥₁)
+Ended before exchange left (let_go D g opened stopped) = IsOverFiles before exchange opened stopped left
+
+abbrev pub FilePassed : Image → FileStretch → Type 0
+FilePassed before it = Ended before it.exchange it.left it.end
+
+-- nobody else writes the files: each stretch is over what the stop before it left
+abbrev pub AllFilesPassed : Image → List FileStretch → Type 0
+AllFilesPassed before [] = ⊤
+AllFilesPassed before (it ∷ more) = FilePassed before it × AllFilesPassed it.left more
+
+abbrev pub last_left : Image → List FileStretch → Image
+last_left before [] = before
+last_left before (it ∷ more) = last_left it.left more
+
+abbrev pub file_exchanges : List FileStretch → List Exchange
+file_exchanges stretches = map (λ (it : FileStretch). it.exchange) stretches
+
+-- the files keep the state after commands that count
+abbrev pub KeepsAfter : State → List FileStretch → Image → Type 0
+KeepsAfter s stretches image = (counted : List Command) × Passes s (file_exchanges stretches) counted × ImageKeeps image (state_after s counted)
+
+-- the files keep the state after the commands that count, and the job is accounted for by these
+abbrev pub KeepsJob : State → List Exchange → NewJob → ℕ → Image → Type 0
+KeepsJob s told new number image = (counted : List Command) × Passes s told counted × ImageKeeps image (state_after s counted) × IsAccountedFor s counted new number
+
+-- A stretch of work over files that held this: these commands were given, these replies came, and the store was let go so.
+pub record IsStretch {D : Type 0} {g : disk.Ghosts D} (before : Image) (commands : List Command) (replies : List Reply) (stopped : FileStore D g) : Type 0 where
+  pub opened : Held (FileStore D g)
+  pub passed : IsClean (view stopped) → (left : Image) → (files_of stopped).may_leave left → IsOverFiles before (record { commands = commands; replies = replies }) opened stopped left

@@ -1,0 +1,25 @@
+-- What is kept of a state: its tables, or no tables at all where the state is that of an empty spool.
+use Rattle.std.specs.Prelude.{◌≡◌, ◌⊎◌}
+use Rattle.sqlite.specs.Tree.{Trees}
+use Rattle.sqlite.specs.Effect.{Database}
+use Rattle.sqlite_catalog.specs.Listing.{IsSound}
+use Rattle.uu_sql.specs.Steps.{Stands}
+use Rattle.uu_core.specs.State.{State, empty}
+use Rattle.uu_schema.specs.Schema.{site, no_schema}
+use Rattle.uu_store.specs.Encoded.{Encodes, HoldsState}
+
+-- the database encodes the state, or has no tables and the state is an empty spool's
+abbrev pub Stores : Database → State → Type 0
+Stores database s = Encodes database s ⊎ (Stands no_schema database × (s ≡ empty))
+
+-- the same of its trees alone, which are all that a stop leaves
+abbrev pub Keeps : Trees → State → Type 0
+Keeps trees s = (IsSound site trees × HoldsState trees s) ⊎ (IsSound no_schema trees × (s ≡ empty))
+
+-- each outcome keeps the state
+abbrev pub KeepsOnly : (Trees → Type 0) → State → Type 0
+KeepsOnly could_leave s = (trees : Trees) → could_leave trees → Keeps trees s
+
+-- each outcome keeps the one state or the other
+abbrev pub KeepsEither : (Trees → Type 0) → State → State → Type 0
+KeepsEither could_leave s t = (trees : Trees) → could_leave trees → Keeps trees s ⊎ Keeps trees t

@@ -1,0 +1,68 @@
+-- Opening the two files of a spool: what they hold, what an opening finds in them, and what one that failed leaves.
+use Rattle.std.specs.Prelude.{◌≡◌, ◌≢◌, ◌⊎◌, IsTrue, ⊤}
+use Rattle.sqlite_disk.specs.declared.Disk as disk
+use Rattle.sqlite_wal.specs.Recovery.{Image}
+use Rattle.sqlite_wal.specs.Files.{outcomes}
+use Rattle.sqlite_pool.specs.Stored.{stored_size, is_summed}
+use Rattle.sqlite_store.specs.FileStore as store
+use Rattle.sqlite_store.specs.Unopened.{state_of}
+use Rattle.sqlite.specs.Tree.{Trees}
+use Rattle.sqlite.specs.Store.{Ghosts}
+use Rattle.sqlite.specs.Held.{Held, state}
+use Rattle.sqlite.specs.View.{IsClean}
+use Rattle.sqlite.specs.State as db
+use Rattle.sqlite.specs.Start.{FindsIn}
+use Rattle.sqlite.specs.Files.{HoldsDatabase, IsNothing, SaysSums, IsCleanLeft}
+use Rattle.sqlite.specs.declared.file.Leftover.{Leftover}
+use Rattle.sqlite.specs.declared.file.Leftover.TheVariants as left
+use Rattle.uu_core.specs.State.{State, empty}
+use Rattle.uu_store.specs.declared.spool.Spool.{Spool}
+use Rattle.uu_schema.specs.declared.fault.StoreFault.{StoreFault}
+use Rattle.uu_schema.specs.declared.fault.StoreFault.TheVariants.{Foreign, Newer}
+use Rattle.uu_store.specs.Kept.{Keeps, Stores}
+use Rattle.uu_store.specs.Stretches.{Adopted, TurnedAway, IsLetGo}
+
+-- the files hold a database that keeps the state, or none was made yet and the state is an empty spool's
+abbrev pub ImageKeeps : Image → State → Type 0
+ImageKeeps image s = ((trees : Trees) × HoldsDatabase image trees × Keeps trees s) ⊎ (IsNothing image × (s ≡ empty))
+
+-- an opening of these files found what they hold
+pub record IsFound (image : Image) (opened : db.State) : Type 0 where
+  pub opens : db.Opens opened
+  pub live : db.IsLive opened
+  pub finds : FindsIn image opened
+
+-- a spool over what an opening of these files found
+pub record Started {S : Type 0} {g : Ghosts S} (image : Image) (spool : Spool S g) : Type 0 where
+  pub opened : Held S
+  pub found : db.HasCleanDisk (state g opened) → IsFound image (state g opened)
+  pub adopted : Adopted opened spool
+
+-- A database was opened and not taken as a spool, and its store was let go. One that stores a state is not called foreign or newer.
+pub record IsNotTaken {S : Type 0} (g : Ghosts S) (was : Held S) (stopped : S) (fault : StoreFault) : Type 0 where
+  pub last : Held S
+  pub turned_away : TurnedAway g was last
+  pub let_go : IsLetGo g last.store stopped
+  pub numbered : IsClean (g.view stopped) → IsTrue (g.view stopped).is_numbered
+  pub ours : IsClean (g.view stopped) → (s : State) → Stores (state g was).now s → (fault ≢ Foreign) × (fault ≢ Newer)
+
+-- ---- an opening that failed, by what is left of the files
+
+module _ {D : Type 0} {g : disk.Ghosts D} where
+  -- the contents that a stop may leave
+  abbrev pub may_be_left : Leftover D g → Image → Type 0
+  may_be_left (left.Files files) = outcomes g files.log files.db
+  may_be_left (left.Unopened files) = (state_of files).may_leave
+  may_be_left (left.Store it) = (store.state it).may_leave
+
+  -- The opening took a database for what it is: pages that it says end in sums as such, and each tree by its place in the list of objects.
+  -- (The port does both, and states neither of an opening that failed.)
+  abbrev pub IsTakenAsMade : Image → Leftover D g → Type 0
+  IsTakenAsMade before (left.Files files) = ⊤
+  IsTakenAsMade before (left.Unopened files) =
+      (trees : Trees) → HoldsDatabase before trees → SaysSums (stored_size (state_of files).page_size) before → IsTrue (is_summed (state_of files).page_size)
+  IsTakenAsMade before (left.Store it) = IsTrue (store.view it).is_numbered
+
+  -- while the disk returned what was written, a stop leaves files that keep what these kept
+  abbrev pub LeavesAsKept : Image → Leftover D g → Type 0
+  LeavesAsKept before it = IsCleanLeft it → IsTakenAsMade before it → (s : State) → ImageKeeps before s → (image : Image) → may_be_left it image → ∥ ImageKeeps image s ∥₁

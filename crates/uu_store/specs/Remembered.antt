@@ -1,0 +1,18 @@
+-- What a spool shows of all that it was told before, over any stretches of work.
+use Rattle.std.specs.Prelude.{ℕ, List}
+use Rattle.sqlite.specs.Store.{Ghosts}
+use Rattle.sqlite.specs.Held.{Held}
+use Rattle.sqlite.specs.State as db
+use Rattle.uu_core.specs.declared.job.NewJob.{NewJob}
+use Rattle.uu_core.specs.State.{State}
+use Rattle.uu_store.specs.declared.spool.Spool.{Spool}
+use Rattle.uu_store.specs.Spool.{disk}
+use Rattle.uu_store.specs.Stretches.{StretchOver, Led, ShowsAfter, told}
+use Rattle.uu_store.specs.Acknowledged.{IsAcknowledged, ShowsJob}
+
+-- Whatever stretches led to the connection that it was made of, it shows the state after every command that was answered and at most one
+-- more of each stretch, and each job whose number was told, unless an accepted command let it go.
+pub record Remembers {S : Type 0} {g : Ghosts S} (found : Held S) (spool : Spool S g) : Type 0 where
+  pub commands : db.HasCleanDisk (disk spool) → (s : State) (before : Held S) (stretches : List (StretchOver S)) → Led g s before stretches found → ∥ ShowsAfter s (told g stretches) spool ∥₁
+  pub jobs : db.HasCleanDisk (disk spool) → (s : State) (before : Held S) (stretches : List (StretchOver S)) → Led g s before stretches found
+      → (new : NewJob) (number : ℕ) → IsAcknowledged (told g stretches) new number → ∥ ShowsJob s (told g stretches) new number spool ∥₁

@@ -1,0 +1,47 @@
+-- What a run of commands over a spool did: a list that was given one after the other, until one was not answered.
+use Rattle.std.specs.Prelude.{◌≡◌, ◌≤◌, ◌+◌, List, [], ◌∷◌, length, take, Option, Some, None, Result, Ok, Err, ⊤}
+use Rattle.sqlite.specs.Store.{Ghosts}
+use Rattle.sqlite.specs.State as db
+use Rattle.uu_core.specs.declared.command.Command.{Command}
+use Rattle.uu_core.specs.declared.command.Reply.{Reply}
+use Rattle.uu_core.specs.State.{State}
+use Rattle.uu_core.specs.Run.{state_after, replies_to}
+use Rattle.uu_schema.specs.declared.fault.StoreFault.{StoreFault}
+use Rattle.uu_schema.specs.declared.fault.StoreFault.TheVariants.{Memory, Store, Failed, Foreign, Newer}
+use Rattle.uu_store.specs.declared.spool.Spool.{Spool}
+use Rattle.uu_store.specs.Calls.{StaysUnclean}
+use Rattle.uu_store.specs.Encoded.{Leaves, LeavesEither}
+use Rattle.uu_store.specs.Spool.{disk, Shows}
+
+-- the run ended by itself or for want of memory, so that the spool can be used
+abbrev pub GoesOn : Option StoreFault → Type 0
+GoesOn None = ⊤
+GoesOn (Some Memory) = ⊤
+GoesOn (Some (Store kind)) = ⊥
+GoesOn (Some Failed) = ⊥
+GoesOn (Some Foreign) = ⊥
+GoesOn (Some Newer) = ⊥
+
+-- What a run did where the spool showed a state: with k replies, the first k commands were steps of the machine, and these are its replies.
+-- The spool shows the state after them, and a stop leaves that; where the store failed, that or the state after one more command.
+pub record RanFrom {S : Type 0} {g : Ghosts S} (s : State) (commands : List Command) (new : Spool S g) (replies : List Reply) (stopped : Option StoreFault) : Type 0 where
+  pub answers : replies ≡ replies_to s (take (length replies) commands)
+  pub shows : GoesOn stopped → Shows new (state_after s (take (length replies) commands))
+  pub stop : GoesOn stopped → Leaves (disk new) (state_after s (take (length replies) commands))
+  pub stop_store : LeavesEither (disk new) (state_after s (take (length replies) commands)) (state_after s (take (length replies + 1) commands))
+
+-- what a run did, for each state that the spool may have shown
+pub record Ran {S : Type 0} {g : Ghosts S} (commands : List Command) (old new : Spool S g) (replies : List Reply) (stopped : Option StoreFault) : Type 0 where
+  pub within : length replies ≤ length commands
+  pub from : db.HasCleanDisk (disk new) → (s : State) → Shows old s → RanFrom s commands new replies stopped
+  pub clean : StaysUnclean (disk old) (disk new)
+
+-- ---- one call as a run: a command alone, or a question, which is a run of no command
+
+abbrev pub reply_in : Result Reply StoreFault → List Reply
+reply_in (Ok reply) = reply ∷ []
+reply_in (Err fault) = []
+
+abbrev pub fault_in : {T : Type 0} → Result T StoreFault → Option StoreFault
+fault_in (Ok answer) = None
+fault_in (Err fault) = Some fault

@@ -1,0 +1,112 @@
+// A list of commands over a spool.
+ghost use Rattle.std.specs.Prelude.{◌≡◌, ◌≤◌, ◌<◌, ◌+◌, ◌++◌, ◌∷◌, []};
+ghost use Rattle.std.specs.Vec.{vec_len, vec_capacity};
+
+use crate::adopt::AdoptFault;
+use crate::spool::Spool;
+use sqlite::{Alter, Connection};
+use std::alloc::Global;
+use uu_core::laws::runs_follow_one_another;
+use uu_core::{Command, Reply};
+use uu_schema::StoreFault;
+
+/// How a run of commands ended.
+#[derive(Debug, Drop)]
+pub struct RunEnd {
+    /// The replies to the first commands, in turn.
+    pub replies: Vec<Reply>,
+    /// Why the next command was not answered, unless all were.
+    pub stopped: Option<StoreFault>,
+}
+
+// There is room for one more.
+fn keep(replies: &mut Vec<Reply>, reply: Reply)
+    requires { vec_len replies.old < vec_capacity replies.old }
+    ensures items { replies.new.items ≡ replies.old.items ++ reply ∷ [] }
+    ensures len { vec_len replies.new ≡ vec_len replies.old + 1 }
+    ensures capacity { vec_capacity replies.old ≤ vec_capacity replies.new }
+{
+    let _kept = replies.push(reply).is_ok();
+}
+
+impl<S: Alter> Spool<S> {
+    ghost use Rattle.std.specs.Prelude.{◌↔◌, false, IsTrue, Some, None, MatchOption, length};
+    ghost use Rattle.sqlite.specs.View.{IsClean};
+    ghost use Rattle.uu_store.specs.Spool.{has_failed, Marks};
+    ghost use Rattle.uu_store.specs.Runs.{Ran};
+    ghost use Rattle.uu_store.specs.Stretches.{Passed, stretch};
+
+    /// Carries out the commands, one after the other, until one is not answered. Room for all replies is taken first, so that no reply
+    /// is lost.
+    ///
+    /// # Errors
+    /// The first fault of a command ends the run, and no further command is given. `Failed` comes before any command.
+    pub fn run(&mut self, alloc: Global, commands: Vec<Command>) -> RunEnd
+        ensures ran { Ran commands.items self.old self.new result.replies.items result.stopped }
+
+        // Nothing stopped it exactly where all were answered, and the spool had not failed before.
+        ensures every { (result.stopped ≡ None) ↔ ((has_failed self.old ≡ false) × (length result.replies.items ≡ length commands.items)) }
+        ensures marked { MatchOption result.stopped ((has_failed self.old ≡ false) × (has_failed self.new ≡ false)) (Marks (has_failed self.old) (has_failed self.new)) }
+
+        // A spool that failed is left as it was, and gives no reply.
+        ensures failed { IsTrue (has_failed self.old) → (result.stopped ≡ Some StoreFault.Failed) × (result.replies.items ≡ []) × (self.new ≡ self.old) }
+    {
+        runs_follow_one_another();
+        if self.is_failed() {
+            return RunEnd {
+                replies: Vec::new(alloc),
+                stopped: Some(StoreFault::Failed),
+            };
+        }
+        let Ok(mut replies) = Vec::with_capacity(alloc, commands.len()) else {
+            return RunEnd {
+                replies: Vec::new(alloc),
+                stopped: Some(StoreFault::Memory),
+            };
+        };
+        for command in commands {
+            match self.command(alloc, command) {
+                Ok(reply) => keep(&mut replies, reply),
+                Err(fault) => {
+                    return RunEnd {
+                        replies,
+                        stopped: Some(fault),
+                    };
+                }
+            }
+        }
+        RunEnd {
+            replies,
+            stopped: None,
+        }
+    }
+
+    /// Takes the database as a spool, gives it the commands, and gives back the store: one stretch of work, from an opening to a stop.
+    ///
+    /// # Errors
+    /// As [`Spool::run`]. Where the database is not taken no command is given, and the end tells why.
+    pub fn adopt_and_run(alloc: Global, conn: Connection<S>, commands: Vec<Command>) -> (RunEnd, S)
+    where
+        S: Drop,
+        requires { conn.in_transaction ≡ false }
+        ensures passed { IsClean (S.Store.view result.1) → Passed (stretch S.Store conn commands.items result.0.replies.items result.1) }
+
+        // Where nothing stopped it, every command was answered.
+        ensures every { result.0.stopped ≡ None → length result.0.replies.items ≡ length commands.items }
+    {
+        match Spool::adopt(alloc, conn) {
+            Ok(spool) => {
+                let mut spool = spool;
+                let end = spool.run(alloc, commands);
+                (end, spool.into_store())
+            }
+            Err(AdoptFault { fault, conn }) => (
+                RunEnd {
+                    replies: Vec::new(alloc),
+                    stopped: Some(fault),
+                },
+                conn.into_store(),
+            ),
+        }
+    }
+}

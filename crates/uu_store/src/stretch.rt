@@ -1,0 +1,58 @@
+// Stretches of work over files.
+ghost use Rattle.std.specs.Prelude.{◌≡◌, ◌↔◌, ℕ, None, IfOk, IfErr, IfSome, length};
+ghost use Rattle.sqlite.specs.State.{HasCleanDisk};
+ghost use Rattle.sqlite_wal.specs.Files.{image_at};
+ghost use Rattle.uu_core.specs.declared.job.NewJob.{NewJob};
+ghost use Rattle.uu_core.specs.State.{State};
+ghost use Rattle.uu_store.specs.Acknowledged.{IsAcknowledged, ShowsJob};
+ghost use Rattle.uu_store.specs.Files.{AllFilesPassed, last_left, file_exchanges, IsStretch};
+ghost use Rattle.uu_store.specs.Openings.{ImageKeeps, LeavesAsKept};
+ghost use Rattle.uu_store.specs.Spool.{disk};
+ghost use Rattle.uu_store.specs.Stretches.{ShowsAfter};
+
+use crate::laws::{FileHistory, no_answered_command_is_lost_in_files};
+use crate::open::{FileSpool, open_spool, start_from};
+use crate::run::RunEnd;
+use sqlite::{FileFrom, FileStore, Leftover, Start};
+use uu_core::Command;
+use uu_schema::StoreFault;
+
+/// A stretch of work: opens the file at the path, gives the spool in it the commands, and lets its store go.
+///
+/// # Errors
+/// Those of [`open_spool`]. No command was given then.
+pub fn work<T: Start>(
+    rt: &HostRuntime,
+    path: &str,
+    start: T,
+    commands: Vec<Command>,
+) -> Result<(RunEnd, FileStore<FileFrom<T>>), (StoreFault, Option<Leftover<FileFrom<T>>>)>
+    ensures worked { IfOk result (λ end. IsStretch (image_at T.Start) commands.items end.0.replies.items end.1) }
+
+    // Nothing stopped it exactly where all were answered.
+    ensures every { IfOk result (λ end. (end.0.stopped ≡ None) ↔ (length end.0.replies.items ≡ length commands.items)) }
+    ensures left { IfErr result (λ e. IfSome e.1 (LeavesAsKept (image_at T.Start))) }
+{
+    let mut spool = open_spool(rt, path, start)?;
+    let end = spool.run(rt.alloc(), commands);
+    Ok((end, spool.into_store()))
+}
+
+/// Opens the file again, after any stretches of work over it. While nobody else wrote the files, and the disk returned what was written, the
+/// spool shows exactly the state that the machine reaches by the commands that count; so a job whose number was told is there with all its
+/// bytes, until an accepted command kills it or delivers it, and no other job has its number.
+pub fn start_again<H: FileHistory, T: Start>(
+    rt: &HostRuntime,
+    path: &str,
+    start: T,
+) -> Result<FileSpool<T>, StoreFault>
+    ensures shows { IfOk result (λ spool. HasCleanDisk (disk spool)
+        → (s : State) → ImageKeeps H.before s → AllFilesPassed H.before H.stretches → image_at T.Start ≡ last_left H.before H.stretches
+        → ∥ ShowsAfter s (file_exchanges H.stretches) spool ∥₁) }
+    ensures jobs { IfOk result (λ spool. HasCleanDisk (disk spool)
+        → (s : State) (new : NewJob) (number : ℕ) → ImageKeeps H.before s → AllFilesPassed H.before H.stretches → image_at T.Start ≡ last_left H.before H.stretches
+        → IsAcknowledged (file_exchanges H.stretches) new number → ∥ ShowsJob s (file_exchanges H.stretches) new number spool ∥₁) }
+{
+    no_answered_command_is_lost_in_files::<H>();
+    start_from(rt, path, start)
+}
