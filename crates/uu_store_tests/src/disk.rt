@@ -7,8 +7,6 @@ use std::alloc::Global;
 use std::process::Abort;
 use uu_store::Spool;
 
-pub(crate) type FusedFiles = Files<Fuse<Memory>>;
-
 /// Which file the fuse is on.
 #[derive(Clone, Copy, Debug, PartialEq, Eq)]
 pub(crate) enum Place {
@@ -16,24 +14,47 @@ pub(crate) enum Place {
     Database,
 }
 
-/// Empty files, one of which answers so many calls and refuses every later one.
-pub(crate) fn fused_files(alloc: Global, place: Place, calls: u64) -> FusedFiles {
-    let (log, db) = match place {
-        Place::Log => (calls, u64::MAX),
-        Place::Database => (u64::MAX, calls),
-    };
-    Files {
-        log: Fuse::new(Memory::new(alloc), log),
-        db: Fuse::new(Memory::new(alloc), db),
+/// A file answers so many calls and refuses every later one.
+#[derive(Clone, Copy)]
+pub(crate) struct Stop {
+    pub(crate) place: Place,
+    pub(crate) calls: u64,
+}
+
+/// Every call is answered.
+pub(crate) const NEVER: Stop = Stop {
+    place: Place::Log,
+    calls: u64::MAX,
+};
+
+/// What the two files hold.
+#[derive(Drop)]
+pub(crate) struct Contents {
+    log: Vec<u8>,
+    db: Vec<u8>,
+}
+
+impl Contents {
+    pub(crate) fn is_same(&self, other: &Contents) -> bool {
+        self.log.as_slice() == other.log.as_slice() && self.db.as_slice() == other.db.as_slice()
     }
 }
 
-/// The files as a crash leaves them.
-pub(crate) fn crashed(files: FusedFiles) -> FusedFiles {
-    let mut files = files;
-    files.log.crash();
-    files.db.crash();
-    files
+/// Files that are not there yet.
+pub(crate) fn nothing(alloc: Global) -> Contents {
+    Contents {
+        log: Vec::new(alloc),
+        db: Vec::new(alloc),
+    }
+}
+
+/// What a visit leaves: what was synced, which every crash leaves, and all that was written, which a crash may leave.
+#[derive(Drop)]
+pub(crate) struct Visit {
+    /// Whether the files were taken as a spool, and it was visited.
+    pub(crate) taken: bool,
+    pub(crate) synced: Contents,
+    pub(crate) written: Contents,
 }
 
 /// What is done with a spool while its files are open.
@@ -41,9 +62,60 @@ pub(crate) trait Visitor {
     fn visit<R: Abort, S: Alter>(&mut self, rt: &R, alloc: Global, spool: &mut Spool<S>);
 }
 
-/// Opens the files, adopts what is in them, has the spool visited, and gives the files back: as an error where no spool was
-/// visited.
-pub(crate) fn visited<R: Abort, D: Disk + Drop, V: Visitor>(
+/// Opens files with these contents, takes them as a spool, has it visited, and lets it go.
+pub(crate) fn visit_files<R: Abort, V: Visitor>(
+    rt: &R,
+    alloc: Global,
+    contents: &Contents,
+    stop: Stop,
+    visitor: &mut V,
+) -> Visit {
+    match visited(rt, alloc, fused_files(rt, alloc, contents, stop), visitor) {
+        Ok(files) => visit_of(rt, alloc, true, files),
+        Err(files) => visit_of(rt, alloc, false, files),
+    }
+}
+
+type FusedFiles = Files<Fuse<Memory>>;
+
+fn fused_files(rt: &impl Abort, alloc: Global, contents: &Contents, stop: Stop) -> FusedFiles {
+    let (log, db) = match stop.place {
+        Place::Log => (stop.calls, u64::MAX),
+        Place::Database => (u64::MAX, stop.calls),
+    };
+    Files {
+        log: Fuse::new(synced_file(rt, alloc, &contents.log), log),
+        db: Fuse::new(synced_file(rt, alloc, &contents.db), db),
+    }
+}
+
+fn synced_file(rt: &impl Abort, alloc: Global, bytes: &[u8]) -> Memory {
+    let mut file = Memory::new(alloc);
+    assert!(rt; file.write_at(0, bytes).is_ok(), "memory");
+    assert!(rt; file.sync().is_ok(), "memory");
+    file
+}
+
+fn visit_of(rt: &impl Abort, alloc: Global, taken: bool, files: FusedFiles) -> Visit {
+    let written = contents_of(rt, alloc, &files);
+    let mut files = files;
+    files.log.crash();
+    files.db.crash();
+    Visit {
+        taken,
+        synced: contents_of(rt, alloc, &files),
+        written,
+    }
+}
+
+fn contents_of(rt: &impl Abort, alloc: Global, files: &FusedFiles) -> Contents {
+    Contents {
+        log: files.log.inner().bytes().to_vec(alloc).expect(rt, "memory"),
+        db: files.db.inner().bytes().to_vec(alloc).expect(rt, "memory"),
+    }
+}
+
+fn visited<R: Abort, D: Disk + Drop, V: Visitor>(
     rt: &R,
     alloc: Global,
     files: Files<D>,
@@ -59,8 +131,7 @@ pub(crate) fn visited<R: Abort, D: Disk + Drop, V: Visitor>(
     }
 }
 
-/// The same with an open database, of which the store is given back.
-pub(crate) fn visited_in<R: Abort, S: Alter + Drop, V: Visitor>(
+fn visited_in<R: Abort, S: Alter + Drop, V: Visitor>(
     rt: &R,
     alloc: Global,
     conn: Connection<S>,

@@ -1,9 +1,13 @@
 //! Tests of the spool over disks and databases in memory: stops at each call of a disk, worked rows beside the plain machine, the
-//! pieces of jobs, and what a listing costs.
+//! pieces of jobs, what a listing costs, and stretches of work over a file.
 #![tactic(auto)]
 
 #[cfg(test)]
+mod asking;
+#[cfg(test)]
 mod disk;
+#[cfg(test)]
+mod files;
 #[cfg(test)]
 mod listing;
 #[cfg(test)]
@@ -13,8 +17,18 @@ mod pieces;
 #[cfg(test)]
 mod questions;
 #[cfg(test)]
+mod ranges;
+#[cfg(test)]
+mod reopening;
+#[cfg(test)]
+mod runs;
+#[cfg(test)]
+mod scripts;
+#[cfg(test)]
 mod stops;
 #[cfg(test)]
 mod texts;
+#[cfg(test)]
+mod visitors;
 #[cfg(test)]
 mod worked;

@@ -7,7 +7,7 @@ use std::alloc::Global;
 use std::process::Abort;
 use uu_core::choose;
 use uu_core::plain::Machine;
-use uu_store::{Filter, JobHead, Reply, Spool};
+use uu_store::{Filter, JobHead, Reply, Spool, StoreFault};
 
 /// What is asked.
 #[derive(Clone, Copy)]
@@ -107,7 +107,13 @@ fn number_text(rt: &impl Abort, alloc: Global, number: u32) -> String {
     (format!(in alloc; "{number}")).expect(rt, "memory")
 }
 
-fn told(rt: &impl Abort, alloc: Global, machine: &Machine, question: Question) -> String {
+/// What the machine answers.
+pub(crate) fn told(
+    rt: &impl Abort,
+    alloc: Global,
+    machine: &Machine,
+    question: Question,
+) -> String {
     match question {
         Question::Due(second) | Question::Chosen(second) => machine_due(rt, alloc, machine, second),
         Question::Jobs(system, user) => {
@@ -138,9 +144,9 @@ fn spool_jobs<S: Alter>(
     alloc: Global,
     spool: &mut Spool<S>,
     filter: &Filter,
-) -> String {
-    let heads = spool.jobs(alloc, filter).expect(rt, "a list");
-    show_heads(alloc, &heads).expect(rt, "memory")
+) -> Result<String, StoreFault> {
+    let heads = spool.jobs(alloc, filter)?;
+    Ok(show_heads(alloc, &heads).expect(rt, "memory"))
 }
 
 fn spool_job<S: Alter>(
@@ -148,16 +154,20 @@ fn spool_job<S: Alter>(
     alloc: Global,
     spool: &mut Spool<S>,
     number: u32,
-) -> String {
-    match spool.job(alloc, number).expect(rt, "an answer") {
-        Some((head, bytes)) => show_job(alloc, &head, &bytes).expect(rt, "memory"),
-        None => String::new(alloc),
+) -> Result<String, StoreFault> {
+    match spool.job(alloc, number)? {
+        Some((head, bytes)) => Ok(show_job(alloc, &head, &bytes).expect(rt, "memory")),
+        None => Ok(String::new(alloc)),
     }
 }
 
-fn spool_systems<S: Alter>(rt: &impl Abort, alloc: Global, spool: &mut Spool<S>) -> String {
-    let rows = spool.systems(alloc).expect(rt, "systems");
-    show_systems(alloc, &rows).expect(rt, "memory")
+fn spool_systems<S: Alter>(
+    rt: &impl Abort,
+    alloc: Global,
+    spool: &mut Spool<S>,
+) -> Result<String, StoreFault> {
+    let rows = spool.systems(alloc)?;
+    Ok(show_systems(alloc, &rows).expect(rt, "memory"))
 }
 
 fn spool_entry<S: Alter>(
@@ -165,11 +175,11 @@ fn spool_entry<S: Alter>(
     alloc: Global,
     spool: &mut Spool<S>,
     host: &str,
-) -> String {
+) -> Result<String, StoreFault> {
     let host = site(rt, alloc, host);
-    match spool.entry(alloc, &host).expect(rt, "an answer") {
-        Some(bytes) => show_entry(alloc, &bytes).expect(rt, "memory"),
-        None => String::new(alloc),
+    match spool.entry(alloc, &host)? {
+        Some(bytes) => Ok(show_entry(alloc, &bytes).expect(rt, "memory")),
+        None => Ok(String::new(alloc)),
     }
 }
 
@@ -178,10 +188,10 @@ fn spool_due<S: Alter>(
     alloc: Global,
     spool: &mut Spool<S>,
     second: u64,
-) -> String {
+) -> Result<String, StoreFault> {
     let at = moment(rt, second);
-    let dues = spool.due(alloc, &at).expect(rt, "calls");
-    show_dues(alloc, &dues).expect(rt, "memory")
+    let dues = spool.due(alloc, &at)?;
+    Ok(show_dues(alloc, &dues).expect(rt, "memory"))
 }
 
 fn spool_chosen<S: Alter>(
@@ -189,25 +199,30 @@ fn spool_chosen<S: Alter>(
     alloc: Global,
     spool: &mut Spool<S>,
     second: u64,
-) -> String {
+) -> Result<String, StoreFault> {
     let at = moment(rt, second);
-    let rows = spool.systems(alloc).expect(rt, "systems");
-    let heads = spool.jobs(alloc, &Filter::all()).expect(rt, "a list");
+    let rows = spool.systems(alloc)?;
+    let heads = spool.jobs(alloc, &Filter::all())?;
     let dues = choose(alloc, &rows, &heads, &at).expect(rt, "memory");
-    show_dues(alloc, &dues).expect(rt, "memory")
+    Ok(show_dues(alloc, &dues).expect(rt, "memory"))
 }
 
-fn spool_next<S: Alter>(rt: &impl Abort, alloc: Global, spool: &mut Spool<S>) -> String {
-    let next = spool.next().expect(rt, "a number");
-    number_text(rt, alloc, next)
+fn spool_next<S: Alter>(
+    rt: &impl Abort,
+    alloc: Global,
+    spool: &mut Spool<S>,
+) -> Result<String, StoreFault> {
+    let next = spool.next()?;
+    Ok(number_text(rt, alloc, next))
 }
 
-fn asked<S: Alter>(
+/// What the spool answers.
+pub(crate) fn asked<S: Alter>(
     rt: &impl Abort,
     alloc: Global,
     spool: &mut Spool<S>,
     question: Question,
-) -> String {
+) -> Result<String, StoreFault> {
     match question {
         Question::Due(second) => spool_due(rt, alloc, spool, second),
         Question::Chosen(second) => spool_chosen(rt, alloc, spool, second),
@@ -229,7 +244,7 @@ pub(crate) fn asked_picture<S: Alter>(
 ) -> String {
     let mut text = String::new(alloc);
     for question in EVERY {
-        let answer = asked(rt, alloc, spool, *question);
+        let answer = asked(rt, alloc, spool, *question).expect(rt, "an answer");
         text.push_str(answer.as_str()).expect(rt, "memory");
         text.push_str("\n").expect(rt, "memory");
     }
@@ -264,7 +279,7 @@ fn expect_answer<S: Alter>(
     want: &str,
     place: usize,
 ) {
-    let text = asked(rt, alloc, spool, question);
+    let text = asked(rt, alloc, spool, question).expect(rt, "an answer");
     assert_eq!(rt; text.as_str(), want, "step {place}");
 }
 

@@ -6,6 +6,7 @@ use crate::order::{ANY, ANY_30, HIGH, MONDAY, NIGHT, OFFICE, Order, SUNDAY, Work
 use crate::questions::Question::{Chosen, Due, Entry, Job, Jobs, Next, Systems};
 use crate::questions::Step::{Does, Says};
 use crate::questions::{Step, compare, play};
+use crate::scripts::TWO_SYSTEMS;
 use sqlite::{Alter, Connection, MemStore};
 use std::alloc::Global;
 use std::process::Abort;
@@ -13,7 +14,11 @@ use uu_store::Reply::{Done, Number, Refused};
 use uu_store::{Refusal, Spool};
 
 /// The spool that this database has to be taken as.
-fn taken<S: Alter + Drop>(rt: &impl Abort, alloc: Global, conn: Connection<S>) -> Spool<S>
+pub(crate) fn taken<S: Alter + Drop>(
+    rt: &impl Abort,
+    alloc: Global,
+    conn: Connection<S>,
+) -> Spool<S>
     requires { conn.in_transaction ≡ false }
 {
     match Spool::adopt(alloc, conn) {
@@ -22,7 +27,8 @@ fn taken<S: Alter + Drop>(rt: &impl Abort, alloc: Global, conn: Connection<S>) -
     }
 }
 
-fn fresh(rt: &impl Abort, alloc: Global) -> Spool<MemStore> {
+/// An empty spool in memory.
+pub(crate) fn fresh(rt: &impl Abort, alloc: Global) -> Spool<MemStore> {
     let conn = Connection::open_in_memory(alloc).expect(rt, "memory");
     taken(rt, alloc, conn)
 }
@@ -322,6 +328,11 @@ const ENTRIES: &[Step] = &[
 #[test]
 fn entries_are_replaced_whole(rt: HostRuntime) {
     play_anew(&rt, rt.alloc(), ENTRIES);
+}
+
+#[test]
+fn two_systems_until_their_jobs_are_done(rt: HostRuntime) {
+    play_anew(&rt, rt.alloc(), TWO_SYSTEMS);
 }
 
 const LAST_NUMBER: &[Step] = &[

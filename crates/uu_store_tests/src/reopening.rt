@@ -1,0 +1,64 @@
+// A stop at each call of a disk while the spool is opened that an earlier stop left: what is opened afterwards is what the earlier one left.
+use crate::disk::{Contents, Place, Stop, nothing, visit_files};
+use crate::scripts::LARGE_JOB;
+use crate::visitors::{Give, Pass, Way, expect_shown, shown};
+use std::alloc::Global;
+use std::process::Abort;
+
+/// A stop while files with these contents are opened: whether they were taken as a spool before it.
+fn stop_at(rt: &impl Abort, alloc: Global, contents: &Contents, stop: Stop, picture: &str) -> bool {
+    let visit = visit_files(rt, alloc, contents, stop, &mut Pass {});
+    expect_shown(rt, alloc, &visit.synced, picture);
+    expect_shown(rt, alloc, &visit.written, picture);
+    visit.taken
+}
+
+/// Stops at each call of one file while these contents are opened.
+fn stop_at_each_call(rt: &impl Abort, alloc: Global, contents: &Contents, place: Place) {
+    let picture = shown(rt, alloc, contents);
+    for calls in 0..1_000 {
+        let stop = Stop { place, calls };
+        if stop_at(rt, alloc, contents, stop, picture.as_str()) {
+            assert!(rt; calls != 0, "no stop");
+            return;
+        }
+    }
+    panic!(rt; "no opening ends")
+}
+
+fn give() -> Give {
+    Give {
+        script: LARGE_JOB,
+        way: Way::Run,
+        answered: 0,
+    }
+}
+
+/// A run is stopped at each call of one file, until all commands are answered. Where that leaves something new on the disk, it is opened with
+/// a stop at each call of either file.
+fn stop_twice(rt: &impl Abort, alloc: Global, place: Place) {
+    let mut before = nothing(alloc);
+    for calls in 0..10_000 {
+        let mut give = give();
+        let visit = visit_files(rt, alloc, &nothing(alloc), Stop { place, calls }, &mut give);
+        if calls == 0 || !visit.synced.is_same(&before) {
+            stop_at_each_call(rt, alloc, &visit.synced, Place::Log);
+            stop_at_each_call(rt, alloc, &visit.synced, Place::Database);
+            before = visit.synced;
+        }
+        if give.answered == LARGE_JOB.len() {
+            return;
+        }
+    }
+    panic!(rt; "no run ends")
+}
+
+#[test]
+fn openings_of_what_stops_of_the_log_left(rt: HostRuntime) {
+    stop_twice(&rt, rt.alloc(), Place::Log);
+}
+
+#[test]
+fn openings_of_what_stops_of_the_database_left(rt: HostRuntime) {
+    stop_twice(&rt, rt.alloc(), Place::Database);
+}
