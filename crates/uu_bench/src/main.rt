@@ -1,9 +1,16 @@
 //! The program behind `make bench`: what calls of the spool cost over the file `bench.db` of the working directory, which it makes.
 //! Without words it measures nothing.
 //!
-//!     uu_bench queue JOBS       the time of a Queue in a spool of so many jobs, and that of the same statements without the spool
-//!     uu_bench list JOBS        the time of a listing of so many jobs
-//!     uu_bench adopt            the time of adopting a spool with 64 jobs of 1 MiB
+//!     uu_bench MEASURE JOBS SIZE CALLS
+//!
+//! It defines 100 systems that may be called at any time, queues JOBS jobs of SIZE bytes for them in turn, and prints what a call
+//! then takes, the mean of CALLS. MEASURE is
+//!
+//!     queue     a Queue of SIZE bytes, and the same statements without the spool
+//!     job       the question for job 1 with its bytes
+//!     jobs      the list of all jobs
+//!     due       what is due
+//!     adopt     taking the database as a spool
 #![tactic(auto)]
 
 ghost use Rattle.std.specs.Prelude.{◌≡◌, false};
@@ -14,22 +21,44 @@ use std::process::ExitCode;
 use std::time::{Duration, Instant};
 use std::{env, io};
 use uu_core::{Kind, NewJob};
-use uu_map::Listed;
-use uu_names::{Grade, NameFault, SiteName, Word};
+use uu_names::{Grade, Listed, NameFault, SiteName, Word};
 use uu_store::{Command, Filter, Spool, StoreFault, start};
-use uu_times::{Lines, Moment, SystemDef, TimeFault};
+use uu_times::{Moment, TimeFault, read_sys};
 
 const FILE: &str = "bench.db";
 
-/// How many calls are timed together.
-const ROUND: u32 = 100;
+/// How many systems there are.
+const SYSTEMS: u32 = 100;
 
-/// What is to be measured.
-#[derive(Clone, Copy)]
+/// How many bytes of a job a row holds.
+const PIECE: usize = 16_384;
+
+/// The most bytes that a sys file may have.
+const MAX_SYS_FILE: usize = 4_194_304;
+
+/// The second at which everything happens, UTC.
+const SECOND: u64 = 1_000_000_000;
+
+/// What is timed.
+#[derive(Clone, Copy, PartialEq, Eq)]
 enum Measure {
-    Queue { jobs: u32 },
-    List { jobs: u32 },
+    Queue,
+    Job,
+    Jobs,
+    Due,
     Adopt,
+}
+
+/// What is timed in which spool.
+#[derive(Clone, Copy)]
+struct Task {
+    measure: Measure,
+    /// How many jobs wait.
+    jobs: u32,
+    /// How many bytes each has.
+    size: u32,
+    /// How many calls are timed together.
+    calls: u32,
 }
 
 /// Why nothing was measured.
@@ -93,10 +122,10 @@ fn main(rt: HostRuntime) -> ExitCode {
 
 fn run(rt: &HostRuntime) -> Result<(), Trouble> {
     let words = words_of(rt)?;
-    match measure_of(&words)? {
-        Some(measure) => measure_file(rt, measure),
-        None => Ok(()),
+    if words.is_empty() {
+        return Ok(());
     }
+    measure_file(rt, task_of(&words)?)
 }
 
 fn words_of(rt: &HostRuntime) -> Result<Vec<String>, Trouble> {
@@ -106,21 +135,25 @@ fn words_of(rt: &HostRuntime) -> Result<Vec<String>, Trouble> {
     }
 }
 
-/// What the words ask for, if there are any.
-fn measure_of(words: &[String]) -> Result<Option<Measure>, Trouble> {
-    let mut words = words.iter();
-    let Some(word) = words.next() else {
-        return Ok(None);
+fn task_of(words: &[String]) -> Result<Task, Trouble> {
+    let [measure, jobs, size, calls] = words else {
+        return Err(Trouble::Words);
     };
-    let jobs = words.next();
-    match (word.as_str(), jobs) {
-        ("queue", Some(jobs)) => Ok(Some(Measure::Queue {
-            jobs: number(jobs)?,
-        })),
-        ("list", Some(jobs)) => Ok(Some(Measure::List {
-            jobs: number(jobs)?,
-        })),
-        ("adopt", None) => Ok(Some(Measure::Adopt)),
+    Ok(Task {
+        measure: measure_of(measure.as_str())?,
+        jobs: number(jobs)?,
+        size: number(size)?,
+        calls: number(calls)?,
+    })
+}
+
+fn measure_of(word: &str) -> Result<Measure, Trouble> {
+    match word {
+        "queue" => Ok(Measure::Queue),
+        "job" => Ok(Measure::Job),
+        "jobs" => Ok(Measure::Jobs),
+        "due" => Ok(Measure::Due),
+        "adopt" => Ok(Measure::Adopt),
         _ => Err(Trouble::Words),
     }
 }
@@ -132,87 +165,144 @@ fn number(word: &String) -> Result<u32, Trouble> {
     }
 }
 
-fn job(alloc: Global, size: usize) -> Result<Command, Trouble> {
+// ---- the spool that is measured
+
+fn moment() -> Result<Moment, Trouble> {
+    Ok(Moment::new(SECOND, 0)?)
+}
+
+fn name_of(alloc: Global, at: u32) -> Result<String, Trouble> {
+    match format!(in alloc; "site{at}") {
+        Ok(name) => Ok(name),
+        Err(_) => Err(Trouble::Memory),
+    }
+}
+
+/// A sys file of the systems, each of which may be called at any time.
+fn sys_file(alloc: Global) -> Result<Vec<u8>, Trouble> {
+    let mut text = Vec::new(alloc);
+    for at in 0..SYSTEMS {
+        text.extend_from_slice(b"system ")?;
+        text.extend_from_slice(name_of(alloc, at)?.as_str().as_bytes())?;
+        text.extend_from_slice(b"\ntime Any\n")?;
+    }
+    Ok(text)
+}
+
+fn define<S: Alter>(alloc: Global, spool: &mut Spool<S>) -> Result<(), Trouble> {
+    let text = sys_file(alloc)?;
+    if text.len() > MAX_SYS_FILE {
+        return Err(Trouble::Words);
+    }
+    let file = read_sys(alloc, &text)?;
+    for system in file.systems.into_vec() {
+        let _defined = spool.command(alloc, Command::Define(system))?;
+    }
+    Ok(())
+}
+
+fn job(alloc: Global, system: u32, size: u32) -> Result<Command, Trouble> {
     Ok(Command::Queue(NewJob {
-        system: SiteName::parse(alloc, "duke")?,
+        system: SiteName::parse(alloc, name_of(alloc, system)?.as_str())?,
         grade: Grade::default(),
         user: Word::parse(alloc, "ann")?,
         kind: Kind::Send {
             source: Word::parse(alloc, "/tmp/letter")?,
             target: Word::parse(alloc, "~/letter")?,
         },
-        bytes: Listed::from_vec(vec![in alloc; b'x'; size]?),
-        at: Moment::new(1_000_000_000, 0)?,
+        bytes: Listed::from_vec(bytes_of(alloc, size)?),
+        at: moment()?,
     }))
 }
 
-/// Defines the system and queues so many jobs.
-fn fill<S: Alter>(
-    alloc: Global,
-    spool: &mut Spool<S>,
-    jobs: u32,
-    size: usize,
-) -> Result<(), Trouble> {
-    let lines = Lines::new(Vec::new(alloc));
-    let Some(system) = SystemDef::new(SiteName::parse(alloc, "duke")?, lines, 26) else {
-        return Err(Trouble::Words);
-    };
-    let _defined = spool.command(alloc, Command::Define(system))?;
-    queue(alloc, spool, jobs, size)
+fn bytes_of(alloc: Global, size: u32) -> Result<Vec<u8>, Trouble> {
+    Ok(vec![in alloc; b'x'; size as usize]?)
 }
 
-/// Queues so many jobs.
+/// Queues so many jobs, for the systems in turn.
 fn queue<S: Alter>(
     alloc: Global,
     spool: &mut Spool<S>,
     jobs: u32,
-    size: usize,
+    size: u32,
 ) -> Result<(), Trouble> {
-    for _ in 0..jobs {
-        let _number = spool.command(alloc, job(alloc, size)?)?;
+    for at in 0..jobs {
+        let _number = spool.command(alloc, job(alloc, at % SYSTEMS, size)?)?;
     }
     Ok(())
 }
 
-/// The statements of one Queue, as the spool gives them.
-fn statements<S: Alter>(conn: &mut Connection<S>, number: u32) -> Result<(), Trouble> {
-    let _known = conn.query_all("SELECT name FROM systems WHERE name = ?1", params!["duke"])?;
+// ---- the statements of a Queue, as the spool gives them
+
+fn statements<S: Alter>(
+    conn: &mut Connection<S>,
+    number: u32,
+    size: u32,
+    bytes: &[u8],
+) -> Result<(), Trouble> {
+    let _known = conn.query_all("SELECT name FROM systems WHERE name = ?1", params!["site0"])?;
     let _next = conn.query_all("SELECT next FROM spool WHERE id = 1", &[])?;
     if !conn.is_autocommit() {
         return Err(Trouble::Store);
     }
     let mut tx = conn.transaction();
-    insert(&mut tx, number)?;
+    insert(&mut tx, number, size, bytes)?;
     tx.commit()?;
     Ok(())
 }
 
-/// The statements that change the tables: a job, its one piece, and the next number.
-fn insert<S: Alter>(tx: &mut Transaction<'_, S>, number: u32) -> Result<(), Trouble> {
+/// The statements that change the tables: a job, its pieces, and the next number.
+fn insert<S: Alter>(
+    tx: &mut Transaction<'_, S>,
+    number: u32,
+    size: u32,
+    bytes: &[u8],
+) -> Result<(), Trouble> {
     let _job = tx.execute(
         "INSERT INTO jobs (number, system, rank, user, kind, queued, first_word, second_word, size) VALUES (?1, ?2, ?3, ?4, ?5, ?6, ?7, ?8, ?9)",
         params![
             number,
-            "duke",
+            "site0",
             23u32,
             "ann",
             0u32,
             1_000_000_000u32,
             "/tmp/letter",
             "~/letter",
-            1u32
+            size
         ],
     )?;
-    let bytes: &[u8] = b"x";
-    let _piece = tx.execute(
-        "INSERT INTO pieces (job, place, bytes) VALUES (?1, ?2, ?3)",
-        params![number, 0u32, bytes],
-    )?;
+    insert_pieces(tx, number, bytes)?;
     let _next = tx.execute(
         "UPDATE spool SET next = ?1",
         params![number.saturating_add(1)],
     )?;
     Ok(())
+}
+
+fn insert_pieces<S: Alter>(
+    tx: &mut Transaction<'_, S>,
+    number: u32,
+    bytes: &[u8],
+) -> Result<(), Trouble> {
+    let mut place = 0u32;
+    for piece in bytes.chunks(PIECE) {
+        let _piece = tx.execute(
+            "INSERT INTO pieces (job, place, bytes) VALUES (?1, ?2, ?3)",
+            params![number, place, piece],
+        )?;
+        place = place.saturating_add(1);
+    }
+    Ok(())
+}
+
+// ---- the clock
+
+fn now(rt: &HostRuntime) -> Result<Instant, Trouble> {
+    match Instant::now(rt) {
+        Ok(now) => Ok(now),
+        Err(_) => Err(Trouble::Clock),
+    }
 }
 
 fn since(rt: &HostRuntime, begun: Instant) -> Result<Duration, Trouble> {
@@ -222,115 +312,121 @@ fn since(rt: &HostRuntime, begun: Instant) -> Result<Duration, Trouble> {
     }
 }
 
-fn now(rt: &HostRuntime) -> Result<Instant, Trouble> {
-    match Instant::now(rt) {
-        Ok(now) => Ok(now),
-        Err(_) => Err(Trouble::Clock),
-    }
-}
+// ---- what is measured
 
 /// Measures over the file. No other function names the spool over a file, since each that does is dear to prove.
-fn measure_file(rt: &HostRuntime, measure: Measure) -> Result<(), Trouble> {
+fn measure_file(rt: &HostRuntime, task: Task) -> Result<(), Trouble> {
     let opened = start(rt, FILE);
-    measure_in(rt, measure, opened)
+    measure_in(rt, task, opened)
 }
 
 /// Measures in a spool, if it opened.
 fn measure_in<S: Alter + Drop>(
     rt: &HostRuntime,
-    measure: Measure,
+    task: Task,
     opened: Result<Spool<S>, StoreFault>,
 ) -> Result<(), Trouble> {
     let Ok(spool) = opened else {
         return Err(Trouble::Store);
     };
-    match measure {
-        Measure::Queue { jobs } => time_queue(rt, spool, jobs),
-        Measure::List { jobs } => time_list(rt, spool, jobs),
-        Measure::Adopt => time_adopt(rt, spool),
+    let mut spool = spool;
+    fill(rt.alloc(), &mut spool, task)?;
+    match task.measure {
+        Measure::Queue => time_queue(rt, spool, task),
+        Measure::Adopt => time_adopt(rt, spool.release()),
+        Measure::Job | Measure::Jobs | Measure::Due => time_question(rt, &mut spool, task),
     }
+}
+
+/// Defines the systems and queues the jobs.
+fn fill<S: Alter>(alloc: Global, spool: &mut Spool<S>, task: Task) -> Result<(), Trouble> {
+    define(alloc, spool)?;
+    queue(alloc, spool, task.jobs, task.size)
+}
+
+/// Prints what so many calls take, each.
+fn print(rt: &HostRuntime, what: &str, time: Duration, calls: u32) -> Result<(), Trouble> {
+    let each = time.as_micros() / (calls.max(1) as u128);
+    println!(rt; "{what}: {each} us")?;
+    Ok(())
 }
 
 fn time_queue<S: Alter + Drop>(
     rt: &HostRuntime,
     spool: Spool<S>,
-    jobs: u32,
+    task: Task,
 ) -> Result<(), Trouble> {
     let mut spool = spool;
-    let (with, next) = time_commands(rt, &mut spool, jobs)?;
+    let next = time_commands(rt, &mut spool, task)?;
     let mut conn = spool.release();
-    let without = time_statements(rt, &mut conn, next)?;
-    println!(rt;
-        "{jobs} jobs, {ROUND} more: {with:?}; the same statements without the spool: {without:?}"
-    )?;
-    Ok(())
+    time_statements(rt, &mut conn, next, task)
 }
 
-/// The time of a round of commands in a spool of so many jobs, and the number that the next job gets.
+/// Times the commands, and gives the number that the next job gets.
 fn time_commands<S: Alter>(
     rt: &HostRuntime,
     spool: &mut Spool<S>,
-    jobs: u32,
-) -> Result<(Duration, u32), Trouble> {
-    fill(rt.alloc(), spool, jobs, 1)?;
+    task: Task,
+) -> Result<u32, Trouble> {
     let begun = now(rt)?;
-    queue(rt.alloc(), spool, ROUND, 1)?;
+    queue(rt.alloc(), spool, task.calls, task.size)?;
     let time = since(rt, begun)?;
-    Ok((time, spool.next()?))
+    print(rt, "a Queue", time, task.calls)?;
+    Ok(spool.next()?)
 }
 
-/// The time of a round of statements, of which the first queues the job of this number.
+/// Times the statements, of which the first queues the job of this number.
 fn time_statements<S: Alter>(
     rt: &HostRuntime,
     conn: &mut Connection<S>,
     first: u32,
-) -> Result<Duration, Trouble> {
+    task: Task,
+) -> Result<(), Trouble> {
+    let bytes = bytes_of(rt.alloc(), task.size)?;
     let begun = now(rt)?;
     let mut next = first;
-    for _ in 0..ROUND {
-        statements(conn, next)?;
+    for _ in 0..task.calls {
+        statements(conn, next, task.size, &bytes)?;
         next = next.saturating_add(1);
     }
-    since(rt, begun)
+    let time = since(rt, begun)?;
+    print(rt, "the same statements", time, task.calls)
 }
 
-fn time_list<S: Alter + Drop>(rt: &HostRuntime, spool: Spool<S>, jobs: u32) -> Result<(), Trouble> {
-    let mut spool = spool;
-    let (listed, time) = time_listing(rt, &mut spool, jobs)?;
-    println!(rt; "listing {listed} jobs: {time:?}")?;
-    Ok(())
-}
-
-/// How many jobs a listing has in a spool of so many, and its time.
-fn time_listing<S: Alter>(
+fn time_question<S: Alter>(
     rt: &HostRuntime,
     spool: &mut Spool<S>,
-    jobs: u32,
-) -> Result<(usize, Duration), Trouble> {
-    fill(rt.alloc(), spool, jobs, 1)?;
+    task: Task,
+) -> Result<(), Trouble> {
     let begun = now(rt)?;
-    let heads = spool.jobs(rt.alloc(), &Filter::all())?;
+    for _ in 0..task.calls {
+        ask(rt.alloc(), spool, task.measure)?;
+    }
     let time = since(rt, begun)?;
-    Ok((heads.len(), time))
+    print(rt, "the answer", time, task.calls)
 }
 
-fn time_adopt<S: Alter + Drop>(rt: &HostRuntime, spool: Spool<S>) -> Result<(), Trouble> {
-    let mut spool = spool;
-    fill(rt.alloc(), &mut spool, 64, 1_048_576)?;
-    let time = time_adopting(rt, spool.release())?;
-    println!(rt; "adopting 64 jobs of 1 MiB: {time:?}")?;
+fn ask<S: Alter>(alloc: Global, spool: &mut Spool<S>, measure: Measure) -> Result<(), Trouble> {
+    match measure {
+        Measure::Job => {
+            let _job = spool.job(alloc, 1)?;
+        }
+        Measure::Jobs => {
+            let _heads = spool.jobs(alloc, &Filter::all())?;
+        }
+        _ => {
+            let _dues = spool.due(alloc, &moment()?)?;
+        }
+    }
     Ok(())
 }
 
-fn time_adopting<S: Alter + Drop>(
-    rt: &HostRuntime,
-    conn: Connection<S>,
-) -> Result<Duration, Trouble>
+fn time_adopt<S: Alter + Drop>(rt: &HostRuntime, conn: Connection<S>) -> Result<(), Trouble>
     requires { conn.in_transaction ≡ false }
 {
     let begun = now(rt)?;
     match Spool::adopt(rt.alloc(), conn) {
-        Ok(_) => since(rt, begun),
+        Ok(_) => print(rt, "taking it", since(rt, begun)?, 1),
         Err(_) => Err(Trouble::Store),
     }
 }
