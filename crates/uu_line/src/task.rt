@@ -14,8 +14,7 @@ use crate::values::{
 use clap::ArgMatches;
 use std::alloc::Global;
 use uu_core::Filter;
-use uu_map::Listed;
-use uu_names::{Grade, Path, SiteName, Word};
+use uu_names::{Grade, Listed, Path, SiteName, Word};
 
 /// What a line asks for.
 #[derive(Debug, Drop)]

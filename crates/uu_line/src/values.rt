@@ -10,8 +10,7 @@ ghost use Rattle.uu_line.specs.Lines as spec;
 use crate::fault::LineFault;
 use clap::ArgMatches;
 use std::alloc::Global;
-use uu_map::Listed;
-use uu_names::{Grade, NameFault, Path, SiteName, Word};
+use uu_names::{Grade, Listed, NameFault, Path, SiteName, Word};
 
 /// The bang paths that are given under an id.
 pub(crate) fn paths_in(

@@ -27,8 +27,7 @@ use std::alloc::{AllocError, Global};
 use std::io::Write;
 use uu_core::{By, Command, Filter, JobHead, Kind, NewJob, Refusal, Reply};
 use uu_line::{CallLine, Task};
-use uu_map::Listed;
-use uu_names::{Grade, SiteName, Word, envelope};
+use uu_names::{Grade, Listed, SiteName, Word, envelope};
 use uu_store::Spool;
 use uu_times::{Moment, SystemDef, TimeFault};
 

@@ -7,9 +7,9 @@ ghost use Rattle.uuspool.specs.Faults.{IsOfWords};
 use crate::fault::Fault;
 use std::alloc::Global;
 use std::str;
-use uu_names::{NameFault, SiteName};
+use uu_names::{Listed, NameFault, SiteName};
+use uu_times::SystemDef;
 use uu_times::system::DEFAULT_MAX_RETRIES;
-use uu_times::{Lines, SystemDef};
 
 /// The definitions of the text, in its order.
 ///
@@ -34,7 +34,7 @@ pub(crate) fn systems_of(alloc: Global, text: &[u8]) -> Result<Vec<SystemDef>, F
 fn definition(alloc: Global, name: SiteName) -> Result<SystemDef, Fault>
     ensures { IfErr result IsOfWords }
 {
-    match SystemDef::new(name, Lines::new(Vec::new(alloc)), DEFAULT_MAX_RETRIES) {
+    match SystemDef::new(name, Listed::from_vec(Vec::new(alloc)), DEFAULT_MAX_RETRIES) {
         Some(system) => Ok(system),
         None => Err(bad_line(alloc)),
     }
