@@ -1,5 +1,5 @@
 -- Why a command is refused, and in which order the reasons are told.
-use Rattle.std.specs.Prelude.{ℕ, ◌<◌, Bool, List, [], ◌∷◌, AllPairs, Option, Some, None, Result, Ok, Err, if◌then◌else◌}
+use Rattle.std.specs.Prelude.{ℕ, ◌<◌, Bool, List, [], ◌∷◌, codes, AllPairs, Option, Some, None, Result, Ok, Err, if◌then◌else◌}
 use Rattle.uu_core.specs.declared.refusal.Refusal.{Refusal}
 use Rattle.uu_core.specs.declared.refusal.Refusal.TheVariants.{NoSystem, NoJob, NotYours, JobTwice, OtherSystem, Busy, TooLarge, NumbersOut, BadEntry}
 
@@ -14,6 +14,18 @@ refusal_code Busy = 6
 refusal_code TooLarge = 7
 refusal_code NumbersOut = 8
 refusal_code BadEntry = 9
+
+-- the name of a refusal, which is that of its variant
+abbrev pub refusal_name : Refusal → List ℕ
+refusal_name NoSystem = codes "NoSystem"
+refusal_name NoJob = codes "NoJob"
+refusal_name NotYours = codes "NotYours"
+refusal_name JobTwice = codes "JobTwice"
+refusal_name OtherSystem = codes "OtherSystem"
+refusal_name Busy = codes "Busy"
+refusal_name TooLarge = codes "TooLarge"
+refusal_name NumbersOut = codes "NumbersOut"
+refusal_name BadEntry = codes "BadEntry"
 
 -- How early a refusal is told where several apply: `TooLarge` first, since it needs no look at the spool, and then by number (this
 -- project's choice).

@@ -1,6 +1,6 @@
 // Why a command is refused.
 ghost use Rattle.std.specs.Prelude.{◌≡◌};
-ghost use Rattle.uu_core.specs.Refusal.{refusal_code};
+ghost use Rattle.uu_core.specs.Refusal.{refusal_code, refusal_name};
 
 use thiserror::Error;
 
@@ -52,6 +52,23 @@ impl Refusal {
             Refusal::TooLarge => 7,
             Refusal::NumbersOut => 8,
             Refusal::BadEntry => 9,
+        }
+    }
+
+    /// The refusal's name, which is that of its variant.
+    pub fn name(&self) -> &'static str
+        ensures { result.now ≡ refusal_name self.now }
+    {
+        match self {
+            Refusal::NoSystem => "NoSystem",
+            Refusal::NoJob => "NoJob",
+            Refusal::NotYours => "NotYours",
+            Refusal::JobTwice => "JobTwice",
+            Refusal::OtherSystem => "OtherSystem",
+            Refusal::Busy => "Busy",
+            Refusal::TooLarge => "TooLarge",
+            Refusal::NumbersOut => "NumbersOut",
+            Refusal::BadEntry => "BadEntry",
         }
     }
 }
