@@ -13,7 +13,8 @@ use Rattle.uu_core.specs.declared.system.SystemRow.{SystemRow}
 use Rattle.uu_core.specs.State.{State, Job, MapEntry, IsCall, IsDefinition, IsWellFormed, ComesBefore, head_of}
 use Rattle.uu_tables.specs.declared.rows.RangeColumns.{RangeColumns}
 use Rattle.uu_tables.specs.Tables.{Piece, PlacedLine, tables_of, system_columns, line_columns, range_columns, placed, placed_from, ranges_of, pieces_of, piece_count, entry_columns}
-use Rattle.uu_check.specs.Order.{line_cmp, range_cmp, piece_cmp, AreInOrder}
+use Rattle.uu_tables.specs.Order.{line_cmp, range_cmp, piece_cmp}
+use Rattle.uu_check.specs.Order.{AreInOrder}
 use Rattle.uu_check.proofs.Walks.{AllPairsByRecursion}
 use Rattle.uu_check.proofs.Lists.{by_recursion, pairs_by_place, pairs_by_recursion, weaker, weaker_pairs, both, flat_pairs, Across, mapped_pairs}
 use Rattle.uu_check.proofs.Cuts.{pieces_from, as_from}

@@ -1,4 +1,4 @@
--- Rows whose columns fit the types in which they are read.
+-- Rows within the limits of a spool, which fit the types in which they are read.
 use Rattle.std.specs.Prelude.{◌≡◌, ◌<◌, ◌≤◌, length, IsTrue, IfSome, true}
 use Rattle.std.specs.List.{AllByRecursion}
 use Rattle.uu_names.specs.Grade.{grade_count}
@@ -12,7 +12,7 @@ use Rattle.uu_tables.specs.declared.rows.SystemColumns.{SystemColumns}
 use Rattle.uu_tables.specs.declared.rows.LineColumns.{LineColumns}
 use Rattle.uu_tables.specs.declared.rows.RangeColumns.{RangeColumns}
 use Rattle.uu_tables.specs.declared.rows.EntryColumns.{EntryColumns}
-use Rattle.uu_tables.specs.Tables.{Tables, Piece}
+use Rattle.uu_tables.specs.Tables.{Tables, Piece, piece_bytes, most_pieces}
 use Rattle.uu_check.specs.Tests.{is_head}
 
 pub record IsSystemRow (c : SystemColumns) : Type 0 where
@@ -42,8 +42,8 @@ pub record IsJobRow (h : JobHead) : Type 0 where
 
 pub record IsPieceRow (p : Piece) : Type 0 where
   pub job : p.job < numbers_end
-  pub place : p.place < 64
-  pub length : length p.bytes ≤ 16384
+  pub place : p.place < most_pieces
+  pub length : length p.bytes ≤ piece_bytes
 
 pub record IsEntryRow (e : EntryColumns) : Type 0 where
   pub host : IsTrue (is_site_name e.host)

@@ -18,6 +18,7 @@ use Rattle.uu_tables.specs.declared.rows.PieceSize.{PieceSize}
 use Rattle.uu_tables.specs.declared.rows.EntryColumns.{EntryColumns}
 use Rattle.uu_map.specs.declared.fault.MapFault.{MapFault}
 use Rattle.uu_map.specs.Text.{host_of}
+use Rattle.uu_tables.specs.Tables.{piece_bytes}
 use Rattle.uu_check.specs.Walk.{walk, rises}
 
 -- ---- jobs and their pieces
@@ -33,7 +34,7 @@ is_head h = nat_le 1 h.number && is_site_name h.system && nat_lt h.grade grade_c
 -- pieces from a place on hold so many bytes, as many as they can each
 abbrev pub are_cut : ℕ → ℕ → List PieceSize → Bool
 are_cut place size [] = size == 0
-are_cut place size (x ∷ xs) = (x.place == place) && nat_le 1 size && (x.length == min size 16384) && are_cut (place + 1) (size - min size 16384) xs
+are_cut place size (x ∷ xs) = (x.place == place) && nat_le 1 size && (x.length == min size piece_bytes) && are_cut (place + 1) (size - min size piece_bytes) xs
 
 abbrev pub owns_piece : JobHead → PieceSize → Bool
 owns_piece h x = x.job == h.number

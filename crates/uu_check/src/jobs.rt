@@ -8,11 +8,8 @@ use crate::walk::{Owner, Ranked};
 use uu_core::limits::{MAX_ARGUMENTS, MAX_BYTES};
 use uu_core::{JobHead, Kind};
 use uu_names::Word;
-use uu_tables::PieceSize;
+use uu_tables::{PIECE_BYTES, PieceSize};
 use uu_times::moment::LAST_SECOND;
-
-/// The most bytes of a piece.
-const PIECE: u32 = 16_384;
 
 fn words_are_words(words: &[Word])
     ensures { list_all is_word words.now ≡ true }
@@ -54,7 +51,7 @@ fn are_cut(size: u32, pieces: &[PieceSize]) -> bool
     let mut left = size;
     let mut place = 0;
     for piece in pieces {
-        let whole = left.min(PIECE);
+        let whole = left.min(PIECE_BYTES as u32);
         if piece.place as usize != place || left == 0 || piece.length != whole {
             return false;
         }

@@ -5,7 +5,8 @@ use Rattle.std.specs.List.{AllByRecursion}
 use Rattle.uu_core.specs.declared.job.Kind.{Kind}
 use Rattle.uu_core.specs.declared.job.Kind.TheVariants.{Send, Request, Execute}
 use Rattle.uu_core.specs.State.{State, Job, IsJob, IsKind, IsWellFormed, head_of}
-use Rattle.uu_rows.specs.Readable.{HasWords, IsHead}
+use Rattle.uu_core.specs.WellFormed.{HasWords}
+use Rattle.uu_rows.specs.Readable.{IsHead}
 use Rattle.uu_questions.proofs.InOrder.{by_recursion}
 
 kind_words : (kind : Kind) → IsKind kind → HasWords kind

@@ -1,5 +1,5 @@
 // What is asked before a command.
-ghost use Rattle.std.specs.Prelude.{◌≡◌, false, map, option_map, ⊤};
+ghost use Rattle.std.specs.Prelude.{◌≡◌, false, map, option_map};
 ghost use Rattle.sqlite.specs.Held.{state};
 ghost use Rattle.uu_core.specs.State.{has_system, system_at, is_waiting, job_at, head_of};
 ghost use Rattle.uu_core.specs.Laws.{AreFound};
@@ -121,14 +121,6 @@ fn known_and_found<S: Alter>(
     Ok(facts_of_jobs(alloc, is_known, found))
 }
 
-fn nothing<S: Alter>(alloc: Global, conn: &mut Connection<S>) -> Result<Facts, Error>
-    ensures idle { conn.old.in_transaction ≡ false → conn.new.in_transaction ≡ false }
-    ensures answers { Answers (λ s facts. ⊤) (state S.Store conn.old) (state S.Store conn.new) result }
-{
-    let next = next_number(conn)?;
-    Ok(facts_of_system(alloc, false, false, next))
-}
-
 /// What is to be known before the command is planned, as far as the command names it.
 pub fn facts_for<S: Alter>(
     alloc: Global,
@@ -149,6 +141,6 @@ pub fn facts_for<S: Alter>(
         Command::Done { system, jobs, .. } => {
             known_and_found(alloc, conn, system, jobs.as_slice())
         }
-        Command::Entry(_) => nothing(alloc, conn),
+        Command::Entry(_) => Ok(Facts::new(alloc)),
     }
 }

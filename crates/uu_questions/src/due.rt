@@ -1,5 +1,5 @@
 // For which job each system is called now.
-ghost use Rattle.std.specs.Prelude.{◌≡◌, false, ℕ, Bool, List, map, IfOk, OnOk};
+ghost use Rattle.std.specs.Prelude.{◌≡◌, ◌<◌, false, ℕ, Bool, List, map, IfOk, IfErr, OnOk, IsTrue};
 ghost use Rattle.std.specs.Ordering.{nat_cmp};
 ghost use Rattle.std.specs.Cmp.Lexicographic.{slice_cmp};
 ghost use Rattle.std.specs.BTreeMap.{get};
@@ -9,6 +9,12 @@ ghost use Rattle.uu_core.specs.declared.due.Due.{Due};
 ghost use Rattle.uu_core.specs.declared.system.SystemRow.{SystemRow};
 ghost use Rattle.uu_core.specs.State.{head_of};
 ghost use Rattle.uu_core.specs.Due.{is_within, may_be_called, AreDue};
+ghost use Rattle.sqlite.specs.declared.error.Error.TheVariants.{SqliteFailure};
+ghost use Rattle.sqlite.specs.declared.error.ErrorCode.TheVariants.{OutOfMemory};
+ghost use Rattle.uu_names.specs.Grade.{grade_count};
+ghost use Rattle.uu_names.specs.Name.{is_site_name};
+ghost use Rattle.uu_rows.specs.Readable.{IsSmall};
+ghost use Rattle.uu_rows.specs.Values.{NotIf};
 ghost use Rattle.uu_questions.specs.Answers.{Answers};
 ghost use Rattle.uu_questions.specs.Dues.{IsLeft, Offers, due_cells, with_due};
 
@@ -24,7 +30,8 @@ use uu_rows::{RowFault, grade_in, name_in, number_in};
 use uu_times::Moment;
 
 fn read_due(alloc: Global, row: &Row) -> Result<Due, RowFault>
-    ensures { IfOk result (λ due. (other : Due) → row.now ≡ due_cells other → due ≡ other) }
+    ensures due { IfOk result (λ due. (other : Due) → row.now ≡ due_cells other → due ≡ other) }
+    ensures bad { (due : Due) → IsTrue (is_site_name due.system) → due.grade < grade_count → IsSmall due.number → NotIf result (row.now ≡ due_cells due) }
 {
     Ok(Due {
         system: name_in(alloc, row, 0)?,
@@ -35,7 +42,8 @@ fn read_due(alloc: Global, row: &Row) -> Result<Due, RowFault>
 
 // A job with its system and grade, as a row shows it.
 fn due_in(alloc: Global, row: &Row) -> Result<Due, Error>
-    ensures { IfOk result (λ due. (other : Due) → row.now ≡ due_cells other → due ≡ other) }
+    ensures due { IfOk result (λ due. (other : Due) → row.now ≡ due_cells other → due ≡ other) }
+    ensures memory { (due : Due) → IsTrue (is_site_name due.system) → due.grade < grade_count → IsSmall due.number → row.now ≡ due_cells due → IfErr result (λ error. error ≡ SqliteFailure OutOfMemory) }
 {
     match read_due(alloc, row) {
         Ok(due) => Ok(due),

@@ -1,9 +1,12 @@
 // What is asked before a command.
-ghost use Rattle.std.specs.Prelude.{◌≡◌, false, ℕ, pos, [], ◌∷◌, option_map, map, IfOk};
+ghost use Rattle.std.specs.Prelude.{◌≡◌, false, ℕ, pos, [], ◌∷◌, option_map, map, IfOk, IfErr};
 ghost use Rattle.sqlite.specs.Held.{state};
 ghost use Rattle.sqlite.specs.declared.types.Value.TheVariants.{Int};
+ghost use Rattle.sqlite.specs.declared.error.Error.TheVariants.{SqliteFailure};
+ghost use Rattle.sqlite.specs.declared.error.ErrorCode.TheVariants.{OutOfMemory};
 ghost use Rattle.uu_core.specs.State.{has_system, is_waiting, job_at, head_of};
 ghost use Rattle.uu_core.specs.Laws.{AreFound};
+ghost use Rattle.uu_rows.specs.Readable.{IsSmall};
 ghost use Rattle.uu_questions.specs.Answers.{Answers};
 
 use crate::asks::{ask_head, ask_known, ask_next, ask_waiting};
@@ -33,7 +36,8 @@ pub fn is_waiting<S: Alter>(conn: &mut Connection<S>, name: &SiteName) -> Result
 
 // The number that the rows of the question show. No row is no spool's.
 fn next_in(rows: &[Row]) -> Result<u32, Error>
-    ensures { IfOk result (λ next. (n : ℕ) → rows.now ≡ (Int (pos n) ∷ []) ∷ [] → next ≡ n) }
+    ensures next { IfOk result (λ next. (n : ℕ) → rows.now ≡ (Int (pos n) ∷ []) ∷ [] → next ≡ n) }
+    ensures memory { (n : ℕ) → IsSmall n → rows.now ≡ (Int (pos n) ∷ []) ∷ [] → IfErr result (λ error. error ≡ SqliteFailure OutOfMemory) }
 {
     match rows.first() {
         Some(row) => row.get(0),

@@ -16,7 +16,8 @@ use Rattle.uu_tables.specs.declared.rows.PieceSize.{PieceSize}
 use Rattle.uu_tables.specs.declared.rows.EntryColumns.{EntryColumns}
 use Rattle.uu_schema.specs.Cells.{system_cells, line_cells, range_cells, job_cells, entry_cells}
 use Rattle.uu_rows.specs.Values.{number_cell}
-use Rattle.uu_rows.specs.Readable.{HasWords, IsHead, size_cells}
+use Rattle.uu_core.specs.WellFormed.{HasWords}
+use Rattle.uu_rows.specs.Readable.{IsHead, size_cells}
 use Rattle.uu_rows.proofs.Words.{words_back, words_returned}
 
 -- ---- generic

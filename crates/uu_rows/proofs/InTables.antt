@@ -21,7 +21,7 @@ use Rattle.uu_schema.specs.Schema.{site, systems, lines, ranges, jobs, entries}
 use Rattle.uu_schema.specs.Keyed.{columns}
 use Rattle.uu_schema.specs.Held.{system_places, line_places, range_places, job_places, entry_places}
 use Rattle.uu_schema.specs.Cells.{system_cells, line_cells, range_cells, job_cells, entry_cells}
-use Rattle.uu_rows.specs.Order.{system_cmp, line_cmp, range_cmp, head_cmp, entry_cmp}
+use Rattle.uu_tables.specs.Order.{system_cmp, line_cmp, range_cmp, head_cmp, entry_cmp}
 use Rattle.uu_rows.proofs.Meanings.{at_places, by_places}
 use Rattle.uu_rows.proofs.Typed.{typed_only}
 use Rattle.uu_rows.proofs.Comparing.{beside, numbered, int_cmp-nat}

@@ -2,4 +2,4 @@ pub mod Values
 pub mod Readable
 pub mod Texts
 pub mod Shows
-pub mod Order
+pub use Rattle.uu_tables.specs.Order

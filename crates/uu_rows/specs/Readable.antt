@@ -1,11 +1,12 @@
--- Typed rows whose values are those of their types, so that their rows can be read.
-use Rattle.std.specs.Prelude.{ℕ, pos, ◌<◌, ◌^◌, [], ◌∷◌, All, IsTrue, IfSome}
+-- Typed rows whose values are those of their types, so that their rows can be read: numbers of 32 bits, names, words and grades. The rows of
+-- a state keep closer limits, which `uu_check` says (`specs/Readable.antt` there).
+use Rattle.std.specs.Prelude.{ℕ, pos, ◌<◌, ◌^◌, [], ◌∷◌, IsTrue, IfSome}
 use Rattle.sqlite.specs.declared.types.Value.TheVariants.{Int}
 use Rattle.sqlite.specs.Order.{Row}
+use Rattle.uu_names.specs.Grade.{grade_count}
 use Rattle.uu_names.specs.Name.{is_site_name, is_word}
 use Rattle.uu_core.specs.declared.job.JobHead.{JobHead}
-use Rattle.uu_core.specs.declared.job.Kind.{Kind}
-use Rattle.uu_core.specs.declared.job.Kind.TheVariants.{Send, Request, Execute}
+use Rattle.uu_core.specs.WellFormed.{HasWords}
 use Rattle.uu_tables.specs.declared.rows.SystemColumns.{SystemColumns}
 use Rattle.uu_tables.specs.declared.rows.LineColumns.{LineColumns}
 use Rattle.uu_tables.specs.declared.rows.RangeColumns.{RangeColumns}
@@ -28,7 +29,7 @@ pub record IsSystem (s : SystemColumns) : Type 0 where
 pub record IsLine (l : LineColumns) : Type 0 where
   pub system : IsTrue (is_site_name l.system)
   pub place : IsSmall l.place
-  pub grade : l.grade < 62
+  pub grade : l.grade < grade_count
   pub retry : IfSome l.retry IsSmall
 
 pub record IsRange (r : RangeColumns) : Type 0 where
@@ -37,16 +38,10 @@ pub record IsRange (r : RangeColumns) : Type 0 where
   pub low : IsSmall r.low
   pub high : IsSmall r.high
 
--- its words are words, so that the text of its arguments has one meaning
-abbrev pub HasWords : Kind → Type 0
-HasWords (Send source target) = IsTrue (is_word source) × IsTrue (is_word target)
-HasWords (Request source target) = IsTrue (is_word source) × IsTrue (is_word target)
-HasWords (Execute command arguments) = IsTrue (is_word command) × All (λ word. IsTrue (is_word word)) arguments
-
 pub record IsHead (h : JobHead) : Type 0 where
   pub number : IsSmall h.number
   pub system : IsTrue (is_site_name h.system)
-  pub grade : h.grade < 62
+  pub grade : h.grade < grade_count
   pub user : IsTrue (is_word h.user)
   pub kind : HasWords h.kind
   pub size : IsSmall h.size

@@ -49,7 +49,8 @@ impl<T: Drop> From<AllocFailed<T>> for RowFault {
 
 /// Why a column is not read, by the error of the database.
 pub fn read_fault(error: &Error) -> RowFault
-    ensures { result ≡ RowFault.Bad → error.now ≢ SqliteFailure OutOfMemory }
+    ensures memory { result ≡ RowFault.Memory → error.now ≡ SqliteFailure OutOfMemory }
+    ensures bad { result ≡ RowFault.Bad → error.now ≢ SqliteFailure OutOfMemory }
 {
     if is_memory(error) {
         RowFault::Memory
@@ -59,7 +60,8 @@ pub fn read_fault(error: &Error) -> RowFault
 }
 
 pub(crate) fn name_fault(fault: NameFault) -> RowFault
-    ensures { result ≡ RowFault.Bad → fault ≢ NameFault.Memory }
+    ensures memory { result ≡ RowFault.Memory → fault ≡ NameFault.Memory }
+    ensures bad { result ≡ RowFault.Bad → fault ≢ NameFault.Memory }
 {
     match fault {
         NameFault::Memory => RowFault::Memory,

@@ -1,6 +1,8 @@
 // Rows of a table as typed rows.
-ghost use Rattle.std.specs.Prelude.{◌≡◌, List, map, option_map, slice_get, IfOk, IfSome};
+ghost use Rattle.std.specs.Prelude.{◌≡◌, List, Option, map, option_map, slice_get, IfOk, IfErr, IfSome};
 ghost use Rattle.std.specs.List.{AllByRecursion};
+ghost use Rattle.sqlite.specs.declared.error.Error.TheVariants.{SqliteFailure};
+ghost use Rattle.sqlite.specs.declared.error.ErrorCode.TheVariants.{OutOfMemory};
 ghost use Rattle.sqlite.specs.Order.{Row};
 ghost use Rattle.uu_rows.specs.Values.{NotIf};
 
@@ -40,14 +42,23 @@ pub fn read_all<T: TypedRow>(alloc: Global, rows: &[Row]) -> Result<Vec<T>, RowF
 pub fn read_rows<T: TypedRow>(alloc: Global, rows: &[Row]) -> Result<Vec<T>, Error>
     ensures rows { IfOk result (λ all. rows.now ≡ map T.cells all.items) }
     ensures readable { IfOk result (λ all. AllByRecursion T.IsReadable all.items) }
+
+    // Of rows that are typed rows, want of memory is the only error.
+    ensures memory { (all : List T) → AllByRecursion T.IsReadable all → rows.now ≡ map T.cells all → IfErr result (λ error. error ≡ SqliteFailure OutOfMemory) }
 {
-    read_all(alloc, rows).map_err(|fault| fault.as_error())
+    match read_all(alloc, rows) {
+        Ok(all) => Ok(all),
+        Err(fault) => Err(fault.as_error()),
+    }
 }
 
 /// The first of the rows as a typed row, if there is one.
 pub fn first_row<T: TypedRow>(alloc: Global, rows: &[Row]) -> Result<Option<T>, Error>
     ensures row { IfOk result (λ found. option_map T.cells found ≡ slice_get rows.now 0) }
     ensures readable { IfOk result (λ found. IfSome found T.IsReadable) }
+
+    // Of no row, and of one that is a typed row, want of memory is the only error.
+    ensures memory { (found : Option T) → IfSome found T.IsReadable → option_map T.cells found ≡ slice_get rows.now 0 → IfErr result (λ error. error ≡ SqliteFailure OutOfMemory) }
 {
     match rows.first() {
         None => Ok(None),

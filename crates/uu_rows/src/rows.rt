@@ -1,10 +1,11 @@
 // Rows of each table, read from what a question shows of them.
-ghost use Rattle.std.specs.Prelude.{◌≡◌, ℕ, pos, [], ◌∷◌, length, IfOk};
+ghost use Rattle.std.specs.Prelude.{◌≡◌, ◌≢◌, ℕ, pos, [], ◌∷◌, length, IfOk, Err};
 ghost use Rattle.sqlite.specs.declared.types.Value.TheVariants.{Int, Text};
 ghost use Rattle.sqlite.specs.Order.{column};
 ghost use Rattle.uu_schema.specs.Cells.{system_cells, line_cells, range_cells, job_cells, entry_cells, kind_number, first_word, second_word};
 ghost use Rattle.uu_rows.specs.Values.{NotIf, number_cell};
-ghost use Rattle.uu_rows.specs.Readable.{IsSystem, IsLine, IsRange, IsHead, IsSize, IsEntry, HasWords, size_cells};
+ghost use Rattle.uu_core.specs.WellFormed.{HasWords};
+ghost use Rattle.uu_rows.specs.Readable.{IsSystem, IsLine, IsRange, IsHead, IsSize, IsEntry, size_cells};
 
 use crate::fault::RowFault;
 use crate::reading::TypedRow;
@@ -22,6 +23,7 @@ use uu_tables::{CallColumns, EntryColumns, LineColumns, PieceSize, RangeColumns,
 pub fn has_width(row: &Row, width: usize) -> Result<(), RowFault>
     ensures width { IfOk result (λ _. length row.now ≡ width) }
     ensures bad { NotIf result (length row.now ≡ width) }
+    ensures no_memory { result ≢ Err RowFault.Memory }
 {
     if row.column_count() == width {
         Ok(())

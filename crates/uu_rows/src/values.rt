@@ -4,7 +4,9 @@ ghost use Rattle.std.specs.List.{join_with_byte, slice_split};
 ghost use Rattle.sqlite.specs.Order.{column};
 ghost use Rattle.sqlite.specs.Values.{or_null};
 ghost use Rattle.sqlite.specs.declared.types.Value.TheVariants.{Text, Blob};
+ghost use Rattle.uu_names.specs.Grade.{grade_count};
 ghost use Rattle.uu_names.specs.Name.{is_site_name, is_word};
+ghost use Rattle.uu_names.specs.Text.{space};
 ghost use Rattle.uu_rows.specs.Values.{NotIf, number_cell};
 
 use crate::fault::{RowFault, name_fault, read_fault};
@@ -124,16 +126,16 @@ pub(crate) fn word_or_null_in(alloc: Global, row: &Row, at: usize) -> Result<Opt
 
 // The parts of a text between its spaces.
 fn parts_of<'a>(alloc: Global, text: &'a str) -> Result<Vec<&'a str>, AllocError>
-    ensures { IfOk result (λ parts. map (λ part. part.now) parts.items ≡ slice_split (λ b. b == 32) text.now) }
+    ensures { IfOk result (λ parts. map (λ part. part.now) parts.items ≡ slice_split (λ b. b == space) text.now) }
 {
     text.split(' ').collect(alloc)
 }
 
 // The words of a text that has one space between two.
 fn words_of(alloc: Global, text: &str) -> Result<Vec<Word>, RowFault>
-    ensures text { IfOk result (λ words. join_with_byte 32 words.items ≡ text.now) }
+    ensures text { IfOk result (λ words. join_with_byte space words.items ≡ text.now) }
     ensures words { IfOk result (λ words. All (λ word. IsTrue (is_word word)) words.items) }
-    ensures bad { (ws : List (List ℕ)) → All (λ word. IsTrue (is_word word)) ws → NotIf result (text.now ≡ join_with_byte 32 ws) }
+    ensures bad { (ws : List (List ℕ)) → All (λ word. IsTrue (is_word word)) ws → NotIf result (text.now ≡ join_with_byte space ws) }
 {
     let mut words = Vec::new(alloc);
     if text.is_empty() {
@@ -148,9 +150,9 @@ fn words_of(alloc: Global, text: &str) -> Result<Vec<Word>, RowFault>
 
 /// The words in this column, which stand there as one text with one space between two.
 pub(crate) fn arguments_in(alloc: Global, row: &Row, at: usize) -> Result<Listed<Word>, RowFault>
-    ensures text { IfOk result (λ words. column row.now at ≡ Text (join_with_byte 32 words)) }
+    ensures text { IfOk result (λ words. column row.now at ≡ Text (join_with_byte space words)) }
     ensures words { IfOk result (λ words. All (λ word. IsTrue (is_word word)) words) }
-    ensures bad { (ws : List (List ℕ)) → All (λ word. IsTrue (is_word word)) ws → NotIf result (column row.now at ≡ Text (join_with_byte 32 ws)) }
+    ensures bad { (ws : List (List ℕ)) → All (λ word. IsTrue (is_word word)) ws → NotIf result (column row.now at ≡ Text (join_with_byte space ws)) }
 {
     let text = text_in(row, at)?;
     let words = words_of(alloc, text.as_str())?;
@@ -160,8 +162,8 @@ pub(crate) fn arguments_in(alloc: Global, row: &Row, at: usize) -> Result<Listed
 /// The grade whose rank is in this column.
 pub fn grade_in(row: &Row, at: usize) -> Result<Grade, RowFault>
     ensures value { IfOk result (λ grade. column row.now at ≡ number_cell grade) }
-    ensures grade { IfOk result (λ grade. grade < 62) }
-    ensures bad { (g : ℕ) → g < 62 → NotIf result (column row.now at ≡ number_cell g) }
+    ensures grade { IfOk result (λ grade. grade < grade_count) }
+    ensures bad { (g : ℕ) → g < grade_count → NotIf result (column row.now at ≡ number_cell g) }
 {
     let rank = number_in(row, at)?;
     match u8::try_from(rank) {

@@ -4,6 +4,7 @@ use Rattle.std.specs.List.{join_with_byte}
 use Rattle.sqlite.specs.declared.types.Value.TheVariants.{Int, Text, Blob}
 use Rattle.sqlite.specs.Order.{Row}
 use Rattle.sqlite.specs.Values.{or_null}
+use Rattle.uu_names.specs.Text.{space}
 use Rattle.uu_core.specs.declared.job.JobHead.{JobHead}
 use Rattle.uu_core.specs.declared.job.Kind.{Kind}
 use Rattle.uu_core.specs.declared.job.Kind.TheVariants.{Send, Request, Execute}
@@ -38,7 +39,7 @@ first_word (Execute command arguments) = command
 abbrev pub second_word : Kind → List ℕ
 second_word (Send source target) = target
 second_word (Request source target) = target
-second_word (Execute command arguments) = join_with_byte 32 arguments
+second_word (Execute command arguments) = join_with_byte space arguments
 
 abbrev pub job_cells : JobHead → Row
 job_cells j =

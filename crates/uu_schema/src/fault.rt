@@ -91,12 +91,6 @@ impl From<SqlError> for Halt {
     }
 }
 
-impl From<AllocError> for Halt {
-    fn from(_refused: AllocError) -> Halt {
-        Halt::Before(SqlError::SqliteFailure(ErrorCode::OutOfMemory))
-    }
-}
-
 /// Which part of the store an error of the database tells of.
 pub fn kind_of(error: &SqlError) -> StoreKind
     ensures { result ≡ kind_of_error error.now }

@@ -33,11 +33,11 @@ pub system_added : (old new : State) (x : System) (count : ℕ) → Stands site 
     → Stands site new.now × ((t : Tables) → Holds old.now.trees t → Holds new.now.trees (record t { systems = insert_by (λ row. row.name) (new_system x) t.systems }))
 system_added old new x count stands h =
     let params : Row = Text x.name ∷ Int (pos x.max_retries) ∷ [] in
-    let row : Row = Int (next_rowid (old.now.trees 1)) ∷ system_cells (new_system x) in
+    let row : Row = Int (next_rowid (old.now.trees systems.tree)) ∷ system_cells (new_system x) in
     let is : inserted old new site stands.schema 1 systems refl (statement_of insert_system (understood site insert_system)) params count insert_system_terms 8 ≡ adds old new stands insert_system params count 1 systems refl row =
     rw (cast_null, cast_int (pos x.max_retries), cast_int (pos 0)) refl in
     let it = row_added old new stands insert_system params count 1 systems refl system_key system_cells system_places insert_system_terms 8 insert_system_is insert_system_plain h (new_system x) row is refl refl
-    (λ fits made free numbered. fresh_by_index system_key system_cells system_places (1 ∷ []) (new_system x) row (old.now.trees 1) refl numbered free
+    (λ fits made free numbered. fresh_by_index system_key system_cells system_places (1 ∷ []) (new_system x) row (old.now.trees systems.tree) refl numbered free
     (λ s there. subst (λ rs. clashes plain (1 ∷ []) rs s ≡ false) made (unique_systems new.now.trees fits s (subst (λ rs. Has rs s) (sym made) there)))
     (λ y s shows same. agree_text row s x.name refl (ap (λ cs. column cs 0) shows ∙ ap Text same))) in
     (it.0, λ t held. holds_systems t old.now.trees new.now.trees _ it.2 held (it.1 t.systems _ (put_by_name (λ row. row.name) (new_system x) t.systems) held.systems))
@@ -46,11 +46,11 @@ pub line_added : (old new : State) (x : LineColumns) (count : ℕ) → Stands si
     → Stands site new.now × ((t : Tables) → Holds old.now.trees t → Holds new.now.trees (record t { lines = insert_by (λ row. row.system) x t.lines }))
 line_added old new x count stands h =
     let params : Row = line_cells x in
-    let row : Row = Int (next_rowid (old.now.trees 3)) ∷ line_cells x in
+    let row : Row = Int (next_rowid (old.now.trees lines.tree)) ∷ line_cells x in
     let is : inserted old new site stands.schema 2 lines refl (statement_of insert_line (understood site insert_line)) params count insert_line_terms 5 ≡ adds old new stands insert_line params count 2 lines refl row =
     rw (cast_null, cast_int (pos x.place), cast_int (pos x.grade), cast_number x.retry) refl in
     let it = row_added old new stands insert_line params count 2 lines refl line_key line_cells line_places insert_line_terms 5 insert_line_is insert_line_plain h x row is refl refl
-    (λ fits made free numbered. fresh_by_index line_key line_cells line_places (1 ∷ 2 ∷ []) x row (old.now.trees 3) refl numbered free
+    (λ fits made free numbered. fresh_by_index line_key line_cells line_places (1 ∷ 2 ∷ []) x row (old.now.trees lines.tree) refl numbered free
     (λ s there. subst (λ rs. clashes plain (1 ∷ 2 ∷ []) rs s ≡ false) made (unique_lines new.now.trees fits s (subst (λ rs. Has rs s) (sym made) there)))
     (λ y s shows same. agree_text_number row s x.system (pos x.place) refl (ap (λ cs. column cs 0) shows ∙ ap (λ k. Text k.0) same) refl (ap (λ cs. column cs 1) shows ∙ ap (λ k. Int (pos k.1)) same))) in
     (it.0, λ t held. holds_lines t old.now.trees new.now.trees _ it.2 held (it.1 t.lines _ (put_by_name (λ row. row.system) x t.lines) held.lines))
@@ -59,11 +59,11 @@ pub range_added : (old new : State) (x : RangeColumns) (count : ℕ) → Stands 
     → Stands site new.now × ((t : Tables) → Holds old.now.trees t → Holds new.now.trees (record t { ranges = insert_by (λ row. row.system) x t.ranges }))
 range_added old new x count stands h =
     let params : Row = range_cells x in
-    let row : Row = Int (next_rowid (old.now.trees 5)) ∷ range_cells x in
+    let row : Row = Int (next_rowid (old.now.trees ranges.tree)) ∷ range_cells x in
     let is : inserted old new site stands.schema 3 ranges refl (statement_of insert_range (understood site insert_range)) params count insert_range_terms 5 ≡ adds old new stands insert_range params count 3 ranges refl row =
     rw (cast_null, cast_int (pos x.place), cast_int (pos x.low), cast_int (pos x.high)) refl in
     let it = row_added old new stands insert_range params count 3 ranges refl range_key range_cells range_places insert_range_terms 5 insert_range_is insert_range_plain h x row is refl refl
-    (λ fits made free numbered. fresh_by_index range_key range_cells range_places (1 ∷ 2 ∷ 3 ∷ []) x row (old.now.trees 5) refl numbered free
+    (λ fits made free numbered. fresh_by_index range_key range_cells range_places (1 ∷ 2 ∷ 3 ∷ []) x row (old.now.trees ranges.tree) refl numbered free
     (λ s there. subst (λ rs. clashes plain (1 ∷ 2 ∷ 3 ∷ []) rs s ≡ false) made (unique_ranges new.now.trees fits s (subst (λ rs. Has rs s) (sym made) there)))
     (λ y s shows same. agree_text_numbers row s x.system (pos x.place) (pos x.low) refl (ap (λ cs. column cs 0) shows ∙ ap (λ k. Text k.0) same) refl (ap (λ cs. column cs 1) shows ∙ ap (λ k. Int (pos k.1)) same) refl (ap (λ cs. column cs 2) shows ∙ ap (λ k. Int (pos k.2)) same))) in
     (it.0, λ t held. holds_ranges t old.now.trees new.now.trees _ it.2 held (it.1 t.ranges _ (put_by_name (λ row. row.system) x t.ranges) held.ranges))
@@ -76,18 +76,18 @@ job_added old new x count stands h =
     let is : inserted old new site stands.schema 4 jobs refl (statement_of insert_job (understood site insert_job)) params count insert_job_terms 10 ≡ adds old new stands insert_job params count 4 jobs refl row =
     rw (cast_int (pos x.number), cast_null, cast_int (pos x.grade), cast_int (pos (kind_number x.kind)), cast_int (pos x.queued), cast_int (pos x.size)) refl in
     let it = row_added old new stands insert_job params count 4 jobs refl job_key job_cells job_places insert_job_terms 10 insert_job_is insert_job_plain h x row is refl refl
-    (λ fits made free numbered. fresh_by_number job_key job_cells job_places x row (old.now.trees 7) refl free (λ y s shows. ap (λ cs. column cs 0) shows)) in
+    (λ fits made free numbered. fresh_by_number job_key job_cells job_places x row (old.now.trees jobs.tree) refl free (λ y s shows. ap (λ cs. column cs 0) shows)) in
     (it.0, λ t held. holds_jobs t old.now.trees new.now.trees _ it.2 held (it.1 t.jobs _ (put_last x t.jobs) held.jobs))
 
 pub piece_added : (old new : State) (x : Piece) (count : ℕ) → Stands site old.now → Executes insert_piece (piece_cells x) old new (Ok count)
     → Stands site new.now × ((t : Tables) → Holds old.now.trees t → Holds new.now.trees (record t { pieces = append x t.pieces }))
 piece_added old new x count stands h =
     let params : Row = piece_cells x in
-    let row : Row = Int (next_rowid (old.now.trees 8)) ∷ piece_cells x in
+    let row : Row = Int (next_rowid (old.now.trees pieces.tree)) ∷ piece_cells x in
     let is : inserted old new site stands.schema 5 pieces refl (statement_of insert_piece (understood site insert_piece)) params count insert_piece_terms 4 ≡ adds old new stands insert_piece params count 5 pieces refl row =
     rw (cast_null, cast_int (pos x.job), cast_int (pos x.place)) refl in
     let it = row_added old new stands insert_piece params count 5 pieces refl piece_key piece_cells piece_places insert_piece_terms 4 insert_piece_is insert_piece_plain h x row is refl refl
-    (λ fits made free numbered. fresh_by_index piece_key piece_cells piece_places (1 ∷ 2 ∷ []) x row (old.now.trees 8) refl numbered free
+    (λ fits made free numbered. fresh_by_index piece_key piece_cells piece_places (1 ∷ 2 ∷ []) x row (old.now.trees pieces.tree) refl numbered free
     (λ s there. subst (λ rs. clashes plain (1 ∷ 2 ∷ []) rs s ≡ false) made (unique_pieces new.now.trees fits s (subst (λ rs. Has rs s) (sym made) there)))
     (λ y s shows same. agree_numbers row s (pos x.job) (pos x.place) refl (ap (λ cs. column cs 0) shows ∙ ap (λ k. Int (pos k.0)) same) refl (ap (λ cs. column cs 1) shows ∙ ap (λ k. Int (pos k.1)) same))) in
     (it.0, λ t held. holds_pieces t old.now.trees new.now.trees _ it.2 held (it.1 t.pieces _ (put_last x t.pieces) held.pieces))
@@ -96,11 +96,11 @@ pub entry_added : (old new : State) (x : EntryColumns) (count : ℕ) → Stands 
     → Stands site new.now × ((t : Tables) → Holds old.now.trees t → Holds new.now.trees (record t { entries = insert_by (λ row. row.host) x t.entries }))
 entry_added old new x count stands h =
     let params : Row = entry_cells x in
-    let row : Row = Int (next_rowid (old.now.trees 10)) ∷ entry_cells x in
+    let row : Row = Int (next_rowid (old.now.trees entries.tree)) ∷ entry_cells x in
     let is : inserted old new site stands.schema 6 entries refl (statement_of insert_entry (understood site insert_entry)) params count insert_entry_terms 3 ≡ adds old new stands insert_entry params count 6 entries refl row =
     rw (cast_null) refl in
     let it = row_added old new stands insert_entry params count 6 entries refl entry_key entry_cells entry_places insert_entry_terms 3 insert_entry_is insert_entry_plain h x row is refl refl
-    (λ fits made free numbered. fresh_by_index entry_key entry_cells entry_places (1 ∷ []) x row (old.now.trees 10) refl numbered free
+    (λ fits made free numbered. fresh_by_index entry_key entry_cells entry_places (1 ∷ []) x row (old.now.trees entries.tree) refl numbered free
     (λ s there. subst (λ rs. clashes plain (1 ∷ []) rs s ≡ false) made (unique_entries new.now.trees fits s (subst (λ rs. Has rs s) (sym made) there)))
     (λ y s shows same. agree_text row s x.host refl (ap (λ cs. column cs 0) shows ∙ ap Text same))) in
     (it.0, λ t held. holds_entries t old.now.trees new.now.trees _ it.2 held (it.1 t.entries _ (put_by_name (λ row. row.host) x t.entries) held.entries))

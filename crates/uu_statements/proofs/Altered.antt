@@ -103,7 +103,7 @@ retries_set old new name max_retries count stands h =
     let f : SystemColumns → SystemColumns = λ row. record row { max_retries = max_retries } in
     let it = row_altered old new stands set_retries params count 1 systems refl system_key system_cells system_places (has_name name) (is_text name 1) (is_text name 0) (λ x. text_test name x.name) (λ r. refl)
     (λ x y h k. same_texts x.name name h ∙ sym (same_texts y.name name k)) f (λ x. refl) (where_is 1 0 ∷ []) set_retries_terms set_retries_is set_retries_plain h refl
-    (λ numbered. filter_same _ (is_text name 1) (at_text 1 name (Int (pos max_retries) ∷ [])) (old.now.trees 1)) (λ x id. Int id ∷ system_cells (f x))
+    (λ numbered. filter_same _ (is_text name 1) (at_text 1 name (Int (pos max_retries) ∷ [])) (old.now.trees systems.tree)) (λ x id. Int id ∷ system_cells (f x))
     (λ x was id key shows. let it = at_system x was shows in rw (key, it.0, it.2, it.3, it.4, it.5, it.6) refl)
     (λ x id. system_casts old.now.trees (f x) id) (λ x id. refl) (λ x was id key shows. refl) no_system_follows in
     (it.0, λ t held. let made = it.1 t.systems held.systems in holds_systems t old.now.trees new.now.trees _ made.1 held made.0)
@@ -119,7 +119,7 @@ call_set old new name call count stands h =
     let f : SystemColumns → SystemColumns = λ row. record row { call = call } in
     let it = row_altered old new stands set_calls params count 1 systems refl system_key system_cells system_places (has_name name) (is_text name 1) (is_text name 0) (λ x. text_test name x.name) (λ r. refl)
     (λ x y h k. same_texts x.name name h ∙ sym (same_texts y.name name k)) f (λ x. refl) (where_is 1 0 ∷ []) set_calls_terms set_calls_is set_calls_plain h refl
-    (λ numbered. filter_same _ (is_text name 1) (at_text 1 name (call_cells call)) (old.now.trees 1)) (λ x id. Int id ∷ system_cells (f x))
+    (λ numbered. filter_same _ (is_text name 1) (at_text 1 name (call_cells call)) (old.now.trees systems.tree)) (λ x id. Int id ∷ system_cells (f x))
     (λ x was id key shows. let it = at_system x was shows in rw (key, it.0, it.1) refl)
     (λ x id. system_casts old.now.trees (f x) id) (λ x id. refl) (λ x was id key shows. refl) no_system_follows in
     (it.0, λ t held. let made = it.1 t.systems held.systems in holds_systems t old.now.trees new.now.trees _ made.1 held made.0)
@@ -149,7 +149,7 @@ grade_set old new number grade count stands h =
     let f : JobHead → JobHead = λ row. record row { grade = grade } in
     let it = row_altered old new stands set_rank params count 4 jobs refl job_key job_cells job_places (has_number number) (has_rowid (pos number)) (is_number number 0) (λ x. number_test number x.number) (λ r. refl)
     (λ x y h k. same_numbers x.number number h ∙ sym (same_numbers y.number number k)) f (λ x. refl) (where_is 0 0 ∷ []) set_rank_terms set_rank_is set_rank_plain h refl
-    (λ numbered. filter_same_on _ (has_rowid (pos number)) (old.now.trees 7) (all_weaker (λ r. IsTrue (is_int (rowid r))) _ (λ r int. at_key (pos number) (Int (pos grade) ∷ []) r int) (old.now.trees 7) numbered))
+    (λ numbered. filter_same_on _ (has_rowid (pos number)) (old.now.trees jobs.tree) (all_weaker (λ r. IsTrue (is_int (rowid r))) _ (λ r int. at_key (pos number) (Int (pos grade) ∷ []) r int) (old.now.trees jobs.tree) numbered))
     (λ x id. Int id ∷ job_tail (f x)) (λ x was id key shows. let it = at_job x was shows in rw (key, it.0, it.2, it.3, it.4, it.5, it.6, it.7) refl)
     (λ x id. job_casts old.now.trees (f x) id) (λ x id. refl) (λ x was id key shows. ap (λ v. columns job_places (v ∷ job_tail (f x))) (sym key ∙ ap (λ cs. column cs 0) shows)) no_job_follows in
     (it.0, λ t held. let made = it.1 t.jobs held.jobs in holds_jobs t old.now.trees new.now.trees _ made.1 held made.0)
@@ -161,7 +161,7 @@ queued_set old new number queued count stands h =
     let f : JobHead → JobHead = λ row. record row { queued = queued } in
     let it = row_altered old new stands set_second params count 4 jobs refl job_key job_cells job_places (has_number number) (has_rowid (pos number)) (is_number number 0) (λ x. number_test number x.number) (λ r. refl)
     (λ x y h k. same_numbers x.number number h ∙ sym (same_numbers y.number number k)) f (λ x. refl) (where_is 0 0 ∷ []) set_second_terms set_second_is set_second_plain h refl
-    (λ numbered. filter_same_on _ (has_rowid (pos number)) (old.now.trees 7) (all_weaker (λ r. IsTrue (is_int (rowid r))) _ (λ r int. at_key (pos number) (Int (pos queued) ∷ []) r int) (old.now.trees 7) numbered))
+    (λ numbered. filter_same_on _ (has_rowid (pos number)) (old.now.trees jobs.tree) (all_weaker (λ r. IsTrue (is_int (rowid r))) _ (λ r int. at_key (pos number) (Int (pos queued) ∷ []) r int) (old.now.trees jobs.tree) numbered))
     (λ x id. Int id ∷ job_tail (f x)) (λ x was id key shows. let it = at_job x was shows in rw (key, it.0, it.1, it.2, it.3, it.5, it.6, it.7) refl)
     (λ x id. job_casts old.now.trees (f x) id) (λ x id. refl) (λ x was id key shows. ap (λ v. columns job_places (v ∷ job_tail (f x))) (sym key ∙ ap (λ cs. column cs 0) shows)) no_job_follows in
     (it.0, λ t held. let made = it.1 t.jobs held.jobs in holds_jobs t old.now.trees new.now.trees _ made.1 held made.0)
@@ -181,7 +181,7 @@ next_set old new next count stands h =
       ran.stands,
       λ t held.
           let row : Row = Int (pos 1) ∷ spool_row next in
-          let order = over_rows db 0 [] set_number_terms params wrote.0 refl (wrote.1.answer Null) in
+          let order = over_rows db spool.tree [] set_number_terms params wrote.0 refl (wrote.1.answer Null) in
           let shown : List Row → List Row = λ rows. map (λ r. eval_all set_number_terms (params ∷ r ∷ [])) (filter (λ r. true) rows) in
           let rows : wrote.0 ≡ row ∷ [] = one_permutation row wrote.0 (subst (λ rs. IsPermutation (shown rs) wrote.0) held.spool order) in
           let did = subst (λ all. WritesTrees site Enforced db (edit_of db spool (ids_of all) Given 1 all) (Ok new.now.trees)) rows wrote.2 in

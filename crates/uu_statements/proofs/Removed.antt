@@ -64,27 +64,27 @@ due_ranges depth olds = record { depth = depth; child = ranges; ref = to_line; p
 abbrev due_pieces : List Row → Work
 due_pieces olds = record { depth = 0; child = pieces; ref = to_job; places = 0 ∷ []; order = plain; deed = deed.Delete; moves = pairs olds [] }
 
-of_systems : (olds : List Row) → works site Enforced 0 1 olds [] ≡ cond (list_any (loses plain (1 ∷ [])) (pairs olds [])) (due_lines olds ∷ []) []
+of_systems : (olds : List Row) → works site Enforced 0 systems.tree olds [] ≡ cond (list_any (loses plain (1 ∷ [])) (pairs olds [])) (due_lines olds ∷ []) []
 unfolding same_name joined
 of_systems olds = elim (cases_Bool (list_any (loses plain (1 ∷ [])) (pairs olds []))) [ inl some ↦ rw some refl | inr none ↦ rw none refl ]
 
-of_lines : (depth : ℕ) (olds : List Row) → works site Enforced depth 3 olds [] ≡ cond (list_any (loses plain (1 ∷ 2 ∷ [])) (pairs olds [])) (due_ranges depth olds ∷ []) []
+of_lines : (depth : ℕ) (olds : List Row) → works site Enforced depth lines.tree olds [] ≡ cond (list_any (loses plain (1 ∷ 2 ∷ [])) (pairs olds [])) (due_ranges depth olds ∷ []) []
 unfolding same_name joined
 of_lines depth olds = elim (cases_Bool (list_any (loses plain (1 ∷ 2 ∷ [])) (pairs olds []))) [ inl some ↦ rw some refl | inr none ↦ rw none refl ]
 
-of_ranges : (depth : ℕ) (olds : List Row) → works site Enforced depth 5 olds [] ≡ []
+of_ranges : (depth : ℕ) (olds : List Row) → works site Enforced depth ranges.tree olds [] ≡ []
 unfolding same_name joined
 of_ranges depth olds = refl
 
-of_jobs : (olds : List Row) → works site Enforced 0 7 olds [] ≡ cond (list_any (loses plain (0 ∷ [])) (pairs olds [])) (due_pieces olds ∷ []) []
+of_jobs : (olds : List Row) → works site Enforced 0 jobs.tree olds [] ≡ cond (list_any (loses plain (0 ∷ [])) (pairs olds [])) (due_pieces olds ∷ []) []
 unfolding same_name joined
 of_jobs olds = elim (cases_Bool (list_any (loses plain (0 ∷ [])) (pairs olds []))) [ inl some ↦ rw some refl | inr none ↦ rw none refl ]
 
-of_pieces : (olds : List Row) → works site Enforced 1 8 olds [] ≡ []
+of_pieces : (olds : List Row) → works site Enforced 1 pieces.tree olds [] ≡ []
 unfolding same_name joined
 of_pieces olds = refl
 
-of_entries : (olds : List Row) → works site Enforced 0 10 olds [] ≡ []
+of_entries : (olds : List Row) → works site Enforced 0 entries.tree olds [] ≡ []
 unfolding same_name joined
 of_entries olds = refl
 
@@ -198,19 +198,19 @@ range_named name depth olds named r h =
     let it = some_has (is_child_of (due_ranges depth olds) r) (pairs olds []) h in
     named_by name r it.0.0 (agree_first 1 1 (2 ∷ []) (2 ∷ []) r it.0.0 (and_parts _ _ it.2).1) (named it.0.0 (pair_of olds it.0 it.1))
 
-ranges_fall : (name : List ℕ) (depth : ℕ) (old new : Trees) (olds : List Row) → AreApart (old 5) → ((x : Row) → Has olds x → is_text name 1 x ≡ true) → nat_lt depth max_depth ≡ true → Settles site Enforced old (works site Enforced depth 3 olds []) (Ok new)
-    → Falls (is_text name 1) 5 old new
+ranges_fall : (name : List ℕ) (depth : ℕ) (old new : Trees) (olds : List Row) → AreApart (old ranges.tree) → ((x : Row) → Has olds x → is_text name 1 x ≡ true) → nat_lt depth max_depth ≡ true → Settles site Enforced old (works site Enforced depth lines.tree olds []) (Ok new)
+    → Falls (is_text name 1) ranges.tree old new
 ranges_fall name depth old new olds apart named low settles = children_fall (is_text name 1) (due_ranges depth olds) old new apart (range_named name depth olds named) low (of_ranges (depth + 1)) (list_any (loses plain (1 ∷ 2 ∷ [])) (pairs olds []))
     (subst (λ stack. Settles site Enforced old stack (Ok new)) (of_lines depth olds) settles)
 
 -- what is left has a line, so it lacks the name that no line has
-range_left : (name : List ℕ) (db : Trees) → ((x : Row) → Has (db 3) x → is_text name 1 x ≡ false) → (r : Row) → is_null (column r 2) ≡ false
+range_left : (name : List ℕ) (db : Trees) → ((x : Row) → Has (db lines.tree) x → is_text name 1 x ≡ false) → (r : Row) → is_null (column r 2) ≡ false
     → list_all (λ ref. not (is_among All ref) || has_parent site.tables db r ref) ranges.references ≡ true → is_text name 1 r ≡ false
 unfolding same_name joined
 range_left name db left r some h = elim (or_cases _ _ (and_parts _ true h).0) [
   | inl null ↦ elim (or_cases (is_null (column r 1)) (is_null (column r 2) || false) null) [ inl here ↦ null_text name (column r 1) here | inr more ↦ absurd (let e = rw some at more in cc) ]
   | inr held ↦
-      let it = some_has (λ parent. agree plain (1 ∷ 2 ∷ []) parent (1 ∷ 2 ∷ []) r) (db 3) held in
+      let it = some_has (λ parent. agree plain (1 ∷ 2 ∷ []) parent (1 ∷ 2 ∷ []) r) (db lines.tree) held in
       unpassed (is_text name 1 r) (λ named. true≢false (sym (named_by name it.0 r (agree_first 1 1 (2 ∷ []) (2 ∷ []) it.0 r it.2) named) ∙ left it.0 it.1))
 ]
 
@@ -221,24 +221,24 @@ line_named name olds named r h =
     let it = some_has (is_child_of (due_lines olds) r) (pairs olds []) h in
     named_by name r it.0.0 (agree_first 1 1 [] [] r it.0.0 (and_parts _ _ it.2).1) (named it.0.0 (pair_of olds it.0 it.1))
 
-line_left : (name : List ℕ) (db : Trees) → ((x : Row) → Has (db 1) x → is_text name 1 x ≡ false) → (r : Row) → list_all (λ ref. not (is_among All ref) || has_parent site.tables db r ref) lines.references ≡ true → is_text name 1 r ≡ false
+line_left : (name : List ℕ) (db : Trees) → ((x : Row) → Has (db systems.tree) x → is_text name 1 x ≡ false) → (r : Row) → list_all (λ ref. not (is_among All ref) || has_parent site.tables db r ref) lines.references ≡ true → is_text name 1 r ≡ false
 unfolding same_name joined
 line_left name db left r h = elim (or_cases _ _ (and_parts _ true h).0) [
   | inl null ↦ elim (or_cases (is_null (column r 1)) false null) [ inl here ↦ null_text name (column r 1) here | inr never ↦ absurd (cc) ]
   | inr held ↦
-      let it = some_has (λ parent. agree plain (1 ∷ []) parent (1 ∷ []) r) (db 1) held in
+      let it = some_has (λ parent. agree plain (1 ∷ []) parent (1 ∷ []) r) (db systems.tree) held in
       unpassed (is_text name 1 r) (λ named. true≢false (sym (named_by name it.0 r (agree_first 1 1 [] [] it.0 r it.2) named) ∙ left it.0 it.1))
 ]
 
 record LinesFall (name : List ℕ) (old new : Trees) : Type 0 where
-  lines : Loses (is_text name 1) (old 3) (new 3)
-  ranges : Loses (is_text name 1) (old 5) (new 5)
-  others : Keeps (3 ∷ 5 ∷ []) old new
+  others : Keeps (lines.tree ∷ ranges.tree ∷ []) old new
+  lines : Loses (is_text name 1) (old lines.tree) (new lines.tree)
+  ranges : Loses (is_text name 1) (old ranges.tree) (new ranges.tree)
 
 no_line_falls : (name : List ℕ) (old new : Trees) → new ≡ old → LinesFall name old new
-no_line_falls name old new same = subst (LinesFall name old) (sym same) (record { lines = loses_none (is_text name 1) (old 3); ranges = loses_none (is_text name 1) (old 5); others = keeps_all (3 ∷ 5 ∷ []) old })
+no_line_falls name old new same = subst (LinesFall name old) (sym same) (record { lines = loses_none (is_text name 1) (old lines.tree); ranges = loses_none (is_text name 1) (old ranges.tree); others = keeps_all (lines.tree ∷ ranges.tree ∷ []) old })
 
-lines_fall : (name : List ℕ) (old new : Trees) (olds : List Row) → AreApart (old 3) → AreApart (old 5) → ((x : Row) → Has olds x → is_text name 1 x ≡ true) → Settles site Enforced old (works site Enforced 0 1 olds []) (Ok new) → LinesFall name old new
+lines_fall : (name : List ℕ) (old new : Trees) (olds : List Row) → AreApart (old lines.tree) → AreApart (old ranges.tree) → ((x : Row) → Has olds x → is_text name 1 x ≡ true) → Settles site Enforced old (works site Enforced 0 systems.tree olds []) (Ok new) → LinesFall name old new
 lines_fall name old new olds apart below named settles = go (list_any (loses plain (1 ∷ [])) (pairs olds [])) (subst (λ stack. Settles site Enforced old stack (Ok new)) (of_systems olds) settles)
   where
     after : (ids : List ℤ) → AreChildren old (due_lines olds) ids → After site Enforced old new (due_lines olds) ids → LinesFall name old new
@@ -249,11 +249,11 @@ lines_fall name old new olds apart below named settles = go (list_any (loses pla
         let lost = children_lost old (due_lines olds) ids (is_text name 1) apart children (line_named name olds named) in
         let kept = keeps_one edit old mid some.1 in
         let fall = ranges_fall name 1 mid new (taken_by old edit) (subst AreApart (sym (kept.1.1.1.0 refl)) below)
-        (λ x h. line_named name olds named x (of_taken (λ r. list_any (is_child_of (due_lines olds) r) (pairs olds [])) (old 3) ids apart children.sound x h)) refl some.2 in
+        (λ x h. line_named name olds named x (of_taken (λ r. list_any (is_child_of (due_lines olds) r) (pairs olds [])) (old lines.tree) ids apart children.sound x h)) refl some.2 in
         record {
-          lines = subst (Loses (is_text name 1) (old 3)) (sym (fall.others.1.1.0 refl ∙ some.1.rows)) lost;
-          ranges = subst (λ rows. Loses (is_text name 1) rows (new 5)) (kept.1.1.1.0 refl) fall.lost;
-          others = keeps_more 3 (5 ∷ []) old mid new kept fall.others;
+          lines = subst (Loses (is_text name 1) (old lines.tree)) (sym (fall.others.1.1.0 refl ∙ some.1.rows)) lost;
+          ranges = subst (λ rows. Loses (is_text name 1) rows (new ranges.tree)) (kept.1.1.1.0 refl) fall.lost;
+          others = keeps_more lines.tree (ranges.tree ∷ []) old mid new kept fall.others;
         }
 
     go : (some : Bool) → Settles site Enforced old (cond some (due_lines olds ∷ []) []) (Ok new) → LinesFall name old new
@@ -267,18 +267,18 @@ piece_numbered n olds each r h =
     let it = some_has (is_child_of (due_pieces olds) r) (pairs olds []) h in
     number_from n (column r 1) (subst (λ v. equal Binary (column r 1) v ≡ true) (each it.0.0 (pair_of olds it.0 it.1)) (agree_first 1 0 [] [] r it.0.0 (and_parts _ _ it.2).1))
 
-piece_left : (n : ℤ) (db : Trees) → ((x : Row) → Has (db 7) x → has_rowid n x ≡ false) → (r : Row) → is_int (column r 1) ≡ true → list_all (λ ref. not (is_among All ref) || has_parent site.tables db r ref) pieces.references ≡ true
+piece_left : (n : ℤ) (db : Trees) → ((x : Row) → Has (db jobs.tree) x → has_rowid n x ≡ false) → (r : Row) → is_int (column r 1) ≡ true → list_all (λ ref. not (is_among All ref) || has_parent site.tables db r ref) pieces.references ≡ true
     → is_eq (value_cmp (column r 1) (Int n)) ≡ false
 unfolding same_name joined
 piece_left n db left r int h = elim (or_cases _ _ (and_parts _ true h).0) [
   | inl null ↦ elim (or_cases (is_null (column r 1)) false null) [ inl here ↦ absurd (true≢false (sym here ∙ null_number n (column r 1) int)) | inr never ↦ absurd (cc) ]
   | inr held ↦
-      let it = some_has (λ parent. agree plain (0 ∷ []) parent (1 ∷ []) r) (db 7) held in
+      let it = some_has (λ parent. agree plain (0 ∷ []) parent (1 ∷ []) r) (db jobs.tree) held in
       unpassed (is_eq (value_cmp (column r 1) (Int n)))
       (λ tied. true≢false (sym (number_from n (column it.0 0) (subst (λ v. equal Binary (column it.0 0) v ≡ true) (number_is n (column r 1) int tied) (agree_first 0 1 [] [] it.0 r it.2))) ∙ left it.0 it.1))
 ]
 
-pieces_fall : (n : ℤ) (old new : Trees) (olds : List Row) → AreApart (old 8) → ((x : Row) → Has olds x → column x 0 ≡ Int n) → Settles site Enforced old (works site Enforced 0 7 olds []) (Ok new) → Falls (λ r. is_eq (value_cmp (column r 1) (Int n))) 8 old new
+pieces_fall : (n : ℤ) (old new : Trees) (olds : List Row) → AreApart (old pieces.tree) → ((x : Row) → Has olds x → column x 0 ≡ Int n) → Settles site Enforced old (works site Enforced 0 jobs.tree olds []) (Ok new) → Falls (λ r. is_eq (value_cmp (column r 1) (Int n))) pieces.tree old new
 pieces_fall n old new olds apart each settles = children_fall (λ r. is_eq (value_cmp (column r 1) (Int n))) (due_pieces olds) old new apart (piece_numbered n olds each) refl of_pieces (list_any (loses plain (0 ∷ [])) (pairs olds []))
     (subst (λ stack. Settles site Enforced old stack (Ok new)) (of_jobs olds) settles)
 
@@ -319,26 +319,26 @@ none_left q old new is x h = not_so (q x) (has_filtered (λ r. not (q r)) old x 
 -- ---- the tables with a name
 
 module _ (name : List ℕ) (t : Tables) (old new : Trees) (held : Holds old t) where
-  systems_left : new 1 ≡ filter (λ r. not (is_text name 1 r)) (old 1) → AreSystems (without (has_name name) t.systems) (new 1)
-  systems_left is = subst (AreSystems _) (sym is) (fewer system_key system_cells system_places (has_name name) (is_text name 1) (is_text name 0) (λ x. text_test name x.name) (λ r. refl) t.systems (old 1) held.systems)
+  systems_left : new systems.tree ≡ filter (λ r. not (is_text name 1 r)) (old systems.tree) → AreSystems (without (has_name name) t.systems) (new systems.tree)
+  systems_left is = subst (AreSystems _) (sym is) (fewer system_key system_cells system_places (has_name name) (is_text name 1) (is_text name 0) (λ x. text_test name x.name) (λ r. refl) t.systems (old systems.tree) held.systems)
 
-  lines_left : new 3 ≡ filter (λ r. not (is_text name 1 r)) (old 3) → AreLines (without (is_line_of name) t.lines) (new 3)
-  lines_left is = subst (AreLines _) (sym is) (fewer line_key line_cells line_places (is_line_of name) (is_text name 1) (is_text name 0) (λ x. text_test name x.system) (λ r. refl) t.lines (old 3) held.lines)
+  lines_left : new lines.tree ≡ filter (λ r. not (is_text name 1 r)) (old lines.tree) → AreLines (without (is_line_of name) t.lines) (new lines.tree)
+  lines_left is = subst (AreLines _) (sym is) (fewer line_key line_cells line_places (is_line_of name) (is_text name 1) (is_text name 0) (λ x. text_test name x.system) (λ r. refl) t.lines (old lines.tree) held.lines)
 
-  ranges_left : new 5 ≡ filter (λ r. not (is_text name 1 r)) (old 5) → AreRanges (without (is_range_of name) t.ranges) (new 5)
-  ranges_left is = subst (AreRanges _) (sym is) (fewer range_key range_cells range_places (is_range_of name) (is_text name 1) (is_text name 0) (λ x. text_test name x.system) (λ r. refl) t.ranges (old 5) held.ranges)
+  ranges_left : new ranges.tree ≡ filter (λ r. not (is_text name 1 r)) (old ranges.tree) → AreRanges (without (is_range_of name) t.ranges) (new ranges.tree)
+  ranges_left is = subst (AreRanges _) (sym is) (fewer range_key range_cells range_places (is_range_of name) (is_text name 1) (is_text name 0) (λ x. text_test name x.system) (λ r. refl) t.ranges (old ranges.tree) held.ranges)
 
-  entries_left : new 10 ≡ filter (λ r. not (is_text name 1 r)) (old 10) → AreEntries (without (is_about name) t.entries) (new 10)
-  entries_left is = subst (AreEntries _) (sym is) (fewer entry_key entry_cells entry_places (is_about name) (is_text name 1) (is_text name 0) (λ x. text_test name x.host) (λ r. refl) t.entries (old 10) held.entries)
+  entries_left : new entries.tree ≡ filter (λ r. not (is_text name 1 r)) (old entries.tree) → AreEntries (without (is_about name) t.entries) (new entries.tree)
+  entries_left is = subst (AreEntries _) (sym is) (fewer entry_key entry_cells entry_places (is_about name) (is_text name 1) (is_text name 0) (λ x. text_test name x.host) (λ r. refl) t.entries (old entries.tree) held.entries)
 
   -- each range has a place
-  range_placed : AllByRecursion (λ r. is_null (column r 2) ≡ false) (old 5)
-  range_placed = all_cells range_key range_cells range_places (λ cs. is_null (column cs 1) ≡ false) (λ x. refl) t.ranges (old 5) held.ranges
+  range_placed : AllByRecursion (λ r. is_null (column r 2) ≡ false) (old ranges.tree)
+  range_placed = all_cells range_key range_cells range_places (λ cs. is_null (column cs 1) ≡ false) (λ x. refl) t.ranges (old ranges.tree) held.ranges
 
   -- ranges of which no line is left are all that go
-  all_ranges : Refers All site new → Loses (is_text name 1) (old 5) (new 5) → ((x : Row) → Has (new 3) x → is_text name 1 x ≡ false) → new 5 ≡ filter (λ r. not (is_text name 1 r)) (old 5)
-  all_ranges refers lost none = exactly (is_text name 1) (old 5) (new 5) lost
-      (λ x h. range_left name new none x (all_has (λ r. is_null (column r 2) ≡ false) (old 5) x range_placed (has_filtered (λ r. not (lost.picks r)) (old 5) x (subst (λ rows. Has rows x) lost.left h)).0) (all_has _ (new 5) x refers.1.1.1.0 h))
+  all_ranges : Refers All site new → Loses (is_text name 1) (old ranges.tree) (new ranges.tree) → ((x : Row) → Has (new lines.tree) x → is_text name 1 x ≡ false) → new ranges.tree ≡ filter (λ r. not (is_text name 1 r)) (old ranges.tree)
+  all_ranges refers lost none = exactly (is_text name 1) (old ranges.tree) (new ranges.tree) lost
+      (λ x h. range_left name new none x (all_has (λ r. is_null (column r 2) ≡ false) (old ranges.tree) x range_placed (has_filtered (λ r. not (lost.picks r)) (old ranges.tree) x (subst (λ rows. Has rows x) lost.left h)).0) (all_has _ (new ranges.tree) x refers.1.1.1.0 h))
 
 -- ---- the statements
 
@@ -350,7 +350,7 @@ entry_gone old new host count stands h =
     let it = took old new stands delete_entry (Text host ∷ []) count 6 entries refl (where_is 1 0 ∷ []) delete_entry_is delete_entry_plain h refl in (
       it.now_stands,
       λ t held.
-          let out = gone old new stands delete_entry (Text host ∷ []) count 6 entries refl (where_is 1 0 ∷ []) (is_text host 1) it (apart_of entry_key entry_cells entry_places t.entries (db 10) held.entries) (filter_same _ (is_text host 1) (at_text 1 host []) (db 10)) in
+          let out = gone old new stands delete_entry (Text host ∷ []) count 6 entries refl (where_is 1 0 ∷ []) (is_text host 1) it (apart_of entry_key entry_cells entry_places t.entries (db entries.tree) held.entries) (filter_same _ (is_text host 1) (at_text 1 host []) (db entries.tree)) in
           let same : next ≡ out.mid = nothing_due site Enforced out.settles.0 out.mid next (subst (λ stack. Leads site Enforced out.settles.0 out.mid stack (Ok next)) (of_entries out.olds) out.settles.1) in
           subst (λ trees. Holds trees (record t { entries = without (is_about host) t.entries })) (sym same) (holds_entries t db out.mid _ out.kept held (entries_left host t db out.mid held out.rows)),
     )
@@ -363,12 +363,12 @@ lines_gone old new name count stands h =
     let it = took old new stands delete_lines (Text name ∷ []) count 2 lines refl (where_is 1 0 ∷ []) delete_lines_is delete_lines_plain h refl in (
       it.now_stands,
       λ t held.
-          let out = gone old new stands delete_lines (Text name ∷ []) count 2 lines refl (where_is 1 0 ∷ []) (is_text name 1) it (apart_of line_key line_cells line_places t.lines (db 3) held.lines) (filter_same _ (is_text name 1) (at_text 1 name []) (db 3)) in
-          let below : out.mid 5 ≡ db 5 = out.kept.1.1.1.0 refl in
-          let fall = ranges_fall name 0 out.mid next out.olds (subst AreApart (sym below) (apart_of range_key range_cells range_places t.ranges (db 5) held.ranges)) (λ x there. (out.each x there).1) refl out.settles in
-          let own : next 3 ≡ filter (λ r. not (is_text name 1 r)) (db 3) = fall.others.1.1.0 refl ∙ out.rows in
-          let children = all_ranges name t db next held it.refers (subst (λ rows. Loses (is_text name 1) rows (next 5)) below fall.lost) (none_left (is_text name 1) (db 3) (next 3) own) in
-          holds_after_lines t db next _ _ (keeps_more 3 (5 ∷ []) db out.mid next out.kept fall.others) held (lines_left name t db next held own) (ranges_left name t db next held children),
+          let out = gone old new stands delete_lines (Text name ∷ []) count 2 lines refl (where_is 1 0 ∷ []) (is_text name 1) it (apart_of line_key line_cells line_places t.lines (db lines.tree) held.lines) (filter_same _ (is_text name 1) (at_text 1 name []) (db lines.tree)) in
+          let below : out.mid ranges.tree ≡ db ranges.tree = out.kept.1.1.1.0 refl in
+          let fall = ranges_fall name 0 out.mid next out.olds (subst AreApart (sym below) (apart_of range_key range_cells range_places t.ranges (db ranges.tree) held.ranges)) (λ x there. (out.each x there).1) refl out.settles in
+          let own : next lines.tree ≡ filter (λ r. not (is_text name 1 r)) (db lines.tree) = fall.others.1.1.0 refl ∙ out.rows in
+          let children = all_ranges name t db next held it.refers (subst (λ rows. Loses (is_text name 1) rows (next ranges.tree)) below fall.lost) (none_left (is_text name 1) (db lines.tree) (next lines.tree) own) in
+          holds_after_lines t db next _ _ (keeps_more lines.tree (ranges.tree ∷ []) db out.mid next out.kept fall.others) held (lines_left name t db next held own) (ranges_left name t db next held children),
     )
 
 pub system_gone : (old new : State) (name : List ℕ) (count : ℕ) → Stands site old.now → Executes delete_system (Text name ∷ []) old new (Ok count)
@@ -380,17 +380,17 @@ system_gone old new name count stands h =
     let it = took old new stands delete_system (Text name ∷ []) count 1 systems refl (where_is 1 0 ∷ []) delete_system_is delete_system_plain h refl in (
       it.now_stands,
       λ t held.
-          let out = gone old new stands delete_system (Text name ∷ []) count 1 systems refl (where_is 1 0 ∷ []) (is_text name 1) it (apart_of system_key system_cells system_places t.systems (db 1) held.systems) (filter_same _ (is_text name 1) (at_text 1 name []) (db 1)) in
-          let lines_same : out.mid 3 ≡ db 3 = out.kept.1.1.0 refl in
-          let ranges_same : out.mid 5 ≡ db 5 = out.kept.1.1.1.0 refl in
-          let fall = lines_fall name out.mid next out.olds (subst AreApart (sym lines_same) (apart_of line_key line_cells line_places t.lines (db 3) held.lines)) (subst AreApart (sym ranges_same) (apart_of range_key range_cells range_places t.ranges (db 5) held.ranges))
+          let out = gone old new stands delete_system (Text name ∷ []) count 1 systems refl (where_is 1 0 ∷ []) (is_text name 1) it (apart_of system_key system_cells system_places t.systems (db systems.tree) held.systems) (filter_same _ (is_text name 1) (at_text 1 name []) (db systems.tree)) in
+          let lines_same : out.mid lines.tree ≡ db lines.tree = out.kept.1.1.0 refl in
+          let ranges_same : out.mid ranges.tree ≡ db ranges.tree = out.kept.1.1.1.0 refl in
+          let fall = lines_fall name out.mid next out.olds (subst AreApart (sym lines_same) (apart_of line_key line_cells line_places t.lines (db lines.tree) held.lines)) (subst AreApart (sym ranges_same) (apart_of range_key range_cells range_places t.ranges (db ranges.tree) held.ranges))
           (λ x there. (out.each x there).1) out.settles in
-          let own : next 1 ≡ filter (λ r. not (is_text name 1 r)) (db 1) = fall.others.1.0 refl ∙ out.rows in
-          let lost : Loses (is_text name 1) (db 3) (next 3) = subst (λ rows. Loses (is_text name 1) rows (next 3)) lines_same fall.lines in
-          let no_system = none_left (is_text name 1) (db 1) (next 1) own in
-          let children : next 3 ≡ filter (λ r. not (is_text name 1 r)) (db 3) = exactly (is_text name 1) (db 3) (next 3) lost (λ x there. line_left name next no_system x (all_has _ (next 3) x it.refers.1.1.0 there)) in
-          let grandchildren = all_ranges name t db next held it.refers (subst (λ rows. Loses (is_text name 1) rows (next 5)) ranges_same fall.ranges) (none_left (is_text name 1) (db 3) (next 3) children) in
-          holds_after_system t db next _ _ _ (keeps_more 1 (3 ∷ 5 ∷ []) db out.mid next out.kept fall.others) held (systems_left name t db next held own) (lines_left name t db next held children) (ranges_left name t db next held grandchildren),
+          let own : next systems.tree ≡ filter (λ r. not (is_text name 1 r)) (db systems.tree) = fall.others.1.0 refl ∙ out.rows in
+          let lost : Loses (is_text name 1) (db lines.tree) (next lines.tree) = subst (λ rows. Loses (is_text name 1) rows (next lines.tree)) lines_same fall.lines in
+          let no_system = none_left (is_text name 1) (db systems.tree) (next systems.tree) own in
+          let children : next lines.tree ≡ filter (λ r. not (is_text name 1 r)) (db lines.tree) = exactly (is_text name 1) (db lines.tree) (next lines.tree) lost (λ x there. line_left name next no_system x (all_has _ (next lines.tree) x it.refers.1.1.0 there)) in
+          let grandchildren = all_ranges name t db next held it.refers (subst (λ rows. Loses (is_text name 1) rows (next ranges.tree)) ranges_same fall.ranges) (none_left (is_text name 1) (db lines.tree) (next lines.tree) children) in
+          holds_after_system t db next _ _ _ (keeps_more systems.tree (lines.tree ∷ ranges.tree ∷ []) db out.mid next out.kept fall.others) held (systems_left name t db next held own) (lines_left name t db next held children) (ranges_left name t db next held grandchildren),
     )
 
 pub job_gone : (old new : State) (number count : ℕ) → Stands site old.now → Executes delete_job (Int (pos number) ∷ []) old new (Ok count)
@@ -403,18 +403,18 @@ job_gone old new number count stands h =
       it.now_stands,
       λ t held.
           let numbered = held.jobs.numbered in
-          let out = gone old new stands delete_job (Int n ∷ []) count 4 jobs refl (where_is 0 0 ∷ []) (has_rowid n) it (apart_of job_key job_cells job_places t.jobs (db 7) held.jobs)
-          (filter_same_on _ (has_rowid n) (db 7) (all_weaker (λ r. IsTrue (is_int (rowid r))) _ (λ r int. at_key n [] r int) (db 7) numbered)) in
-          let below : out.mid 8 ≡ db 8 = out.kept.1.1.1.1.1.0 refl in
-          let fall = pieces_fall n out.mid next out.olds (subst AreApart (sym below) (apart_of piece_key piece_cells piece_places t.pieces (db 8) held.pieces))
-          (λ x there. let e = out.each x there in number_is n (column x 0) (all_has (λ r. IsTrue (is_int (rowid r))) (db 7) x numbered e.0) e.1) out.settles in
-          let own : next 7 ≡ filter (λ r. not (has_rowid n r)) (db 7) = fall.others.1.1.1.1.0 refl ∙ out.rows in
-          let lost : Loses (is_number number 1) (db 8) (next 8) = subst (λ rows. Loses (is_number number 1) rows (next 8)) below fall.lost in
-          let ints : AllByRecursion (λ r. is_int (column r 1) ≡ true) (db 8) = all_cells piece_key piece_cells piece_places (λ cs. is_int (column cs 0) ≡ true) (λ x. refl) t.pieces (db 8) held.pieces in
-          let children : next 8 ≡ filter (λ r. not (is_number number 1 r)) (db 8) = exactly (is_number number 1) (db 8) (next 8) lost
-          (λ x there. piece_left n next (none_left (has_rowid n) (db 7) (next 7) own) x
-          (all_has (λ r. is_int (column r 1) ≡ true) (db 8) x ints (has_filtered (λ r. not (lost.picks r)) (db 8) x (subst (λ rows. Has rows x) lost.left there)).0) (all_has _ (next 8) x it.refers.1.1.1.1.1.0 there)) in
-          holds_after_job t db next _ _ (keeps_more 7 (8 ∷ []) db out.mid next out.kept fall.others) held
-          (subst (AreJobs _) (sym own) (fewer job_key job_cells job_places (has_number number) (has_rowid n) (is_number number 0) (λ x. number_test number x.number) (λ r. refl) t.jobs (db 7) held.jobs))
-          (subst (ArePieces _) (sym children) (fewer piece_key piece_cells piece_places (is_piece_of number) (is_number number 1) (is_number number 0) (λ x. number_test number x.job) (λ r. refl) t.pieces (db 8) held.pieces)),
+          let out = gone old new stands delete_job (Int n ∷ []) count 4 jobs refl (where_is 0 0 ∷ []) (has_rowid n) it (apart_of job_key job_cells job_places t.jobs (db jobs.tree) held.jobs)
+          (filter_same_on _ (has_rowid n) (db jobs.tree) (all_weaker (λ r. IsTrue (is_int (rowid r))) _ (λ r int. at_key n [] r int) (db jobs.tree) numbered)) in
+          let below : out.mid pieces.tree ≡ db pieces.tree = out.kept.1.1.1.1.1.0 refl in
+          let fall = pieces_fall n out.mid next out.olds (subst AreApart (sym below) (apart_of piece_key piece_cells piece_places t.pieces (db pieces.tree) held.pieces))
+          (λ x there. let e = out.each x there in number_is n (column x 0) (all_has (λ r. IsTrue (is_int (rowid r))) (db jobs.tree) x numbered e.0) e.1) out.settles in
+          let own : next jobs.tree ≡ filter (λ r. not (has_rowid n r)) (db jobs.tree) = fall.others.1.1.1.1.0 refl ∙ out.rows in
+          let lost : Loses (is_number number 1) (db pieces.tree) (next pieces.tree) = subst (λ rows. Loses (is_number number 1) rows (next pieces.tree)) below fall.lost in
+          let ints : AllByRecursion (λ r. is_int (column r 1) ≡ true) (db pieces.tree) = all_cells piece_key piece_cells piece_places (λ cs. is_int (column cs 0) ≡ true) (λ x. refl) t.pieces (db pieces.tree) held.pieces in
+          let children : next pieces.tree ≡ filter (λ r. not (is_number number 1 r)) (db pieces.tree) = exactly (is_number number 1) (db pieces.tree) (next pieces.tree) lost
+          (λ x there. piece_left n next (none_left (has_rowid n) (db jobs.tree) (next jobs.tree) own) x
+          (all_has (λ r. is_int (column r 1) ≡ true) (db pieces.tree) x ints (has_filtered (λ r. not (lost.picks r)) (db pieces.tree) x (subst (λ rows. Has rows x) lost.left there)).0) (all_has _ (next pieces.tree) x it.refers.1.1.1.1.1.0 there)) in
+          holds_after_job t db next _ _ (keeps_more jobs.tree (pieces.tree ∷ []) db out.mid next out.kept fall.others) held
+          (subst (AreJobs _) (sym own) (fewer job_key job_cells job_places (has_number number) (has_rowid n) (is_number number 0) (λ x. number_test number x.number) (λ r. refl) t.jobs (db jobs.tree) held.jobs))
+          (subst (ArePieces _) (sym children) (fewer piece_key piece_cells piece_places (is_piece_of number) (is_number number 1) (is_number number 0) (λ x. number_test number x.job) (λ r. refl) t.pieces (db pieces.tree) held.pieces)),
     )

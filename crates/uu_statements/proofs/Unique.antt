@@ -22,7 +22,7 @@ use Rattle.sqlite_keyed.proofs.ListLemmas.{none_from_any}
 use Rattle.uu_sql.specs.Rowids.{AreNumbered}
 use Rattle.uu_sql.proofs.Rows.{not_false, put_permutes}
 use Rattle.uu_sql.proofs.Rowids.{has_moved}
-use Rattle.uu_schema.specs.Schema.{site}
+use Rattle.uu_schema.specs.Schema.{site, systems, lines, ranges, pieces, entries}
 
 turned : (o : Ordering) → is_eq o ≡ false → is_ne (ordering_reverse o) ≡ true
 turned Less h = refl
@@ -63,20 +63,20 @@ fresh_key places r rows int numbered free unique s there =
 no_reference : Unique ≢ ForeignKey
 no_reference e = absurd (cc)
 
-pub unique_systems : (db : Trees) → Fits site db → (s : Row) → Has (db 1) s → clashes plain (1 ∷ []) (db 1) s ≡ false
-unique_systems db fits s there = not_false _ (and_parts _ true (all_has _ (db 1) s (fits.rules Unique no_reference).1.0 there)).0
+pub unique_systems : (db : Trees) → Fits site db → (s : Row) → Has (db systems.tree) s → clashes plain (1 ∷ []) (db systems.tree) s ≡ false
+unique_systems db fits s there = not_false _ (and_parts _ true (all_has _ (db systems.tree) s (fits.rules Unique no_reference).1.0 there)).0
 
-pub unique_lines : (db : Trees) → Fits site db → (s : Row) → Has (db 3) s → clashes plain (1 ∷ 2 ∷ []) (db 3) s ≡ false
-unique_lines db fits s there = not_false _ (and_parts _ true (all_has _ (db 3) s (fits.rules Unique no_reference).1.1.0 there)).0
+pub unique_lines : (db : Trees) → Fits site db → (s : Row) → Has (db lines.tree) s → clashes plain (1 ∷ 2 ∷ []) (db lines.tree) s ≡ false
+unique_lines db fits s there = not_false _ (and_parts _ true (all_has _ (db lines.tree) s (fits.rules Unique no_reference).1.1.0 there)).0
 
-pub unique_ranges : (db : Trees) → Fits site db → (s : Row) → Has (db 5) s → clashes plain (1 ∷ 2 ∷ 3 ∷ []) (db 5) s ≡ false
-unique_ranges db fits s there = not_false _ (and_parts _ true (all_has _ (db 5) s (fits.rules Unique no_reference).1.1.1.0 there)).0
+pub unique_ranges : (db : Trees) → Fits site db → (s : Row) → Has (db ranges.tree) s → clashes plain (1 ∷ 2 ∷ 3 ∷ []) (db ranges.tree) s ≡ false
+unique_ranges db fits s there = not_false _ (and_parts _ true (all_has _ (db ranges.tree) s (fits.rules Unique no_reference).1.1.1.0 there)).0
 
-pub unique_pieces : (db : Trees) → Fits site db → (s : Row) → Has (db 8) s → clashes plain (1 ∷ 2 ∷ []) (db 8) s ≡ false
-unique_pieces db fits s there = not_false _ (and_parts _ true (all_has _ (db 8) s (fits.rules Unique no_reference).1.1.1.1.1.0 there)).0
+pub unique_pieces : (db : Trees) → Fits site db → (s : Row) → Has (db pieces.tree) s → clashes plain (1 ∷ 2 ∷ []) (db pieces.tree) s ≡ false
+unique_pieces db fits s there = not_false _ (and_parts _ true (all_has _ (db pieces.tree) s (fits.rules Unique no_reference).1.1.1.1.1.0 there)).0
 
-pub unique_entries : (db : Trees) → Fits site db → (s : Row) → Has (db 10) s → clashes plain (1 ∷ []) (db 10) s ≡ false
-unique_entries db fits s there = not_false _ (and_parts _ true (all_has _ (db 10) s (fits.rules Unique no_reference).1.1.1.1.1.1.0 there)).0
+pub unique_entries : (db : Trees) → Fits site db → (s : Row) → Has (db entries.tree) s → clashes plain (1 ∷ []) (db entries.tree) s ≡ false
+unique_entries db fits s there = not_false _ (and_parts _ true (all_has _ (db entries.tree) s (fits.rules Unique no_reference).1.1.1.1.1.1.0 there)).0
 
 -- ---- rows of one key agree
 

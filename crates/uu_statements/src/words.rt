@@ -1,6 +1,7 @@
 // What a job is for, as its row has it.
 ghost use Rattle.std.specs.Prelude.{◌≡◌, IfOk, string_bytes};
 ghost use Rattle.std.specs.List.{join_with_byte};
+ghost use Rattle.uu_names.specs.Text.{space};
 ghost use Rattle.uu_statements.specs.Words.{IsWork};
 
 use std::alloc::{AllocError, Global};
@@ -26,7 +27,7 @@ pub(crate) struct Work<'a> {
 
 // The words with one space between two.
 fn joined(alloc: Global, words: &[Word]) -> Result<String, AllocError>
-    ensures text { IfOk result (λ text. string_bytes text ≡ join_with_byte 32 words.now) }
+    ensures text { IfOk result (λ text. string_bytes text ≡ join_with_byte space words.now) }
 {
     let mut text = String::new(alloc);
     for (at, word) in words.iter().enumerate() {

@@ -12,7 +12,7 @@ use Rattle.uu_core.specs.declared.system.SystemRow.{SystemRow}
 use Rattle.uu_core.specs.declared.refusal.Refusal.TheVariants.{NoSystem}
 use Rattle.uu_core.specs.Refusal.{first_reason}
 use Rattle.uu_core.specs.Verdict.{verdict}
-use Rattle.uu_core.specs.State.{State, Job, head_of, is_system, system_at}
+use Rattle.uu_core.specs.State.{State, Job, head_of, is_system, system_at, most_wait}
 use Rattle.uu_core.specs.Waiting.{one_more}
 use Rattle.uu_core.specs.After.{accept, failed_call, failed_decision, done_call, is_among}
 use Rattle.uu_tables.specs.declared.change.Change.TheVariants.{RemoveJob}
@@ -83,7 +83,7 @@ failed s name at why row ordered found =
 
 -- ---- the wait after a call that failed
 
-pub wait_is_within : (row : SystemRow) (at : Moment) (why : List ℕ) (result : Result CallState Refusal) → result ≡ Ok (failed_call row at why) → AreWithinLimits row.def.lines row.def.max_retries → IfOk result (λ call. call.wait ≤ 31536000)
+pub wait_is_within : (row : SystemRow) (at : Moment) (why : List ℕ) (result : Result CallState Refusal) → result ≡ Ok (failed_call row at why) → AreWithinLimits row.def.lines row.def.max_retries → IfOk result (λ call. call.wait ≤ most_wait)
 wait_is_within row at why result is limits = rw is (wait_within row.def at.week (one_more row.call.failures) limits)
 
 -- ---- what is decided on a call that failed

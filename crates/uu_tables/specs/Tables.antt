@@ -91,6 +91,10 @@ piece_bytes = 16384
 abbrev pub piece : ℕ → List ℕ → ℕ → Piece
 piece number all place = record { job = number; place = place; bytes = take piece_bytes (drop (place * piece_bytes) all) }
 
+-- the most pieces of a job, as many as its most bytes have
+abbrev pub most_pieces : ℕ
+most_pieces = 64
+
 -- how many pieces so many bytes have
 abbrev pub piece_count : ℕ → ℕ
 piece_count size = (size + 16383) / piece_bytes

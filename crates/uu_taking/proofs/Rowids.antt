@@ -1,6 +1,6 @@
 -- Rowids that rise, and what they say of the rows of a table.
-use Rattle.std.proofs.Common.{◌≡◌, inl, inr, ℕ, ℤ, List, [], ◌∷◌, Bool, true, false, map, filter, refl, sym, ap, subst, ◌∙◌, arith, Ordering, Less, Equal, Greater, int_cmp}
-use Rattle.std.specs.Prelude.{IsTrue, ◌<ℤ◌, int_lt}
+use Rattle.std.proofs.Common.{◌≡◌, inl, inr, ℕ, ℤ, List, [], ◌∷◌, Bool, true, false, ◌&&◌, map, filter, refl, sym, ap, subst, ◌∙◌, arith, Ordering, Less, Equal, Greater, int_cmp}
+use Rattle.std.specs.Prelude.{◌↔◌, IsTrue, ◌<ℤ◌, int_lt}
 use Rattle.std.specs.List.{AllByRecursion}
 use Rattle.std.specs.List.Sorted.{IsPermutation}
 use Rattle.std.specs.Ordering.{is_eq}
@@ -29,11 +29,20 @@ use Rattle.uu_sql.proofs.Rowids.{has_moved}
 use Rattle.uu_sql.proofs.Sorted.{IsPermutation-insert_sorted, rises-insert_sorted}
 use Rattle.uu_sql.proofs.Answers.{answer_moved, answer_sorted}
 use Rattle.uu_taking.specs.declared.integer.Integer.{Integer}
-use Rattle.uu_taking.specs.Taking.{id_cells, rise, rise_from, AreRowids}
+use Rattle.uu_taking.specs.Taking.{id_cells, Rise, AreRowids}
 use Rattle.uu_rows.proofs.Meanings.{at_places, by_places}
 use Rattle.uu_taking.proofs.Meanings.{rowids_of}
 
 -- ---- the test
+
+-- each is below the next
+abbrev pub rise_from : ℤ → List Integer → Bool
+rise_from last [] = true
+rise_from last (id ∷ ids) = int_lt last id.value && rise_from id.value ids
+
+abbrev pub rise : List Integer → Bool
+rise [] = true
+rise (id ∷ ids) = rise_from id.value ids
 
 int_lower : (a b : ℤ) → a <ℤ b → int_lt a b ≡ true
 int_lower a b h = grind (arith, ints)
@@ -67,6 +76,10 @@ does_rise_from last (id ∷ ids) h k = rw (int_lower last id.value h.0) (does_ri
 pub does_rise : (ids : List Integer) → IsAscending Below ids → rise ids ≡ true
 does_rise [] h = refl
 does_rise (id ∷ ids) h = does_rise_from id.value ids h.0 h.1
+
+-- a test that computes whether they rise tells it
+pub as_rise : (b : Bool) (ids : List Integer) → b ≡ rise ids → IsTrue b ↔ Rise ids
+as_rise b ids is = (λ yes. risen ids (sym is ∙ yes), λ up. is ∙ does_rise ids up)
 
 pub same_ids : (xs ys : List Integer) → map id_cells xs ≡ map id_cells ys → xs ≡ ys
 same_ids [] [] h = refl

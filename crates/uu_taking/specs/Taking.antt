@@ -1,5 +1,5 @@
 -- What the questions on every row of a table answer, when a database is looked at as a spool.
-use Rattle.std.specs.Prelude.{◌≡◌, ◌<ℤ◌, ℤ, ℕ, pos, int_lt, Bool, true, false, ◌&&◌, List, [], ◌∷◌, Vec, Option, map, Result, IfOk, OnOk, IfSome, MatchOption}
+use Rattle.std.specs.Prelude.{◌≡◌, ◌<ℤ◌, ℕ, pos, Bool, true, false, List, [], ◌∷◌, Vec, Option, map, Result, IfOk, OnOk, IfSome, MatchOption}
 use Rattle.std.specs.declared.alloc.Global.{Global}
 use Rattle.std.specs.declared.cmp.Ordering.{Ordering}
 use Rattle.std.specs.declared.cmp.Ordering.TheVariants.{Less}
@@ -28,19 +28,14 @@ use Rattle.uu_taking.specs.declared.integer.Integer.{Integer}
 abbrev pub id_cells : Integer → Row
 id_cells id = Int id.value ∷ []
 
--- each is below the next
-abbrev pub rise_from : ℤ → List Integer → Bool
-rise_from last [] = true
-rise_from last (id ∷ ids) = int_lt last id.value && rise_from id.value ids
-
-abbrev pub rise : List Integer → Bool
-rise [] = true
-rise (id ∷ ids) = rise_from id.value ids
+-- each is below those behind it
+abbrev pub Rise : List Integer → Type 0
+Rise ids = IsAscending (λ a b. a.value <ℤ b.value) ids
 
 pub record AreRowids (rows : List Row) : Type 0 where
   pub ids : List Integer
   pub rows_are : rows ≡ map id_cells ids
-  pub rising : IsAscending (λ (a b : Integer). a.value <ℤ b.value) ids
+  pub rising : Rise ids
 
 -- ---- a table's rows as typed rows
 

@@ -1,14 +1,15 @@
 // Every row of each table, read when a database is looked at as a spool.
-ghost use Rattle.std.specs.Prelude.{◌≡◌, ◌<ℤ◌, true, false, ℤ, List, map, Ok, Err, IfOk, MatchOption};
+ghost use Rattle.std.specs.Prelude.{◌≡◌, ◌↔◌, true, false, List, map, Ok, Err, IfOk, IfErr, IsTrue, MatchOption};
 ghost use Rattle.std.specs.List.{AllByRecursion};
-ghost use Rattle.sqlite.specs.Tree.{IsAscending};
+ghost use Rattle.sqlite.specs.declared.error.Error.TheVariants.{SqliteFailure};
+ghost use Rattle.sqlite.specs.declared.error.ErrorCode.TheVariants.{OutOfMemory};
 ghost use Rattle.sqlite.specs.Held.{state};
 ghost use Rattle.uu_schema.specs.Schema.{systems, lines, ranges, jobs, pieces, entries};
 ghost use Rattle.uu_schema.specs.Held.{system_key, line_key, range_key, job_key, entry_key, system_places, line_places, range_places, job_places, entry_places};
 ghost use Rattle.uu_schema.specs.Cells.{system_cells, line_cells, range_cells, job_cells, entry_cells};
 ghost use Rattle.uu_rows.specs.Readable.{IsSystem, IsLine, IsRange, IsHead, IsEntry};
 ghost use Rattle.uu_rows.specs.Order.{system_cmp, line_cmp, range_cmp, head_cmp, entry_cmp};
-ghost use Rattle.uu_taking.specs.Taking.{id_cells, rise, rise_from, AreRowids, IsRead, Finds, FindsSizes, Takes};
+ghost use Rattle.uu_taking.specs.Taking.{Rise, AreRowids, IsRead, Finds, FindsSizes, Takes};
 
 use crate::asks::{
     ask_entries, ask_entry_rowids, ask_heads, ask_job_rowids, ask_line_rowids, ask_piece_rowids,
@@ -23,7 +24,7 @@ use uu_tables::{EntryColumns, LineColumns, PieceSize, RangeColumns, SystemColumn
 
 // Whether each rowid is below the next.
 fn rises(ids: &[Integer]) -> bool
-    ensures { result ≡ rise ids.now }
+    ensures { IsTrue result ↔ Rise ids.now }
 {
     let Some((first, rest)) = ids.split_first() else {
         return true;
@@ -63,7 +64,8 @@ fn typed<T: TypedRow>(alloc: Global, rows: &[Row], ids: &[Row]) -> Result<Vec<T>
 
 // The same, where want of memory is an error, and rows that are not typed rows are none.
 fn found<T: TypedRow>(alloc: Global, rows: &[Row], ids: &[Row]) -> Result<Option<Vec<T>>, Error>
-    ensures { IfOk result (IsRead T.cells T.IsReadable rows.now ids.now) }
+    ensures read { IfOk result (IsRead T.cells T.IsReadable rows.now ids.now) }
+    ensures memory { IfErr result (λ error. error ≡ SqliteFailure OutOfMemory) }
 {
     match typed(alloc, rows, ids) {
         Ok(all) => Ok(Some(all)),

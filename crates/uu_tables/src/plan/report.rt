@@ -1,7 +1,7 @@
 // Reports of calls.
 ghost use Rattle.std.specs.Prelude.{◌≡◌, ◌≤◌, List, IfOk, option_copied};
 ghost use Rattle.uu_core.specs.declared.command.Command.TheVariants.{Failed, Done};
-ghost use Rattle.uu_core.specs.State.{State, IsWellFormed, last_second};
+ghost use Rattle.uu_core.specs.State.{State, IsWellFormed, last_second, most_wait};
 ghost use Rattle.uu_core.specs.declared.job.JobHead.{JobHead};
 ghost use Rattle.uu_core.specs.Refusal.{decided};
 ghost use Rattle.uu_core.specs.Verdict.{done_refusal};
@@ -36,7 +36,7 @@ fn outcome_columns(outcome: Outcome) -> (u32, Option<Word>)
 // The columns of calls whose numbers are within their limits.
 fn call_columns(call: CallState) -> CallColumns
     requires last { call.last ≤ last_second }
-    requires wait { call.wait ≤ 31536000 }
+    requires wait { call.wait ≤ most_wait }
     ensures { result ≡ call_columns call }
 {
     let (outcome, why) = outcome_columns(call.outcome);
@@ -53,7 +53,7 @@ fn call_columns(call: CallState) -> CallColumns
 fn failed_call(system: Option<&SystemRow>, at: &Moment, why: Word) -> Result<CallState, Refusal>
     ensures call { result ≡ failed_decision (option_copied system.entry) at.now why }
     ensures last { IfOk result (λ call. call.last ≤ last_second) }
-    ensures wait { IfOk result (λ call. call.wait ≤ 31536000) }
+    ensures wait { IfOk result (λ call. call.wait ≤ most_wait) }
 {
     if let Some(row) = system {
         let _ = row.def.lines();
@@ -98,7 +98,7 @@ fn done_call(
     jobs: &[u32],
 ) -> Result<CallState, Refusal>
     ensures last { IfOk result (λ call. call.last ≤ last_second) }
-    ensures wait { IfOk result (λ call. call.wait ≤ 31536000) }
+    ensures wait { IfOk result (λ call. call.wait ≤ most_wait) }
     ensures call { (all : List JobHead) → AreFound jobs.now all facts.now.found.items → result ≡ decided (done_refusal facts.now.is_known system.now jobs.now all) (done_call at.now) }
 {
     named_jobs_decide();

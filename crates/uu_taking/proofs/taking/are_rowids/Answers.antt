@@ -1,15 +1,15 @@
-use Rattle.std.proofs.Common.{◌≡◌, true, false, true≢false, sym, ap, ◌∙◌}
-use Rattle.uu_taking.specs.Taking.{rise}
-use Rattle.uu_taking.proofs.Rowids.{risen, does_rise, same_ids}
+use Rattle.std.proofs.Common.{◌≡◌, true, false, true≢false, sym, subst, ◌∙◌}
+use Rattle.uu_taking.specs.Taking.{Rise}
+use Rattle.uu_taking.proofs.Rowids.{same_ids}
 use Rattle.uu_taking.proofs.taking.are_rowids.Goals as goal
 
 pub returns-clause-yes : goal.returns-clause-yes
 returns-clause-yes c is =
     let yes : c.rises.result ≡ true = cc in
-    record { ids = c.in_ok-ids.ids.items; rows_are = c.in_ok-ids.ensures.rows; rising = risen c.in_ok-ids.ids.items (ap rise (sym c.deref.ensures.value) ∙ sym c.rises.ensures ∙ yes) }
+    record { ids = c.in_ok-ids.ids.items; rows_are = c.in_ok-ids.ensures.rows; rising = subst Rise c.deref.ensures.value (c.rises.ensures.0 yes) }
 
 pub returns-clause-none : goal.returns-clause-none
 returns-clause-none c is it =
     let none : c.rises.result ≡ false = cc in
     let same = same_ids it.ids c.in_ok-ids.ids.items (sym it.rows_are ∙ c.in_ok-ids.ensures.rows) in
-    true≢false (sym (does_rise it.ids it.rising) ∙ ap rise (same ∙ sym c.deref.ensures.value) ∙ sym c.rises.ensures ∙ none)
+    true≢false (sym (c.rises.ensures.1 (subst Rise (same ∙ sym c.deref.ensures.value) it.rising)) ∙ none)

@@ -1,5 +1,5 @@
 use Rattle.std.proofs.Common.{◌≡◌, drop}
-use Rattle.uu_taking.specs.Taking.{rise, rise_from}
+use Rattle.uu_taking.proofs.Rowids.{rise, rise_from}
 use Rattle.uu_taking.proofs.taking.rises.Given as goal
 
 abbrev pub invariant-loop-id : goal.invariant-loop-id

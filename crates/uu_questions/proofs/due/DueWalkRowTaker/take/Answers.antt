@@ -4,5 +4,5 @@ use Rattle.uu_questions.proofs.due.DueWalkRowTaker.take.Goals as goal
 
 pub returns : goal.returns
 returns c may due row left =
-    let same = c.in_ok-due.ensures due row in
+    let same = c.in_ok-due.ensures.due due row in
     let it = c.in_ok-offer.ensures may left in (it.0, it.1 ∙ ap (with_due may c.args.self.now.dues.items) same)
