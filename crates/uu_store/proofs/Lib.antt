@@ -20,3 +20,4 @@ pub mod Accounting
 pub mod Images
 pub mod Opening
 pub mod FileRuns
+pub mod Closing

@@ -20,7 +20,8 @@ use Rattle.uu_tables.specs.declared.rows.LineColumns.{LineColumns}
 use Rattle.uu_tables.specs.declared.rows.RangeColumns.{RangeColumns}
 use Rattle.uu_tables.specs.declared.rows.EntryColumns.{EntryColumns}
 use Rattle.uu_tables.specs.Tables.{Tables, Piece, tables_of}
-use Rattle.uu_check.specs.Order.{line_cmp, range_cmp, piece_cmp, AreInOrder}
+use Rattle.uu_tables.specs.Order.{line_cmp, range_cmp, piece_cmp}
+use Rattle.uu_check.specs.Order.{AreInOrder}
 use Rattle.uu_check.specs.Readable.{IsJobRow, AreReadable}
 use Rattle.uu_schema.specs.Held.{Holds}
 use Rattle.uu_schema.specs.Cells.{system_cells, line_cells, range_cells, job_cells, piece_cells, entry_cells}

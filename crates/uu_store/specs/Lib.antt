@@ -13,3 +13,4 @@ pub mod Acknowledged
 pub mod Remembered
 pub mod Openings
 pub mod Files
+pub mod Closing

@@ -3,6 +3,7 @@
 
 mod adopt;
 mod asked;
+mod close;
 mod inspection;
 pub mod laws;
 mod open;

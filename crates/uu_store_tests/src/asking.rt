@@ -1,10 +1,12 @@
-// Stops of a disk from the last command on, while questions are asked and the spool is let go: what is opened afterwards is the state shown.
-// The pages of so small a spool are all in memory by then, so the questions make no call of the files.
-use crate::disk::{Place, Stop, Visitor, nothing, visit_files};
+// Stops of a disk while questions are asked of a spool that earlier commands left there, and while it is let go: what is opened afterwards is
+// the state shown. Few pages are kept in memory, so that the questions read the files.
+use crate::disk::{
+    Contents, FEW_PAGES, LONG_LOG, Place, SHORTEST_LOG, Stop, Use, Visitor, nothing, visit_files,
+};
 use crate::order::MONDAY;
 use crate::questions::{Question, asked, told, told_picture};
 use crate::scripts::{TWO_SYSTEMS, commands, machine_after};
-use crate::visitors::{expect_failed, expect_shown, expect_stopped};
+use crate::visitors::{Pass, expect_failed, expect_shown, expect_stopped};
 use sqlite::Alter;
 use std::alloc::Global;
 use std::process::Abort;
@@ -23,24 +25,39 @@ const QUESTIONS: [Question; 6] = [
     Question::Next,
 ];
 
-/// Gives a spool commands, and asks until a question is not answered.
+/// Gives a spool the commands.
+#[derive(Drop)]
+struct Prepare {}
+
+impl Visitor for Prepare {
+    fn visit<R: Abort, S: Alter>(&mut self, rt: &R, alloc: Global, spool: &mut Spool<S>) {
+        let end = spool.run(alloc, commands(rt, alloc, TWO_SYSTEMS, GIVEN));
+        assert_eq!(rt; end.stopped, None);
+    }
+}
+
+/// What the files hold after the commands: nearly all pages in this one.
+fn prepared(rt: &impl Abort, alloc: Global, place: Place) -> Contents {
+    let options = match place {
+        Place::Log => LONG_LOG,
+        Place::Database => SHORTEST_LOG,
+    };
+    let used = Use::unstopped(options);
+    visit_files(rt, alloc, &nothing(alloc), used, &mut Prepare {}).synced
+}
+
+/// Asks until a question is not answered.
 #[derive(Drop)]
 struct Ask {
     /// The answers to the questions, as the machine gives them.
     wanted: Vec<String>,
-    /// Whether all commands were answered.
-    given: bool,
-    /// How many questions were.
+    /// How many questions were answered.
     answered: usize,
 }
 
 impl Visitor for Ask {
     fn visit<R: Abort, S: Alter>(&mut self, rt: &R, alloc: Global, spool: &mut Spool<S>) {
-        let end = spool.run(alloc, commands(rt, alloc, TWO_SYSTEMS, GIVEN));
-        self.given = end.stopped.is_none();
-        if self.given {
-            self.answered = answered(rt, alloc, spool, &self.wanted);
-        }
+        self.answered = answered(rt, alloc, spool, &self.wanted);
     }
 }
 
@@ -72,25 +89,49 @@ fn new_ask(rt: &impl Abort, alloc: Global, machine: &Machine) -> Ask {
     }
     Ask {
         wanted,
-        given: false,
         answered: 0,
     }
 }
 
-/// Whether the commands are all answered before a stop.
-fn gives_all(rt: &impl Abort, alloc: Global, machine: &Machine, stop: Stop) -> bool {
-    let mut ask = new_ask(rt, alloc, machine);
-    visit_files(rt, alloc, &nothing(alloc), stop, &mut ask);
-    ask.given
+/// The spool that is asked.
+#[derive(Drop)]
+struct Asked {
+    contents: Contents,
+    machine: Machine,
+    /// What is shown.
+    picture: String,
 }
 
-/// The fewest calls of a file with which all commands are answered.
-fn fewest_calls(rt: &impl Abort, alloc: Global, machine: &Machine, place: Place) -> u64 {
+fn new_asked(rt: &impl Abort, alloc: Global, place: Place) -> Asked {
+    let machine = machine_after(rt, alloc, TWO_SYSTEMS, GIVEN);
+    let picture = told_picture(rt, alloc, &machine);
+    Asked {
+        contents: prepared(rt, alloc, place),
+        machine,
+        picture,
+    }
+}
+
+/// Whether the spool is opened before a stop.
+fn is_opened(rt: &impl Abort, alloc: Global, asked: &Asked, stop: Stop) -> bool {
+    let options = FEW_PAGES;
+    visit_files(
+        rt,
+        alloc,
+        &asked.contents,
+        Use { options, stop },
+        &mut Pass {},
+    )
+    .taken
+}
+
+/// The fewest calls of a file with which the spool is opened.
+fn fewest_calls(rt: &impl Abort, alloc: Global, asked: &Asked, place: Place) -> u64 {
     let mut low = 0u64;
-    let mut high = 4096u64;
-    for _ in 0..12 {
+    let mut high = 65_536u64;
+    for _ in 0..16 {
         let calls = low.midpoint(high);
-        if gives_all(rt, alloc, machine, Stop { place, calls }) {
+        if is_opened(rt, alloc, asked, Stop { place, calls }) {
             high = calls;
         } else {
             low = calls;
@@ -99,42 +140,66 @@ fn fewest_calls(rt: &impl Abort, alloc: Global, machine: &Machine, place: Place)
     high
 }
 
-/// A stop after the commands: whether all questions were answered.
-fn stop_at(rt: &impl Abort, alloc: Global, machine: &Machine, stop: Stop, picture: &str) -> bool {
-    let mut ask = new_ask(rt, alloc, machine);
-    let visit = visit_files(rt, alloc, &nothing(alloc), stop, &mut ask);
-    assert!(rt; ask.given, "a command is not answered");
-    expect_shown(rt, alloc, &visit.synced, picture);
-    expect_shown(rt, alloc, &visit.written, picture);
-    ask.answered == QUESTIONS.len()
+/// A stop while the opened spool is asked and let go: how many questions were answered. What is left is what the stop before left, or else it is
+/// opened and shown.
+fn stop_at(
+    rt: &impl Abort,
+    alloc: Global,
+    asked: &Asked,
+    stop: Stop,
+    before: &mut Contents,
+) -> usize {
+    let options = FEW_PAGES;
+    let mut ask = new_ask(rt, alloc, &asked.machine);
+    let visit = visit_files(rt, alloc, &asked.contents, Use { options, stop }, &mut ask);
+    assert!(rt; visit.taken, "not opened");
+    if !visit.synced.is_same(before) {
+        expect_shown(rt, alloc, &visit.synced, asked.picture.as_str());
+    }
+    if !visit.written.is_same(before) {
+        expect_shown(rt, alloc, &visit.written, asked.picture.as_str());
+    }
+    *before = visit.synced;
+    ask.answered
 }
 
-/// Stops at each call of one file from the last command on, and at ten calls more than the questions make.
-fn stop_at_each_call(rt: &impl Abort, alloc: Global, place: Place) -> u64 {
-    let machine = machine_after(rt, alloc, TWO_SYSTEMS, GIVEN);
-    let picture = told_picture(rt, alloc, &machine);
-    let first = fewest_calls(rt, alloc, &machine, place);
+/// Stops at each call of one file from the first question on, until all are answered, and at ten calls more, of which there are none: how
+/// many questions were answered before the stops, each number once.
+fn stop_at_each_call(rt: &impl Abort, alloc: Global, place: Place) -> Vec<usize> {
+    let asked = new_asked(rt, alloc, place);
+    let first = fewest_calls(rt, alloc, &asked, place);
+    let mut before = nothing(alloc);
+    let mut reached = Vec::new(alloc);
     let mut whole = 0u32;
-    for more in 0..1_000 {
+    for more in 0..10_000 {
         let calls = first.saturating_add(more);
-        if stop_at(rt, alloc, &machine, Stop { place, calls }, picture.as_str()) {
+        let answered = stop_at(rt, alloc, &asked, Stop { place, calls }, &mut before);
+        if reached.last() != Some(&answered) {
+            reached.push(answered).expect(rt, "memory");
+        }
+        if answered == QUESTIONS.len() {
             whole = whole.saturating_add(1);
         }
         if whole > 10 {
-            return more;
+            return reached;
         }
     }
     panic!(rt; "the questions do not end")
 }
 
-#[test]
-fn questions_and_stops_of_the_log(rt: HostRuntime) {
-    let n = stop_at_each_call(&rt, rt.alloc(), Place::Log);
-    println!(rt; "calls {n}").expect(&rt, "out");
+/// Stops fall where so many questions are answered, and some after the last.
+fn expect_stops_after(rt: &impl Abort, alloc: Global, place: Place, answered: &[usize]) {
+    let reached = stop_at_each_call(rt, alloc, place);
+    assert_eq!(rt; reached.as_slice(), answered);
 }
 
 #[test]
+fn questions_and_stops_of_the_log(rt: HostRuntime) {
+    expect_stops_after(&rt, rt.alloc(), Place::Log, &[0, 1, 2, 3, 4, 5, 6]);
+}
+
+// The first question finds all that it asks for in the log.
+#[test]
 fn questions_and_stops_of_the_database(rt: HostRuntime) {
-    let n = stop_at_each_call(&rt, rt.alloc(), Place::Database);
-    println!(rt; "calls {n}").expect(&rt, "out");
+    expect_stops_after(&rt, rt.alloc(), Place::Database, &[1, 2, 3, 4, 5, 6]);
 }

@@ -21,11 +21,55 @@ pub(crate) struct Stop {
     pub(crate) calls: u64,
 }
 
-/// Every call is answered.
-pub(crate) const NEVER: Stop = Stop {
-    place: Place::Log,
-    calls: u64::MAX,
+/// All pages stay in memory, and a log of eight frames is copied into the database file before the next transaction.
+pub(crate) const SHORT_LOG: Options = Options {
+    cache_pages: 2_000,
+    spill_pages: 4,
+    checkpoint_frames: 8,
+    seed: 7,
 };
+
+/// All pages stay in memory, and the log is copied into the database file before each transaction.
+pub(crate) const SHORTEST_LOG: Options = Options {
+    cache_pages: 2_000,
+    spill_pages: 2_000,
+    checkpoint_frames: 1,
+    seed: 7,
+};
+
+/// All pages stay in memory, and the log is never copied.
+pub(crate) const LONG_LOG: Options = Options {
+    cache_pages: 2_000,
+    spill_pages: 2_000,
+    checkpoint_frames: 10_000,
+    seed: 7,
+};
+
+/// Eight pages stay in memory, so that questions read the files.
+pub(crate) const FEW_PAGES: Options = Options {
+    cache_pages: 8,
+    spill_pages: 4,
+    checkpoint_frames: 8,
+    seed: 7,
+};
+
+/// How the files are used, and when one of them stops.
+#[derive(Clone, Copy)]
+pub(crate) struct Use {
+    pub(crate) options: Options,
+    pub(crate) stop: Stop,
+}
+
+impl Use {
+    /// Every call is answered.
+    pub(crate) fn unstopped(options: Options) -> Use {
+        let stop = Stop {
+            place: Place::Log,
+            calls: u64::MAX,
+        };
+        Use { options, stop }
+    }
+}
 
 /// What the two files hold.
 #[derive(Drop)]
@@ -35,8 +79,12 @@ pub(crate) struct Contents {
 }
 
 impl Contents {
+    pub(crate) fn has_same_database(&self, other: &Contents) -> bool {
+        self.db.as_slice() == other.db.as_slice()
+    }
+
     pub(crate) fn is_same(&self, other: &Contents) -> bool {
-        self.log.as_slice() == other.log.as_slice() && self.db.as_slice() == other.db.as_slice()
+        self.log.as_slice() == other.log.as_slice() && self.has_same_database(other)
     }
 }
 
@@ -67,10 +115,11 @@ pub(crate) fn visit_files<R: Abort, V: Visitor>(
     rt: &R,
     alloc: Global,
     contents: &Contents,
-    stop: Stop,
+    used: Use,
     visitor: &mut V,
 ) -> Visit {
-    match visited(rt, alloc, fused_files(rt, alloc, contents, stop), visitor) {
+    let files = fused_files(rt, alloc, contents, used.stop);
+    match visited(rt, alloc, files, used.options, visitor) {
         Ok(files) => visit_of(rt, alloc, true, files),
         Err(files) => visit_of(rt, alloc, false, files),
     }
@@ -119,10 +168,11 @@ fn visited<R: Abort, D: Disk + Drop, V: Visitor>(
     rt: &R,
     alloc: Global,
     files: Files<D>,
+    options: Options,
     visitor: &mut V,
 ) -> Result<Files<D>, Files<D>> {
     assert!(rt; files.may_be_used(), "a sync of these files has failed");
-    match Connection::open_files(alloc, files, Options::new(7)) {
+    match Connection::open_files(alloc, files, options) {
         Ok(conn) => match visited_in(rt, alloc, conn, visitor) {
             Ok(store) => Ok(store.close()),
             Err(store) => Err(store.close()),

@@ -7,11 +7,26 @@ use crate::questions::Step::Says;
 use crate::questions::play;
 use sqlite::{Alter, Wary};
 use std::alloc::Global;
+use std::fs;
+use std::io::ErrorKind;
 use std::process::Abort;
+use std::rt::Files;
 use uu_store::laws::FileHistory;
 use uu_store::{Command, FileSpool, Reply, RunEnd, Spool, start_again, work};
 
 const FILE: &str = "stretches.db";
+
+const LOG: &str = "stretches.db-wal";
+
+/// Removes a file, which may not be there.
+fn remove(rt: &(impl Abort + Files), path: &str) {
+    if let Err(error) = fs::remove_file(rt, path) {
+        assert!(rt;
+            error.kind() == ErrorKind::NotFound,
+            "{path} cannot be removed"
+        );
+    }
+}
 
 /// Files that held nothing, with no stretch over them. Only clauses read it.
 struct NoHistory;
@@ -61,6 +76,9 @@ fn opened_again(host: &HostRuntime) -> Option<FileSpool<Wary>> {
 #[test]
 fn a_file_keeps_its_jobs_between_stretches(rt: HostRuntime) {
     let alloc = rt.alloc();
+    // A run that broke off may have left them.
+    remove(&rt, FILE);
+    remove(&rt, LOG);
     let duke = Order::Define("duke", ANY, 26);
     let job = Order::Queue("duke", b'N', Work::Send, 2);
     let first = worked(&rt, commands_of(&rt, alloc, &[duke, job]));
@@ -68,4 +86,6 @@ fn a_file_keeps_its_jobs_between_stretches(rt: HostRuntime) {
     let second = worked(&rt, commands_of(&rt, alloc, &[job]));
     expect_end(&rt, second, &[Reply::Number(2)]);
     expect_next(&rt, alloc, opened_again(&rt), "3");
+    remove(&rt, FILE);
+    remove(&rt, LOG);
 }

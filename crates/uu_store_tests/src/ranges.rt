@@ -1,21 +1,29 @@
 // The ranges of time lines: as rows of their table, and a line that has none.
-use crate::order::{MONDAY, NEVER_OPEN, NIGHT, Order, SUNDAY};
+use crate::order::{ANY, MONDAY, NEVER_OPEN, NIGHT, Order, SUNDAY, TimeLine};
 use crate::questions::Question::{Chosen, Due, Jobs, Systems};
 use crate::questions::Step::{Does, Says};
 use crate::questions::{Step, compare, play};
 use crate::worked::{fresh, taken};
 use sqlite::{Alter, Connection};
+use std::alloc::Global;
 use std::process::Abort;
 use uu_store::Reply::{Done, Number};
 
-/// The minutes of the week from Sunday 00:00 in which it is a night of a weekday, 23:05 to 07:55.
-const NIGHTS: [(u32, u32); 6] = [
-    (1440, 1915),
-    (2825, 3355),
-    (4265, 4795),
-    (5705, 6235),
-    (7145, 7675),
-    (8585, 8639),
+/// Time lines with their ranges, in minutes from Sunday 00:00: the nights of the weekdays from 23:05 to 07:55, all week, and never.
+const RANGES: [(&[TimeLine], &[(u32, u32)]); 3] = [
+    (
+        NIGHT,
+        &[
+            (1440, 1915),
+            (2825, 3355),
+            (4265, 4795),
+            (5705, 6235),
+            (7145, 7675),
+            (8585, 8639),
+        ],
+    ),
+    (ANY, &[(0, 10_079)]),
+    (NEVER_OPEN, &[]),
 ];
 
 fn expect_ranges<S: Alter>(rt: &impl Abort, conn: &mut Connection<S>, wanted: &[(u32, u32)]) {
@@ -29,13 +37,22 @@ fn expect_ranges<S: Alter>(rt: &impl Abort, conn: &mut Connection<S>, wanted: &[
     }
 }
 
-const NIGHT_LINE: &[Step] = &[Does(Order::Define("duke", NIGHT, 26), Done)];
+fn expect_rows(rt: &impl Abort, alloc: Global, lines: &'static [TimeLine], wanted: &[(u32, u32)]) {
+    let mut spool = fresh(rt, alloc);
+    play(
+        rt,
+        alloc,
+        &mut spool,
+        &[Does(Order::Define("duke", lines, 26), Done)],
+    );
+    expect_ranges(rt, &mut spool.release(), wanted);
+}
 
 #[test]
 fn ranges_are_rows(rt: HostRuntime) {
-    let mut spool = fresh(&rt, rt.alloc());
-    play(&rt, rt.alloc(), &mut spool, NIGHT_LINE);
-    expect_ranges(&rt, &mut spool.release(), &NIGHTS);
+    for (lines, ranges) in RANGES {
+        expect_rows(&rt, rt.alloc(), lines, ranges);
+    }
 }
 
 const NEVER_CALLED: &[Step] = &[

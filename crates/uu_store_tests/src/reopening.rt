@@ -1,5 +1,5 @@
 // A stop at each call of a disk while the spool is opened that an earlier stop left: what is opened afterwards is what the earlier one left.
-use crate::disk::{Contents, Place, Stop, nothing, visit_files};
+use crate::disk::{Contents, Place, SHORT_LOG, Stop, Use, nothing, visit_files};
 use crate::scripts::LARGE_JOB;
 use crate::visitors::{Give, Pass, Way, expect_shown, shown};
 use std::alloc::Global;
@@ -7,7 +7,8 @@ use std::process::Abort;
 
 /// A stop while files with these contents are opened: whether they were taken as a spool before it.
 fn stop_at(rt: &impl Abort, alloc: Global, contents: &Contents, stop: Stop, picture: &str) -> bool {
-    let visit = visit_files(rt, alloc, contents, stop, &mut Pass {});
+    let options = SHORT_LOG;
+    let visit = visit_files(rt, alloc, contents, Use { options, stop }, &mut Pass {});
     expect_shown(rt, alloc, &visit.synced, picture);
     expect_shown(rt, alloc, &visit.written, picture);
     visit.taken
@@ -39,8 +40,12 @@ fn give() -> Give {
 fn stop_twice(rt: &impl Abort, alloc: Global, place: Place) {
     let mut before = nothing(alloc);
     for calls in 0..10_000 {
+        let used = Use {
+            options: SHORT_LOG,
+            stop: Stop { place, calls },
+        };
         let mut give = give();
-        let visit = visit_files(rt, alloc, &nothing(alloc), Stop { place, calls }, &mut give);
+        let visit = visit_files(rt, alloc, &nothing(alloc), used, &mut give);
         if calls == 0 || !visit.synced.is_same(&before) {
             stop_at_each_call(rt, alloc, &visit.synced, Place::Log);
             stop_at_each_call(rt, alloc, &visit.synced, Place::Database);

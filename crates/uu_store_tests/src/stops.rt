@@ -1,6 +1,7 @@
 // A stop at each call of a disk while commands are given: from some call on, one of the two files refuses every call. The spool that is
-// opened afterwards shows what the plain machine holds after the commands that were answered, or after one more.
-use crate::disk::{Contents, Place, Stop, nothing, visit_files};
+// opened afterwards shows what the plain machine holds after the commands that were answered, or after one more. The log is short, so that
+// stops fall within its checkpoints too.
+use crate::disk::{Contents, Place, SHORT_LOG, Stop, Use, Visit, nothing, visit_files};
 use crate::questions::Step;
 use crate::scripts::{EVERY_KIND, LARGE_JOB, TWO_SYSTEMS, is_picture, pictures};
 use crate::visitors::{Give, Way, shown};
@@ -29,11 +30,20 @@ fn expect_reached(
     );
 }
 
-/// A stop at a call of one file: whether all commands were answered. One that comes while the tables are made leaves an empty spool.
-fn stop_at(rt: &impl Abort, alloc: Global, give: Give, stop: Stop, pictures: &[String]) -> bool {
+/// A stop of a list of commands.
+#[derive(Drop)]
+struct Stopped {
+    /// Whether all commands were answered before it.
+    is_whole: bool,
+    visit: Visit,
+}
+
+/// A stop at a call of one file. One that comes while the tables are made leaves an empty spool.
+fn stop_at(rt: &impl Abort, alloc: Global, give: Give, stop: Stop, pictures: &[String]) -> Stopped {
     let last = pictures.len().saturating_sub(1);
+    let options = SHORT_LOG;
     let mut give = give;
-    let visit = visit_files(rt, alloc, &nothing(alloc), stop, &mut give);
+    let visit = visit_files(rt, alloc, &nothing(alloc), Use { options, stop }, &mut give);
     let least = give.answered;
     let most = if visit.taken {
         least.saturating_add(1).min(last)
@@ -43,18 +53,25 @@ fn stop_at(rt: &impl Abort, alloc: Global, give: Give, stop: Stop, pictures: &[S
     let reached = Reached { least, most };
     expect_reached(rt, alloc, pictures, reached, &visit.synced);
     expect_reached(rt, alloc, pictures, reached, &visit.written);
-    least == last
+    Stopped {
+        is_whole: least == last,
+        visit,
+    }
 }
 
-/// Stops at each call of one file, counting up until the last command is answered, and at ten calls more, of which there are none.
+/// Stops at each call of one file, counting up until the last command is answered, and at ten calls more, of which there are none. Where a
+/// stop leaves another database file than the one before, a checkpoint was finished in between: the stop of the database file before, and
+/// that of the log after, fell within it.
 fn stop_at_each_call(
     rt: &impl Abort,
     alloc: Global,
     place: Place,
     script: &'static [Step],
     way: Way,
-) -> u64 {
+) {
     let pictures = pictures(rt, alloc, script);
+    let mut before = nothing(alloc);
+    let mut checkpoints = 0u32;
     let mut whole = 0u32;
     for calls in 0..10_000 {
         let give = Give {
@@ -62,12 +79,23 @@ fn stop_at_each_call(
             way,
             answered: 0,
         };
-        if stop_at(rt, alloc, give, Stop { place, calls }, &pictures) {
-            assert!(rt; calls != 0, "no stop");
+        let Stopped { is_whole, visit } = stop_at(
+            rt,
+            alloc,
+            give,
+            Stop { place, calls },
+            &pictures,
+        );
+        if visit.taken && !visit.synced.has_same_database(&before) {
+            checkpoints = checkpoints.saturating_add(1);
+        }
+        before = visit.synced;
+        if is_whole {
             whole = whole.saturating_add(1);
         }
         if whole > 10 {
-            return calls;
+            assert!(rt; checkpoints > 1, "no stop within a checkpoint");
+            return;
         }
     }
     panic!(rt; "no run ends")
@@ -75,36 +103,30 @@ fn stop_at_each_call(
 
 #[test]
 fn commands_one_by_one_and_stops_of_the_log(rt: HostRuntime) {
-    let n = stop_at_each_call(&rt, rt.alloc(), Place::Log, EVERY_KIND, Way::OneByOne);
-    println!(rt; "calls {n}").expect(&rt, "out");
+    stop_at_each_call(&rt, rt.alloc(), Place::Log, EVERY_KIND, Way::OneByOne);
 }
 
 #[test]
 fn commands_one_by_one_and_stops_of_the_database(rt: HostRuntime) {
-    let n = stop_at_each_call(&rt, rt.alloc(), Place::Database, EVERY_KIND, Way::OneByOne);
-    println!(rt; "calls {n}").expect(&rt, "out");
+    stop_at_each_call(&rt, rt.alloc(), Place::Database, EVERY_KIND, Way::OneByOne);
 }
 
 #[test]
 fn a_run_with_a_large_job_and_stops_of_the_log(rt: HostRuntime) {
-    let n = stop_at_each_call(&rt, rt.alloc(), Place::Log, LARGE_JOB, Way::Run);
-    println!(rt; "calls {n}").expect(&rt, "out");
+    stop_at_each_call(&rt, rt.alloc(), Place::Log, LARGE_JOB, Way::Run);
 }
 
 #[test]
 fn a_run_with_a_large_job_and_stops_of_the_database(rt: HostRuntime) {
-    let n = stop_at_each_call(&rt, rt.alloc(), Place::Database, LARGE_JOB, Way::Run);
-    println!(rt; "calls {n}").expect(&rt, "out");
+    stop_at_each_call(&rt, rt.alloc(), Place::Database, LARGE_JOB, Way::Run);
 }
 
 #[test]
 fn a_run_over_two_systems_and_stops_of_the_log(rt: HostRuntime) {
-    let n = stop_at_each_call(&rt, rt.alloc(), Place::Log, TWO_SYSTEMS, Way::Run);
-    println!(rt; "calls {n}").expect(&rt, "out");
+    stop_at_each_call(&rt, rt.alloc(), Place::Log, TWO_SYSTEMS, Way::Run);
 }
 
 #[test]
 fn a_run_over_two_systems_and_stops_of_the_database(rt: HostRuntime) {
-    let n = stop_at_each_call(&rt, rt.alloc(), Place::Database, TWO_SYSTEMS, Way::Run);
-    println!(rt; "calls {n}").expect(&rt, "out");
+    stop_at_each_call(&rt, rt.alloc(), Place::Database, TWO_SYSTEMS, Way::Run);
 }

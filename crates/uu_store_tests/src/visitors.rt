@@ -1,5 +1,5 @@
 // What is done with a spool on a disk that may stop.
-use crate::disk::{Contents, NEVER, Visitor, visit_files};
+use crate::disk::{Contents, LONG_LOG, Use, Visitor, visit_files};
 use crate::order::{Order, command};
 use crate::questions::Step::Does;
 use crate::questions::{Step, asked_picture};
@@ -145,7 +145,7 @@ pub(crate) fn shown(rt: &impl Abort, alloc: Global, contents: &Contents) -> Stri
     let mut look = Look {
         shown: String::new(alloc),
     };
-    let visit = visit_files(rt, alloc, contents, NEVER, &mut look);
+    let visit = visit_files(rt, alloc, contents, Use::unstopped(LONG_LOG), &mut look);
     assert!(rt; visit.taken, "the files are no spool");
     look.shown
 }

@@ -114,14 +114,18 @@ fn regrading_keeps_the_number(rt: HostRuntime) {
     play_anew(&rt, rt.alloc(), REGRADING);
 }
 
-// Monday at 10:00 is minute 2,040 of the week, at which the lower grade's retry number counts.
+// Monday at 10:00 is minute 2,040 of the week, at which the lower grade is let through, and its retry number counts.
 const TWO_LINES: &[Step] = &[
     Does(Order::Define("duke", OFFICE, 26), Done),
+    Does(Order::File("duke", b'z'), Number(1)),
+    Says(Due(MONDAY), "duke z 1/"),
     Does(Order::Failed("duke", MONDAY), Done),
     Says(
         Systems,
         "duke 26 [z 30 0-10079] [C 5 1980-2460 3420-3900 4860-5340 6300-6780 7740-8220] 1 1800 1000116000 busy/",
     ),
+    Says(Due(MONDAY + 1_799), ""),
+    Says(Due(MONDAY + 1_800), "duke z 1/"),
 ];
 
 #[test]

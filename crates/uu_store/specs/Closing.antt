@@ -1,0 +1,28 @@
+-- What a close of a spool's two files leaves.
+use Rattle.std.specs.Prelude.{◌≡◌, []}
+use Rattle.sqlite_disk.specs.declared.Disk as disk
+use Rattle.sqlite_disk.specs.declared.Files.{Files}
+use Rattle.sqlite_wal.specs.Recovery.{Image}
+use Rattle.sqlite_wal.specs.Files.{outcomes}
+use Rattle.sqlite_wal.specs.Reads.{AreClean}
+use Rattle.sqlite_store.specs.declared.store.FileStore.{FileStore}
+use Rattle.sqlite_store.specs.FileStore as store
+use Rattle.sqlite.specs.Files.{over_files, image_of}
+use Rattle.uu_core.specs.State.{State}
+use Rattle.uu_store.specs.declared.spool.Spool.{Spool}
+use Rattle.uu_store.specs.Openings.{ImageKeeps}
+use Rattle.uu_store.specs.Spool.{connection_of, Shows}
+use Rattle.uu_store.specs.Stretches.{IsLetGo}
+
+-- the two files keep the state, and so does the database file with no log
+abbrev pub KeepsAlone : Image → State → Type 0
+KeepsAlone image s = ∥ ImageKeeps image s ∥₁ × ∥ ImageKeeps (record image { log = [] }) s ∥₁
+
+-- The store was let go, and its files are these. While the disk returned what was written, they keep the state that the spool showed, as they
+-- read now and as a stop leaves them.
+pub record IsClosed {D : Type 0} {g : disk.Ghosts D} (spool : Spool (FileStore D g) over_files) (files : Files D) : Type 0 where
+  pub last : FileStore D g
+  pub files_are : store.files last ≡ (files.log, files.db)
+  pub let_go : IsLetGo over_files (connection_of spool).store last
+  pub now : AreClean g files.log files.db → (s : State) → Shows spool s → KeepsAlone (image_of g files) s
+  pub stop : AreClean g files.log files.db → (s : State) → Shows spool s → (image : Image) → outcomes g files.log files.db image → KeepsAlone image s
