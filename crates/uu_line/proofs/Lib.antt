@@ -1,2 +1,4 @@
+pub mod UseLemmas
+pub mod EntryLemmas
 pub mod ProgramLemmas
 pub mod LineLemmas

@@ -1,13 +1,16 @@
 -- The readings of a line's parts.
-use Rattle.std.proofs.Common.{◌≡◌, ◌≢◌, ◌∙◌, ap, sym, refl, ℕ, zero, suc, ◌<◌, List, [], ◌∷◌, ◌++◌, Option, Some, None, Result, Ok, Err, map, take, length, get_or, slice_get, slice_index_or, option_map, codes, subst, arith}
-use Rattle.std.specs.List.{All}
+use Rattle.std.proofs.Common.{◌≡◌, ◌≢◌, ◌∙◌, ◌^◌, ◌≤◌, ap, sym, refl, ℕ, zero, suc, ◌<◌, Bool, true, false, List, [], ◌∷◌, ◌++◌, Option, Some, None, Result, Ok, Err, is_some, map, take, length, get_or, slice_index_or, subst, true≢false, arith}
+use Rattle.std.specs.Prelude.{⊤, cond, find, option_and_then, option_map, slice_get, unwrap_or}
+use Rattle.std.specs.List.{All, list_all}
+use Rattle.std.specs.Str.{bytes_eq}
+use Rattle.std.specs.Str.Parse.{IsNumeral, digits_value, without_leading_plus}
 use Rattle.std.proofs.Math.Seq.{take-suc}
+use Rattle.std.proofs.lemmas.Slice.Eq.{bytes_eq-Decides}
+use Rattle.uu_names.specs.declared.fault.NameFault.{NameFault}
 use Rattle.std.proofs.lemmas.List.{get_or-map, length-map}
 use Rattle.std.proofs.lemmas.List.Elements.{All-append}
 use Rattle.uu_names.specs.Path.{IsPathText}
-use Rattle.std.specs.Str.Parse.{ExplainsUnsignedError, HasUnsignedDigitsIfOk, ParsesUnsigned}
-use Rattle.std.specs.declared.num.ParseIntError.{ParseIntError}
-use Rattle.clap.specs.Words.{Row, Text, ReadsOne, found_of, matches_of, one_of, rows_of, fault_of, subcommand_rows_of}
+use Rattle.clap.specs.Words.{Row, Text, all_of, first_of, found_of, matches_of, rows_of, fault_of, subcommand_of, subcommand_rows_of}
 use Rattle.clap.specs.Simple.{subcommand_rows}
 use Rattle.clap.specs.declared.parser.matches.ArgMatches.{ArgMatches}
 use Rattle.clap.specs.declared.parser.matches.ArgMatches.TheViews.{out-SubCommand}
@@ -16,8 +19,13 @@ use Rattle.std.specs.Box.{box_value}
 use Rattle.std.specs.Prelude.{Box}
 use Rattle.uu_line.specs.Commands.{program}
 use Rattle.uu_line.specs.declared.line.CallLine.{CallLine}
-use Rattle.uu_names.specs.Name.{word_of}
-use Rattle.uu_line.specs.Lines.{Answers, HasEntriesOf, IsAnswerTo, Means, MeansLineOf, mail_by, mail_to, word_at, IsNumberOf, IsWordsWhere, UnlessMemory, and_then, named, optional, words_of}
+use Rattle.clap.specs.ValueTests.{is_unsigned_in}
+use Rattle.clap.specs.declared.builder.value_parser.ValueParser.TheVariants as vp
+use Rattle.clap.proofs.ValueTestLemmas.{accepts-Accepts}
+use Rattle.clap.proofs.WalkLemmas.{both}
+use Rattle.uu_line.specs.Entries.{AreNumbersUpTo, AreTaken, HasSubcommand, texts_at}
+use Rattle.uu_line.specs.Lines.{Answers, AreNumbers, HasEntriesOf, IsAddressFault, IsAnswerTo, IsBadAddress, IsNumber, IsWordsWhere, Line, Means, MeansEntries, UnlessMemory, and_then, answered, optional, said, word_of, words_of}
+use Rattle.uu_line.proofs.ProgramLemmas.{program_takes}
 use Rattle.uu_line.specs.declared.fault.LineFault.{LineFault}
 use Rattle.uu_line.specs.declared.fault.LineFault.TheVariants as fault
 
@@ -54,17 +62,105 @@ optional_err read entry text f is answers =
     err_weaker (λ a. a ≡ read text) (λ a. a ≡ optional read entry) f
     (λ same. ap (λ r. and_then r (λ v. Ok (Some v))) same ∙ ap (optional read) is) answers
 
--- what `parse` answers to a text at a number of so many bits
-abbrev pub ReadAs : ℕ → Text → Result ℕ ParseIntError → Type 0
-ReadAs bits t r = ParsesUnsigned bits 10 t r × ExplainsUnsignedError 10 t r × HasUnsignedDigitsIfOk t r
+-- a text that passes as a number up to a limit is a numeral of so many bits
+pub numeral_of : (bits most : ℕ) (text : Text) → most < 2 ^ bits → is_unsigned_in 0 most text ≡ true
+    → IsNumeral 10 (without_leading_plus text) × (digits_value 10 (without_leading_plus text) < 2 ^ bits)
+numeral_of bits most text less e =
+    let accepts = accepts-Accepts false (vp.Unsigned 0 most) text e in
+    let within : digits_value 10 (without_leading_plus text) ≤ most = accepts.3 in
+    (accepts.0, omega (arith, within, less))
 
--- what is read of an entry is its number
-pub number_is_read : (bits : ℕ) (entry : Option Text) (read : Option ℕ)
-    → (entry ≡ None → read ≡ None) → ((t : Text) → entry ≡ Some t → ReadsOne (ReadAs bits) t read) → IsNumberOf bits entry read
-number_is_read bits None None none value = tt
-number_is_read bits None (Some n) none value = let bad : Some n ≡ None = none refl in absurd cc
-number_is_read bits (Some t) None none value = λ number is. (value t refl).1.0 is.0
-number_is_read bits (Some t) (Some n) none value = (value t refl).0
+pub none_is_no : {X : Type 0} (o : Option X) → None ≡ o → is_some o ≡ true → ⊥
+none_is_no None is some = true≢false (sym some)
+none_is_no (Some x) is some = absurd cc
+
+pub same_some : {X : Type 0} (x y : X) (o : Option X) → Some x ≡ o → Some y ≡ o → x ≡ y
+same_some x y None is also = absurd cc
+same_some x y (Some z) is also = cc
+
+pub memory_meets : {V : Type 0} (P : Result V LineFault → Type 0) (f : LineFault) → f ≡ fault.Memory → UnlessMemory P (Err f)
+memory_meets P f is = subst (λ g. UnlessMemory P (Err g)) (sym is) tt
+
+-- the answer has the property that the expected one has
+pub meaning : {V : Type 0} (P : Result V LineFault → Type 0) (answer expected : Result V LineFault) → P expected → Answers answer expected → UnlessMemory P answer
+meaning P (Ok value) expected holds is = subst P (sym is) holds
+meaning P (Err (fault.Words text help)) expected holds is = is
+meaning P (Err (fault.Name why)) expected holds is = subst P (sym is) holds
+meaning P (Err fault.TwoSystems) expected holds is = subst P (sym is) holds
+meaning P (Err fault.Memory) expected holds is = tt
+
+-- a name that is none of the table's is not found in it
+abbrev pub IsNone : Text → List (Text × List Text) → Type 0
+IsNone name [] = ⊤
+IsNone name (subcommand ∷ more) = (name ≢ subcommand.0) × IsNone name more
+
+pub never_strange : (name : Text) (table : List (Text × List Text)) → IsNone name table → is_some (find (λ subcommand. bytes_eq subcommand.0 name) table) ≡ true → ⊥
+never_strange name [] other found = true≢false (sym found)
+never_strange name (subcommand ∷ more) other found = go (bytes_eq subcommand.0 name) refl (never_strange name more other.1) found
+  where
+    go : (b : Bool) → bytes_eq subcommand.0 name ≡ b → (is_some (find (λ subcommand. bytes_eq subcommand.0 name) more) ≡ true → ⊥)
+        → is_some (cond b (Some subcommand) (find (λ subcommand. bytes_eq subcommand.0 name) more)) ≡ true → ⊥
+    go true is later found = other.0 (sym ((bytes_eq-Decides subcommand.0 name).0 is))
+    go false is later found = later found
+
+-- the texts of an entry that has one
+pub texts_given : (id : Text) (rows : List Row) → is_some (first_of id rows) ≡ true
+    → (first : Text) × (others : List Text) × (Some (first ∷ others) ≡ all_of id rows) × (texts_at id rows ≡ first ∷ others)
+texts_given id rows some = go (find (λ r. bytes_eq r.id id) rows) some
+  where
+    by_values : (vs : List Text) → is_some (slice_get vs 0) ≡ true
+        → (first : Text) × (others : List Text) × (Some (first ∷ others) ≡ Some vs) × (vs ≡ first ∷ others)
+    by_values [] some = absurd (true≢false (sym some))
+    by_values (v ∷ vs) some = (v, vs, refl, refl)
+
+    go : (o : Option Row) → is_some (option_and_then (λ (r : Row). slice_get r.values 0) o) ≡ true
+        → (first : Text) × (others : List Text) × (Some (first ∷ others) ≡ option_map (λ (r : Row). r.values) o)
+        × (unwrap_or (option_map (λ (r : Row). r.values) o) [] ≡ first ∷ others)
+    go None some = absurd (true≢false (sym some))
+    go (Some r) some = by_values r.values some
+
+-- a fault of addresses is that of the first bad one
+pub address_fault : {V : Type 0} (P : Result V LineFault → Type 0) (texts : List Text) (f : LineFault) → IsAddressFault texts f
+    → ((why : NameFault) → IsBadAddress texts why → P (Err (fault.Name why))) → UnlessMemory P (Err f)
+address_fault P texts (fault.Words text help) bad meant = bad
+address_fault P texts (fault.Name why) bad meant = meant why bad
+address_fault P texts fault.TwoSystems bad meant = absurd bad
+address_fault P texts fault.Memory bad meant = tt
+
+-- the first text of an entry is one of its texts
+pub first_number : (id : Text) (rows : List Row) (most : ℕ) (text : Text) → Some text ≡ first_of id rows → AreNumbersUpTo most (texts_at id rows)
+    → is_unsigned_in 0 most text ≡ true
+first_number id rows most text is numbers = go (find (λ r. bytes_eq r.id id) rows) is numbers
+  where
+    by_values : (vs : List Text) → Some text ≡ slice_get vs 0 → list_all (is_unsigned_in 0 most) vs ≡ true → is_unsigned_in 0 most text ≡ true
+    by_values [] is all = absurd cc
+    by_values (v ∷ vs) is all =
+        let same : v ≡ text = cc in
+        subst (λ t. is_unsigned_in 0 most t ≡ true) same (both (is_unsigned_in 0 most v) (list_all (is_unsigned_in 0 most) vs) all).0
+
+    go : (o : Option Row) → Some text ≡ option_and_then (λ (r : Row). slice_get r.values 0) o
+        → list_all (is_unsigned_in 0 most) (unwrap_or (option_map (λ (r : Row). r.values) o) []) ≡ true → is_unsigned_in 0 most text ≡ true
+    go None is all = absurd cc
+    go (Some r) is all = by_values r.values is all
+
+-- each text is a number
+pub each_number : {B : Type 0} (f : B → Text) (xs : List B) (i : ℕ) (d : B) (most : ℕ) → i < length xs → AreNumbersUpTo most (map f xs)
+    → is_unsigned_in 0 most (f (slice_index_or xs i d)) ≡ true
+each_number f [] i d most inside all = absurd (omega arith)
+each_number f (x ∷ xs) zero d most inside all = (both (is_unsigned_in 0 most (f x)) (list_all (is_unsigned_in 0 most) (map f xs)) all).0
+each_number f (x ∷ xs) (suc i) d most inside all =
+    each_number f xs i d most (omega arith) (both (is_unsigned_in 0 most (f x)) (list_all (is_unsigned_in 0 most) (map f xs)) all).1
+
+-- one more number
+pub numbers_next : {B : Type 0} (bits : ℕ) (f : B → Text) (xs : List B) (i : ℕ) (d : B) (numbers : List ℕ) (number : ℕ) → i < length xs
+    → AreNumbers bits (take i (map f xs)) numbers → IsNumber bits (f (slice_index_or xs i d)) number
+    → AreNumbers bits (take (suc i) (map f xs)) (numbers ++ number ∷ [])
+numbers_next bits f [] i d numbers number inside so_far is = absurd (omega arith)
+numbers_next bits f (x ∷ xs) zero d [] number inside so_far is = (is, tt)
+numbers_next bits f (x ∷ xs) zero d (n ∷ numbers) number inside so_far is = absurd so_far
+numbers_next bits f (x ∷ xs) (suc i) d [] number inside so_far is = absurd so_far
+numbers_next bits f (x ∷ xs) (suc i) d (n ∷ numbers) number inside so_far is =
+    (so_far.0, numbers_next bits f xs i d numbers number (omega arith) so_far.1 is)
 
 -- both readings came to a value
 pub both_ok : (first : Result (List ℕ) LineFault) (others : Result (List (List ℕ)) LineFault) (words : List (List ℕ))
@@ -76,14 +172,14 @@ both_ok (Ok word) (Ok more) words is = (word, more, refl, refl, cc)
 
 -- one more text
 pub words_next : {B : Type 0} (f : B → Text) (xs : List B) (i : ℕ) (d : B) (words : List (List ℕ)) (word : List ℕ) → i < length xs
-    → words_of (take i (map f xs)) ≡ Ok words → Ok word ≡ named (word_of (f (slice_index_or xs i d)))
+    → words_of (take i (map f xs)) ≡ Ok words → Ok word ≡ word_of (f (slice_index_or xs i d))
     → words_of (take (suc i) (map f xs)) ≡ Ok (words ++ word ∷ [])
 words_next f [] i d words word inside so_far is = absurd (omega arith)
 words_next f (x ∷ xs) zero d words word inside so_far is =
     let none : [] ≡ words = cc in
     ap (λ r. and_then r (λ w. Ok (w ∷ []))) (sym is) ∙ ap (λ ws. Ok (ws ++ word ∷ [])) none
 words_next f (x ∷ xs) (suc i) d words word inside so_far is =
-    let (head, more, first, others, whole) = both_ok (named (word_of (f x))) (words_of (take i (map f xs))) words so_far in
+    let (head, more, first, others, whole) = both_ok (word_of (f x)) (words_of (take i (map f xs))) words so_far in
     let next = words_next f xs i d more word (omega arith) others is in
     ap (λ r. and_then r (λ w. and_then (words_of (take (suc i) (map f xs))) (λ ws. Ok (w ∷ ws)))) first
     ∙ ap (λ r. and_then r (λ ws. Ok (head ∷ ws))) next
@@ -91,12 +187,12 @@ words_next f (x ∷ xs) (suc i) d words word inside so_far is =
 
 -- a text that is no word stops the reading
 pub words_stop : {B : Type 0} (f : B → Text) (xs : List B) (i : ℕ) (d : B) (words : List (List ℕ)) (why : LineFault) → i < length xs
-    → words_of (take i (map f xs)) ≡ Ok words → Err why ≡ named (word_of (f (slice_index_or xs i d))) → Err why ≡ words_of (map f xs)
+    → words_of (take i (map f xs)) ≡ Ok words → Err why ≡ word_of (f (slice_index_or xs i d)) → Err why ≡ words_of (map f xs)
 words_stop f [] i d words why inside so_far is = absurd (omega arith)
 words_stop f (x ∷ xs) zero d words why inside so_far is =
     ap (λ r. and_then r (λ w. and_then (words_of (map f xs)) (λ ws. Ok (w ∷ ws)))) is
 words_stop f (x ∷ xs) (suc i) d words why inside so_far is =
-    let (head, more, first, others, whole) = both_ok (named (word_of (f x))) (words_of (take i (map f xs))) words so_far in
+    let (head, more, first, others, whole) = both_ok (word_of (f x)) (words_of (take i (map f xs))) words so_far in
     ap (λ r. and_then r (λ ws. Ok (head ∷ ws))) (words_stop f xs i d more why (omega arith) others is)
     ∙ ap (λ r. and_then r (λ w. and_then (words_of (map f xs)) (λ ws. Ok (w ∷ ws)))) (sym first)
 
@@ -119,18 +215,23 @@ paths_next f xs i d paths path inside so_far is is_path =
     one_path t is (suc k) e lt = absurd (omega arith)
 
 -- what the entries mean is what the words mean
-means_words : (words : List Text) (found : ArgMatches) (meant : Result CallLine LineFault) → HasEntriesOf words found
-    → MeansLineOf (word_at (codes "as") (rows_of (found_of found))) (one_of (codes "at") (rows_of (found_of found))) (subcommand_rows_of found) meant
-    → Means words meant
+means_words : (words : List Text) (found : ArgMatches) (meant : Result Line LineFault) → HasEntriesOf words found
+    → MeansEntries (rows_of (found_of found)) (subcommand_rows_of found) meant → Means words meant
 means_words words found meant entries means =
-    let same_rows = subst (λ rows. MeansLineOf (word_at (codes "as") rows) (one_of (codes "at") rows) (subcommand_rows_of found) meant) entries.1 means in
-    subst (λ entered. MeansLineOf (word_at (codes "as") (matches_of program words)) (one_of (codes "at") (matches_of program words)) entered meant) entries.2 same_rows
+    subst (λ entered. MeansEntries (matches_of program words) entered meant) entries.2
+    (subst (λ rows. MeansEntries rows (subcommand_rows_of found) meant) entries.1 means)
+
+-- the entries are those that the program's lines have
+pub found_taken : (words : List Text) (found : ArgMatches) → HasEntriesOf words found → AreTaken (rows_of (found_of found)) (subcommand_rows_of found)
+found_taken words found entries =
+    subst (λ entered. AreTaken (rows_of (found_of found)) entered) (sym entries.2)
+    (subst (λ rows. AreTaken rows (subcommand_of program words)) (sym entries.1) (program_takes words entries.0))
 
 -- and so the answer is the words'
 pub answers_words : (words : List Text) (found : ArgMatches) (answer : Result CallLine LineFault) → HasEntriesOf words found
-    → UnlessMemory (MeansLineOf (word_at (codes "as") (rows_of (found_of found))) (one_of (codes "at") (rows_of (found_of found))) (subcommand_rows_of found)) answer
+    → UnlessMemory (λ a. MeansEntries (rows_of (found_of found)) (subcommand_rows_of found) (answered a)) answer
     → IsAnswerTo words answer
-answers_words words found (Ok line) entries means = (entries.0, means_words words found (Ok line) entries means)
+answers_words words found (Ok line) entries means = (entries.0, means_words words found (Ok (said line)) entries means)
 answers_words words found (Err (fault.Words text help)) entries means = absurd means
 answers_words words found (Err (fault.Name why)) entries means = (entries.0, means_words words found (Err (fault.Name why)) entries means)
 answers_words words found (Err fault.TwoSystems) entries means = (entries.0, means_words words found (Err fault.TwoSystems) entries means)
@@ -151,9 +252,6 @@ pub entered_is : {Z : Type 0} (sub : Option (Box SubCommand Z)) (said : Text) (r
 entered_is None said rows name_is rows_are = absurd cc
 entered_is (Some b) said rows name_is rows_are = cc
 
--- the task of addresses, by the first of them
-pub mail_first : (grade : ℕ) (addresses : List Text) (first : Text) → Some first ≡ slice_get addresses 0 → mail_by grade first addresses ≡ mail_to grade addresses
-mail_first grade [] first is = absurd cc
-mail_first grade (address ∷ addresses) first is =
-    let same : first ≡ address = cc in
-    ap (λ f. mail_by grade f (address ∷ addresses)) same
+pub no_subcommand : (o : Option (Text × List Row)) → None ≡ option_map (λ p. p.1) o → HasSubcommand o → ⊥
+no_subcommand None is has = has
+no_subcommand (Some subcommand) is has = absurd cc

@@ -7,6 +7,14 @@ use Rattle.clap.specs.Words.{App, Rule, new_rule, new_app, with_rule, with_subco
 use Rattle.clap.specs.Simple.{on_top}
 use Rattle.clap.specs.declared.builder.value_parser.ValueParser.TheVariants.{Unsigned}
 
+-- `-c FILE`
+abbrev pub config_option : Rule
+config_option = record (new_rule (codes "config")) {
+  short = Some (byte "c");
+  value_names = 1;
+  defaults = codes "uuspool.toml" ∷ [];
+}
+
 -- `--at SECONDS`, a whole number of at most 9,999,999,999
 abbrev pub second_option : Rule
 second_option = record (new_rule (codes "at")) {
@@ -45,9 +53,6 @@ grade_option = record (new_rule (codes "grade")) {
 -- `JOB`, a whole number of at most 4,294,967,295
 abbrev pub job_argument : Rule
 job_argument = record (argument (codes "job")) { parser = Some (Unsigned 0 4_294_967_295) }
-
-abbrev pub load_command : App
-load_command = new_app (codes "load")
 
 -- `drop SYSTEM`
 abbrev pub drop_command : App
@@ -90,25 +95,45 @@ job_command name = with_rule (new_app name) job_argument
 abbrev pub regrade_command : App
 regrade_command = with_rule (with_rule (new_app (codes "regrade")) job_argument) (argument (codes "grade"))
 
+-- `failed SYSTEM WHY`
+abbrev pub failed_command : App
+failed_command = with_rule (with_rule (new_app (codes "failed")) (argument (codes "system"))) (argument (codes "why"))
+
+-- `done SYSTEM [JOB..]`
+abbrev pub done_command : App
+done_command =
+    with_rule (with_rule (new_app (codes "done")) (argument (codes "system")))
+    (record (arguments (codes "job") 0) { parser = Some (Unsigned 0 4_294_967_295) })
+
+-- `neighbours HOST`
+abbrev pub neighbours_command : App
+neighbours_command = with_rule (new_app (codes "neighbours")) (argument (codes "host"))
+
 -- the words begin after the program's name, and a subcommand has to be there
 abbrev pub without_options : App
 without_options = on_top (λ s. record s { no_binary_name = true; subcommand_required = true })
     (new_app (codes "uuspool"))
 
 abbrev pub without_subcommands : App
-without_subcommands = with_rule (with_rule without_options second_option) user_option
+without_subcommands = with_rule (with_rule (with_rule without_options config_option) second_option) user_option
 
-abbrev pub with_handing_in : App
-with_handing_in =
-    with_subcommand (with_subcommand (with_subcommand (with_subcommand (with_subcommand without_subcommands
-    load_command.top) (file_command (codes "send")).top) (file_command (codes "request")).top)
+-- the subcommands that change the systems and queue jobs
+abbrev pub with_queueing : App
+with_queueing =
+    with_subcommand (with_subcommand (with_subcommand (with_subcommand (with_subcommand (with_subcommand without_subcommands
+    (new_app (codes "load")).top) drop_command.top) (file_command (codes "send")).top) (file_command (codes "request")).top)
     exec_command.top) mail_command.top
 
-abbrev pub with_questions : App
-with_questions =
-    with_subcommand (with_subcommand with_handing_in list_command.top) (job_command (codes "show")).top
+-- and those that show and change jobs
+abbrev pub with_jobs : App
+with_jobs =
+    with_subcommand (with_subcommand (with_subcommand (with_subcommand (with_subcommand with_queueing
+    list_command.top) (job_command (codes "show")).top) (job_command (codes "kill")).top) regrade_command.top)
+    (job_command (codes "rejuvenate")).top
 
+-- and those of calls and of the map
 abbrev pub program : App
 program =
-    with_subcommand (with_subcommand (with_subcommand (with_subcommand with_questions drop_command.top)
-    (job_command (codes "kill")).top) regrade_command.top) (job_command (codes "rejuvenate")).top
+    with_subcommand (with_subcommand (with_subcommand (with_subcommand (with_subcommand (with_subcommand with_jobs
+    (new_app (codes "due")).top) (new_app (codes "status")).top) failed_command.top) done_command.top)
+    (new_app (codes "map")).top) neighbours_command.top

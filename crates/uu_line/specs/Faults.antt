@@ -5,6 +5,6 @@ use Rattle.uu_line.specs.declared.fault.LineFault.{LineFault}
 use Rattle.uu_line.specs.declared.fault.LineFault.TheVariants as fault
 
 -- want of memory is a fault of its own
-abbrev pub told_name : NameFault → LineFault
-told_name name.Memory = fault.Memory
-told_name why = fault.Name why
+abbrev pub fault_of_name : NameFault → LineFault
+fault_of_name name.Memory = fault.Memory
+fault_of_name why = fault.Name why

@@ -1,27 +1,36 @@
--- What the words of a line mean. The forms of words are those of `clap`; the lines themselves are this
--- project's choice.
-use Rattle.std.specs.Prelude.{◌≡◌, ◌≢◌, ◌⊎◌, Bool, true, false, ℕ, ◌^◌, ◌<◌, List, [], ◌∷◌, Option, Some, None, Result, Ok, Err, All, ⊤, codes, if◌then◌else◌, map, take, slice_get, unwrap_or, ok_or}
+-- What the words of a line mean. The forms of words are those of `clap`, which takes no line without a subcommand and its
+-- required entries; the lines themselves are this project's choice.
+use Rattle.std.specs.Prelude.{◌≡◌, ◌≢◌, ◌⊎◌, Bool, true, false, ℕ, ◌^◌, ◌<◌, List, [], ◌∷◌, Option, Some, None, Result, Ok, Err, All, ⊤, codes, if◌then◌else◌, map, take, slice_get, ok_or, string_bytes}
 use Rattle.std.specs.List.{list_all}
 use Rattle.std.specs.Str.Parse.{IsNumeral, digits_value, without_leading_plus}
 use Rattle.std.specs.Cmp.Lexicographic.{pointwise}
 use Rattle.std.specs.Prelude.{nat_eq}
-use Rattle.clap.specs.Words.{Row, Text, all_of, first_of, one_of, matches_of, subcommand_of, fault_of}
+use Rattle.clap.specs.Words.{Row, Text, all_of, first_of, matches_of, subcommand_of, fault_of}
 use Rattle.clap.specs.Words.{found_of, rows_of, subcommand_rows_of}
 use Rattle.clap.specs.declared.parser.matches.ArgMatches.{ArgMatches}
 use Rattle.uu_names.specs.Grade.{rank_of}
-use Rattle.uu_names.specs.Name.{site_name_of, word_of}
+use Rattle.uu_names.specs.Name.{site_name_of, word_of as as_word}
 use Rattle.uu_names.specs.Path.{IsPathText, IsPathFault, first_hop, rest_of}
 use Rattle.uu_names.specs.declared.fault.NameFault.{NameFault}
 use Rattle.uu_names.specs.declared.fault.NameFault.TheVariants.{BadGrade}
 use Rattle.uu_names.specs.declared.fault.NameFault.TheVariants.{Memory as NoMemory}
 use Rattle.uu_line.specs.Commands.{program}
+use Rattle.uu_line.specs.Entries.{texts_at}
 use Rattle.uu_line.specs.declared.fault.LineFault.{LineFault}
 use Rattle.uu_line.specs.declared.fault.LineFault.TheVariants.{Words, Name, TwoSystems, Memory}
 use Rattle.uu_line.specs.declared.line.CallLine.{CallLine}
 use Rattle.uu_line.specs.declared.task.Task.{Task}
 use Rattle.uu_line.specs.declared.task.Task.TheVariants as task
 
--- ---- numbers
+-- ---- entries
+
+-- the entry has a text, of which P holds
+abbrev pub WithText : Text → List Row → (Text → Type 0) → Type 0
+WithText id rows P = (text : Text) × (Some text ≡ first_of id rows) × P text
+
+-- the entry has texts, one or more, of which P holds
+abbrev pub WithTexts : Text → List Row → (Text → List Text → Type 0) → Type 0
+WithTexts id rows P = (first : Text) × (others : List Text) × (Some (first ∷ others) ≡ all_of id rows) × P first others
 
 -- the text is this number of so many bits, in decimal digits; a plus may stand before them
 abbrev pub IsNumber : ℕ → Text → ℕ → Type 0
@@ -29,12 +38,19 @@ IsNumber bits text number =
     (IsNumeral 10 (without_leading_plus text) × (digits_value 10 (without_leading_plus text) < 2 ^ bits))
     × (number ≡ digits_value 10 (without_leading_plus text))
 
--- the number of an entry, if there is one
+-- the texts are these numbers, one each
+abbrev pub AreNumbers : ℕ → List Text → List ℕ → Type 0
+AreNumbers bits [] [] = ⊤
+AreNumbers bits (text ∷ texts) (number ∷ numbers) = IsNumber bits text number × AreNumbers bits texts numbers
+AreNumbers bits [] (number ∷ numbers) = ⊥
+AreNumbers bits (text ∷ texts) [] = ⊥
+
+-- the number of an entry that may be left out
 abbrev pub IsNumberOf : ℕ → Option Text → Option ℕ → Type 0
 IsNumberOf bits None None = ⊤
-IsNumberOf bits None (Some number) = ⊥
 IsNumberOf bits (Some text) (Some number) = IsNumber bits text number
-IsNumberOf bits (Some text) None = (number : ℕ) → ¬ IsNumber bits text number
+IsNumberOf bits None (Some number) = ⊥
+IsNumberOf bits (Some text) None = ⊥
 
 -- ---- names, each a value or the fault that is told of it
 
@@ -48,58 +64,49 @@ abbrev pub and_then : {V W : Type 0} → Result V LineFault → (V → Result W 
 and_then (Ok value) next = next value
 and_then (Err fault) next = Err fault
 
--- the text of an entry; `clap` takes no line without a wanted one
-abbrev pub text_at : Text → List Row → Text
-text_at id rows = unwrap_or (first_of id rows) []
+-- a text as a site name, and as a word
+abbrev pub site_of : Text → Result (List ℕ) LineFault
+site_of text = named (site_name_of text)
 
--- the texts of an entry that has any number of them
-abbrev pub texts_at : Text → List Row → List Text
-texts_at id rows = unwrap_or (all_of id rows) []
-
--- the entry of an id as a word, and as a site name
-abbrev pub word_at : Text → List Row → Result (List ℕ) LineFault
-word_at id rows = named (word_of (text_at id rows))
-
-abbrev pub site_at : Text → List Row → Result (List ℕ) LineFault
-site_at id rows = named (site_name_of (text_at id rows))
+abbrev pub word_of : Text → Result (List ℕ) LineFault
+word_of text = named (as_word text)
 
 -- texts, each as a word; the first that is none is told
 abbrev pub words_of : List Text → Result (List (List ℕ)) LineFault
 words_of [] = Ok []
-words_of (text ∷ texts) =
-    and_then (named (word_of text)) (λ word. and_then (words_of texts) (λ words. Ok (word ∷ words)))
+words_of (text ∷ texts) = and_then (word_of text) (λ word. and_then (words_of texts) (λ words. Ok (word ∷ words)))
 
 -- the rank of a grade, which is one byte
 abbrev pub grade_of : Text → Result ℕ LineFault
 grade_of (byte ∷ []) = named (ok_or (rank_of byte) BadGrade)
 grade_of _ = Err (Name BadGrade)
 
--- the entry of `-g`
-abbrev pub grade_at : List Row → Result ℕ LineFault
-grade_at rows = grade_of (text_at (codes "grade") rows)
+-- an option that may be left out: its value, where it is given
+abbrev pub optional : {V : Type 0} → (Text → Result V LineFault) → Option Text → Result (Option V) LineFault
+optional read None = Ok None
+optional read (Some text) = and_then (read text) (λ value. Ok (Some value))
 
--- ---- tasks
+-- ---- tasks, by the texts of their entries
 
 -- `drop SYSTEM`
-abbrev pub drop_task : List Row → Result Task LineFault
-drop_task rows = and_then (site_at (codes "system") rows) (λ system. Ok (task.Drop system))
+abbrev pub drop_task : Text → Result Task LineFault
+drop_task system = and_then (site_of system) (λ system. Ok (task.Drop system))
 
 -- `NAME SYSTEM FROM TO [-g GRADE]`
-abbrev pub file_task : (List ℕ → List ℕ → List ℕ → ℕ → Task) → List Row → Result Task LineFault
-file_task made rows =
-    and_then (site_at (codes "system") rows) (λ system.
-    and_then (word_at (codes "from") rows) (λ source.
-    and_then (word_at (codes "to") rows) (λ target.
-    and_then (grade_at rows) (λ grade. Ok (made system source target grade)))))
+abbrev pub file_task : (List ℕ → List ℕ → List ℕ → ℕ → Task) → Text → Text → Text → Text → Result Task LineFault
+file_task made system source target grade =
+    and_then (site_of system) (λ system.
+    and_then (word_of source) (λ source.
+    and_then (word_of target) (λ target.
+    and_then (grade_of grade) (λ grade. Ok (made system source target grade)))))
 
 -- `exec [-g GRADE] SYSTEM COMMAND [ARG..]`
-abbrev pub exec_task : List Row → Result Task LineFault
-exec_task rows =
-    and_then (grade_at rows) (λ grade.
-    and_then (site_at (codes "system") rows) (λ system.
-    and_then (word_at (codes "command") rows) (λ command.
-    and_then (words_of (texts_at (codes "argument") rows)) (λ arguments.
-    Ok (task.Execute grade system command arguments)))))
+abbrev pub exec_task : Text → Text → Text → List Text → Result Task LineFault
+exec_task grade system command arguments =
+    and_then (grade_of grade) (λ grade.
+    and_then (site_of system) (λ system.
+    and_then (word_of command) (λ command.
+    and_then (words_of arguments) (λ arguments. Ok (task.Execute grade system command arguments)))))
 
 abbrev pub same_text : Text → Text → Bool
 same_text = pointwise nat_eq
@@ -111,11 +118,6 @@ mail_by grade first addresses =
     if list_all (λ address. same_text (first_hop address) (first_hop first)) addresses
     then Ok (task.Mail grade (first_hop first) (map rest_of addresses))
     else Err TwoSystems
-
--- `clap` takes no line without an address
-abbrev pub mail_to : ℕ → List Text → Result Task LineFault
-mail_to grade [] = Err TwoSystems
-mail_to grade (address ∷ addresses) = mail_by grade address (address ∷ addresses)
 
 -- the first of the addresses that is no bang path, and why
 pub record IsBadAddress (addresses : List Text) (fault : NameFault) : Type 0 where
@@ -134,73 +136,102 @@ IsAddressFault addresses Memory = ⊤
 IsAddressFault addresses _ = ⊥
 
 -- addresses: where all are bang paths, the task, and else the fault of the first that is none
-abbrev pub MeansMail : ℕ → List Text → Result Task LineFault → Type 0
-MeansMail grade addresses meant =
-    (All IsPathText addresses × (meant ≡ mail_to grade addresses))
+abbrev pub MeansMail : ℕ → Text → List Text → Result Task LineFault → Type 0
+MeansMail grade first addresses meant =
+    (All IsPathText addresses × (meant ≡ mail_by grade first addresses))
     ⊎ ((fault : NameFault) × IsBadAddress addresses fault × (meant ≡ Err (Name fault)))
 
 -- `mail [-g GRADE] ADDRESS..`
-abbrev pub MeansGradedMail : Result ℕ LineFault → List Text → Result Task LineFault → Type 0
-MeansGradedMail (Err fault) addresses meant = meant ≡ Err fault
-MeansGradedMail (Ok grade) addresses meant = MeansMail grade addresses meant
-
--- an option that may be left out: its value, where it is given
-abbrev pub optional : {V : Type 0} → (Text → Result V LineFault) → Option Text → Result (Option V) LineFault
-optional read None = Ok None
-optional read (Some text) = and_then (read text) (λ value. Ok (Some value))
-
-abbrev pub optional_site : Text → List Row → Result (Option (List ℕ)) LineFault
-optional_site id rows = optional (λ text. named (site_name_of text)) (first_of id rows)
-
-abbrev pub optional_word : Text → List Row → Result (Option (List ℕ)) LineFault
-optional_word id rows = optional (λ text. named (word_of text)) (first_of id rows)
+abbrev pub MeansGradedMail : Result ℕ LineFault → Text → List Text → Result Task LineFault → Type 0
+MeansGradedMail (Err fault) first addresses meant = meant ≡ Err fault
+MeansGradedMail (Ok grade) first addresses meant = MeansMail grade first addresses meant
 
 -- `list [-s SYSTEM] [-u USER]`
-abbrev pub list_task : List Row → Result Task LineFault
-list_task rows =
-    and_then (optional_site (codes "system") rows) (λ system.
-    and_then (optional_word (codes "user") rows) (λ user.
-    Ok (task.List (record { system = system; user = user }))))
-
--- the number of JOB; `clap` takes no line without it
-abbrev pub IsJobOf : Option Text → ℕ → Type 0
-IsJobOf entry job = (number : Option ℕ) × IsNumberOf 32 entry number × (job ≡ unwrap_or number 0)
-
--- `NAME JOB`: what is made of the job's number
-abbrev pub MeansJob : (ℕ → Result Task LineFault) → Option Text → Result Task LineFault → Type 0
-MeansJob made entry meant = (job : ℕ) × IsJobOf entry job × (meant ≡ made job)
+abbrev pub list_task : Option Text → Option Text → Result Task LineFault
+list_task system user =
+    and_then (optional site_of system) (λ system.
+    and_then (optional word_of user) (λ user. Ok (task.List (record { system = system; user = user }))))
 
 -- `regrade JOB GRADE`
-abbrev pub regrade_task : Result ℕ LineFault → ℕ → Result Task LineFault
-regrade_task grade job = and_then grade (λ grade. Ok (task.Regrade job grade))
+abbrev pub regrade_task : ℕ → Text → Result Task LineFault
+regrade_task job grade = and_then (grade_of grade) (λ grade. Ok (task.Regrade job grade))
 
--- none of the other names: `list`, since `clap` takes no further one
-pub record IsList (name : Text) : Type 0 where
-  pub load : name ≢ codes "load"
-  pub drop : name ≢ codes "drop"
-  pub send : name ≢ codes "send"
-  pub request : name ≢ codes "request"
-  pub exec : name ≢ codes "exec"
-  pub mail : name ≢ codes "mail"
-  pub show : name ≢ codes "show"
-  pub kill : name ≢ codes "kill"
-  pub regrade : name ≢ codes "regrade"
-  pub rejuvenate : name ≢ codes "rejuvenate"
+-- `failed SYSTEM WHY`
+abbrev pub failed_task : Text → Text → Result Task LineFault
+failed_task system why = and_then (site_of system) (λ system. and_then (word_of why) (λ why. Ok (task.Failed system why)))
 
--- what a subcommand with these entries asks for, or the fault that is told
+-- `done SYSTEM [JOB..]`
+abbrev pub done_task : Text → List ℕ → Result Task LineFault
+done_task system jobs = and_then (site_of system) (λ system. Ok (task.Done system jobs))
+
+-- `neighbours HOST`
+abbrev pub neighbours_task : Text → Result Task LineFault
+neighbours_task host = and_then (site_of host) (λ host. Ok (task.Neighbours host))
+
+-- ---- what a subcommand with these entries asks for, or the fault that is told
+
+abbrev pub MeansDrop : List Row → Result Task LineFault → Type 0
+MeansDrop rows meant = WithText (codes "system") rows (λ system. meant ≡ drop_task system)
+
+abbrev pub MeansFile : (List ℕ → List ℕ → List ℕ → ℕ → Task) → List Row → Result Task LineFault → Type 0
+MeansFile made rows meant =
+    WithText (codes "system") rows (λ system.
+    WithText (codes "from") rows (λ source.
+    WithText (codes "to") rows (λ target.
+    WithText (codes "grade") rows (λ grade. meant ≡ file_task made system source target grade))))
+
+abbrev pub MeansExec : List Row → Result Task LineFault → Type 0
+MeansExec rows meant =
+    WithText (codes "grade") rows (λ grade.
+    WithText (codes "system") rows (λ system.
+    WithText (codes "command") rows (λ command.
+    meant ≡ exec_task grade system command (texts_at (codes "argument") rows))))
+
+abbrev pub MeansMailing : List Row → Result Task LineFault → Type 0
+MeansMailing rows meant =
+    WithText (codes "grade") rows (λ grade.
+    WithTexts (codes "address") rows (λ first others.
+    MeansGradedMail (grade_of grade) first (first ∷ others) meant))
+
+abbrev pub MeansJob : (ℕ → Result Task LineFault) → List Row → Result Task LineFault → Type 0
+MeansJob made rows meant =
+    WithText (codes "job") rows (λ text. (job : ℕ) × IsNumber 32 text job × (meant ≡ made job))
+
+abbrev pub MeansRegrade : List Row → Result Task LineFault → Type 0
+MeansRegrade rows meant = WithText (codes "grade") rows (λ grade. MeansJob (λ job. regrade_task job grade) rows meant)
+
+abbrev pub MeansFailed : List Row → Result Task LineFault → Type 0
+MeansFailed rows meant =
+    WithText (codes "system") rows (λ system. WithText (codes "why") rows (λ why. meant ≡ failed_task system why))
+
+abbrev pub MeansDone : List Row → Result Task LineFault → Type 0
+MeansDone rows meant =
+    WithText (codes "system") rows (λ system.
+    (jobs : List ℕ) × AreNumbers 32 (texts_at (codes "job") rows) jobs × (meant ≡ done_task system jobs))
+
+abbrev pub MeansNeighbours : List Row → Result Task LineFault → Type 0
+MeansNeighbours rows meant = WithText (codes "host") rows (λ host. meant ≡ neighbours_task host)
+
+-- no other name has a meaning
 abbrev pub MeansTask : Text → List Row → Result Task LineFault → Type 0
 MeansTask name rows meant =
     ((name ≡ codes "load") × (meant ≡ Ok task.Load))
-    ⊎ ((name ≡ codes "drop") × (meant ≡ drop_task rows))
-    ⊎ ((name ≡ codes "send") × (meant ≡ file_task task.Send rows))
-    ⊎ ((name ≡ codes "request") × (meant ≡ file_task task.Request rows))
-    ⊎ ((name ≡ codes "exec") × (meant ≡ exec_task rows))
-    ⊎ ((name ≡ codes "mail") × MeansGradedMail (grade_at rows) (texts_at (codes "address") rows) meant)
-    ⊎ ((name ≡ codes "show") × MeansJob (λ job. Ok (task.Show job)) (one_of (codes "job") rows) meant)
-    ⊎ ((name ≡ codes "kill") × MeansJob (λ job. Ok (task.Kill job)) (one_of (codes "job") rows) meant)
-    ⊎ ((name ≡ codes "regrade") × MeansJob (regrade_task (grade_at rows)) (one_of (codes "job") rows) meant)
-    ⊎ ((name ≡ codes "rejuvenate") × MeansJob (λ job. Ok (task.Rejuvenate job)) (one_of (codes "job") rows) meant)
-    ⊎ (IsList name × (meant ≡ list_task rows))
+    ⊎ ((name ≡ codes "drop") × MeansDrop rows meant)
+    ⊎ ((name ≡ codes "send") × MeansFile task.Send rows meant)
+    ⊎ ((name ≡ codes "request") × MeansFile task.Request rows meant)
+    ⊎ ((name ≡ codes "exec") × MeansExec rows meant)
+    ⊎ ((name ≡ codes "mail") × MeansMailing rows meant)
+    ⊎ ((name ≡ codes "list") × (meant ≡ list_task (first_of (codes "system") rows) (first_of (codes "user") rows)))
+    ⊎ ((name ≡ codes "show") × MeansJob (λ job. Ok (task.Show job)) rows meant)
+    ⊎ ((name ≡ codes "kill") × MeansJob (λ job. Ok (task.Kill job)) rows meant)
+    ⊎ ((name ≡ codes "regrade") × MeansRegrade rows meant)
+    ⊎ ((name ≡ codes "rejuvenate") × MeansJob (λ job. Ok (task.Rejuvenate job)) rows meant)
+    ⊎ ((name ≡ codes "due") × (meant ≡ Ok task.Due))
+    ⊎ ((name ≡ codes "status") × (meant ≡ Ok task.Status))
+    ⊎ ((name ≡ codes "failed") × MeansFailed rows meant)
+    ⊎ ((name ≡ codes "done") × MeansDone rows meant)
+    ⊎ ((name ≡ codes "map") × (meant ≡ Ok task.Map))
+    ⊎ ((name ≡ codes "neighbours") × MeansNeighbours rows meant)
 
 -- a task takes an input
 abbrev pub takes_input : Task → Bool
@@ -215,8 +246,54 @@ takes_input (task.Show job) = false
 takes_input (task.Kill job) = false
 takes_input (task.Regrade job grade) = false
 takes_input (task.Rejuvenate job) = false
+takes_input task.Due = false
+takes_input task.Status = false
+takes_input (task.Failed system why) = false
+takes_input (task.Done system jobs) = false
+takes_input task.Map = true
+takes_input (task.Neighbours host) = false
 
 -- ---- lines
+
+-- a line, as it is seen here
+pub record Line : Type 0 where
+  pub config : Text
+  pub at : Option ℕ
+  pub user : List ℕ
+  pub task : Task
+
+abbrev pub said : CallLine → Line
+said line = record { config = string_bytes line.config; at = line.at; user = line.user; task = line.task }
+
+abbrev pub answered : Result CallLine LineFault → Result Line LineFault
+answered (Ok line) = Ok (said line)
+answered (Err fault) = Err fault
+
+abbrev pub line_with : Text → Option ℕ → List ℕ → Result Task LineFault → Result Line LineFault
+line_with config at user task = and_then task (λ task. Ok (record { config = config; at = at; user = user; task = task }))
+
+-- what the subcommand that was entered asks for
+abbrev pub MeansEntered : Option (Text × List Row) → Result Task LineFault → Type 0
+MeansEntered None meant = ⊥
+MeansEntered (Some subcommand) meant = MeansTask subcommand.0 subcommand.1 meant
+
+-- the line of a user with a subcommand; the user is looked at first
+abbrev pub MeansLineOf : Text → Option ℕ → Result (List ℕ) LineFault → Option (Text × List Row) → Result Line LineFault → Type 0
+MeansLineOf config at (Err fault) entered meant = meant ≡ Err fault
+MeansLineOf config at (Ok user) entered meant =
+    (task : Result Task LineFault) × MeansEntered entered task × (meant ≡ line_with config at user task)
+
+-- what entries mean, with the subcommand that was entered
+abbrev pub MeansEntries : List Row → Option (Text × List Row) → Result Line LineFault → Type 0
+MeansEntries rows entered meant =
+    WithText (codes "config") rows (λ config.
+    WithText (codes "as") rows (λ user.
+    (at : Option ℕ) × IsNumberOf 64 (first_of (codes "at") rows) at × MeansLineOf config at (word_of user) entered meant))
+
+-- What words mean that `clap` accepts, those after the program's name: a line, or the first fault of its
+-- names.
+abbrev pub Means : List Text → Result Line LineFault → Type 0
+Means words meant = MeansEntries (matches_of program words) (subcommand_of program words) meant
 
 -- `clap` accepts the words, and finds these entries in them
 abbrev pub HasEntriesOf : List Text → ArgMatches → Type 0
@@ -224,35 +301,13 @@ HasEntriesOf words found =
     (fault_of program words ≡ []) × (rows_of (found_of found) ≡ matches_of program words)
     × (subcommand_rows_of found ≡ subcommand_of program words)
 
--- what the subcommand that was entered asks for; `clap` takes no line without one
-abbrev pub MeansEntered : Option (Text × List Row) → Result Task LineFault → Type 0
-MeansEntered None meant = meant ≡ Ok (task.List (record { system = None; user = None }))
-MeansEntered (Some entered) meant = MeansTask entered.0 entered.1 meant
-
-abbrev pub line_with : Option ℕ → List ℕ → Result Task LineFault → Result CallLine LineFault
-line_with at user task = and_then task (λ task. Ok (record { at = at; user = user; task = task }))
-
--- the line of a user, with an entry of `--at` and a subcommand; the user is looked at first
-abbrev pub MeansLineOf : Result (List ℕ) LineFault → Option Text → Option (Text × List Row) → Result CallLine LineFault → Type 0
-MeansLineOf (Err fault) second entered meant = meant ≡ Err fault
-MeansLineOf (Ok user) second entered meant =
-    (at : Option ℕ) × (task : Result Task LineFault) × IsNumberOf 64 second at × MeansEntered entered task
-    × (meant ≡ line_with at user task)
-
--- What words mean that `clap` accepts, those after the program's name: a line, or the first fault of its
--- names.
-abbrev pub Means : List Text → Result CallLine LineFault → Type 0
-Means words meant =
-    MeansLineOf (word_at (codes "as") (matches_of program words)) (one_of (codes "at") (matches_of program words))
-    (subcommand_of program words) meant
-
 -- the words are no line, or ask for help
 abbrev pub AreRefused : List Text → Type 0
 AreRefused words = fault_of program words ≢ []
 
 -- the words mean this line
 abbrev pub MeansLine : List Text → CallLine → Type 0
-MeansLine words line = (fault_of program words ≡ []) × Means words (Ok line)
+MeansLine words line = (fault_of program words ≡ []) × Means words (Ok (said line))
 
 -- the words are taken, and this is the first fault of their names and addresses
 abbrev pub MeansFault : List Text → LineFault → Type 0

@@ -1,6 +1,7 @@
 //! The program's command line, as `clap` is told of it.
-ghost use Rattle.std.specs.Prelude.{◌≡◌, IfOk, codes, false, true};
-ghost use Rattle.clap.specs.Words.{App, app_of, rule_of, with_subcommand};
+ghost use Rattle.std.specs.Prelude.{◌≡◌, IfOk, Some, codes, false, true};
+ghost use Rattle.clap.specs.Words.{App, app_of, new_app, rule_of, with_subcommand};
+ghost use Rattle.clap.specs.declared.builder.value_parser.ValueParser.TheVariants.{Unsigned};
 ghost use Rattle.clap.specs.declared.builder.command.Command.TheViews.{out-Command as fields_of};
 ghost use Rattle.uu_line.specs.Commands as spec;
 
@@ -11,46 +12,60 @@ use std::alloc::{AllocError, Global};
 pub(crate) fn program_command<'a>(alloc: Global) -> Result<Command<'a>, AllocError>
     ensures { IfOk result (λ command. app_of command ≡ spec.program) }
 {
-    let questions = with_questions(alloc);
-    let drop = adding(questions, drop_command(alloc));
-    let kill = adding(drop, job_command(alloc, "kill", "Lets a job go"));
-    let regrade = adding(kill, regrade_command(alloc));
-    adding(
-        regrade,
-        job_command(alloc, "rejuvenate", "Lets a job count as queued now"),
-    )
+    let due = plain_command(
+        alloc,
+        "due",
+        "Lists the systems to call now, each with its next job",
+    );
+    let status = plain_command(
+        alloc,
+        "status",
+        "Lists the systems and how their calls went",
+    );
+    let map = plain_command(alloc, "map", "Keeps the map entries on standard input");
+    let with_due = adding(with_jobs(alloc), Ok(due));
+    let with_status = adding(with_due, Ok(status));
+    let with_failed = adding(with_status, failed_command(alloc));
+    let with_done = adding(with_failed, done_command(alloc));
+    let with_map = adding(with_done, Ok(map));
+    adding(with_map, neighbours_command(alloc))
 }
 
-// The command with the subcommands that hand something in or ask something.
-fn with_questions<'a>(alloc: Global) -> Result<Command<'a>, AllocError>
-    ensures { IfOk result (λ command. app_of command ≡ spec.with_questions) }
+// The command with the subcommands that change systems, queue jobs, and show or change them.
+fn with_jobs<'a>(alloc: Global) -> Result<Command<'a>, AllocError>
+    ensures { IfOk result (λ command. app_of command ≡ spec.with_jobs) }
 {
-    let list = adding(with_handing_in(alloc), list_command(alloc));
-    adding(
-        list,
-        job_command(alloc, "show", "Shows a job and its bytes"),
-    )
+    let show = job_command(alloc, "show", "Shows a job and its bytes");
+    let kill = job_command(alloc, "kill", "Lets a job go");
+    let rejuvenate = job_command(alloc, "rejuvenate", "Lets a job count as queued now");
+    let with_list = adding(with_queueing(alloc), list_command(alloc));
+    let with_show = adding(with_list, show);
+    let with_kill = adding(with_show, kill);
+    let with_regrade = adding(with_kill, regrade_command(alloc));
+    adding(with_regrade, rejuvenate)
 }
 
-// The command with the subcommands that hand something in.
-fn with_handing_in<'a>(alloc: Global) -> Result<Command<'a>, AllocError>
-    ensures { IfOk result (λ command. app_of command ≡ spec.with_handing_in) }
+// The command with the subcommands that change systems and queue jobs.
+fn with_queueing<'a>(alloc: Global) -> Result<Command<'a>, AllocError>
+    ensures { IfOk result (λ command. app_of command ≡ spec.with_queueing) }
 {
-    let load = adding(with_options(alloc), Ok(load_command(alloc)));
-    let send = adding(
-        load,
-        file_command(
-            alloc,
-            "send",
-            "Queues standard input as a file for a system",
-        ),
+    let load = plain_command(
+        alloc,
+        "load",
+        "Defines the systems of the sys file on standard input",
     );
-    let request = adding(
-        send,
-        file_command(alloc, "request", "Queues a request for a file of a system"),
+    let send = file_command(
+        alloc,
+        "send",
+        "Queues standard input as a file for a system",
     );
-    let exec = adding(request, exec_command(alloc));
-    adding(exec, mail_command(alloc))
+    let request = file_command(alloc, "request", "Queues a request for a file of a system");
+    let with_load = adding(with_options(alloc), Ok(load));
+    let with_drop = adding(with_load, drop_command(alloc));
+    let with_send = adding(with_drop, send);
+    let with_request = adding(with_send, request);
+    let with_exec = adding(with_request, exec_command(alloc));
+    adding(with_exec, mail_command(alloc))
 }
 
 // The command with one subcommand more. It takes results, since a caller with an exit at each step is dear to prove.
@@ -74,8 +89,20 @@ fn with_options<'a>(alloc: Global) -> Result<Command<'a>, AllocError>
         .about("The job spool of a UUCP site")
         .no_binary_name(true)
         .subcommand_required(true)
+        .arg(config_option(alloc))?
         .arg(second_option(alloc))?
         .arg(user_option(alloc))
+}
+
+fn config_option<'a>(alloc: Global) -> Arg<'a>
+    ensures rule { rule_of result ≡ spec.config_option }
+    ensures local { result.global ≡ false }
+{
+    Arg::new(alloc, "config")
+        .short('c')
+        .value_name("FILE")
+        .default_value("uuspool.toml")
+        .help("The settings file")
 }
 
 fn second_option<'a>(alloc: Global) -> Arg<'a>
@@ -100,11 +127,12 @@ fn user_option<'a>(alloc: Global) -> Arg<'a>
         .help("The user who calls")
 }
 
-fn load_command<'a>(alloc: Global) -> Command<'a>
-    ensures app { app_of result ≡ spec.load_command }
+// A subcommand with no arguments.
+fn plain_command<'a>(alloc: Global, name: &'a str, about: &'a str) -> Command<'a>
+    ensures app { app_of result ≡ new_app name.entry.now }
     ensures local { (fields_of result).has_globals ≡ false }
 {
-    Command::new(alloc, "load").about("Defines the systems of the sys file on standard input")
+    Command::new(alloc, name).about(about)
 }
 
 fn drop_command<'a>(alloc: Global) -> Result<Command<'a>, AllocError>
@@ -191,6 +219,35 @@ fn list_command<'a>(alloc: Global) -> Result<Command<'a>, AllocError>
         .arg(wanted_user(alloc))
 }
 
+fn failed_command<'a>(alloc: Global) -> Result<Command<'a>, AllocError>
+    ensures app { IfOk result (λ command. app_of command ≡ spec.failed_command) }
+    ensures local { IfOk result (λ command. (fields_of command).has_globals ≡ false) }
+{
+    Command::new(alloc, "failed")
+        .about("Notes a call that failed")
+        .arg(called_argument(alloc))?
+        .arg(argument(alloc, "why", "WHY", "Why it failed, a word"))
+}
+
+fn done_command<'a>(alloc: Global) -> Result<Command<'a>, AllocError>
+    ensures app { IfOk result (λ command. app_of command ≡ spec.done_command) }
+    ensures local { IfOk result (λ command. (fields_of command).has_globals ≡ false) }
+{
+    Command::new(alloc, "done")
+        .about("Notes a call that succeeded, and lets the jobs go that it carried out")
+        .arg(called_argument(alloc))?
+        .arg(job_arguments(alloc))
+}
+
+fn neighbours_command<'a>(alloc: Global) -> Result<Command<'a>, AllocError>
+    ensures app { IfOk result (λ command. app_of command ≡ spec.neighbours_command) }
+    ensures local { IfOk result (λ command. (fields_of command).has_globals ≡ false) }
+{
+    Command::new(alloc, "neighbours")
+        .about("Lists the links of a host's map entry")
+        .arg(argument(alloc, "host", "HOST", "The host of the map entry"))
+}
+
 fn wanted_system<'a>(alloc: Global) -> Arg<'a>
     ensures rule { rule_of result ≡ spec.wanted_system }
     ensures local { result.global ≡ false }
@@ -221,6 +278,13 @@ fn system_argument<'a>(alloc: Global) -> Arg<'a>
         "SYSTEM",
         "The neighbour that the job is for",
     )
+}
+
+fn called_argument<'a>(alloc: Global) -> Arg<'a>
+    ensures rule { rule_of result ≡ spec.argument (codes "system") }
+    ensures local { result.global ≡ false }
+{
+    argument(alloc, "system", "SYSTEM", "The neighbour that was called")
 }
 
 fn job_argument<'a>(alloc: Global) -> Arg<'a>
@@ -262,6 +326,17 @@ fn address_arguments<'a>(alloc: Global) -> Arg<'a>
         .num_args(1..)
         .required(true)
         .help("A bang path, each by way of the same neighbour")
+}
+
+fn job_arguments<'a>(alloc: Global) -> Arg<'a>
+    ensures rule { rule_of result ≡ record (spec.arguments (codes "job") 0) { parser = Some (Unsigned 0 4_294_967_295) } }
+    ensures local { result.global ≡ false }
+{
+    Arg::new(alloc, "job")
+        .value_name("JOB")
+        .num_args(0..)
+        .value_parser(clap::value_parser!(u64).range(0..=4_294_967_295))
+        .help("The numbers of the jobs that were carried out")
 }
 
 // An argument that has to be there, by its place.

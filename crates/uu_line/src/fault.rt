@@ -50,9 +50,9 @@ impl<T: Drop> From<AllocFailed<T>> for LineFault {
 
 impl From<NameFault> for LineFault {
     ghost use Rattle.std.specs.Prelude.{◌≡◌};
-    ghost use Rattle.uu_line.specs.Faults.{told_name};
+    ghost use Rattle.uu_line.specs.Faults.{fault_of_name};
 
-    ghost from_gives = { λ name fault. fault ≡ told_name name };
+    ghost from_gives = { λ name fault. fault ≡ fault_of_name name };
 
     fn from(fault: NameFault) -> LineFault {
         match fault {

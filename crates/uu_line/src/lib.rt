@@ -3,8 +3,10 @@
 #![tactic(auto)]
 
 mod commands;
+mod entered;
 mod fault;
 mod line;
+mod reading;
 mod task;
 mod values;
 

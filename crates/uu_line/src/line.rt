@@ -1,25 +1,28 @@
 //! From words to a line of typed values.
 
-ghost use Rattle.std.specs.Prelude.{◌≢◌, [], IfOk, IfErr, map, codes};
+ghost use Rattle.std.specs.Prelude.{◌≢◌, [], IfOk, IfErr, map};
 ghost use Rattle.std.specs.String.{string_bytes};
-ghost use Rattle.clap.specs.Words.{rows_of, found_of, one_of, kind_of, fault_of, subcommand_rows_of};
+ghost use Rattle.clap.specs.Words.{rows_of, found_of, kind_of, fault_of, subcommand_rows_of};
 ghost use Rattle.uu_line.specs.Commands.{program};
+ghost use Rattle.uu_line.specs.Entries.{AreTaken, HasSubcommand};
 ghost use Rattle.uu_line.specs.Lines.{HasEntriesOf, UnlessMemory, IsAnswerTo, IsWordsWhere};
 ghost use Rattle.uu_line.specs.Lines as spec;
 
 use crate::commands::program_command;
+use crate::entered::task_in;
 use crate::fault::LineFault;
-use crate::task::{Task, task_in};
-use crate::values::word_in;
+use crate::task::Task;
+use crate::values::{second_in, text_in, word_of};
 use clap::ArgMatches;
 use clap::error::ErrorKind;
 use std::alloc::Global;
-use uu_core::Filter;
 use uu_names::Word;
 
 /// One line of the program.
 #[derive(Debug, Drop)]
 pub struct CallLine {
+    /// The path of the settings file of `-c`, `uuspool.toml` where it is not given.
+    pub config: String,
     /// The second of `--at`, UTC, where it is given.
     pub at: Option<u64>,
     /// The user of `--as`, `uucp` where it is not given.
@@ -45,13 +48,19 @@ pub fn line_of(alloc: Global, words: &[String]) -> Result<CallLine, LineFault>
 
 // The line with these entries.
 fn line_in(alloc: Global, given: &ArgMatches<'_>) -> Result<CallLine, LineFault>
-    ensures { UnlessMemory (spec.MeansLineOf (spec.word_at (codes "as") (rows_of (found_of given.now)))
-        (one_of (codes "at") (rows_of (found_of given.now))) (subcommand_rows_of given.now)) result }
+    requires { AreTaken (rows_of (found_of given.now)) (subcommand_rows_of given.now) }
+    ensures { UnlessMemory (λ answer. spec.MeansEntries (rows_of (found_of given.now)) (subcommand_rows_of given.now) (spec.answered answer)) result }
 {
-    let at = given.get_one::<u64>("at");
-    match word_in(alloc, given, "as") {
+    let config = text_in(given, "config");
+    let at = second_in(given);
+    match word_of(alloc, text_in(given, "as")) {
         Ok(user) => match entered_in(alloc, given) {
-            Ok(task) => Ok(CallLine { at, user, task }),
+            Ok(task) => Ok(CallLine {
+                config: String::from_str(alloc, config)?,
+                at,
+                user,
+                task,
+            }),
             Err(fault) => Err(fault),
         },
         Err(fault) => Err(fault),
@@ -83,14 +92,13 @@ fn refused(alloc: Global, error: &clap::Error) -> LineFault
     }
 }
 
-// The task of the subcommand that was entered; `clap` has seen to it that there is one.
+// The task of the subcommand that was entered.
 fn entered_in(alloc: Global, given: &ArgMatches<'_>) -> Result<Task, LineFault>
+    requires { HasSubcommand (subcommand_rows_of given.now) }
     ensures { UnlessMemory (spec.MeansEntered (subcommand_rows_of given.now)) result }
 {
     match given.subcommand() {
         Some((name, given)) => task_in(alloc, name, given),
-        None => Ok(Task::List {
-            filter: Filter::all(),
-        }),
+        None => unreachable!(),
     }
 }

@@ -1,10 +1,11 @@
-//! The values that are given under an id: numbers, words, names, grades and bang paths.
+//! The texts, numbers, words and bang paths that are given under an id, and texts as names, words and grades.
 
-ghost use Rattle.std.specs.Prelude.{◌≡◌, All, IfOk, IfErr, map, codes};
-ghost use Rattle.clap.specs.Words.{rows_of, found_of, one_of};
-ghost use Rattle.uu_names.specs.Name.{site_name_of, word_of};
+ghost use Rattle.std.specs.Prelude.{◌≡◌, All, IfOk, IfErr, IsSome, IsTrue, Some, map, option_map, codes};
+ghost use Rattle.clap.specs.ValueTests.{is_unsigned_in};
+ghost use Rattle.clap.specs.Words.{first_of, rows_of, found_of};
 ghost use Rattle.uu_names.specs.Path.{IsPathText};
-ghost use Rattle.uu_line.specs.Lines.{Answers};
+ghost use Rattle.uu_line.specs.Entries.{AreNumbersUpTo, most_job, most_second, texts_at};
+ghost use Rattle.uu_line.specs.Lines.{Answers, AreNumbers, IsNumber, IsNumberOf, WithText};
 ghost use Rattle.uu_line.specs.Lines as spec;
 
 use crate::fault::LineFault;
@@ -12,76 +13,112 @@ use clap::ArgMatches;
 use std::alloc::Global;
 use uu_names::{Grade, Listed, NameFault, Path, SiteName, Word};
 
-/// The bang paths that are given under an id.
-pub(crate) fn paths_in(
-    alloc: Global,
-    given: &ArgMatches<'_>,
-    id: &str,
-) -> Result<Vec<Path>, LineFault>
-    ensures paths { IfOk result (λ paths. (paths.items ≡ spec.texts_at id.now (rows_of (found_of given.now)))
-        × All IsPathText (spec.texts_at id.now (rows_of (found_of given.now)))) }
-    ensures fault { IfErr result (spec.IsAddressFault (spec.texts_at id.now (rows_of (found_of given.now)))) }
-{
-    match given.get_strs(id) {
-        Some(texts) => paths_of(alloc, texts),
-        None => Ok(Vec::new(alloc)),
-    }
-}
-
-// The texts as bang paths.
-fn paths_of(alloc: Global, texts: &[&str]) -> Result<Vec<Path>, LineFault>
-    ensures paths { IfOk result (λ paths. (paths.items ≡ map (λ text. text.now) texts.now)
-        × All IsPathText (map (λ text. text.now) texts.now)) }
-    ensures fault { IfErr result (spec.IsAddressFault (map (λ text. text.now) texts.now)) }
-{
-    let mut paths = Vec::new(alloc);
-    for text in texts {
-        paths.push(Path::parse(alloc, text)?)?;
-    }
-    Ok(paths)
-}
-
-/// The number of JOB; `clap` has seen to it that there is one.
-pub(crate) fn job_in(given: &ArgMatches<'_>) -> u32
-    ensures { spec.IsJobOf (one_of (codes "job") (rows_of (found_of given.now))) result }
-{
-    given.get_one::<u32>("job").unwrap_or(0)
-}
-
-// The text that is given under an id; `clap` has seen to those that have to be there.
-fn text_in<'a>(given: &ArgMatches<'a>, id: &str) -> &'a str
-    ensures { result.now ≡ spec.text_at id.now (rows_of (found_of given.now)) }
-{
-    given.get_str(id).unwrap_or("")
-}
-
-/// The word that is given under an id.
-pub(crate) fn word_in(alloc: Global, given: &ArgMatches<'_>, id: &str) -> Result<Word, LineFault>
-    ensures { Answers result (spec.word_at id.now (rows_of (found_of given.now))) }
-{
-    word_of(alloc, text_in(given, id))
-}
-
-/// The site name that is given under an id.
-pub(crate) fn site_in(
-    alloc: Global,
-    given: &ArgMatches<'_>,
-    id: &str,
-) -> Result<SiteName, LineFault>
-    ensures { Answers result (spec.site_at id.now (rows_of (found_of given.now))) }
-{
-    site_of(alloc, text_in(given, id))
-}
-
-/// The site name that is given under an id, where one is.
-pub(crate) fn optional_site(
-    alloc: Global,
-    given: &ArgMatches<'_>,
-    id: &str,
-) -> Result<Option<SiteName>, LineFault>
-    ensures { Answers result (spec.optional_site id.now (rows_of (found_of given.now))) }
+/// The text of an entry that every line has.
+pub(crate) fn text_in<'a>(given: &ArgMatches<'a>, id: &str) -> &'a str
+    requires { IsSome (first_of id.now (rows_of (found_of given.now))) }
+    ensures { Some result.now ≡ first_of id.now (rows_of (found_of given.now)) }
 {
     match given.get_str(id) {
+        Some(text) => text,
+        None => unreachable!(),
+    }
+}
+
+/// The number of JOB.
+pub(crate) fn job_in(given: &ArgMatches<'_>) -> u32
+    requires there { IsSome (first_of (codes "job") (rows_of (found_of given.now))) }
+    requires number { AreNumbersUpTo most_job (texts_at (codes "job") (rows_of (found_of given.now))) }
+    ensures { WithText (codes "job") (rows_of (found_of given.now)) (λ text. IsNumber 32 text result) }
+{
+    job_of(text_in(given, "job"))
+}
+
+/// The second of `--at`, where it is given.
+pub(crate) fn second_in(given: &ArgMatches<'_>) -> Option<u64>
+    requires { AreNumbersUpTo most_second (texts_at (codes "at") (rows_of (found_of given.now))) }
+    ensures { IsNumberOf 64 (first_of (codes "at") (rows_of (found_of given.now))) result }
+{
+    match given.get_str("at") {
+        Some(text) => Some(second_of(text)),
+        None => None,
+    }
+}
+
+/// The numbers of JOB, none where there is no such entry.
+pub(crate) fn jobs_in(alloc: Global, given: &ArgMatches<'_>) -> Result<Listed<u32>, LineFault>
+    requires { AreNumbersUpTo most_job (texts_at (codes "job") (rows_of (found_of given.now))) }
+    ensures jobs { IfOk result (AreNumbers 32 (texts_at (codes "job") (rows_of (found_of given.now)))) }
+    ensures memory { IfErr result (λ fault. fault ≡ LineFault.Memory) }
+{
+    match given.get_strs("job") {
+        Some(texts) => jobs_of(alloc, texts),
+        None => Ok(Listed::from_vec(Vec::new(alloc))),
+    }
+}
+
+// The numbers of jobs.
+fn jobs_of(alloc: Global, texts: &[&str]) -> Result<Listed<u32>, LineFault>
+    requires { AreNumbersUpTo most_job (map (λ text. text.now) texts.now) }
+    ensures jobs { IfOk result (λ jobs. AreNumbers 32 (map (λ text. text.now) texts.now) jobs) }
+    ensures memory { IfErr result (λ fault. fault ≡ LineFault.Memory) }
+{
+    let mut jobs = Vec::new(alloc);
+    for text in texts {
+        jobs.push(job_of(text))?;
+    }
+    Ok(Listed::from_vec(jobs))
+}
+
+// The number of a job.
+fn job_of(text: &str) -> u32
+    requires { IsTrue (is_unsigned_in 0 most_job text.now) }
+    ensures { IsNumber 32 text.now result }
+{
+    match text.parse::<u32>() {
+        Ok(job) => job,
+        Err(_) => unreachable!(),
+    }
+}
+
+// A second.
+fn second_of(text: &str) -> u64
+    requires { IsTrue (is_unsigned_in 0 most_second text.now) }
+    ensures { IsNumber 64 text.now result }
+{
+    match text.parse::<u64>() {
+        Ok(second) => second,
+        Err(_) => unreachable!(),
+    }
+}
+
+/// The text as a site name.
+pub(crate) fn site_of(alloc: Global, text: &str) -> Result<SiteName, LineFault>
+    ensures { Answers result (spec.site_of text.now) }
+{
+    match SiteName::parse(alloc, text) {
+        Ok(name) => Ok(name),
+        Err(fault) => Err(LineFault::from(fault)),
+    }
+}
+
+/// The text as a word.
+pub(crate) fn word_of(alloc: Global, text: &str) -> Result<Word, LineFault>
+    ensures { Answers result (spec.word_of text.now) }
+{
+    match Word::parse(alloc, text) {
+        Ok(word) => Ok(word),
+        Err(fault) => Err(LineFault::from(fault)),
+    }
+}
+
+/// The text as a site name, where there is one.
+pub(crate) fn optional_site(
+    alloc: Global,
+    text: Option<&str>,
+) -> Result<Option<SiteName>, LineFault>
+    ensures { Answers result (spec.optional spec.site_of (option_map (λ text. text.now) text.entry)) }
+{
+    match text {
         Some(text) => match site_of(alloc, text) {
             Ok(name) => Ok(Some(name)),
             Err(fault) => Err(fault),
@@ -90,15 +127,11 @@ pub(crate) fn optional_site(
     }
 }
 
-/// The word that is given under an id, where one is.
-pub(crate) fn optional_word(
-    alloc: Global,
-    given: &ArgMatches<'_>,
-    id: &str,
-) -> Result<Option<Word>, LineFault>
-    ensures { Answers result (spec.optional_word id.now (rows_of (found_of given.now))) }
+/// The text as a word, where there is one.
+pub(crate) fn optional_word(alloc: Global, text: Option<&str>) -> Result<Option<Word>, LineFault>
+    ensures { Answers result (spec.optional spec.word_of (option_map (λ text. text.now) text.entry)) }
 {
-    match given.get_str(id) {
+    match text {
         Some(text) => match word_of(alloc, text) {
             Ok(word) => Ok(Some(word)),
             Err(fault) => Err(fault),
@@ -107,11 +140,11 @@ pub(crate) fn optional_word(
     }
 }
 
-/// The grade that is given.
-pub(crate) fn grade_in(given: &ArgMatches<'_>) -> Result<Grade, LineFault>
-    ensures { Answers result (spec.grade_at (rows_of (found_of given.now))) }
+/// The text as a grade, which is one byte.
+pub(crate) fn grade_of(text: &str) -> Result<Grade, LineFault>
+    ensures { Answers result (spec.grade_of text.now) }
 {
-    let [byte] = text_in(given, "grade").as_bytes() else {
+    let [byte] = text.as_bytes() else {
         return Err(LineFault::Name(NameFault::BadGrade));
     };
     match Grade::parse(*byte) {
@@ -120,33 +153,13 @@ pub(crate) fn grade_in(given: &ArgMatches<'_>) -> Result<Grade, LineFault>
     }
 }
 
-// The text as a site name.
-fn site_of(alloc: Global, text: &str) -> Result<SiteName, LineFault>
-    ensures { Answers result (spec.named (site_name_of text.now)) }
-{
-    match SiteName::parse(alloc, text) {
-        Ok(name) => Ok(name),
-        Err(fault) => Err(LineFault::from(fault)),
-    }
-}
-
-// The text as a word.
-fn word_of(alloc: Global, text: &str) -> Result<Word, LineFault>
-    ensures { Answers result (spec.named (word_of text.now)) }
-{
-    match Word::parse(alloc, text) {
-        Ok(word) => Ok(word),
-        Err(fault) => Err(LineFault::from(fault)),
-    }
-}
-
-/// The words that are given under an id.
+/// The words of an entry, none where there is no such entry.
 pub(crate) fn words_in(
     alloc: Global,
     given: &ArgMatches<'_>,
     id: &str,
 ) -> Result<Listed<Word>, LineFault>
-    ensures { Answers result (spec.words_of (spec.texts_at id.now (rows_of (found_of given.now)))) }
+    ensures { Answers result (spec.words_of (texts_at id.now (rows_of (found_of given.now)))) }
 {
     match given.get_strs(id) {
         Some(texts) => words_of(alloc, texts),
@@ -166,4 +179,33 @@ fn words_of(alloc: Global, texts: &[&str]) -> Result<Listed<Word>, LineFault>
         }
     }
     Ok(Listed::from_vec(words))
+}
+
+/// The bang paths of an entry, none where there is no such entry.
+pub(crate) fn paths_in(
+    alloc: Global,
+    given: &ArgMatches<'_>,
+    id: &str,
+) -> Result<Vec<Path>, LineFault>
+    ensures paths { IfOk result (λ paths. (paths.items ≡ texts_at id.now (rows_of (found_of given.now)))
+        × All IsPathText (texts_at id.now (rows_of (found_of given.now)))) }
+    ensures fault { IfErr result (spec.IsAddressFault (texts_at id.now (rows_of (found_of given.now)))) }
+{
+    match given.get_strs(id) {
+        Some(texts) => paths_of(alloc, texts),
+        None => Ok(Vec::new(alloc)),
+    }
+}
+
+// The texts as bang paths.
+fn paths_of(alloc: Global, texts: &[&str]) -> Result<Vec<Path>, LineFault>
+    ensures paths { IfOk result (λ paths. (paths.items ≡ map (λ text. text.now) texts.now)
+        × All IsPathText (map (λ text. text.now) texts.now)) }
+    ensures fault { IfErr result (spec.IsAddressFault (map (λ text. text.now) texts.now)) }
+{
+    let mut paths = Vec::new(alloc);
+    for text in texts {
+        paths.push(Path::parse(alloc, text)?)?;
+    }
+    Ok(paths)
 }

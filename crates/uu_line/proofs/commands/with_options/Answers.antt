@@ -15,5 +15,6 @@ returns c =
     let bare : app_of c.subcommand_required.result ≡ without_options =
     ap app_of_fields settings
     ∙ ap (on_top (λ s. record s { no_binary_name = true; subcommand_required = true })) c.new.ensures.app in
-    let one = c.in_ok-arg.ensures.shape c.second_option.ensures.local ∙ ap₂ with_rule bare c.second_option.ensures.rule in
-    IfOk-weaker c.arg-2.result _ _ (λ command added. added.shape c.user_option.ensures.local ∙ ap₂ with_rule one c.user_option.ensures.rule) c.arg-2.ensures
+    let one = c.in_ok-arg.ensures.shape c.config_option.ensures.local ∙ ap₂ with_rule bare c.config_option.ensures.rule in
+    let two = c.in_ok-arg-2.ensures.shape c.second_option.ensures.local ∙ ap₂ with_rule one c.second_option.ensures.rule in
+    IfOk-weaker c.arg-3.result _ _ (λ command added. added.shape c.user_option.ensures.local ∙ ap₂ with_rule two c.user_option.ensures.rule) c.arg-3.ensures

@@ -1,13 +1,13 @@
-use Rattle.std.proofs.Common.{◌≡◌, ◌∙◌, ap, List, ℕ, [], Option, Some, None, unwrap_or, option_map, refl, Bor}
-use Rattle.clap.specs.Words.{found_of}
+use Rattle.std.proofs.Common.{◌∙◌}
+use Rattle.clap.specs.Words.{first_of, found_of, rows_of}
 use Rattle.clap.proofs.WalkLemmas.{first_value-rows}
+use Rattle.uu_line.proofs.LineLemmas.{none_is_no}
 use Rattle.uu_line.proofs.values.text_in.Goals as goal
 
-now_of : (o : Option (Bor (List ℕ))) (d : Bor (List ℕ)) → d.now ≡ [] → (unwrap_or o d).now ≡ unwrap_or (option_map (λ s. s.now) o) []
-now_of None d e = e
-now_of (Some x) d e = refl
+pub unreachable-requires : goal.unreachable-requires
+unreachable-requires c =
+    let found = found_of c.args.given.now in
+    none_is_no (first_of c.args.id.now (rows_of found)) (c.in-None.ensures ∙ first_value-rows found c.args.id.now) c.requires
 
 pub returns : goal.returns
-returns c =
-    ap (λ b. b.now) c.unwrap_or.ensures ∙ now_of c.get_str.result _ refl
-    ∙ ap (λ o. unwrap_or o []) (c.get_str.ensures ∙ first_value-rows (found_of c.args.given.now) c.args.id.now)
+returns c = c.in-Some.ensures ∙ first_value-rows (found_of c.args.given.now) c.args.id.now

@@ -1,6 +1,5 @@
 use Rattle.std.proofs.Common.{◌≡◌, ◌∙◌, ap, sym, ℕ, ◌<◌, List, [], length, slice_index_or, Ok, map, add-one, arith, Bor}
-use Rattle.uu_names.specs.Name.{word_of}
-use Rattle.uu_line.specs.Lines.{named, words_of}
+use Rattle.uu_line.specs.Lines.{word_of, words_of}
 use Rattle.uu_line.proofs.LineLemmas.{err_weaker, words_next, words_stop}
 use Rattle.uu_line.proofs.values.words_of.Goals as goal
 
@@ -10,7 +9,7 @@ nothing = record { ref_ptr = (0, 0); now = [] }
 pub returns-in-Err : goal.returns-in-Err
 returns-in-Err c =
     let inside : c.loop-text.text-index < length c.args.texts.now = omega arith in
-    err_weaker (λ a. a ≡ named (word_of (slice_index_or c.args.texts.now c.loop-text.text-index nothing).now))
+    err_weaker (λ a. a ≡ word_of (slice_index_or c.args.texts.now c.loop-text.text-index nothing).now)
     (λ a. a ≡ words_of (map (λ text. text.now) c.args.texts.now)) c.in-Err.fault
     (λ is. words_stop (λ text. text.now) c.args.texts.now c.loop-text.text-index nothing c.loop-text.words.items c.in-Err.fault inside c.loop-text.invariant is)
     c.in-Err.ensures

@@ -1,0 +1,10 @@
+use Rattle.std.proofs.Common.{◌≡◌, ap₂, ap, ◌∙◌, codes}
+use Rattle.std.proofs.lemmas.Result.{IfOk-weaker}
+use Rattle.clap.specs.Words.{app_of, new_app, with_rule}
+use Rattle.clap.specs.Simple.{app_of_fields}
+use Rattle.uu_line.proofs.commands.neighbours_command.Goals as goal
+
+pub returns-clause-app : goal.returns-clause-app
+returns-clause-app c =
+    let bare : app_of c.about.result ≡ new_app (codes "neighbours") = ap app_of_fields c.about.ensures ∙ c.new.ensures.app in
+    IfOk-weaker c.arg.result _ _ (λ command added. added.shape c.argument.ensures.local ∙ ap₂ with_rule bare c.argument.ensures.rule) c.arg.ensures

@@ -1,0 +1,177 @@
+//! The task of a subcommand, by its entries.
+
+ghost use Rattle.std.specs.Prelude.{◌≡◌, ◌∷◌, [], Ok, codes};
+ghost use Rattle.clap.specs.Words.{rows_of, found_of, first_of};
+ghost use Rattle.uu_line.specs.Entries.{AreNumbersUpTo, HaveTexts, IsEntered, most_job, texts_at};
+ghost use Rattle.uu_line.specs.Lines.{Answers, UnlessMemory, MeansTask};
+ghost use Rattle.uu_line.specs.Lines as spec;
+
+use crate::fault::LineFault;
+use crate::reading::{
+    done_task, drop_task, execute_task, failed_task, list_task, mail_task, neighbours_task,
+    regrade_task, request_task, send_task,
+};
+use crate::task::Task;
+use crate::values::{grade_of, job_in, jobs_in, paths_in, text_in};
+use clap::ArgMatches;
+use std::alloc::Global;
+
+/// The task that a subcommand with these entries asks for.
+pub(crate) fn task_in(alloc: Global, name: &str, given: &ArgMatches<'_>) -> Result<Task, LineFault>
+    requires { IsEntered name.now (rows_of (found_of given.now)) }
+    ensures { UnlessMemory (MeansTask name.now (rows_of (found_of given.now))) result }
+{
+    match name {
+        "load" => Ok(Task::Load),
+        "drop" => drop_in(alloc, given),
+        "send" => send_in(alloc, given),
+        "request" => request_in(alloc, given),
+        "exec" => execute_in(alloc, given),
+        "mail" => mail_in(alloc, given),
+        "list" => list_in(alloc, given),
+        "show" => Ok(show_in(given)),
+        "kill" => Ok(kill_in(given)),
+        "regrade" => regrade_in(given),
+        "rejuvenate" => Ok(rejuvenate_in(given)),
+        "due" => Ok(Task::Due),
+        "status" => Ok(Task::Status),
+        "failed" => failed_in(alloc, given),
+        "done" => done_in(alloc, given),
+        "map" => Ok(Task::Map),
+        "neighbours" => neighbours_in(alloc, given),
+        _ => unreachable!(),
+    }
+}
+
+// The task of `drop`.
+fn drop_in(alloc: Global, given: &ArgMatches<'_>) -> Result<Task, LineFault>
+    requires { HaveTexts (codes "system" ∷ []) (rows_of (found_of given.now)) }
+    ensures { UnlessMemory (spec.MeansDrop (rows_of (found_of given.now))) result }
+{
+    drop_task(alloc, text_in(given, "system"))
+}
+
+// The task of `send`.
+fn send_in(alloc: Global, given: &ArgMatches<'_>) -> Result<Task, LineFault>
+    requires { HaveTexts (codes "system" ∷ codes "from" ∷ codes "to" ∷ codes "grade" ∷ []) (rows_of (found_of given.now)) }
+    ensures { UnlessMemory (spec.MeansFile Task.Send (rows_of (found_of given.now))) result }
+{
+    let system = text_in(given, "system");
+    let source = text_in(given, "from");
+    let target = text_in(given, "to");
+    let grade = text_in(given, "grade");
+    send_task(alloc, system, source, target, grade)
+}
+
+// The task of `request`.
+fn request_in(alloc: Global, given: &ArgMatches<'_>) -> Result<Task, LineFault>
+    requires { HaveTexts (codes "system" ∷ codes "from" ∷ codes "to" ∷ codes "grade" ∷ []) (rows_of (found_of given.now)) }
+    ensures { UnlessMemory (spec.MeansFile Task.Request (rows_of (found_of given.now))) result }
+{
+    let system = text_in(given, "system");
+    let source = text_in(given, "from");
+    let target = text_in(given, "to");
+    let grade = text_in(given, "grade");
+    request_task(alloc, system, source, target, grade)
+}
+
+// The task of `exec`.
+fn execute_in(alloc: Global, given: &ArgMatches<'_>) -> Result<Task, LineFault>
+    requires { HaveTexts (codes "grade" ∷ codes "system" ∷ codes "command" ∷ []) (rows_of (found_of given.now)) }
+    ensures { UnlessMemory (spec.MeansExec (rows_of (found_of given.now))) result }
+{
+    let grade = text_in(given, "grade");
+    let system = text_in(given, "system");
+    let command = text_in(given, "command");
+    execute_task(alloc, grade, system, command, given)
+}
+
+// The task of `mail`.
+fn mail_in(alloc: Global, given: &ArgMatches<'_>) -> Result<Task, LineFault>
+    requires { HaveTexts (codes "grade" ∷ codes "address" ∷ []) (rows_of (found_of given.now)) }
+    ensures { UnlessMemory (spec.MeansMailing (rows_of (found_of given.now))) result }
+{
+    match grade_of(text_in(given, "grade")) {
+        Ok(grade) => match paths_in(alloc, given, "address") {
+            Ok(paths) => mail_task(alloc, grade, &paths),
+            Err(fault) => Err(fault),
+        },
+        Err(fault) => Err(fault),
+    }
+}
+
+// The task of `list`.
+fn list_in(alloc: Global, given: &ArgMatches<'_>) -> Result<Task, LineFault>
+    ensures { Answers result (spec.list_task (first_of (codes "system") (rows_of (found_of given.now)))
+        (first_of (codes "user") (rows_of (found_of given.now)))) }
+{
+    list_task(alloc, given.get_str("system"), given.get_str("user"))
+}
+
+// The task of `show`.
+fn show_in(given: &ArgMatches<'_>) -> Task
+    requires texts { HaveTexts (codes "job" ∷ []) (rows_of (found_of given.now)) }
+    requires number { AreNumbersUpTo most_job (texts_at (codes "job") (rows_of (found_of given.now))) }
+    ensures { spec.MeansJob (λ job. Ok (Task.Show job)) (rows_of (found_of given.now)) (Ok result) }
+{
+    let job = job_in(given);
+    Task::Show { job }
+}
+
+// The task of `kill`.
+fn kill_in(given: &ArgMatches<'_>) -> Task
+    requires texts { HaveTexts (codes "job" ∷ []) (rows_of (found_of given.now)) }
+    requires number { AreNumbersUpTo most_job (texts_at (codes "job") (rows_of (found_of given.now))) }
+    ensures { spec.MeansJob (λ job. Ok (Task.Kill job)) (rows_of (found_of given.now)) (Ok result) }
+{
+    let job = job_in(given);
+    Task::Kill { job }
+}
+
+// The task of `regrade`.
+fn regrade_in(given: &ArgMatches<'_>) -> Result<Task, LineFault>
+    requires texts { HaveTexts (codes "job" ∷ codes "grade" ∷ []) (rows_of (found_of given.now)) }
+    requires number { AreNumbersUpTo most_job (texts_at (codes "job") (rows_of (found_of given.now))) }
+    ensures { UnlessMemory (spec.MeansRegrade (rows_of (found_of given.now))) result }
+{
+    regrade_task(job_in(given), text_in(given, "grade"))
+}
+
+// The task of `rejuvenate`.
+fn rejuvenate_in(given: &ArgMatches<'_>) -> Task
+    requires texts { HaveTexts (codes "job" ∷ []) (rows_of (found_of given.now)) }
+    requires number { AreNumbersUpTo most_job (texts_at (codes "job") (rows_of (found_of given.now))) }
+    ensures { spec.MeansJob (λ job. Ok (Task.Rejuvenate job)) (rows_of (found_of given.now)) (Ok result) }
+{
+    let job = job_in(given);
+    Task::Rejuvenate { job }
+}
+
+// The task of `failed`.
+fn failed_in(alloc: Global, given: &ArgMatches<'_>) -> Result<Task, LineFault>
+    requires { HaveTexts (codes "system" ∷ codes "why" ∷ []) (rows_of (found_of given.now)) }
+    ensures { UnlessMemory (spec.MeansFailed (rows_of (found_of given.now))) result }
+{
+    failed_task(alloc, text_in(given, "system"), text_in(given, "why"))
+}
+
+// The task of `done`.
+fn done_in(alloc: Global, given: &ArgMatches<'_>) -> Result<Task, LineFault>
+    requires texts { HaveTexts (codes "system" ∷ []) (rows_of (found_of given.now)) }
+    requires numbers { AreNumbersUpTo most_job (texts_at (codes "job") (rows_of (found_of given.now))) }
+    ensures { UnlessMemory (spec.MeansDone (rows_of (found_of given.now))) result }
+{
+    let system = text_in(given, "system");
+    match jobs_in(alloc, given) {
+        Ok(jobs) => done_task(alloc, system, jobs),
+        Err(fault) => Err(fault),
+    }
+}
+
+// The task of `neighbours`.
+fn neighbours_in(alloc: Global, given: &ArgMatches<'_>) -> Result<Task, LineFault>
+    requires { HaveTexts (codes "host" ∷ []) (rows_of (found_of given.now)) }
+    ensures { UnlessMemory (spec.MeansNeighbours (rows_of (found_of given.now))) result }
+{
+    neighbours_task(alloc, text_in(given, "host"))
+}

@@ -1,0 +1,193 @@
+//! Tasks from the texts of their entries.
+
+ghost use Rattle.std.specs.Prelude.{◌≡◌, ℕ, List, Some, IfOk, IfErr, IsSome, map, codes, option_map, slice_get};
+ghost use Rattle.std.specs.List.{list_all};
+ghost use Rattle.clap.specs.Words.{found_of, rows_of};
+ghost use Rattle.uu_names.specs.Path.{first_hop, rest_of};
+ghost use Rattle.uu_line.specs.Entries.{texts_at};
+ghost use Rattle.uu_line.specs.Lines.{Answers};
+ghost use Rattle.uu_line.specs.Lines as spec;
+
+use crate::fault::LineFault;
+use crate::task::Task;
+use crate::values::{grade_of, optional_site, optional_word, site_of, word_of, words_in};
+use clap::ArgMatches;
+use std::alloc::Global;
+use uu_core::Filter;
+use uu_names::{Grade, Listed, Path, SiteName, Word};
+
+/// The task of `drop`.
+#[tactic(auto, using(crate::proofs::LineLemmas::answers_then))]
+pub(crate) fn drop_task(alloc: Global, system: &str) -> Result<Task, LineFault>
+    ensures { Answers result (spec.drop_task system.now) }
+{
+    let system = site_of(alloc, system)?;
+    Ok(Task::Drop { system })
+}
+
+/// The task of `send`.
+#[tactic(auto, using(crate::proofs::LineLemmas::answers_then))]
+pub(crate) fn send_task(
+    alloc: Global,
+    system: &str,
+    source: &str,
+    target: &str,
+    grade: &str,
+) -> Result<Task, LineFault>
+    ensures { Answers result (spec.file_task Task.Send system.now source.now target.now grade.now) }
+{
+    let system = site_of(alloc, system)?;
+    let source = word_of(alloc, source)?;
+    let target = word_of(alloc, target)?;
+    let grade = grade_of(grade)?;
+    Ok(Task::Send {
+        system,
+        source,
+        target,
+        grade,
+    })
+}
+
+/// The task of `request`.
+#[tactic(auto, using(crate::proofs::LineLemmas::answers_then))]
+pub(crate) fn request_task(
+    alloc: Global,
+    system: &str,
+    source: &str,
+    target: &str,
+    grade: &str,
+) -> Result<Task, LineFault>
+    ensures { Answers result (spec.file_task Task.Request system.now source.now target.now grade.now) }
+{
+    let system = site_of(alloc, system)?;
+    let source = word_of(alloc, source)?;
+    let target = word_of(alloc, target)?;
+    let grade = grade_of(grade)?;
+    Ok(Task::Request {
+        system,
+        source,
+        target,
+        grade,
+    })
+}
+
+/// The task of `exec`, with the arguments of these entries.
+#[tactic(auto, using(crate::proofs::LineLemmas::answers_then))]
+pub(crate) fn execute_task(
+    alloc: Global,
+    grade: &str,
+    system: &str,
+    command: &str,
+    given: &ArgMatches<'_>,
+) -> Result<Task, LineFault>
+    ensures { Answers result (spec.exec_task grade.now system.now command.now (texts_at (codes "argument") (rows_of (found_of given.now)))) }
+{
+    let grade = grade_of(grade)?;
+    let system = site_of(alloc, system)?;
+    let command = word_of(alloc, command)?;
+    let arguments = words_in(alloc, given, "argument")?;
+    Ok(Task::Execute {
+        grade,
+        system,
+        command,
+        arguments,
+    })
+}
+
+/// The task of a message to these addresses, one or more.
+pub(crate) fn mail_task(alloc: Global, grade: Grade, paths: &[Path]) -> Result<Task, LineFault>
+    requires { IsSome (slice_get paths.now 0) }
+    ensures { (first : List ℕ) → Some first ≡ slice_get paths.now 0 → Answers result (spec.mail_by grade first paths.now) }
+{
+    match paths.first() {
+        Some(first) => mail_by(alloc, grade, first, paths),
+        None => unreachable!(),
+    }
+}
+
+// The task of a message to these addresses, of which this is the first.
+fn mail_by(alloc: Global, grade: Grade, first: &Path, paths: &[Path]) -> Result<Task, LineFault>
+    ensures { Answers result (spec.mail_by grade first.now paths.now) }
+{
+    if !begin_alike(first.first_hop(), paths) {
+        return Err(LineFault::TwoSystems);
+    }
+    let system = SiteName::parse(alloc, first.first_hop())?;
+    let rests = rests_of(alloc, paths)?;
+    Ok(Task::Mail {
+        grade,
+        system,
+        rests,
+    })
+}
+
+// Whether each path begins with this system.
+fn begin_alike(hop: &str, paths: &[Path]) -> bool
+    ensures { result ≡ list_all (λ path. spec.same_text (first_hop path) hop.now) paths.now }
+{
+    paths.iter().all(|path| path.first_hop() == hop)
+}
+
+// What the paths say after their first site.
+fn rests_of(alloc: Global, paths: &[Path]) -> Result<Listed<Word>, LineFault>
+    ensures rests { IfOk result (λ rests. rests ≡ map rest_of paths.now) }
+    ensures memory { IfErr result (λ fault. fault ≡ LineFault.Memory) }
+{
+    let mut rests = Vec::new(alloc);
+    for path in paths {
+        rests.push(Word::parse(alloc, path.rest())?)?;
+    }
+    Ok(Listed::from_vec(rests))
+}
+
+/// The task of `list`.
+#[tactic(auto, using(crate::proofs::LineLemmas::answers_then))]
+pub(crate) fn list_task(
+    alloc: Global,
+    system: Option<&str>,
+    user: Option<&str>,
+) -> Result<Task, LineFault>
+    ensures { Answers result (spec.list_task (option_map (λ text. text.now) system.entry) (option_map (λ text. text.now) user.entry)) }
+{
+    let system = optional_site(alloc, system)?;
+    let user = optional_word(alloc, user)?;
+    let filter = Filter { system, user };
+    Ok(Task::List { filter })
+}
+
+/// The task of `regrade`.
+#[tactic(auto, using(crate::proofs::LineLemmas::answers_then))]
+pub(crate) fn regrade_task(job: u32, grade: &str) -> Result<Task, LineFault>
+    ensures { Answers result (spec.regrade_task job grade.now) }
+{
+    let grade = grade_of(grade)?;
+    Ok(Task::Regrade { job, grade })
+}
+
+/// The task of `failed`.
+#[tactic(auto, using(crate::proofs::LineLemmas::answers_then))]
+pub(crate) fn failed_task(alloc: Global, system: &str, why: &str) -> Result<Task, LineFault>
+    ensures { Answers result (spec.failed_task system.now why.now) }
+{
+    let system = site_of(alloc, system)?;
+    let why = word_of(alloc, why)?;
+    Ok(Task::Failed { system, why })
+}
+
+/// The task of `done`.
+#[tactic(auto, using(crate::proofs::LineLemmas::answers_then))]
+pub(crate) fn done_task(alloc: Global, system: &str, jobs: Listed<u32>) -> Result<Task, LineFault>
+    ensures { Answers result (spec.done_task system.now jobs) }
+{
+    let system = site_of(alloc, system)?;
+    Ok(Task::Done { system, jobs })
+}
+
+/// The task of `neighbours`.
+#[tactic(auto, using(crate::proofs::LineLemmas::answers_then))]
+pub(crate) fn neighbours_task(alloc: Global, host: &str) -> Result<Task, LineFault>
+    ensures { Answers result (spec.neighbours_task host.now) }
+{
+    let host = site_of(alloc, host)?;
+    Ok(Task::Neighbours { host })
+}

@@ -1,0 +1,7 @@
+use Rattle.std.proofs.Common.{take}
+use Rattle.uu_report.specs.Reports.{IsJobsReport}
+use Rattle.uu_report.proofs.jobs.jobs_report.Given as goal
+
+-- the report so far is that of the jobs before this one
+abbrev pub invariant-loop-job : goal.invariant-loop-job
+invariant-loop-job l = IsJobsReport l.offset (take l.job-index l.jobs) l.report.items

@@ -1,0 +1,129 @@
+-- The reports of jobs, of what is due, of systems and of links. Their forms are this project's choice; the civil
+-- calendar is that of `jiff`.
+use Rattle.std.specs.Prelude.{◌≡◌, ℕ, ℤ, pos, ◌+ℤ◌, ◌*ℤ◌, List, [], ◌∷◌, ◌++◌, None, codes, slice_get, option_to_list}
+use Rattle.std.specs.Fmt.{decimal}
+use Rattle.std.specs.List.{flat_map}
+use Rattle.jiff.specs.Words.{civil_nanos, nanos_of_seconds, date_text, time_text}
+use Rattle.jiff.specs.declared.civil.datetimes.DateTime.{DateTime}
+use Rattle.uu_names.specs.Grade.{grade_bytes}
+use Rattle.uu_map.specs.declared.entry.Cost.{Cost}
+use Rattle.uu_map.specs.declared.entry.Cost.TheVariants.{Value, Dead}
+use Rattle.uu_map.specs.declared.entry.Link.{Link}
+use Rattle.uu_map.specs.declared.entry.Entry.{Entry}
+use Rattle.uu_core.specs.declared.job.JobHead.{JobHead}
+use Rattle.uu_core.specs.declared.job.Kind.{Kind}
+use Rattle.uu_core.specs.declared.job.Kind.TheVariants.{Send, Request, Execute}
+use Rattle.uu_core.specs.declared.due.Due.{Due}
+use Rattle.uu_core.specs.declared.system.CallState.{CallState}
+use Rattle.uu_core.specs.declared.system.Outcome.{Outcome}
+use Rattle.uu_core.specs.declared.system.Outcome.TheVariants.{Never, Failed, Done}
+use Rattle.uu_core.specs.declared.system.SystemRow.{SystemRow}
+
+-- ---- moments
+
+-- what a clock that is `offset` minutes ahead of UTC shows at a second
+abbrev pub IsLocalTime : ℤ → ℕ → DateTime → Type 0
+IsLocalTime offset second local =
+    civil_nanos local ≡ nanos_of_seconds (pos second +ℤ offset *ℤ pos 60)
+
+-- `2001-09-09 01:46:40`
+unfoldable pub clock_text : DateTime → List ℕ
+clock_text local = date_text local.date ++ 32 ∷ time_text None local.time
+
+-- what such a clock shows at a second, as a text
+abbrev pub IsMoment : ℤ → ℕ → List ℕ → Type 0
+IsMoment offset second text =
+    (local : DateTime) × IsLocalTime offset second local × (text ≡ clock_text local)
+
+-- ---- lines
+
+-- texts with one space between two
+abbrev pub spaced : List (List ℕ) → List ℕ
+spaced [] = []
+spaced (text ∷ []) = text
+spaced (text ∷ more ∷ texts) = text ++ 32 ∷ spaced (more ∷ texts)
+
+-- a line of texts with one space between two
+abbrev pub line_of : List (List ℕ) → List ℕ
+line_of texts = spaced texts ++ 10 ∷ []
+
+-- a line for each item, one after the other
+abbrev pub AreLines : {X : Type 0} → (X → List ℕ → Type 0) → List X → List ℕ → Type 0
+AreLines IsLine [] report = report ≡ []
+AreLines IsLine (x ∷ xs) report =
+    (line : List ℕ) × (rest : List ℕ) × (report ≡ line ++ rest) × IsLine x line × AreLines IsLine xs rest
+
+-- the letter or digit of a grade
+abbrev pub grade_text : ℕ → List ℕ
+grade_text rank = option_to_list (slice_get grade_bytes rank)
+
+-- ---- jobs
+
+-- what is to be done with the job
+abbrev pub work_text : Kind → List ℕ
+work_text (Send source target) = spaced (codes "send" ∷ source ∷ target ∷ [])
+work_text (Request source target) = spaced (codes "request" ∷ source ∷ target ∷ [])
+work_text (Execute command arguments) = spaced (codes "exec" ∷ command ∷ arguments)
+
+-- the line of a job that was queued at this moment
+abbrev pub job_text : List ℕ → JobHead → List ℕ
+job_text moment job =
+    line_of (decimal job.number ∷ job.system ∷ job.user ∷ grade_text job.grade ∷ moment ∷ decimal job.size ∷ work_text job.kind ∷ [])
+
+-- the line of a job
+abbrev pub IsJobLine : ℤ → JobHead → List ℕ → Type 0
+IsJobLine offset job line =
+    (moment : List ℕ) × IsMoment offset job.queued moment × (line ≡ job_text moment job)
+
+-- the report of jobs
+abbrev pub IsJobsReport : ℤ → List JobHead → List ℕ → Type 0
+IsJobsReport offset = AreLines (IsJobLine offset)
+
+-- ---- what is due
+
+-- the line of a system that may be called, with the job for which it is called
+abbrev pub due_text : Due → List ℕ
+due_text due = line_of (due.system ∷ grade_text due.grade ∷ decimal due.number ∷ [])
+
+-- ---- systems
+
+-- how the last call went, which was at this moment
+abbrev pub call_text : List ℕ → Outcome → List ℕ
+call_text moment Never = codes "never"
+call_text moment Done = spaced (codes "done" ∷ moment ∷ [])
+call_text moment (Failed why) = spaced (codes "failed" ∷ moment ∷ why ∷ [])
+
+-- how the last call of a system went, and when
+abbrev pub IsCallText : ℤ → CallState → List ℕ → Type 0
+IsCallText offset call text =
+    (moment : List ℕ) × IsMoment offset call.last moment × (text ≡ call_text moment call.outcome)
+
+-- the line of a system
+abbrev pub IsSystemLine : ℤ → SystemRow → List ℕ → Type 0
+IsSystemLine offset row line =
+    (state : List ℕ) × IsCallText offset row.call state
+    × (line ≡ line_of (row.def.name ∷ decimal row.call.failures ∷ decimal row.call.wait ∷ state ∷ []))
+
+-- the report of systems
+abbrev pub IsStatusReport : ℤ → List SystemRow → List ℕ → Type 0
+IsStatusReport offset = AreLines (IsSystemLine offset)
+
+-- ---- links
+
+abbrev pub cost_text : Cost → List ℕ
+cost_text (Value cost) = decimal cost
+cost_text Dead = codes "dead"
+
+abbrev pub link_text : Link → List ℕ
+link_text link = line_of (link.to ∷ cost_text link.cost ∷ [])
+
+abbrev pub alias_text : List ℕ → List ℕ
+alias_text alias = line_of (codes "=" ∷ alias ∷ [])
+
+-- a line of the input that was skipped
+abbrev pub skipped_text : ℕ → List ℕ
+skipped_text line = line_of (codes "skipped" ∷ decimal line ∷ [])
+
+-- what an entry says of its host: the links, the other names, and the lines of the skipped statements
+abbrev pub links_text : Entry → List ℕ
+links_text entry = flat_map link_text entry.links ++ flat_map alias_text entry.aliases ++ flat_map skipped_text entry.skipped

@@ -1,0 +1,18 @@
+//! What the program prints of what a spool holds and answers: reports, and the output of commands. It knows of no file
+//! and no store.
+#![tactic(auto)]
+
+mod clock;
+mod due;
+mod jobs;
+mod links;
+mod output;
+mod reply;
+mod status;
+
+pub use due::due_report;
+pub use jobs::{job_line, jobs_report};
+pub use links::links_report;
+pub use output::{Subject, answer_lines, output_of, status_of};
+pub use reply::reply_line;
+pub use status::status_report;

@@ -1,0 +1,13 @@
+-- A list of what is made of each item grows by what is made of the next.
+use Rattle.std.proofs.Common.{◌≡◌, ◌∙◌, ap, ℕ, ◌+◌, ◌<◌, List, [], ◌∷◌, ◌++◌, length, map, sym, take, get_or, subst, All}
+use Rattle.std.proofs.lemmas.List.{take_more, map-append}
+use Rattle.std.proofs.lemmas.List.Elements.{All-get_or}
+
+take_with : {X : Type 0} (xs : List X) (i : ℕ) (x : X) → i < length xs → x ≡ get_or xs i x → take (i + 1) xs ≡ take i xs ++ x ∷ []
+take_with xs i x inside is = take_more xs i x inside ∙ ap (λ y. take i xs ++ y ∷ []) (sym is)
+
+pub items_grow : {X Y : Type 0} (f : X → Y) (xs : List X) (i : ℕ) (x : X) (before after : List Y) (y : Y)
+    → i < length xs → x ≡ get_or xs i x → before ≡ map f (take i xs) → y ≡ f x → after ≡ before ++ y ∷ [] → after ≡ map f (take (i + 1) xs)
+items_grow f xs i x before after y inside is so_far one grown =
+    grown ∙ ap (λ t. t ++ y ∷ []) so_far ∙ ap (λ z. map f (take i xs) ++ z ∷ []) one
+    ∙ sym (ap (map f) (take_with xs i x inside is) ∙ map-append f (take i xs) (x ∷ []))

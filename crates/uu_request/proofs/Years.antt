@@ -1,0 +1,39 @@
+-- The years that a site's clock may show.
+use Rattle.std.proofs.Common.{◌≡◌, ℕ, refl, arith, ℤ, pos, negsuc, neg_ℤ, ◌≤ℤ◌}
+use Rattle.std.proofs.lemmas.Int.{by_lt_z, ints}
+use Rattle.std.specs.Int.{int_div_euclid}
+use Rattle.jiff.specs.Types.{Date, DateTime}
+use Rattle.jiff.specs.Words.{epoch_day}
+use Rattle.jiff_core.proofs.SignedLemmas.{signed_arith}
+use Rattle.jiff_core.proofs.CalendarLemmas.{days_from_civil-day_count, day_count-epoch, day_count-lt_year}
+use Rattle.jiff_core.proofs.DateLemmas.{civil, days_from_civil-next_year}
+use Rattle.uu_times.specs.Moment.{Shows, local_second}
+use Rattle.uu_settings.specs.Offsets.{IsOffset}
+
+-- a date of 1969-12-31 or later
+year_from : (d : Date) → neg_ℤ (pos 1) ≤ℤ epoch_day d → pos 1000 ≤ℤ d.year
+year_from d late =
+    by_lt_z d.year (pos 1969)
+    (λ before. absurd (omega (
+      arith,
+      signed_arith,
+      late,
+      day_count-epoch,
+      days_from_civil-day_count d.year d.month d.day,
+      days_from_civil-day_count (pos 1969) 12 31,
+      days_from_civil-day_count (pos 1970) 1 1,
+      days_from_civil-next_year (pos 1969) (pos 1970) (omega (arith, signed_arith)) refl,
+      day_count-lt_year d.year d.month d.day (pos 1969) 12 31 (civil d) (omega arith) before,
+    )))
+    (λ after. omega (arith, signed_arith))
+
+-- the day of a second that is at most a day before the first
+day_from : (shown day : ℤ) → neg_ℤ (pos 86400) ≤ℤ shown → day ≡ int_div_euclid shown (pos 86400) → neg_ℤ (pos 1) ≤ℤ day
+day_from (pos s) day from is = omega (arith, ints)
+day_from (negsuc s) day from is = omega (arith, ints)
+
+pub shown_year : (local : DateTime) (second : ℕ) (offset : ℤ) → IsOffset offset → Shows local (local_second second offset)
+    → (pos 1000 ≤ℤ local.date.year) × (local.date.year ≤ℤ pos 9999)
+shown_year local second offset within shown =
+    let from : neg_ℤ (pos 86400) ≤ℤ local_second second offset = omega (arith, signed_arith) in
+    (year_from local.date (day_from (local_second second offset) (epoch_day local.date) from shown.day), omega (arith, signed_arith, civil local.date))

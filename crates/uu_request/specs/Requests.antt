@@ -1,0 +1,125 @@
+-- What a line asks of a spool, at a moment on the site's clock and with an input. (Sending and requesting files, executing
+-- commands, killing and rejuvenating jobs: Taylor UUCP 1.07 manual, on uucp, uux and uustat; `rmail` and its envelope: RFC 976;
+-- the subcommands and what else they ask are this project's choice.)
+use Rattle.std.specs.Prelude.{◌≡◌, ℕ, ◌≤◌, ◌&&◌, nat_lt, length, List, [], ◌∷◌, map, Result, Ok, Err, codes, ⊤, slice_range, if◌then◌else◌}
+use Rattle.std.specs.List.{list_any}
+use Rattle.uu_names.specs.Envelope.{envelope_of}
+use Rattle.uu_names.specs.Text.{most_text}
+use Rattle.uu_times.specs.SysFile.{sys_file_of}
+use Rattle.uu_times.specs.declared.system.SysFile.{SysFile}
+use Rattle.uu_times.specs.declared.fault.TimeFault.{TimeFault}
+use Rattle.uu_times.specs.declared.moment.Moment.{Moment}
+use Rattle.uu_map.specs.Split.{entries_of}
+use Rattle.uu_map.specs.Text.{host_of}
+use Rattle.uu_map.specs.declared.entry.EntryText.{EntryText}
+use Rattle.uu_map.specs.declared.fault.MapFault.{MapFault}
+use Rattle.uu_core.specs.declared.command.Command.{Command}
+use Rattle.uu_core.specs.declared.command.Command.TheVariants as command
+use Rattle.uu_core.specs.declared.job.By.{By}
+use Rattle.uu_core.specs.declared.job.Kind.{Kind}
+use Rattle.uu_core.specs.declared.job.Kind.TheVariants as kind
+use Rattle.uu_core.specs.declared.job.NewJob.{NewJob}
+use Rattle.uu_line.specs.Lines.{same_text, takes_input}
+use Rattle.uu_line.specs.declared.line.CallLine.{CallLine}
+use Rattle.uu_line.specs.declared.task.Task.{Task}
+use Rattle.uu_line.specs.declared.task.Task.TheVariants as task
+use Rattle.uu_settings.specs.declared.settings.Settings.{Settings}
+use Rattle.uu_request.specs.declared.fault.RequestFault.{RequestFault}
+use Rattle.uu_request.specs.declared.fault.RequestFault.TheVariants.{Input, Time, Memory}
+use Rattle.uu_request.specs.declared.request.Question.{Question}
+use Rattle.uu_request.specs.declared.request.Question.TheVariants as question
+use Rattle.uu_request.specs.declared.request.Request.{Request}
+use Rattle.uu_request.specs.declared.request.Request.TheVariants as request
+use Rattle.uu_report.specs.declared.output.Subject.{Subject}
+use Rattle.uu_report.specs.declared.output.Subject.TheVariants as subject
+
+-- ---- one command
+
+-- a request of one command, whose reply is the line's
+abbrev pub one : Command → Request
+one command = request.Commands (record { commands = command ∷ []; subjects = subject.Line ∷ []; skipped = [] })
+
+-- who changes a job: an administrator is a user whom the settings name
+abbrev pub by_of : Settings → List ℕ → By
+by_of settings user = record { user = user; admin = list_any (λ admin. same_text admin user) settings.admins.items }
+
+-- a job is handed in now
+abbrev pub queue : List ℕ → Moment → List ℕ → ℕ → Kind → List ℕ → Request
+queue user at system grade kind bytes =
+    one (command.Queue (record { system = system; grade = grade; user = user; kind = kind; bytes = bytes; at = at }))
+
+-- A message: the system runs `rmail` with what it is to do as its arguments, and the envelope as its input, with the date and time
+-- of the site's clock and the site's name.
+abbrev pub mail : Settings → List ℕ → Moment → List ℕ → ℕ → List (List ℕ) → List ℕ → Request
+mail settings user at system grade rests message =
+    queue user at system grade (kind.Execute (codes "rmail") rests) (envelope_of user at.local settings.name message)
+
+-- ---- several commands
+
+-- each system of a sys file is defined, in the order of the text
+abbrev pub load : SysFile → Request
+load file = request.Commands (record {
+  commands = map command.Define file.systems;
+  subjects = map (λ system. subject.Site system.name) file.systems;
+  skipped = file.skipped;
+})
+
+abbrev pub load_request : Result SysFile TimeFault → Result Request RequestFault
+load_request (Ok file) = Ok (load file)
+load_request (Err fault) = Err (Time fault)
+
+-- an entry's bytes in a map text
+abbrev pub bytes_at : List ℕ → EntryText → List ℕ
+bytes_at text place = slice_range text place.start place.end
+
+-- a place within a text
+abbrev pub IsPlace : List ℕ → EntryText → Type 0
+IsPlace text place = (place.start ≤ place.end) × (place.end ≤ length text)
+
+-- the reply to an entry names its host, and where it has none the line where it begins
+abbrev pub entry_subject : Result (List ℕ) MapFault → ℕ → Subject
+entry_subject (Ok host) line = subject.Site host
+entry_subject (Err fault) line = subject.Entry line
+
+abbrev pub subject_at : List ℕ → EntryText → Subject
+subject_at text place = entry_subject (host_of (bytes_at text place)) place.line
+
+-- each entry of a map text is handed in, in the order of the text
+abbrev pub entries : List ℕ → Request
+entries text = request.Commands (record {
+  commands = map (λ place. command.Entry (bytes_at text place)) (entries_of text);
+  subjects = map (subject_at text) (entries_of text);
+  skipped = [];
+})
+
+-- ---- lines
+
+-- what a task asks for, of this user
+abbrev pub task_request : Settings → Moment → List ℕ → List ℕ → Task → Result Request RequestFault
+task_request settings at input user task.Load = load_request (sys_file_of input)
+task_request settings at input user (task.Drop system) = Ok (one (command.Remove system))
+task_request settings at input user (task.Send system source target grade) = Ok (queue user at system grade (kind.Send source target) input)
+task_request settings at input user (task.Request system source target grade) = Ok (queue user at system grade (kind.Request source target) [])
+task_request settings at input user (task.Execute grade system command arguments) = Ok (queue user at system grade (kind.Execute command arguments) input)
+task_request settings at input user (task.Mail grade system rests) = Ok (mail settings user at system grade rests input)
+task_request settings at input user (task.List filter) = Ok (request.Question (question.Jobs filter))
+task_request settings at input user (task.Show job) = Ok (request.Question (question.Job job))
+task_request settings at input user (task.Kill job) = Ok (one (command.Kill job (by_of settings user)))
+task_request settings at input user (task.Regrade job grade) = Ok (one (command.Regrade job grade (by_of settings user)))
+task_request settings at input user (task.Rejuvenate job) = Ok (one (command.Rejuvenate job at (by_of settings user)))
+task_request settings at input user task.Due = Ok (request.Question (question.Due at))
+task_request settings at input user task.Status = Ok (request.Question question.Systems)
+task_request settings at input user (task.Failed system why) = Ok (one (command.Failed system at why))
+task_request settings at input user (task.Done system jobs) = Ok (one (command.Done system at jobs))
+task_request settings at input user task.Map = Ok (entries input)
+task_request settings at input user (task.Neighbours host) = Ok (request.Question (question.Entry host))
+
+-- what a line asks for, where its input is not too large
+abbrev pub request_of : Settings → Moment → List ℕ → CallLine → Result Request RequestFault
+request_of settings at input line =
+    if takes_input line.task && nat_lt most_text (length input) then Err Input else task_request settings at input line.user line.task
+
+-- the answer is the expected one, or want of memory took its place
+abbrev pub AnswersUnlessMemory : Result Request RequestFault → Result Request RequestFault → Type 0
+AnswersUnlessMemory (Err Memory) expected = ⊤
+AnswersUnlessMemory answer expected = answer ≡ expected

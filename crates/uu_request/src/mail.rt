@@ -1,0 +1,74 @@
+//! The job that a message is.
+
+ghost use Rattle.std.specs.Prelude.{◌≡◌, Ok, Err, IfOk, MatchResult, codes};
+ghost use Rattle.uu_names.specs.Envelope.{envelope_of};
+ghost use Rattle.uu_times.specs.Moment.{Shows, local_second};
+ghost use Rattle.uu_core.specs.declared.job.Kind.TheVariants as kind;
+ghost use Rattle.uu_request.specs.Requests.{AnswersUnlessMemory};
+ghost use Rattle.uu_request.specs.Requests as spec;
+
+use crate::fault::RequestFault;
+use crate::request::{Request, queue};
+use std::alloc::Global;
+use uu_core::Kind;
+use uu_names::{Grade, Listed, NameFault, SiteName, Word, envelope};
+use uu_settings::Settings;
+use uu_times::Moment;
+
+/// A message to a system, which is to run `rmail` with these arguments: its envelope is handed in now.
+pub(crate) fn mail(
+    alloc: Global,
+    user: Word,
+    system: SiteName,
+    grade: Grade,
+    rests: Listed<Word>,
+    message: &[u8],
+    at: Moment,
+    settings: &Settings,
+) -> Result<Request, RequestFault>
+    requires { Shows at.local (local_second at.second settings.now.offset) }
+    ensures { AnswersUnlessMemory result (Ok (spec.mail settings.now user at system grade rests message.now)) }
+{
+    let envelope = with_envelope(alloc, &user, &at, settings, message);
+    queue_mail(alloc, user, system, grade, rests, envelope, at)
+}
+
+// The system is to run `rmail` with these arguments, and the envelope as its input.
+fn queue_mail(
+    alloc: Global,
+    user: Word,
+    system: SiteName,
+    grade: Grade,
+    rests: Listed<Word>,
+    envelope: Result<Vec<u8>, NameFault>,
+    at: Moment,
+) -> Result<Request, RequestFault>
+    ensures { MatchResult envelope
+        (λ envelope. AnswersUnlessMemory result (Ok (spec.queue user at system grade (kind.Execute (codes "rmail") rests) envelope.items)))
+        (λ fault. result ≡ Err RequestFault.Memory) }
+{
+    match (envelope, Word::parse(alloc, "rmail")) {
+        (Ok(envelope), Ok(command)) => {
+            let kind = Kind::Execute {
+                command,
+                arguments: rests,
+            };
+            queue(alloc, user, system, grade, kind, envelope, at)
+        }
+        _ => Err(RequestFault::Memory),
+    }
+}
+
+// The message with its envelope: the date and time are those of the moment on the site's clock.
+fn with_envelope(
+    alloc: Global,
+    user: &Word,
+    at: &Moment,
+    settings: &Settings,
+    message: &[u8],
+) -> Result<Vec<u8>, NameFault>
+    requires { Shows at.now.local (local_second at.now.second settings.now.offset) }
+    ensures { IfOk result (λ bytes. bytes.items ≡ envelope_of user.now at.now.local settings.now.name message.now) }
+{
+    envelope(alloc, user, &at.local, &settings.name, message)
+}

@@ -1,0 +1,224 @@
+//! What a line asks of a spool: commands, one after the other, or one question.
+
+ghost use Rattle.std.specs.Prelude.{◌≡◌, ◌≤◌, Ok, IsTrue, length};
+ghost use Rattle.std.specs.List.{list_any};
+ghost use Rattle.uu_names.specs.Text.{most_text};
+ghost use Rattle.uu_times.specs.Moment.{Shows, local_second};
+ghost use Rattle.uu_line.specs.Lines.{same_text, takes_input};
+ghost use Rattle.uu_request.specs.Requests.{AnswersUnlessMemory};
+ghost use Rattle.uu_request.specs.Requests as spec;
+
+use crate::fault::RequestFault;
+use crate::mail::mail;
+use crate::maps::entries;
+use crate::systems::load;
+use std::alloc::Global;
+use uu_core::{By, Command, Filter, Kind, NewJob};
+use uu_line::{CallLine, Task};
+use uu_names::text::MAX_TEXT;
+use uu_names::{Grade, Listed, SiteName, Word};
+use uu_report::Subject;
+use uu_settings::Settings;
+use uu_times::Moment;
+
+/// What a line asks of a spool.
+#[derive(Debug, Drop)]
+pub enum Request {
+    /// Commands, given one after the other.
+    Commands(Batch),
+    /// One question, which changes nothing.
+    Question(Question),
+}
+
+/// Commands, and how their replies are printed.
+#[derive(Debug, Drop)]
+pub struct Batch {
+    /// The commands, in the order in which they are given.
+    pub commands: Listed<Command>,
+    /// For each command, what its reply is told of.
+    pub subjects: Listed<Subject>,
+    /// The lines of the input that were skipped, counted from 1. They are told once every command was answered.
+    pub skipped: Listed<u32>,
+}
+
+/// A question.
+#[derive(Debug, Drop)]
+pub enum Question {
+    /// Which jobs fit.
+    Jobs(Filter),
+    /// The job of this number, with its bytes.
+    Job(u32),
+    /// Which systems may be called at this moment, each with its next job.
+    Due(Moment),
+    /// All systems, and how their calls went.
+    Systems,
+    /// The map entry of this host.
+    Entry(SiteName),
+}
+
+/// What the line asks of a spool, at this moment on the site's clock and with this input.
+///
+/// # Errors
+/// `Input` exactly where the line takes an input and that has more than `MAX_TEXT` bytes, then `Time` with the fault
+/// of the first faulty line of a sys file, else `Memory`.
+pub fn request_of(
+    alloc: Global,
+    line: CallLine,
+    settings: &Settings,
+    at: Moment,
+    input: &[u8],
+) -> Result<Request, RequestFault>
+    requires { Shows at.local (local_second at.second settings.now.offset) }
+    ensures { AnswersUnlessMemory result (spec.request_of settings.now at input.now line) }
+{
+    if line.task.has_input() && input.len() > MAX_TEXT {
+        return Err(RequestFault::Input);
+    }
+    let CallLine {
+        config: _,
+        at: _,
+        user,
+        task,
+    } = line;
+    task_request(alloc, task, user, settings, at, input)
+}
+
+// What a task asks for, of this user.
+fn task_request(
+    alloc: Global,
+    task: Task,
+    user: Word,
+    settings: &Settings,
+    at: Moment,
+    input: &[u8],
+) -> Result<Request, RequestFault>
+    requires clock { Shows at.local (local_second at.second settings.now.offset) }
+    requires fits { IsTrue (takes_input task) → length input.now ≤ most_text }
+    ensures { AnswersUnlessMemory result (spec.task_request settings.now at input.now user task) }
+{
+    match task {
+        Task::Load => load(alloc, input),
+        Task::Drop { system } => one(alloc, Command::Remove(system)),
+        Task::Send {
+            system,
+            source,
+            target,
+            grade,
+        } => {
+            let kind = Kind::Send { source, target };
+            queue_copy(alloc, user, system, grade, kind, input, at)
+        }
+        Task::Request {
+            system,
+            source,
+            target,
+            grade,
+        } => {
+            let kind = Kind::Request { source, target };
+            queue(alloc, user, system, grade, kind, Vec::new(alloc), at)
+        }
+        Task::Execute {
+            grade,
+            system,
+            command,
+            arguments,
+        } => {
+            let kind = Kind::Execute { command, arguments };
+            queue_copy(alloc, user, system, grade, kind, input, at)
+        }
+        Task::Mail {
+            grade,
+            system,
+            rests,
+        } => mail(alloc, user, system, grade, rests, input, at, settings),
+        Task::List { filter } => Ok(Request::Question(Question::Jobs(filter))),
+        Task::Show { job } => Ok(Request::Question(Question::Job(job))),
+        Task::Kill { job } => {
+            let by = by_of(user, settings);
+            one(alloc, Command::Kill { job, by })
+        }
+        Task::Regrade { job, grade } => {
+            let by = by_of(user, settings);
+            one(alloc, Command::Regrade { job, grade, by })
+        }
+        Task::Rejuvenate { job } => {
+            let by = by_of(user, settings);
+            one(alloc, Command::Rejuvenate { job, at, by })
+        }
+        Task::Due => Ok(Request::Question(Question::Due(at))),
+        Task::Status => Ok(Request::Question(Question::Systems)),
+        Task::Failed { system, why } => one(alloc, Command::Failed { system, at, why }),
+        Task::Done { system, jobs } => one(alloc, Command::Done { system, at, jobs }),
+        Task::Map => entries(alloc, input),
+        Task::Neighbours { host } => Ok(Request::Question(Question::Entry(host))),
+    }
+}
+
+/// One command, whose reply is the line's.
+pub(crate) fn one(alloc: Global, command: Command) -> Result<Request, RequestFault>
+    ensures { AnswersUnlessMemory result (Ok (spec.one command)) }
+{
+    let mut commands = Vec::new(alloc);
+    commands.push(command)?;
+    let mut subjects = Vec::new(alloc);
+    subjects.push(Subject::Line)?;
+    Ok(Request::Commands(Batch {
+        commands: Listed::from_vec(commands),
+        subjects: Listed::from_vec(subjects),
+        skipped: Listed::from_vec(Vec::new(alloc)),
+    }))
+}
+
+// A job with a copy of these bytes is handed in now.
+fn queue_copy(
+    alloc: Global,
+    user: Word,
+    system: SiteName,
+    grade: Grade,
+    kind: Kind,
+    bytes: &[u8],
+    at: Moment,
+) -> Result<Request, RequestFault>
+    ensures { AnswersUnlessMemory result (Ok (spec.queue user at system grade kind bytes.now)) }
+{
+    let bytes = Vec::from_slice(alloc, bytes)?;
+    queue(alloc, user, system, grade, kind, bytes, at)
+}
+
+/// A job of these bytes is handed in now.
+pub(crate) fn queue(
+    alloc: Global,
+    user: Word,
+    system: SiteName,
+    grade: Grade,
+    kind: Kind,
+    bytes: Vec<u8>,
+    at: Moment,
+) -> Result<Request, RequestFault>
+    ensures { AnswersUnlessMemory result (Ok (spec.queue user at system grade kind bytes.items)) }
+{
+    let job = NewJob {
+        system,
+        grade,
+        user,
+        kind,
+        bytes: Listed::from_vec(bytes),
+        at,
+    };
+    one(alloc, Command::Queue(job))
+}
+
+// Who changes a job: an administrator is a user whom the settings name.
+fn by_of(user: Word, settings: &Settings) -> By
+    ensures { result ≡ spec.by_of settings.now user }
+{
+    let admin = is_among(user.as_str(), &settings.admins);
+    By { user, admin }
+}
+
+// Whether the user is one of these.
+fn is_among(user: &str, users: &[Word]) -> bool
+    ensures { result ≡ list_any (λ one. same_text one user.now) users.now }
+{
+    users.iter().any(|one| one.as_str() == user)
+}

@@ -1,0 +1,111 @@
+-- What a TOML document (TOML 1.1) sets for a site. The keys, their order and their limits are this project's choice.
+use Rattle.std.specs.Prelude.{◌≡◌, ℕ, ℤ, pos, not, ◌==◌, length, Bool, List, [], ◌∷◌, Option, Some, None, Result, Ok, Err, ⊤, if◌then◌else◌, ok_or, option_map, option_and_then, string_bytes}
+use Rattle.std.specs.Result.{result_ok}
+use Rattle.toml.specs.Data.{Data, Items, Members, no_items, item, as_str, as_integer, as_array, get_member}
+use Rattle.toml.specs.Parse.{parse_document}
+use Rattle.uu_names.specs.Name.{site_name_of, word_of}
+use Rattle.uu_settings.specs.Fault.{key_name}
+use Rattle.uu_settings.specs.Offsets.{is_offset}
+use Rattle.uu_settings.specs.declared.fault.Key.{Key}
+use Rattle.uu_settings.specs.declared.fault.Key.TheVariants as key
+use Rattle.uu_settings.specs.declared.fault.SettingsFault.{SettingsFault}
+use Rattle.uu_settings.specs.declared.fault.SettingsFault.TheVariants.{NotToml, Missing, BadValue, Memory}
+use Rattle.uu_settings.specs.declared.settings.Settings.{Settings}
+
+-- what is set for a site
+pub record Site : Type 0 where
+  pub name : List ℕ
+  -- minutes that local time is ahead of UTC
+  pub offset : ℤ
+  -- the path of the spool's file
+  pub spool : List ℕ
+  -- the users who may change jobs of others
+  pub admins : List (List ℕ)
+
+-- ---- values
+
+-- the value, where it passes
+abbrev pub where_it : {V : Type 0} → (V → Bool) → V → Option V
+where_it passes value = if passes value then Some value else None
+
+-- a text that is a site name
+abbrev pub name_in : Data → Option (List ℕ)
+name_in value = option_and_then (λ text. result_ok (site_name_of text)) (as_str value)
+
+-- a whole number of minutes
+abbrev pub offset_in : Data → Option ℤ
+offset_in value = option_and_then (where_it is_offset) (as_integer value)
+
+-- a text of one byte or more
+abbrev pub spool_in : Data → Option (List ℕ)
+spool_in value = option_and_then (where_it (λ path. not (length path == 0))) (as_str value)
+
+-- a text that is a word
+abbrev pub word_in : Data → Option (List ℕ)
+word_in value = option_and_then (λ text. result_ok (word_of text)) (as_str value)
+
+-- values each of which is a word
+abbrev pub words_in : Items → Option (List (List ℕ))
+words_in no_items = Some []
+words_in (item value values) = option_and_then (λ word. option_map (λ words. word ∷ words) (words_in values)) (word_in value)
+
+-- an array of words
+abbrev pub admins_in : Data → Option (List (List ℕ))
+admins_in value = option_and_then words_in (as_array value)
+
+-- ---- keys
+
+-- the value of a key that has to be there
+abbrev pub required_as : {V : Type 0} → Key → (Data → Option V) → Option Data → Result V SettingsFault
+required_as key read None = Err (Missing key)
+required_as key read (Some value) = ok_or (read value) (BadValue key)
+
+abbrev pub required : {V : Type 0} → Key → (Data → Option V) → Members → Result V SettingsFault
+required key read document = required_as key read (get_member (key_name key) document)
+
+-- the value of a key that may be left out
+abbrev pub optional_as : {V : Type 0} → Key → (Data → Option V) → V → Option Data → Result V SettingsFault
+optional_as key read default None = Ok default
+optional_as key read default (Some value) = ok_or (read value) (BadValue key)
+
+abbrev pub optional : {V : Type 0} → Key → (Data → Option V) → V → Members → Result V SettingsFault
+optional key read default document = optional_as key read default (get_member (key_name key) document)
+
+-- what the one reading comes to, and then the next; the first fault is told
+abbrev pub and_then : {V W : Type 0} → Result V SettingsFault → (V → Result W SettingsFault) → Result W SettingsFault
+and_then (Ok value) next = next value
+and_then (Err fault) next = Err fault
+
+-- ---- settings
+
+-- what a document sets; other keys are passed over
+abbrev pub site_in : Members → Result Site SettingsFault
+site_in document =
+    and_then (required key.Name name_in document) (λ name.
+    and_then (optional key.Offset offset_in (pos 0) document) (λ offset.
+    and_then (required key.Spool spool_in document) (λ spool.
+    and_then (optional key.Admins admins_in [] document) (λ admins.
+    Ok (record { name = name; offset = offset; spool = spool; admins = admins })))))
+
+-- what a text sets
+abbrev pub site_of : List ℕ → Result Site SettingsFault
+site_of text = and_then (ok_or (parse_document text) NotToml) site_in
+
+-- what the settings say
+abbrev pub said : Settings → Site
+said settings = record {
+  name = settings.name;
+  offset = settings.offset;
+  spool = string_bytes settings.spool;
+  admins = settings.admins.items;
+}
+
+-- the answer, seen in this way, is the expected one; want of memory may take its place
+abbrev pub AnswersAs : {V W : Type 0} → (V → W) → Result V SettingsFault → Result W SettingsFault → Type 0
+AnswersAs seen (Ok value) expected = Ok (seen value) ≡ expected
+AnswersAs seen (Err Memory) expected = ⊤
+AnswersAs seen (Err fault) expected = Err fault ≡ expected
+
+-- the answer to a text is what it sets, or why it sets nothing
+abbrev pub IsAnswerTo : List ℕ → Result Settings SettingsFault → Type 0
+IsAnswerTo text answer = AnswersAs said answer (site_of text)

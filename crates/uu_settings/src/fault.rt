@@ -1,0 +1,81 @@
+//! Why a text is no settings of a site.
+ghost use Rattle.std.specs.Prelude.{◌≡◌};
+ghost use Rattle.uu_settings.specs.declared.fault.SettingsFault.TheVariants.{Memory};
+ghost use Rattle.uu_settings.specs.Fault.{fault_code, key_name};
+
+use std::alloc::{AllocError, AllocFailed};
+use thiserror::Error;
+
+/// A key of the settings.
+#[derive(Clone, Copy, Debug, PartialEq, Eq)]
+pub enum Key {
+    /// `name`: the name of this site, a text.
+    Name,
+    /// `offset`: the minutes that local time is ahead of UTC, a whole number from -1439 to 1439.
+    Offset,
+    /// `spool`: the path of the spool's file, a text of one byte or more.
+    Spool,
+    /// `admins`: the users who may change jobs of others, an array of words.
+    Admins,
+}
+
+impl Key {
+    /// The key as it is written in the settings.
+    pub fn name(&self) -> &'static str
+        ensures { result.now ≡ key_name self.now }
+    {
+        match self {
+            Key::Name => "name",
+            Key::Offset => "offset",
+            Key::Spool => "spool",
+            Key::Admins => "admins",
+        }
+    }
+}
+
+/// Why a text is no settings of a site.
+#[derive(Clone, Copy, Debug, PartialEq, Eq, Error)]
+pub enum SettingsFault {
+    /// The text is no TOML document.
+    #[error("not toml")]
+    NotToml,
+    /// The key has to be there and isn't.
+    #[error("{0:?} missing")]
+    Missing(Key),
+    /// The key is there, with a value of another type or past its limits.
+    #[error("{0:?} bad")]
+    BadValue(Key),
+    /// Memory was refused. It may take the place of any other answer.
+    #[error("out of memory")]
+    Memory,
+}
+
+impl SettingsFault {
+    /// The fault's number, from 1 for [`SettingsFault::NotToml`] to 4 for [`SettingsFault::Memory`], in the order of the variants.
+    pub fn code(&self) -> u8
+        ensures { result ≡ fault_code self.now }
+    {
+        match self {
+            SettingsFault::NotToml => 1,
+            SettingsFault::Missing(_) => 2,
+            SettingsFault::BadValue(_) => 3,
+            SettingsFault::Memory => 4,
+        }
+    }
+}
+
+impl From<AllocError> for SettingsFault {
+    ghost from_gives = { λ _ fault. fault ≡ Memory };
+
+    fn from(_refused: AllocError) -> SettingsFault {
+        SettingsFault::Memory
+    }
+}
+
+impl<T: Drop> From<AllocFailed<T>> for SettingsFault {
+    ghost from_gives = { λ _ fault. fault ≡ Memory };
+
+    fn from(_refused: AllocFailed<T>) -> SettingsFault {
+        SettingsFault::Memory
+    }
+}

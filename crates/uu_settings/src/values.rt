@@ -1,0 +1,145 @@
+//! The values of the keys of a document.
+ghost use Rattle.std.specs.Prelude.{◌≡◌, IfOk, pos, [], option_map, ok_or, string_bytes};
+ghost use Rattle.toml.specs.Data.{get_member};
+ghost use Rattle.toml.specs.View.{view, table_view, items_view};
+ghost use Rattle.uu_settings.specs.Fault.{key_name, value_fault};
+ghost use Rattle.uu_settings.specs.Settings.{AnswersAs};
+ghost use Rattle.uu_settings.specs.Offsets.{IsOffset};
+ghost use Rattle.uu_settings.specs.Settings as spec;
+
+use crate::fault::{Key, SettingsFault};
+use std::alloc::Global;
+use toml::{Table, Value};
+use uu_names::{NameFault, SiteName, Word};
+use uu_times::moment::OFFSET_LIMIT;
+
+const MOST_MINUTES: i64 = OFFSET_LIMIT as i64;
+
+/// The name of the site.
+pub(crate) fn name_of(alloc: Global, document: &Table) -> Result<SiteName, SettingsFault>
+    ensures { AnswersAs (λ name. name) result (spec.required Key.Name spec.name_in (table_view document.now)) }
+{
+    match value_of(document, Key::Name) {
+        Some(value) => name_in(alloc, value),
+        None => Err(SettingsFault::Missing(Key::Name)),
+    }
+}
+
+/// The minutes that local time is ahead of UTC.
+pub(crate) fn offset_of(document: &Table) -> Result<i32, SettingsFault>
+    ensures offset { AnswersAs (λ offset. offset) result (spec.optional Key.Offset spec.offset_in (pos 0) (table_view document.now)) }
+    ensures in_range { IfOk result (λ offset. IsOffset offset) }
+{
+    match value_of(document, Key::Offset) {
+        Some(value) => offset_in(value),
+        None => Ok(0),
+    }
+}
+
+/// The path of the spool's file.
+pub(crate) fn spool_of(alloc: Global, document: &Table) -> Result<String, SettingsFault>
+    ensures { AnswersAs (λ spool. string_bytes spool) result (spec.required Key.Spool spec.spool_in (table_view document.now)) }
+{
+    match value_of(document, Key::Spool) {
+        Some(value) => spool_in(alloc, value),
+        None => Err(SettingsFault::Missing(Key::Spool)),
+    }
+}
+
+/// The users who may change jobs of others.
+pub(crate) fn admins_of(alloc: Global, document: &Table) -> Result<Vec<Word>, SettingsFault>
+    ensures { AnswersAs (λ admins. admins.items) result (spec.optional Key.Admins spec.admins_in [] (table_view document.now)) }
+{
+    match value_of(document, Key::Admins) {
+        Some(value) => admins_in(alloc, value),
+        None => Ok(Vec::new(alloc)),
+    }
+}
+
+// The value of a key, where it is there.
+fn value_of(document: &Table, key: Key) -> Option<&Value>
+    ensures { option_map (λ value. view value.now) result ≡ get_member (key_name key) (table_view document.now) }
+{
+    document.get(key.name())
+}
+
+// The value as a site name.
+fn name_in(alloc: Global, value: &Value) -> Result<SiteName, SettingsFault>
+    ensures { AnswersAs (λ name. name) result (ok_or (spec.name_in (view value.now)) (SettingsFault.BadValue Key.Name)) }
+{
+    let Some(text) = value.as_str() else {
+        return Err(SettingsFault::BadValue(Key::Name));
+    };
+    match SiteName::parse(alloc, text) {
+        Ok(name) => Ok(name),
+        Err(fault) => Err(fault_at(Key::Name, fault)),
+    }
+}
+
+// The value as minutes.
+fn offset_in(value: &Value) -> Result<i32, SettingsFault>
+    ensures offset { AnswersAs (λ offset. offset) result (ok_or (spec.offset_in (view value.now)) (SettingsFault.BadValue Key.Offset)) }
+    ensures in_range { IfOk result (λ offset. IsOffset offset) }
+{
+    match value.as_integer() {
+        Some(minutes) if -MOST_MINUTES <= minutes && minutes <= MOST_MINUTES => Ok(minutes as i32),
+        _ => Err(SettingsFault::BadValue(Key::Offset)),
+    }
+}
+
+// The value as a path.
+fn spool_in(alloc: Global, value: &Value) -> Result<String, SettingsFault>
+    ensures { AnswersAs (λ spool. string_bytes spool) result (ok_or (spec.spool_in (view value.now)) (SettingsFault.BadValue Key.Spool)) }
+{
+    match value.as_str() {
+        Some(path) if !path.is_empty() => Ok(String::from_str(alloc, path)?),
+        _ => Err(SettingsFault::BadValue(Key::Spool)),
+    }
+}
+
+// The value as words.
+fn admins_in(alloc: Global, value: &Value) -> Result<Vec<Word>, SettingsFault>
+    ensures { AnswersAs (λ admins. admins.items) result (ok_or (spec.admins_in (view value.now)) (SettingsFault.BadValue Key.Admins)) }
+{
+    match value.as_array() {
+        Some(values) => words_in(alloc, values),
+        None => Err(SettingsFault::BadValue(Key::Admins)),
+    }
+}
+
+// The values as words.
+fn words_in(alloc: Global, values: &[Value]) -> Result<Vec<Word>, SettingsFault>
+    ensures { AnswersAs (λ words. words.items) result (ok_or (spec.words_in (items_view values.now)) (SettingsFault.BadValue Key.Admins)) }
+{
+    let mut words = Vec::new(alloc);
+    for value in values {
+        match word_in(alloc, value) {
+            Ok(word) => words.push(word)?,
+            Err(fault) => return Err(fault),
+        }
+    }
+    Ok(words)
+}
+
+// The value as a word.
+fn word_in(alloc: Global, value: &Value) -> Result<Word, SettingsFault>
+    ensures { AnswersAs (λ word. word) result (ok_or (spec.word_in (view value.now)) (SettingsFault.BadValue Key.Admins)) }
+{
+    let Some(text) = value.as_str() else {
+        return Err(SettingsFault::BadValue(Key::Admins));
+    };
+    match Word::parse(alloc, text) {
+        Ok(word) => Ok(word),
+        Err(fault) => Err(fault_at(Key::Admins, fault)),
+    }
+}
+
+// The fault of a value that is no name or word.
+fn fault_at(key: Key, fault: NameFault) -> SettingsFault
+    ensures { result ≡ value_fault key fault }
+{
+    match fault {
+        NameFault::Memory => SettingsFault::Memory,
+        _ => SettingsFault::BadValue(key),
+    }
+}
