@@ -1,5 +1,7 @@
+pub mod AnswerLemmas
+pub mod AskLemmas
+pub mod EndLemmas
 pub mod FaultLemmas
-pub mod Letters
-pub mod ReportLemmas
+pub mod LineLemmas
 pub mod ServedLemmas
-pub mod Years
+pub mod SessionLemmas

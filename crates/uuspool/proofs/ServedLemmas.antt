@@ -1,70 +1,101 @@
--- What a line does, at equal tasks and seconds, and the faults of its task.
-use Rattle.std.proofs.Common.{◌≡◌, ℕ, List, length, Result, Ok, Err, IfOk, IsOkAnd, ap, subst, sym}
+-- How the parts of a line's service make up the whole.
+use Rattle.std.proofs.Common.{◌≡◌, ◌⊎◌, inl, inr, ℕ, List, [], length, Vec, Option, Some, None, Result, Ok, Err, IfOk, IfErr, OnOk, IsOkAnd, append-nil, Bool, refl, subst, sym}
 use Rattle.std.specs.declared.alloc.AllocError.{AllocError}
-use Rattle.uu_core.specs.State.{State, head_of}
-use Rattle.uu_core.specs.declared.job.JobHead.{JobHead}
-use Rattle.uu_core.specs.declared.job.NewJob.{NewJob}
-use Rattle.uu_store.specs.HandedOut.{job_with}
-use Rattle.uuspool.specs.Served.{IsDone, IsEarly, IsLate, IsTaskFault}
-use Rattle.uu_line.specs.Lines as line
-use Rattle.uu_line.specs.declared.fault.LineFault.{LineFault}
-use Rattle.uu_line.specs.declared.fault.LineFault.TheVariants as of_line
-use Rattle.uuspool.specs.Faults.{told_line}
-use Rattle.uuspool.specs.Lines.{IsAnswerTo}
-use Rattle.uu_line.specs.declared.line.CallLine.{CallLine}
+use Rattle.std.specs.declared.alloc.Global.{Global}
+use Rattle.std.specs.Io.KnownBytes.{Appends}
+use Rattle.sqlite.specs.Store.{Ghosts}
+use Rattle.sqlite.specs.State.{HasCleanDisk}
+use Rattle.uu_core.specs.State.{State}
+use Rattle.uu_core.specs.declared.command.Reply.{Reply}
+use Rattle.uu_schema.specs.declared.fault.StoreFault.{StoreFault}
+use Rattle.uu_schema.specs.declared.fault.StoreFault.TheVariants as store
+use Rattle.uu_store.specs.Runs.{Ran}
+use Rattle.uu_store.specs.Spool as spool
+use Rattle.uu_store.specs.declared.spool.Spool.{Spool}
+use Rattle.uu_settings.specs.declared.settings.Settings.{Settings}
+use Rattle.uu_request.specs.declared.request.Question.{Question}
+use Rattle.uu_request.specs.declared.request.Request.TheVariants as request
+use Rattle.uuspool.specs.Answers.{IsAnswer}
+use Rattle.uuspool.specs.Served.{IsServed, IsLate, IsOfCall, commands_of}
 use Rattle.uuspool.specs.declared.fault.Fault.{Fault}
 use Rattle.uuspool.specs.declared.fault.Fault.TheVariants as fault
-use Rattle.uu_line.specs.declared.task.Task.{Task}
-use Rattle.uuspool.specs.declared.settings.Settings.{Settings}
 
-pub as_task : (settings : Settings) (user : List ℕ) (second : ℕ) (input : List ℕ) (s : State) (status : ℕ)
-    (written : List ℕ → Type 0) (shows : State → Type 0) (asked other : Task) → asked ≡ other
-    → IsDone settings user second input s status written shows other → IsDone settings user second input s status written shows asked
-as_task settings user second input s status written shows asked other is done =
-    subst (λ t. IsDone settings user second input s status written shows t) (sym is) done
+-- nothing was written
+pub Appends-nothing : (contents : Option (List ℕ)) → Appends contents contents []
+Appends-nothing None = tt
+Appends-nothing (Some bytes) = sym (append-nil bytes)
 
-pub at_second : (settings : Settings) (user : List ℕ) (second other : ℕ) (input : List ℕ) (s : State) (status : ℕ)
-    (written : List ℕ → Type 0) (shows : State → Type 0) (asked : Task) → other ≡ second
-    → IsDone settings user other input s status written shows asked → IsDone settings user second input s status written shows asked
-at_second settings user second other input s status written shows asked is done =
-    subst (λ x. IsDone settings user x input s status written shows asked) is done
+-- a fault of printing
+abbrev pub IsOfPrinting : Fault → Type 0
+IsOfPrinting f = (f ≡ fault.Write) ⊎ (f ≡ fault.Memory)
 
--- a fault that comes once the spool is asked is none of those before
-pub late_is_not_early : (f : Fault) → IsLate f → IsEarly f → ⊥
-late_is_not_early (fault.Words text help) late early = late
-late_is_not_early (fault.Name why) late early = late
-late_is_not_early (fault.Time why) late early = late
-late_is_not_early fault.TwoSystems late early = late
-late_is_not_early fault.Input late early = late
-late_is_not_early (fault.Store why) late early = early
-late_is_not_early fault.Read late early = late
-late_is_not_early fault.Write late early = early
-late_is_not_early fault.Memory late early = early
+printing_is_late : (f : Fault) → IsOfPrinting f → IsLate f
+printing_is_late f (inl is) = subst IsLate (sym is) tt
+printing_is_late f (inr is) = subst IsLate (sym is) tt
 
-pub late_of_task : (asked : Task) (f : Fault) → IsLate f → IsTaskFault asked f
-late_of_task asked (fault.Words text help) late = absurd late
-late_of_task asked (fault.Name why) late = late
-late_of_task asked (fault.Time why) late = late
-late_of_task asked fault.TwoSystems late = late
-late_of_task asked fault.Input late = late
-late_of_task asked (fault.Store why) late = late
-late_of_task asked fault.Read late = late
-late_of_task asked fault.Write late = late
-late_of_task asked fault.Memory late = late
+printing_is_no_store : (f : Fault) (why : StoreFault) → IsOfPrinting f → f ≡ fault.Store why → ⊥
+printing_is_no_store f why (inl is) store = cc
+printing_is_no_store f why (inr is) store = cc
 
--- a head of a job with bytes is the head of that job, where it has their number
-pub shown_head : (head : JobHead) (bytes : List ℕ) → head.size ≡ length bytes → head ≡ head_of (job_with head bytes)
-shown_head head bytes same = ap (λ size. record head { size = size }) same
+late_of : (r : Result ℕ Fault) → IfErr r IsOfPrinting → IfErr r IsLate
+late_of (Ok status) is = tt
+late_of (Err f) is = printing_is_late f is
 
--- a fault of a line is the answer to its words, as the program tells it
-pub told_answer : (words : List (List ℕ)) (why : LineFault) → (let answer : Result CallLine LineFault = Err why in line.IsAnswerTo words answer)
-    → (let answer : Result CallLine Fault = Err (told_line why) in IsAnswerTo words answer)
-told_answer words (of_line.Words text help) answer = answer
-told_answer words (of_line.Name why) answer = answer
-told_answer words of_line.TwoSystems answer = answer
-told_answer words of_line.Memory answer = tt
+no_store : (r : Result ℕ Fault) (why : StoreFault) → IfErr r IsOfPrinting → r ≡ Err (fault.Store why) → ⊥
+no_store (Ok status) why is same = cc
+no_store (Err f) why is same = let inner : f ≡ fault.Store why = cc in printing_is_no_store f why is inner
 
--- a job that was made and given
-pub made_and_given : (made : Result NewJob AllocError) (P Q : NewJob → Type 0) → IfOk made P → IsOkAnd made Q → (job : NewJob) × P job × Q job
-made_and_given (Ok job) P Q is given = (job, is, given)
-made_and_given (Err e) P Q is given = absurd given
+whole_of : (q : Question) (r : Result ℕ Fault) → OnOk r (let none : Option StoreFault = None in let replies : List Reply = [] in
+    (none ≡ None) × (length replies ≡ length (commands_of (request.Question q))))
+whole_of q (Ok status) = (refl, refl)
+whole_of q (Err f) = tt
+
+-- a fault of a call of a spool
+pub marked_is_of_call : (before after : Bool) (why : StoreFault) → spool.Marks before after why → IsOfCall why
+marked_is_of_call before after store.Memory marked = tt
+marked_is_of_call before after (store.Store kind) marked = tt
+marked_is_of_call before after store.Failed marked = tt
+marked_is_of_call before after store.Foreign marked = marked
+marked_is_of_call before after store.Newer marked = marked
+
+-- an output that was made and printed, with its status
+pub printed : (r : Result ℕ Fault) (made : Result (Vec ℕ Global) AllocError) (status : ℕ) (written P : List ℕ → Type 0) (Q : List ℕ → ℕ → Type 0)
+    → ((output : List ℕ) → P output → Q output status)
+    → OnOk r (IsOkAnd made (λ output. written output.items)) → IfOk r (λ answered. answered ≡ status) → IfOk made (λ output. P output.items)
+    → IfOk r (λ answered. (output : List ℕ) × Q output answered × written output)
+printed (Ok answered) (Ok output) status written P Q into is same has = (output.items, subst (Q output.items) (sym same) (into output.items has), is)
+printed (Ok answered) (Err none) status written P Q into is same has = absurd is
+printed (Err f) made status written P Q into is same has = tt
+
+module _ {S : Type 0} {g : Ghosts S} (settings : Settings) (q : Question) (old new : Spool S g) (written : List ℕ → Type 0) where
+  -- the question was answered, and its answer printed
+  pub question_served : (r : Result ℕ Fault) → Ran [] old new [] None → IfErr r IsOfPrinting
+      → (HasCleanDisk (spool.disk new) → (s : State) → spool.Shows old s → spool.Shows new s × IfOk r (λ status. (output : List ℕ) × IsAnswer settings s q output status × written output))
+      → IsServed settings (request.Question q) old new written r
+  question_served r ran printing answers = record {
+    replies = [];
+    stopped = None;
+    ran = ran;
+    whole = whole_of q r;
+    output = λ clean s shown. shown_after r s (answers clean s shown).0 (answers clean s shown).1;
+    broken_off = λ why store. absurd (no_store r why printing store);
+    late = late_of r printing;
+  }
+    where
+      shown_after : (r : Result ℕ Fault) (s : State) → spool.Shows new s → IfOk r (λ status. (output : List ℕ) × IsAnswer settings s q output status × written output)
+          → IfOk r (λ status. (output : List ℕ) × IsAnswer settings s q output status × written output × spool.Shows new s)
+      shown_after (Ok status) s shows (output, is, done) = (output, is, done, shows)
+      shown_after (Err f) s shows is = tt
+
+  -- the store gave a fault, and nothing was printed
+  pub question_unanswered : (why : StoreFault) → Ran [] old new [] (Some why) → IsOfCall why → written []
+      → (let r : Result ℕ Fault = Err (fault.Store why) in IsServed settings (request.Question q) old new written r)
+  question_unanswered why ran call nothing = record {
+    replies = [];
+    stopped = Some why;
+    ran = ran;
+    whole = tt;
+    output = λ clean s shown. tt;
+    broken_off = λ other same. (let is : why ≡ other = cc in subst (λ w. (let stopped : Option StoreFault = Some why in stopped ≡ Some w) × written []) is (refl, nothing));
+    late = call;
+  }

@@ -9,6 +9,11 @@ use Rattle.uu_times.specs.declared.fault.TimeFault.{TimeFault}
 use Rattle.uu_times.specs.declared.fault.TimeFault.TheVariants as time
 use Rattle.uu_line.specs.declared.fault.LineFault.{LineFault}
 use Rattle.uu_line.specs.declared.fault.LineFault.TheVariants as line
+use Rattle.uu_settings.specs.Fault.{key_name}
+use Rattle.uu_settings.specs.declared.fault.SettingsFault.{SettingsFault}
+use Rattle.uu_settings.specs.declared.fault.SettingsFault.TheVariants as settings
+use Rattle.uu_request.specs.declared.fault.RequestFault.{RequestFault}
+use Rattle.uu_request.specs.declared.fault.RequestFault.TheVariants as request
 use Rattle.uuspool.specs.declared.fault.Fault.{Fault}
 use Rattle.uuspool.specs.declared.fault.Fault.TheVariants as fault
 use Rattle.uu_schema.specs.declared.fault.StoreFault.{StoreFault}
@@ -17,6 +22,7 @@ use Rattle.uu_schema.specs.declared.fault.StoreFault.TheVariants as store
 -- the number of a fault
 abbrev pub code_of : Fault → ℕ
 code_of (fault.Words text help) = 1
+code_of (fault.Settings why) = 2
 code_of (fault.Name why) = 3
 code_of (fault.Time why) = 4
 code_of fault.TwoSystems = 5
@@ -25,6 +31,11 @@ code_of (fault.Store why) = 7
 code_of fault.Read = 8
 code_of fault.Write = 9
 code_of fault.Memory = 10
+
+-- the status of a fault of the settings: 4 for want of memory, else 2
+abbrev pub settings_status : SettingsFault → ℕ
+settings_status settings.Memory = 4
+settings_status _ = 2
 
 -- the status of a fault of a name: 4 for want of memory, else 2
 abbrev pub name_status : NameFault → ℕ
@@ -41,11 +52,12 @@ abbrev pub store_status : StoreFault → ℕ
 store_status store.Memory = 4
 store_status _ = 3
 
--- the exit status of a fault: 0 for help, 2 for words, names, times, addresses and input, 3 for the
+-- the exit status of a fault: 0 for help, 2 for words, settings, names, times, addresses and input, 3 for the
 -- spool, 4 for want of memory wherever it was met, 5 for reading and writing
 abbrev pub status_of : Fault → ℕ
 status_of (fault.Words text true) = 0
 status_of (fault.Words text false) = 2
+status_of (fault.Settings why) = settings_status why
 status_of (fault.Name why) = name_status why
 status_of (fault.Time why) = time_status why
 status_of fault.TwoSystems = 2
@@ -54,6 +66,13 @@ status_of (fault.Store why) = store_status why
 status_of fault.Read = 5
 status_of fault.Write = 5
 status_of fault.Memory = 4
+
+-- what is said of a fault of the settings
+abbrev pub settings_text : SettingsFault → List ℕ
+settings_text settings.NotToml = codes "settings: not toml"
+settings_text (settings.Missing key) = codes "settings: " ++ key_name key ++ codes " missing"
+settings_text (settings.BadValue key) = codes "settings: " ++ key_name key ++ codes " bad"
+settings_text settings.Memory = codes "out of memory"
 
 -- what is said of a fault of a name
 abbrev pub name_text : NameFault → List ℕ
@@ -117,6 +136,7 @@ named text = codes "uuspool: " ++ text ++ 10 ∷ []
 -- the line of a fault: of words their own text, as it is
 abbrev pub line_of_fault : Fault → List ℕ
 line_of_fault (fault.Words text help) = string_bytes text
+line_of_fault (fault.Settings why) = named (settings_text why)
 line_of_fault (fault.Name why) = named (name_text why)
 line_of_fault (fault.Time why) = named (time_text why)
 line_of_fault fault.TwoSystems = named (codes "addresses of two systems")
@@ -126,25 +146,25 @@ line_of_fault fault.Read = named (codes "cannot read")
 line_of_fault fault.Write = named (codes "cannot write")
 line_of_fault fault.Memory = named (codes "out of memory")
 
--- how the program tells a fault of a name that a line names: want of memory is its own fault
-abbrev pub told_name : NameFault → Fault
-told_name name.Memory = fault.Memory
-told_name why = fault.Name why
+-- The fault of a line that a fault of one of its names is: want of memory is a fault of its own.
+abbrev pub fault_of_name : NameFault → Fault
+fault_of_name name.Memory = fault.Memory
+fault_of_name why = fault.Name why
 
 -- and a fault of a moment
-abbrev pub told_time : TimeFault → Fault
-told_time time.Memory = fault.Memory
-told_time why = fault.Time why
+abbrev pub fault_of_time : TimeFault → Fault
+fault_of_time time.Memory = fault.Memory
+fault_of_time why = fault.Time why
 
--- and a fault of a line, which is told as it is
-abbrev pub told_line : LineFault → Fault
-told_line (line.Words text help) = fault.Words text help
-told_line (line.Name why) = fault.Name why
-told_line line.TwoSystems = fault.TwoSystems
-told_line line.Memory = fault.Memory
+-- and a fault of its words
+abbrev pub fault_of_line : LineFault → Fault
+fault_of_line (line.Words text help) = fault.Words text help
+fault_of_line (line.Name why) = fault.Name why
+fault_of_line line.TwoSystems = fault.TwoSystems
+fault_of_line line.Memory = fault.Memory
 
--- the faults of a sys file that is not read yet in full: words, or want of memory
-abbrev pub IsOfWords : Fault → Type 0
-IsOfWords (fault.Words text help) = ⊤
-IsOfWords fault.Memory = ⊤
-IsOfWords _ = ⊥
+-- and a fault of what a line asks
+abbrev pub fault_of_request : RequestFault → Fault
+fault_of_request request.Input = fault.Input
+fault_of_request (request.Time why) = fault.Time why
+fault_of_request request.Memory = fault.Memory

@@ -1,6 +1,6 @@
 pub mod Faults
 pub mod Input
-pub mod Reports
-pub mod Offsets
 pub mod Lines
+pub mod Answers
 pub mod Served
+pub mod Sessions

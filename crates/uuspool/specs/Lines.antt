@@ -1,7 +1,7 @@
 -- What the program answers to the words of a line. What words mean is said in `uu_line`.
 use Rattle.std.specs.Prelude.{ℕ, List, Result, Ok, Err, ⊤}
 pub use Rattle.uu_line.specs.Lines.{AreRefused, MeansFault, MeansLine, same_text, takes_input}
-use Rattle.uu_line.specs.declared.fault.LineFault.TheVariants as told
+use Rattle.uu_line.specs.declared.fault.LineFault.TheVariants as of_line
 use Rattle.uu_line.specs.declared.line.CallLine.{CallLine}
 use Rattle.uuspool.specs.declared.fault.Fault.{Fault}
 use Rattle.uuspool.specs.declared.fault.Fault.TheVariants.{Words, Name, TwoSystems, Memory}
@@ -11,7 +11,7 @@ use Rattle.uuspool.specs.declared.fault.Fault.TheVariants.{Words, Name, TwoSyste
 abbrev pub IsAnswerTo : List (List ℕ) → Result CallLine Fault → Type 0
 IsAnswerTo words (Ok line) = MeansLine words line
 IsAnswerTo words (Err (Words text help)) = AreRefused words
-IsAnswerTo words (Err (Name why)) = MeansFault words (told.Name why)
-IsAnswerTo words (Err TwoSystems) = MeansFault words told.TwoSystems
+IsAnswerTo words (Err (Name why)) = MeansFault words (of_line.Name why)
+IsAnswerTo words (Err TwoSystems) = MeansFault words of_line.TwoSystems
 IsAnswerTo words (Err Memory) = ⊤
 IsAnswerTo words (Err _) = ⊥

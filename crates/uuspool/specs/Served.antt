@@ -1,138 +1,88 @@
--- What a line does to the spool, what it prints, and its status. All of it is this project's choice.
-use Rattle.std.specs.Prelude.{◌≡◌, ◌⊎◌, ℕ, ◌<◌, ◌≤◌, ℤ, Option, Some, None, List, [], ◌∷◌, ◌++◌, Err, IsTrue, length, ⊤, codes, unwrap_or}
-use Rattle.std.specs.Fmt.{decimal}
-use Rattle.std.specs.List.{list_any}
-use Rattle.jiff.specs.Types.{DateTime}
-use Rattle.uu_names.specs.Envelope.{envelope_of}
-use Rattle.uu_times.specs.Moment.{IsPast, Shows, local_second}
+-- What the words of a call ask of a spool, what the program prints, and its status. All of it is this project's choice.
+use Rattle.std.specs.Prelude.{◌≡◌, ◌⊎◌, ℕ, pos, Option, Some, None, List, [], Result, Ok, Err, IfOk, IfErr, OnOk, ⊤, unwrap_or, length}
+use Rattle.sqlite.specs.Store.{Ghosts}
+use Rattle.sqlite.specs.State.{HasCleanDisk}
+use Rattle.uu_times.specs.Moment.{IsPast, Shows, local_second, week_minute}
 use Rattle.uu_times.specs.declared.moment.Moment.{Moment}
 use Rattle.uu_times.specs.declared.fault.TimeFault.TheVariants.{MomentRange}
-use Rattle.uu_core.specs.State.{State, Job, head_of, job_at}
-use Rattle.uu_core.specs.declared.refusal.Refusal.{Refusal}
-use Rattle.uu_core.specs.declared.refusal.Refusal.TheVariants.{NoSystem, NoJob, NotYours, JobTwice, OtherSystem, Busy, TooLarge, NumbersOut, BadEntry}
+use Rattle.uu_core.specs.State.{State}
+use Rattle.uu_core.specs.Run.{state_after, replies_to}
 use Rattle.uu_core.specs.declared.command.Command.{Command}
-use Rattle.uu_core.specs.declared.command.Command.TheVariants.{Remove, Queue, Kill, Regrade, Rejuvenate}
 use Rattle.uu_core.specs.declared.command.Reply.{Reply}
-use Rattle.uu_core.specs.declared.command.Reply.TheVariants.{Done, Number, Refused}
-use Rattle.uu_core.specs.declared.job.Kind.{Kind}
-use Rattle.uu_core.specs.declared.job.Kind.TheVariants.{Send, Request, Execute}
-use Rattle.uu_core.specs.declared.job.NewJob.{NewJob}
-use Rattle.uu_core.specs.declared.job.By.{By}
-use Rattle.uu_core.specs.After.{after}
 use Rattle.uu_schema.specs.declared.fault.StoreFault.{StoreFault}
 use Rattle.uu_schema.specs.declared.fault.StoreFault.TheVariants as store
-use Rattle.uu_questions.specs.Listing.{listed}
-use Rattle.uu_line.specs.Lines.{AreRefused, MeansLine, same_text, takes_input}
+use Rattle.uu_store.specs.Runs.{Ran}
+use Rattle.uu_store.specs.Spool as spool
+use Rattle.uu_store.specs.declared.spool.Spool.{Spool}
+use Rattle.uu_store.specs.declared.run.RunEnd.{RunEnd}
+use Rattle.uu_line.specs.Lines.{AreRefused, MeansLine}
 use Rattle.uu_line.specs.declared.line.CallLine.{CallLine}
-use Rattle.uu_line.specs.declared.task.Task.{Task}
-use Rattle.uu_line.specs.declared.task.Task.TheVariants as task
+use Rattle.uu_settings.specs.declared.settings.Settings.{Settings}
+use Rattle.uu_report.specs.declared.output.Subject.{Subject}
+use Rattle.uu_report.specs.Outputs.{answers_text, output_text, replies_status}
+use Rattle.uu_request.specs.Requests.{request_of}
+use Rattle.uu_request.specs.declared.fault.RequestFault.{RequestFault}
+use Rattle.uu_request.specs.declared.fault.RequestFault.TheVariants as asking
+use Rattle.uu_request.specs.declared.request.Request.{Request}
+use Rattle.uu_request.specs.declared.request.Request.TheVariants.{Commands, Question}
+use Rattle.uuspool.specs.Answers.{IsAnswer}
 use Rattle.uuspool.specs.Lines.{IsAnswerTo}
-use Rattle.uuspool.specs.Reports.{IsJobLine, IsReport}
-use Rattle.uuspool.specs.declared.input.TheConstants.{INPUT_LIMIT}
 use Rattle.uuspool.specs.declared.fault.Fault.{Fault}
 use Rattle.uuspool.specs.declared.fault.Fault.TheVariants as fault
-use Rattle.uuspool.specs.declared.settings.Settings.{Settings}
 
-abbrev pub refusal_name : Refusal → List ℕ
-refusal_name NoSystem = codes "NoSystem"
-refusal_name NoJob = codes "NoJob"
-refusal_name NotYours = codes "NotYours"
-refusal_name JobTwice = codes "JobTwice"
-refusal_name OtherSystem = codes "OtherSystem"
-refusal_name Busy = codes "Busy"
-refusal_name TooLarge = codes "TooLarge"
-refusal_name NumbersOut = codes "NumbersOut"
-refusal_name BadEntry = codes "BadEntry"
-
--- the output line of an answered command
-abbrev pub reply_text : Reply → List ℕ
-reply_text Done = codes "done" ++ 10 ∷ []
-reply_text (Number number) = codes "job " ++ decimal number ++ 10 ∷ []
-reply_text (Refused refusal) = codes "refused " ++ refusal_name refusal ++ 10 ∷ []
-
--- the status of a line whose command was answered so
-abbrev pub reply_status : Reply → ℕ
-reply_status Done = 0
-reply_status (Number number) = 0
-reply_status (Refused refusal) = 1
-
--- a job that a user hands in at a second
-pub record IsHandedIn (owner site : List ℕ) (rank : ℕ) (work : Kind) (content : List ℕ) (second : ℕ) (job : NewJob) : Type 0 where
-  pub system : job.system ≡ site
-  pub grade : job.grade ≡ rank
-  pub user : job.user ≡ owner
-  pub kind : job.kind ≡ work
-  pub bytes : job.bytes ≡ content
-  pub at : job.at.second ≡ second
-
--- A message: `rmail` with what the system is to do as its arguments, and the envelope as its bytes, with the date
--- and time that the site's clock shows and the site's name.
-pub record IsMailed (settings : Settings) (user system : List ℕ) (grade : ℕ) (rests : List (List ℕ)) (message : List ℕ) (second : ℕ) (job : NewJob) : Type 0 where
-  pub local : DateTime
-  pub shown : Shows local (local_second second settings.offset)
-  pub handed_in : IsHandedIn user system grade (Execute (codes "rmail") rests) (envelope_of user local settings.name message) second job
-
--- a command is given: the reply is printed, and its status is the line's
-pub record IsGiven (s : State) (command : Command) (answered : ℕ) (written : List ℕ → Type 0) (shows : State → Type 0) : Type 0 where
-  pub status : answered ≡ reply_status (after s command).1
-  pub output : written (reply_text (after s command).1)
-  pub state : shows (after s command).0
-
--- a user, who is an administrator where the settings name him
-abbrev pub by_of : Settings → List ℕ → By
-by_of settings user = record { user = user; admin = list_any (λ admin. same_text admin user) settings.admins.items }
-
--- a job is shown by its line and then its bytes as they are, where there is one
-abbrev pub IsShown : ℤ → Option Job → ℕ → (List ℕ → Type 0) → Type 0
-IsShown offset None status written = (status ≡ 1) × written (codes "no job" ++ 10 ∷ [])
-IsShown offset (Some job) status written =
-    (line : List ℕ) × IsJobLine offset (head_of job) line × (status ≡ 0) × written (line ++ job.bytes)
-
--- What a task does in a state, at a second and with an input: the status, what is `written`, and the
--- state that the spool `shows` afterwards. Of `load` nothing is said here.
-abbrev pub IsDone : Settings → List ℕ → ℕ → List ℕ → State → ℕ → (List ℕ → Type 0) → (State → Type 0) → Task → Type 0
-IsDone settings user second input s status written shows task.Load = ⊤
-IsDone settings user second input s status written shows (task.Drop system) =
-    IsGiven s (Remove system) status written shows
-IsDone settings user second input s status written shows (task.Send system source target grade) =
-    (job : NewJob) × IsHandedIn user system grade (Send source target) input second job × IsGiven s (Queue job) status written shows
-IsDone settings user second input s status written shows (task.Request system source target grade) =
-    (job : NewJob) × IsHandedIn user system grade (Request source target) [] second job × IsGiven s (Queue job) status written shows
-IsDone settings user second input s status written shows (task.Execute grade system command arguments) =
-    (job : NewJob) × IsHandedIn user system grade (Execute command arguments) input second job × IsGiven s (Queue job) status written shows
-IsDone settings user second input s status written shows (task.Mail grade system rests) =
-    (job : NewJob) × IsMailed settings user system grade rests input second job × IsGiven s (Queue job) status written shows
-IsDone settings user second input s status written shows (task.List filter) =
-    (report : List ℕ) × IsReport settings.offset (listed filter s) report
-    × (status ≡ 0) × written report × shows s
-IsDone settings user second input s status written shows (task.Show number) =
-    IsShown settings.offset (job_at s number) status written × shows s
-IsDone settings user second input s status written shows (task.Kill number) =
-    IsGiven s (Kill number (by_of settings user)) status written shows
-IsDone settings user second input s status written shows (task.Regrade number grade) =
-    IsGiven s (Regrade number grade (by_of settings user)) status written shows
-IsDone settings user second input s status written shows (task.Rejuvenate number) =
-    (at : Moment) × (at.second ≡ second) × IsGiven s (Rejuvenate number at (by_of settings user)) status written shows
+-- ---- from words to a request
 
 -- the second of a line, which is `now` where it gives none
 abbrev pub second_of : CallLine → ℕ → ℕ
 second_of line now = unwrap_or line.at now
 
--- what a line does
-abbrev pub IsServed : Settings → CallLine → ℕ → List ℕ → State → ℕ → (List ℕ → Type 0) → (State → Type 0) → Type 0
-IsServed settings line now input s status written shows =
-    IsDone settings line.user (second_of line now) input s status written shows line.task
+-- the moment of a second on the site's clock
+pub record IsMomentOf (settings : Settings) (instant : ℕ) (at : Moment) : Type 0 where
+  pub second : at.second ≡ instant
+  pub week : pos at.week ≡ week_minute (local_second instant settings.offset)
+  pub local : Shows at.local (local_second instant settings.offset)
 
--- ---- faults
+-- what the words ask, with this input, at the second `now` where they give none, or why they ask nothing
+pub record Ask (settings : Settings) (words : List (List ℕ)) (now : ℕ) (input : List ℕ) (asked : Result Request RequestFault) : Type 0 where
+  pub line : CallLine
+  pub means : MeansLine words line
+  pub at : Moment
+  pub moment : IsMomentOf settings (second_of line now) at
+  pub request : request_of settings at input line ≡ asked
+
+-- ---- from a request to its output
+
+-- the commands of a request; a question is none
+abbrev pub commands_of : Request → List Command
+commands_of (Commands batch) = batch.commands
+commands_of (Question question) = []
+
+-- the output and the status of a request in a state: of commands those of the machine's replies
+abbrev pub IsOutput : Settings → State → Request → List ℕ → ℕ → Type 0
+IsOutput settings s (Commands batch) output status =
+    (output ≡ output_text batch.subjects batch.skipped (replies_to s batch.commands)) × (status ≡ replies_status (replies_to s batch.commands))
+IsOutput settings s (Question question) output status = IsAnswer settings s question output status
+
+-- the output of the commands that were answered, where others were not
+abbrev pub answered_text : Request → List Reply → List ℕ
+answered_text (Commands batch) replies = answers_text batch.subjects replies
+answered_text (Question question) replies = []
+
+-- What a run's end is printed as: of a whole run the output and its status, of one that was broken off the output of the commands that
+-- were answered, with its fault.
+abbrev pub IsPrintedEnd : List Subject → List ℕ → RunEnd → (List ℕ → Type 0) → Result ℕ Fault → Type 0
+IsPrintedEnd subjects skipped end written (Ok status) =
+    (end.stopped ≡ None) × (status ≡ replies_status end.replies.items) × written (output_text subjects skipped end.replies.items)
+IsPrintedEnd subjects skipped end written (Err (fault.Store why)) = (end.stopped ≡ Some why) × written (answers_text subjects end.replies.items)
+IsPrintedEnd subjects skipped end written (Err fault.Write) = ⊤
+IsPrintedEnd subjects skipped end written (Err fault.Memory) = ⊤
+IsPrintedEnd subjects skipped end written (Err _) = ⊥
 
 -- the faults that come before the spool is asked
 abbrev pub IsEarly : Fault → Type 0
-IsEarly (fault.Words text help) = ⊤
-IsEarly (fault.Name why) = ⊤
-IsEarly (fault.Time why) = ⊤
-IsEarly fault.TwoSystems = ⊤
-IsEarly fault.Input = ⊤
-IsEarly _ = ⊥
+IsEarly (fault.Store why) = ⊥
+IsEarly fault.Write = ⊥
+IsEarly _ = ⊤
 
 -- the faults of a spool that is open
 abbrev pub IsOfCall : StoreFault → Type 0
@@ -149,29 +99,41 @@ IsLate fault.Write = ⊤
 IsLate fault.Memory = ⊤
 IsLate _ = ⊥
 
--- the faults of a task once its line is understood; of these, words are those of a sys file
-abbrev pub IsTaskFault : Task → Fault → Type 0
-IsTaskFault asked (fault.Words text help) = asked ≡ task.Load
-IsTaskFault asked fault = IsLate fault
+-- A request was served: it was a run of its commands, so that the replies are the machine's, the spool shows the machine's state after the
+-- commands that were answered, and a stop leaves that. With a status, all were answered, and their output was `written`. Where the store
+-- gave a fault, the output of the commands that were answered was.
+pub record IsServed {S : Type 0} {g : Ghosts S} (settings : Settings) (request : Request) (old new : Spool S g) (written : List ℕ → Type 0) (result : Result ℕ Fault) : Type 0 where
+  pub replies : List Reply
+  pub stopped : Option StoreFault
+  pub ran : Ran (commands_of request) old new replies stopped
+  pub whole : OnOk result ((stopped ≡ None) × (length replies ≡ length (commands_of request)))
+  pub output : HasCleanDisk (spool.disk new) → (s : State) → spool.Shows old s → IfOk result (λ status.
+      (output : List ℕ) × IsOutput settings s request output status × written output × spool.Shows new (state_after s (commands_of request)))
+  pub broken_off : (why : StoreFault) → result ≡ Err (fault.Store why) → (stopped ≡ Some why) × written (answered_text request replies)
+  pub late : IfErr result IsLate
 
--- the words mean this line, its moment is none that is past the last, and its input is not too large
-pub record IsUnderstood (words : List (List ℕ)) (now : ℕ) (input : List ℕ) (line : CallLine) : Type 0 where
-  pub means : MeansLine words line
-  pub moment : ¬ IsPast (second_of line now)
-  pub fits : IsTrue (takes_input line.task) → length input ≤ INPUT_LIMIT
+-- How a line ends: its request was served, or nothing was changed, and nothing was printed.
+abbrev pub EndsAs : Result ℕ Fault → Type 0 → Type 0 → Type 0
+EndsAs (Ok status) served unchanged = served
+EndsAs (Err (fault.Store why)) served unchanged = served
+EndsAs (Err fault.Write) served unchanged = served
+EndsAs (Err fault.Memory) served unchanged = served ⊎ unchanged
+EndsAs (Err _) served unchanged = unchanged
 
--- Which fault is told: those of the words come first, then those of names, then different systems, then the moment,
--- then the size of the input, and then those of the task. Want of memory may take the place of any.
-abbrev pub IsToldOf : List (List ℕ) → ℕ → List ℕ → Fault → Type 0
-IsToldOf words now input (fault.Words text help) =
-    AreRefused words ⊎ ((line : CallLine) × IsUnderstood words now input line × (line.task ≡ task.Load))
-IsToldOf words now input (fault.Name why) = IsAnswerTo words (Err (fault.Name why))
-IsToldOf words now input fault.TwoSystems = IsAnswerTo words (Err fault.TwoSystems)
-IsToldOf words now input (fault.Time why) =
-    (why ≡ MomentRange) × ((line : CallLine) × MeansLine words line × IsPast (second_of line now))
-IsToldOf words now input fault.Input =
-    (line : CallLine) × MeansLine words line × (¬ IsPast (second_of line now)) × IsTrue (takes_input line.task) × (INPUT_LIMIT < length input)
-IsToldOf words now input fault.Memory = ⊤
-IsToldOf words now input fault.Read = ⊥
-IsToldOf words now input (fault.Store why) = IsOfCall why × ((line : CallLine) × IsUnderstood words now input line)
-IsToldOf words now input fault.Write = (line : CallLine) × IsUnderstood words now input line
+-- ---- which fault ends a line
+
+-- Those of the words come first, then those of names, then different systems, then the moment, then the size of the input, then the sys
+-- file's, and then those of the spool. Want of memory may take the place of any.
+abbrev pub IsFaultOf : Settings → List (List ℕ) → ℕ → List ℕ → Fault → Type 0
+IsFaultOf settings words now input (fault.Words text help) = AreRefused words
+IsFaultOf settings words now input (fault.Name why) = IsAnswerTo words (Err (fault.Name why))
+IsFaultOf settings words now input fault.TwoSystems = IsAnswerTo words (Err fault.TwoSystems)
+IsFaultOf settings words now input (fault.Time why) =
+    ((why ≡ MomentRange) × ((line : CallLine) × MeansLine words line × IsPast (second_of line now)))
+    ⊎ Ask settings words now input (Err (asking.Time why))
+IsFaultOf settings words now input fault.Input = Ask settings words now input (Err asking.Input)
+IsFaultOf settings words now input fault.Memory = ⊤
+IsFaultOf settings words now input (fault.Settings why) = ⊥
+IsFaultOf settings words now input fault.Read = ⊥
+IsFaultOf settings words now input (fault.Store why) = IsOfCall why × ((request : Request) × Ask settings words now input (Ok request))
+IsFaultOf settings words now input fault.Write = (request : Request) × Ask settings words now input (Ok request)

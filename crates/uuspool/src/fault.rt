@@ -3,12 +3,14 @@
 ghost use Rattle.std.specs.Prelude.{◌≡◌, ◌≢◌, IfOk};
 ghost use Rattle.std.specs.String.{string_bytes};
 ghost use Rattle.uu_names.specs.Fault.{fault_code};
-ghost use Rattle.uuspool.specs.Faults.{code_of, status_of, line_of_fault, name_text, named, time_text, time_name, fault_place, placed};
+ghost use Rattle.uuspool.specs.Faults.{code_of, status_of, line_of_fault, settings_text, name_text, named, time_text, time_name, fault_place, placed};
 
 use std::alloc::{AllocError, AllocFailed, Global};
 use thiserror::Error;
 use uu_line::LineFault;
 use uu_names::NameFault;
+use uu_request::RequestFault;
+use uu_settings::SettingsFault;
 use uu_store::StoreFault;
 use uu_times::TimeFault;
 
@@ -23,6 +25,9 @@ pub enum Fault {
         /// Whether the words ask for help.
         help: bool,
     },
+    /// The file of settings sets nothing.
+    #[error("settings: {0:?}")]
+    Settings(SettingsFault),
     /// A user, a system, a word, a grade or an address of the line is none.
     #[error("name: {0:?}")]
     Name(NameFault),
@@ -38,7 +43,7 @@ pub enum Fault {
     /// The spool gave no answer.
     #[error("spool: {0:?}")]
     Store(StoreFault),
-    /// Words, input or the clock could not be read.
+    /// Words, settings, input or the clock could not be read.
     #[error("cannot read")]
     Read,
     /// The output could not be written.
@@ -56,6 +61,7 @@ impl Fault {
     {
         match self {
             Fault::Words { .. } => 1,
+            Fault::Settings(_) => 2,
             Fault::Name(_) => 3,
             Fault::Time(_) => 4,
             Fault::TwoSystems => 5,
@@ -92,9 +98,9 @@ impl<T: Drop> From<AllocFailed<T>> for Fault {
 
 impl From<NameFault> for Fault {
     ghost use Rattle.std.specs.Prelude.{◌≡◌};
-    ghost use Rattle.uuspool.specs.Faults.{told_name};
+    ghost use Rattle.uuspool.specs.Faults.{fault_of_name};
 
-    ghost from_gives = { λ name fault. fault ≡ told_name name };
+    ghost from_gives = { λ name fault. fault ≡ fault_of_name name };
 
     fn from(fault: NameFault) -> Fault {
         match fault {
@@ -106,9 +112,9 @@ impl From<NameFault> for Fault {
 
 impl From<TimeFault> for Fault {
     ghost use Rattle.std.specs.Prelude.{◌≡◌};
-    ghost use Rattle.uuspool.specs.Faults.{told_time};
+    ghost use Rattle.uuspool.specs.Faults.{fault_of_time};
 
-    ghost from_gives = { λ time fault. fault ≡ told_time time };
+    ghost from_gives = { λ time fault. fault ≡ fault_of_time time };
 
     fn from(fault: TimeFault) -> Fault {
         match fault {
@@ -120,9 +126,9 @@ impl From<TimeFault> for Fault {
 
 impl From<LineFault> for Fault {
     ghost use Rattle.std.specs.Prelude.{◌≡◌};
-    ghost use Rattle.uuspool.specs.Faults.{told_line};
+    ghost use Rattle.uuspool.specs.Faults.{fault_of_line};
 
-    ghost from_gives = { λ line fault. fault ≡ told_line line };
+    ghost from_gives = { λ line fault. fault ≡ fault_of_line line };
 
     fn from(fault: LineFault) -> Fault {
         match fault {
@@ -134,7 +140,33 @@ impl From<LineFault> for Fault {
     }
 }
 
-/// The exit status of the program at this fault: 0 for help, 2 for words, names, times, addresses and
+impl From<SettingsFault> for Fault {
+    ghost use Rattle.std.specs.Prelude.{◌≡◌};
+    ghost use Rattle.uuspool.specs.declared.fault.Fault.TheVariants.{Settings};
+
+    ghost from_gives = { λ settings fault. fault ≡ Settings settings };
+
+    fn from(fault: SettingsFault) -> Fault {
+        Fault::Settings(fault)
+    }
+}
+
+impl From<RequestFault> for Fault {
+    ghost use Rattle.std.specs.Prelude.{◌≡◌};
+    ghost use Rattle.uuspool.specs.Faults.{fault_of_request};
+
+    ghost from_gives = { λ why fault. fault ≡ fault_of_request why };
+
+    fn from(fault: RequestFault) -> Fault {
+        match fault {
+            RequestFault::Input => Fault::Input,
+            RequestFault::Time(fault) => Fault::Time(fault),
+            RequestFault::Memory => Fault::Memory,
+        }
+    }
+}
+
+/// The exit status of the program at this fault: 0 for help, 2 for words, settings, names, times, addresses and
 /// input, 3 for the spool, 4 for want of memory wherever it was met, 5 for reading and writing.
 pub fn fault_status(fault: &Fault) -> u8
     ensures { result ≡ status_of fault.now }
@@ -142,11 +174,16 @@ pub fn fault_status(fault: &Fault) -> u8
     match fault {
         Fault::Words { help: true, .. } => 0,
         Fault::Memory
+        | Fault::Settings(SettingsFault::Memory)
         | Fault::Name(NameFault::Memory)
         | Fault::Time(TimeFault::Memory)
         | Fault::Store(StoreFault::Memory) => 4,
-        Fault::Words { .. } | Fault::Name(_) | Fault::Time(_) | Fault::TwoSystems | Fault::Input =>
-            2,
+        Fault::Words { .. }
+        | Fault::Settings(_)
+        | Fault::Name(_)
+        | Fault::Time(_)
+        | Fault::TwoSystems
+        | Fault::Input => 2,
         Fault::Store(_) => 3,
         Fault::Read | Fault::Write => 5,
     }
@@ -159,6 +196,7 @@ pub fn fault_line(alloc: Global, fault: &Fault) -> Result<Vec<u8>, AllocError>
 {
     let line = match fault {
         Fault::Words { text, .. } => text.as_str(),
+        Fault::Settings(settings) => return settings_line(alloc, *settings),
         Fault::Name(name) => name_line(*name),
         Fault::Time(time) => return time_line(alloc, *time),
         Fault::TwoSystems => "uuspool: addresses of two systems\n",
@@ -172,6 +210,25 @@ pub fn fault_line(alloc: Global, fault: &Fault) -> Result<Vec<u8>, AllocError>
         Fault::Write => "uuspool: cannot write\n",
     };
     Vec::from_slice(alloc, line.as_bytes())
+}
+
+// The line of a fault of the settings.
+fn settings_line(alloc: Global, fault: SettingsFault) -> Result<Vec<u8>, AllocError>
+    ensures { IfOk result (λ line. line.items ≡ named (settings_text fault)) }
+{
+    let line = match fault {
+        SettingsFault::NotToml => String::from_str(alloc, "uuspool: settings: not toml\n")?,
+        SettingsFault::Missing(key) => {
+            let key = key.name();
+            format!(in alloc; "uuspool: settings: {key} missing\n")?
+        }
+        SettingsFault::BadValue(key) => {
+            let key = key.name();
+            format!(in alloc; "uuspool: settings: {key} bad\n")?
+        }
+        SettingsFault::Memory => String::from_str(alloc, "uuspool: out of memory\n")?,
+    };
+    Ok(line.into_bytes())
 }
 
 // The line of a fault of a name.

@@ -7,9 +7,7 @@ ghost use Rattle.uuspool.specs.Input.{IsWholeInput, IsTooLarge};
 use crate::fault::Fault;
 use std::alloc::Global;
 use std::io::Read;
-
-/// The most bytes that a line takes as its input.
-pub const INPUT_LIMIT: usize = 4_194_304;
+use uu_names::text::MAX_TEXT;
 
 /// The most reads that are asked of the input.
 pub const READ_LIMIT: u32 = 5_000_000;
@@ -19,7 +17,7 @@ const CHUNK: usize = 16_384;
 /// All bytes of the reader, up to its end.
 ///
 /// # Errors
-/// `Input` once more than `INPUT_LIMIT` bytes came, `Read` where a read fails or the reader has not
+/// `Input` once more than `MAX_TEXT` bytes came, `Read` where a read fails or the reader has not
 /// ended after `READ_LIMIT` reads, and `Memory`.
 pub fn read_input<R: Read>(alloc: Global, reader: &mut R) -> Result<Vec<u8>, Fault>
     ensures whole { IfOk result (λ bytes. IsWholeInput (R.remaining reader.old) bytes.items) }
@@ -36,7 +34,7 @@ pub fn read_input<R: Read>(alloc: Global, reader: &mut R) -> Result<Vec<u8>, Fau
         if count == 0 {
             return Ok(bytes);
         }
-        if count > INPUT_LIMIT - bytes.len() {
+        if count > MAX_TEXT - bytes.len() {
             return Err(Fault::Input);
         }
         if bytes.extend_from_slice(&chunk[..count]).is_err() {

@@ -2,18 +2,21 @@
 //! line over a spool, its reports and its faults. The program itself is a thin crate over this one.
 #![tactic(auto)]
 
+mod answer;
 mod fault;
 mod input;
+pub mod laws;
 mod line;
+mod moment;
+mod print;
 mod report;
 mod serving;
-mod settings;
-mod systems;
 
 pub use fault::{Fault, fault_line, fault_status};
-pub use input::{INPUT_LIMIT, READ_LIMIT, read_input};
+pub use input::{READ_LIMIT, read_input};
 pub use line::line_of;
-pub use report::report_jobs;
-pub use serving::{moment_of, serve};
-pub use settings::{Settings, fixed_settings};
+pub use moment::moment_of;
+pub use report::{report_due, report_jobs, report_links, report_status};
+pub use serving::serve;
 pub use uu_line::{CallLine, Task};
+pub use uu_settings::{Key, Settings, SettingsFault};

@@ -6,12 +6,9 @@ use sqlite::Alter;
 use std::io::Write;
 use std::process::ExitCode;
 use std::time::SystemTime;
-use std::{env, io};
+use std::{env, fs, io};
 use uu_store::{Spool, StoreFault, start};
-use uuspool::{
-    Fault, Settings, fault_line, fault_status, fixed_settings, line_of, moment_of, read_input,
-    serve,
-};
+use uuspool::{Fault, Settings, fault_line, fault_status, line_of, moment_of, read_input, serve};
 
 fn main(rt: HostRuntime) -> ExitCode {
     match run(&rt) {
@@ -27,9 +24,9 @@ fn main(rt: HostRuntime) -> ExitCode {
 fn run(rt: &HostRuntime) -> Result<u8, Fault> {
     let words = words_of(rt)?;
     let needs = needs_of(rt, &words)?;
-    let settings = fixed_settings(rt.alloc())?;
-    let now = now_for(rt, needs, &settings)?;
-    let input = input_for(rt, needs)?;
+    let settings = settings_in(rt, needs.config.as_str())?;
+    let now = now_for(rt, needs.at, &settings)?;
+    let input = input_for(rt, needs.input)?;
     run_on_file(rt, &words, &settings, now, &input)
 }
 
@@ -44,8 +41,10 @@ fn words_of(rt: &HostRuntime) -> Result<Vec<String>, Fault> {
 }
 
 // What a line is to be given.
-#[derive(Clone, Copy)]
+#[derive(Drop)]
 struct Needs {
+    // The path of its settings.
+    config: String,
     // The second that the line itself gives.
     at: Option<u64>,
     // Whether the line takes an input.
@@ -56,6 +55,7 @@ struct Needs {
 fn needs_of(rt: &HostRuntime, words: &[String]) -> Result<Needs, Fault> {
     match line_of(rt.alloc(), words) {
         Ok(line) => Ok(Needs {
+            config: line.config,
             at: line.at,
             input: line.task.has_input(),
         }),
@@ -63,9 +63,22 @@ fn needs_of(rt: &HostRuntime, words: &[String]) -> Result<Needs, Fault> {
     }
 }
 
+// The settings in the file of this path.
+fn settings_in(rt: &HostRuntime, path: &str) -> Result<Settings, Fault> {
+    let text = match fs::read_to_string(rt, path) {
+        Ok(text) => text,
+        Err(error) if error.kind() == io::ErrorKind::OutOfMemory => return Err(Fault::Memory),
+        Err(_) => return Err(Fault::Read),
+    };
+    match Settings::read(rt.alloc(), text.as_str()) {
+        Ok(settings) => Ok(settings),
+        Err(fault) => Err(Fault::Settings(fault)),
+    }
+}
+
 // The second of the line, or of the clock where the line gives none, which has to be that of a moment.
-fn now_for(rt: &HostRuntime, needs: Needs, settings: &Settings) -> Result<u64, Fault> {
-    let now = match needs.at {
+fn now_for(rt: &HostRuntime, at: Option<u64>, settings: &Settings) -> Result<u64, Fault> {
+    let now = match at {
         Some(second) => second,
         None => second_of_clock(rt)?,
     };
@@ -86,8 +99,8 @@ fn second_of_clock(rt: &HostRuntime) -> Result<u64, Fault> {
 }
 
 // The input of the line, read whole where it takes one.
-fn input_for(rt: &HostRuntime, needs: Needs) -> Result<Vec<u8>, Fault> {
-    if needs.input {
+fn input_for(rt: &HostRuntime, takes_input: bool) -> Result<Vec<u8>, Fault> {
+    if takes_input {
         read_input(rt.alloc(), &mut rt.stdin())
     } else {
         Ok(Vec::new(rt.alloc()))

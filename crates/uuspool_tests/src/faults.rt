@@ -4,7 +4,7 @@ use std::process::Abort;
 use uu_names::NameFault;
 use uu_store::{StoreFault, StoreKind};
 use uu_times::TimeFault;
-use uuspool::{Fault, fault_line, fault_status};
+use uuspool::{Fault, Key, SettingsFault, fault_line, fault_status};
 
 /// The fault is told by this line, with this status, and has this number.
 fn expect_told(rt: &impl Abort, alloc: Global, fault: &Fault, line: &str, status: u8, code: u8) {
@@ -27,6 +27,28 @@ fn faults_of_words_have_lines_statuses_and_numbers(rt: HostRuntime) {
     for (line, help, status) in [("error: so\n", false, 2), ("Usage\n", true, 0)] {
         let fault = words_fault(&rt, rt.alloc(), line, help);
         expect_told(&rt, rt.alloc(), &fault, line, status, 1);
+    }
+}
+
+const SETTINGS_FAULTS: [(SettingsFault, &str, u8); 4] = [
+    (SettingsFault::NotToml, "uuspool: settings: not toml\n", 2),
+    (
+        SettingsFault::Missing(Key::Name),
+        "uuspool: settings: name missing\n",
+        2,
+    ),
+    (
+        SettingsFault::BadValue(Key::Admins),
+        "uuspool: settings: admins bad\n",
+        2,
+    ),
+    (SettingsFault::Memory, "uuspool: out of memory\n", 4),
+];
+
+#[test]
+fn faults_of_settings_have_lines_statuses_and_numbers(rt: HostRuntime) {
+    for (fault, line, status) in SETTINGS_FAULTS {
+        expect_told(&rt, rt.alloc(), &Fault::Settings(fault), line, status, 2);
     }
 }
 

@@ -4,7 +4,8 @@ use std::alloc::Global;
 use std::io;
 use std::io::{ErrorKind, Read};
 use std::process::Abort;
-use uuspool::{Fault, INPUT_LIMIT, read_input};
+use uu_names::text::MAX_TEXT;
+use uuspool::{Fault, read_input};
 
 /// A reader that gives so many bytes, and then ends or fails.
 #[derive(Drop)]
@@ -37,7 +38,7 @@ fn expect_failed_read(rt: &impl Abort, alloc: Global, left: usize) {
 
 #[test]
 fn a_reader_is_read_to_its_end_up_to_the_limit(rt: HostRuntime) {
-    for left in [0, 1, 20_000, INPUT_LIMIT] {
+    for left in [0, 1, 20_000, MAX_TEXT] {
         expect_read(&rt, rt.alloc(), left);
     }
     for left in [0, 20_000] {
@@ -48,7 +49,7 @@ fn a_reader_is_read_to_its_end_up_to_the_limit(rt: HostRuntime) {
 #[test]
 fn a_reader_that_gives_more_is_refused(rt: HostRuntime) {
     let mut more = Limited {
-        left: INPUT_LIMIT + 1,
+        left: MAX_TEXT + 1,
         fails: false,
     };
     assert!(rt; matches!(read_input(rt.alloc(), &mut more), Err(Fault::Input)));
@@ -58,7 +59,7 @@ fn a_reader_that_gives_more_is_refused(rt: HostRuntime) {
 fn too_much_input_is_refused_before_the_spool_is_asked(rt: HostRuntime) {
     let alloc = rt.alloc();
     let mut spool = fresh_spool(&rt, alloc);
-    let input = (vec![in alloc; b'\n'; INPUT_LIMIT + 1]).expect(&rt, "memory");
+    let input = (vec![in alloc; b'\n'; MAX_TEXT + 1]).expect(&rt, "memory");
     let mut out = Vec::new(alloc);
     let answer = serve_into(&rt, alloc, &mut spool, "load", &input, &mut out);
     assert!(rt; matches!(answer, Err(Fault::Input)));

@@ -4,7 +4,9 @@ use std::alloc::Global;
 use std::io::Write;
 use std::process::Abort;
 use uu_store::Spool;
-use uuspool::{Fault, fixed_settings, serve};
+use uuspool::{Fault, Settings, serve};
+
+const SETTINGS: &str = "name = \"mysite\"\nspool = \"spool.db\"\n";
 
 /// 2001-09-09 01:46:40 UTC.
 const NOW: u64 = 1_000_000_000;
@@ -36,7 +38,7 @@ pub(crate) fn serve_into<S: Alter, W: Write>(
     out: &mut W,
 ) -> Result<u8, Fault> {
     let words = words_of(rt, alloc, line);
-    let settings = fixed_settings(alloc).expect(rt, "memory");
+    let settings = Settings::read(alloc, SETTINGS).expect(rt, "settings");
     serve(alloc, &words, &settings, NOW, input, spool, out)
 }
 

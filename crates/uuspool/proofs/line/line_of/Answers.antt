@@ -3,10 +3,10 @@ use Rattle.std.specs.String.{string_bytes}
 use Rattle.uu_line.specs.declared.line.CallLine.{CallLine}
 use Rattle.uuspool.specs.Lines.{IsAnswerTo}
 use Rattle.uuspool.specs.declared.fault.Fault.{Fault}
-use Rattle.uuspool.proofs.ServedLemmas.{told_answer}
+use Rattle.uuspool.proofs.LineLemmas.{fault_answer}
 use Rattle.uuspool.proofs.line.line_of.Goals as goal
 
 pub returns-in-Err : goal.returns-in-Err
 returns-in-Err c =
     subst (λ (f : Fault). let answer : Result CallLine Fault = Err f in IsAnswerTo (map string_bytes c.args.words.now) answer) (sym c.from.ensures)
-    (told_answer (map string_bytes c.args.words.now) c.in-Err.fault c.in-Err.ensures)
+    (fault_answer (map string_bytes c.args.words.now) c.in-Err.fault c.in-Err.ensures)

@@ -1,0 +1,47 @@
+-- What is handed out of a spool, as the state has it.
+use Rattle.std.proofs.Common.{◌≡◌, ℕ, List, length, Option, Some, None, ap, option_map, refl, subst, sym}
+use Rattle.sqlite.specs.Store.{Ghosts}
+use Rattle.uu_map.specs.Entry.{IsEntry}
+use Rattle.uu_map.specs.declared.entry.Entry.{Entry}
+use Rattle.uu_core.specs.State.{MapEntry, head_of}
+use Rattle.uu_core.specs.declared.command.Command.{Command}
+use Rattle.uu_core.specs.declared.command.Reply.{Reply}
+use Rattle.uu_core.specs.declared.job.JobHead.{JobHead}
+use Rattle.uu_schema.specs.declared.fault.StoreFault.{StoreFault}
+use Rattle.uu_schema.specs.declared.fault.StoreFault.TheVariants.{Store}
+use Rattle.uu_schema.specs.declared.fault.StoreKind.{StoreKind}
+use Rattle.uu_store.specs.HandedOut.{job_with}
+use Rattle.uu_store.specs.Runs.{Ran}
+use Rattle.uu_store.specs.declared.spool.Spool.{Spool}
+use Rattle.uu_report.specs.Reports.{links_text}
+use Rattle.uuspool.specs.Answers.{IsEntryShown, no_entry}
+
+-- a head of a job with bytes is the head of that job, where it has their number
+pub shown_head : (head : JobHead) (bytes : List ℕ) → head.size ≡ length bytes → head ≡ head_of (job_with head bytes)
+shown_head head bytes same = ap (λ size. record head { size = size }) same
+
+-- the entry of a text is that of the entry that is kept with that text
+pub entry_shown : (kept : Option MapEntry) (text : List ℕ) (entry : Entry) (output : List ℕ) → Some text ≡ option_map (λ (e : MapEntry). e.bytes) kept → IsEntry text entry
+    → output ≡ links_text entry → IsEntryShown kept output 0
+entry_shown None text entry output same is printed = absurd (cc)
+entry_shown (Some entry_kept) text entry output same is printed =
+    let bytes : text ≡ entry_kept.bytes = cc in (entry, subst (λ b. IsEntry b entry) bytes is, printed, refl)
+
+pub no_entry_shown : (kept : Option MapEntry) (output : List ℕ) → (let none : Option (List ℕ) = None in none ≡ option_map (λ (e : MapEntry). e.bytes) kept)
+    → output ≡ no_entry → IsEntryShown kept output 1
+no_entry_shown None output same printed = (printed, refl)
+no_entry_shown (Some kept) output same printed = absurd (cc)
+
+-- a run that is called broken off says less
+pub as_broken_off : {S : Type 0} {g : Ghosts S} (commands : List Command) (old new : Spool S g) (replies : List Reply) (kind : StoreKind)
+    → Ran commands old new replies None → Ran commands old new replies (Some (Store kind))
+as_broken_off commands old new replies kind ran = record {
+  within = ran.within;
+  from = λ clean s shown. let from = ran.from clean s shown in record {
+    answers = from.answers;
+    shows = λ goes. absurd goes;
+    stop = λ goes. absurd goes;
+    stop_store = from.stop_store;
+  };
+  clean = ran.clean;
+}

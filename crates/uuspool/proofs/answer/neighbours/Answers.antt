@@ -1,0 +1,47 @@
+use Rattle.std.proofs.Common.{◌≡◌, ◌∙◌, List, [], ℕ, Vec, Some, None, Err, ap, inr, option_map, refl, subst, sym}
+use Rattle.std.specs.declared.alloc.Global.{Global}
+use Rattle.std.specs.Io.KnownBytes.{Appends}
+use Rattle.uu_map.specs.Entry.{IsEntry}
+use Rattle.uu_core.specs.State.{entry_at}
+use Rattle.uu_schema.specs.declared.fault.StoreFault.TheVariants as store
+use Rattle.uu_schema.specs.declared.fault.StoreKind.TheVariants.{Database}
+use Rattle.uu_report.specs.Reports.{links_text}
+use Rattle.uu_request.specs.declared.request.Question.TheVariants as question
+use Rattle.uuspool.specs.Answers.{IsAnswer, no_entry}
+use Rattle.uuspool.specs.declared.fault.Fault.TheVariants as fault
+use Rattle.uuspool.proofs.AnswerLemmas.{as_broken_off, entry_shown, no_entry_shown}
+use Rattle.uuspool.proofs.ServedLemmas.{Appends-nothing, marked_is_of_call, printed, question_served, question_unanswered}
+use Rattle.uuspool.proofs.answer.neighbours.Goals as goal
+
+pub returns-in-Ok : goal.returns-in-Ok
+returns-in-Ok g c =
+    let written : List ℕ → Type 0 = λ output. Appends (g.W.Write.contents c.args.out.now) (g.W.Write.contents c.print.new.out) output in
+    question_served c.args.settings.now (question.Entry c.args.host.now) c.args.spool.now c.entry.new.self written c.print.result c.in-Ok-Some.ensures.ran c.print.ensures.fault
+    (λ clean s shown.
+    let found = c.in-Ok-Some.ensures.answer clean s shown in
+    let is : IsEntry c.in-Ok-Some.text.items c.in-Ok.entry = subst (λ text. IsEntry text c.in-Ok.entry) c.deref.ensures.value c.in-Ok.ensures.answer in (
+      found.1,
+      printed c.print.result c.links_report.result 0 written (λ output. output ≡ links_text c.in-Ok.entry)
+          (IsAnswer c.args.settings.now s (question.Entry c.args.host.now))
+          (λ output same. entry_shown (entry_at s c.args.host.now) c.in-Ok-Some.text.items c.in-Ok.entry output
+          (sym (ap (option_map (λ (text : Vec ℕ Global). text.items)) c.in-Ok-Some.field-0-is) ∙ found.0) is same)
+          c.print.ensures.printed c.print.ensures.status c.links_report.ensures,
+    ))
+
+pub returns-in-Err-Memory : goal.returns-in-Err-Memory
+returns-in-Err-Memory g c =
+    question_served c.args.settings.now (question.Entry c.args.host.now) c.args.spool.now c.entry.new.self
+    (λ output. Appends (g.W.Write.contents c.args.out.now) (g.W.Write.contents c.args.out.now) output) (Err fault.Memory) c.in-Ok-Some.ensures.ran (inr refl)
+    (λ clean s shown. ((c.in-Ok-Some.ensures.answer clean s shown).1, tt))
+
+pub returns-in-Ok-Some : goal.returns-in-Ok-Some
+returns-in-Ok-Some g c =
+    question_unanswered c.args.settings.now (question.Entry c.args.host.now) c.args.spool.now c.entry.new.self
+    (λ output. Appends (g.W.Write.contents c.args.out.now) (g.W.Write.contents c.args.out.now) output) (store.Store Database)
+    (as_broken_off [] c.args.spool.now c.entry.new.self [] Database c.in-Ok-Some.ensures.ran) tt (Appends-nothing (g.W.Write.contents c.args.out.now))
+
+pub returns : goal.returns
+returns g c =
+    question_unanswered c.args.settings.now (question.Entry c.args.host.now) c.args.spool.now c.entry.new.self
+    (λ output. Appends (g.W.Write.contents c.args.out.now) (g.W.Write.contents c.args.out.now) output) c.in-Err.fault
+    c.in-Err.ensures.ran (marked_is_of_call _ _ c.in-Err.fault c.in-Err.ensures.marked) (Appends-nothing (g.W.Write.contents c.args.out.now))

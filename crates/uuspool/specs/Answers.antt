@@ -1,0 +1,39 @@
+-- What is printed of the answer to a question on a state, and the status. All of it is this project's choice.
+use Rattle.std.specs.Prelude.{◌≡◌, ℕ, ℤ, Option, Some, None, List, [], ◌∷◌, ◌++◌, codes, map}
+use Rattle.std.specs.List.{flat_map}
+use Rattle.uu_map.specs.Entry.{IsEntry}
+use Rattle.uu_map.specs.declared.entry.Entry.{Entry}
+use Rattle.uu_core.specs.State.{State, Job, MapEntry, head_of, job_at, entry_at}
+use Rattle.uu_core.specs.Due.{AreDue}
+use Rattle.uu_core.specs.declared.due.Due.{Due}
+use Rattle.uu_questions.specs.Listing.{listed}
+use Rattle.uu_settings.specs.declared.settings.Settings.{Settings}
+use Rattle.uu_report.specs.Reports.{IsJobLine, IsJobsReport, IsStatusReport, due_text, links_text}
+use Rattle.uu_request.specs.declared.request.Question.{Question}
+use Rattle.uu_request.specs.declared.request.Question.TheVariants as question
+
+abbrev pub no_job : List ℕ
+no_job = codes "no job" ++ 10 ∷ []
+
+abbrev pub no_entry : List ℕ
+no_entry = codes "no entry" ++ 10 ∷ []
+
+-- a job is shown by its line and then its bytes as they are, where there is one
+abbrev pub IsShown : ℤ → Option Job → List ℕ → ℕ → Type 0
+IsShown offset None output status = (output ≡ no_job) × (status ≡ 1)
+IsShown offset (Some job) output status =
+    (line : List ℕ) × IsJobLine offset (head_of job) line × (output ≡ line ++ job.bytes) × (status ≡ 0)
+
+-- a map entry is shown by its links, where there is one
+abbrev pub IsEntryShown : Option MapEntry → List ℕ → ℕ → Type 0
+IsEntryShown None output status = (output ≡ no_entry) × (status ≡ 1)
+IsEntryShown (Some kept) output status = (entry : Entry) × IsEntry kept.bytes entry × (output ≡ links_text entry) × (status ≡ 0)
+
+-- what is printed of the answer, and the status
+abbrev pub IsAnswer : Settings → State → Question → List ℕ → ℕ → Type 0
+IsAnswer settings s (question.Jobs filter) output status = IsJobsReport settings.offset (listed filter s) output × (status ≡ 0)
+IsAnswer settings s (question.Job number) output status = IsShown settings.offset (job_at s number) output status
+IsAnswer settings s (question.Due at) output status =
+    (dues : List Due) × AreDue s.systems (map head_of s.jobs) at dues × (output ≡ flat_map due_text dues) × (status ≡ 0)
+IsAnswer settings s question.Systems output status = IsStatusReport settings.offset s.systems output × (status ≡ 0)
+IsAnswer settings s (question.Entry host) output status = IsEntryShown (entry_at s host) output status

@@ -1,0 +1,105 @@
+-- Lines that are served one after the other over one spool, and what the plain machine tells of them. All of it is this project's choice.
+use Rattle.std.specs.Prelude.{◌≡◌, ◌⊎◌, ◌++◌, ◌∷◌, ℕ, List, [], length, take, Option, Some, None, Result, Ok, Err, IfOk, IfErr, ⊤}
+use Rattle.sqlite.specs.Store.{Ghosts}
+use Rattle.sqlite.specs.State.{HasCleanDisk}
+use Rattle.uu_core.specs.State.{State}
+use Rattle.uu_core.specs.Run.{state_after, replies_to}
+use Rattle.uu_core.specs.declared.command.Command.{Command}
+use Rattle.uu_core.specs.declared.command.Reply.{Reply}
+use Rattle.uu_schema.specs.declared.fault.StoreFault.{StoreFault}
+use Rattle.uu_schema.specs.declared.fault.StoreFault.TheVariants as store
+use Rattle.uu_store.specs.Runs.{Ran}
+use Rattle.uu_store.specs.Spool as spool
+use Rattle.uu_store.specs.declared.spool.Spool.{Spool}
+use Rattle.uu_settings.specs.declared.settings.Settings.{Settings}
+use Rattle.uu_request.specs.declared.request.Request.{Request}
+use Rattle.uuspool.specs.Served.{Ask, EndsAs, IsOutput, IsServed, IsFaultOf, answered_text, commands_of}
+use Rattle.uuspool.specs.declared.fault.Fault.{Fault}
+use Rattle.uuspool.specs.declared.fault.Fault.TheVariants as fault
+
+-- a line: its words, the second where they give none, and its input; and what came of it: what was printed, and its status or its fault
+pub record Line : Type 0 where
+  pub words : List (List ℕ)
+  pub now : ℕ
+  pub input : List ℕ
+  pub output : List ℕ
+  pub result : Result ℕ Fault
+
+-- the line was served over a spool, as `serve` ends
+pub record Serves {S : Type 0} {g : Ghosts S} (settings : Settings) (line : Line) (old new : Spool S g) : Type 0 where
+  pub ends : EndsAs line.result
+      ((request : Request) × Ask settings line.words line.now line.input (Ok request) × IsServed settings request old new (λ output. line.output ≡ output) line.result)
+      ((new ≡ old) × (line.output ≡ []))
+  pub told : IfErr line.result (IsFaultOf settings line.words line.now line.input)
+
+-- Whether the lines after this one are served: they are left where the spool gave a fault, and where memory or the output failed, since the
+-- spool may have failed before that.
+abbrev pub Further : Result ℕ Fault → Type 0 → Type 0 → Type 0
+Further (Ok status) served left = served
+Further (Err (fault.Store why)) served left = left
+Further (Err fault.Write) served left = left
+Further (Err fault.Memory) served left = left
+Further (Err _) served left = served
+
+-- the fault of a line that is left
+abbrev pub left_fault : Fault
+left_fault = fault.Store store.Failed
+
+-- lines that are left: nothing was printed of them but that the spool failed
+abbrev pub AreLeft : List Line → Type 0
+AreLeft [] = ⊤
+AreLeft (line ∷ lines) = (line.output ≡ []) × (line.result ≡ Err left_fault) × AreLeft lines
+
+-- the lines were served one after the other, each where those before it allow that; those that are left touch nothing
+abbrev pub AreServed : {S : Type 0} {g : Ghosts S} → Settings → List Line → Spool S g → Spool S g → Type 0
+AreServed settings [] old new = new ≡ old
+AreServed {S} {g} settings (line ∷ lines) old new =
+    (mid : Spool S g) × Serves settings line old mid × Further line.result (AreServed settings lines mid new) (AreLeft lines × (new ≡ mid))
+
+-- after each of the lines others are served
+abbrev pub LeadOn : List Line → Type 0
+LeadOn [] = ⊤
+LeadOn (line ∷ lines) = Further line.result (LeadOn lines) ⊥
+
+-- ---- what the plain machine tells
+
+-- the commands of the requests that lines came to
+abbrev pub commands_in : List (Option Request) → List Command
+commands_in [] = []
+commands_in (None ∷ asked) = commands_in asked
+commands_in (Some request ∷ asked) = commands_of request ++ commands_in asked
+
+-- The line came to this request, and its output and status are those of the machine in this state. Where the spool gave a fault, it is the
+-- output of the first commands.
+pub record IsToldAs (settings : Settings) (s : State) (line : Line) (request : Request) : Type 0 where
+  pub asks : Ask settings line.words line.now line.input (Ok request)
+  pub output : IfOk line.result (IsOutput settings s request line.output)
+  pub broken_off : (why : StoreFault) → line.result ≡ Err (fault.Store why)
+      → (count : ℕ) × (line.output ≡ answered_text request (replies_to s (take count (commands_of request))))
+
+-- the line came to no request: nothing was printed, and its fault is that of its words, its moment or its input, or it was left
+pub record IsUnasked (settings : Settings) (line : Line) : Type 0 where
+  pub nothing : line.output ≡ []
+  pub why : Fault
+  pub is : line.result ≡ Err why
+  pub told : IsFaultOf settings line.words line.now line.input why ⊎ (why ≡ left_fault)
+
+-- what the plain machine tells of the lines from this state on, each in the state that the commands before it left
+abbrev pub AreTold : Settings → State → List Line → List (Option Request) → Type 0
+AreTold settings s [] [] = ⊤
+AreTold settings s (line ∷ lines) (None ∷ asked) = IsUnasked settings line × AreTold settings s lines asked
+AreTold settings s (line ∷ lines) (Some request ∷ asked) =
+    IsToldAs settings s line request × AreTold settings (state_after s (commands_of request)) lines asked
+AreTold settings s [] (request ∷ asked) = ⊥
+AreTold settings s (line ∷ lines) [] = ⊥
+
+-- The lines are one run of the commands of their requests: what was told of each is what the machine tells, a stop leaves what the run says,
+-- and where no line had a fault of the spool, every command was answered, so that the spool shows the machine's state.
+pub record IsOneRun {S : Type 0} {g : Ghosts S} (settings : Settings) (lines : List Line) (old new : Spool S g) : Type 0 where
+  pub asked : List (Option Request)
+  pub replies : List Reply
+  pub stopped : Option StoreFault
+  pub ran : Ran (commands_in asked) old new replies stopped
+  pub told : HasCleanDisk (spool.disk new) → (s : State) → spool.Shows old s → AreTold settings s lines asked
+  pub every : LeadOn lines → (stopped ≡ None) × (length replies ≡ length (commands_in asked))
+  pub shows : HasCleanDisk (spool.disk new) → (s : State) → spool.Shows old s → LeadOn lines → spool.Shows new (state_after s (commands_in asked))
