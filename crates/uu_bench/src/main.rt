@@ -11,18 +11,32 @@
 //!     jobs      the list of all jobs
 //!     due       what is due
 //!     adopt     taking the database as a spool
+//!
+//! For processes that are timed from outside,
+//!
+//!     uu_bench fill JOBS SIZE
+//!
+//! defines and queues the same, and copies the log into the file. Over such a file, through `sqlite` alone,
+//!
+//!     uu_bench bare-send     inserts a job of one byte and its piece in one transaction
+//!     uu_bench bare-list     asks for all jobs
+//!     uu_bench bare-due      asks for the systems, grades and numbers of all jobs
 #![tactic(auto)]
 
 ghost use Rattle.std.specs.Prelude.{◌≡◌, false};
 
-use sqlite::{Alter, Connection, Error, Transaction, params};
+mod bare;
+
+use crate::bare::Bare;
+use sqlite::{Alter, Connection, Error, FileStore, Transaction, Wary, params};
+use sqlite_disk::Disk;
 use std::alloc::{AllocError, AllocFailed, Global};
 use std::process::ExitCode;
 use std::time::{Duration, Instant};
 use std::{env, io};
 use uu_core::{Kind, NewJob};
 use uu_names::{Grade, Listed, NameFault, SiteName, Word};
-use uu_store::{Command, Filter, Spool, StoreFault, start};
+use uu_store::{Command, Filter, Spool, StoreFault};
 use uu_times::{Moment, TimeFault, read_sys};
 
 const FILE: &str = "bench.db";
@@ -49,16 +63,30 @@ enum Measure {
     Adopt,
 }
 
+/// The jobs that wait.
+#[derive(Clone, Copy)]
+struct Waiting {
+    /// How many there are.
+    jobs: u32,
+    /// How many bytes each has.
+    size: u32,
+}
+
 /// What is timed in which spool.
 #[derive(Clone, Copy)]
 struct Task {
     measure: Measure,
-    /// How many jobs wait.
-    jobs: u32,
-    /// How many bytes each has.
-    size: u32,
+    waiting: Waiting,
     /// How many calls are timed together.
     calls: u32,
+}
+
+/// What the words ask.
+#[derive(Clone, Copy)]
+enum Work {
+    Time(Task),
+    Fill(Waiting),
+    Bare(Bare),
 }
 
 /// Why nothing was measured.
@@ -125,7 +153,7 @@ fn run(rt: &HostRuntime) -> Result<(), Trouble> {
     if words.is_empty() {
         return Ok(());
     }
-    measure_file(rt, task_of(&words)?)
+    work_on_file(rt, work_of(&words)?)
 }
 
 fn words_of(rt: &HostRuntime) -> Result<Vec<String>, Trouble> {
@@ -135,16 +163,33 @@ fn words_of(rt: &HostRuntime) -> Result<Vec<String>, Trouble> {
     }
 }
 
-fn task_of(words: &[String]) -> Result<Task, Trouble> {
-    let [measure, jobs, size, calls] = words else {
-        return Err(Trouble::Words);
-    };
-    Ok(Task {
-        measure: measure_of(measure.as_str())?,
+fn work_of(words: &[String]) -> Result<Work, Trouble> {
+    match words {
+        [what] => Ok(Work::Bare(bare_of(what.as_str())?)),
+        [what, jobs, size] if what.as_str() == "fill" => { Ok(Work::Fill(waiting_of(jobs, size)?)) }
+        [measure, jobs, size, calls] => Ok(Work::Time(Task {
+            measure: measure_of(measure.as_str())?,
+            waiting: waiting_of(jobs, size)?,
+            calls: number(calls)?,
+        })),
+        _ => Err(Trouble::Words),
+    }
+}
+
+fn waiting_of(jobs: &String, size: &String) -> Result<Waiting, Trouble> {
+    Ok(Waiting {
         jobs: number(jobs)?,
         size: number(size)?,
-        calls: number(calls)?,
     })
+}
+
+fn bare_of(word: &str) -> Result<Bare, Trouble> {
+    match word {
+        "bare-send" => Ok(Bare::Send),
+        "bare-list" => Ok(Bare::List),
+        "bare-due" => Ok(Bare::Due),
+        _ => Err(Trouble::Words),
+    }
 }
 
 fn measure_of(word: &str) -> Result<Measure, Trouble> {
@@ -219,15 +264,10 @@ fn bytes_of(alloc: Global, size: u32) -> Result<Vec<u8>, Trouble> {
     Ok(vec![in alloc; b'x'; size as usize]?)
 }
 
-/// Queues so many jobs, for the systems in turn.
-fn queue<S: Alter>(
-    alloc: Global,
-    spool: &mut Spool<S>,
-    jobs: u32,
-    size: u32,
-) -> Result<(), Trouble> {
-    for at in 0..jobs {
-        let _number = spool.command(alloc, job(alloc, at % SYSTEMS, size)?)?;
+/// Queues the jobs, for the systems in turn.
+fn queue<S: Alter>(alloc: Global, spool: &mut Spool<S>, waiting: Waiting) -> Result<(), Trouble> {
+    for at in 0..waiting.jobs {
+        let _number = spool.command(alloc, job(alloc, at % SYSTEMS, waiting.size)?)?;
     }
     Ok(())
 }
@@ -312,36 +352,75 @@ fn since(rt: &HostRuntime, begun: Instant) -> Result<Duration, Trouble> {
     }
 }
 
-// ---- what is measured
+// ---- the file
 
-/// Measures over the file. No other function names the spool over a file, since each that does is dear to prove.
-fn measure_file(rt: &HostRuntime, task: Task) -> Result<(), Trouble> {
-    let opened = start(rt, FILE);
-    measure_in(rt, task, opened)
+/// Works over the file. No other function names a connection to a file, since each that does is dear to prove.
+fn work_on_file(rt: &HostRuntime, work: Work) -> Result<(), Trouble> {
+    match Connection::open_from(rt, FILE, true, Wary) {
+        Ok(conn) => work_over(rt, work, conn),
+        Err(_) => Err(Trouble::Store),
+    }
 }
 
-/// Measures in a spool, if it opened.
+fn work_over<D: Disk + Drop>(
+    rt: &HostRuntime,
+    work: Work,
+    conn: Connection<FileStore<D>>,
+) -> Result<(), Trouble> {
+    match work {
+        Work::Bare(bare) => bare_on(conn, bare),
+        Work::Fill(waiting) => close(filled(rt.alloc(), conn, waiting)?),
+        Work::Time(task) => measure_in(rt, filled(rt.alloc(), conn, task.waiting)?, task),
+    }
+}
+
+fn bare_on<S: Alter + Drop>(conn: Connection<S>, bare: Bare) -> Result<(), Trouble> {
+    let mut conn = conn;
+    bare::work(&mut conn, bare)?;
+    Ok(())
+}
+
+/// Copies the log into the file.
+fn close<D: Disk + Drop>(spool: Spool<FileStore<D>>) -> Result<(), Trouble> {
+    spool.release().close()?;
+    Ok(())
+}
+
+/// A spool in which the systems are defined and the jobs are queued.
+fn filled<S: Alter + Drop>(
+    alloc: Global,
+    conn: Connection<S>,
+    waiting: Waiting,
+) -> Result<Spool<S>, Trouble> {
+    let mut spool = taken(alloc, conn)?;
+    define(alloc, &mut spool)?;
+    queue(alloc, &mut spool, waiting)?;
+    Ok(spool)
+}
+
+fn taken<S: Alter + Drop>(alloc: Global, conn: Connection<S>) -> Result<Spool<S>, Trouble> {
+    if !conn.is_autocommit() {
+        return Err(Trouble::Store);
+    }
+    match Spool::adopt(alloc, conn) {
+        Ok(spool) => Ok(spool),
+        Err(_) => Err(Trouble::Store),
+    }
+}
+
+// ---- what is measured
+
 fn measure_in<S: Alter + Drop>(
     rt: &HostRuntime,
+    spool: Spool<S>,
     task: Task,
-    opened: Result<Spool<S>, StoreFault>,
 ) -> Result<(), Trouble> {
-    let Ok(spool) = opened else {
-        return Err(Trouble::Store);
-    };
     let mut spool = spool;
-    fill(rt.alloc(), &mut spool, task)?;
     match task.measure {
         Measure::Queue => time_queue(rt, spool, task),
         Measure::Adopt => time_adopt(rt, spool.release()),
         Measure::Job | Measure::Jobs | Measure::Due => time_question(rt, &mut spool, task),
     }
-}
-
-/// Defines the systems and queues the jobs.
-fn fill<S: Alter>(alloc: Global, spool: &mut Spool<S>, task: Task) -> Result<(), Trouble> {
-    define(alloc, spool)?;
-    queue(alloc, spool, task.jobs, task.size)
 }
 
 /// Prints what so many calls take, each.
@@ -368,8 +447,12 @@ fn time_commands<S: Alter>(
     spool: &mut Spool<S>,
     task: Task,
 ) -> Result<u32, Trouble> {
+    let calls = Waiting {
+        jobs: task.calls,
+        size: task.waiting.size,
+    };
     let begun = now(rt)?;
-    queue(rt.alloc(), spool, task.calls, task.size)?;
+    queue(rt.alloc(), spool, calls)?;
     let time = since(rt, begun)?;
     print(rt, "a Queue", time, task.calls)?;
     Ok(spool.next()?)
@@ -382,11 +465,11 @@ fn time_statements<S: Alter>(
     first: u32,
     task: Task,
 ) -> Result<(), Trouble> {
-    let bytes = bytes_of(rt.alloc(), task.size)?;
+    let bytes = bytes_of(rt.alloc(), task.waiting.size)?;
     let begun = now(rt)?;
     let mut next = first;
     for _ in 0..task.calls {
-        statements(conn, next, task.size, &bytes)?;
+        statements(conn, next, task.waiting.size, &bytes)?;
         next = next.saturating_add(1);
     }
     let time = since(rt, begun)?;
