@@ -1,10 +1,10 @@
 # uuspool: the job spool of a UUCP site, with its proofs.
 #
 #   make            proves what the program stands on and leaves it at build/uuspool
-#   make first-run  the main job on a real file, killed inside a write and reopened
+#   make first-run  the main job on a real file, killed inside a write and reopened; sends with too little memory
 #   make test       the gate: every proof from nothing, every test, every run, and the worked lines of tests/
 #   make bench      what calls of the spool cost over a real file
-#   make install    build/uuspool and its man page below $(DESTDIR)$(PREFIX)
+#   make install    build/uuspool, its man page and the example of its settings below $(DESTDIR)$(PREFIX)
 #   make clean      removes build/ and the kept work of every crate
 
 PREFIX = /usr/local
@@ -21,6 +21,7 @@ build:
 
 first-run: build
 	@scripts/first-run build/uuspool
+	@scripts/short-memory build/uuspool
 
 bench: build
 	@scripts/bench
@@ -33,6 +34,7 @@ test:
 install: build
 	install -D -m 755 build/uuspool '$(DESTDIR)$(PREFIX)/bin/uuspool'
 	install -D -m 644 man/uuspool.1 '$(DESTDIR)$(PREFIX)/share/man/man1/uuspool.1'
+	install -D -m 644 examples/uuspool.toml '$(DESTDIR)$(PREFIX)/share/doc/uuspool/uuspool.toml'
 
 clean:
 	rm -rf build crates/*/out
