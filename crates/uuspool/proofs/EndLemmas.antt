@@ -1,5 +1,5 @@
 -- How the end of a run, and what is printed of it, make up the service of a line's commands.
-use Rattle.std.proofs.Common.{◌≡◌, ◌∙◌, ◌≤◌, inl, inr, ℕ, List, length, take, Vec, Option, Some, None, Result, Ok, Err, Bool, MatchOption, IfOk, IfErr, IfSome, OnOk, IsOkAnd, ap, arith, refl, subst, sym}
+use Rattle.std.proofs.Common.{◌≡◌, ◌∙◌, ◌≤◌, inl, inr, ℕ, List, length, take, Vec, Option, Some, None, Result, Ok, Err, Bool, MatchOption, IfOk, IfErr, IfSome, OnOk, IsOkAnd, IsTrue, ap, arith, refl, subst, sym}
 use Rattle.std.proofs.lemmas.List.{take_all}
 use Rattle.std.specs.declared.alloc.AllocError.{AllocError}
 use Rattle.std.specs.declared.alloc.Global.{Global}
@@ -16,7 +16,7 @@ use Rattle.uu_report.specs.Outputs.{answers_text, output_text, replies_status}
 use Rattle.uu_request.specs.declared.request.Batch.{Batch}
 use Rattle.uu_request.specs.declared.request.Request.TheVariants as request
 use Rattle.uuspool.proofs.ServedLemmas.{IsOfPrinting, marked_is_of_call}
-use Rattle.uuspool.specs.Served.{IsServed, IsOfCall, IsPrintedEnd}
+use Rattle.uuspool.specs.Served.{IsServed, IsOfCall, IsPrintedEnd, Marks}
 use Rattle.uuspool.specs.declared.fault.Fault.{Fault}
 use Rattle.uuspool.specs.declared.fault.Fault.TheVariants as fault
 
@@ -54,8 +54,9 @@ marked_stop (Some why) Whole before after marked = marked_is_of_call before afte
 
 pub run_served : {S : Type 0} {g : Ghosts S} (settings : Settings) (batch : Batch) (old new : Spool S g) (written : List ℕ → Type 0) (end : RunEnd) (r : Result ℕ Fault)
     → Ran batch.commands old new end.replies.items end.stopped → (end.stopped ≡ None → length end.replies.items ≡ length batch.commands)
+    → Marks (spool.has_failed old) (spool.has_failed new) end.stopped → (IsTrue (spool.has_failed old) → new ≡ old)
     → IfSome end.stopped IsOfCall → IsPrintedEnd batch.subjects batch.skipped end written r → IsServed settings (request.Commands batch) old new written r
-run_served settings batch old new written end (Ok status) ran every call printed = record {
+run_served settings batch old new written end (Ok status) ran every marked failed call printed = record {
   replies = end.replies.items;
   stopped = end.stopped;
   ran = ran;
@@ -72,8 +73,10 @@ run_served settings batch old new written end (Ok status) ran every call printed
       );
   broken_off = λ why same. absurd (cc);
   late = tt;
+  marked = marked;
+  failed = failed;
 }
-run_served settings batch old new written end (Err (fault.Store why)) ran every call printed = record {
+run_served settings batch old new written end (Err (fault.Store why)) ran every marked failed call printed = record {
   replies = end.replies.items;
   stopped = end.stopped;
   ran = ran;
@@ -81,8 +84,10 @@ run_served settings batch old new written end (Err (fault.Store why)) ran every 
   output = λ clean s shown. tt;
   broken_off = λ other same. (let is : why ≡ other = cc in (printed.0 ∙ ap Some is, printed.1));
   late = subst (λ stopped. IfSome stopped IsOfCall) printed.0 call;
+  marked = marked;
+  failed = failed;
 }
-run_served settings batch old new written end (Err fault.Write) ran every call printed = record {
+run_served settings batch old new written end (Err fault.Write) ran every marked failed call printed = record {
   replies = end.replies.items;
   stopped = end.stopped;
   ran = ran;
@@ -90,8 +95,10 @@ run_served settings batch old new written end (Err fault.Write) ran every call p
   output = λ clean s shown. tt;
   broken_off = λ other same. absurd (cc);
   late = tt;
+  marked = marked;
+  failed = failed;
 }
-run_served settings batch old new written end (Err fault.Memory) ran every call printed = record {
+run_served settings batch old new written end (Err fault.Memory) ran every marked failed call printed = record {
   replies = end.replies.items;
   stopped = end.stopped;
   ran = ran;
@@ -99,11 +106,13 @@ run_served settings batch old new written end (Err fault.Memory) ran every call 
   output = λ clean s shown. tt;
   broken_off = λ other same. absurd (cc);
   late = tt;
+  marked = marked;
+  failed = failed;
 }
-run_served settings batch old new written end (Err (fault.Words text help)) ran every call printed = absurd printed
-run_served settings batch old new written end (Err (fault.Settings why)) ran every call printed = absurd printed
-run_served settings batch old new written end (Err (fault.Name why)) ran every call printed = absurd printed
-run_served settings batch old new written end (Err (fault.Time why)) ran every call printed = absurd printed
-run_served settings batch old new written end (Err fault.TwoSystems) ran every call printed = absurd printed
-run_served settings batch old new written end (Err fault.Input) ran every call printed = absurd printed
-run_served settings batch old new written end (Err fault.Read) ran every call printed = absurd printed
+run_served settings batch old new written end (Err (fault.Words text help)) ran every marked failed call printed = absurd printed
+run_served settings batch old new written end (Err (fault.Settings why)) ran every marked failed call printed = absurd printed
+run_served settings batch old new written end (Err (fault.Name why)) ran every marked failed call printed = absurd printed
+run_served settings batch old new written end (Err (fault.Time why)) ran every marked failed call printed = absurd printed
+run_served settings batch old new written end (Err fault.TwoSystems) ran every marked failed call printed = absurd printed
+run_served settings batch old new written end (Err fault.Input) ran every marked failed call printed = absurd printed
+run_served settings batch old new written end (Err fault.Read) ran every marked failed call printed = absurd printed

@@ -1,5 +1,5 @@
 -- How the parts of a line's service make up the whole.
-use Rattle.std.proofs.Common.{◌≡◌, ◌⊎◌, inl, inr, ℕ, List, [], length, Vec, Option, Some, None, Result, Ok, Err, IfOk, IfErr, OnOk, IsOkAnd, append-nil, Bool, refl, subst, sym}
+use Rattle.std.proofs.Common.{◌≡◌, ◌⊎◌, inl, inr, ℕ, List, [], length, Vec, Option, Some, None, Result, Ok, Err, IfOk, IfErr, OnOk, IsOkAnd, append-nil, Bool, true, false, IsTrue, MatchOption, refl, subst, sym}
 use Rattle.std.specs.declared.alloc.AllocError.{AllocError}
 use Rattle.std.specs.declared.alloc.Global.{Global}
 use Rattle.std.specs.Io.KnownBytes.{Appends}
@@ -16,7 +16,7 @@ use Rattle.uu_settings.specs.declared.settings.Settings.{Settings}
 use Rattle.uu_request.specs.declared.request.Question.{Question}
 use Rattle.uu_request.specs.declared.request.Request.TheVariants as request
 use Rattle.uuspool.specs.Answers.{IsAnswer}
-use Rattle.uuspool.specs.Served.{IsServed, IsLate, IsOfCall, commands_of}
+use Rattle.uuspool.specs.Served.{IsServed, IsLate, IsOfCall, Marks, commands_of}
 use Rattle.uuspool.specs.declared.fault.Fault.{Fault}
 use Rattle.uuspool.specs.declared.fault.Fault.TheVariants as fault
 
@@ -58,6 +58,22 @@ marked_is_of_call before after store.Failed marked = tt
 marked_is_of_call before after store.Foreign marked = marked
 marked_is_of_call before after store.Newer marked = marked
 
+pub marks_of_call : (before after : Bool) (why : StoreFault) → spool.Marks before after why → Marks before after (Some why)
+marks_of_call before after store.Memory marked = marked
+marks_of_call before after (store.Store kind) marked = marked.0
+marks_of_call before after store.Failed marked = marked
+marks_of_call before after store.Foreign marked = marked
+marks_of_call before after store.Newer marked = marked
+
+pub marks_of_run : (before after : Bool) (stopped : Option StoreFault)
+    → MatchOption stopped ((before ≡ false) × (after ≡ false)) (spool.Marks before after) → Marks before after stopped
+marks_of_run before after None marked = marked
+marks_of_run before after (Some why) marked = marks_of_call before after why marked
+
+-- no spool had failed
+pub never_failed : {X : Type 0} (before : Bool) → before ≡ false → IsTrue before → X
+never_failed before is had = absurd (cc)
+
 -- an output that was made and printed, with its status
 pub printed : (r : Result ℕ Fault) (made : Result (Vec ℕ Global) AllocError) (status : ℕ) (written P : List ℕ → Type 0) (Q : List ℕ → ℕ → Type 0)
     → ((output : List ℕ) → P output → Q output status)
@@ -69,10 +85,10 @@ printed (Err f) made status written P Q into is same has = tt
 
 module _ {S : Type 0} {g : Ghosts S} (settings : Settings) (q : Question) (old new : Spool S g) (written : List ℕ → Type 0) where
   -- the question was answered, and its answer printed
-  pub question_served : (r : Result ℕ Fault) → Ran [] old new [] None → IfErr r IsOfPrinting
+  pub question_served : (r : Result ℕ Fault) → Ran [] old new [] None → (spool.has_failed old ≡ false) × (spool.has_failed new ≡ false) → IfErr r IsOfPrinting
       → (HasCleanDisk (spool.disk new) → (s : State) → spool.Shows old s → spool.Shows new s × IfOk r (λ status. (output : List ℕ) × IsAnswer settings s q output status × written output))
       → IsServed settings (request.Question q) old new written r
-  question_served r ran printing answers = record {
+  question_served r ran marked printing answers = record {
     replies = [];
     stopped = None;
     ran = ran;
@@ -80,6 +96,8 @@ module _ {S : Type 0} {g : Ghosts S} (settings : Settings) (q : Question) (old n
     output = λ clean s shown. shown_after r s (answers clean s shown).0 (answers clean s shown).1;
     broken_off = λ why store. absurd (no_store r why printing store);
     late = late_of r printing;
+    marked = marked;
+    failed = never_failed (spool.has_failed old) marked.0;
   }
     where
       shown_after : (r : Result ℕ Fault) (s : State) → spool.Shows new s → IfOk r (λ status. (output : List ℕ) × IsAnswer settings s q output status × written output)
@@ -88,9 +106,10 @@ module _ {S : Type 0} {g : Ghosts S} (settings : Settings) (q : Question) (old n
       shown_after (Err f) s shows is = tt
 
   -- the store gave a fault, and nothing was printed
-  pub question_unanswered : (why : StoreFault) → Ran [] old new [] (Some why) → IsOfCall why → written []
+  pub question_unanswered : (why : StoreFault) → Ran [] old new [] (Some why) → Marks (spool.has_failed old) (spool.has_failed new) (Some why)
+      → (IsTrue (spool.has_failed old) → new ≡ old) → IsOfCall why → written []
       → (let r : Result ℕ Fault = Err (fault.Store why) in IsServed settings (request.Question q) old new written r)
-  question_unanswered why ran call nothing = record {
+  question_unanswered why ran marked failed call nothing = record {
     replies = [];
     stopped = Some why;
     ran = ran;
@@ -98,4 +117,6 @@ module _ {S : Type 0} {g : Ghosts S} (settings : Settings) (q : Question) (old n
     output = λ clean s shown. tt;
     broken_off = λ other same. (let is : why ≡ other = cc in subst (λ w. (let stopped : Option StoreFault = Some why in stopped ≡ Some w) × written []) is (refl, nothing));
     late = call;
+    marked = marked;
+    failed = failed;
   }

@@ -1,5 +1,5 @@
 -- What the words of a call ask of a spool, what the program prints, and its status. All of it is this project's choice.
-use Rattle.std.specs.Prelude.{◌≡◌, ◌⊎◌, ℕ, pos, Option, Some, None, List, [], Result, Ok, Err, IfOk, IfErr, OnOk, ⊤, unwrap_or, length}
+use Rattle.std.specs.Prelude.{◌≡◌, ◌⊎◌, ℕ, pos, Bool, true, false, IsTrue, Option, Some, None, List, [], Result, Ok, Err, IfOk, IfErr, OnOk, ⊤, unwrap_or, length}
 use Rattle.sqlite.specs.Store.{Ghosts}
 use Rattle.sqlite.specs.State.{HasCleanDisk}
 use Rattle.uu_times.specs.Moment.{IsPast, Shows, local_second, week_minute}
@@ -99,9 +99,18 @@ IsLate fault.Write = ⊤
 IsLate fault.Memory = ⊤
 IsLate _ = ⊥
 
+-- How a request ends, by whether the spool had failed before and has afterwards: `Failed` is told of a spool that had failed, and of no other.
+abbrev pub Marks : Bool → Bool → Option StoreFault → Type 0
+Marks before afterwards None = (before ≡ false) × (afterwards ≡ false)
+Marks before afterwards (Some store.Memory) = (before ≡ false) × (afterwards ≡ false)
+Marks before afterwards (Some (store.Store kind)) = before ≡ false
+Marks before afterwards (Some store.Failed) = (before ≡ true) × (afterwards ≡ true)
+Marks before afterwards (Some store.Foreign) = ⊥
+Marks before afterwards (Some store.Newer) = ⊥
+
 -- A request was served: it was a run of its commands, so that the replies are the machine's, the spool shows the machine's state after the
 -- commands that were answered, and a stop leaves that. With a status, all were answered, and their output was `written`. Where the store
--- gave a fault, the output of the commands that were answered was.
+-- gave a fault, the output of the commands that were answered was. A spool that had failed is left as it was.
 pub record IsServed {S : Type 0} {g : Ghosts S} (settings : Settings) (request : Request) (old new : Spool S g) (written : List ℕ → Type 0) (result : Result ℕ Fault) : Type 0 where
   pub replies : List Reply
   pub stopped : Option StoreFault
@@ -111,6 +120,8 @@ pub record IsServed {S : Type 0} {g : Ghosts S} (settings : Settings) (request :
       (output : List ℕ) × IsOutput settings s request output status × written output × spool.Shows new (state_after s (commands_of request)))
   pub broken_off : (why : StoreFault) → result ≡ Err (fault.Store why) → (stopped ≡ Some why) × written (answered_text request replies)
   pub late : IfErr result IsLate
+  pub marked : Marks (spool.has_failed old) (spool.has_failed new) stopped
+  pub failed : IsTrue (spool.has_failed old) → new ≡ old
 
 -- How a line ends: its request was served, or nothing was changed, and nothing was printed.
 abbrev pub EndsAs : Result ℕ Fault → Type 0 → Type 0 → Type 0

@@ -10,13 +10,13 @@ use Rattle.uu_request.specs.declared.request.Question.TheVariants as question
 use Rattle.uuspool.specs.Answers.{IsAnswer, no_entry}
 use Rattle.uuspool.specs.declared.fault.Fault.TheVariants as fault
 use Rattle.uuspool.proofs.AnswerLemmas.{as_broken_off, entry_shown, no_entry_shown}
-use Rattle.uuspool.proofs.ServedLemmas.{Appends-nothing, marked_is_of_call, printed, question_served, question_unanswered}
+use Rattle.uuspool.proofs.ServedLemmas.{Appends-nothing, marked_is_of_call, marks_of_call, never_failed, printed, question_served, question_unanswered}
 use Rattle.uuspool.proofs.answer.neighbours.Goals as goal
 
 pub returns-in-Ok : goal.returns-in-Ok
 returns-in-Ok g c =
     let written : List ℕ → Type 0 = λ output. Appends (g.W.Write.contents c.args.out.now) (g.W.Write.contents c.print.new.out) output in
-    question_served c.args.settings.now (question.Entry c.args.host.now) c.args.spool.now c.entry.new.self written c.print.result c.in-Ok-Some.ensures.ran c.print.ensures.fault
+    question_served c.args.settings.now (question.Entry c.args.host.now) c.args.spool.now c.entry.new.self written c.print.result c.in-Ok-Some.ensures.ran c.in-Ok-Some.ensures.marked c.print.ensures.fault
     (λ clean s shown.
     let found = c.in-Ok-Some.ensures.answer clean s shown in
     let is : IsEntry c.in-Ok-Some.text.items c.in-Ok.entry = subst (λ text. IsEntry text c.in-Ok.entry) c.deref.ensures.value c.in-Ok.ensures.answer in (
@@ -31,17 +31,19 @@ returns-in-Ok g c =
 pub returns-in-Err-Memory : goal.returns-in-Err-Memory
 returns-in-Err-Memory g c =
     question_served c.args.settings.now (question.Entry c.args.host.now) c.args.spool.now c.entry.new.self
-    (λ output. Appends (g.W.Write.contents c.args.out.now) (g.W.Write.contents c.args.out.now) output) (Err fault.Memory) c.in-Ok-Some.ensures.ran (inr refl)
+    (λ output. Appends (g.W.Write.contents c.args.out.now) (g.W.Write.contents c.args.out.now) output) (Err fault.Memory) c.in-Ok-Some.ensures.ran c.in-Ok-Some.ensures.marked (inr refl)
     (λ clean s shown. ((c.in-Ok-Some.ensures.answer clean s shown).1, tt))
 
 pub returns-in-Ok-Some : goal.returns-in-Ok-Some
 returns-in-Ok-Some g c =
     question_unanswered c.args.settings.now (question.Entry c.args.host.now) c.args.spool.now c.entry.new.self
     (λ output. Appends (g.W.Write.contents c.args.out.now) (g.W.Write.contents c.args.out.now) output) (store.Store Database)
-    (as_broken_off [] c.args.spool.now c.entry.new.self [] Database c.in-Ok-Some.ensures.ran) tt (Appends-nothing (g.W.Write.contents c.args.out.now))
+    (as_broken_off [] c.args.spool.now c.entry.new.self [] Database c.in-Ok-Some.ensures.ran) c.in-Ok-Some.ensures.marked.0
+    (never_failed _ c.in-Ok-Some.ensures.marked.0) tt (Appends-nothing (g.W.Write.contents c.args.out.now))
 
 pub returns : goal.returns
 returns g c =
     question_unanswered c.args.settings.now (question.Entry c.args.host.now) c.args.spool.now c.entry.new.self
     (λ output. Appends (g.W.Write.contents c.args.out.now) (g.W.Write.contents c.args.out.now) output) c.in-Err.fault
-    c.in-Err.ensures.ran (marked_is_of_call _ _ c.in-Err.fault c.in-Err.ensures.marked) (Appends-nothing (g.W.Write.contents c.args.out.now))
+    c.in-Err.ensures.ran (marks_of_call _ _ c.in-Err.fault c.in-Err.ensures.marked) (λ had. (c.in-Err.ensures.failed had).1)
+    (marked_is_of_call _ _ c.in-Err.fault c.in-Err.ensures.marked) (Appends-nothing (g.W.Write.contents c.args.out.now))

@@ -2,7 +2,7 @@ use Rattle.std.proofs.Common.{◌≡◌, ◌∙◌, ◌++◌, ◌∷◌, [], inl
 use Rattle.std.specs.Io.KnownBytes.{Appends}
 use Rattle.uu_request.specs.declared.request.Question.TheVariants as question
 use Rattle.uuspool.specs.Answers.{IsAnswer, IsShown, IsEntryShown, no_job, no_entry}
-use Rattle.uuspool.proofs.ServedLemmas.{Appends-nothing, marked_is_of_call, printed, question_served, question_unanswered}
+use Rattle.uuspool.proofs.ServedLemmas.{Appends-nothing, marked_is_of_call, marks_of_call, printed, question_served, question_unanswered}
 use Rattle.uu_core.specs.State.{job_at}
 use Rattle.uu_report.specs.Reports.{IsJobLine}
 use Rattle.uu_store.specs.HandedOut.{job_shown, job_with}
@@ -12,7 +12,7 @@ use Rattle.uuspool.proofs.answer.show.Goals as goal
 pub returns-in-Ok-Some : goal.returns-in-Ok-Some
 returns-in-Ok-Some g c =
     let written : List ℕ → Type 0 = λ output. Appends (g.W.Write.contents c.args.out.now) (g.W.Write.contents c.print.new.out) output in
-    question_served c.args.settings.now (question.Job c.args.number) c.args.spool.now c.job.new.self written c.print.result c.in-Ok-Some.ensures.ran c.print.ensures.fault
+    question_served c.args.settings.now (question.Job c.args.number) c.args.spool.now c.job.new.self written c.print.result c.in-Ok-Some.ensures.ran c.in-Ok-Some.ensures.marked c.print.ensures.fault
     (λ clean s shown.
     let found = c.in-Ok-Some.ensures.answer clean s shown in
     let size : c.in-Ok-Some.head.size ≡ length c.in-Ok-Some.bytes.items = rw c.in-Ok-Some.field-0-is at (c.in-Ok-Some.ensures.size clean s shown) in (
@@ -34,7 +34,7 @@ returns-in-Ok-Some g c =
 pub returns-in-Ok-None : goal.returns-in-Ok-None
 returns-in-Ok-None g c =
     let written : List ℕ → Type 0 = λ output. Appends (g.W.Write.contents c.args.out.now) (g.W.Write.contents c.print-in-Ok-None.new.out) output in
-    question_served c.args.settings.now (question.Job c.args.number) c.args.spool.now c.job.new.self written c.print-in-Ok-None.result c.in-Ok-None.ensures.ran c.print-in-Ok-None.ensures.fault
+    question_served c.args.settings.now (question.Job c.args.number) c.args.spool.now c.job.new.self written c.print-in-Ok-None.result c.in-Ok-None.ensures.ran c.in-Ok-None.ensures.marked c.print-in-Ok-None.ensures.fault
     (λ clean s shown. let found = c.in-Ok-None.ensures.answer clean s shown in (
       found.1,
       printed c.print-in-Ok-None.result c.from_slice.result 1 written (λ output. output ≡ no_job) (IsAnswer c.args.settings.now s (question.Job c.args.number))
@@ -46,4 +46,5 @@ pub returns-in-Err : goal.returns-in-Err
 returns-in-Err g c =
     question_unanswered c.args.settings.now (question.Job c.args.number) c.args.spool.now c.job.new.self
     (λ output. Appends (g.W.Write.contents c.args.out.now) (g.W.Write.contents c.args.out.now) output) c.in-Err.fault
-    c.in-Err.ensures.ran (marked_is_of_call _ _ c.in-Err.fault c.in-Err.ensures.marked) (Appends-nothing (g.W.Write.contents c.args.out.now))
+    c.in-Err.ensures.ran (marks_of_call _ _ c.in-Err.fault c.in-Err.ensures.marked) (λ had. (c.in-Err.ensures.failed had).1)
+    (marked_is_of_call _ _ c.in-Err.fault c.in-Err.ensures.marked) (Appends-nothing (g.W.Write.contents c.args.out.now))

@@ -4,7 +4,7 @@ use Rattle.jiff.proofs.SpanFacts.{signed_arith}
 use Rattle.std.specs.Io.KnownBytes.{Appends}
 use Rattle.uu_request.specs.declared.request.Question.TheVariants as question
 use Rattle.uuspool.specs.Answers.{IsAnswer}
-use Rattle.uuspool.proofs.ServedLemmas.{Appends-nothing, marked_is_of_call, printed, question_served, question_unanswered}
+use Rattle.uuspool.proofs.ServedLemmas.{Appends-nothing, marked_is_of_call, marks_of_call, printed, question_served, question_unanswered}
 use Rattle.uu_report.specs.Reports.{IsStatusReport}
 use Rattle.uuspool.proofs.answer.status.Goals as goal
 
@@ -12,7 +12,7 @@ pub returns-in-Ok : goal.returns-in-Ok
 returns-in-Ok g c =
     let offset : FitsSigned w32 c.args.settings.now.offset = omega (arith, signed_arith, c.args.settings.now.offset_in_range) in
     let written : List ℕ → Type 0 = λ output. Appends (g.W.Write.contents c.args.out.now) (g.W.Write.contents c.print.new.out) output in
-    question_served c.args.settings.now question.Systems c.args.spool.now c.systems.new.self written c.print.result c.in-Ok.ensures.ran c.print.ensures.fault
+    question_served c.args.settings.now question.Systems c.args.spool.now c.systems.new.self written c.print.result c.in-Ok.ensures.ran c.in-Ok.ensures.marked c.print.ensures.fault
     (λ clean s shown. let found = c.in-Ok.ensures.answer clean s shown in (
       found.1,
       printed c.print.result c.status_report.result 0 written (IsStatusReport c.args.settings.now.offset c.deref.result.now) (IsAnswer c.args.settings.now s question.Systems)
@@ -24,4 +24,5 @@ pub returns-in-Err : goal.returns-in-Err
 returns-in-Err g c =
     question_unanswered c.args.settings.now question.Systems c.args.spool.now c.systems.new.self
     (λ output. Appends (g.W.Write.contents c.args.out.now) (g.W.Write.contents c.args.out.now) output) c.in-Err.fault
-    c.in-Err.ensures.ran (marked_is_of_call _ _ c.in-Err.fault c.in-Err.ensures.marked) (Appends-nothing (g.W.Write.contents c.args.out.now))
+    c.in-Err.ensures.ran (marks_of_call _ _ c.in-Err.fault c.in-Err.ensures.marked) (λ had. (c.in-Err.ensures.failed had).1)
+    (marked_is_of_call _ _ c.in-Err.fault c.in-Err.ensures.marked) (Appends-nothing (g.W.Write.contents c.args.out.now))
