@@ -2,7 +2,8 @@
 //! the library run the line.
 #![tactic(auto)]
 
-use sqlite::Alter;
+use sqlite::{Alter, FileStore};
+use sqlite_disk::Disk;
 use std::io::Write;
 use std::process::ExitCode;
 use std::time::SystemTime;
@@ -10,11 +11,14 @@ use std::{env, fs, io};
 use uu_store::{Spool, StoreFault, start};
 use uuspool::{Fault, Settings, fault_line, fault_status, line_of, moment_of, read_input, serve};
 
+/// The most bytes of a log that a run leaves beside the spool's file: an opening reads it whole.
+const LOG_LIMIT: u64 = 262_144;
+
 fn main(rt: HostRuntime) -> ExitCode {
     match run(&rt) {
         Ok(status) => ExitCode::from(status),
         Err(fault) => {
-            tell(&rt, &fault);
+            print_fault(&rt, &fault);
             ExitCode::from(fault_status(&fault))
         }
     }
@@ -120,35 +124,66 @@ fn run_on_file(
     run_on(rt, words, settings, now, input, opened)
 }
 
-// Runs the line over a spool, if it opened.
-fn run_on<S: Alter + Drop>(
+// Runs the line over a spool, if it opened, and lets it go. The answer is printed by then, so a close that
+// fails changes nothing of it: the log keeps what it has, and the next run tries again.
+fn run_on<D: Disk + Drop>(
     rt: &HostRuntime,
     words: &[String],
     settings: &Settings,
     now: u64,
     input: &[u8],
-    opened: Result<Spool<S>, StoreFault>,
+    opened: Result<Spool<FileStore<D>>, StoreFault>,
 ) -> Result<u8, Fault> {
     match opened {
         Ok(mut spool) => {
-            let mut out = io::writer(rt);
-            serve(
-                rt.alloc(),
-                words,
-                settings,
-                now,
-                input,
-                &mut spool,
-                &mut out,
-            )
+            let answer = answer_on(rt, words, settings, now, input, &mut spool);
+            let is_long = answer.is_ok() && is_log_long(rt, settings.spool.as_str());
+            let_go(spool, is_long);
+            answer
         }
         Err(fault) => Err(Fault::Store(fault)),
     }
 }
 
+// Runs the line over a spool.
+fn answer_on<S: Alter>(
+    rt: &HostRuntime,
+    words: &[String],
+    settings: &Settings,
+    now: u64,
+    input: &[u8],
+    spool: &mut Spool<S>,
+) -> Result<u8, Fault> {
+    let mut out = io::writer(rt);
+    serve(rt.alloc(), words, settings, now, input, spool, &mut out)
+}
+
+// Lets the spool go, and closes its files where their log is long.
+fn let_go<D: Disk + Drop>(spool: Spool<FileStore<D>>, is_long: bool) {
+    if is_long {
+        let _ = spool.close();
+    }
+}
+
+// Whether the log of the spool at this path is longer than `LOG_LIMIT`. Where it can't be asked, it is not.
+fn is_log_long(rt: &HostRuntime, path: &str) -> bool {
+    match log_length(rt, path) {
+        Ok(length) => length > LOG_LIMIT,
+        Err(_) => false,
+    }
+}
+
+// The bytes of the log, which lies beside the file that a link may lead to.
+fn log_length(rt: &HostRuntime, path: &str) -> io::Result<u64> {
+    let file = fs::canonicalize(rt, path)?;
+    let name = file.as_str();
+    let log = format!(in rt.alloc(); "{name}-wal")?;
+    Ok(fs::metadata(rt, log.as_str())?.len())
+}
+
 // Prints a fault: help on standard output, all else on standard error. Where its line finds no memory
 // or cannot be written, nothing is printed and the status tells it alone.
-fn tell(rt: &HostRuntime, fault: &Fault) {
+fn print_fault(rt: &HostRuntime, fault: &Fault) {
     let Ok(line) = fault_line(rt.alloc(), fault) else {
         return;
     };
