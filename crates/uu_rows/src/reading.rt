@@ -1,7 +1,7 @@
 // Rows of a table as typed rows.
-ghost use Rattle.std.specs.Prelude.{◌≡◌, List, Option, map, option_map, slice_get, IfOk, IfErr, IfSome};
+ghost use Rattle.std.specs.Prelude.{◌≡◌, ◌≢◌, List, Option, map, option_map, slice_get, IfOk, IfErr, IfSome};
 ghost use Rattle.std.specs.List.{AllByRecursion};
-ghost use Rattle.sqlite.specs.declared.error.Error.TheVariants.{SqliteFailure};
+ghost use Rattle.sqlite.specs.declared.error.Error.TheVariants.{SqliteFailure, QueryReturnedNoRows};
 ghost use Rattle.sqlite.specs.declared.error.ErrorCode.TheVariants.{OutOfMemory};
 ghost use Rattle.sqlite.specs.Order.{Row};
 ghost use Rattle.uu_rows.specs.Values.{NotIf};
@@ -45,6 +45,9 @@ pub fn read_rows<T: TypedRow>(alloc: Global, rows: &[Row]) -> Result<Vec<T>, Err
 
     // Of rows that are typed rows, want of memory is the only error.
     ensures memory { (all : List T) → AllByRecursion T.IsReadable all → rows.now ≡ map T.cells all → IfErr result (λ error. error ≡ SqliteFailure OutOfMemory) }
+
+    // Of any rows, any other error is that of a row that the format does not allow.
+    ensures bad { IfErr result (λ error. error ≢ SqliteFailure OutOfMemory → error ≡ QueryReturnedNoRows) }
 {
     match read_all(alloc, rows) {
         Ok(all) => Ok(all),
@@ -59,6 +62,9 @@ pub fn first_row<T: TypedRow>(alloc: Global, rows: &[Row]) -> Result<Option<T>, 
 
     // Of no row, and of one that is a typed row, want of memory is the only error.
     ensures memory { (found : Option T) → IfSome found T.IsReadable → option_map T.cells found ≡ slice_get rows.now 0 → IfErr result (λ error. error ≡ SqliteFailure OutOfMemory) }
+
+    // Of any row, any other error is that of a row that the format does not allow.
+    ensures bad { IfErr result (λ error. error ≢ SqliteFailure OutOfMemory → error ≡ QueryReturnedNoRows) }
 {
     match rows.first() {
         None => Ok(None),
