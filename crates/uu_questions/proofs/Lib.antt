@@ -7,6 +7,7 @@ pub mod FoundJobs
 pub mod Assembled
 pub mod Rising
 pub mod SystemRows
+pub mod Refusals
 pub mod Listed
 pub mod JobBytes
 pub mod WalkLemmas

@@ -1,12 +1,15 @@
 -- Systems put together from the rows of three tables, each in the order of its key.
-use Rattle.std.specs.Prelude.{ℕ, zero, suc, Bool, ◌==◌, ◌&&◌, List, [], ◌∷◌, map, take, drop, Option, None, Some}
-use Rattle.std.specs.List.{prefix_len}
+use Rattle.std.specs.Prelude.{◌≡◌, ⊤, ℕ, zero, suc, Bool, ◌==◌, ◌&&◌, List, [], ◌∷◌, map, take, drop, Option, None, Some}
+use Rattle.std.specs.List.{prefix_len, AllByRecursion}
 use Rattle.uu_times.specs.declared.system.Line.{Line}
+use Rattle.uu_times.specs.Ranges.{AreRuns}
+use Rattle.uu_times.specs.System.{AreWithinLimits}
 use Rattle.uu_core.specs.declared.system.Outcome.{Outcome}
 use Rattle.uu_core.specs.declared.system.Outcome.TheVariants.{Never, Failed, Done}
 use Rattle.uu_core.specs.declared.system.CallState.{CallState}
 use Rattle.uu_core.specs.declared.system.SystemRow.{SystemRow}
 use Rattle.uu_core.specs.State.{same_text}
+use Rattle.uu_tables.specs.Tables.{call_columns}
 use Rattle.uu_tables.specs.declared.rows.CallColumns.{CallColumns}
 use Rattle.uu_tables.specs.declared.rows.SystemColumns.{SystemColumns}
 use Rattle.uu_tables.specs.declared.rows.LineColumns.{LineColumns}
@@ -57,3 +60,21 @@ abbrev pub systems_from : List SystemColumns → List LineColumns → List Range
 systems_from [] lines ranges = []
 systems_from (s ∷ systems) lines ranges =
     system_from s (own is_line_of s lines) (own is_range_of s ranges) ∷ systems_from systems (others is_line_of s lines) (others is_range_of s ranges)
+
+-- ---- which rows make a system
+
+-- the ranges of each line are those of a set of minutes
+abbrev pub HaveWindows : List Line → Type 0
+HaveWindows lines = AllByRecursion (λ (line : Line). AreRuns line.windows) lines
+
+-- the rows are those of the system that they make, and it is within its limits
+pub record MakeSystem (s : SystemColumns) (lines : List LineColumns) (ranges : List RangeColumns) : Type 0 where
+  pub windows : HaveWindows (lines_from lines ranges)
+  pub limits : AreWithinLimits (lines_from lines ranges) s.max_retries
+  pub call : call_columns (call_from s.call) ≡ s.call
+
+-- those of each system make it
+abbrev pub MakeSystems : List SystemColumns → List LineColumns → List RangeColumns → Type 0
+MakeSystems [] lines ranges = ⊤
+MakeSystems (s ∷ systems) lines ranges =
+    MakeSystem s (own is_line_of s lines) (own is_range_of s ranges) × MakeSystems systems (others is_line_of s lines) (others is_range_of s ranges)

@@ -1,7 +1,10 @@
 // Systems put together from the rows of three tables.
-ghost use Rattle.std.specs.Prelude.{◌≡◌, ◌≤◌, List, Bool, map, IfOk, length};
+ghost use Rattle.std.specs.Prelude.{◌≡◌, ◌≤◌, ◌<◌, ◌^◌, List, Bool, map, IfOk, length};
 ghost use Rattle.std.specs.List.{prefix_len};
-ghost use Rattle.uu_questions.specs.Assembly.{is_line_of, is_range_of, is_range_of_line, own, others, range_of, line_from, lines_from, call_from, system_from, systems_from, outcome_from};
+ghost use Rattle.uu_questions.specs.Assembly.{is_line_of, is_range_of, is_range_of_line, own, others, range_of, line_from, lines_from, call_from, system_from, systems_from, outcome_from, HaveWindows, MakeSystem, MakeSystems};
+ghost use Rattle.uu_rows.specs.Values.{NotIf};
+ghost use Rattle.uu_times.specs.Ranges.{AreRuns};
+ghost use Rattle.uu_tables.specs.Tables.{call_columns};
 
 use std::alloc::{AllocError, Global};
 use uu_core::{CallState, Outcome, SystemRow};
@@ -67,14 +70,16 @@ fn split_own<'a, P: Owner<C>, C>(owner: &P, children: &'a [C]) -> (&'a [C], &'a 
 }
 
 fn minute_of(minute: u32) -> Result<u16, RowFault>
-    ensures { IfOk result (λ week. week ≡ minute) }
+    ensures minute { IfOk result (λ week. week ≡ minute) }
+    ensures bad { NotIf result (minute < 2 ^ 16) }
 {
     u16::try_from(minute).map_err(|_| RowFault::Bad)
 }
 
 // The set of minutes whose ranges these are.
 fn windows_of(alloc: Global, ranges: &[RangeColumns]) -> Result<Windows, RowFault>
-    ensures { IfOk result (λ windows. windows ≡ map range_of ranges.now) }
+    ensures windows { IfOk result (λ windows. windows ≡ map range_of ranges.now) }
+    ensures bad { NotIf result (AreRuns (map range_of ranges.now)) }
 {
     let mut runs = Vec::new(alloc);
     for range in ranges {
@@ -88,7 +93,8 @@ fn lines_of(
     lines: &[LineColumns],
     ranges: &[RangeColumns],
 ) -> Result<Listed<Line>, RowFault>
-    ensures { IfOk result (λ made. made ≡ lines_from lines.now ranges.now) }
+    ensures lines { IfOk result (λ made. made ≡ lines_from lines.now ranges.now) }
+    ensures bad { NotIf result (HaveWindows (lines_from lines.now ranges.now)) }
 {
     let mut made = Vec::new(alloc);
     let mut rest = ranges;
@@ -105,7 +111,8 @@ fn lines_of(
 }
 
 fn outcome_of(call: &CallColumns) -> Result<Outcome, RowFault>
-    ensures { IfOk result (λ outcome. outcome ≡ outcome_from call.now.outcome call.now.why) }
+    ensures outcome { IfOk result (λ outcome. outcome ≡ outcome_from call.now.outcome call.now.why) }
+    ensures bad { NotIf result (call_columns (call_from call.now) ≡ call.now) }
 {
     match (call.outcome, &call.why) {
         (0, None) => Ok(Outcome::Never),
@@ -121,7 +128,8 @@ fn system_of(
     lines: &[LineColumns],
     ranges: &[RangeColumns],
 ) -> Result<SystemRow, RowFault>
-    ensures { IfOk result (λ row. row ≡ system_from system.now lines.now ranges.now) }
+    ensures system { IfOk result (λ row. row ≡ system_from system.now lines.now ranges.now) }
+    ensures bad { NotIf result (MakeSystem system.now lines.now ranges.now) }
 {
     let lines = lines_of(alloc, lines, ranges)?;
     let def = SystemDef::new(system.name.clone()?, lines, system.max_retries).ok_or(RowFault::Bad)?;
@@ -143,7 +151,8 @@ pub(crate) fn systems_of(
     lines: &[LineColumns],
     ranges: &[RangeColumns],
 ) -> Result<Vec<SystemRow>, RowFault>
-    ensures { IfOk result (λ made. made.items ≡ systems_from systems.now lines.now ranges.now) }
+    ensures systems { IfOk result (λ made. made.items ≡ systems_from systems.now lines.now ranges.now) }
+    ensures bad { NotIf result (MakeSystems systems.now lines.now ranges.now) }
 {
     let mut made = Vec::new(alloc);
     let mut lines = lines;

@@ -1,5 +1,5 @@
 // For which job each system is called now.
-ghost use Rattle.std.specs.Prelude.{◌≡◌, ◌<◌, false, ℕ, Bool, List, map, IfOk, IfErr, OnOk, IsTrue};
+ghost use Rattle.std.specs.Prelude.{◌≡◌, ◌≢◌, ◌<◌, false, ℕ, Bool, List, map, IfOk, IfErr, OnOk, IsTrue};
 ghost use Rattle.std.specs.Ordering.{nat_cmp};
 ghost use Rattle.std.specs.Cmp.Lexicographic.{slice_cmp};
 ghost use Rattle.std.specs.BTreeMap.{get};
@@ -9,7 +9,7 @@ ghost use Rattle.uu_core.specs.declared.due.Due.{Due};
 ghost use Rattle.uu_core.specs.declared.system.SystemRow.{SystemRow};
 ghost use Rattle.uu_core.specs.State.{head_of};
 ghost use Rattle.uu_core.specs.Due.{is_within, may_be_called, AreDue};
-ghost use Rattle.sqlite.specs.declared.error.Error.TheVariants.{SqliteFailure};
+ghost use Rattle.sqlite.specs.declared.error.Error.TheVariants.{SqliteFailure, QueryReturnedNoRows};
 ghost use Rattle.sqlite.specs.declared.error.ErrorCode.TheVariants.{OutOfMemory};
 ghost use Rattle.uu_names.specs.Grade.{grade_count};
 ghost use Rattle.uu_names.specs.Name.{is_site_name};
@@ -44,6 +44,7 @@ fn read_due(alloc: Global, row: &Row) -> Result<Due, RowFault>
 fn due_in(alloc: Global, row: &Row) -> Result<Due, Error>
     ensures due { IfOk result (λ due. (other : Due) → row.now ≡ due_cells other → due ≡ other) }
     ensures memory { (due : Due) → IsTrue (is_site_name due.system) → due.grade < grade_count → IsSmall due.number → row.now ≡ due_cells due → IfErr result (λ error. error ≡ SqliteFailure OutOfMemory) }
+    ensures bad { IfErr result (λ error. error ≢ SqliteFailure OutOfMemory → error ≡ QueryReturnedNoRows) }
 {
     match read_due(alloc, row) {
         Ok(due) => Ok(due),

@@ -1,10 +1,12 @@
 // Systems with their lines, the ranges of these, and their calls.
-ghost use Rattle.std.specs.Prelude.{◌≡◌, false, ℕ, List, Vec, map, filter, IfOk, slice_get};
+ghost use Rattle.std.specs.Prelude.{◌≡◌, ◌≢◌, false, ℕ, List, Vec, map, filter, IfOk, IfErr, slice_get};
 ghost use Rattle.sqlite.specs.Held.{state};
 ghost use Rattle.uu_core.specs.State.{system_at, is_system, same_text};
 ghost use Rattle.uu_tables.specs.Tables.{tables_of, system_columns};
 ghost use Rattle.uu_questions.specs.Answers.{Answers};
-ghost use Rattle.uu_questions.specs.Assembly.{systems_from};
+ghost use Rattle.uu_questions.specs.Assembly.{systems_from, MakeSystems};
+ghost use Rattle.sqlite.specs.declared.error.Error.TheVariants.{SqliteFailure, QueryReturnedNoRows};
+ghost use Rattle.sqlite.specs.declared.error.ErrorCode.TheVariants.{OutOfMemory};
 
 use crate::asks::{ask_lines_of, ask_ranges_of, ask_system};
 use crate::assembly::systems_of;
@@ -121,7 +123,11 @@ fn put_together(
     systems: &[SystemColumns],
     rows: &LineRows,
 ) -> Result<Vec<SystemRow>, Error>
-    ensures { IfOk result (λ made. made.items ≡ systems_from systems.now rows.now.lines.items rows.now.ranges.items) }
+    ensures systems { IfOk result (λ made. made.items ≡ systems_from systems.now rows.now.lines.items rows.now.ranges.items) }
+
+    // Of rows that make systems, want of memory is the only error.
+    ensures memory { MakeSystems systems.now rows.now.lines.items rows.now.ranges.items → IfErr result (λ error. error ≡ SqliteFailure OutOfMemory) }
+    ensures bad { IfErr result (λ error. error ≢ SqliteFailure OutOfMemory → error ≡ QueryReturnedNoRows) }
 {
     systems_of(alloc, systems, &rows.lines, &rows.ranges).map_err(|fault| fault.as_error())
 }

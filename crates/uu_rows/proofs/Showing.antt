@@ -18,6 +18,7 @@ shows text q names params old new means r ok err survives = record {
   told = told site text q names params old new means r ok err survives;
   same = λ clean stands. same_shown site text q names params old new means r stands (ok clean);
   rows = ok;
+  refused = err;
 }
 
 pub answered : {T E : Type 0} (r : Result T E) (x : T) → r ≡ Ok x → IsOk r

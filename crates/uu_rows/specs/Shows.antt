@@ -1,14 +1,21 @@
 -- What a question in SQL does.
-use Rattle.std.specs.Prelude.{◌≡◌, ℕ, List, Vec, Result, IfOk, OnOk}
+use Rattle.std.specs.Prelude.{◌≡◌, ◌⊎◌, ℕ, List, Vec, Result, IfOk, IfErr, OnOk}
 use Rattle.std.specs.declared.alloc.Global.{Global}
 use Rattle.sqlite.specs.Order.{Row}
 use Rattle.sqlite.specs.declared.error.Error.{Error}
+use Rattle.sqlite.specs.declared.error.Error.TheVariants.{SqliteFailure}
+use Rattle.sqlite.specs.declared.error.ErrorCode.TheVariants.{OutOfMemory}
 use Rattle.sqlite.specs.State as db
 use Rattle.uu_sql.specs.Steps.{Stands, Told}
 use Rattle.uu_schema.specs.Schema.{site}
 
--- What a question in SQL shows are the rows that its text means, and it changes nothing.
+-- What a question in SQL shows are the rows that its text means, and it changes nothing. An error is the database's, of this text.
 pub record Shows (text : List ℕ) (params : Row) (old new : db.State) (r : Result (Vec Row Global) Error) : Type 0 where
   pub told : Told site old new r
   pub same : db.HasCleanDisk new → Stands site old.now → OnOk r (new.now ≡ old.now)
   pub rows : db.HasCleanDisk new → IfOk r (λ rows. db.Shown text params old new rows.items)
+  pub refused : db.HasCleanDisk new → IfErr r (db.FailsToQuery text params old new)
+
+-- memory was refused, or the database refused the question
+abbrev pub IsRefused : List ℕ → Row → db.State → db.State → Error → Type 0
+IsRefused text params old new error = (error ≡ SqliteFailure OutOfMemory) ⊎ db.FailsToQuery text params old new error

@@ -1,5 +1,6 @@
 -- What the question on the table `spool` says of it, both ways.
-use Rattle.std.proofs.Common.{◌≡◌, ℕ, List, [], ◌∷◌, map, refl, sym, ap, subst, ◌∙◌}
+use Rattle.std.proofs.Common.{◌≡◌, ◌≢◌, ℕ, Option, Some, None, List, [], ◌∷◌, map, refl, sym, ap, subst, ◌∙◌}
+use Rattle.std.specs.Prelude.{MatchOption}
 use Rattle.std.specs.List.{AllByRecursion}
 use Rattle.std.specs.List.Sorted.{IsPermutation}
 use Rattle.std.proofs.lemmas.List.Sorted.{IsPermutation-sym}
@@ -12,6 +13,7 @@ use Rattle.uu_sql.proofs.Rows.{all_stay}
 use Rattle.uu_sql.proofs.Answers.{answer_of, answer_moved}
 use Rattle.uu_schema.specs.Schema.{site, spool}
 use Rattle.uu_schema.specs.Made.{spool_row}
+use Rattle.uu_rows.specs.Readable.{IsSmall}
 use Rattle.uu_taking.specs.Texts.{spool_text}
 use Rattle.uu_taking.specs.Taking.{spool_cells}
 use Rattle.uu_rows.proofs.Meanings.{at_places}
@@ -42,3 +44,9 @@ module _ (old new : db.State) (rows : List Row) (stands : Stands site old.now) (
 
   pub next_held : (next : ℕ) → old.now.trees spool.tree ≡ spool_row next ∷ [] → rows ≡ spool_cells next ∷ []
   next_held next is = one_permutation (spool_cells next) rows (subst (λ l. IsPermutation (map spool_shown l) rows) is spool_moved)
+
+  -- what is found among the rows is what the table has
+  pub next_seen : (found : Option ℕ) → MatchOption found ((next : ℕ) → IsSmall next → rows ≢ spool_cells next ∷ []) (λ next. rows ≡ spool_cells next ∷ [])
+      → MatchOption found ((next : ℕ) → IsSmall next → old.now.trees spool.tree ≢ spool_row next ∷ []) (λ next. old.now.trees spool.tree ≡ spool_row next ∷ [])
+  next_seen None none = λ next small is. none next small (next_held next is)
+  next_seen (Some next) is = next_found next is

@@ -1,6 +1,11 @@
 // The one row of the table `spool`.
-ghost use Rattle.std.specs.Prelude.{◌≡◌, ◌≢◌, ℕ, false, [], ◌∷◌, IfOk, MatchOption};
+ghost use Rattle.std.specs.Prelude.{◌≡◌, ◌≢◌, ℕ, false, [], ◌∷◌, IfOk, IfErr, MatchOption};
+ghost use Rattle.sqlite.specs.declared.error.Error.TheVariants.{SqliteFailure};
+ghost use Rattle.sqlite.specs.declared.error.ErrorCode.TheVariants.{OutOfMemory};
 ghost use Rattle.sqlite.specs.Held.{state};
+ghost use Rattle.sqlite.specs.State.{HasCleanDisk};
+ghost use Rattle.uu_rows.specs.Shows.{IsRefused};
+ghost use Rattle.uu_taking.specs.Texts.{spool_text};
 ghost use Rattle.uu_schema.specs.Schema.{spool};
 ghost use Rattle.uu_schema.specs.Made.{spool_row};
 ghost use Rattle.uu_rows.specs.Values.{NotIf};
@@ -30,16 +35,25 @@ fn next_in_row(rows: &[Row]) -> Result<u32, RowFault>
     }
 }
 
+// The same, where want of memory is an error, and rows that are not this one row are none.
+fn found_next(rows: &[Row]) -> Result<Option<u32>, Error>
+    ensures found { IfOk result (λ found. MatchOption found ((next : ℕ) → IsSmall next → rows.now ≢ spool_cells next ∷ []) (λ next. rows.now ≡ spool_cells next ∷ [])) }
+    ensures memory { IfErr result (λ error. error ≡ SqliteFailure OutOfMemory) }
+{
+    match next_in_row(rows) {
+        Ok(next) => Ok(Some(next)),
+        Err(RowFault::Bad) => Ok(None),
+        Err(RowFault::Memory) => Err(RowFault::Memory.as_error()),
+    }
+}
+
 /// The next number, of the one row of the table `spool`. None, where the table has not this one row with our version and a number of
 /// 32 bits.
 pub fn take_next<S: Alter>(conn: &mut Connection<S>) -> Result<Option<u32>, Error>
     ensures idle { conn.old.in_transaction ≡ false → conn.new.in_transaction ≡ false }
     ensures takes { Takes (λ trees found. MatchOption found ((next : ℕ) → IsSmall next → trees spool.tree ≢ spool_row next ∷ []) (λ next. trees spool.tree ≡ spool_row next ∷ [])) (state S.Store conn.old) (state S.Store conn.new) result }
+    ensures refused { HasCleanDisk (state S.Store conn.new) → IfErr result (IsRefused spool_text [] (state S.Store conn.old) (state S.Store conn.new)) }
 {
     let rows = ask_spool(conn)?;
-    match next_in_row(&rows) {
-        Ok(next) => Ok(Some(next)),
-        Err(RowFault::Bad) => Ok(None),
-        Err(RowFault::Memory) => Err(RowFault::Memory.as_error()),
-    }
+    found_next(&rows)
 }

@@ -1,6 +1,11 @@
 // The version that the table `spool` names.
-ghost use Rattle.std.specs.Prelude.{◌≡◌, true, false, Ok};
+ghost use Rattle.std.specs.Prelude.{◌≡◌, true, false, [], Ok, IfOk, IfErr};
+ghost use Rattle.sqlite.specs.declared.error.Error.TheVariants.{SqliteFailure};
+ghost use Rattle.sqlite.specs.declared.error.ErrorCode.TheVariants.{OutOfMemory};
 ghost use Rattle.sqlite.specs.Held.{state};
+ghost use Rattle.sqlite.specs.State.{HasCleanDisk};
+ghost use Rattle.uu_rows.specs.Shows.{IsRefused};
+ghost use Rattle.uu_taking.specs.Texts.{version_text};
 ghost use Rattle.uu_taking.specs.Version.{HasLater, ShowsLater, IsLater};
 ghost use Rattle.uu_taking.specs.Taking.{Takes, Tells};
 
@@ -16,6 +21,7 @@ const VERSION: i64 = 1;
 fn is_later(row: &Row) -> Result<bool, RowFault>
     ensures later { result ≡ Ok true → ShowsLater row.now }
     ensures none { result ≡ Ok false → ¬ ShowsLater row.now }
+    ensures memory { IfErr result (λ fault. fault ≡ RowFault.Memory) }
 {
     match integer_in(row) {
         Ok(version) => Ok(version.value > VERSION),
@@ -28,6 +34,7 @@ fn is_later(row: &Row) -> Result<bool, RowFault>
 fn later_in(rows: &[Row]) -> Result<bool, RowFault>
     ensures later { result ≡ Ok true → HasLater rows.now }
     ensures none { result ≡ Ok false → ¬ HasLater rows.now }
+    ensures memory { IfErr result (λ fault. fault ≡ RowFault.Memory) }
 {
     for row in rows {
         if is_later(row)? {
@@ -37,15 +44,24 @@ fn later_in(rows: &[Row]) -> Result<bool, RowFault>
     Ok(false)
 }
 
+// The same, where want of memory is an error.
+fn found_later(rows: &[Row]) -> Result<bool, Error>
+    ensures found { IfOk result (λ later. Tells later (HasLater rows.now) (¬ HasLater rows.now)) }
+    ensures memory { IfErr result (λ error. error ≡ SqliteFailure OutOfMemory) }
+{
+    match later_in(rows) {
+        Ok(later) => Ok(later),
+        Err(fault) => Err(fault.as_error()),
+    }
+}
+
 /// Whether the table `spool` names a later version than this program's. Asked before all else, since the other tables of a later
 /// version may differ.
 pub fn names_later<S: Alter>(conn: &mut Connection<S>) -> Result<bool, Error>
     ensures idle { conn.old.in_transaction ≡ false → conn.new.in_transaction ≡ false }
     ensures takes { Takes (λ trees later. Tells later (IsLater trees) (¬ IsLater trees)) (state S.Store conn.old) (state S.Store conn.new) result }
+    ensures refused { HasCleanDisk (state S.Store conn.new) → IfErr result (IsRefused version_text [] (state S.Store conn.old) (state S.Store conn.new)) }
 {
     let rows = ask_version(conn)?;
-    match later_in(&rows) {
-        Ok(later) => Ok(later),
-        Err(fault) => Err(fault.as_error()),
-    }
+    found_later(&rows)
 }

@@ -1,4 +1,4 @@
-use Rattle.std.proofs.Common.{Ok, ap, ◌∙◌}
+use Rattle.std.proofs.lemmas.Result.{IfOk-weaker}
 use Rattle.sqlite.specs.Held.{state}
 use Rattle.uu_taking.specs.Texts.{version_text}
 use Rattle.uu_rows.proofs.Showing.{answered}
@@ -6,12 +6,13 @@ use Rattle.uu_taking.proofs.Tables.{took_one}
 use Rattle.uu_taking.proofs.Later.{later_found, later_not}
 use Rattle.uu_taking.proofs.version.names_later.Goals as goal
 
-pub returns-in-Ok-clause-takes : goal.returns-in-Ok-clause-takes
-returns-in-Ok-clause-takes g c =
+pub returns-clause-takes : goal.returns-clause-takes
+returns-clause-takes g c =
     let a = state g.S.Store c.args.conn.now in
     let b = state g.S.Store c.ask_version.new.conn in
     took_one _ version_text a b c.ask_version.result _ (answered _ _ c.in_ok-rows.was) c.ask_version.ensures.shows (λ clean stands.
-    let shown = c.in_ok-rows.ensures.shows.rows clean in (
-      λ yes. later_found a b c.in_ok-rows.rows.items stands shown ((rw c.deref.ensures.value at c.later_in.ensures.later) (c.in-Ok.is ∙ ap Ok yes)),
-      λ no. later_not a b c.in_ok-rows.rows.items stands shown ((rw c.deref.ensures.value at c.later_in.ensures.none) (c.in-Ok.is ∙ ap Ok no)),
-    ))
+    let shown = c.in_ok-rows.ensures.shows.rows clean in
+    IfOk-weaker c.found_later.result _ _ (λ later found. (
+      λ yes. later_found a b c.in_ok-rows.rows.items stands shown ((rw c.deref.ensures.value at found.0) yes),
+      λ no. later_not a b c.in_ok-rows.rows.items stands shown ((rw c.deref.ensures.value at found.1) no),
+    )) c.found_later.ensures.found)
