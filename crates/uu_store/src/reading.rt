@@ -1,5 +1,7 @@
 // Every row of a database, read to tell whether they are those of a spool.
-ghost use Rattle.std.specs.Prelude.{◌≡◌, false, IfOk};
+ghost use Rattle.std.specs.Prelude.{◌≡◌, false, IfOk, IfErr};
+ghost use Rattle.sqlite.specs.declared.error.Error.TheVariants.{SqliteFailure};
+ghost use Rattle.sqlite.specs.declared.error.ErrorCode.TheVariants.{OutOfMemory};
 ghost use Rattle.sqlite.specs.Tree.{Trees};
 ghost use Rattle.sqlite.specs.Held.{state};
 ghost use Rattle.uu_core.specs.State.{State};
@@ -151,7 +153,8 @@ fn make_a_state(alloc: Global, all: &AllRows) -> Result<bool, AllocError>
 
 // The same of rows that were read, or are none of a state's; want of memory is an error.
 fn verdict_on(alloc: Global, all: Option<AllRows>) -> Result<bool, Error>
-    ensures { (trees : Trees) → OrNone AreAllRows trees all → IfOk result (λ good. Tells good ((s : State) × HoldsState trees s) (IsOfNone trees)) }
+    ensures verdict { (trees : Trees) → OrNone AreAllRows trees all → IfOk result (λ good. Tells good ((s : State) × HoldsState trees s) (IsOfNone trees)) }
+    ensures memory { IfErr result (λ error. error ≡ SqliteFailure OutOfMemory) }
 {
     let Some(all) = all else {
         return Ok(false);
