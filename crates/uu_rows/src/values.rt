@@ -11,6 +11,7 @@ ghost use Rattle.uu_rows.specs.Values.{NotIf, number_cell};
 
 use crate::fault::{RowFault, name_fault, read_fault};
 use sqlite::Row;
+use sqlite::types::ValueRef;
 use std::alloc::{AllocError, Global};
 use uu_names::{Grade, Listed, SiteName, Word};
 
@@ -78,14 +79,25 @@ pub(crate) fn bytes_in(row: &Row, at: usize) -> Result<Vec<u8>, RowFault>
     }
 }
 
+// The bytes of the text in this column, which stay where they are.
+fn bytes_of_text_in<'a>(row: &'a Row, at: usize) -> Result<&'a [u8], RowFault>
+    ensures value { IfOk result (λ bytes. column row.now at ≡ Text bytes.now) }
+    ensures bad { (t : List ℕ) → NotIf result (column row.now at ≡ Text t) }
+{
+    match row.get_ref(at) {
+        Ok(ValueRef::Text(bytes)) => Ok(bytes),
+        _ => Err(RowFault::Bad),
+    }
+}
+
 /// The name in this column.
 pub fn name_in(alloc: Global, row: &Row, at: usize) -> Result<SiteName, RowFault>
     ensures value { IfOk result (λ name. column row.now at ≡ Text name) }
     ensures name { IfOk result (λ name. IsTrue (is_site_name name)) }
     ensures bad { (t : List ℕ) → IsTrue (is_site_name t) → NotIf result (column row.now at ≡ Text t) }
 {
-    let text = text_in(row, at)?;
-    match SiteName::parse(alloc, text.as_str()) {
+    let bytes = bytes_of_text_in(row, at)?;
+    match SiteName::from_bytes(alloc, bytes) {
         Ok(name) => Ok(name),
         Err(fault) => Err(name_fault(fault)),
     }
@@ -108,8 +120,11 @@ pub(crate) fn word_in(alloc: Global, row: &Row, at: usize) -> Result<Word, RowFa
     ensures word { IfOk result (λ word. IsTrue (is_word word)) }
     ensures bad { (t : List ℕ) → IsTrue (is_word t) → NotIf result (column row.now at ≡ Text t) }
 {
-    let text = text_in(row, at)?;
-    word_of(alloc, text.as_str())
+    let bytes = bytes_of_text_in(row, at)?;
+    match Word::from_bytes(alloc, bytes) {
+        Ok(word) => Ok(word),
+        Err(fault) => Err(name_fault(fault)),
+    }
 }
 
 /// The word in this column, or none where it is NULL.
