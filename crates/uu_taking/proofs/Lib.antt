@@ -1,6 +1,7 @@
 pub mod Meanings
 pub mod Rowids
 pub mod Tables
+pub mod TakenHeads
 pub mod TakenTables
 pub mod Later
 pub mod Sound

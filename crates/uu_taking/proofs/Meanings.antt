@@ -8,7 +8,7 @@ use Rattle.sqlite.specs.Listing.{understood}
 use Rattle.uu_sql.proofs.Asks.{Means, ordered}
 use Rattle.uu_schema.specs.Schema.{site, spool, systems, lines, ranges, jobs, pieces, entries}
 use Rattle.uu_rows.proofs.Meanings.{at_places, by_places, is_first, head_names}
-use Rattle.uu_taking.specs.Texts.{version_text, spool_text, heads_text, sizes_text, entries_text, system_rowids_text, line_rowids_text, range_rowids_text, job_rowids_text, piece_rowids_text, entry_rowids_text}
+use Rattle.uu_taking.specs.Texts.{version_text, spool_text, heads_text, sizes_text, entries_text, system_rowids_text, line_rowids_text, range_rowids_text, piece_rowids_text, entry_rowids_text}
 
 -- ---- every row of a table
 
@@ -51,10 +51,6 @@ line_rowids_means = record { command = refl; plain = (refl, refl); listing = ref
 pub range_rowids_means : Means site range_rowids_text (rowids_of ranges.tree) (codes "rowid" ∷ [])
 unfolding understood everything
 range_rowids_means = record { command = refl; plain = (refl, refl); listing = refl }
-
-pub job_rowids_means : Means site job_rowids_text (rowids_of jobs.tree) (codes "number" ∷ [])
-unfolding understood everything
-job_rowids_means = record { command = refl; plain = (refl, refl); listing = refl }
 
 pub piece_rowids_means : Means site piece_rowids_text (rowids_of pieces.tree) (codes "rowid" ∷ [])
 unfolding understood everything

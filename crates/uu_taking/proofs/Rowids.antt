@@ -92,42 +92,46 @@ same_ids (x ∷ xs) (y ∷ ys) h =
     let rest : map id_cells xs ≡ map id_cells ys = cc in
     λ i. record { value = number i } ∷ same_ids xs ys rest i
 
+-- ---- rowids that rise tell the rows of a table apart
+
+abbrev pub id_shown : Row → Row
+id_shown r = column r 0 ∷ []
+
+id_less : (x y : ℤ) → x <ℤ y → value_cmp (Int x) (Int y) ≡ Less
+id_less x y h = value_cmp-Int x y ∙ (let e : int_cmp x y ≡ Less = grind (arith, ints) in e)
+
+abbrev cell_of : Integer → Value
+cell_of id = Int id.value
+
+ints_are : (rs : List Row) (ids : List Integer) → map (λ r. column r 0) rs ≡ map cell_of ids → AreNumbered rs
+ints_are [] ids h = tt
+ints_are (r ∷ rs) [] h = absurd (cc)
+ints_are (r ∷ rs) (i ∷ ids) h =
+    let head : column r 0 ≡ Int i.value = cc in
+    let tail : map (λ r. column r 0) rs ≡ map cell_of ids = cc in
+    (subst (λ v. IsTrue (is_int v)) (sym head) refl, ints_are rs ids tail)
+
+pub ids_apart : (table rows : List Row) → IsPermutation (map id_shown table) rows → AreRowids rows → AreNumbered table × OnceEach table
+ids_apart table rows moved it =
+    let ids = it.ids in
+    let back = pull_back id_shown _ rows moved table refl in
+    let rs = back.0 in
+    let cells : map (λ r. column r 0) rs ≡ map cell_of ids =
+    sym (map-map (λ (r : Row). column r 0) id_shown rs) ∙ ap (map (λ r. column r 0)) (sym back.2 ∙ it.rows_are) ∙ map-map (λ (r : Row). column r 0) id_cells ids in
+    let rising : IsAscending (λ u v. value_cmp u v ≡ Less) (map cell_of ids) = ascending-map _ cell_of ids (ascending_weaker _ (λ (x y : Integer). value_cmp (cell_of x) (cell_of y) ≡ Less) (λ x y. id_less x.value y.value) ids it.rising) in
+    let ordered : IsTable rs = ascending_from_map (λ u v. value_cmp u v ≡ Less) (λ (r : Row). column r 0) rs (subst (IsAscending (λ u v. value_cmp u v ≡ Less)) (sym cells) rising) in
+    let away = IsPermutation-sym table rs back.1 in
+    let apart = once rs ordered in
+    (all-permutation (λ r. IsTrue (is_int (rowid r))) rs table away (ints_are rs ids cells), λ x y j k. apart x y (has_moved table rs x back.1 j) (has_moved table rs y back.1 k))
+
 -- ---- what the question on the rowids of a table says of its rows, both ways
 
 module _ (tree : ℕ) (db : Trees) (rows : List Row) (bare : overlay db [] tree ≡ db tree) (a : IsAnswer (rowids_of tree) (overlay db []) [] rows) where
-  abbrev id_shown : Row → Row
-  id_shown r = column r 0 ∷ []
-
   ids_moved : IsPermutation (map id_shown (db tree)) rows
   ids_moved = subst (λ l. IsPermutation (map id_shown l) rows) (sym (all_stay (db tree))) (answer_moved tree [] (at_places (0 ∷ [])) (by_places (0 ∷ [])) db [] rows bare a)
 
-  id_less : (x y : ℤ) → x <ℤ y → value_cmp (Int x) (Int y) ≡ Less
-  id_less x y h = value_cmp-Int x y ∙ (let e : int_cmp x y ≡ Less = grind (arith, ints) in e)
-
-  abbrev cell_of : Integer → Value
-  cell_of id = Int id.value
-
-  ints_are : (rs : List Row) (ids : List Integer) → map (λ r. column r 0) rs ≡ map cell_of ids → AreNumbered rs
-  ints_are [] ids h = tt
-  ints_are (r ∷ rs) [] h = absurd (cc)
-  ints_are (r ∷ rs) (i ∷ ids) h =
-      let head : column r 0 ≡ Int i.value = cc in
-      let tail : map (λ r. column r 0) rs ≡ map cell_of ids = cc in
-      (subst (λ v. IsTrue (is_int v)) (sym head) refl, ints_are rs ids tail)
-
-  -- rowids that rise tell the rows apart
   pub ids_found : AreRowids rows → AreNumbered (db tree) × OnceEach (db tree)
-  ids_found it =
-      let ids = it.ids in
-      let back = pull_back id_shown _ rows ids_moved (db tree) refl in
-      let rs = back.0 in
-      let cells : map (λ r. column r 0) rs ≡ map cell_of ids =
-      sym (map-map (λ (r : Row). column r 0) id_shown rs) ∙ ap (map (λ r. column r 0)) (sym back.2 ∙ it.rows_are) ∙ map-map (λ (r : Row). column r 0) id_cells ids in
-      let rising : IsAscending (λ u v. value_cmp u v ≡ Less) (map cell_of ids) = ascending-map _ cell_of ids (ascending_weaker _ (λ (x y : Integer). value_cmp (cell_of x) (cell_of y) ≡ Less) (λ x y. id_less x.value y.value) ids it.rising) in
-      let table : IsTable rs = ascending_from_map (λ u v. value_cmp u v ≡ Less) (λ (r : Row). column r 0) rs (subst (IsAscending (λ u v. value_cmp u v ≡ Less)) (sym cells) rising) in
-      let moved = IsPermutation-sym (db tree) rs back.1 in
-      let apart = once rs table in
-      (all-permutation (λ r. IsTrue (is_int (rowid r))) rs (db tree) moved (ints_are rs ids cells), λ x y j k. apart x y (has_moved (db tree) rs x back.1 j) (has_moved (db tree) rs y back.1 k))
+  ids_found = ids_apart (db tree) rows ids_moved
 
   equal_is : (o : Ordering) → is_eq o ≡ true → o ≡ Equal
   equal_is Less h = absurd (cc)

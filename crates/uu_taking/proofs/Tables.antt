@@ -31,7 +31,7 @@ use Rattle.uu_rows.proofs.Back.{same_all}
 use Rattle.uu_taking.proofs.Rowids.{ids_found, ids_held}
 
 -- the columns at some places, as a query shows them
-at_columns : (places : List ℕ) (params r : Row) → eval_all (at_places places) (params ∷ r ∷ []) ≡ columns places r
+pub at_columns : (places : List ℕ) (params r : Row) → eval_all (at_places places) (params ∷ r ∷ []) ≡ columns places r
 at_columns [] params r = refl
 at_columns (n ∷ places) params r = ap (λ l. column r n ∷ l) (at_columns places params r)
 

@@ -9,23 +9,22 @@ use Rattle.sqlite.specs.State as db
 use Rattle.uu_sql.specs.Steps.{Stands}
 use Rattle.uu_sql.proofs.Asks.{Means}
 use Rattle.uu_sql.proofs.Answers.{answer_of}
-use Rattle.uu_core.specs.declared.job.JobHead.{JobHead}
 use Rattle.uu_tables.specs.declared.rows.SystemColumns.{SystemColumns}
 use Rattle.uu_tables.specs.declared.rows.LineColumns.{LineColumns}
 use Rattle.uu_tables.specs.declared.rows.RangeColumns.{RangeColumns}
 use Rattle.uu_tables.specs.declared.rows.EntryColumns.{EntryColumns}
-use Rattle.uu_schema.specs.Schema.{site, systems, lines, ranges, jobs, entries}
-use Rattle.uu_schema.specs.Held.{system_key, line_key, range_key, job_key, entry_key, system_places, line_places, range_places, job_places, entry_places}
-use Rattle.uu_schema.specs.Cells.{system_cells, line_cells, range_cells, job_cells, entry_cells}
-use Rattle.uu_rows.specs.Readable.{IsSystem, IsLine, IsRange, IsHead, IsEntry}
-use Rattle.uu_rows.specs.Order.{system_cmp, line_cmp, range_cmp, head_cmp, entry_cmp}
+use Rattle.uu_schema.specs.Schema.{site, systems, lines, ranges, entries}
+use Rattle.uu_schema.specs.Held.{system_key, line_key, range_key, entry_key, system_places, line_places, range_places, entry_places}
+use Rattle.uu_schema.specs.Cells.{system_cells, line_cells, range_cells, entry_cells}
+use Rattle.uu_rows.specs.Readable.{IsSystem, IsLine, IsRange, IsEntry}
+use Rattle.uu_rows.specs.Order.{system_cmp, line_cmp, range_cmp, entry_cmp}
 use Rattle.uu_rows.specs.Texts.{systems_text, lines_text, ranges_text}
-use Rattle.uu_taking.specs.Texts.{heads_text, entries_text, system_rowids_text, line_rowids_text, range_rowids_text, job_rowids_text, entry_rowids_text}
+use Rattle.uu_taking.specs.Texts.{entries_text, system_rowids_text, line_rowids_text, range_rowids_text, entry_rowids_text}
 use Rattle.uu_taking.specs.Taking.{Finds, IsRead}
 use Rattle.uu_rows.proofs.Meanings.{by_places, systems_means, lines_means, ranges_means}
-use Rattle.uu_taking.proofs.Meanings.{rowids_of, heads_means, entries_means, system_rowids_means, line_rowids_means, range_rowids_means, job_rowids_means, entry_rowids_means}
-use Rattle.uu_rows.proofs.Back.{text_back, number_back, system_back, system_returns, line_back, line_returns, range_back, range_returns, head_back, head_returns, entry_back, entry_returns}
-use Rattle.uu_rows.proofs.InTables.{systems_are, lines_are, ranges_are, heads_are, entries_are, all_pass}
+use Rattle.uu_taking.proofs.Meanings.{rowids_of, entries_means, system_rowids_means, line_rowids_means, range_rowids_means, entry_rowids_means}
+use Rattle.uu_rows.proofs.Back.{text_back, number_back, system_back, system_returns, line_back, line_returns, range_back, range_returns, entry_back, entry_returns}
+use Rattle.uu_rows.proofs.InTables.{systems_are, lines_are, ranges_are, entries_are, all_pass}
 use Rattle.uu_taking.proofs.Tables.{finds}
 
 module _ (a b c : db.State) (rows ids : List Row) (stands : Stands site a.now) (same : b.now ≡ a.now) where
@@ -53,13 +52,6 @@ module _ (a b c : db.State) (rows ids : List Row) (stands : Stands site a.now) (
       finds range_key range_cells range_places IsRange range_cmp range_back (λ x good. range_returns x) (λ x y e. ap (λ (r : Row). (text_back (column r 0), number_back (column r 1), number_back (column r 2))) e) ranges.tree (by_places (1 ∷ 2 ∷ 3 ∷ [])) a.now.trees refl rows ids
       (answer_of site ranges_text _ _ [] a b ranges_means stands.schema rows h) (ids_answer ranges.tree range_rowids_text _ range_rowids_means k)
       (λ xs held rise. ranges_are a b rows stands.schema ranges_text _ [] [] h ranges_means (λ r. refl) xs held rise (λ x. true) (λ x. refl) ∙ ap (map range_cells) (all_pass xs)) found read
-
-  pub heads_taken : db.Shown heads_text [] a b rows → db.Shown job_rowids_text [] b c ids → (found : Option (Vec JobHead Global)) → IsRead job_cells IsHead rows ids found
-      → Finds job_key job_cells job_places IsHead head_cmp (a.now.trees jobs.tree) found
-  heads_taken h k found read =
-      finds job_key job_cells job_places IsHead head_cmp head_back (head_returns) (λ x y e. ap (λ (r : Row). number_back (column r 0)) e) jobs.tree (by_places (0 ∷ [])) a.now.trees refl rows ids
-      (answer_of site heads_text _ _ [] a b heads_means stands.schema rows h) (ids_answer jobs.tree job_rowids_text _ job_rowids_means k)
-      (λ xs held rise. heads_are a b rows stands.schema heads_text _ [] [] h heads_means (λ r. refl) xs held rise (λ x. true) (λ x. refl) ∙ ap (map job_cells) (all_pass xs)) found read
 
   pub entries_taken : db.Shown entries_text [] a b rows → db.Shown entry_rowids_text [] b c ids → (found : Option (Vec EntryColumns Global)) → IsRead entry_cells IsEntry rows ids found
       → Finds entry_key entry_cells entry_places IsEntry entry_cmp (a.now.trees entries.tree) found

@@ -1,5 +1,5 @@
 -- What the questions on every row of a table answer, when a database is looked at as a spool.
-use Rattle.std.specs.Prelude.{◌≡◌, ◌<ℤ◌, ℕ, pos, Bool, true, false, List, [], ◌∷◌, Vec, Option, map, Result, IfOk, OnOk, IfSome, MatchOption}
+use Rattle.std.specs.Prelude.{◌≡◌, ◌<◌, ◌<ℤ◌, ℕ, pos, Bool, true, false, List, [], ◌∷◌, Vec, Option, map, Result, IfOk, OnOk, IfSome, MatchOption}
 use Rattle.std.specs.declared.alloc.Global.{Global}
 use Rattle.std.specs.declared.cmp.Ordering.{Ordering}
 use Rattle.std.specs.declared.cmp.Ordering.TheVariants.{Less}
@@ -17,8 +17,9 @@ use Rattle.uu_tables.specs.Tables.{Piece, size_of}
 use Rattle.uu_schema.specs.Schema.{site}
 use Rattle.uu_schema.specs.Made.{version}
 use Rattle.uu_schema.specs.Held.{piece_key, piece_places}
-use Rattle.uu_schema.specs.Cells.{piece_cells}
-use Rattle.uu_rows.specs.Readable.{IsSize}
+use Rattle.uu_core.specs.declared.job.JobHead.{JobHead}
+use Rattle.uu_schema.specs.Cells.{job_cells, piece_cells}
+use Rattle.uu_rows.specs.Readable.{IsHead, IsSize}
 use Rattle.uu_rows.specs.Order.{piece_cmp}
 use Rattle.uu_schema.specs.Keyed.{Keyed, columns}
 use Rattle.uu_taking.specs.declared.integer.Integer.{Integer}
@@ -74,6 +75,16 @@ pub record AreRead {X : Type 0} (cells : X → Row) (IsReadable : X → Type 0) 
 
 abbrev pub IsRead : {X : Type 0} → (X → Row) → (X → Type 0) → List Row → List Row → Option (Vec X Global) → Type 0
 IsRead cells IsReadable rows ids found = MatchOption found ((all : List _) → ¬ AreRead cells IsReadable rows ids all) (λ all. AreRead cells IsReadable rows ids all.items)
+
+-- each number is below those behind it
+abbrev pub AreNumbersRising : List JobHead → Type 0
+AreNumbersRising = IsAscending (λ (a b : JobHead). a.number < b.number)
+
+-- the rows are those of these heads, whose numbers rise
+pub record AreHeads (rows : List Row) (all : List JobHead) : Type 0 where
+  pub rows_are : rows ≡ map job_cells all
+  pub readable : AllByRecursion IsHead all
+  pub rising : AreNumbersRising all
 
 -- what the question on the table `spool` shows of its one row
 abbrev pub spool_cells : ℕ → Row

@@ -32,9 +32,6 @@ line_rowids_text = codes "SELECT rowid FROM lines ORDER BY rowid"
 abbrev pub range_rowids_text : List ℕ
 range_rowids_text = codes "SELECT rowid FROM ranges ORDER BY rowid"
 
-abbrev pub job_rowids_text : List ℕ
-job_rowids_text = codes "SELECT rowid FROM jobs ORDER BY rowid"
-
 abbrev pub piece_rowids_text : List ℕ
 piece_rowids_text = codes "SELECT rowid FROM pieces ORDER BY rowid"
 

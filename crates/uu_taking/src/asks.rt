@@ -1,7 +1,7 @@
 // The questions in SQL on every row of a table, one a function.
 ghost use Rattle.std.specs.Prelude.{◌≡◌, false, []};
 ghost use Rattle.sqlite.specs.Held.{state};
-ghost use Rattle.uu_taking.specs.Texts.{version_text, spool_text, heads_text, sizes_text, entries_text, system_rowids_text, line_rowids_text, range_rowids_text, job_rowids_text, piece_rowids_text, entry_rowids_text};
+ghost use Rattle.uu_taking.specs.Texts.{version_text, spool_text, heads_text, sizes_text, entries_text, system_rowids_text, line_rowids_text, range_rowids_text, piece_rowids_text, entry_rowids_text};
 ghost use Rattle.uu_rows.specs.Shows.{Shows};
 
 use sqlite::{Alter, Connection, Error, Row};
@@ -74,14 +74,6 @@ pub(crate) fn ask_range_rowids<S: Alter>(conn: &mut Connection<S>) -> Result<Vec
     ensures shows { Shows range_rowids_text [] (state S.Store conn.old) (state S.Store conn.new) result }
 {
     conn.query_all("SELECT rowid FROM ranges ORDER BY rowid", &[])
-}
-
-/// The rowids of the jobs, from the least on.
-pub(crate) fn ask_job_rowids<S: Alter>(conn: &mut Connection<S>) -> Result<Vec<Row>, Error>
-    ensures idle { conn.old.in_transaction ≡ false → conn.new.in_transaction ≡ false }
-    ensures shows { Shows job_rowids_text [] (state S.Store conn.old) (state S.Store conn.new) result }
-{
-    conn.query_all("SELECT rowid FROM jobs ORDER BY rowid", &[])
 }
 
 /// The rowids of the pieces, from the least on.

@@ -4,11 +4,13 @@
 #![tactic(auto)]
 
 mod asks;
+mod heads;
 mod integer;
 mod spool;
 mod taking;
 mod version;
 
+pub use heads::take_heads;
 pub use spool::take_next;
-pub use taking::{take_entries, take_heads, take_lines, take_ranges, take_sizes, take_systems};
+pub use taking::{take_entries, take_lines, take_ranges, take_sizes, take_systems};
 pub use version::names_later;

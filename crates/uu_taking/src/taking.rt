@@ -4,21 +4,20 @@ ghost use Rattle.std.specs.List.{AllByRecursion};
 ghost use Rattle.sqlite.specs.declared.error.Error.TheVariants.{SqliteFailure};
 ghost use Rattle.sqlite.specs.declared.error.ErrorCode.TheVariants.{OutOfMemory};
 ghost use Rattle.sqlite.specs.Held.{state};
-ghost use Rattle.uu_schema.specs.Schema.{systems, lines, ranges, jobs, pieces, entries};
-ghost use Rattle.uu_schema.specs.Held.{system_key, line_key, range_key, job_key, entry_key, system_places, line_places, range_places, job_places, entry_places};
-ghost use Rattle.uu_schema.specs.Cells.{system_cells, line_cells, range_cells, job_cells, entry_cells};
-ghost use Rattle.uu_rows.specs.Readable.{IsSystem, IsLine, IsRange, IsHead, IsEntry};
-ghost use Rattle.uu_rows.specs.Order.{system_cmp, line_cmp, range_cmp, head_cmp, entry_cmp};
+ghost use Rattle.uu_schema.specs.Schema.{systems, lines, ranges, pieces, entries};
+ghost use Rattle.uu_schema.specs.Held.{system_key, line_key, range_key, entry_key, system_places, line_places, range_places, entry_places};
+ghost use Rattle.uu_schema.specs.Cells.{system_cells, line_cells, range_cells, entry_cells};
+ghost use Rattle.uu_rows.specs.Readable.{IsSystem, IsLine, IsRange, IsEntry};
+ghost use Rattle.uu_rows.specs.Order.{system_cmp, line_cmp, range_cmp, entry_cmp};
 ghost use Rattle.uu_taking.specs.Taking.{Rise, AreRowids, IsRead, Finds, FindsSizes, Takes};
 
 use crate::asks::{
-    ask_entries, ask_entry_rowids, ask_heads, ask_job_rowids, ask_line_rowids, ask_piece_rowids,
-    ask_range_rowids, ask_sizes, ask_system_rowids,
+    ask_entries, ask_entry_rowids, ask_line_rowids, ask_piece_rowids, ask_range_rowids, ask_sizes,
+    ask_system_rowids,
 };
 use crate::integer::Integer;
 use sqlite::{Alter, Connection, Error, Row};
 use std::alloc::Global;
-use uu_core::JobHead;
 use uu_rows::{RowFault, TypedRow, ask_lines, ask_ranges, ask_systems, read_all};
 use uu_tables::{EntryColumns, LineColumns, PieceSize, RangeColumns, SystemColumns};
 
@@ -123,19 +122,6 @@ pub fn take_entries<S: Alter>(
 {
     let rows = ask_entries(conn)?;
     let ids = ask_entry_rowids(conn)?;
-    found(alloc, &rows, &ids)
-}
-
-/// The jobs without their bytes, by number. None, where the rows of the table are not such rows.
-pub fn take_heads<S: Alter>(
-    alloc: Global,
-    conn: &mut Connection<S>,
-) -> Result<Option<Vec<JobHead>>, Error>
-    ensures idle { conn.old.in_transaction ≡ false → conn.new.in_transaction ≡ false }
-    ensures takes { Takes (λ trees found. Finds job_key job_cells job_places IsHead head_cmp (trees jobs.tree) found) (state S.Store conn.old) (state S.Store conn.new) result }
-{
-    let rows = ask_heads(conn)?;
-    let ids = ask_job_rowids(conn)?;
     found(alloc, &rows, &ids)
 }
 

@@ -1,0 +1,14 @@
+use Rattle.std.proofs.lemmas.Result.{IfOk-weaker}
+use Rattle.sqlite.specs.Held.{state}
+use Rattle.uu_taking.specs.Texts.{heads_text}
+use Rattle.uu_rows.proofs.Showing.{answered}
+use Rattle.uu_taking.proofs.Tables.{took_one}
+use Rattle.uu_taking.proofs.TakenHeads.{heads_taken}
+use Rattle.uu_taking.proofs.heads.take_heads.Goals as goal
+
+pub returns-clause-takes : goal.returns-clause-takes
+returns-clause-takes g c =
+    let a = state g.S.Store c.args.conn.now in
+    let b = state g.S.Store c.ask_heads.new.conn in
+    took_one _ heads_text a b c.ask_heads.result c.found.result (answered _ _ c.in_ok-rows.was) c.ask_heads.ensures.shows
+    (λ clean stands. IfOk-weaker c.found.result _ _ (λ found read. heads_taken a b c.in_ok-rows.rows.items stands (c.in_ok-rows.ensures.shows.rows clean) found (rw c.deref.ensures.value at read)) c.found.ensures.read)
