@@ -7,3 +7,4 @@ pub mod Later
 pub mod Sound
 pub mod SpoolRow
 pub mod Sizes
+pub mod TakenPieces

@@ -8,7 +8,7 @@ use Rattle.sqlite.specs.Listing.{understood}
 use Rattle.uu_sql.proofs.Asks.{Means, ordered}
 use Rattle.uu_schema.specs.Schema.{site, spool, systems, lines, ranges, jobs, pieces, entries}
 use Rattle.uu_rows.proofs.Meanings.{at_places, by_places, is_first, head_names}
-use Rattle.uu_taking.specs.Texts.{version_text, spool_text, heads_text, sizes_text, entries_text, system_rowids_text, line_rowids_text, range_rowids_text, piece_rowids_text, entry_rowids_text}
+use Rattle.uu_taking.specs.Texts.{version_text, spool_text, heads_text, sizes_text, numbered_sizes_text, entries_text, system_rowids_text, line_rowids_text, range_rowids_text, piece_rowids_text, entry_rowids_text}
 
 -- ---- every row of a table
 
@@ -30,6 +30,13 @@ size_terms = col 1 1 ∷ col 1 2 ∷ op1 Length (col 1 3) ∷ []
 pub sizes_means : Means site sizes_text (ordered pieces.tree [] size_terms (by_places (1 ∷ 2 ∷ []))) (codes "job" ∷ codes "place" ∷ codes "length(bytes)" ∷ [])
 unfolding understood everything
 sizes_means = record { command = refl; plain = (refl, refl); listing = refl }
+
+abbrev pub numbered_terms : List Term
+numbered_terms = col 1 0 ∷ size_terms
+
+pub numbered_sizes_means : Means site numbered_sizes_text (ordered pieces.tree [] numbered_terms (by_places (0 ∷ []))) (codes "rowid" ∷ codes "job" ∷ codes "place" ∷ codes "length(bytes)" ∷ [])
+unfolding understood everything
+numbered_sizes_means = record { command = refl; plain = (refl, refl); listing = refl }
 
 pub entries_means : Means site entries_text (ordered entries.tree [] (at_places (1 ∷ 2 ∷ [])) (by_places (1 ∷ []))) (codes "host" ∷ codes "bytes" ∷ [])
 unfolding understood everything

@@ -47,7 +47,7 @@ rise (id ∷ ids) = rise_from id.value ids
 int_lower : (a b : ℤ) → a <ℤ b → int_lt a b ≡ true
 int_lower a b h = grind (arith, ints)
 
-int_is_lower : (a b : ℤ) → int_lt a b ≡ true → a <ℤ b
+pub int_is_lower : (a b : ℤ) → int_lt a b ≡ true → a <ℤ b
 int_is_lower a b h = grind (arith, ints)
 
 abbrev Below : Integer → Integer → Type 0

@@ -42,7 +42,7 @@ use Rattle.uu_taking.proofs.Sound.{HasBytes, piece_rows_are}
 use Rattle.uu_taking.proofs.TakenTables.{ids_answer}
 
 -- what the question shows of a row
-abbrev size_shown : Row → Row
+abbrev pub size_shown : Row → Row
 size_shown r = column r 1 ∷ column r 2 ∷ length_of (column r 3) ∷ []
 
 shows_size : (r : Row) → eval_all size_terms ([] ∷ r ∷ []) ≡ size_shown r
@@ -50,7 +50,7 @@ unfolding unary
 shows_size r = refl
 
 -- a row that shows a size is that of a piece
-piece_of : Row → Piece
+pub piece_of : Row → Piece
 piece_of r = record { job = number_back (column r 1); place = number_back (column r 2); bytes = text_back (column r 3) }
 
 row_is : (r : Row) (s : PieceSize) → HasBytes r → size_shown r ≡ size_cells s → (columns piece_places r ≡ piece_cells (piece_of r)) × (size_of (piece_of r) ≡ s)
@@ -64,11 +64,11 @@ row_is r s it shown =
       (λ i. record { job = number_back (job i); place = number_back (place i); length = number_back ((sym long ∙ size) i) }),
     )
 
-record Built (rs : List Row) (all : List PieceSize) : Type 0 where
-  rows : map piece_cells (map piece_of rs) ≡ map (columns piece_places) rs
-  sizes : map size_of (map piece_of rs) ≡ all
+pub record Built (rs : List Row) (all : List PieceSize) : Type 0 where
+  pub rows : map piece_cells (map piece_of rs) ≡ map (columns piece_places) rs
+  pub sizes : map size_of (map piece_of rs) ≡ all
 
-built : (rs : List Row) (all : List PieceSize) → AllByRecursion HasBytes rs → map size_shown rs ≡ map size_cells all → Built rs all
+pub built : (rs : List Row) (all : List PieceSize) → AllByRecursion HasBytes rs → map size_shown rs ≡ map size_cells all → Built rs all
 built [] [] typed h = record { rows = refl; sizes = refl }
 built [] (x ∷ all) typed h = absurd (cc)
 built (r ∷ rs) [] typed h = absurd (cc)

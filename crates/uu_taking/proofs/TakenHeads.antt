@@ -1,5 +1,5 @@
 -- What the question on the heads of the jobs says of their table, both ways. A job's number is its rowid.
-use Rattle.std.proofs.Common.{◌≡◌, ◌<◌, ℕ, pos, Bool, true, false, ◌&&◌, List, [], ◌∷◌, map, refl, sym, ap, subst, ◌∙◌, arith, Less, Option, Some, None, Vec}
+use Rattle.std.proofs.Common.{◌≡◌, ◌<◌, ℕ, pos, Bool, true, ◌&&◌, List, [], ◌∷◌, map, refl, sym, ap, subst, ◌∙◌, arith, Less, Option, Some, None, Vec}
 use Rattle.std.specs.Prelude.{◌↔◌, ◌<ℤ◌, IsTrue, nat_lt, MatchOption}
 use Rattle.std.specs.declared.alloc.Global.{Global}
 use Rattle.std.specs.List.{AllByRecursion}
@@ -8,7 +8,7 @@ use Rattle.std.proofs.lemmas.Bool.{and_parts}
 use Rattle.std.proofs.lemmas.Bool.Decides.{nat_tests}
 use Rattle.std.proofs.lemmas.Int.{ints}
 use Rattle.std.proofs.lemmas.List.Sorted.{IsPermutation-sym, IsPermutation-map}
-use Rattle.sqlite.specs.Order.{Row, column}
+use Rattle.sqlite.specs.Order.{Row}
 use Rattle.sqlite.specs.Tree.{IsAscending}
 use Rattle.sqlite.specs.Term.{eval_all}
 use Rattle.sqlite.specs.State as db
@@ -123,6 +123,6 @@ module _ (a b : db.State) (rows : List Row) (stands : Stands site a.now) (h : db
   }
   heads_taken (Some all) it = record {
     all = (let apart = ids_apart table (map id_shown rows) ids_moved (ids_of rows all.items it) in
-      (record { same = IsPermutation-sym _ _ (subst (IsPermutation (map (columns job_places) table)) it.rows_are moved); numbered = apart.0; once = apart.1 }, it.readable));
+        (record { same = IsPermutation-sym _ _ (subst (IsPermutation (map (columns job_places) table)) it.rows_are moved); numbered = apart.0; once = apart.1 }, it.readable));
     only = λ xs good keyed. same_heads rows xs all.items good.readable (rows_only xs keyed.same good.rise) it;
   }

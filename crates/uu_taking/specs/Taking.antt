@@ -1,5 +1,5 @@
 -- What the questions on every row of a table answer, when a database is looked at as a spool.
-use Rattle.std.specs.Prelude.{◌≡◌, ◌<◌, ◌<ℤ◌, ℕ, pos, Bool, true, false, List, [], ◌∷◌, Vec, Option, map, Result, IfOk, OnOk, IfSome, MatchOption}
+use Rattle.std.specs.Prelude.{◌≡◌, ◌<◌, ◌<ℤ◌, ℕ, pos, nat_lt, int_lt, Bool, true, false, ◌==◌, ◌&&◌, ◌||◌, List, [], ◌∷◌, Vec, Option, map, Result, IfOk, OnOk, IfSome, MatchOption}
 use Rattle.std.specs.declared.alloc.Global.{Global}
 use Rattle.std.specs.declared.cmp.Ordering.{Ordering}
 use Rattle.std.specs.declared.cmp.Ordering.TheVariants.{Less}
@@ -19,10 +19,11 @@ use Rattle.uu_schema.specs.Made.{version}
 use Rattle.uu_schema.specs.Held.{piece_key, piece_places}
 use Rattle.uu_core.specs.declared.job.JobHead.{JobHead}
 use Rattle.uu_schema.specs.Cells.{job_cells, piece_cells}
-use Rattle.uu_rows.specs.Readable.{IsHead, IsSize}
-use Rattle.uu_rows.specs.Order.{piece_cmp}
+use Rattle.uu_rows.specs.Readable.{IsHead, IsSize, size_cells}
+use Rattle.uu_rows.specs.Order.{piece_cmp, size_cmp}
 use Rattle.uu_schema.specs.Keyed.{Keyed, columns}
 use Rattle.uu_taking.specs.declared.integer.Integer.{Integer}
+use Rattle.uu_taking.specs.declared.pieces.NumberedSize.{NumberedSize}
 
 -- ---- rowids that rise
 
@@ -91,6 +92,26 @@ abbrev pub spool_cells : ℕ → Row
 spool_cells next = Int (pos 1) ∷ Int (pos version) ∷ Int (pos next) ∷ []
 
 -- ---- pieces: of each the number of its bytes is asked, and its bytes stay where they are
+
+-- the rowid of a piece, and its size
+abbrev pub numbered_cells : NumberedSize → Row
+numbered_cells numbered = Int numbered.rowid.value ∷ size_cells numbered.size
+
+-- the second has a higher rowid, and a later job or a later place in the same job
+abbrev pub comes_before : NumberedSize → NumberedSize → Bool
+comes_before a b = int_lt a.rowid.value b.rowid.value && (nat_lt a.size.job b.size.job || ((a.size.job == b.size.job) && nat_lt a.size.place b.size.place))
+
+pub record IsBefore (a b : NumberedSize) : Type 0 where
+  pub higher : a.rowid.value <ℤ b.rowid.value
+  pub later : size_cmp a.size b.size ≡ Less
+
+-- the rows are those of these sizes, and rise by rowid as by job and place
+pub record AreNumberedSizes (rows : List Row) (all : List PieceSize) : Type 0 where
+  pub numbered : List NumberedSize
+  pub rows_are : rows ≡ map numbered_cells numbered
+  pub readable : AllByRecursion (λ n. IsSize n.size) numbered
+  pub rising : IsAscending IsBefore numbered
+  pub sizes_are : all ≡ map (λ n. n.size) numbered
 
 -- Exactly the sizes of the pieces that the table holds are found, whatever the bytes.
 pub record FindsSizes (rows : List Row) (found : Option (Vec PieceSize Global)) : Type 0 where

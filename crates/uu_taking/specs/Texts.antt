@@ -18,6 +18,10 @@ heads_text = codes "SELECT number, system, rank, user, kind, queued, first_word,
 abbrev pub sizes_text : List ℕ
 sizes_text = codes "SELECT job, place, length(bytes) FROM pieces ORDER BY job, place"
 
+-- the same with the rowid, in its order
+abbrev pub numbered_sizes_text : List ℕ
+numbered_sizes_text = codes "SELECT rowid, job, place, length(bytes) FROM pieces ORDER BY rowid"
+
 abbrev pub entries_text : List ℕ
 entries_text = codes "SELECT host, bytes FROM entries ORDER BY host"
 

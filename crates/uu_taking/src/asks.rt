@@ -1,7 +1,7 @@
 // The questions in SQL on every row of a table, one a function.
 ghost use Rattle.std.specs.Prelude.{◌≡◌, false, []};
 ghost use Rattle.sqlite.specs.Held.{state};
-ghost use Rattle.uu_taking.specs.Texts.{version_text, spool_text, heads_text, sizes_text, entries_text, system_rowids_text, line_rowids_text, range_rowids_text, piece_rowids_text, entry_rowids_text};
+ghost use Rattle.uu_taking.specs.Texts.{version_text, spool_text, heads_text, sizes_text, numbered_sizes_text, entries_text, system_rowids_text, line_rowids_text, range_rowids_text, piece_rowids_text, entry_rowids_text};
 ghost use Rattle.uu_rows.specs.Shows.{Shows};
 
 use sqlite::{Alter, Connection, Error, Row};
@@ -40,6 +40,17 @@ pub(crate) fn ask_sizes<S: Alter>(conn: &mut Connection<S>) -> Result<Vec<Row>, 
 {
     conn.query_all(
         "SELECT job, place, length(bytes) FROM pieces ORDER BY job, place",
+        &[],
+    )
+}
+
+/// The rowid of every piece and the number of its bytes, from the least rowid on.
+pub(crate) fn ask_numbered_sizes<S: Alter>(conn: &mut Connection<S>) -> Result<Vec<Row>, Error>
+    ensures idle { conn.old.in_transaction ≡ false → conn.new.in_transaction ≡ false }
+    ensures shows { Shows numbered_sizes_text [] (state S.Store conn.old) (state S.Store conn.new) result }
+{
+    conn.query_all(
+        "SELECT rowid, job, place, length(bytes) FROM pieces ORDER BY rowid",
         &[],
     )
 }

@@ -6,11 +6,13 @@
 mod asks;
 mod heads;
 mod integer;
+mod pieces;
 mod spool;
 mod taking;
 mod version;
 
 pub use heads::take_heads;
+pub use pieces::take_sizes;
 pub use spool::take_next;
-pub use taking::{take_entries, take_lines, take_ranges, take_sizes, take_systems};
+pub use taking::{take_entries, take_lines, take_ranges, take_systems};
 pub use version::names_later;

@@ -127,7 +127,7 @@ pub fn take_entries<S: Alter>(
 
 /// Of each piece its job, its place and the number of its bytes, by job and place; no byte is read. None, where the rows of the
 /// table are not such rows, or have rowids that do not tell them apart.
-pub fn take_sizes<S: Alter>(
+pub(crate) fn take_sizes_in_any_order<S: Alter>(
     alloc: Global,
     conn: &mut Connection<S>,
 ) -> Result<Option<Vec<PieceSize>>, Error>

@@ -1,4 +1,4 @@
-use Rattle.std.proofs.Common.{◌≡◌, true, false, true≢false, sym, subst, ◌∙◌}
+use Rattle.std.proofs.Common.{◌≡◌, false, true≢false, sym, subst, ◌∙◌}
 use Rattle.uu_schema.specs.Cells.{job_cells}
 use Rattle.uu_rows.specs.Readable.{IsHead}
 use Rattle.uu_rows.proofs.Back.{same_all, head_back, head_returns}

@@ -4,7 +4,7 @@ use Rattle.uu_taking.specs.Texts.{sizes_text, piece_rowids_text}
 use Rattle.uu_rows.proofs.Showing.{answered}
 use Rattle.uu_taking.proofs.Tables.{took}
 use Rattle.uu_taking.proofs.Sizes.{sizes_taken}
-use Rattle.uu_taking.proofs.taking.take_sizes.Goals as goal
+use Rattle.uu_taking.proofs.taking.take_sizes_in_any_order.Goals as goal
 
 pub returns-clause-takes : goal.returns-clause-takes
 returns-clause-takes g c =
