@@ -1,5 +1,5 @@
-//! What only a call can show of the program's parts together: readers and writers that fail, the numbers of faults, and a
-//! database that is handed over. What a line prints stands in the transcripts.
+//! What only a call can show of the program's parts together: readers and writers that fail, the numbers of faults, a
+//! database that is handed over, and reports of rows that are handed in. What a line prints stands in the transcripts.
 #![tactic(auto)]
 
 #[cfg(test)]
@@ -10,5 +10,7 @@ mod handing_over;
 mod input;
 #[cfg(test)]
 mod output;
+#[cfg(test)]
+mod reports;
 #[cfg(test)]
 mod support;

@@ -19,6 +19,11 @@ pub(crate) fn fresh_spool(rt: &impl Abort, alloc: Global) -> Spool<MemStore> {
     }
 }
 
+/// The settings of every line.
+pub(crate) fn settings(rt: &impl Abort, alloc: Global) -> Settings {
+    Settings::read(alloc, SETTINGS).expect(rt, "settings")
+}
+
 fn words_of(rt: &impl Abort, alloc: Global, line: &str) -> Vec<String> {
     let mut words = Vec::new(alloc);
     for word in line.split(' ') {
@@ -38,8 +43,7 @@ pub(crate) fn serve_into<S: Alter, W: Write>(
     out: &mut W,
 ) -> Result<u8, Fault> {
     let words = words_of(rt, alloc, line);
-    let settings = Settings::read(alloc, SETTINGS).expect(rt, "settings");
-    serve(alloc, &words, &settings, NOW, input, spool, out)
+    serve(alloc, &words, &settings(rt, alloc), NOW, input, spool, out)
 }
 
 /// Runs a line that has to be done, with this output.
