@@ -1,11 +1,11 @@
 -- Taking a database as a spool, as the beginning of a stretch.
-use Rattle.std.proofs.Common.{◌≡◌, false, inl, inr, ℕ, List, [], Option, Result, Ok, sym, ap, subst, ◌∙◌}
+use Rattle.std.proofs.Common.{◌≡◌, false, inl, inr, ℕ, List, Option, Result, Ok, refl, sym, ap, subst, ◌∙◌}
 use Rattle.std.proofs.Math.Logic.{∥∥₁_map}
 use Rattle.sqlite.specs.Effect.{Database}
 use Rattle.sqlite.specs.Store.{Ghosts}
 use Rattle.sqlite.specs.Held.{Held, state}
 use Rattle.sqlite.specs.State as db
-use Rattle.sqlite.specs.View.{IsClean, IsQuiet}
+use Rattle.sqlite.specs.View.{IsClean}
 use Rattle.sqlite_catalog.specs.Listing.{IsSound}
 use Rattle.uu_sql.specs.Steps.{Rests}
 use Rattle.uu_core.specs.declared.command.Command.{Command}
@@ -23,6 +23,8 @@ use Rattle.uu_store.specs.Kept.{Stores, KeepsOnly}
 use Rattle.uu_store.specs.Spool.{connection_of, has_failed, Shows}
 use Rattle.uu_store.specs.Runs.{Ran}
 use Rattle.uu_store.specs.Stretches.{Adopted, TurnedAway, IsLetGo, Passed, StoresAfter, StretchOver, Led, stretch, told}
+use Rattle.uu_store.specs.Exchanges.{exchange_of, not_given}
+use Rattle.uu_store.specs.Openings.{IsNotTaken}
 use Rattle.uu_store.specs.Acknowledged.{IsAcknowledged, StoresJob}
 use Rattle.uu_store.specs.Remembered.{Remembers}
 use Rattle.uu_store.proofs.Ending.{Settles, leaves, shows_again, clean_before}
@@ -64,15 +66,13 @@ rests_leaves s a settles rests (inr none) trees may =
 
 -- ---- a whole stretch
 
-pub let_go_of : {S : Type 0} (g : Ghosts S) (last stopped : S) → IsQuiet g.view g.faults g.recovers g.is_shielded last stopped → IsLetGo g last stopped
-let_go_of g last stopped quiet = record { left = quiet.outcomes; clean = quiet.clean }
+module _ {S : Type 0} (g : Ghosts S) (opened : Held S) (commands : List Command) (stopped : S) where
+  pub passed_worked : (begun ended : Spool S g) (replies : List Reply) (fault : Option StoreFault) → Adopted opened begun → Ran commands begun ended replies fault → IsLetGo g (connection_of ended).store stopped → IsClean (g.view stopped)
+      → Passed (stretch g opened (exchange_of commands replies fault) stopped)
+  passed_worked begun ended replies fault adopted ran let_go clean = record { work = inl (record { begun = begun; ended = ended; fault = fault; ending = refl; adopted = adopted; ran = ran; let_go = let_go }); clean = clean }
 
-module _ {S : Type 0} (g : Ghosts S) (opened : Held S) (commands : List Command) (replies : List Reply) (stopped : S) where
-  pub passed_worked : (begun ended : Spool S g) (fault : Option StoreFault) → Adopted opened begun → Ran commands begun ended replies fault → IsLetGo g (connection_of ended).store stopped → IsClean (g.view stopped) → Passed (stretch g opened commands replies stopped)
-  passed_worked begun ended fault adopted ran let_go clean = record { work = inl (record { begun = begun; ended = ended; fault = fault; adopted = adopted; ran = ran; let_go = let_go }); clean = clean }
-
-  pub passed_unworked : (last : Held S) → TurnedAway g opened last → replies ≡ [] → IsLetGo g last.store stopped → IsClean (g.view stopped) → Passed (stretch g opened commands replies stopped)
-  passed_unworked last turned_away none let_go clean = record { work = inr (record { last = last; turned_away = turned_away; no_reply = none; let_go = let_go }); clean = clean }
+  pub passed_unworked : (fault : StoreFault) → IsNotTaken g opened stopped fault → IsClean (g.view stopped) → Passed (stretch g opened (not_given commands) stopped)
+  passed_unworked fault away clean = record { work = inr (record { last = away.last; turned_away = away.turned_away; no_reply = refl; ending = refl; let_go = away.let_go }); clean = clean }
 
 -- ---- what is stored is shown
 

@@ -21,7 +21,7 @@ use Rattle.uu_store.specs.declared.spool.Spool.{Spool}
 use Rattle.uu_store.specs.Kept.{Keeps, KeepsEither}
 use Rattle.uu_store.specs.Spool.{connection_of}
 use Rattle.uu_store.specs.Runs.{Ran}
-use Rattle.uu_store.specs.Exchanges.{Exchange, Counts, Passes}
+use Rattle.uu_store.specs.Exchanges.{Exchange, exchange_of, Counts, Passes}
 use Rattle.uu_store.specs.Stretches.{IsLetGo, stretch}
 use Rattle.uu_store.specs.Acknowledged.{IsAcknowledged, IsAccountedFor}
 use Rattle.uu_store.specs.Openings.{ImageKeeps, Started}
@@ -43,18 +43,18 @@ module _ (states : StatesFollow) (answers : RepliesFollow) where
       → IsOverFiles before exchange opened stopped left → ∥ OneCounts exchange s left ∥₁
   over_them before exchange opened stopped left s keeps is =
       let found = found_stores before s (file_state opened) is.found keeps in
-      let l = leaves_two answers (stretch over_files opened exchange.commands exchange.replies stopped) s is.passed found.0 found.1 in
+      let l = leaves_two answers (stretch over_files opened exchange stopped) s is.passed found.0 found.1 in
       ∥∥₁_map (opens_again stopped is.numbered (databases (recovers stopped) (state_after s l.one) (state_after s l.other) l.keeps) left is.may) (λ db. one l db.0 db.2 (l.keeps db.0 db.1))
     where
-      one : (l : LeavesTwo (stretch over_files opened exchange.commands exchange.replies stopped) s) (trees : Trees) → HoldsDatabase left trees → Keeps trees (state_after s l.one) ⊎ Keeps trees (state_after s l.other) → OneCounts exchange s left
+      one : (l : LeavesTwo (stretch over_files opened exchange stopped) s) (trees : Trees) → HoldsDatabase left trees → Keeps trees (state_after s l.one) ⊎ Keeps trees (state_after s l.other) → OneCounts exchange s left
       one l trees held (inl kept) = (l.one, l.counts_one, inl (trees, held, kept))
       one l trees held (inr kept) = (l.other, l.counts_other, inl (trees, held, kept))
 
   ended : (before : Image) (exchange : Exchange) (left : Image) (end : End) (s : State) → ImageKeeps before s → Ended before exchange left end → ∥ OneCounts exchange s left ∥₁
-  ended before exchange left not_started s keeps (no_reply, kept) = ∥∥₁_map (kept s keeps) (λ still. ([], none, still))
+  ended before exchange left not_started s keeps (no_reply, ending, kept) = ∥∥₁_map (kept s keeps) (λ still. ([], none, still))
     where
       none : Counts exchange s []
-      none = record { rest = exchange.commands; prefix = refl; unheard = []; at_most_one = omega arith; answers = ap (λ l. l ++ []) (sym no_reply) }
+      none = record { rest = exchange.commands; prefix = refl; unheard = []; at_most_one = omega arith; settled = λ _. refl; answers = ap (λ l. l ++ []) (sym no_reply) }
   ended before exchange left (let_go D g opened stopped) s keeps is = over_them before exchange opened stopped left s keeps is
 
   pub files_pass : (stretches : List FileStretch) (before : Image) (s : State) → ImageKeeps before s → AllFilesPassed before stretches → ∥ KeepsAfter s stretches (last_left before stretches) ∥₁
@@ -82,12 +82,12 @@ jobs_pass none account stretches before left s new number keeps told after =
 
 module _ {D : Type 0} {g : disk.Ghosts D} (image : Image) (commands : List Command) (begun ended : Spool (FileStore D g) over_files) (replies : List Reply) (fault : Option StoreFault) (stopped : FileStore D g) where
   pub stretch_is : Started image begun → Ran commands begun ended replies fault → IsLetGo over_files (connection_of ended).store stopped → (IsClean (view stopped) → IsTrue (view stopped).is_numbered)
-      → IsStretch image commands replies stopped
+      → IsStretch image (exchange_of commands replies fault) stopped
   stretch_is started ran last numbered = record {
     opened = started.opened;
     passed = λ clean left may. (record {
       found = started.found (omega (arith, started.adopted.clean, ran.clean, last.clean, clean));
-      passed = record { work = inl (record { begun = begun; ended = ended; fault = fault; adopted = started.adopted; ran = ran; let_go = last }); clean = clean };
+      passed = record { work = inl (record { begun = begun; ended = ended; fault = fault; ending = refl; adopted = started.adopted; ran = ran; let_go = last }); clean = clean };
       numbered = numbered clean;
       may = may;
     });

@@ -1,5 +1,5 @@
 -- From what the files of a spool hold to what it shows.
-use Rattle.std.proofs.Common.{◌≡◌, ◌≢◌, inl, inr, [], Option, Some, None, refl, sym, ap, subst, ◌∙◌, arith}
+use Rattle.std.proofs.Common.{◌≡◌, ◌≢◌, ◌⊎◌, inl, inr, [], Option, Some, None, refl, sym, ap, subst, ◌∙◌, arith}
 use Rattle.std.specs.Prelude.{IsTrue, IfSome, length}
 use Rattle.sqlite.specs.Tree.{Trees}
 use Rattle.sqlite.specs.Schema.{Schema}
@@ -10,6 +10,10 @@ use Rattle.sqlite.specs.State as db
 use Rattle.sqlite.specs.Start.{FindsIn}
 use Rattle.sqlite.specs.View.{IsClean}
 use Rattle.sqlite.specs.Files.{file_state, over_files}
+use Rattle.sqlite.specs.declared.file.Leftover.{Leftover}
+use Rattle.sqlite.specs.declared.error.Error.{Error}
+use Rattle.sqlite.specs.declared.error.Error.TheVariants.{SqliteFailure}
+use Rattle.sqlite.specs.declared.error.ErrorCode.TheVariants.{CannotOpen, OutOfMemory, DatabaseBusy}
 use Rattle.sqlite.proofs.ListingLemmas.{empty_is_sound}
 use Rattle.sqlite_wal.specs.Recovery.{Image}
 use Rattle.sqlite_catalog.specs.Listing.{IsSound}
@@ -20,18 +24,23 @@ use Rattle.sqlite_disk.specs.declared.Disk as disk
 use Rattle.sqlite_store.specs.declared.store.FileStore.{FileStore}
 use Rattle.sqlite_store.specs.FileStore.{view}
 use Rattle.sqlite_store.specs.FileStore as store
-use Rattle.sqlite.specs.declared.file.Leftover.TheVariants as left
 use Rattle.uu_sql.specs.Steps.{Rests, Stands}
 use Rattle.uu_core.specs.State.{State, empty}
 use Rattle.uu_schema.specs.Schema.{site, no_schema}
+use Rattle.uu_store.specs.declared.remains.OpenFault.{OpenFault}
+use Rattle.uu_store.specs.declared.remains.Remains.{Remains}
+use Rattle.uu_store.specs.declared.remains.Remains.TheVariants as remains
 use Rattle.uu_store.specs.declared.spool.Spool.{Spool}
 use Rattle.uu_store.specs.Encoded.{Encodes}
 use Rattle.uu_store.specs.Kept.{Keeps, Stores}
 use Rattle.uu_store.specs.Spool.{disk, Shows}
 use Rattle.uu_store.specs.Stretches.{Adopted, TurnedAway}
 use Rattle.uu_schema.specs.declared.fault.StoreFault.{StoreFault}
-use Rattle.uu_schema.specs.declared.fault.StoreFault.TheVariants.{Foreign, Newer}
-use Rattle.uu_store.specs.Openings.{ImageKeeps, IsFound, IsNotTaken, LeavesAsKept}
+use Rattle.uu_schema.specs.declared.fault.StoreFault.TheVariants.{Memory, Store, Failed, Foreign, Newer}
+use Rattle.uu_schema.specs.declared.fault.StoreKind.{StoreKind}
+use Rattle.uu_schema.specs.declared.fault.StoreKind.TheVariants as part
+use Rattle.uu_schema.specs.Faults.{kind_of_error}
+use Rattle.uu_store.specs.Openings.{ImageKeeps, IsFound, IsNamed, IsNotTaken, IsOfNoContents, LeavesAsKept, remains_of, remains_of_opening}
 use Rattle.uu_store.proofs.Images.{unfound, stop_has}
 use Rattle.uu_store.proofs.Reopening.{stores_of}
 
@@ -70,12 +79,12 @@ module _ {S : Type 0} (g : Ghosts S) (image : Image) (opened : Held S) (found : 
 pub not_taken : {S : Type 0} (g : Ghosts S) (was last : Held S) (stopped : S) (fault : StoreFault) → TurnedAway g was last → IsQuiet g.view g.faults g.recovers g.is_shielded last.store stopped
     → (IsClean (g.view stopped) → IsTrue (g.view stopped).is_numbered) → (db.HasCleanDisk (state g last) → (s : State) → Encodes (state g was).now s → (fault ≢ Foreign) × (fault ≢ Newer))
     → (Stands no_schema (state g was).now → (fault ≢ Foreign) × (fault ≢ Newer)) → IsNotTaken g was stopped fault
-not_taken g was last stopped fault away quiet numbered ours welcomed = record {
+not_taken g was last stopped fault away quiet numbered ours of_empty = record {
   last = last;
   turned_away = away;
   let_go = record { left = quiet.outcomes; clean = quiet.clean };
   numbered = numbered;
-  ours = λ clean s stores. elim stores [ inl enc ↦ ours (omega (arith, quiet.clean, clean)) s enc | inr none ↦ welcomed none.0 ];
+  ours = λ clean s stores. elim stores [ inl enc ↦ ours (omega (arith, quiet.clean, clean)) s enc | inr none ↦ of_empty none.0 ];
 }
 
 module _ {D : Type 0} {g : disk.Ghosts D} (image : Image) (opened : Held (FileStore D g)) (found : db.HasCleanDisk (file_state opened) → IsFound image (file_state opened)) (stopped : FileStore D g) (fault : StoreFault)
@@ -93,11 +102,37 @@ module _ {D : Type 0} {g : disk.Ghosts D} (image : Image) (opened : Held (FileSt
       away.turned_away.stop (omega (arith, away.let_go.clean, sure)) s it.0 it.1 trees (away.let_go.left trees may)
 
 pub away_leaves : {D : Type 0} {g : disk.Ghosts D} (image : Image) (opened : Held (FileStore D g)) → (db.HasCleanDisk (file_state opened) → IsFound image (file_state opened)) → (stopped : FileStore D g) (fault : StoreFault)
-    → IsNotTaken over_files opened stopped fault → LeavesAsKept image (left.Store stopped)
-away_leaves image opened found stopped fault away clean taken s keeps left may =
-    stop_has (λ trees. Keeps trees s) (s ≡ empty) (keeps_sound s) (none_fits s) stopped taken (away_keeps image opened found stopped fault away clean s keeps) left may
+    → IsNotTaken over_files opened stopped fault → LeavesAsKept image (remains.Store stopped)
+away_leaves image opened found stopped fault away clean s keeps left may =
+    stop_has (λ trees. Keeps trees s) (s ≡ empty) (keeps_sound s) (none_fits s) stopped (away.numbered (no_doubt (view stopped).is_clean clean)) (away_keeps image opened found stopped fault away clean s keeps) left may
 
 -- ---- where nothing was opened
+
+of_database : (error : Error) → (error ≡ SqliteFailure CannotOpen) ⊎ ((error ≡ SqliteFailure OutOfMemory) ⊎ (error ≡ SqliteFailure DatabaseBusy)) → kind_of_error error ≡ part.Database
+of_database error (inl is) = ap kind_of_error is
+of_database error (inr (inl is)) = ap kind_of_error is
+of_database error (inr (inr is)) = ap kind_of_error is
+
+refused_as : (error : Error) (fault : StoreFault) → (fault ≢ Failed) × IsOfNoContents fault → ((kind : StoreKind) → fault ≡ Store kind → kind ≡ kind_of_error error)
+    → (error ≡ SqliteFailure CannotOpen) ⊎ ((error ≡ SqliteFailure OutOfMemory) ⊎ (error ≡ SqliteFailure DatabaseBusy)) → (fault ≡ Memory) ⊎ (fault ≡ Store part.Database)
+refused_as error Memory named kinds why = inl refl
+refused_as error (Store kind) named kinds why = inr (ap Store (kinds kind refl ∙ of_database error why))
+refused_as error Failed named kinds why = absurd (named.0 refl)
+refused_as error Foreign named kinds why = absurd (named.1.0 refl)
+refused_as error Newer named kinds why = absurd (named.1.1 refl)
+
+module _ {D : Type 0} {g : disk.Ghosts D} (image : Image) where
+  pub left_of_opening : (o : Option (Leftover D g)) → IfSome o (λ it. LeavesAsKept image (remains.Files it)) → LeavesAsKept image (remains_of_opening o)
+  left_of_opening None from = tt
+  left_of_opening (Some it) from = from
+
+  pub named_of_opening : (o : Option (Leftover D g)) (error : Error) (fault : StoreFault) → (fault ≢ Failed) × IsOfNoContents fault → ((kind : StoreKind) → fault ≡ Store kind → kind ≡ kind_of_error error)
+      → (o ≡ None → (error ≡ SqliteFailure CannotOpen) ⊎ ((error ≡ SqliteFailure OutOfMemory) ⊎ (error ≡ SqliteFailure DatabaseBusy))) → IsNamed image fault (remains_of_opening o)
+  named_of_opening None error fault named kinds why = refused_as error fault named kinds (why refl)
+  named_of_opening (Some it) error fault named kinds why = named.1
+
+pub named_as : {D : Type 0} {g : disk.Ghosts D} (image : Image) (it : OpenFault D g) (fault : StoreFault) (left : Remains D g) → it.fault ≡ fault → remains_of it ≡ left → IsNamed image fault left → IsNamed image it.fault (remains_of it)
+named_as image it fault left same there named = subst (λ fault. IsNamed image fault (remains_of it)) (sym same) (subst (IsNamed image fault) (sym there) named)
 
 pub some_weaker : {T : Type 0} {A B : T → Type 0} (o : Option T) → ((x : T) → A x → B x) → IfSome o A → IfSome o B
 some_weaker None from h = tt

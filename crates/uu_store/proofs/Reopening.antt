@@ -1,5 +1,5 @@
 -- What is found after a stop.
-use Rattle.std.proofs.Common.{◌≡◌, ◌⊎◌, ◌≤◌, inl, inr, ℕ, ◌+◌, List, [], ◌∷◌, ◌++◌, length, take, drop, refl, sym, ap, subst, ◌∙◌, append-nil, arith}
+use Rattle.std.proofs.Common.{◌≡◌, ◌⊎◌, ◌≤◌, inl, inr, ℕ, ◌+◌, List, [], ◌∷◌, ◌++◌, length, take, drop, Option, Some, None, refl, sym, ap, subst, ◌∙◌, append-nil, arith}
 use Rattle.std.proofs.Math.Logic.{∥∥₁_elim, ∥∥₁_map}
 use Rattle.std.proofs.lemmas.List.{take_all, length-take, take-append-drop}
 use Rattle.sqlite.specs.Schema.{Schema}
@@ -15,9 +15,12 @@ use Rattle.uu_core.specs.State.{State}
 use Rattle.uu_core.specs.After.{after}
 use Rattle.uu_core.specs.Run.{state_after, replies_to}
 use Rattle.uu_schema.specs.Schema.{site, no_schema}
+use Rattle.uu_schema.specs.declared.fault.StoreFault.{StoreFault}
+use Rattle.uu_schema.specs.declared.fault.StoreFault.TheVariants.{Memory, Store, Failed, Foreign, Newer}
 use Rattle.uu_store.specs.Kept.{Stores, Keeps, KeepsOnly, KeepsEither}
 use Rattle.uu_store.specs.Spool.{disk, Shows}
-use Rattle.uu_store.specs.Exchanges.{Exchange, Counts}
+use Rattle.uu_store.specs.Runs.{GoesOn}
+use Rattle.uu_store.specs.Exchanges.{Exchange, IsSettled, Counts}
 use Rattle.uu_store.specs.Stretches.{Stretch, opened_as, left_by, Worked, Unworked, Passed, Reopens, LeadTo, exchanges, StoresAfter}
 use Rattle.uu_store.proofs.Running.{StatesFollow, RepliesFollow, take_next}
 
@@ -44,6 +47,14 @@ stores_either could_leave found r s t keeps = ∥∥₁_map r.left (λ left. eit
 
 -- ---- one stretch
 
+goes_or_not : (fault : Option StoreFault) → GoesOn fault ⊎ (¬ GoesOn fault)
+goes_or_not None = inl tt
+goes_or_not (Some Memory) = inl tt
+goes_or_not (Some (Store kind)) = inr (λ h. h)
+goes_or_not (Some Failed) = inr (λ h. h)
+goes_or_not (Some Foreign) = inr (λ h. h)
+goes_or_not (Some Newer) = inr (λ h. h)
+
 -- what a stretch that began with a state may leave: the state after one of two lists of commands, both of which count
 pub record LeavesTwo (it : Stretch) (s : State) : Type 0 where
   pub one : List Command
@@ -59,23 +70,25 @@ module _ (answers_follow : RepliesFollow) (s : State) (it : Exchange) (k : ℕ) 
     prefix = sym (take-append-drop k it.commands);
     unheard = [];
     at_most_one = omega arith;
+    settled = λ _. refl;
     answers = sym answers ∙ sym (append-nil it.replies);
   }
 
-  -- the command in hand
-  counts_next : (rest : List Command) → drop k it.commands ≡ rest → Counts it s (take (k + 1) it.commands)
-  counts_next [] past = subst (Counts it s) (sym same) counts_first
+  -- the command in hand, where the store failed
+  counts_next : (¬ IsSettled it.ending) → (rest : List Command) → drop k it.commands ≡ rest → Counts it s (take (k + 1) it.commands)
+  counts_next loose [] past = subst (Counts it s) (sym same) counts_first
     where
       long : length it.commands ≤ k
       long = let all = ap length (take-append-drop k it.commands) in let parts = ap (λ l. length (take k it.commands ++ l)) past in let none = ap length (append-nil (take k it.commands)) in let first = length-take k it.commands in omega (arith, all, parts, none, first)
 
       same : take (k + 1) it.commands ≡ take k it.commands
       same = take_all (k + 1) it.commands (omega (arith, long)) ∙ sym (take_all k it.commands long)
-  counts_next (command ∷ rest) is_next = record {
+  counts_next loose (command ∷ rest) is_next = record {
     rest = drop (k + 1) it.commands;
     prefix = sym (take-append-drop (k + 1) it.commands);
     unheard = (after (state_after s (take k it.commands)) command).1 ∷ [];
     at_most_one = omega arith;
+    settled = λ h. absurd (loose h);
     answers = ap (replies_to s) next ∙ answers_follow s (take k it.commands) (command ∷ []) ∙ ap (λ l. l ++ (after (state_after s (take k it.commands)) command).1 ∷ []) (sym answers);
   }
     where
@@ -91,13 +104,23 @@ module _ (answers_follow : RepliesFollow) (it : Stretch) (s : State) (passed : P
       let clean : db.HasCleanDisk (disk w.ended) = omega (arith, w.let_go.clean, passed.clean) in
       let shows : Shows w.begun s = w.adopted.shows (omega (arith, w.ran.clean, clean)) s rests stores in
       let from = w.ran.from clean s shows in
-      record {
-        one = take k it.exchange.commands;
-        other = take (k + 1) it.exchange.commands;
-        keeps = λ trees may. (let left = from.stop_store trees (w.let_go.left trees may) in elim left.1 [ inl h ↦ inl (inl (left.0, h)) | inr h ↦ inr (inl (left.0, h)) ]);
-        counts_one = counts_first answers_follow s it.exchange k refl w.ran.within from.answers;
-        counts_other = counts_next answers_follow s it.exchange k refl w.ran.within from.answers (drop k it.exchange.commands) refl;
-      }
+      let first = counts_first answers_follow s it.exchange k refl w.ran.within from.answers in
+      elim (goes_or_not w.fault) [
+        | inl on ↦ (record {
+          one = take k it.exchange.commands;
+          other = take k it.exchange.commands;
+          keeps = λ trees may. inl (inl (from.stop on trees (w.let_go.left trees may)));
+          counts_one = first;
+          counts_other = first;
+        })
+        | inr loose ↦ (record {
+          one = take k it.exchange.commands;
+          other = take (k + 1) it.exchange.commands;
+          keeps = λ trees may. (let left = from.stop_store trees (w.let_go.left trees may) in elim left.1 [ inl h ↦ inl (inl (left.0, h)) | inr h ↦ inr (inl (left.0, h)) ]);
+          counts_one = first;
+          counts_other = counts_next answers_follow s it.exchange k refl w.ran.within from.answers (λ h. loose (subst IsSettled w.ending h)) (drop k it.exchange.commands) refl;
+        })
+      ]
 
   unworked : Unworked it → LeavesTwo it s
   unworked w = record { one = []; other = []; keeps = λ trees may. inl (w.turned_away.stop clean s rests stores trees (w.let_go.left trees may)); counts_one = none; counts_other = none }
@@ -106,7 +129,7 @@ module _ (answers_follow : RepliesFollow) (it : Stretch) (s : State) (passed : P
       clean = omega (arith, w.let_go.clean, passed.clean)
 
       none : Counts it.exchange s []
-      none = record { rest = it.exchange.commands; prefix = refl; unheard = []; at_most_one = omega arith; answers = ap (λ l. l ++ []) (sym w.no_reply) }
+      none = record { rest = it.exchange.commands; prefix = refl; unheard = []; at_most_one = omega arith; settled = λ _. refl; answers = ap (λ l. l ++ []) (sym w.no_reply) }
 
   pub leaves_two : LeavesTwo it s
   leaves_two = elim passed.work [ inl w ↦ worked w | inr w ↦ unworked w ]

@@ -1,7 +1,7 @@
 -- Commands over a spool, one after the other.
 use Rattle.std.proofs.Common.{◌≡◌, inl, ℕ, zero, suc, ◌+◌, true, false, true≢false, List, [], ◌∷◌, ◌++◌, length, take, Option, Some, None, Result, Ok, Err, refl, sym, ap, subst, ◌∙◌, append_assoc, append-nil, arith}
 use Rattle.std.specs.Prelude.{IfOk}
-use Rattle.std.proofs.lemmas.List.{length-append}
+use Rattle.std.proofs.lemmas.List.{length-append, length-take, take_all}
 use Rattle.std.proofs.Math.Seq.{take-append_seam}
 use Rattle.sqlite.specs.Store.{Ghosts}
 use Rattle.sqlite.specs.Held.{Held, state}
@@ -235,4 +235,34 @@ module _ (states : StatesFollow) (answers : RepliesFollow) {S : Type 0} {g : Gho
             stop = λ go. subst (Leaves (disk new)) (sym here) (b.stop go);
             stop_store = subst (λ t. LeavesEither (disk new) t (state_after s (take (length (first ++ second) + 1) (one ++ other)))) (sym here)
                 (subst (LeavesEither (disk new) (state_after (state_after s one) (take (length second) other))) (sym next) b.stop_store);
+          }
+
+-- ---- of a run that ended for want of memory, the commands that were answered
+
+module _ {S : Type 0} {g : Ghosts S} (old new : Spool S g) (commands : List Command) (replies : List Reply) (was : Option StoreFault) (on : GoesOn was) (ran : Ran commands old new replies was) where
+  abbrev k : ℕ
+  k = length replies
+
+  pub ran_answered_alone : Ran (take k commands) old new replies None
+  ran_answered_alone = record { within = omega (arith, many, ran.within); from = from; clean = ran.clean }
+    where
+      many : length (take k commands) ≡ k
+      many = let n = length-take k commands in omega (arith, n, ran.within)
+
+      same : take k (take k commands) ≡ take k commands
+      same = take_all k (take k commands) (omega (arith, many))
+
+      no_more : take (k + 1) (take k commands) ≡ take k commands
+      no_more = take_all (k + 1) (take k commands) (omega (arith, many))
+
+      from : db.HasCleanDisk (disk new) → (s : State) → Shows old s → RanFrom s (take k commands) new replies None
+      from clean s shows =
+          let it = ran.from clean s shows in
+          let left = it.stop on in
+          record {
+            answers = it.answers ∙ ap (replies_to s) (sym same);
+            shows = λ _. subst (λ l. Shows new (state_after s l)) (sym same) (it.shows on);
+            stop = λ _. subst (λ l. Leaves (disk new) (state_after s l)) (sym same) left;
+            stop_store = subst (λ l. LeavesEither (disk new) (state_after s l) (state_after s (take (k + 1) (take k commands)))) (sym same)
+                (λ trees may. let there = left trees may in (there.0, inl there.1));
           }

@@ -8,11 +8,10 @@ use Rattle.sqlite.specs.Held.{Held}
 use Rattle.sqlite.specs.View.{IsClean}
 use Rattle.sqlite.specs.Files.{over_files, file_state}
 use Rattle.uu_core.specs.declared.command.Command.{Command}
-use Rattle.uu_core.specs.declared.command.Reply.{Reply}
 use Rattle.uu_core.specs.declared.job.NewJob.{NewJob}
 use Rattle.uu_core.specs.State.{State}
 use Rattle.uu_core.specs.Run.{state_after}
-use Rattle.uu_store.specs.Exchanges.{Exchange, Passes}
+use Rattle.uu_store.specs.Exchanges.{Exchange, none_given, Passes}
 use Rattle.uu_store.specs.Acknowledged.{IsAccountedFor}
 use Rattle.uu_store.specs.Stretches.{Passed, stretch}
 use Rattle.uu_store.specs.Openings.{ImageKeeps, IsFound}
@@ -33,13 +32,13 @@ pub record FileStretch : Type 1 where
 -- the opening found what the files held, and the stop left one of the contents that it could leave
 pub record IsOverFiles {D : Type 0} {g : disk.Ghosts D} (before : Image) (exchange : Exchange) (opened : Held (FileStore D g)) (stopped : FileStore D g) (left : Image) : Type 0 where
   pub found : IsFound before (file_state opened)
-  pub passed : Passed (stretch over_files opened exchange.commands exchange.replies stopped)
+  pub passed : Passed (stretch over_files opened exchange stopped)
   pub numbered : IsTrue (view stopped).is_numbered
   pub may : (files_of stopped).may_leave left
 
--- Where no spool was started, no reply came, and the files keep what they kept.
+-- Where no spool was started, no command was given, and the files keep what they kept.
 abbrev pub Ended : Image → Exchange → Image → End → Type 0
-Ended before exchange left not_started = (exchange.replies ≡ []) × ((s : State) → ImageKeeps before s → ∥ ImageKeeps left s ∥₁)
+Ended before exchange left not_started = (exchange.replies ≡ []) × (exchange.ending ≡ none_given) × ((s : State) → ImageKeeps before s → ∥ ImageKeeps left s ∥₁)
 Ended before exchange left (let_go D g opened stopped) = IsOverFiles before exchange opened stopped left
 
 abbrev pub FilePassed : Image → FileStretch → Type 0
@@ -65,7 +64,7 @@ KeepsAfter s stretches image = (counted : List Command) × Passes s (file_exchan
 abbrev pub KeepsJob : State → List Exchange → NewJob → ℕ → Image → Type 0
 KeepsJob s told new number image = (counted : List Command) × Passes s told counted × ImageKeeps image (state_after s counted) × IsAccountedFor s counted new number
 
--- A stretch of work over files that held this: these commands were given, these replies came, and the store was let go so.
-pub record IsStretch {D : Type 0} {g : disk.Ghosts D} (before : Image) (commands : List Command) (replies : List Reply) (stopped : FileStore D g) : Type 0 where
+-- A stretch of work over files that held this: this was asked and answered, and the store was let go so.
+pub record IsStretch {D : Type 0} {g : disk.Ghosts D} (before : Image) (exchange : Exchange) (stopped : FileStore D g) : Type 0 where
   pub opened : Held (FileStore D g)
-  pub passed : IsClean (view stopped) → (left : Image) → (files_of stopped).may_leave left → IsOverFiles before (record { commands = commands; replies = replies }) opened stopped left
+  pub passed : IsClean (view stopped) → (left : Image) → (files_of stopped).may_leave left → IsOverFiles before exchange opened stopped left

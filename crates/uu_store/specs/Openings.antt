@@ -1,5 +1,5 @@
 -- Opening the two files of a spool: what they hold, what an opening finds in them, and what one that failed leaves.
-use Rattle.std.specs.Prelude.{◌≡◌, ◌≢◌, ◌⊎◌, IsTrue, ⊤}
+use Rattle.std.specs.Prelude.{◌≡◌, ◌≢◌, ◌⊎◌, IsTrue, ⊤, Option, None, Some}
 use Rattle.sqlite_disk.specs.declared.Disk as disk
 use Rattle.sqlite_wal.specs.Recovery.{Image}
 use Rattle.sqlite_wal.specs.Files.{outcomes}
@@ -16,9 +16,13 @@ use Rattle.sqlite.specs.Files.{HoldsDatabase, IsNothing, SaysSums, IsCleanLeft}
 use Rattle.sqlite.specs.declared.file.Leftover.{Leftover}
 use Rattle.sqlite.specs.declared.file.Leftover.TheVariants as left
 use Rattle.uu_core.specs.State.{State, empty}
+use Rattle.uu_store.specs.declared.remains.OpenFault.{OpenFault}
+use Rattle.uu_store.specs.declared.remains.Remains.{Remains}
+use Rattle.uu_store.specs.declared.remains.Remains.TheVariants as remains
 use Rattle.uu_store.specs.declared.spool.Spool.{Spool}
 use Rattle.uu_schema.specs.declared.fault.StoreFault.{StoreFault}
-use Rattle.uu_schema.specs.declared.fault.StoreFault.TheVariants.{Foreign, Newer}
+use Rattle.uu_schema.specs.declared.fault.StoreFault.TheVariants.{Memory, Store, Foreign, Newer}
+use Rattle.uu_schema.specs.declared.fault.StoreKind.TheVariants.{Database}
 use Rattle.uu_store.specs.Kept.{Keeps, Stores}
 use Rattle.uu_store.specs.Stretches.{Adopted, TurnedAway, IsLetGo}
 
@@ -38,13 +42,21 @@ pub record Started {S : Type 0} {g : Ghosts S} (image : Image) (spool : Spool S 
   pub found : db.HasCleanDisk (state g opened) → IsFound image (state g opened)
   pub adopted : Adopted opened spool
 
+-- a fault that says nothing of what the files hold
+abbrev pub IsOfNoContents : StoreFault → Type 0
+IsOfNoContents fault = (fault ≢ Foreign) × (fault ≢ Newer)
+
+-- whatever the files may hold then, they keep what these kept
+abbrev pub StaysKept : Image → (Image → Type 0) → Type 0
+StaysKept before may_hold = (s : State) → ImageKeeps before s → (image : Image) → may_hold image → ∥ ImageKeeps image s ∥₁
+
 -- A database was opened and not taken as a spool, and its store was let go. One that stores a state is not called foreign or newer.
 pub record IsNotTaken {S : Type 0} (g : Ghosts S) (was : Held S) (stopped : S) (fault : StoreFault) : Type 0 where
   pub last : Held S
   pub turned_away : TurnedAway g was last
   pub let_go : IsLetGo g last.store stopped
   pub numbered : IsClean (g.view stopped) → IsTrue (g.view stopped).is_numbered
-  pub ours : IsClean (g.view stopped) → (s : State) → Stores (state g was).now s → (fault ≢ Foreign) × (fault ≢ Newer)
+  pub ours : IsClean (g.view stopped) → (s : State) → Stores (state g was).now s → IsOfNoContents fault
 
 -- ---- an opening that failed, by what is left of the files
 
@@ -63,6 +75,23 @@ module _ {D : Type 0} {g : disk.Ghosts D} where
       (trees : Trees) → HoldsDatabase before trees → SaysSums (stored_size (state_of files).page_size) before → IsTrue (is_summed (state_of files).page_size)
   IsTakenAsMade before (left.Store it) = IsTrue (store.view it).is_numbered
 
-  -- while the disk returned what was written, a stop leaves files that keep what these kept
-  abbrev pub LeavesAsKept : Image → Leftover D g → Type 0
-  LeavesAsKept before it = IsCleanLeft it → IsTakenAsMade before it → (s : State) → ImageKeeps before s → (image : Image) → may_be_left it image → ∥ ImageKeeps image s ∥₁
+  abbrev pub remains_of : OpenFault D g → Remains D g
+  remains_of it = it.remains
+
+  -- what an opening of the files left of them, once they were opened
+  abbrev pub remains_of_opening : Option (Leftover D g) → Remains D g
+  remains_of_opening None = remains.Unopened
+  remains_of_opening (Some it) = remains.Files it
+
+  -- While the disk returned what was written, a stop leaves files that keep what these kept. Of files that were not opened nothing is said.
+  abbrev pub LeavesAsKept : Image → Remains D g → Type 0
+  LeavesAsKept before remains.Unopened = ⊤
+  LeavesAsKept before (remains.Files it) = IsCleanLeft it → IsTakenAsMade before it → StaysKept before (may_be_left it)
+  LeavesAsKept before (remains.Store it) = IsTrue (store.view it).is_clean → StaysKept before (store.state it).may_leave
+
+  -- The fault names the contents rightly: only a database that was opened is called foreign or newer, and none that keeps a state, nor files
+  -- that held nothing. Files that were not opened were refused by the system, or there was no memory.
+  abbrev pub IsNamed : Image → StoreFault → Remains D g → Type 0
+  IsNamed before fault remains.Unopened = (fault ≡ Memory) ⊎ (fault ≡ Store Database)
+  IsNamed before fault (remains.Files it) = IsOfNoContents fault
+  IsNamed before fault (remains.Store it) = IsTrue (store.view it).is_clean → (s : State) → ImageKeeps before s → IsOfNoContents fault

@@ -6,9 +6,8 @@ use Rattle.sqlite.specs.Held.{Held, state}
 use Rattle.sqlite.specs.View.{doubt, IsClean}
 use Rattle.sqlite.specs.State as db
 use Rattle.uu_sql.specs.Steps.{Rests}
-use Rattle.uu_core.specs.State.{State}
 use Rattle.uu_core.specs.declared.command.Command.{Command}
-use Rattle.uu_core.specs.declared.command.Reply.{Reply}
+use Rattle.uu_core.specs.State.{State}
 use Rattle.uu_core.specs.Run.{state_after}
 use Rattle.uu_schema.specs.declared.fault.StoreFault.{StoreFault}
 use Rattle.uu_store.specs.declared.spool.Spool.{Spool}
@@ -16,7 +15,7 @@ use Rattle.uu_store.specs.Calls.{StaysUnclean}
 use Rattle.uu_store.specs.Kept.{Stores, KeepsOnly}
 use Rattle.uu_store.specs.Spool.{connection_of, disk, Shows}
 use Rattle.uu_store.specs.Runs.{Ran}
-use Rattle.uu_store.specs.Exchanges.{Exchange, Passes}
+use Rattle.uu_store.specs.Exchanges.{Exchange, none_given, given, Passes}
 
 -- ---- the calls at both ends
 
@@ -52,23 +51,25 @@ abbrev pub left_by : Stretch → Trees → Type 0
 left_by it = it.store.recovers it.stopped
 
 -- a stretch by its parts
-abbrev pub stretch : {S : Type 0} → Ghosts S → Held S → List Command → List Reply → S → Stretch
-stretch {S} g opened commands replies stopped = record { S = S; store = g; opened = opened; exchange = record { commands = commands; replies = replies }; stopped = stopped }
+abbrev pub stretch : {S : Type 0} → Ghosts S → Held S → Exchange → S → Stretch
+stretch {S} g opened exchange stopped = record { S = S; store = g; opened = opened; exchange = exchange; stopped = stopped }
 
--- the database was taken as a spool, which ran the commands
+-- the database was taken as a spool, which ran the commands and ended so
 pub record Worked (it : Stretch) : Type 0 where
   pub begun : Spool it.S it.store
   pub ended : Spool it.S it.store
   pub fault : Option StoreFault
+  pub ending : it.exchange.ending ≡ given fault
   pub adopted : Adopted it.opened begun
   pub ran : Ran it.exchange.commands begun ended it.exchange.replies fault
   pub let_go : IsLetGo it.store (connection_of ended).store it.stopped
 
--- the database was not taken as a spool, and no reply came
+-- the database was not taken as a spool, and no command was given
 pub record Unworked (it : Stretch) : Type 0 where
   pub last : Held it.S
   pub turned_away : TurnedAway it.store it.opened last
   pub no_reply : it.exchange.replies ≡ []
+  pub ending : it.exchange.ending ≡ none_given
   pub let_go : IsLetGo it.store last.store it.stopped
 
 -- The database was taken and the commands were run, or it was not taken. Until the stop the disk returned what was written.

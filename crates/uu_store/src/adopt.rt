@@ -45,11 +45,11 @@ fn create_tables<S: Alter>(conn: &mut Connection<S>) -> Result<(), StoreFault>
 
 fn prepare<S: Alter>(alloc: Global, conn: &mut Connection<S>) -> Result<(), StoreFault>
     requires { conn.old.in_transaction ≡ false }
-    ensures fresh { IfErr result (λ fault. fault ≢ StoreFault.Failed) }
+    ensures never_failed { IfErr result (λ fault. fault ≢ StoreFault.Failed) }
     ensures idle { conn.new.in_transaction ≡ false }
     ensures inspected { IsInspected (state S.Store conn.old) (state S.Store conn.new) result }
     ensures creates { CreatesTables (state S.Store conn.old) (state S.Store conn.new) result }
-    ensures welcomed { Stands no_schema (state S.Store conn.old).now → IfErr result (λ fault. (fault ≢ StoreFault.Foreign) × (fault ≢ StoreFault.Newer)) }
+    ensures empty_never_refused { Stands no_schema (state S.Store conn.old).now → IfErr result (λ fault. (fault ≢ StoreFault.Foreign) × (fault ≢ StoreFault.Newer)) }
     ensures clean { StaysUnclean (state S.Store conn.old) (state S.Store conn.new) }
 {
     match found_in(conn.schema()) {

@@ -54,7 +54,7 @@ pub(crate) fn inspect<S: Alter>(
     whole: bool,
 ) -> Result<(), StoreFault>
     requires { conn.old.in_transaction ≡ false }
-    ensures fresh { IfErr result (λ fault. fault ≢ StoreFault.Failed) }
+    ensures never_failed { IfErr result (λ fault. fault ≢ StoreFault.Failed) }
     ensures idle { conn.new.in_transaction ≡ false }
     ensures inspected { whole ≡ true → IsInspected (state S.Store conn.old) (state S.Store conn.new) result }
     ensures clean { StaysUnclean (state S.Store conn.old) (state S.Store conn.new) }

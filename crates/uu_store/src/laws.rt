@@ -1,5 +1,5 @@
 //! What follows from the definitions.
-ghost use Rattle.std.specs.Prelude.{◌≡◌, ◌++◌, ℕ, List, length, Option};
+ghost use Rattle.std.specs.Prelude.{◌≡◌, ◌++◌, ℕ, List, length, take, Option, None};
 ghost use Rattle.sqlite.specs.Tree.{Trees};
 ghost use Rattle.sqlite.specs.Held.{Held, state};
 ghost use Rattle.sqlite.specs.State as db;
@@ -37,10 +37,13 @@ pub fn one_database_has_one_state()
     tables_tell_the_state();
 }
 
-/// Where every command of a run was answered, it and the next run are one run of all the commands. (A question is a run of none.)
+/// Where every command of a run was answered, it and the next run are one run of all the commands. (A question is a run of none.) A run that
+/// ended for want of memory is one of the commands that were answered.
 pub fn runs_are_one_run<S: Alter>()
-    ensures { (old mid new : Spool S S.Store) (one other : List Command) (first second : List Reply) (was stopped : Option StoreFault)
+    ensures joined { (old mid new : Spool S S.Store) (one other : List Command) (first second : List Reply) (was stopped : Option StoreFault)
         → length first ≡ length one → GoesOn was → Ran one old mid first was → Ran other mid new second stopped → Ran (one ++ other) old new (first ++ second) stopped }
+    ensures answered { (old new : Spool S S.Store) (commands : List Command) (replies : List Reply) (was : Option StoreFault)
+        → GoesOn was → Ran commands old new replies was → Ran (take (length replies) commands) old new replies None }
 {
     runs_follow_one_another();
 }
@@ -62,7 +65,7 @@ pub trait History {
 
 /// Whatever commands a spool is given, over any stretches, and wherever each of them is stopped: what is found then stores exactly the state
 /// that the machine reaches by the commands that count. Of each stretch these are a prefix, with every command that was answered, as it was
-/// answered, and at most one more. A job whose number was told is there, unless an accepted command let it go.
+/// answered, and where the store failed at most one more. A job whose number was told is there, unless an accepted command let it go.
 pub fn no_answered_command_is_lost<H: History>()
     ensures commands { (s : State) → KeepsOnly H.before s → LeadTo H.before H.stretches H.found → ∥ StoresAfter s (exchanges H.stretches) H.found ∥₁ }
     ensures jobs { (s : State) (new : NewJob) (number : ℕ) → KeepsOnly H.before s → LeadTo H.before H.stretches H.found
@@ -106,7 +109,7 @@ pub trait FileHistory {
 
 /// Whatever commands a spool over files is given, over any stretches, and wherever each of them is stopped, also within its opening: the files
 /// keep exactly the state that the machine reaches by the commands that count. Of each stretch these are a prefix, with every command that was
-/// answered, as it was answered, and at most one more.
+/// answered, as it was answered, and where the store failed at most one more.
 pub fn no_answered_command_is_lost_in_files<H: FileHistory>()
     ensures commands { (s : State) → ImageKeeps H.before s → AllFilesPassed H.before H.stretches → ∥ KeepsAfter s H.stretches (last_left H.before H.stretches) ∥₁ }
 

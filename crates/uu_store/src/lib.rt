@@ -8,13 +8,15 @@ mod inspection;
 pub mod laws;
 mod open;
 mod reading;
+mod remains;
 mod run;
 mod spool;
 mod stretch;
 mod tables;
 
 pub use adopt::AdoptFault;
-pub use open::{FileSpool, open_spool, start, start_from};
+pub use open::{FileSpool, open_spool, start};
+pub use remains::{OpenFault, Remains};
 pub use run::RunEnd;
 pub use spool::Spool;
 pub use stretch::{start_again, work};

@@ -1,19 +1,18 @@
 // Opening the spool's files.
-ghost use Rattle.std.specs.Prelude.{◌≡◌, ◌≢◌, false, None, IfOk, IfErr, IfSome};
+ghost use Rattle.std.specs.Prelude.{◌≡◌, ◌≢◌, false, IfOk, IfErr};
 ghost use Rattle.sqlite.specs.State.{HasCleanDisk};
-ghost use Rattle.sqlite.specs.Files.{IsCleanLeft};
 ghost use Rattle.sqlite_wal.specs.Files.{image_at};
 ghost use Rattle.uu_core.specs.State.{State, empty};
-ghost use Rattle.uu_store.specs.Openings.{ImageKeeps, IsNotTaken, LeavesAsKept, Started};
+ghost use Rattle.uu_store.specs.Openings.{ImageKeeps, IsNamed, IsNotTaken, LeavesAsKept, Started, remains_of};
 ghost use Rattle.uu_store.specs.Spool.{disk, has_failed, Shows};
 ghost use Rattle.uu_store.specs.Stretches.{Adopted};
 
 use crate::adopt::AdoptFault;
+use crate::remains::{OpenFault, open_files};
 use crate::spool::Spool;
-use sqlite::{Alter, Connection, Error, FileFrom, FileStore, Leftover, Start, Wary};
+use sqlite::{Alter, Connection, FileFrom, FileStore, Start, Wary};
 use std::alloc::Global;
-use uu_schema::{StoreFault, kind_of};
-use uu_sql::is_memory;
+use uu_schema::StoreFault;
 
 /// A spool over a file.
 pub type FileSpool<T> = Spool<FileStore<FileFrom<T>>>;
@@ -23,34 +22,36 @@ pub type FileSpool<T> = Spool<FileStore<FileFrom<T>>>;
 /// What is said of the contents is said of those that the files had as they were opened, which `T` stands for; no clause ties them to the path.
 ///
 /// # Errors
-/// With what is left of the two files, where they were opened. A stop then leaves files that keep what was kept (`left`). Files that keep the
-/// state of a spool, or hold nothing yet, are never answered `Foreign` or `Newer` (`ours`).
+/// With what is left of the two files. A stop then leaves files that keep what was kept (`left`). Files that keep the state of a spool, or hold
+/// nothing yet, are never answered `Foreign` or `Newer` (`named`).
 pub fn open_spool<T: Start>(
     rt: &HostRuntime,
     path: &str,
     start: T,
-) -> Result<FileSpool<T>, (StoreFault, Option<Leftover<FileFrom<T>>>)>
+) -> Result<FileSpool<T>, OpenFault<FileFrom<T>>>
     ensures usable { IfOk result (λ spool. has_failed spool ≡ false) }
-    ensures never_failed { IfErr result (λ e. e.0 ≢ StoreFault.Failed) }
+    ensures never_failed { IfErr result (λ e. e.fault ≢ StoreFault.Failed) }
     ensures started { IfOk result (Started (image_at T.Start)) }
 
     // It shows the state that the files kept.
     ensures shows { IfOk result (λ spool. HasCleanDisk (disk spool) → (s : State) → ImageKeeps (image_at T.Start) s → Shows spool s) }
-    ensures unopened { IfErr result (λ e. e.1 ≡ None → (e.0 ≢ StoreFault.Foreign) × (e.0 ≢ StoreFault.Newer)) }
-    ensures ours { IfErr result (λ e. IfSome e.1 (λ left. IsCleanLeft left → (s : State) → ImageKeeps (image_at T.Start) s → (e.0 ≢ StoreFault.Foreign) × (e.0 ≢ StoreFault.Newer))) }
-    ensures left { IfErr result (λ e. IfSome e.1 (LeavesAsKept (image_at T.Start))) }
+
+    // What is left of files that were opened keeps what they kept, and the fault names it rightly.
+    ensures named { IfErr result (λ e. IsNamed (image_at T.Start) e.fault (remains_of e)) }
+    ensures left { IfErr result (λ e. LeavesAsKept (image_at T.Start) (remains_of e)) }
 {
-    match Connection::open_from(rt, path, true, start) {
-        Ok(conn) => match adopted(rt.alloc(), conn) {
-            Ok(spool) => Ok(spool),
-            Err((fault, store)) => Err((fault, Some(Leftover::Store(store)))),
-        },
-        Err((error, left)) => Err((opening_fault(&error), left)),
+    let conn = open_files(rt, path, start)?;
+    match adopted(rt.alloc(), conn) {
+        Ok(spool) => Ok(spool),
+        Err((fault, store)) => Err(OpenFault::not_taken(fault, store)),
     }
 }
 
 // The spool in a database that was opened, or the store that was let go.
-fn adopted<S: Alter + Drop>(alloc: Global, conn: Connection<S>) -> Result<Spool<S>, (StoreFault, S)>
+pub(crate) fn adopted<S: Alter + Drop>(
+    alloc: Global,
+    conn: Connection<S>,
+) -> Result<Spool<S>, (StoreFault, S)>
     requires { conn.in_transaction ≡ false }
     ensures usable { IfOk result (λ spool. has_failed spool ≡ false) }
     ensures never_failed { IfErr result (λ e. e.0 ≢ StoreFault.Failed) }
@@ -63,40 +64,15 @@ fn adopted<S: Alter + Drop>(alloc: Global, conn: Connection<S>) -> Result<Spool<
     }
 }
 
-// Why a file was not opened.
-fn opening_fault(error: &Error) -> StoreFault
-    ensures { (result ≢ StoreFault.Failed) × (result ≢ StoreFault.Foreign) × (result ≢ StoreFault.Newer) }
-{
-    if is_memory(error) {
-        StoreFault::Memory
-    } else {
-        StoreFault::Store(kind_of(error))
-    }
-}
-
-/// [`open_spool`], where what is left of the files after a fault is closed.
-pub fn start_from<T: Start>(
-    rt: &HostRuntime,
-    path: &str,
-    start: T,
-) -> Result<FileSpool<T>, StoreFault>
-    ensures usable { IfOk result (λ spool. has_failed spool ≡ false) }
-    ensures never_failed { IfErr result (λ fault. fault ≢ StoreFault.Failed) }
-    ensures started { IfOk result (Started (image_at T.Start)) }
-    ensures shows { IfOk result (λ spool. HasCleanDisk (disk spool) → (s : State) → ImageKeeps (image_at T.Start) s → Shows spool s) }
-{
-    match open_spool(rt, path, start) {
-        Ok(spool) => Ok(spool),
-        Err((fault, _)) => Err(fault),
-    }
-}
-
-/// [`start_from`] as the program uses it. No code can name what the files of a path held, so `Wary` stands for empty files: what is said of
-/// the state here is said of those, and of all others by `start_from`.
+/// [`open_spool`] as the program uses it, where what is left of the files after a fault is closed. No code can name what the files of a path
+/// held, so `Wary` stands for empty files: what is said of the state here is said of those, and of all others by `open_spool`.
 pub fn start(rt: &HostRuntime, path: &str) -> Result<FileSpool<Wary>, StoreFault>
     ensures usable { IfOk result (λ spool. has_failed spool ≡ false) }
     ensures never_failed { IfErr result (λ fault. fault ≢ StoreFault.Failed) }
     ensures shows { IfOk result (λ spool. HasCleanDisk (disk spool) → Shows spool empty) }
 {
-    start_from(rt, path, Wary)
+    match open_spool(rt, path, Wary) {
+        Ok(spool) => Ok(spool),
+        Err(failed) => Err(failed.fault),
+    }
 }

@@ -2,7 +2,7 @@
 ghost use Rattle.std.specs.Prelude.{◌≡◌, ◌≤◌, ◌<◌, ◌+◌, ◌++◌, ◌∷◌, []};
 ghost use Rattle.std.specs.Vec.{vec_len, vec_capacity};
 
-use crate::adopt::AdoptFault;
+use crate::open::adopted;
 use crate::spool::Spool;
 use sqlite::{Alter, Connection};
 use std::alloc::Global;
@@ -30,10 +30,12 @@ fn keep(replies: &mut Vec<Reply>, reply: Reply)
 }
 
 impl<S: Alter> Spool<S> {
-    ghost use Rattle.std.specs.Prelude.{◌↔◌, false, IsTrue, Some, None, MatchOption, length};
+    ghost use Rattle.std.specs.Prelude.{◌↔◌, false, IsTrue, IfOk, IfErr, Some, None, MatchOption, length};
     ghost use Rattle.sqlite.specs.View.{IsClean};
     ghost use Rattle.uu_store.specs.Spool.{has_failed, Marks};
     ghost use Rattle.uu_store.specs.Runs.{Ran};
+    ghost use Rattle.uu_store.specs.Exchanges.{exchange_of, not_given};
+    ghost use Rattle.uu_store.specs.Openings.{IsNotTaken};
     ghost use Rattle.uu_store.specs.Stretches.{Passed, stretch};
 
     /// Carries out the commands, one after the other, until one is not answered. Room for all replies is taken first, so that no reply
@@ -84,29 +86,29 @@ impl<S: Alter> Spool<S> {
     /// Takes the database as a spool, gives it the commands, and gives back the store: one stretch of work, from an opening to a stop.
     ///
     /// # Errors
-    /// As [`Spool::run`]. Where the database is not taken no command is given, and the end tells why.
-    pub fn adopt_and_run(alloc: Global, conn: Connection<S>, commands: Vec<Command>) -> (RunEnd, S)
+    /// Those of [`Spool::adopt`], with the store. No command was given then.
+    pub fn adopt_and_run(
+        alloc: Global,
+        conn: Connection<S>,
+        commands: Vec<Command>,
+    ) -> Result<(RunEnd, S), (StoreFault, S)>
     where
         S: Drop,
         requires { conn.in_transaction ≡ false }
-        ensures passed { IsClean (S.Store.view result.1) → Passed (stretch S.Store conn commands.items result.0.replies.items result.1) }
+        ensures passed { IfOk result (λ end. IsClean (S.Store.view end.1) → Passed (stretch S.Store conn (exchange_of commands.items end.0.replies.items end.0.stopped) end.1)) }
 
-        // Where nothing stopped it, every command was answered.
-        ensures every { result.0.stopped ≡ None → length result.0.replies.items ≡ length commands.items }
+        // Nothing stopped it exactly where all were answered.
+        ensures every { IfOk result (λ end. (end.0.stopped ≡ None) ↔ (length end.0.replies.items ≡ length commands.items)) }
+        ensures away { IfErr result (λ e. IsNotTaken S.Store conn e.1 e.0) }
+        ensures not_given { IfErr result (λ e. IsClean (S.Store.view e.1) → Passed (stretch S.Store conn (not_given commands.items) e.1)) }
     {
-        match Spool::adopt(alloc, conn) {
+        match adopted(alloc, conn) {
             Ok(spool) => {
                 let mut spool = spool;
                 let end = spool.run(alloc, commands);
-                (end, spool.into_store())
+                Ok((end, spool.into_store()))
             }
-            Err(AdoptFault { fault, conn }) => (
-                RunEnd {
-                    replies: Vec::new(alloc),
-                    stopped: Some(fault),
-                },
-                conn.into_store(),
-            ),
+            Err((fault, store)) => Err((fault, store)),
         }
     }
 }

@@ -1,21 +1,22 @@
 // Stretches of work over files.
-ghost use Rattle.std.specs.Prelude.{◌≡◌, ◌↔◌, ℕ, None, IfOk, IfErr, IfSome, length};
+ghost use Rattle.std.specs.Prelude.{◌≡◌, ◌↔◌, ℕ, None, IfOk, IfErr, length};
 ghost use Rattle.sqlite.specs.State.{HasCleanDisk};
 ghost use Rattle.sqlite_wal.specs.Files.{image_at};
 ghost use Rattle.uu_core.specs.declared.job.NewJob.{NewJob};
 ghost use Rattle.uu_core.specs.State.{State};
 ghost use Rattle.uu_store.specs.Acknowledged.{IsAcknowledged, ShowsJob};
+ghost use Rattle.uu_store.specs.Exchanges.{exchange_of};
 ghost use Rattle.uu_store.specs.Files.{AllFilesPassed, last_left, file_exchanges, IsStretch};
-ghost use Rattle.uu_store.specs.Openings.{ImageKeeps, LeavesAsKept};
+ghost use Rattle.uu_store.specs.Openings.{ImageKeeps, IsNamed, LeavesAsKept, remains_of};
 ghost use Rattle.uu_store.specs.Spool.{disk};
 ghost use Rattle.uu_store.specs.Stretches.{ShowsAfter};
 
 use crate::laws::{FileHistory, no_answered_command_is_lost_in_files};
-use crate::open::{FileSpool, open_spool, start_from};
+use crate::open::{FileSpool, open_spool};
+use crate::remains::OpenFault;
 use crate::run::RunEnd;
-use sqlite::{FileFrom, FileStore, Leftover, Start};
+use sqlite::{FileFrom, FileStore, Start};
 use uu_core::Command;
-use uu_schema::StoreFault;
 
 /// A stretch of work: opens the file at the path, gives the spool in it the commands, and lets its store go.
 ///
@@ -26,12 +27,13 @@ pub fn work<T: Start>(
     path: &str,
     start: T,
     commands: Vec<Command>,
-) -> Result<(RunEnd, FileStore<FileFrom<T>>), (StoreFault, Option<Leftover<FileFrom<T>>>)>
-    ensures worked { IfOk result (λ end. IsStretch (image_at T.Start) commands.items end.0.replies.items end.1) }
+) -> Result<(RunEnd, FileStore<FileFrom<T>>), OpenFault<FileFrom<T>>>
+    ensures worked { IfOk result (λ end. IsStretch (image_at T.Start) (exchange_of commands.items end.0.replies.items end.0.stopped) end.1) }
 
     // Nothing stopped it exactly where all were answered.
     ensures every { IfOk result (λ end. (end.0.stopped ≡ None) ↔ (length end.0.replies.items ≡ length commands.items)) }
-    ensures left { IfErr result (λ e. IfSome e.1 (LeavesAsKept (image_at T.Start))) }
+    ensures named { IfErr result (λ e. IsNamed (image_at T.Start) e.fault (remains_of e)) }
+    ensures left { IfErr result (λ e. LeavesAsKept (image_at T.Start) (remains_of e)) }
 {
     let mut spool = open_spool(rt, path, start)?;
     let end = spool.run(rt.alloc(), commands);
@@ -41,18 +43,23 @@ pub fn work<T: Start>(
 /// Opens the file again, after any stretches of work over it. While nobody else wrote the files, and the disk returned what was written, the
 /// spool shows exactly the state that the machine reaches by the commands that count; so a job whose number was told is there with all its
 /// bytes, until an accepted command kills it or delivers it, and no other job has its number.
+///
+/// # Errors
+/// Those of [`open_spool`].
 pub fn start_again<H: FileHistory, T: Start>(
     rt: &HostRuntime,
     path: &str,
     start: T,
-) -> Result<FileSpool<T>, StoreFault>
+) -> Result<FileSpool<T>, OpenFault<FileFrom<T>>>
     ensures shows { IfOk result (λ spool. HasCleanDisk (disk spool)
         → (s : State) → ImageKeeps H.before s → AllFilesPassed H.before H.stretches → image_at T.Start ≡ last_left H.before H.stretches
         → ∥ ShowsAfter s (file_exchanges H.stretches) spool ∥₁) }
     ensures jobs { IfOk result (λ spool. HasCleanDisk (disk spool)
         → (s : State) (new : NewJob) (number : ℕ) → ImageKeeps H.before s → AllFilesPassed H.before H.stretches → image_at T.Start ≡ last_left H.before H.stretches
         → IsAcknowledged (file_exchanges H.stretches) new number → ∥ ShowsJob s (file_exchanges H.stretches) new number spool ∥₁) }
+    ensures named { IfErr result (λ e. IsNamed (image_at T.Start) e.fault (remains_of e)) }
+    ensures left { IfErr result (λ e. LeavesAsKept (image_at T.Start) (remains_of e)) }
 {
     no_answered_command_is_lost_in_files::<H>();
-    start_from(rt, path, start)
+    open_spool(rt, path, start)
 }

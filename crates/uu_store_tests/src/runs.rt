@@ -36,7 +36,8 @@ fn expect_stretch(rt: &impl Abort, alloc: Global, script: &[Step]) {
     let wanted = replies(rt, alloc, script);
     let conn = Connection::open_in_memory(alloc).expect(rt, "memory");
     let commands = commands(rt, alloc, script, wanted.len());
-    let (end, _store) = Spool::adopt_and_run(alloc, conn, commands);
+    let worked = Spool::adopt_and_run(alloc, conn, commands).ok();
+    let (end, _store) = worked.expect(rt, "a spool");
     expect_whole(rt, &end, &wanted);
 }
 

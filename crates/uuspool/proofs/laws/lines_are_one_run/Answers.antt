@@ -4,4 +4,4 @@ use Rattle.uuspool.proofs.laws.lines_are_one_run.Goals as goal
 
 pub returns : goal.returns
 returns g c settings lines old new served =
-    one_run c.runs_are_one_run.ensures (λ spool. g.met.S.Store.settled (connection_of spool).store) settings lines old new served
+    one_run c.runs_are_one_run.ensures.joined (λ spool. g.met.S.Store.settled (connection_of spool).store) settings lines old new served

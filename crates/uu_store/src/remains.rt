@@ -1,0 +1,99 @@
+// What is left of the files of a spool that was not opened.
+ghost use Rattle.std.specs.Prelude.{◌≡◌, ◌≢◌, false, IfOk, IfErr};
+ghost use Rattle.sqlite.specs.Files.{file_state};
+ghost use Rattle.sqlite.specs.State.{HasCleanDisk};
+ghost use Rattle.sqlite_wal.specs.Files.{image_at};
+ghost use Rattle.uu_schema.specs.Faults.{kind_of_error};
+ghost use Rattle.uu_store.specs.Openings.{IsFound, IsNamed, IsOfNoContents, LeavesAsKept, remains_of, remains_of_opening};
+
+use sqlite::{Connection, Error, FileFrom, FileStore, Leftover, Start};
+use sqlite_disk::Disk;
+use uu_schema::{StoreFault, kind_of};
+use uu_sql::is_memory;
+
+/// What is left of the two files of a spool that was not opened.
+#[derive(Drop)]
+pub enum Remains<D: Disk> {
+    /// The files were not opened.
+    Unopened,
+    /// The files, where no database was opened in them.
+    Files(Leftover<D>),
+    /// The store of a database that was opened and not taken as a spool.
+    Store(FileStore<D>),
+}
+
+impl<D: Disk> Remains<D> {
+    // What an opening that failed left of them, once they were opened.
+    fn of_opening(left: Option<Leftover<D>>) -> Remains<D>
+        ensures { result ≡ remains_of_opening left }
+    {
+        match left {
+            Some(left) => Remains::Files(left),
+            None => Remains::Unopened,
+        }
+    }
+}
+
+/// Why no spool was opened, and what is left of its files.
+///
+/// None but the opening of the files can tell that they were not opened: no other code can make such a fault, and an opening takes what
+/// stands for the contents, so that no code opens the same contents twice.
+#[derive(Drop)]
+pub struct OpenFault<D: Disk> {
+    /// Why it was not opened.
+    pub fault: StoreFault,
+    remains: Remains<D>,
+}
+
+impl<D: Disk> OpenFault<D> {
+    /// A database was opened and not taken as a spool, and its store was let go.
+    pub(crate) fn not_taken(fault: StoreFault, store: FileStore<D>) -> OpenFault<D>
+        ensures fault { result.fault ≡ fault }
+        ensures remains { remains_of result ≡ Remains.Store store }
+    {
+        OpenFault {
+            fault,
+            remains: Remains::Store(store),
+        }
+    }
+
+    /// What is left of the files.
+    pub fn into_remains(self) -> Remains<D>
+        ensures { result ≡ remains_of self }
+    {
+        self.remains
+    }
+}
+
+// Why no database was opened.
+fn opening_fault(error: &Error) -> StoreFault
+    ensures named { (result ≢ StoreFault.Failed) × IsOfNoContents result }
+    ensures kind { (kind : _) → result ≡ StoreFault.Store kind → kind ≡ kind_of_error error.now }
+{
+    if is_memory(error) {
+        StoreFault::Memory
+    } else {
+        StoreFault::Store(kind_of(error))
+    }
+}
+
+/// Opens the files at the path, or makes them, and the database in them.
+pub(crate) fn open_files<T: Start>(
+    rt: &HostRuntime,
+    path: &str,
+    start: T,
+) -> Result<Connection<FileStore<FileFrom<T>>>, OpenFault<FileFrom<T>>>
+    ensures idle { IfOk result (λ conn. conn.in_transaction ≡ false) }
+    ensures found { IfOk result (λ conn. HasCleanDisk (file_state conn) → IsFound (image_at T.Start) (file_state conn)) }
+    ensures never_failed { IfErr result (λ e. e.fault ≢ StoreFault.Failed) }
+    ensures named { IfErr result (λ e. IsNamed (image_at T.Start) e.fault (remains_of e)) }
+    ensures left { IfErr result (λ e. LeavesAsKept (image_at T.Start) (remains_of e)) }
+{
+    match Connection::open_from(rt, path, true, start) {
+        Ok(conn) => Ok(conn),
+        Err((error, left)) => Err(OpenFault {
+            fault: opening_fault(&error),
+            remains: Remains::of_opening(left),
+        }),
+    }
+}
