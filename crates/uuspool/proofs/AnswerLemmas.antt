@@ -1,5 +1,5 @@
 -- What is handed out of a spool, as the state has it.
-use Rattle.std.proofs.Common.{◌≡◌, ℕ, List, length, Option, Some, None, ap, option_map, refl, subst, sym}
+use Rattle.std.proofs.Common.{◌≡◌, ℕ, List, length, Option, Some, None, ap, option_map, refl, subst}
 use Rattle.sqlite.specs.Store.{Ghosts}
 use Rattle.uu_map.specs.Entry.{IsEntry}
 use Rattle.uu_map.specs.declared.entry.Entry.{Entry}
@@ -7,7 +7,6 @@ use Rattle.uu_core.specs.State.{MapEntry, head_of}
 use Rattle.uu_core.specs.declared.command.Command.{Command}
 use Rattle.uu_core.specs.declared.command.Reply.{Reply}
 use Rattle.uu_core.specs.declared.job.JobHead.{JobHead}
-use Rattle.uu_schema.specs.declared.fault.StoreFault.{StoreFault}
 use Rattle.uu_schema.specs.declared.fault.StoreFault.TheVariants.{Store}
 use Rattle.uu_schema.specs.declared.fault.StoreKind.{StoreKind}
 use Rattle.uu_store.specs.HandedOut.{job_with}

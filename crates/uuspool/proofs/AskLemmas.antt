@@ -1,5 +1,5 @@
 -- How a line ends, and with which fault.
-use Rattle.std.proofs.Common.{◌≡◌, ◌⊎◌, inl, inr, ℕ, List, Result, Ok, Err, IfErr, sym}
+use Rattle.std.proofs.Common.{inl, inr, ℕ, List, Result, Ok, Err, IfErr, sym}
 use Rattle.uu_request.specs.Requests.{AnswersUnlessMemory, request_of}
 use Rattle.uu_request.specs.declared.fault.RequestFault.{RequestFault}
 use Rattle.uu_request.specs.declared.fault.RequestFault.TheVariants as asking

@@ -1,5 +1,5 @@
 -- How the end of a run, and what is printed of it, make up the service of a line's commands.
-use Rattle.std.proofs.Common.{◌≡◌, ◌∙◌, ◌≤◌, inl, inr, ℕ, List, length, take, Vec, Option, Some, None, Result, Ok, Err, Bool, MatchOption, IfOk, IfErr, IfSome, OnOk, IsOkAnd, IsTrue, ap, arith, refl, subst, sym}
+use Rattle.std.proofs.Common.{◌≡◌, ◌∙◌, ◌≤◌, inl, inr, ℕ, List, length, take, Vec, Option, Some, None, Result, Ok, Err, Bool, MatchOption, IfOk, IfErr, IfSome, OnOk, IsOkAnd, IsTrue, ap, arith, subst, sym}
 use Rattle.std.proofs.lemmas.List.{take_all}
 use Rattle.std.specs.declared.alloc.AllocError.{AllocError}
 use Rattle.std.specs.declared.alloc.Global.{Global}

@@ -4,4 +4,5 @@ pub mod EndLemmas
 pub mod FaultLemmas
 pub mod LineLemmas
 pub mod ServedLemmas
+pub mod ServesLemmas
 pub mod SessionLemmas

@@ -1,5 +1,5 @@
 -- How the parts of a line's service make up the whole.
-use Rattle.std.proofs.Common.{◌≡◌, ◌⊎◌, inl, inr, ℕ, List, [], length, Vec, Option, Some, None, Result, Ok, Err, IfOk, IfErr, OnOk, IsOkAnd, append-nil, Bool, true, false, IsTrue, MatchOption, refl, subst, sym}
+use Rattle.std.proofs.Common.{◌≡◌, ◌⊎◌, inl, inr, ℕ, List, [], length, Vec, Option, Some, None, Result, Ok, Err, IfOk, IfErr, OnOk, IsOkAnd, append-nil, Bool, false, IsTrue, MatchOption, refl, subst, sym}
 use Rattle.std.specs.declared.alloc.AllocError.{AllocError}
 use Rattle.std.specs.declared.alloc.Global.{Global}
 use Rattle.std.specs.Io.KnownBytes.{Appends}

@@ -1,25 +1,25 @@
 -- Lines that are served one after the other are one run of the commands of their requests.
-use Rattle.std.proofs.Common.{◌≡◌, ◌≤◌, ◌∙◌, ◌++◌, ◌∷◌, inl, inr, ℕ, List, [], length, take, Option, Some, None, Result, Ok, Err, IfOk, IfErr, OnOk, ap, append-nil, arith, refl, subst, sym}
+use Rattle.std.proofs.Common.{◌≡◌, ◌≤◌, ◌∙◌, ◌++◌, ◌∷◌, inl, inr, ℕ, List, [], length, drop, Option, Some, None, Result, Ok, Err, IfOk, IfErr, OnOk, ap, append-nil, arith, refl, subst, sym}
 use Rattle.std.specs.Prelude.{IsTrue}
-use Rattle.std.proofs.lemmas.List.{length-append, take_all}
+use Rattle.std.proofs.lemmas.List.{drop_all, length-append, take_all}
+use Rattle.std.proofs.Math.Seq.{drop-append_seam}
 use Rattle.sqlite.specs.Tree.{Trees}
 use Rattle.sqlite.specs.Effect.{Database}
 use Rattle.sqlite.specs.Store.{Ghosts}
 use Rattle.sqlite.specs.State as db
 use Rattle.uu_core.specs.State.{State}
-use Rattle.uu_core.specs.Run.{state_after, replies_to}
+use Rattle.uu_core.specs.Run.{state_after}
 use Rattle.uu_core.specs.declared.command.Command.{Command}
 use Rattle.uu_core.specs.declared.command.Reply.{Reply}
 use Rattle.uu_schema.specs.declared.fault.StoreFault.{StoreFault}
-use Rattle.uu_schema.specs.declared.fault.StoreFault.TheVariants as store
 use Rattle.uu_store.specs.Encoded.{Leaves}
 use Rattle.uu_store.specs.Runs.{Ran, GoesOn}
 use Rattle.uu_store.specs.Spool.{Shows, disk}
 use Rattle.uu_store.specs.declared.spool.Spool.{Spool}
 use Rattle.uu_settings.specs.declared.settings.Settings.{Settings}
 use Rattle.uu_request.specs.declared.request.Request.{Request}
-use Rattle.uuspool.specs.Served.{Ask, EndsAs, IsOutput, IsServed, IsFaultOf, answered_text, commands_of}
-use Rattle.uuspool.specs.Sessions.{Line, Serves, Further, AreLeft, AreServed, LeadOn, IsToldAs, IsUnasked, AreTold, IsOneRun, commands_in, left_fault}
+use Rattle.uuspool.specs.Served.{Ask, EndsAs, IsOutput, IsServed, IsFaultOf, commands_of}
+use Rattle.uuspool.specs.Sessions.{Line, Further, AreLeft, AreServed, LeadOn, IsToldAs, IsUnasked, AreTold, IsOneRun, commands_in, left_fault}
 use Rattle.uuspool.specs.declared.fault.Fault.{Fault}
 use Rattle.uuspool.specs.declared.fault.Fault.TheVariants as fault
 
@@ -33,8 +33,8 @@ nones_ask_nothing : (lines : List Line) → commands_in (nones lines) ≡ []
 nones_ask_nothing [] = refl
 nones_ask_nothing (line ∷ lines) = nones_ask_nothing lines
 
-left_are_told : (settings : Settings) (s : State) (lines : List Line) → AreLeft lines → AreTold settings s lines (nones lines)
-left_are_told settings s [] left = tt
+left_are_told : (settings : Settings) (s : State) (lines : List Line) → AreLeft lines → AreTold settings s [] lines (nones lines)
+left_are_told settings s [] left = refl
 left_are_told settings s (line ∷ lines) (nothing, is, rest) =
     (record { nothing = nothing; why = left_fault; is = is; told = inr refl }, left_are_told settings s lines rest)
 
@@ -46,15 +46,25 @@ whole_output : (settings : Settings) (s : State) (request : Request) (output : L
 whole_output settings s request output After (Ok status) (printed, is, same, after) = subst (λ o. IsOutput settings s request o status) (sym same) is
 whole_output settings s request output After (Err f) none = tt
 
-told_as : {S : Type 0} {g : Ghosts S} (settings : Settings) (s : State) (line : Line) (request : Request) (old mid : Spool S g)
-    → Ask settings line.words line.now line.input (Ok request) → IsServed settings request old mid (λ output. line.output ≡ output) line.result
-    → db.HasCleanDisk (disk mid) → Shows old s → IsToldAs settings s line request
-told_as settings s line request old mid asks it clean shown = record {
+-- the line was done: its replies come first
+told_done : {S : Type 0} {g : Ghosts S} (settings : Settings) (s : State) (replies : List Reply) (line : Line) (request : Request) (status : ℕ) (old mid : Spool S g)
+    → line.result ≡ Ok status → Ask settings line.words line.now line.input (Ok request)
+    → IsServed settings request old mid (λ output. line.output ≡ output) line.result
+    → db.HasCleanDisk (disk mid) → Shows old s → IsToldAs settings s replies line request
+told_done settings s replies line request status old mid done asks it clean shown = record {
   asks = asks;
   output = whole_output settings s request line.output (Shows mid (state_after s (commands_of request))) line.result (it.output clean s shown);
-  broken_off = λ why same.
-      let broken = it.broken_off why same in
-      (length it.replies, broken.1 ∙ ap (answered_text request) (it.ran.from clean s shown).answers);
+  broken_off = λ why same. absurd (cc);
+}
+
+-- the line was the last that was served: all replies that are left are its own
+told_last : {S : Type 0} {g : Ghosts S} (settings : Settings) (s : State) (line : Line) (request : Request) (old mid : Spool S g)
+    → Ask settings line.words line.now line.input (Ok request) → (it : IsServed settings request old mid (λ output. line.output ≡ output) line.result)
+    → db.HasCleanDisk (disk mid) → Shows old s → IsToldAs settings s it.replies line request
+told_last settings s line request old mid asks it clean shown = record {
+  asks = asks;
+  output = whole_output settings s request line.output (Shows mid (state_after s (commands_of request))) line.result (it.output clean s shown);
+  broken_off = λ why same. ((it.broken_off why same).1, (it.ran.from clean s shown).answers);
 }
 
 unasked : (settings : Settings) (line : Line) (why : Fault) → line.result ≡ Err why → line.output ≡ [] → IfErr line.result (IsFaultOf settings line.words line.now line.input)
@@ -65,6 +75,10 @@ unasked settings line why same nothing told = record {
   is = same;
   told = inl (subst (λ r. IfErr r (IsFaultOf settings line.words line.now line.input)) same told);
 }
+
+-- the replies behind those to these commands
+behind : (first second : List Reply) (commands : List Command) → length first ≡ length commands → drop (length commands) (first ++ second) ≡ second
+behind first second commands same = subst (λ n. drop n (first ++ second) ≡ second) same (drop-append_seam first second)
 
 further_on : (r : Result ℕ Fault) (A C B : Type 0) → (A → C) → Further r A B → Further r C B
 further_on (Ok status) A C B so on = so on
@@ -106,7 +120,7 @@ module _ {S : Type 0} {g : Ghosts S} (joins : Joins S g) (settles : Settles S g)
   -- the run has its own commands, replies and end, from which the rest follows
   one_run_of : (lines : List Line) (old new : Spool S g) (asked : List (Option Request)) (replies : List Reply) (stopped : Option StoreFault)
       → Ran (commands_in asked) old new replies stopped
-      → (db.HasCleanDisk (disk new) → (s : State) → Shows old s → AreTold settings s lines asked)
+      → (db.HasCleanDisk (disk new) → (s : State) → Shows old s → AreTold settings s replies lines asked)
       → (LeadOn lines → (stopped ≡ None) × (length replies ≡ length (commands_in asked)))
       → IsOneRun settings lines old new
   one_run_of lines old new asked replies stopped ran told every = record {
@@ -135,14 +149,17 @@ module _ {S : Type 0} {g : Ghosts S} (joins : Joins S g) (settles : Settles S g)
         whole : (it.stopped ≡ None) × (length it.replies ≡ length (commands_of request))
         whole = subst (λ r. OnOk r ((it.stopped ≡ None) × (length it.replies ≡ length (commands_of request)))) same it.whole
 
-        told : db.HasCleanDisk (disk new) → (s : State) → Shows old s → AreTold settings s (line ∷ lines) (Some request ∷ rest.asked)
+        told : db.HasCleanDisk (disk new) → (s : State) → Shows old s → AreTold settings s (it.replies ++ rest.replies) (line ∷ lines) (Some request ∷ rest.asked)
         told clean s shown =
             let early : db.HasCleanDisk (disk mid) = omega (arith, rest.ran.clean, clean) in
             let enough : length (commands_of request) ≤ length it.replies = omega (arith, whole.1) in
             let after : Shows mid (state_after s (commands_of request)) =
             subst (λ commands. Shows mid (state_after s commands)) (take_all (length it.replies) (commands_of request) enough)
-            ((it.ran.from early s shown).shows (subst GoesOn (sym whole.0) tt)) in
-            (told_as settings s line request old mid asks it early shown, rest.told clean (state_after s (commands_of request)) after)
+            ((it.ran.from early s shown).shows (subst GoesOn (sym whole.0) tt)) in (
+              told_done settings s (it.replies ++ rest.replies) line request status old mid same asks it early shown,
+              subst (λ replies. AreTold settings (state_after s (commands_of request)) replies lines rest.asked) (sym (behind it.replies rest.replies (commands_of request) whole.1))
+                  (rest.told clean (state_after s (commands_of request)) after),
+            )
 
         every : LeadOn (line ∷ lines) → (rest.stopped ≡ None) × (length (it.replies ++ rest.replies) ≡ length (commands_of request ++ commands_in rest.asked))
         every on =
@@ -164,8 +181,9 @@ module _ {S : Type 0} {g : Ghosts S} (joins : Joins S g) (settles : Settles S g)
         one_run_of (line ∷ lines) old new (Some request ∷ nones lines) it.replies it.stopped
         (subst (λ commands. Ran commands old new it.replies it.stopped) (sym alone) (subst (λ (n : Spool S g). Ran (commands_of request) old n it.replies it.stopped) (sym same) it.ran))
         (λ clean s shown. (
-          told_as settings s line request old mid asks it (subst (λ (n : Spool S g). db.HasCleanDisk (disk n)) same clean) shown,
-          left_are_told settings (state_after s (commands_of request)) lines left,
+          told_last settings s line request old mid asks it (subst (λ (n : Spool S g). db.HasCleanDisk (disk n)) same clean) shown,
+          subst (λ replies. AreTold settings (state_after s (commands_of request)) replies lines (nones lines)) (sym (drop_all (length (commands_of request)) it.replies it.ran.within))
+              (left_are_told settings (state_after s (commands_of request)) lines left),
         ))
         (λ on. absurd (off on))
       where
@@ -213,7 +231,7 @@ module _ {S : Type 0} {g : Ghosts S} (joins : Joins S g) (settles : Settles S g)
   -- lines that are served one after the other are one run
   pub one_run : (lines : List Line) (old new : Spool S g) → AreServed settings lines old new → IsOneRun settings lines old new
   one_run [] old new same =
-      one_run_of [] old new [] [] None (subst (λ (n : Spool S g). Ran [] old n [] None) (sym same) (ran_nothing old)) (λ clean s shown. tt) (λ on. (refl, refl))
+      one_run_of [] old new [] [] None (subst (λ (n : Spool S g). Ran [] old n [] None) (sym same) (ran_nothing old)) (λ clean s shown. refl) (λ on. (refl, refl))
   one_run (line ∷ lines) old new (mid, serves, rest) =
       one_more line lines old mid new line.result refl serves.ends serves.told
       (further_on line.result (AreServed settings lines mid new) (IsOneRun settings lines mid new) (AreLeft lines × (new ≡ mid)) (one_run lines mid new) rest)

@@ -1,6 +1,6 @@
 -- What the program tells of a fault: its number, its exit status and its line. All of it is this
 -- project's choice.
-use Rattle.std.specs.Prelude.{ℕ, ◌==◌, ◌++◌, ◌∷◌, [], true, false, List, codes, if◌then◌else◌, ⊤}
+use Rattle.std.specs.Prelude.{ℕ, ◌==◌, ◌++◌, ◌∷◌, [], true, false, List, codes, if◌then◌else◌}
 use Rattle.std.specs.Fmt.{decimal}
 use Rattle.std.specs.String.{string_bytes}
 use Rattle.uu_names.specs.declared.fault.NameFault.{NameFault}

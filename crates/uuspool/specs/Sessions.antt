@@ -1,5 +1,5 @@
 -- Lines that are served one after the other over one spool, and what the plain machine tells of them. All of it is this project's choice.
-use Rattle.std.specs.Prelude.{◌≡◌, ◌⊎◌, ◌++◌, ◌∷◌, ℕ, List, [], length, take, Option, Some, None, Result, Ok, Err, IfOk, IfErr, ⊤}
+use Rattle.std.specs.Prelude.{◌≡◌, ◌⊎◌, ◌++◌, ◌∷◌, ℕ, List, [], length, take, drop, Option, Some, None, Result, Ok, Err, IfOk, IfErr, ⊤}
 use Rattle.sqlite.specs.Store.{Ghosts}
 use Rattle.sqlite.specs.State.{HasCleanDisk}
 use Rattle.uu_core.specs.State.{State}
@@ -70,12 +70,12 @@ commands_in (None ∷ asked) = commands_in asked
 commands_in (Some request ∷ asked) = commands_of request ++ commands_in asked
 
 -- The line came to this request, and its output and status are those of the machine in this state. Where the spool gave a fault, it is the
--- output of the first commands.
-pub record IsToldAs (settings : Settings) (s : State) (line : Line) (request : Request) : Type 0 where
+-- output of the commands that were answered: the replies that are left are theirs, and the machine's.
+pub record IsToldAs (settings : Settings) (s : State) (replies : List Reply) (line : Line) (request : Request) : Type 0 where
   pub asks : Ask settings line.words line.now line.input (Ok request)
   pub output : IfOk line.result (IsOutput settings s request line.output)
   pub broken_off : (why : StoreFault) → line.result ≡ Err (fault.Store why)
-      → (count : ℕ) × (line.output ≡ answered_text request (replies_to s (take count (commands_of request))))
+      → (line.output ≡ answered_text request replies) × (replies ≡ replies_to s (take (length replies) (commands_of request)))
 
 -- the line came to no request: nothing was printed, and its fault is that of its words, its moment or its input, or it was left
 pub record IsUnasked (settings : Settings) (line : Line) : Type 0 where
@@ -84,14 +84,16 @@ pub record IsUnasked (settings : Settings) (line : Line) : Type 0 where
   pub is : line.result ≡ Err why
   pub told : IsFaultOf settings line.words line.now line.input why ⊎ (why ≡ left_fault)
 
--- what the plain machine tells of the lines from this state on, each in the state that the commands before it left
-abbrev pub AreTold : Settings → State → List Line → List (Option Request) → Type 0
-AreTold settings s [] [] = ⊤
-AreTold settings s (line ∷ lines) (None ∷ asked) = IsUnasked settings line × AreTold settings s lines asked
-AreTold settings s (line ∷ lines) (Some request ∷ asked) =
-    IsToldAs settings s line request × AreTold settings (state_after s (commands_of request)) lines asked
-AreTold settings s [] (request ∷ asked) = ⊥
-AreTold settings s (line ∷ lines) [] = ⊥
+-- What the plain machine tells of the lines from this state on, each in the state that the commands before it left. The replies are those to
+-- the lines' commands, one line's after the other's.
+abbrev pub AreTold : Settings → State → List Reply → List Line → List (Option Request) → Type 0
+AreTold settings s replies [] [] = replies ≡ []
+AreTold settings s replies (line ∷ lines) (None ∷ asked) = IsUnasked settings line × AreTold settings s replies lines asked
+AreTold settings s replies (line ∷ lines) (Some request ∷ asked) =
+    IsToldAs settings s replies line request
+    × AreTold settings (state_after s (commands_of request)) (drop (length (commands_of request)) replies) lines asked
+AreTold settings s replies [] (request ∷ asked) = ⊥
+AreTold settings s replies (line ∷ lines) [] = ⊥
 
 -- The lines are one run of the commands of their requests: what was told of each is what the machine tells, a stop leaves what the run says,
 -- and where no line had a fault of the spool, every command was answered, so that the spool shows the machine's state.
@@ -100,6 +102,6 @@ pub record IsOneRun {S : Type 0} {g : Ghosts S} (settings : Settings) (lines : L
   pub replies : List Reply
   pub stopped : Option StoreFault
   pub ran : Ran (commands_in asked) old new replies stopped
-  pub told : HasCleanDisk (spool.disk new) → (s : State) → spool.Shows old s → AreTold settings s lines asked
+  pub told : HasCleanDisk (spool.disk new) → (s : State) → spool.Shows old s → AreTold settings s replies lines asked
   pub every : LeadOn lines → (stopped ≡ None) × (length replies ≡ length (commands_in asked))
   pub shows : HasCleanDisk (spool.disk new) → (s : State) → spool.Shows old s → LeadOn lines → spool.Shows new (state_after s (commands_in asked))

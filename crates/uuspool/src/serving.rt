@@ -1,10 +1,11 @@
 //! One line of the program: what its words ask of the spool is asked, and what is answered is printed.
 
-ghost use Rattle.std.specs.Prelude.{◌≡◌, Ok, IfOk, IfErr, map};
+ghost use Rattle.std.specs.Prelude.{◌≡◌, ℕ, List, Ok, IfOk, IfErr, IsSome, map};
 ghost use Rattle.std.specs.String.{string_bytes};
 ghost use Rattle.std.specs.Io.KnownBytes.{Appends};
 ghost use Rattle.uu_request.specs.declared.request.Request.TheVariants as request;
 ghost use Rattle.uuspool.specs.Served.{Ask, EndsAs, IsEarly, IsServed, IsPrintedEnd, IsFaultOf};
+ghost use Rattle.uuspool.specs.Sessions.{Serves};
 
 use crate::answer::ask;
 use crate::fault::Fault;
@@ -42,6 +43,9 @@ pub fn serve<S: Alter, W: Write>(
         × IsServed settings.now request spool.old spool.new (λ output. Appends (W.contents out.old) (W.contents out.new) output) result)
         ((spool.new ≡ spool.old) × (out.new ≡ out.old)) }
     ensures fault { IfErr result (IsFaultOf settings.now (map string_bytes words.now) now input.now) }
+    // With a writer whose bytes are known, it is a line of those that are one run.
+    ensures serves { (output : List ℕ) → IsSome (W.contents out.old) → Appends (W.contents out.old) (W.contents out.new) output
+        → Serves settings.now (record { words = map string_bytes words.now; now = now; input = input.now; output = output; result = result }) spool.old spool.new }
 {
     match asked(alloc, words, settings, now, input) {
         Ok(Request::Commands(batch)) => run(alloc, batch, settings, spool, out),

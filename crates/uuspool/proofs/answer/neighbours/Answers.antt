@@ -1,4 +1,4 @@
-use Rattle.std.proofs.Common.{◌≡◌, ◌∙◌, List, [], ℕ, Vec, Some, None, Err, ap, inr, option_map, refl, subst, sym}
+use Rattle.std.proofs.Common.{◌≡◌, ◌∙◌, List, [], ℕ, Vec, Err, ap, inr, option_map, refl, subst, sym}
 use Rattle.std.specs.declared.alloc.Global.{Global}
 use Rattle.std.specs.Io.KnownBytes.{Appends}
 use Rattle.uu_map.specs.Entry.{IsEntry}
@@ -7,9 +7,9 @@ use Rattle.uu_schema.specs.declared.fault.StoreFault.TheVariants as store
 use Rattle.uu_schema.specs.declared.fault.StoreKind.TheVariants.{Database}
 use Rattle.uu_report.specs.Reports.{links_text}
 use Rattle.uu_request.specs.declared.request.Question.TheVariants as question
-use Rattle.uuspool.specs.Answers.{IsAnswer, no_entry}
+use Rattle.uuspool.specs.Answers.{IsAnswer}
 use Rattle.uuspool.specs.declared.fault.Fault.TheVariants as fault
-use Rattle.uuspool.proofs.AnswerLemmas.{as_broken_off, entry_shown, no_entry_shown}
+use Rattle.uuspool.proofs.AnswerLemmas.{as_broken_off, entry_shown}
 use Rattle.uuspool.proofs.ServedLemmas.{Appends-nothing, marked_is_of_call, marks_of_call, never_failed, printed, question_served, question_unanswered}
 use Rattle.uuspool.proofs.answer.neighbours.Goals as goal
 

@@ -1,9 +1,8 @@
-use Rattle.std.proofs.Common.{◌≡◌, ◌∙◌, ◌++◌, ◌∷◌, [], inl, inr, List, ℕ, Option, Some, None, ap, length, option_map, refl, subst, sym}
+use Rattle.std.proofs.Common.{◌≡◌, ◌∙◌, ◌++◌, List, ℕ, Some, ap, length, option_map, refl, subst, sym}
 use Rattle.std.specs.Io.KnownBytes.{Appends}
 use Rattle.uu_request.specs.declared.request.Question.TheVariants as question
-use Rattle.uuspool.specs.Answers.{IsAnswer, IsShown, IsEntryShown, no_job, no_entry}
+use Rattle.uuspool.specs.Answers.{IsAnswer, IsShown, no_job}
 use Rattle.uuspool.proofs.ServedLemmas.{Appends-nothing, marked_is_of_call, marks_of_call, printed, question_served, question_unanswered}
-use Rattle.uu_core.specs.State.{job_at}
 use Rattle.uu_report.specs.Reports.{IsJobLine}
 use Rattle.uu_store.specs.HandedOut.{job_shown, job_with}
 use Rattle.uuspool.proofs.AnswerLemmas.{shown_head}

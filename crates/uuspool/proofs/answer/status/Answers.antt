@@ -1,4 +1,4 @@
-use Rattle.std.proofs.Common.{List, ℕ, FitsSigned, w32, arith, refl, subst, sym, ◌∙◌}
+use Rattle.std.proofs.Common.{List, ℕ, FitsSigned, w32, arith, refl, subst, ◌∙◌}
 use Rattle.std.proofs.Math.Facts.{to_z-of_z}
 use Rattle.jiff.proofs.SpanFacts.{signed_arith}
 use Rattle.std.specs.Io.KnownBytes.{Appends}

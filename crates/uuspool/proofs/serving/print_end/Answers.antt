@@ -1,4 +1,4 @@
-use Rattle.std.proofs.Common.{◌≡◌, ◌∙◌, List, ℕ, IfOk, ap, subst}
+use Rattle.std.proofs.Common.{◌≡◌, ◌∙◌, List, IfOk, ap, subst}
 use Rattle.std.specs.Io.KnownBytes.{Appends}
 use Rattle.uu_core.specs.declared.command.Reply.{Reply}
 use Rattle.uu_report.specs.Outputs.{output_text, replies_status}

@@ -1,4 +1,4 @@
-use Rattle.std.proofs.Common.{◌≡◌, ◌∙◌, List, ℕ, ap, length, subst}
+use Rattle.std.proofs.Common.{◌∙◌, List, ℕ, ap, length, subst}
 use Rattle.std.specs.Io.KnownBytes.{Appends}
 use Rattle.uu_core.specs.declared.command.Command.{Command}
 use Rattle.uu_report.specs.declared.output.Subject.{Subject}
