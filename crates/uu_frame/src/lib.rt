@@ -1,0 +1,10 @@
+//! Requests and answers as frames in a stream of bytes. It knows nothing of what they mean.
+#![tactic(auto)]
+
+mod answer;
+mod fault;
+mod request;
+
+pub use answer::write_answer;
+pub use fault::FrameFault;
+pub use request::{Frame, read_request};
