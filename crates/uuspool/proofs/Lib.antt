@@ -1,5 +1,7 @@
 pub mod AnswerLemmas
 pub mod AskLemmas
+pub mod BatchCallLemmas
+pub mod BatchLemmas
 pub mod EndLemmas
 pub mod FaultLemmas
 pub mod LineLemmas

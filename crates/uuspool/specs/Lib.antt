@@ -4,3 +4,6 @@ pub mod Lines
 pub mod Answers
 pub mod Served
 pub mod Sessions
+pub mod Batch
+pub mod BatchSteps
+pub mod BatchCalls

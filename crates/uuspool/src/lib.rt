@@ -3,6 +3,8 @@
 #![tactic(auto)]
 
 mod answer;
+mod batch_call;
+mod batching;
 mod fault;
 mod input;
 pub mod laws;
@@ -12,6 +14,8 @@ mod print;
 mod report;
 mod serving;
 
+pub use batch_call::batch_settings;
+pub use batching::{Clock, batch};
 pub use fault::{Fault, fault_line, fault_status};
 pub use input::{READ_LIMIT, read_input};
 pub use line::line_of;

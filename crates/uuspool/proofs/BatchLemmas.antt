@@ -1,0 +1,307 @@
+-- How a batch goes from request to request.
+use Rattle.std.proofs.Common.{◌≡◌, ◌≢◌, ◌⊎◌, ◌∙◌, ◌++◌, ◌∷◌, inl, inr, ℕ, Bool, true, false, true≢false, not, List, [], All, Option, Some, None, Result, Ok, Err, IfOk, IfErr, IfSome, ap, append-nil, append_assoc, refl, subst, sym}
+use Rattle.std.specs.Prelude.{⊤}
+use Rattle.std.specs.List.{AllByRecursion, FoldsTo, flat_map}
+use Rattle.std.specs.Io.KnownBytes.{Appends, Consumes, IsAtEnd}
+use Rattle.std.proofs.KnownBytes.{Appends-nil, Appends-trans, Consumes-nil, Consumes-trans}
+use Rattle.std.proofs.lemmas.List.Concat.{flat_map-append}
+use Rattle.sqlite.specs.Store.{Ghosts}
+use Rattle.uu_core.specs.Run.{state_after}
+use Rattle.uu_frame.specs.Frames.{IsBare}
+use Rattle.uu_settings.specs.declared.settings.Settings.{Settings}
+use Rattle.uu_request.specs.declared.request.Request.{Request}
+use Rattle.uu_store.specs.Spool as spool
+use Rattle.uu_store.specs.declared.spool.Spool.{Spool}
+use Rattle.uuspool.specs.Batch.{Begins, EndsWith, IsBatch, IsNext, IsOfStream, answer_of, fault_answer, frame_of, line_with}
+use Rattle.uuspool.specs.BatchSteps.{IsStep}
+use Rattle.uuspool.specs.Faults.{status_of}
+use Rattle.uuspool.specs.Served.{Ask, EndsAs, IsFaultOf, IsOutput, IsServed, answered_text, commands_of}
+use Rattle.uuspool.specs.Sessions.{AreLeft, AreServed, Further, IsOneRun, LeadOn, Line, Serves, left_fault}
+use Rattle.uuspool.specs.declared.batching.Step.{Step}
+use Rattle.uuspool.specs.declared.batching.Step.TheVariants as step
+use Rattle.uuspool.specs.declared.fault.Fault.{Fault}
+use Rattle.uuspool.specs.declared.fault.Fault.TheVariants as fault
+
+-- ---- by whether others are served after an end
+
+further_is : (r : Result ℕ Fault) (A B : Type 0) → A → B → Further r A B
+further_is (Ok status) A B a b = a
+further_is (Err (fault.Store why)) A B a b = b
+further_is (Err fault.Write) A B a b = b
+further_is (Err fault.Memory) A B a b = b
+further_is (Err (fault.Words text help)) A B a b = a
+further_is (Err (fault.Settings why)) A B a b = a
+further_is (Err (fault.Name why)) A B a b = a
+further_is (Err (fault.Time why)) A B a b = a
+further_is (Err fault.TwoSystems) A B a b = a
+further_is (Err fault.Input) A B a b = a
+further_is (Err fault.Read) A B a b = a
+
+further_map : (r : Result ℕ Fault) (A B X Y C D : Type 0) → (A → X → C) → (B → Y → D) → Further r A B → Further r X Y → Further r C D
+further_map (Ok status) A B X Y C D on off p q = on p q
+further_map (Err (fault.Store why)) A B X Y C D on off p q = off p q
+further_map (Err fault.Write) A B X Y C D on off p q = off p q
+further_map (Err fault.Memory) A B X Y C D on off p q = off p q
+further_map (Err (fault.Words text help)) A B X Y C D on off p q = on p q
+further_map (Err (fault.Settings why)) A B X Y C D on off p q = on p q
+further_map (Err (fault.Name why)) A B X Y C D on off p q = on p q
+further_map (Err (fault.Time why)) A B X Y C D on off p q = on p q
+further_map (Err fault.TwoSystems) A B X Y C D on off p q = on p q
+further_map (Err fault.Input) A B X Y C D on off p q = on p q
+further_map (Err fault.Read) A B X Y C D on off p q = on p q
+
+-- ---- a line as it is served
+
+ends_map : (r : Result ℕ Fault) (A B C D : Type 0) → (A → C) → (B → D) → EndsAs r A B → EndsAs r C D
+ends_map (Ok status) A B C D served still p = served p
+ends_map (Err (fault.Store why)) A B C D served still p = served p
+ends_map (Err fault.Write) A B C D served still p = served p
+ends_map (Err fault.Memory) A B C D served still (inl p) = inl (served p)
+ends_map (Err fault.Memory) A B C D served still (inr p) = inr (still p)
+ends_map (Err (fault.Words text help)) A B C D served still p = still p
+ends_map (Err (fault.Settings why)) A B C D served still p = still p
+ends_map (Err (fault.Name why)) A B C D served still p = still p
+ends_map (Err (fault.Time why)) A B C D served still p = still p
+ends_map (Err fault.TwoSystems) A B C D served still p = still p
+ends_map (Err fault.Input) A B C D served still p = still p
+ends_map (Err fault.Read) A B C D served still p = still p
+
+output_as : (r : Result ℕ Fault) (Is : List ℕ → ℕ → Type 0) (W V : List ℕ → Type 0) (After : Type 0) → ((output : List ℕ) → W output → V output)
+    → IfOk r (λ status. (output : List ℕ) × Is output status × W output × After) → IfOk r (λ status. (output : List ℕ) × Is output status × V output × After)
+output_as (Ok status) Is W V After to (output, is, wrote, after) = (output, is, to output wrote, after)
+output_as (Err f) Is W V After to none = tt
+
+module _ {S : Type 0} {g : Ghosts S} (settings : Settings) where
+  served_as : (request : Request) (old new : Spool S g) (W V : List ℕ → Type 0) (r : Result ℕ Fault)
+      → ((output : List ℕ) → W output → V output) → IsServed settings request old new W r → IsServed settings request old new V r
+  served_as request old new W V r to it = record {
+    replies = it.replies;
+    stopped = it.stopped;
+    ran = it.ran;
+    whole = it.whole;
+    output = λ clean s shown. output_as r (IsOutput settings s request) W V (spool.Shows new (state_after s (commands_of request))) to (it.output clean s shown);
+    broken_off = λ why same. (let broken = it.broken_off why same in (broken.0, to (answered_text request it.replies) broken.1));
+    late = it.late;
+    marked = it.marked;
+    failed = it.failed;
+  }
+
+  -- what `serve` says of the words and the input that it was given, over an empty output
+  pub line_serves : (words given : List (List ℕ)) (now : ℕ) (input bytes output : List ℕ) (old new : Spool S g) (W : List ℕ → Type 0) (Still : Type 0) (r : Result ℕ Fault)
+      → given ≡ words → bytes ≡ input → ((printed : List ℕ) → W printed → output ≡ printed) → (Still → (new ≡ old) × (output ≡ []))
+      → EndsAs r ((request : Request) × Ask settings given now bytes (Ok request) × IsServed settings request old new W r) Still
+      → IfErr r (IsFaultOf settings given now bytes) → Serves settings (line_with words now input output r) old new
+  line_serves words given now input bytes output old new W Still r same_words same_bytes to still ends told = record {
+    ends = ends_map r ((request : Request) × Ask settings given now bytes (Ok request) × IsServed settings request old new W r) Still
+        ((request : Request) × Ask settings words now input (Ok request) × IsServed settings request old new (λ printed. output ≡ printed) r)
+        ((new ≡ old) × (output ≡ []))
+        (λ served. (
+          served.0,
+          subst (λ w. Ask settings w now input (Ok served.0)) same_words (subst (λ b. Ask settings given now b (Ok served.0)) same_bytes served.1),
+          served_as served.0 old new W (λ printed. output ≡ printed) r to served.2,
+        )) still ends;
+    told = subst (λ w. IfErr r (IsFaultOf settings w now input)) same_words (subst (λ b. IfErr r (IsFaultOf settings given now b)) same_bytes told);
+  }
+
+-- ---- what a flag says
+
+pub not_true : (b : Bool) → not b ≡ true → b ≡ false
+not_true true is = sym is
+not_true false is = refl
+
+pub not_false : (b : Bool) → not b ≡ false → b ≡ true
+not_false true is = refl
+not_false false is = sym is
+
+-- ---- one line more
+
+-- some line does not lead on
+abbrev pub LeadOff : List Line → Type 0
+LeadOff [] = ⊥
+LeadOff (line ∷ lines) = Further line.result (LeadOff lines) ⊤
+
+left_more : (lines : List Line) (line : Line) → AreLeft lines → line.output ≡ [] → line.result ≡ Err left_fault → AreLeft (lines ++ line ∷ [])
+left_more [] line left nothing is = (nothing, is, tt)
+left_more (first ∷ lines) line (a, b, left) nothing is = (a, b, left_more lines line left nothing is)
+
+on_more : (lines : List Line) (line : Line) → LeadOn lines → Further line.result ⊤ ⊥ → LeadOn (lines ++ line ∷ [])
+on_more [] line on more = more
+on_more (first ∷ lines) line on more =
+    further_map first.result (LeadOn lines) ⊥ ⊤ ⊤ (LeadOn (lines ++ line ∷ [])) ⊥ (λ on t. on_more lines line on more) (λ no t. no) on (further_is first.result ⊤ ⊤ tt tt)
+
+off_more : (lines : List Line) (line : Line) → LeadOff lines → LeadOff (lines ++ line ∷ [])
+off_more [] line off = absurd off
+off_more (first ∷ lines) line off =
+    further_map first.result (LeadOff lines) ⊤ ⊤ ⊤ (LeadOff (lines ++ line ∷ [])) ⊤ (λ off t. off_more lines line off) (λ t u. tt) off (further_is first.result ⊤ ⊤ tt tt)
+
+off_now : (lines : List Line) (line : Line) → LeadOn lines → Further line.result ⊥ ⊤ → LeadOff (lines ++ line ∷ [])
+off_now [] line on more = more
+off_now (first ∷ lines) line on more =
+    further_map first.result (LeadOn lines) ⊥ ⊤ ⊤ (LeadOff (lines ++ line ∷ [])) ⊤ (λ on t. off_now lines line on more) (λ no t. tt) on (further_is first.result ⊤ ⊤ tt tt)
+
+all_more : (P : Line → Type 0) (lines : List Line) (line : Line) → AllByRecursion P lines → P line → AllByRecursion P (lines ++ line ∷ [])
+all_more P [] line all here = (here, tt)
+all_more P (first ∷ lines) line (p, all) here = (p, all_more P lines line all here)
+
+folds_more : {C : Type 0} (R : C → Line → C → Type 0) (c : C) (lines : List Line) (d : C) (line : Line) (e : C) → FoldsTo R c lines d → R d line e → FoldsTo R c (lines ++ line ∷ []) e
+folds_more R c [] d line e same step = (e, subst (λ x. R x line e) (sym same) step, refl)
+folds_more R c (first ∷ lines) d line e (j, here, rest) step = (j, here, folds_more R j lines d line e rest step)
+
+flat_more : (f : Line → List ℕ) (lines : List Line) (line : Line) → flat_map f lines ++ f line ≡ flat_map f (lines ++ line ∷ [])
+flat_more f lines line = ap (λ back. flat_map f lines ++ back) (sym (append-nil (f line))) ∙ sym (flat_map-append f lines (line ∷ []))
+
+module _ {S : Type 0} {g : Ghosts S} (settings : Settings) where
+  served_more : (lines : List Line) (line : Line) (old mid new : Spool S g) → AreServed settings lines old mid → LeadOn lines → Serves settings line mid new → AreServed settings (lines ++ line ∷ []) old new
+  served_more [] line old mid new same on serves =
+      (new, subst (λ (m : Spool S g). Serves settings line m new) same serves, further_is line.result (new ≡ new) (⊤ × (new ≡ new)) refl (tt, refl))
+  served_more (first ∷ lines) line old mid new (m, here, rest) on serves = (
+    m,
+    here,
+    further_map first.result (AreServed settings lines m mid) (AreLeft lines × (mid ≡ m)) (LeadOn lines) ⊥
+        (AreServed settings (lines ++ line ∷ []) m new) (AreLeft (lines ++ line ∷ []) × (new ≡ m))
+        (λ rest on. served_more lines line m mid new rest on serves) (λ left no. absurd no) rest on,
+  )
+
+  unserved_more : (lines : List Line) (line : Line) (old mid new : Spool S g) → AreServed settings lines old mid → LeadOff lines
+      → line.output ≡ [] → line.result ≡ Err left_fault → new ≡ mid → AreServed settings (lines ++ line ∷ []) old new
+  unserved_more [] line old mid new same off nothing is still = absurd off
+  unserved_more (first ∷ lines) line old mid new (m, here, rest) off nothing is still = (
+    m,
+    here,
+    further_map first.result (AreServed settings lines m mid) (AreLeft lines × (mid ≡ m)) (LeadOff lines) ⊤
+        (AreServed settings (lines ++ line ∷ []) m new) (AreLeft (lines ++ line ∷ []) × (new ≡ m))
+        (λ rest off. unserved_more lines line m mid new rest off nothing is still) (λ left t. (left_more lines line left.0 nothing is, still ∙ left.1)) rest off,
+  )
+
+-- ---- a stream so far
+
+begins_of : (had left : Option (List ℕ)) (front : List ℕ) → Consumes had left front → Begins had front
+begins_of None left front consumes = tt
+begins_of (Some all) None front consumes = absurd consumes
+begins_of (Some all) (Some rest) front consumes = (rest, consumes)
+
+begins_then : (had left : Option (List ℕ)) (front back : List ℕ) → Consumes had left front → Begins left back → Begins had (front ++ back)
+begins_then None left front back consumes begins = tt
+begins_then (Some all) None front back consumes begins = absurd consumes
+begins_then (Some all) (Some rest) front back consumes (more, is) = (more, consumes ∙ ap (λ r. front ++ r) is ∙ sym (append_assoc front back more))
+
+whole_of : (had left : Option (List ℕ)) (front : List ℕ) → Consumes had left front → IsAtEnd left → IfSome had (λ all. all ≡ front)
+whole_of None left front consumes at_end = tt
+whole_of (Some all) None front consumes at_end = absurd consumes
+whole_of (Some all) (Some rest) front consumes at_end = consumes ∙ ap (λ r. front ++ r) at_end ∙ append-nil front
+
+-- the requests that were answered so far, and whether some line does not lead on
+pub record SoFar {S : Type 0} {g : Ghosts S} {C : Type 0} (settings : Settings) (Tells : C → ℕ → C → Type 0) (failed : Bool) (clock later : C) (old new : Spool S g) (had left held holds : Option (List ℕ)) : Type 0 where
+  pub lines : List Line
+  pub served : AreServed settings lines old new
+  pub on : failed ≡ false → LeadOn lines
+  pub off : failed ≡ true → LeadOff lines
+  pub words : AllByRecursion (λ (line : Line). All IsBare line.words) lines
+  pub clock_told : FoldsTo (λ earlier (line : Line) later. Tells earlier line.now later) clock lines later
+  pub read : Consumes had left (flat_map frame_of lines)
+  pub answered : Appends held holds (flat_map answer_of lines)
+
+-- after a line, others are served where those before it lead on and it does
+on_then : (failed leads_on : Bool) (lines : List Line) (line : Line) → (failed ≡ false → LeadOn lines) → (failed ≡ true → line.result ≡ Err left_fault)
+    → Further line.result (leads_on ≡ true) (leads_on ≡ false) → leads_on ≡ true → LeadOn (lines ++ line ∷ [])
+on_then false leads_on lines line on left further goes =
+    on_more lines line (on refl) (further_map line.result (leads_on ≡ true) (leads_on ≡ false) ⊤ ⊤ ⊤ ⊥ (λ p t. tt) (λ stops t. absurd (true≢false (sym goes ∙ stops))) further (further_is line.result ⊤ ⊤ tt tt))
+on_then true leads_on lines line on left further goes =
+    let stops : leads_on ≡ false = subst (λ r. Further r (leads_on ≡ true) (leads_on ≡ false)) (left refl) further in absurd (true≢false (sym goes ∙ stops))
+
+off_then : (failed leads_on : Bool) (lines : List Line) (line : Line) → (failed ≡ false → LeadOn lines) → (failed ≡ true → LeadOff lines)
+    → Further line.result (leads_on ≡ true) (leads_on ≡ false) → leads_on ≡ false → LeadOff (lines ++ line ∷ [])
+off_then false leads_on lines line on off further stops =
+    off_now lines line (on refl) (further_map line.result (leads_on ≡ true) (leads_on ≡ false) ⊤ ⊤ ⊥ ⊤ (λ goes t. absurd (true≢false (sym goes ∙ stops))) (λ p t. tt) further (further_is line.result ⊤ ⊤ tt tt))
+off_then true leads_on lines line on off further stops = off_more lines line (off refl)
+
+module _ {S : Type 0} {g : Ghosts S} {C : Type 0} (settings : Settings) (Tells : C → ℕ → C → Type 0) where
+  pub none_so_far : (clock : C) (old : Spool S g) (had held : Option (List ℕ)) → SoFar settings Tells false clock clock old old had had held held
+  none_so_far clock old had held = record {
+    lines = [];
+    served = refl;
+    on = λ no. tt;
+    off = λ yes. absurd (true≢false (sym yes));
+    words = tt;
+    clock_told = refl;
+    read = Consumes-nil had;
+    answered = Appends-nil held;
+  }
+
+  lines_then : (failed : Bool) (lines : List Line) (line : Line) (clock later : C) (old mid new : Spool S g) → AreServed settings lines old mid → (failed ≡ false → LeadOn lines) → (failed ≡ true → LeadOff lines)
+      → IsNext settings Tells failed clock later mid new line → AreServed settings (lines ++ line ∷ []) old new
+  lines_then false lines line clock later old mid new served on off next = served_more settings lines line old mid new served (on refl) (next.served refl)
+  lines_then true lines line clock later old mid new served on off next =
+      let left = next.left refl in unserved_more settings lines line old mid new served (off refl) left.0 left.1 left.2
+
+  module _ (failed : Bool) (clock now later : C) (old mid new : Spool S g) (had left rest held holds more : Option (List ℕ)) (so : SoFar settings Tells failed clock now old mid had left held holds) where
+    pub one_more_so_far : (leads_on after : Bool) → (after ≡ true → leads_on ≡ false) → (after ≡ false → leads_on ≡ true)
+        → (let r : Result Step Fault = Ok (step.Answered leads_on) in IsStep settings Tells failed now later mid new left rest holds more r)
+        → SoFar settings Tells after clock later old new had rest held more
+    one_more_so_far leads_on after fails goes (line, next, consumes, appends, further) = record {
+      lines = so.lines ++ line ∷ [];
+      served = lines_then failed so.lines line now later old mid new so.served so.on so.off next;
+      on = λ no. on_then failed leads_on so.lines line so.on (λ was. (next.left was).1) further (goes no);
+      off = λ yes. off_then failed leads_on so.lines line so.on so.off further (fails yes);
+      words = all_more (λ (l : Line). All IsBare l.words) so.lines line so.words next.words;
+      clock_told = folds_more (λ earlier (l : Line) later. Tells earlier l.now later) clock so.lines now line later so.clock_told next.told;
+      read = subst (Consumes had rest) (flat_more frame_of so.lines line) (Consumes-trans had left rest (flat_map frame_of so.lines) (frame_of line) so.read consumes);
+      answered = subst (Appends held more) (flat_more answer_of so.lines line) (Appends-trans held holds more (flat_map answer_of so.lines) (answer_of line) so.answered appends);
+    }
+
+    module _ (law : (lines : List Line) (old new : Spool S g) → AreServed settings lines old new → IsOneRun settings lines old new) where
+      -- the requests so far are all
+      ended_so : (r : Result ℕ Fault) → new ≡ mid
+          → IfOk r (EndsWith (IfSome had (λ all. all ≡ flat_map frame_of so.lines)) (λ last. Appends held more (flat_map answer_of so.lines ++ last)))
+          → IsBatch settings Tells clock old new had held more r
+      ended_so r still ends =
+          let served = subst (λ (n : Spool S g). AreServed settings so.lines old n) (sym still) so.served in record {
+            lines = so.lines;
+            served = served;
+            run = law so.lines old new served;
+            words = so.words;
+            clock_told = (now, so.clock_told);
+            read = begins_of had left (flat_map frame_of so.lines) so.read;
+            answered = ends;
+          }
+
+      pub batch_ended : (status : ℕ) → (let r : Result Step Fault = Ok (step.Ended status) in IsStep settings Tells failed now later mid new left rest holds more r)
+          → (let r : Result ℕ Fault = Ok status in IsBatch settings Tells clock old new had held more r)
+      batch_ended status (still, ends) = ended_so (Ok status) still (ends_with ends)
+        where
+          frames : List ℕ
+          frames = flat_map frame_of so.lines
+
+          ends_with : EndsWith (IsAtEnd left) (Appends holds more) status → EndsWith (IfSome had (λ all. all ≡ frames)) (λ last. Appends held more (flat_map answer_of so.lines ++ last)) status
+          ends_with (inl (zero, at_end, writes)) =
+              inl (zero, whole_of had left frames so.read at_end, Appends-trans held holds more (flat_map answer_of so.lines) [] so.answered writes)
+          ends_with (inr (why, is, same, writes)) = inr (why, is, same, Appends-trans held holds more (flat_map answer_of so.lines) (fault_answer why) so.answered writes)
+
+      pub batch_broken : (why : Fault) → (let r : Result Step Fault = Err why in IsStep settings Tells failed now later mid new left rest holds more r)
+          → (let r : Result ℕ Fault = Err why in IsBatch settings Tells clock old new had held more r)
+      batch_broken why (inl still) = ended_so (Err why) still tt
+      batch_broken why (inr (line, next, begins)) =
+          let served = lines_then failed so.lines line now later old mid new so.served so.on so.off next in record {
+            lines = so.lines ++ line ∷ [];
+            served = served;
+            run = law (so.lines ++ line ∷ []) old new served;
+            words = all_more (λ (l : Line). All IsBare l.words) so.lines line so.words next.words;
+            clock_told = (later, folds_more (λ earlier (l : Line) later. Tells earlier l.now later) clock so.lines now line later so.clock_told next.told);
+            read = subst (Begins had) (flat_more frame_of so.lines line) (begins_then had left (flat_map frame_of so.lines) (frame_of line) so.read begins);
+            answered = tt;
+          }
+
+-- ---- one step
+
+module _ {S : Type 0} {g : Ghosts S} {C : Type 0} (settings : Settings) (Tells : C → ℕ → C → Type 0) (failed : Bool) (clock later : C) (old new : Spool S g) (had left held holds : Option (List ℕ)) where
+  -- the stream ended with the answer to a fault of its own
+  pub step_of_end : (r : Result Step Fault) (why : Fault) → IsOfStream why → new ≡ old
+      → IfOk r (λ made. (made ≡ step.Ended (status_of why)) × Appends held holds (fault_answer why))
+      → IsStep settings Tells failed clock later old new had left held holds r
+  step_of_end (Ok (step.Ended status)) why is still (same, appends) = let status_is : status ≡ status_of why = cc in (still, inr (why, is, status_is, appends))
+  step_of_end (Ok (step.Answered leads_on)) why is still (same, appends) = absurd (cc)
+  step_of_end (Err fault) why is still none = inl still
+
+  pub step_broken : (why : Fault) (line : Line) → IsNext settings Tells failed clock later old new line → Consumes had left (frame_of line)
+      → (let r : Result Step Fault = Err why in IsStep settings Tells failed clock later old new had left held holds r)
+  step_broken why line next consumes = inr (line, next, begins_of had left (frame_of line) consumes)

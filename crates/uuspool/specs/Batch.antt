@@ -1,0 +1,89 @@
+-- A stream of requests, each a line that is served over one spool, and the stream of their answers. All of it is this project's choice.
+use Rattle.std.specs.Prelude.{◌≡◌, ◌⊎◌, ◌++◌, ◌∷◌, ℕ, Bool, true, false, List, [], All, Option, Some, None, Result, Ok, Err, IfOk, IfSome, ⊤, codes}
+use Rattle.std.specs.List.{AllByRecursion, FoldsTo, flat_map}
+use Rattle.std.specs.String.{string_bytes}
+use Rattle.std.specs.Io.KnownBytes.{Appends}
+use Rattle.sqlite.specs.Store.{Ghosts}
+use Rattle.uu_frame.specs.Frames.{IsBare, answer_frame, request_frame}
+use Rattle.uu_settings.specs.declared.settings.Settings.{Settings}
+use Rattle.uu_store.specs.declared.spool.Spool.{Spool}
+use Rattle.uuspool.specs.Faults.{line_of_fault, named, status_of}
+use Rattle.uuspool.specs.Sessions.{AreServed, IsOneRun, Line, Serves, left_fault}
+use Rattle.uuspool.specs.declared.fault.Fault.{Fault}
+use Rattle.uuspool.specs.declared.fault.Fault.TheVariants as fault
+
+-- ---- a request and its answer
+
+-- the line of a request, with what came of it
+abbrev pub line_with : List (List ℕ) → ℕ → List ℕ → List ℕ → Result ℕ Fault → Line
+line_with words now input output result = record { words = words; now = now; input = input; output = output; result = result }
+
+-- the frame of a line's request
+abbrev pub frame_of : Line → List ℕ
+frame_of line = request_frame line.words line.input
+
+-- the status of the program at an end
+abbrev pub end_status : Result ℕ Fault → ℕ
+end_status (Ok status) = status
+end_status (Err why) = status_of why
+
+-- what the program prints at an end, beside its output
+abbrev pub end_text : Result ℕ Fault → List ℕ
+end_text (Ok status) = []
+end_text (Err why) = line_of_fault why
+
+-- the frame of a line's answer: the program's status, and what it would have printed on its two outputs
+abbrev pub answer_of : Line → List ℕ
+answer_of line = answer_frame (end_status line.result) (line.output ++ end_text line.result)
+
+-- ---- the stream's own faults
+
+abbrev pub no_request : List ℕ
+no_request = named (codes "no request")
+
+-- the faults of a stream that can't be followed: a line that is none of a request, an input that is too large, bytes that can't be read or
+-- end too early or a clock that can't be read, and want of memory
+abbrev pub IsOfStream : Fault → Type 0
+IsOfStream (fault.Words text help) = (string_bytes text ≡ no_request) × (help ≡ false)
+IsOfStream fault.Input = ⊤
+IsOfStream fault.Read = ⊤
+IsOfStream fault.Memory = ⊤
+IsOfStream _ = ⊥
+
+-- the answer that tells of such a fault
+abbrev pub fault_answer : Fault → List ℕ
+fault_answer why = answer_frame (status_of why) (line_of_fault why)
+
+-- ---- one request
+
+-- The line was served at the second that the clock told, or it was left, since a line before it does not lead on.
+pub record IsNext {S : Type 0} {g : Ghosts S} {C : Type 0} (settings : Settings) (Tells : C → ℕ → C → Type 0) (failed : Bool) (clock later : C) (old new : Spool S g) (line : Line) : Type 0 where
+  pub words : All IsBare line.words
+  pub told : Tells clock line.now later
+  pub served : failed ≡ false → Serves settings line old new
+  pub left : failed ≡ true → (line.output ≡ []) × (line.result ≡ Err left_fault) × (new ≡ old)
+
+-- the bytes that a reader had begin so, where they are known
+abbrev pub Begins : Option (List ℕ) → List ℕ → Type 0
+Begins known front = IfSome known (λ all. (rest : List ℕ) × (all ≡ front ++ rest))
+
+-- how a stream ends with a status: at its end, or with the answer to a fault of its own, which is written at last
+abbrev pub EndsWith : (AtEnd : Type 0) → (Writes : List ℕ → Type 0) → ℕ → Type 0
+EndsWith AtEnd Writes status =
+    ((status ≡ 0) × AtEnd × Writes [])
+    ⊎ ((why : Fault) × IsOfStream why × (status ≡ status_of why) × Writes (fault_answer why))
+
+-- ---- the whole stream
+
+-- The lines of the requests were served one after the other, the clock asked for each. Where the batch ends with a status, the answers are
+-- theirs, in their order, and the stream was read to its end or has a fault, which is answered at last. Where an answer could not be made or
+-- written, the line in hand is the last one.
+pub record IsBatch {S : Type 0} {g : Ghosts S} {C : Type 0} (settings : Settings) (Tells : C → ℕ → C → Type 0) (clock : C) (old new : Spool S g) (had held holds : Option (List ℕ)) (result : Result ℕ Fault) : Type 0 where
+  pub lines : List Line
+  pub served : AreServed settings lines old new
+  pub run : IsOneRun settings lines old new
+  pub words : AllByRecursion (λ (line : Line). All IsBare line.words) lines
+  pub clock_told : (last : C) × FoldsTo (λ earlier (line : Line) later. Tells earlier line.now later) clock lines last
+  pub read : Begins had (flat_map frame_of lines)
+  pub answered : IfOk result
+      (EndsWith (IfSome had (λ all. all ≡ flat_map frame_of lines)) (λ last. Appends held holds (flat_map answer_of lines ++ last)))

@@ -1,0 +1,195 @@
+//! Many requests in one process: a stream of lines that are served over one spool, and the stream of their answers.
+ghost use Rattle.std.specs.Prelude.{◌≡◌, ◌⊎◌, ◌++◌, ℕ, Bool, true, false, [], Err, IfErr, IfOk, IfSome, OnOk, ⊤, map, string_bytes};
+ghost use Rattle.std.specs.Io.KnownBytes.{Appends, Consumes};
+ghost use Rattle.uu_frame.specs.Frames.{IsBare, answer_frame};
+ghost use Rattle.uuspool.specs.Sessions.{Further, Serves, left_fault};
+ghost use Rattle.uuspool.specs.Faults.{status_of};
+ghost use Rattle.uuspool.specs.Batch.{IsBatch, IsOfStream, end_status, end_text, fault_answer, line_with};
+ghost use Rattle.uuspool.specs.BatchSteps.{IsStep};
+
+use crate::fault::{Fault, fault_line, fault_status};
+use crate::laws::lines_are_one_run;
+use crate::serving::serve;
+use sqlite::Alter;
+use std::alloc::Global;
+use std::io::{BufRead, Write};
+use uu_frame::{Frame, FrameFault, read_request, write_answer};
+use uu_names::text::MAX_TEXT;
+use uu_settings::Settings;
+use uu_store::{Spool, StoreFault};
+
+/// What tells the second of a request that gives none.
+pub trait Clock {
+    // The clock told this second, and is the later one since.
+    ghost tells: { Self → ℕ → Self → Type 0 } = { λ _ _ _. ⊤ };
+
+    /// The second, or none where it can't be read.
+    fn second(&mut self) -> Option<u64>
+        ensures { IfSome result (λ second. tells self.old second self.new) };
+}
+
+/// Serves each request of the stream over the spool, and writes its answer, which is flushed before the next one is read. The clock is
+/// asked once for each. Answers the program's status: 0 at the end of the stream, and else that of the last answer, which tells a fault of
+/// the stream. After a fault of the spool, and where memory ran out within a request, no further one is carried out: each is answered that
+/// the spool failed.
+///
+/// # Errors
+/// `Write` and `Memory` where an answer could not be written or made; then the request in hand may have been carried out. `Read` after 2^64 - 1
+/// requests.
+pub fn batch<S: Alter, C: Clock, R: BufRead, W: Write>(
+    alloc: Global,
+    settings: &Settings,
+    clock: &mut C,
+    reader: &mut R,
+    spool: &mut Spool<S>,
+    out: &mut W,
+) -> Result<u8, Fault>
+    ensures { IsBatch settings.now C.tells clock.old spool.old spool.new (R.remaining reader.old) (W.contents out.old) (W.contents out.new) result }
+{
+    lines_are_one_run::<S>();
+    let mut failed = false;
+    for _ in 0..u64::MAX {
+        match answer_next(alloc, settings, failed, clock, reader, spool, out) {
+            Ok(Step::Answered { leads_on }) => failed = !leads_on,
+            Ok(Step::Ended(status)) => return Ok(status),
+            Err(fault) => return Err(fault),
+        }
+    }
+    Err(Fault::Read)
+}
+
+// What was done with the next bytes of a stream.
+enum Step {
+    // A request was answered; after it others are carried out, or are not.
+    Answered { leads_on: bool },
+    // There is no further request, and this is the program's status.
+    Ended(u8),
+}
+
+// Answers the next request of the stream, or the stream's own fault.
+fn answer_next<S: Alter, C: Clock, R: BufRead, W: Write>(
+    alloc: Global,
+    settings: &Settings,
+    failed: bool,
+    clock: &mut C,
+    reader: &mut R,
+    spool: &mut Spool<S>,
+    out: &mut W,
+) -> Result<Step, Fault>
+    ensures { IsStep settings.now C.tells failed clock.old clock.new spool.old spool.new (R.remaining reader.old) (R.remaining reader.new) (W.contents out.old) (W.contents out.new) result }
+{
+    let frame = match read_request(alloc, MAX_TEXT, reader) {
+        Ok(Some(frame)) => frame,
+        Ok(None) => return Ok(Step::Ended(0)),
+        Err(fault) => return end_with(alloc, stream_fault(alloc, fault), out),
+    };
+    let Some(now) = clock.second() else {
+        return end_with(alloc, Fault::Read, out);
+    };
+    let answer = answer_to(alloc, settings, failed, &frame, now, spool);
+    let leads_on = leads_on(&answer.end);
+    match tell(alloc, answer, out) {
+        Ok(()) => Ok(Step::Answered { leads_on }),
+        Err(fault) => Err(fault),
+    }
+}
+
+// What came of a request: what was printed, and the status or the fault.
+#[derive(Drop)]
+struct Answer {
+    output: Vec<u8>,
+    end: Result<u8, Fault>,
+}
+
+// Serves the request, unless the spool failed before.
+fn answer_to<S: Alter>(
+    alloc: Global,
+    settings: &Settings,
+    failed: bool,
+    frame: &Frame,
+    now: u64,
+    spool: &mut Spool<S>,
+) -> Answer
+    ensures served { failed ≡ false → Serves settings.now (line_with (map string_bytes frame.now.words.items) now frame.now.input.items result.output.items result.end) spool.old spool.new }
+    ensures left { failed ≡ true → (result.output.items ≡ []) × (result.end ≡ Err left_fault) × (spool.new ≡ spool.old) }
+{
+    if failed {
+        return Answer {
+            output: Vec::new(alloc),
+            end: Err(Fault::Store(StoreFault::Failed)),
+        };
+    }
+    let mut output = Vec::new(alloc);
+    let end = serve(
+        alloc,
+        &frame.words,
+        settings,
+        now,
+        &frame.input,
+        spool,
+        &mut output,
+    );
+    Answer { output, end }
+}
+
+// Whether requests after this end are carried out. The spool may have failed before memory or the output did.
+fn leads_on(end: &Result<u8, Fault>) -> bool
+    ensures { Further end.now (result ≡ true) (result ≡ false) }
+{
+    !matches!(end, Err(Fault::Store(_) | Fault::Write | Fault::Memory))
+}
+
+// Writes the answer: the status, the output, and the line of the fault.
+fn tell<W: Write>(alloc: Global, answer: Answer, out: &mut W) -> Result<(), Fault>
+    ensures answer { OnOk result (Appends (W.contents out.old) (W.contents out.new) (answer_frame (end_status answer.end) (answer.output.items ++ end_text answer.end))) }
+    ensures named { IfErr result (λ fault. (fault ≡ Fault.Write) ⊎ (fault ≡ Fault.Memory)) }
+{
+    let Answer { mut output, end } = answer;
+    let status = match end {
+        Ok(status) => status,
+        Err(fault) => {
+            let Ok(line) = fault_line(alloc, &fault) else {
+                return Err(Fault::Memory);
+            };
+            if output.extend_from_slice(&line).is_err() {
+                return Err(Fault::Memory);
+            }
+            fault_status(&fault)
+        }
+    };
+    match write_answer(alloc, status, &output, out) {
+        Ok(()) => Ok(()),
+        Err(FrameFault::Memory) => Err(Fault::Memory),
+        Err(_) => Err(Fault::Write),
+    }
+}
+
+// Ends the stream with the answer to a fault of its own.
+fn end_with<W: Write>(alloc: Global, fault: Fault, out: &mut W) -> Result<Step, Fault>
+    ensures { IfOk result (λ step. (step ≡ Step.Ended (status_of fault)) × Appends (W.contents out.old) (W.contents out.new) (fault_answer fault)) }
+{
+    let status = fault_status(&fault);
+    let answer = Answer {
+        output: Vec::new(alloc),
+        end: Err(fault),
+    };
+    match tell(alloc, answer, out) {
+        Ok(()) => Ok(Step::Ended(status)),
+        Err(fault) => Err(fault),
+    }
+}
+
+// A fault of the stream as the program tells it.
+fn stream_fault(alloc: Global, fault: FrameFault) -> Fault
+    ensures { IsOfStream result }
+{
+    match fault {
+        FrameFault::NoRequest => match String::from_str(alloc, "uuspool: no request\n") {
+            Ok(text) => Fault::Words { text, help: false },
+            Err(_) => Fault::Memory,
+        },
+        FrameFault::TooLarge => Fault::Input,
+        FrameFault::Memory => Fault::Memory,
+        FrameFault::Read | FrameFault::Write => Fault::Read,
+    }
+}
