@@ -2,6 +2,9 @@
 //! the library run the line.
 #![tactic(auto)]
 
+mod batching;
+
+use crate::batching::batch_on;
 use sqlite::{Alter, FileStore};
 use sqlite_disk::Disk;
 use std::io::Write;
@@ -9,7 +12,10 @@ use std::process::ExitCode;
 use std::time::SystemTime;
 use std::{env, fs, io};
 use uu_store::{Spool, StoreFault, start};
-use uuspool::{Fault, Settings, fault_line, fault_status, line_of, moment_of, read_input, serve};
+use uuspool::{
+    Fault, Settings, batch_settings, fault_line, fault_status, line_of, moment_of, read_input,
+    serve,
+};
 
 /// The most bytes of a log that a run leaves beside the spool's file: an opening reads it whole.
 const LOG_LIMIT: u64 = 262_144;
@@ -24,14 +30,46 @@ fn main(rt: HostRuntime) -> ExitCode {
     }
 }
 
-// Runs the line that the process was given.
+// Does what the process was asked.
 fn run(rt: &HostRuntime) -> Result<u8, Fault> {
     let words = words_of(rt)?;
-    let needs = needs_of(rt, &words)?;
+    match batch_settings(&words) {
+        Some(path) => run_batch(rt, path),
+        None => run_line(rt, &words),
+    }
+}
+
+// Answers the requests on standard input, with the settings of this path.
+fn run_batch(rt: &HostRuntime, path: &str) -> Result<u8, Fault> {
+    let settings = settings_in(rt, path)?;
+    run_on_file(rt, &settings, &Work::Requests)
+}
+
+// Runs the line that these words mean.
+fn run_line(rt: &HostRuntime, words: &[String]) -> Result<u8, Fault> {
+    let needs = needs_of(rt, words)?;
     let settings = settings_in(rt, needs.config.as_str())?;
     let now = now_for(rt, needs.at, &settings)?;
     let input = input_for(rt, needs.input)?;
-    run_on_file(rt, &words, &settings, now, &input)
+    let work = Work::Line {
+        words,
+        now,
+        input: &input,
+    };
+    run_on_file(rt, &settings, &work)
+}
+
+// What is done over the spool.
+#[derive(Drop)]
+enum Work<'a> {
+    // A line, at this second where it gives none, with this input.
+    Line {
+        words: &'a [String],
+        now: u64,
+        input: &'a [u8],
+    },
+    // The requests on standard input.
+    Requests,
 }
 
 // The words after the program's name.
@@ -111,32 +149,24 @@ fn input_for(rt: &HostRuntime, takes_input: bool) -> Result<Vec<u8>, Fault> {
     }
 }
 
-// Runs the line over the file of the settings. No other function names the spool over a file, since
+// Does the work over the file of the settings. No other function names the spool over a file, since
 // each that does is dear to prove.
-fn run_on_file(
-    rt: &HostRuntime,
-    words: &[String],
-    settings: &Settings,
-    now: u64,
-    input: &[u8],
-) -> Result<u8, Fault> {
+fn run_on_file(rt: &HostRuntime, settings: &Settings, work: &Work<'_>) -> Result<u8, Fault> {
     let opened = start(rt, settings.spool.as_str());
-    run_on(rt, words, settings, now, input, opened)
+    run_on(rt, settings, work, opened)
 }
 
-// Runs the line over a spool, if it opened, and lets it go. The answer is printed by then, so a close that
+// Does the work over a spool, if it opened, and lets it go. All is answered by then, so a close that
 // fails changes nothing of it: the log keeps what it has, and the next run tries again.
 fn run_on<D: Disk + Drop>(
     rt: &HostRuntime,
-    words: &[String],
     settings: &Settings,
-    now: u64,
-    input: &[u8],
+    work: &Work<'_>,
     opened: Result<Spool<FileStore<D>>, StoreFault>,
 ) -> Result<u8, Fault> {
     match opened {
         Ok(mut spool) => {
-            let answer = answer_on(rt, words, settings, now, input, &mut spool);
+            let answer = answer_on(rt, settings, work, &mut spool);
             let is_long = answer.is_ok() && is_log_long(rt, settings.spool.as_str());
             let_go(spool, is_long);
             answer
@@ -145,17 +175,20 @@ fn run_on<D: Disk + Drop>(
     }
 }
 
-// Runs the line over a spool.
+// Does the work over a spool.
 fn answer_on<S: Alter>(
     rt: &HostRuntime,
-    words: &[String],
     settings: &Settings,
-    now: u64,
-    input: &[u8],
+    work: &Work<'_>,
     spool: &mut Spool<S>,
 ) -> Result<u8, Fault> {
-    let mut out = io::writer(rt);
-    serve(rt.alloc(), words, settings, now, input, spool, &mut out)
+    match work {
+        Work::Line { words, now, input } => {
+            let mut out = io::writer(rt);
+            serve(rt.alloc(), words, settings, *now, input, spool, &mut out)
+        }
+        Work::Requests => batch_on(rt, settings, spool),
+    }
 }
 
 // Lets the spool go, and closes its files where their log is long.
