@@ -4,7 +4,7 @@ use Rattle.std.proofs.lemmas.List.{take_more}
 use Rattle.std.proofs.lemmas.List.Concat.{flat_map-append}
 use Rattle.std.proofs.lemmas.Slice.Zip.{get_or-zip}
 use Rattle.std.specs.List.{flat_map, zip}
-use Rattle.uu_report.specs.Reports.{AreLines, spaced}
+use Rattle.uu_report.specs.Reports.{AreLines, spaced, line_of}
 
 AreLines-append : {X : Type 0} (IsLine : X → List ℕ → Type 0) (xs : List X) (x : X) (report line : List ℕ)
     → AreLines IsLine xs report → IsLine x line → AreLines IsLine (xs ++ x ∷ []) (report ++ line)
@@ -42,3 +42,8 @@ pub spaced-append : (text : List ℕ) (texts : List (List ℕ)) (more : List ℕ
 spaced-append text [] more = refl
 spaced-append text (next ∷ texts) more =
     ap (λ t. text ++ 32 ∷ t) (spaced-append next texts more) ∙ sym (append_assoc text (32 ∷ spaced (next ∷ texts)) (32 ∷ more))
+
+-- a line that is written after a start, its last text apart
+pub line_grows : (start number system user grade moment size work : List ℕ)
+    → ((start ++ (number ++ 32 ∷ (system ++ 32 ∷ (user ++ 32 ∷ (grade ++ 32 ∷ (moment ++ 32 ∷ (size ++ 32 ∷ []))))))) ++ work) ++ 10 ∷ [] ≡ start ++ line_of (number ∷ system ∷ user ∷ grade ∷ moment ∷ size ∷ work ∷ [])
+line_grows start number system user grade moment size work = simp append_assoc refl

@@ -1,6 +1,6 @@
 //! The report of jobs.
 
-ghost use Rattle.std.specs.Prelude.{◌≡◌, ◌≤◌, ◌∷◌, IfOk, All, codes, encode_utf8};
+ghost use Rattle.std.specs.Prelude.{◌≡◌, ◌≤◌, ℕ, List, ◌∷◌, ◌++◌, IfOk, OnOk, All, codes, encode_utf8};
 ghost use Rattle.std.specs.String.{string_bytes};
 ghost use Rattle.uu_settings.specs.Offsets.{IsOffset};
 ghost use Rattle.uu_report.specs.Reports.{IsJobLine, IsJobsReport, grade_text, spaced, work_text};
@@ -19,12 +19,11 @@ pub fn jobs_report(alloc: Global, jobs: &[JobHead], offset: i32) -> Result<Vec<u
     requires offset { IsOffset offset }
     ensures { IfOk result (λ report. IsJobsReport offset jobs.now report.items) }
 {
-    let mut report = Vec::new(alloc);
+    let mut report = String::new(alloc);
     for job in jobs {
-        let line = job_line(alloc, job, offset)?;
-        report.extend_from_slice(line.as_bytes())?;
+        append_job(alloc, &mut report, job, offset)?;
     }
-    Ok(report)
+    Ok(report.into_bytes())
 }
 
 /// The line of one job.
@@ -33,14 +32,32 @@ pub fn job_line(alloc: Global, job: &JobHead, offset: i32) -> Result<String, All
     requires offset { IsOffset offset }
     ensures { IfOk result (λ line. IsJobLine offset job.now (string_bytes line)) }
 {
+    let mut line = String::new(alloc);
+    append_job(alloc, &mut line, job, offset)?;
+    Ok(line)
+}
+
+// Appends the line of one job.
+fn append_job(
+    alloc: Global,
+    text: &mut String,
+    job: &JobHead,
+    offset: i32,
+) -> Result<(), AllocError>
+    requires second { job.now.queued ≤ LAST_SECOND }
+    requires offset { IsOffset offset }
+    ensures { OnOk result ((line : List ℕ) × IsJobLine offset job.now line × (string_bytes text.new ≡ string_bytes text.old ++ line)) }
+{
     let number = job.number;
     let system = job.system.as_str();
     let user = job.user.as_str();
     let grade = letter(job.grade);
     let moment = moment_text(alloc, job.queued, offset)?;
     let size = job.size;
-    let work = work(alloc, &job.kind)?;
-    format!(in alloc; "{number} {system} {user} {grade} {moment} {size} {work}\n")
+    write!(text, "{number} {system} {user} {grade} {moment} {size} ")?;
+    append_work(text, &job.kind)?;
+    text.push_str("\n")?;
+    Ok(())
 }
 
 /// The letter or digit of a grade.
@@ -50,34 +67,38 @@ pub(crate) fn letter(grade: Grade) -> char
     char::from(grade.as_byte())
 }
 
-// What is to be done with the job.
-fn work(alloc: Global, kind: &Kind) -> Result<String, AllocError>
-    ensures { IfOk result (λ text. string_bytes text ≡ work_text kind.now) }
+// Appends what is to be done with the job.
+fn append_work(text: &mut String, kind: &Kind) -> Result<(), AllocError>
+    ensures { OnOk result (string_bytes text.new ≡ string_bytes text.old ++ work_text kind.now) }
 {
     match kind {
         Kind::Send { source, target } => {
             let source = source.as_str();
             let target = target.as_str();
-            format!(in alloc; "send {source} {target}")
+            write!(text, "send {source} {target}")
         }
         Kind::Request { source, target } => {
             let source = source.as_str();
             let target = target.as_str();
-            format!(in alloc; "request {source} {target}")
+            write!(text, "request {source} {target}")
         }
-        Kind::Execute { command, arguments } => execution(alloc, command, arguments.as_slice()),
+        Kind::Execute { command, arguments } => append_execution(
+            text,
+            command,
+            arguments.as_slice(),
+        ),
     }
 }
 
-// The command with its arguments, each after one space.
-fn execution(alloc: Global, command: &Word, arguments: &[Word]) -> Result<String, AllocError>
-    ensures { IfOk result (λ text. string_bytes text ≡ spaced (codes "exec" ∷ command.now ∷ arguments.now)) }
+// Appends the command with its arguments, each after one space.
+fn append_execution(text: &mut String, command: &Word, arguments: &[Word]) -> Result<(), AllocError>
+    ensures { OnOk result (string_bytes text.new ≡ string_bytes text.old ++ spaced (codes "exec" ∷ command.now ∷ arguments.now)) }
 {
     let command = command.as_str();
-    let mut text = format!(in alloc; "exec {command}")?;
+    write!(text, "exec {command}")?;
     for argument in arguments {
         text.push_str(" ")?;
         text.push_str(argument.as_str())?;
     }
-    Ok(text)
+    Ok(())
 }
