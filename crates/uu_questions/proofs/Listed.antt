@@ -1,6 +1,6 @@
 -- What the list of jobs, a job's pieces and an entry show of a state.
 use Rattle.std.proofs.Common.{◌≡◌, ℕ, pos, List, [], ◌∷◌, Bool, true, false, cond, ◌==◌, map, filter, refl, sym, ap, ap₂, ◌∙◌, ◌<◌, Less, Equal, Greater, Ordering, Option, Some, None, option_map, slice_get, Bor, nat_cmp}
-use Rattle.std.specs.Prelude.{IfSome, find, ⊤}
+use Rattle.std.specs.Prelude.{◌&&◌, IfSome, find, ⊤}
 use Rattle.std.specs.List.{AllByRecursion}
 use Rattle.std.specs.Ordering.{is_eq, ordering_then}
 use Rattle.std.proofs.lemmas.List.Sorted.{IsPermutation-sym}
@@ -37,12 +37,12 @@ use Rattle.uu_schema.specs.Held.{job_places, piece_places}
 use Rattle.uu_schema.specs.Cells.{job_cells, piece_cells, entry_cells}
 use Rattle.uu_core.specs.declared.filter.Filter.{Filter}
 use Rattle.uu_questions.specs.Answers.{IsOf}
-use Rattle.uu_questions.specs.Listing.{is_wanted, fits, by_rank, listed, sought}
+use Rattle.uu_questions.specs.Listing.{is_wanted, fits, WantsAll, by_rank, listed, sought}
 use Rattle.uu_rows.specs.Order.{piece_cmp, entry_cmp}
 use Rattle.uu_rows.specs.Readable.{IsHead}
-use Rattle.uu_questions.specs.Texts.{jobs_text, pieces_text, entry_text}
+use Rattle.uu_questions.specs.Texts.{all_jobs_text, jobs_text, pieces_text, entry_text}
 use Rattle.uu_rows.proofs.Meanings.{at_places, by_places}
-use Rattle.uu_questions.proofs.Meanings.{fit_terms, jobs_means, pieces_means, entry_means}
+use Rattle.uu_questions.proofs.Meanings.{fit_terms, all_jobs_means, jobs_means, pieces_means, entry_means}
 use Rattle.uu_rows.proofs.Comparing.{beside, numbered, int_cmp-nat, int_eq-nat, below_is}
 use Rattle.uu_rows.proofs.Typed.{typed_sorted, typed_only}
 use Rattle.uu_rows.proofs.InTables.{entries_are}
@@ -96,6 +96,21 @@ jobs_listed old new s f rows of h found good read =
     then_key (value_cmp-Int (pos x.grade) (pos y.grade)) (last_key (value_cmp-Int (pos x.number) (pos y.number))) ∙ ap₂ ordering_then (int_cmp-nat x.grade y.grade) (int_cmp-nat x.number y.number) in
     let sorted = typed_sorted jobs.tree fit_terms (at_places job_places) order old.now.trees (sought f) rows refl a (columns job_places) numbered (λ r. refl) (λ r. refl) job_cells hs of.holds.jobs.same
     (fits f) (λ j. then_term (wanted_test f.system j.system) (last_term (wanted_test f.user j.user))) by_rank is
+    (ascending-filter _ (fits f) hs (ascending_weaker _ (λ x y. is_eq (by_rank x y) ≡ false) apart hs (numbers_rise s of.good))) in
+    same_all job_cells head_back IsHead head_returns found (listed f s) good (all_sorted (filter (fits f) hs) (all_kept IsHead (fits f) hs (heads_good s of.good))) (sym read ∙ sorted)
+
+-- the same of all jobs, where none is wanted more than another
+pub all_jobs_listed : (old new : db.State) (s : State) (f : Filter) → WantsAll f → (rows : List Row) → IsOf s old → db.Shown all_jobs_text [] old new rows → (found : List JobHead) → AllByRecursion IsHead found → rows ≡ map job_cells found → found ≡ listed f s
+all_jobs_listed old new s f all rows of h found good read =
+    let order = by_places (3 ∷ 0 ∷ []) in
+    let q : Query = ordered jobs.tree [] (at_places job_places) order in
+    let hs = map head_of s.jobs in
+    let a = answer_of site all_jobs_text _ _ [] old new all_jobs_means of.stands.schema rows h in
+    let out : JobHead → Output = λ j. output q ([] ∷ numbered (job_cells j) ∷ []) in
+    let is : (x y : JobHead) → output_cmp q (out x) (out y) ≡ by_rank x y = λ x y.
+    then_key (value_cmp-Int (pos x.grade) (pos y.grade)) (last_key (value_cmp-Int (pos x.number) (pos y.number))) ∙ ap₂ ordering_then (int_cmp-nat x.grade y.grade) (int_cmp-nat x.number y.number) in
+    let sorted = typed_sorted jobs.tree [] (at_places job_places) order old.now.trees [] rows refl a (columns job_places) numbered (λ r. refl) (λ r. refl) job_cells hs of.holds.jobs.same
+    (fits f) (λ j. ap₂ (λ system user. is_wanted system j.system && is_wanted user j.user) (sym all.0) (sym all.1)) by_rank is
     (ascending-filter _ (fits f) hs (ascending_weaker _ (λ x y. is_eq (by_rank x y) ≡ false) apart hs (numbers_rise s of.good))) in
     same_all job_cells head_back IsHead head_returns found (listed f s) good (all_sorted (filter (fits f) hs) (all_kept IsHead (fits f) hs (heads_good s of.good))) (sym read ∙ sorted)
 

@@ -12,7 +12,7 @@ use Rattle.sqlite_sql.specs.declared.ops.ArithOp.TheVariants.{Add}
 use Rattle.uu_sql.specs.Layout.{over, where_is, equal_terms}
 use Rattle.uu_sql.proofs.Asks.{Means, ordered}
 use Rattle.uu_schema.specs.Schema.{site, spool, systems, lines, ranges, jobs, pieces, entries}
-use Rattle.uu_questions.specs.Texts.{next_text, known_text, waiting_text, head_text, system_text, lines_of_text, ranges_of_text, jobs_text, pieces_text, entry_text, held_text, open_text, due_jobs_text}
+use Rattle.uu_questions.specs.Texts.{next_text, known_text, waiting_text, head_text, system_text, lines_of_text, ranges_of_text, all_jobs_text, jobs_text, pieces_text, entry_text, held_text, open_text, due_jobs_text}
 use Rattle.uu_rows.proofs.Meanings.{at_places, by_places, is_first, head_names, system_names, line_names, range_names}
 
 -- ---- before a command
@@ -57,6 +57,10 @@ null_or_is place param = op2 Or (op2 (Is Binary) (col 0 param) (lit Null)) (wher
 
 abbrev pub fit_terms : List Term
 fit_terms = null_or_is 2 0 ∷ null_or_is 4 1 ∷ []
+
+pub all_jobs_means : Means site all_jobs_text (ordered jobs.tree [] (at_places (0 ∷ 2 ∷ 3 ∷ 4 ∷ 5 ∷ 6 ∷ 7 ∷ 8 ∷ 9 ∷ [])) (by_places (3 ∷ 0 ∷ []))) head_names
+unfolding understood everything
+all_jobs_means = record { command = refl; plain = (refl, refl); listing = refl }
 
 pub jobs_means : Means site jobs_text (ordered jobs.tree fit_terms (at_places (0 ∷ 2 ∷ 3 ∷ 4 ∷ 5 ∷ 6 ∷ 7 ∷ 8 ∷ 9 ∷ [])) (by_places (3 ∷ 0 ∷ []))) head_names
 unfolding understood everything

@@ -1,5 +1,5 @@
 -- Which jobs are listed, and in which order. (This project's choice.)
-use Rattle.std.specs.Prelude.{ℕ, Bool, true, ◌&&◌, List, [], ◌∷◌, map, filter, Option, None, Some, Vec}
+use Rattle.std.specs.Prelude.{◌≡◌, ℕ, Bool, true, ◌&&◌, List, [], ◌∷◌, map, filter, Option, None, Some, Vec}
 use Rattle.std.specs.declared.alloc.Global.{Global}
 use Rattle.std.specs.declared.cmp.Ordering.{Ordering}
 use Rattle.std.specs.Ordering.{nat_cmp, ordering_then}
@@ -23,6 +23,10 @@ fits f job = is_wanted f.system job.system && is_wanted f.user job.user
 -- by grade, the highest first, and in one grade by number
 abbrev pub by_rank : JobHead → JobHead → Ordering
 by_rank a b = ordering_then (nat_cmp a.grade b.grade) (nat_cmp a.number b.number)
+
+-- neither the system nor the user matters
+abbrev pub WantsAll : Filter → Type 0
+WantsAll f = (f.system ≡ None) × (f.user ≡ None)
 
 -- the jobs that fit, without their bytes
 abbrev pub listed : Filter → State → List JobHead

@@ -26,6 +26,9 @@ ranges_of_text = codes "SELECT system, place, low, high FROM ranges WHERE system
 
 -- ---- what users ask
 
+abbrev pub all_jobs_text : List ℕ
+all_jobs_text = codes "SELECT number, system, rank, user, kind, queued, first_word, second_word, size FROM jobs ORDER BY rank, number"
+
 abbrev pub jobs_text : List ℕ
 jobs_text = codes "SELECT number, system, rank, user, kind, queued, first_word, second_word, size FROM jobs WHERE (?1 IS NULL OR system = ?1) AND (?2 IS NULL OR user = ?2) ORDER BY rank, number"
 

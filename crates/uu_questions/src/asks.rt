@@ -2,7 +2,7 @@
 ghost use Rattle.std.specs.Prelude.{◌≡◌, false, pos, [], ◌∷◌};
 ghost use Rattle.sqlite.specs.Held.{state};
 ghost use Rattle.sqlite.specs.declared.types.Value.TheVariants.{Int, Text};
-ghost use Rattle.uu_questions.specs.Texts.{next_text, known_text, waiting_text, head_text, system_text, lines_of_text, ranges_of_text, entry_text, jobs_text, held_text, open_text};
+ghost use Rattle.uu_questions.specs.Texts.{next_text, known_text, waiting_text, head_text, system_text, lines_of_text, ranges_of_text, entry_text, all_jobs_text, jobs_text, held_text, open_text};
 ghost use Rattle.uu_questions.specs.Listing.{sought};
 ghost use Rattle.uu_rows.specs.Shows.{Shows};
 
@@ -94,6 +94,17 @@ pub(crate) fn ask_entry<S: Alter>(conn: &mut Connection<S>, name: &str) -> Resul
     conn.query_all(
         "SELECT host, bytes FROM entries WHERE host = ?1 ORDER BY host",
         params![name],
+    )
+}
+
+/// The heads of all jobs, by (rank, number).
+pub(crate) fn ask_all_jobs<S: Alter>(conn: &mut Connection<S>) -> Result<Vec<Row>, Error>
+    ensures idle { conn.old.in_transaction ≡ false → conn.new.in_transaction ≡ false }
+    ensures shows { Shows all_jobs_text [] (state S.Store conn.old) (state S.Store conn.new) result }
+{
+    conn.query_all(
+        "SELECT number, system, rank, user, kind, queued, first_word, second_word, size FROM jobs ORDER BY rank, number",
+        &[],
     )
 }
 

@@ -1,14 +1,15 @@
 // Jobs without their bytes, and one job with them.
-ghost use Rattle.std.specs.Prelude.{◌≡◌, ◌==◌, ◌++◌, false, ℕ, List, filter, flat_map, option_map};
+ghost use Rattle.std.specs.Prelude.{◌≡◌, ◌==◌, ◌++◌, true, false, ℕ, List, filter, flat_map, option_map};
 ghost use Rattle.sqlite.specs.Held.{state};
 ghost use Rattle.sqlite.specs.Order.{Row, column};
 ghost use Rattle.sqlite.specs.declared.types.Value.TheVariants.{Blob};
+ghost use Rattle.uu_core.specs.declared.filter.Filter.{Filter};
 ghost use Rattle.uu_core.specs.State.{job_at};
 ghost use Rattle.uu_tables.specs.Tables.{tables_of};
 ghost use Rattle.uu_questions.specs.Answers.{Answers};
-ghost use Rattle.uu_questions.specs.Listing.{listed, handed_out, whole};
+ghost use Rattle.uu_questions.specs.Listing.{WantsAll, listed, handed_out, whole};
 
-use crate::asks::ask_jobs;
+use crate::asks::{ask_all_jobs, ask_jobs};
 use crate::facts::head_of_job;
 use crate::walk::{RowTaker, walk_rows};
 use sqlite::types::ValueRef;
@@ -16,6 +17,35 @@ use sqlite::{Alter, Connection, Error, Row, params};
 use std::alloc::Global;
 use uu_core::{Filter, JobHead};
 use uu_rows::read_rows;
+
+// Whether neither the system nor the user matters.
+fn wants_all(filter: &Filter) -> bool
+    ensures { result ≡ true → WantsAll filter.now }
+{
+    filter.system_text().is_none() && filter.user_text().is_none()
+}
+
+// All jobs, which are those that fit where neither the system nor the user matters.
+fn list_all_jobs<S: Alter>(alloc: Global, conn: &mut Connection<S>) -> Result<Vec<JobHead>, Error>
+    ensures idle { conn.old.in_transaction ≡ false → conn.new.in_transaction ≡ false }
+    ensures answers { (f : Filter) → WantsAll f → Answers (λ s heads. heads.items ≡ listed f s) (state S.Store conn.old) (state S.Store conn.new) result }
+{
+    let rows = ask_all_jobs(conn)?;
+    read_rows(alloc, &rows)
+}
+
+// The jobs that fit.
+fn list_fitting_jobs<S: Alter>(
+    alloc: Global,
+    conn: &mut Connection<S>,
+    filter: &Filter,
+) -> Result<Vec<JobHead>, Error>
+    ensures idle { conn.old.in_transaction ≡ false → conn.new.in_transaction ≡ false }
+    ensures answers { Answers (λ s heads. heads.items ≡ listed filter.now s) (state S.Store conn.old) (state S.Store conn.new) result }
+{
+    let rows = ask_jobs(conn, filter)?;
+    read_rows(alloc, &rows)
+}
 
 /// The jobs that fit, without their bytes, by (rank, number).
 pub fn list_jobs<S: Alter>(
@@ -26,8 +56,11 @@ pub fn list_jobs<S: Alter>(
     ensures idle { conn.old.in_transaction ≡ false → conn.new.in_transaction ≡ false }
     ensures answers { Answers (λ s heads. heads.items ≡ listed filter.now s) (state S.Store conn.old) (state S.Store conn.new) result }
 {
-    let rows = ask_jobs(conn, filter)?;
-    read_rows(alloc, &rows)
+    if wants_all(filter) {
+        list_all_jobs(alloc, conn)
+    } else {
+        list_fitting_jobs(alloc, conn, filter)
+    }
 }
 
 // The bytes of the pieces so far.
