@@ -6,7 +6,7 @@ use std::process::Abort;
 use uu_store::Spool;
 use uuspool::{Fault, Settings, serve};
 
-const SETTINGS: &str = "name = \"mysite\"\nspool = \"spool.db\"\n";
+pub(crate) const SETTINGS: &str = "name = \"mysite\"\nspool = \"spool.db\"\n";
 
 /// 2001-09-09 01:46:40 UTC.
 const NOW: u64 = 1_000_000_000;
