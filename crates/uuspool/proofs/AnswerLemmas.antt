@@ -1,9 +1,15 @@
 -- What is handed out of a spool, as the state has it.
-use Rattle.std.proofs.Common.{◌≡◌, ℕ, List, length, Option, Some, None, ap, option_map, refl, subst}
+use Rattle.std.proofs.Common.{◌≡◌, ℕ, Bool, List, [], ◌∷◌, length, All, find, Option, Some, None, Result, Ok, Err, IfSome, ap, option_map, refl, subst}
+use Rattle.std.proofs.lemmas.Bool.{cond_both}
+use Rattle.std.proofs.lemmas.List.Elements.{All-head, All-tail}
 use Rattle.sqlite.specs.Store.{Ghosts}
 use Rattle.uu_map.specs.Entry.{IsEntry}
+use Rattle.uu_map.specs.Entry as map
+use Rattle.uu_map.specs.Text.{host_of}
+use Rattle.uu_map.specs.declared.fault.MapFault.{MapFault}
+use Rattle.uu_map.specs.declared.fault.MapFault.TheVariants as entry_fault
 use Rattle.uu_map.specs.declared.entry.Entry.{Entry}
-use Rattle.uu_core.specs.State.{MapEntry, head_of}
+use Rattle.uu_core.specs.State.{MapEntry, head_of, is_entry}
 use Rattle.uu_core.specs.declared.command.Command.{Command}
 use Rattle.uu_core.specs.declared.command.Reply.{Reply}
 use Rattle.uu_core.specs.declared.job.JobHead.{JobHead}
@@ -44,3 +50,26 @@ as_broken_off commands old new replies kind ran = record {
   };
   clean = ran.clean;
 }
+
+-- what each element has, the one that is found has
+found_has : {X : Type 0} (P : X → Type 0) (test : X → Bool) (xs : List X) → All P xs → IfSome (find test xs) P
+found_has P test [] all = tt
+found_has P test (x ∷ xs) all =
+    cond_both (test x) (Some x) (find test xs) (λ found. IfSome found P) (λ _. All-head P x xs all) (λ _. found_has P test xs (All-tail P x xs all))
+
+-- a fault that is not want of memory is the text's
+pub has_fault : (text : List ℕ) (why : MapFault) → (let answer : Result Entry MapFault = Err why in map.IsAnswer text answer) → (why ≡ entry_fault.Memory → ⊥) → host_of text ≡ Err why
+has_fault text entry_fault.Memory answer none = absurd (none refl)
+has_fault text entry_fault.TooLarge answer none = answer
+has_fault text entry_fault.NoName answer none = answer
+has_fault text entry_fault.BadHost answer none = answer
+
+-- an entry that is kept can be read
+pub kept_is_readable : (entries : List MapEntry) (host text : List ℕ) (why : MapFault) → All (λ entry. host_of entry.bytes ≡ Ok entry.host) entries
+    → Some text ≡ option_map (λ (e : MapEntry). e.bytes) (find (is_entry host) entries) → host_of text ≡ Err why → ⊥
+kept_is_readable entries host text why hosts same unreadable =
+    kept (find (is_entry host) entries) same (found_has (λ (entry : MapEntry). host_of entry.bytes ≡ Ok entry.host) (is_entry host) entries hosts)
+  where
+    kept : (found : Option MapEntry) → Some text ≡ option_map (λ (e : MapEntry). e.bytes) found → IfSome found (λ entry. host_of entry.bytes ≡ Ok entry.host) → ⊥
+    kept None is has = absurd (cc)
+    kept (Some entry) is has = let bytes : text ≡ entry.bytes = cc in absurd (cc)

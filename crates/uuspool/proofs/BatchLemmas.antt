@@ -1,21 +1,17 @@
 -- How a batch goes from request to request.
-use Rattle.std.proofs.Common.{◌≡◌, ◌≢◌, ◌⊎◌, ◌∙◌, ◌++◌, ◌∷◌, inl, inr, ℕ, Bool, true, false, true≢false, not, List, [], All, Option, Some, None, Result, Ok, Err, IfOk, IfErr, IfSome, ap, append-nil, append_assoc, refl, subst, sym}
+use Rattle.std.proofs.Common.{◌≡◌, ◌∙◌, ◌++◌, ◌∷◌, inl, inr, ℕ, Bool, true, false, true≢false, not, List, [], All, Option, Some, None, Result, Ok, Err, IfOk, IfSome, ap, append-nil, append_assoc, refl, subst, sym}
 use Rattle.std.specs.Prelude.{⊤}
 use Rattle.std.specs.List.{AllByRecursion, FoldsTo, flat_map}
 use Rattle.std.specs.Io.KnownBytes.{Appends, Consumes, IsAtEnd}
 use Rattle.std.proofs.KnownBytes.{Appends-nil, Appends-trans, Consumes-nil, Consumes-trans}
 use Rattle.std.proofs.lemmas.List.Concat.{flat_map-append}
 use Rattle.sqlite.specs.Store.{Ghosts}
-use Rattle.uu_core.specs.Run.{state_after}
 use Rattle.uu_frame.specs.Frames.{IsBare}
 use Rattle.uu_settings.specs.declared.settings.Settings.{Settings}
-use Rattle.uu_request.specs.declared.request.Request.{Request}
-use Rattle.uu_store.specs.Spool as spool
 use Rattle.uu_store.specs.declared.spool.Spool.{Spool}
-use Rattle.uuspool.specs.Batch.{Begins, EndsWith, IsBatch, IsNext, IsOfStream, answer_of, fault_answer, frame_of, line_with}
+use Rattle.uuspool.specs.Batch.{Begins, EndsWith, IsBatch, IsNext, IsOfStream, answer_of, fault_answer, frame_of}
 use Rattle.uuspool.specs.BatchSteps.{IsStep}
 use Rattle.uuspool.specs.Faults.{status_of}
-use Rattle.uuspool.specs.Served.{Ask, EndsAs, IsFaultOf, IsOutput, IsServed, answered_text, commands_of}
 use Rattle.uuspool.specs.Sessions.{AreLeft, AreServed, Further, IsOneRun, LeadOn, Line, Serves, left_fault}
 use Rattle.uuspool.specs.declared.batching.Step.{Step}
 use Rattle.uuspool.specs.declared.batching.Step.TheVariants as step
@@ -49,59 +45,6 @@ further_map (Err (fault.Time why)) A B X Y C D on off p q = on p q
 further_map (Err fault.TwoSystems) A B X Y C D on off p q = on p q
 further_map (Err fault.Input) A B X Y C D on off p q = on p q
 further_map (Err fault.Read) A B X Y C D on off p q = on p q
-
--- ---- a line as it is served
-
-ends_map : (r : Result ℕ Fault) (A B C D : Type 0) → (A → C) → (B → D) → EndsAs r A B → EndsAs r C D
-ends_map (Ok status) A B C D served still p = served p
-ends_map (Err (fault.Store why)) A B C D served still p = served p
-ends_map (Err fault.Write) A B C D served still p = served p
-ends_map (Err fault.Memory) A B C D served still (inl p) = inl (served p)
-ends_map (Err fault.Memory) A B C D served still (inr p) = inr (still p)
-ends_map (Err (fault.Words text help)) A B C D served still p = still p
-ends_map (Err (fault.Settings why)) A B C D served still p = still p
-ends_map (Err (fault.Name why)) A B C D served still p = still p
-ends_map (Err (fault.Time why)) A B C D served still p = still p
-ends_map (Err fault.TwoSystems) A B C D served still p = still p
-ends_map (Err fault.Input) A B C D served still p = still p
-ends_map (Err fault.Read) A B C D served still p = still p
-
-output_as : (r : Result ℕ Fault) (Is : List ℕ → ℕ → Type 0) (W V : List ℕ → Type 0) (After : Type 0) → ((output : List ℕ) → W output → V output)
-    → IfOk r (λ status. (output : List ℕ) × Is output status × W output × After) → IfOk r (λ status. (output : List ℕ) × Is output status × V output × After)
-output_as (Ok status) Is W V After to (output, is, wrote, after) = (output, is, to output wrote, after)
-output_as (Err f) Is W V After to none = tt
-
-module _ {S : Type 0} {g : Ghosts S} (settings : Settings) where
-  served_as : (request : Request) (old new : Spool S g) (W V : List ℕ → Type 0) (r : Result ℕ Fault)
-      → ((output : List ℕ) → W output → V output) → IsServed settings request old new W r → IsServed settings request old new V r
-  served_as request old new W V r to it = record {
-    replies = it.replies;
-    stopped = it.stopped;
-    ran = it.ran;
-    whole = it.whole;
-    output = λ clean s shown. output_as r (IsOutput settings s request) W V (spool.Shows new (state_after s (commands_of request))) to (it.output clean s shown);
-    broken_off = λ why same. (let broken = it.broken_off why same in (broken.0, to (answered_text request it.replies) broken.1));
-    late = it.late;
-    marked = it.marked;
-    failed = it.failed;
-  }
-
-  -- what `serve` says of the words and the input that it was given, over an empty output
-  pub line_serves : (words given : List (List ℕ)) (now : ℕ) (input bytes output : List ℕ) (old new : Spool S g) (W : List ℕ → Type 0) (Still : Type 0) (r : Result ℕ Fault)
-      → given ≡ words → bytes ≡ input → ((printed : List ℕ) → W printed → output ≡ printed) → (Still → (new ≡ old) × (output ≡ []))
-      → EndsAs r ((request : Request) × Ask settings given now bytes (Ok request) × IsServed settings request old new W r) Still
-      → IfErr r (IsFaultOf settings given now bytes) → Serves settings (line_with words now input output r) old new
-  line_serves words given now input bytes output old new W Still r same_words same_bytes to still ends told = record {
-    ends = ends_map r ((request : Request) × Ask settings given now bytes (Ok request) × IsServed settings request old new W r) Still
-        ((request : Request) × Ask settings words now input (Ok request) × IsServed settings request old new (λ printed. output ≡ printed) r)
-        ((new ≡ old) × (output ≡ []))
-        (λ served. (
-          served.0,
-          subst (λ w. Ask settings w now input (Ok served.0)) same_words (subst (λ b. Ask settings given now b (Ok served.0)) same_bytes served.1),
-          served_as served.0 old new W (λ printed. output ≡ printed) r to served.2,
-        )) still ends;
-    told = subst (λ w. IfErr r (IsFaultOf settings w now input)) same_words (subst (λ b. IfErr r (IsFaultOf settings given now b)) same_bytes told);
-  }
 
 -- ---- what a flag says
 

@@ -16,7 +16,7 @@ use Rattle.uu_report.specs.Outputs.{answers_text, output_text, replies_status}
 use Rattle.uu_request.specs.declared.request.Batch.{Batch}
 use Rattle.uu_request.specs.declared.request.Request.TheVariants as request
 use Rattle.uuspool.proofs.ServedLemmas.{IsOfPrinting, marked_is_of_call}
-use Rattle.uuspool.specs.Served.{IsServed, IsOfCall, IsPrintedEnd, Marks}
+use Rattle.uuspool.specs.Served.{IsServed, IsNoted, IsOfCall, IsPrintedEnd, Marks}
 use Rattle.uuspool.specs.declared.fault.Fault.{Fault}
 use Rattle.uuspool.specs.declared.fault.Fault.TheVariants as fault
 
@@ -54,9 +54,9 @@ marked_stop (Some why) Whole before after marked = marked_is_of_call before afte
 
 pub run_served : {S : Type 0} {g : Ghosts S} (settings : Settings) (batch : Batch) (old new : Spool S g) (written : List ℕ → Type 0) (end : RunEnd) (r : Result ℕ Fault)
     → Ran batch.commands old new end.replies.items end.stopped → (end.stopped ≡ None → length end.replies.items ≡ length batch.commands)
-    → Marks (spool.has_failed old) (spool.has_failed new) end.stopped → (IsTrue (spool.has_failed old) → new ≡ old)
+    → Marks (spool.has_failed old) (spool.has_failed new) end.stopped → IsNoted old new end.stopped → (IsTrue (spool.has_failed old) → new ≡ old)
     → IfSome end.stopped IsOfCall → IsPrintedEnd batch.subjects batch.skipped end written r → IsServed settings (request.Commands batch) old new written r
-run_served settings batch old new written end (Ok status) ran every marked failed call printed = record {
+run_served settings batch old new written end (Ok status) ran every marked noted failed call printed = record {
   replies = end.replies.items;
   stopped = end.stopped;
   ran = ran;
@@ -74,9 +74,10 @@ run_served settings batch old new written end (Ok status) ran every marked faile
   broken_off = λ why same. absurd (cc);
   late = tt;
   marked = marked;
+  noted = noted;
   failed = failed;
 }
-run_served settings batch old new written end (Err (fault.Store why)) ran every marked failed call printed = record {
+run_served settings batch old new written end (Err (fault.Store why)) ran every marked noted failed call printed = record {
   replies = end.replies.items;
   stopped = end.stopped;
   ran = ran;
@@ -85,9 +86,10 @@ run_served settings batch old new written end (Err (fault.Store why)) ran every 
   broken_off = λ other same. (let is : why ≡ other = cc in (printed.0 ∙ ap Some is, printed.1));
   late = subst (λ stopped. IfSome stopped IsOfCall) printed.0 call;
   marked = marked;
+  noted = noted;
   failed = failed;
 }
-run_served settings batch old new written end (Err fault.Write) ran every marked failed call printed = record {
+run_served settings batch old new written end (Err fault.Write) ran every marked noted failed call printed = record {
   replies = end.replies.items;
   stopped = end.stopped;
   ran = ran;
@@ -96,9 +98,10 @@ run_served settings batch old new written end (Err fault.Write) ran every marked
   broken_off = λ other same. absurd (cc);
   late = tt;
   marked = marked;
+  noted = noted;
   failed = failed;
 }
-run_served settings batch old new written end (Err fault.Memory) ran every marked failed call printed = record {
+run_served settings batch old new written end (Err fault.Memory) ran every marked noted failed call printed = record {
   replies = end.replies.items;
   stopped = end.stopped;
   ran = ran;
@@ -107,12 +110,13 @@ run_served settings batch old new written end (Err fault.Memory) ran every marke
   broken_off = λ other same. absurd (cc);
   late = tt;
   marked = marked;
+  noted = noted;
   failed = failed;
 }
-run_served settings batch old new written end (Err (fault.Words text help)) ran every marked failed call printed = absurd printed
-run_served settings batch old new written end (Err (fault.Settings why)) ran every marked failed call printed = absurd printed
-run_served settings batch old new written end (Err (fault.Name why)) ran every marked failed call printed = absurd printed
-run_served settings batch old new written end (Err (fault.Time why)) ran every marked failed call printed = absurd printed
-run_served settings batch old new written end (Err fault.TwoSystems) ran every marked failed call printed = absurd printed
-run_served settings batch old new written end (Err fault.Input) ran every marked failed call printed = absurd printed
-run_served settings batch old new written end (Err fault.Read) ran every marked failed call printed = absurd printed
+run_served settings batch old new written end (Err (fault.Words text help)) ran every marked noted failed call printed = absurd printed
+run_served settings batch old new written end (Err (fault.Settings why)) ran every marked noted failed call printed = absurd printed
+run_served settings batch old new written end (Err (fault.Name why)) ran every marked noted failed call printed = absurd printed
+run_served settings batch old new written end (Err (fault.Time why)) ran every marked noted failed call printed = absurd printed
+run_served settings batch old new written end (Err fault.TwoSystems) ran every marked noted failed call printed = absurd printed
+run_served settings batch old new written end (Err fault.Input) ran every marked noted failed call printed = absurd printed
+run_served settings batch old new written end (Err fault.Read) ran every marked noted failed call printed = absurd printed

@@ -16,7 +16,7 @@ use Rattle.uu_settings.specs.declared.settings.Settings.{Settings}
 use Rattle.uu_request.specs.declared.request.Question.{Question}
 use Rattle.uu_request.specs.declared.request.Request.TheVariants as request
 use Rattle.uuspool.specs.Answers.{IsAnswer}
-use Rattle.uuspool.specs.Served.{IsServed, IsLate, IsOfCall, Marks, commands_of}
+use Rattle.uuspool.specs.Served.{IsServed, IsLate, IsNoted, IsOfCall, Marks, commands_of}
 use Rattle.uuspool.specs.declared.fault.Fault.{Fault}
 use Rattle.uuspool.specs.declared.fault.Fault.TheVariants as fault
 
@@ -70,6 +70,20 @@ pub marks_of_run : (before after : Bool) (stopped : Option StoreFault)
 marks_of_run before after None marked = marked
 marks_of_run before after (Some why) marked = marks_of_call before after why marked
 
+pub noted_of_call : {S : Type 0} {g : Ghosts S} (old new : Spool S g) (why : StoreFault)
+    → spool.Marks (spool.has_failed old) (spool.has_failed new) why → IsNoted old new (Some why)
+noted_of_call old new store.Memory marked = λ clean s shown kind same. absurd (cc)
+noted_of_call old new (store.Store why) marked = λ clean s shown kind same. marked.1
+noted_of_call old new store.Failed marked = λ clean s shown kind same. marked.1
+noted_of_call old new store.Foreign marked = absurd marked
+noted_of_call old new store.Newer marked = absurd marked
+
+pub noted_of_run : {S : Type 0} {g : Ghosts S} (old new : Spool S g) (stopped : Option StoreFault)
+    → MatchOption stopped ((spool.has_failed old ≡ false) × (spool.has_failed new ≡ false)) (spool.Marks (spool.has_failed old) (spool.has_failed new))
+    → IsNoted old new stopped
+noted_of_run old new None marked = λ clean s shown kind same. absurd (cc)
+noted_of_run old new (Some why) marked = noted_of_call old new why marked
+
 -- no spool had failed
 pub never_failed : {X : Type 0} (before : Bool) → before ≡ false → IsTrue before → X
 never_failed before is had = absurd (cc)
@@ -97,6 +111,7 @@ module _ {S : Type 0} {g : Ghosts S} (settings : Settings) (q : Question) (old n
     broken_off = λ why store. absurd (no_store r why printing store);
     late = late_of r printing;
     marked = marked;
+    noted = λ clean s shown kind same. absurd (cc);
     failed = never_failed (spool.has_failed old) marked.0;
   }
     where
@@ -107,9 +122,9 @@ module _ {S : Type 0} {g : Ghosts S} (settings : Settings) (q : Question) (old n
 
   -- the store gave a fault, and nothing was printed
   pub question_unanswered : (why : StoreFault) → Ran [] old new [] (Some why) → Marks (spool.has_failed old) (spool.has_failed new) (Some why)
-      → (IsTrue (spool.has_failed old) → new ≡ old) → IsOfCall why → written []
+      → IsNoted old new (Some why) → (IsTrue (spool.has_failed old) → new ≡ old) → IsOfCall why → written []
       → (let r : Result ℕ Fault = Err (fault.Store why) in IsServed settings (request.Question q) old new written r)
-  question_unanswered why ran marked failed call nothing = record {
+  question_unanswered why ran marked noted failed call nothing = record {
     replies = [];
     stopped = Some why;
     ran = ran;
@@ -118,5 +133,6 @@ module _ {S : Type 0} {g : Ghosts S} (settings : Settings) (q : Question) (old n
     broken_off = λ other same. (let is : why ≡ other = cc in subst (λ w. (let stopped : Option StoreFault = Some why in stopped ≡ Some w) × written []) is (refl, nothing));
     late = call;
     marked = marked;
+    noted = noted;
     failed = failed;
   }

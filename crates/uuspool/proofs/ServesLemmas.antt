@@ -40,6 +40,7 @@ served_as settings request old new written other r into it = record {
   broken_off = λ why same. (let broken = it.broken_off why same in (broken.0, into _ broken.1));
   late = it.late;
   marked = it.marked;
+  noted = it.noted;
   failed = it.failed;
 }
 

@@ -1,5 +1,5 @@
 -- A stream of requests, each a line that is served over one spool, and the stream of their answers. All of it is this project's choice.
-use Rattle.std.specs.Prelude.{◌≡◌, ◌⊎◌, ◌++◌, ◌∷◌, ℕ, Bool, true, false, List, [], All, Option, Some, None, Result, Ok, Err, IfOk, IfSome, ⊤, codes}
+use Rattle.std.specs.Prelude.{◌≡◌, ◌⊎◌, ◌++◌, ℕ, Bool, true, false, List, [], All, Option, Result, Ok, Err, IfOk, IfSome, ⊤, codes}
 use Rattle.std.specs.List.{AllByRecursion, FoldsTo, flat_map}
 use Rattle.std.specs.String.{string_bytes}
 use Rattle.std.specs.Io.KnownBytes.{Appends}

@@ -11,6 +11,7 @@ use Rattle.uu_core.specs.declared.command.Command.{Command}
 use Rattle.uu_core.specs.declared.command.Reply.{Reply}
 use Rattle.uu_schema.specs.declared.fault.StoreFault.{StoreFault}
 use Rattle.uu_schema.specs.declared.fault.StoreFault.TheVariants as store
+use Rattle.uu_schema.specs.declared.fault.StoreKind.{StoreKind}
 use Rattle.uu_store.specs.Runs.{Ran}
 use Rattle.uu_store.specs.Spool as spool
 use Rattle.uu_store.specs.declared.spool.Spool.{Spool}
@@ -108,6 +109,11 @@ Marks before afterwards (Some store.Failed) = (before ≡ true) × (afterwards �
 Marks before afterwards (Some store.Foreign) = ⊥
 Marks before afterwards (Some store.Newer) = ⊥
 
+-- On a clean disk, a fault of the store marks a spool that showed a state.
+abbrev pub IsNoted : {S : Type 0} {g : Ghosts S} → Spool S g → Spool S g → Option StoreFault → Type 0
+IsNoted old new stopped =
+    HasCleanDisk (spool.disk new) → (s : State) → spool.Shows old s → (kind : StoreKind) → stopped ≡ Some (store.Store kind) → spool.has_failed new ≡ true
+
 -- A request was served: it was a run of its commands, so that the replies are the machine's, the spool shows the machine's state after the
 -- commands that were answered, and a stop leaves that. With a status, all were answered, and their output was `written`. Where the store
 -- gave a fault, the output of the commands that were answered was. A spool that had failed is left as it was.
@@ -121,6 +127,7 @@ pub record IsServed {S : Type 0} {g : Ghosts S} (settings : Settings) (request :
   pub broken_off : (why : StoreFault) → result ≡ Err (fault.Store why) → (stopped ≡ Some why) × written (answered_text request replies)
   pub late : IfErr result IsLate
   pub marked : Marks (spool.has_failed old) (spool.has_failed new) stopped
+  pub noted : IsNoted old new stopped
   pub failed : IsTrue (spool.has_failed old) → new ≡ old
 
 -- How a line ends: its request was served, or nothing was changed, and nothing was printed.

@@ -96,7 +96,7 @@ AreTold settings s replies [] (request ∷ asked) = ⊥
 AreTold settings s replies (line ∷ lines) [] = ⊥
 
 -- The lines are one run of the commands of their requests: what was told of each is what the machine tells, a stop leaves what the run says,
--- and where no line had a fault of the spool, every command was answered, so that the spool shows the machine's state.
+-- and where each line leads on to the next, every command was answered, so that the spool shows the machine's state.
 pub record IsOneRun {S : Type 0} {g : Ghosts S} (settings : Settings) (lines : List Line) (old new : Spool S g) : Type 0 where
   pub asked : List (Option Request)
   pub replies : List Reply

@@ -20,6 +20,7 @@ use uu_request::Question;
 use uu_settings::Settings;
 use uu_store::{Spool, StoreFault, StoreKind};
 use uu_times::Moment;
+use uu_times::moment::LAST_SECOND;
 
 /// Asks one question, and prints the answer.
 pub(crate) fn ask<S: Alter, W: Write>(
@@ -80,7 +81,7 @@ fn job_text(
     bytes: &[u8],
     settings: &Settings,
 ) -> Result<Vec<u8>, AllocError>
-    requires { head.now.queued ≤ 4102444800 }
+    requires { head.now.queued ≤ LAST_SECOND }
     ensures { IfOk result (λ text. (line : _) × IsJobLine settings.now.offset head.now line × (text.items ≡ line ++ bytes.now)) }
 {
     let line = job_line(alloc, head, settings.offset)?;
@@ -133,8 +134,10 @@ fn neighbours<S: Alter, W: Write>(
     match spool.entry(alloc, host) {
         Ok(Some(text)) => match read_entry(alloc, &text) {
             Ok(entry) => print(links_report(alloc, &entry), 0, out),
-            Err(MapFault::Memory) => Err(Fault::Memory),
-            Err(_) => Err(Fault::Store(StoreFault::Store(StoreKind::Database))),
+            Err(fault) => match fault {
+                MapFault::Memory => Err(Fault::Memory),
+                _ => Err(Fault::Store(StoreFault::Store(StoreKind::Database))),
+            },
         },
         Ok(None) => print(Vec::from_slice(alloc, b"no entry\n"), 1, out),
         Err(fault) => Err(Fault::Store(fault)),

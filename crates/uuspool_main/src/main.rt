@@ -5,13 +5,13 @@
 mod batching;
 
 use crate::batching::batch_on;
-use sqlite::{Alter, FileStore};
+use sqlite::{Alter, FileStore, Wary};
 use sqlite_disk::Disk;
 use std::io::Write;
 use std::process::ExitCode;
 use std::time::SystemTime;
 use std::{env, fs, io};
-use uu_store::{Spool, StoreFault, start};
+use uu_store::{OpenFault, Spool, open_spool};
 use uuspool::{
     Fault, Settings, batch_settings, fault_line, fault_status, line_of, moment_of, read_input,
     serve,
@@ -149,10 +149,10 @@ fn input_for(rt: &HostRuntime, takes_input: bool) -> Result<Vec<u8>, Fault> {
     }
 }
 
-// Does the work over the file of the settings. No other function names the spool over a file, since
-// each that does is dear to prove.
+// Does the work over the file of the settings, opened by the function whose clauses speak of all contents.
+// No other function names the spool over a file, since each that does is dear to prove.
 fn run_on_file(rt: &HostRuntime, settings: &Settings, work: &Work<'_>) -> Result<u8, Fault> {
-    let opened = start(rt, settings.spool.as_str());
+    let opened = open_spool(rt, settings.spool.as_str(), Wary);
     run_on(rt, settings, work, opened)
 }
 
@@ -162,7 +162,7 @@ fn run_on<D: Disk + Drop>(
     rt: &HostRuntime,
     settings: &Settings,
     work: &Work<'_>,
-    opened: Result<Spool<FileStore<D>>, StoreFault>,
+    opened: Result<Spool<FileStore<D>>, OpenFault<D>>,
 ) -> Result<u8, Fault> {
     match opened {
         Ok(mut spool) => {
@@ -171,7 +171,7 @@ fn run_on<D: Disk + Drop>(
             let_go(spool, is_long);
             answer
         }
-        Err(fault) => Err(Fault::Store(fault)),
+        Err(failed) => Err(Fault::Store(failed.fault)),
     }
 }
 

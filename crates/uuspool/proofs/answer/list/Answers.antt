@@ -4,7 +4,7 @@ use Rattle.jiff.proofs.SpanFacts.{signed_arith}
 use Rattle.std.specs.Io.KnownBytes.{Appends}
 use Rattle.uu_request.specs.declared.request.Question.TheVariants as question
 use Rattle.uuspool.specs.Answers.{IsAnswer}
-use Rattle.uuspool.proofs.ServedLemmas.{Appends-nothing, marked_is_of_call, marks_of_call, printed, question_served, question_unanswered}
+use Rattle.uuspool.proofs.ServedLemmas.{Appends-nothing, marked_is_of_call, marks_of_call, noted_of_call, printed, question_served, question_unanswered}
 use Rattle.uu_report.specs.Reports.{IsJobsReport}
 use Rattle.uuspool.proofs.answer.list.Goals as goal
 
@@ -24,5 +24,5 @@ pub returns-in-Err : goal.returns-in-Err
 returns-in-Err g c =
     question_unanswered c.args.settings.now (question.Jobs c.args.filter.now) c.args.spool.now c.jobs.new.self
     (λ output. Appends (g.W.Write.contents c.args.out.now) (g.W.Write.contents c.args.out.now) output) c.in-Err.fault
-    c.in-Err.ensures.ran (marks_of_call _ _ c.in-Err.fault c.in-Err.ensures.marked) (λ had. (c.in-Err.ensures.failed had).1)
+    c.in-Err.ensures.ran (marks_of_call _ _ c.in-Err.fault c.in-Err.ensures.marked) (noted_of_call c.args.spool.now c.jobs.new.self c.in-Err.fault c.in-Err.ensures.marked) (λ had. (c.in-Err.ensures.failed had).1)
     (marked_is_of_call _ _ c.in-Err.fault c.in-Err.ensures.marked) (Appends-nothing (g.W.Write.contents c.args.out.now))

@@ -2,6 +2,7 @@ use Rattle.std.proofs.Common.{◌≡◌, ◌∙◌, List, [], ℕ, Vec, Err, ap,
 use Rattle.std.specs.declared.alloc.Global.{Global}
 use Rattle.std.specs.Io.KnownBytes.{Appends}
 use Rattle.uu_map.specs.Entry.{IsEntry}
+use Rattle.uu_map.specs.Text.{host_of}
 use Rattle.uu_core.specs.State.{entry_at}
 use Rattle.uu_schema.specs.declared.fault.StoreFault.TheVariants as store
 use Rattle.uu_schema.specs.declared.fault.StoreKind.TheVariants.{Database}
@@ -9,8 +10,8 @@ use Rattle.uu_report.specs.Reports.{links_text}
 use Rattle.uu_request.specs.declared.request.Question.TheVariants as question
 use Rattle.uuspool.specs.Answers.{IsAnswer}
 use Rattle.uuspool.specs.declared.fault.Fault.TheVariants as fault
-use Rattle.uuspool.proofs.AnswerLemmas.{as_broken_off, entry_shown}
-use Rattle.uuspool.proofs.ServedLemmas.{Appends-nothing, marked_is_of_call, marks_of_call, never_failed, printed, question_served, question_unanswered}
+use Rattle.uuspool.proofs.AnswerLemmas.{as_broken_off, entry_shown, has_fault, kept_is_readable}
+use Rattle.uuspool.proofs.ServedLemmas.{Appends-nothing, marked_is_of_call, marks_of_call, never_failed, noted_of_call, printed, question_served, question_unanswered}
 use Rattle.uuspool.proofs.answer.neighbours.Goals as goal
 
 pub returns-in-Ok : goal.returns-in-Ok
@@ -28,8 +29,8 @@ returns-in-Ok g c =
           c.print.ensures.printed c.print.ensures.status c.links_report.ensures,
     ))
 
-pub returns-in-Err-Memory : goal.returns-in-Err-Memory
-returns-in-Err-Memory g c =
+pub returns-in-Memory : goal.returns-in-Memory
+returns-in-Memory g c =
     question_served c.args.settings.now (question.Entry c.args.host.now) c.args.spool.now c.entry.new.self
     (λ output. Appends (g.W.Write.contents c.args.out.now) (g.W.Write.contents c.args.out.now) output) (Err fault.Memory) c.in-Ok-Some.ensures.ran c.in-Ok-Some.ensures.marked (inr refl)
     (λ clean s shown. ((c.in-Ok-Some.ensures.answer clean s shown).1, tt))
@@ -39,11 +40,15 @@ returns-in-Ok-Some g c =
     question_unanswered c.args.settings.now (question.Entry c.args.host.now) c.args.spool.now c.entry.new.self
     (λ output. Appends (g.W.Write.contents c.args.out.now) (g.W.Write.contents c.args.out.now) output) (store.Store Database)
     (as_broken_off [] c.args.spool.now c.entry.new.self [] Database c.in-Ok-Some.ensures.ran) c.in-Ok-Some.ensures.marked.0
+    (λ clean s shown kind same. absurd (kept_is_readable s.entries c.args.host.now c.in-Ok-Some.text.items _ shown.encodes.holds.good.hosts
+    (sym (ap (option_map (λ (text : Vec ℕ Global). text.items)) c.in-Ok-Some.field-0-is) ∙ (c.in-Ok-Some.ensures.answer clean s shown).0)
+    (subst (λ text. host_of text ≡ Err c.in-Err-read_entry.fault) c.deref.ensures.value
+    (has_fault c.deref.result.now c.in-Err-read_entry.fault c.in-Err-read_entry.ensures.answer c.in_default.not-Memory))))
     (never_failed _ c.in-Ok-Some.ensures.marked.0) tt (Appends-nothing (g.W.Write.contents c.args.out.now))
 
 pub returns : goal.returns
 returns g c =
     question_unanswered c.args.settings.now (question.Entry c.args.host.now) c.args.spool.now c.entry.new.self
     (λ output. Appends (g.W.Write.contents c.args.out.now) (g.W.Write.contents c.args.out.now) output) c.in-Err.fault
-    c.in-Err.ensures.ran (marks_of_call _ _ c.in-Err.fault c.in-Err.ensures.marked) (λ had. (c.in-Err.ensures.failed had).1)
+    c.in-Err.ensures.ran (marks_of_call _ _ c.in-Err.fault c.in-Err.ensures.marked) (noted_of_call c.args.spool.now c.entry.new.self c.in-Err.fault c.in-Err.ensures.marked) (λ had. (c.in-Err.ensures.failed had).1)
     (marked_is_of_call _ _ c.in-Err.fault c.in-Err.ensures.marked) (Appends-nothing (g.W.Write.contents c.args.out.now))

@@ -1,4 +1,4 @@
-use Rattle.std.proofs.Common.{ℕ, List, All, Option, IfSome, map, string_bytes, refl, subst}
+use Rattle.std.proofs.Common.{All, Option, IfSome, map, string_bytes, refl, subst}
 use Rattle.std.specs.Io.KnownBytes.{Consumes}
 use Rattle.uu_frame.specs.Frames.{IsBare, request_frame}
 use Rattle.uu_frame.specs.declared.request.Frame.{Frame}
