@@ -1,3 +1,4 @@
+#!/usr/bin/env python3
 """What the scripts of `make bench` share: spools with many jobs, and times of processes."""
 
 import os
