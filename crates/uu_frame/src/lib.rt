@@ -3,8 +3,11 @@
 
 mod answer;
 mod fault;
+mod head;
+mod reading;
 mod request;
 
 pub use answer::write_answer;
 pub use fault::FrameFault;
+pub use reading::MAX_LINE;
 pub use request::{Frame, read_request};
