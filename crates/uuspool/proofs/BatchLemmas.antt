@@ -1,16 +1,15 @@
 -- How a batch goes from request to request.
-use Rattle.std.proofs.Common.{◌≡◌, ◌∙◌, ◌++◌, ◌∷◌, inl, inr, ℕ, Bool, true, false, true≢false, not, List, [], All, Option, Some, None, Result, Ok, Err, IfOk, IfSome, ap, append-nil, append_assoc, refl, subst, sym}
-use Rattle.std.specs.Prelude.{⊤}
+use Rattle.std.proofs.Common.{◌≡◌, ◌∙◌, ◌+◌, ◌++◌, ◌∷◌, inl, inr, ℕ, Bool, true, false, true≢false, not, List, [], Option, Result, Ok, Err, IfErr, IfOk, length, length-append, ap, append-nil, refl, subst, sym}
+use Rattle.std.specs.Prelude.{◌⊎◌, ⊤}
 use Rattle.std.specs.List.{AllByRecursion, FoldsTo, flat_map}
-use Rattle.std.specs.Io.KnownBytes.{Appends, Consumes, IsAtEnd}
+use Rattle.std.specs.Io.KnownBytes.{Appends, Consumes}
 use Rattle.std.proofs.KnownBytes.{Appends-nil, Appends-trans, Consumes-nil, Consumes-trans}
 use Rattle.std.proofs.lemmas.List.Concat.{flat_map-append}
 use Rattle.sqlite.specs.Store.{Ghosts}
-use Rattle.uu_frame.specs.Frames.{IsBare}
 use Rattle.uu_settings.specs.declared.settings.Settings.{Settings}
 use Rattle.uu_store.specs.declared.spool.Spool.{Spool}
-use Rattle.uuspool.specs.Batch.{Begins, EndsWith, IsBatch, IsNext, IsOfStream, answer_of, fault_answer, frame_of}
-use Rattle.uuspool.specs.BatchSteps.{IsStep}
+use Rattle.uuspool.specs.Batch.{EndsWith, IsBatch, IsNext, IsOfAnswer, IsOfStream, IsRequestLine, answer_of, fault_answer, frame_of, most_requests}
+use Rattle.uuspool.specs.BatchSteps.{IsBatchStep}
 use Rattle.uuspool.specs.Faults.{status_of}
 use Rattle.uuspool.specs.Sessions.{AreLeft, AreServed, Further, IsOneRun, LeadOn, Line, Serves, left_fault}
 use Rattle.uuspool.specs.declared.batching.Step.{Step}
@@ -86,6 +85,9 @@ all_more : (P : Line → Type 0) (lines : List Line) (line : Line) → AllByRecu
 all_more P [] line all here = (here, tt)
 all_more P (first ∷ lines) line (p, all) here = (p, all_more P lines line all here)
 
+one_counted : (lines : List Line) (line : Line) (count : ℕ) → length lines ≡ count → length (lines ++ line ∷ []) ≡ count + 1
+one_counted lines line count counted = length-append lines (line ∷ []) ∙ ap (λ n. n + 1) counted
+
 folds_more : {C : Type 0} (R : C → Line → C → Type 0) (c : C) (lines : List Line) (d : C) (line : Line) (e : C) → FoldsTo R c lines d → R d line e → FoldsTo R c (lines ++ line ∷ []) e
 folds_more R c [] d line e same step = (e, subst (λ x. R x line e) (sym same) step, refl)
 folds_more R c (first ∷ lines) d line e (j, here, rest) step = (j, here, folds_more R j lines d line e rest step)
@@ -118,28 +120,14 @@ module _ {S : Type 0} {g : Ghosts S} (settings : Settings) where
 
 -- ---- a stream so far
 
-begins_of : (had left : Option (List ℕ)) (front : List ℕ) → Consumes had left front → Begins had front
-begins_of None left front consumes = tt
-begins_of (Some all) None front consumes = absurd consumes
-begins_of (Some all) (Some rest) front consumes = (rest, consumes)
-
-begins_then : (had left : Option (List ℕ)) (front back : List ℕ) → Consumes had left front → Begins left back → Begins had (front ++ back)
-begins_then None left front back consumes begins = tt
-begins_then (Some all) None front back consumes begins = absurd consumes
-begins_then (Some all) (Some rest) front back consumes (more, is) = (more, consumes ∙ ap (λ r. front ++ r) is ∙ sym (append_assoc front back more))
-
-whole_of : (had left : Option (List ℕ)) (front : List ℕ) → Consumes had left front → IsAtEnd left → IfSome had (λ all. all ≡ front)
-whole_of None left front consumes at_end = tt
-whole_of (Some all) None front consumes at_end = absurd consumes
-whole_of (Some all) (Some rest) front consumes at_end = consumes ∙ ap (λ r. front ++ r) at_end ∙ append-nil front
-
 -- the requests that were answered so far, and whether some line does not lead on
-pub record SoFar {S : Type 0} {g : Ghosts S} {C : Type 0} (settings : Settings) (Tells : C → ℕ → C → Type 0) (failed : Bool) (clock later : C) (old new : Spool S g) (had left held holds : Option (List ℕ)) : Type 0 where
+pub record SoFar {S : Type 0} {g : Ghosts S} {C : Type 0} (settings : Settings) (Tells : C → ℕ → C → Type 0) (failed : Bool) (count : ℕ) (clock later : C) (old new : Spool S g) (had left held holds : Option (List ℕ)) : Type 0 where
   pub lines : List Line
+  pub counted : length lines ≡ count
   pub served : AreServed settings lines old new
   pub on : failed ≡ false → LeadOn lines
   pub off : failed ≡ true → LeadOff lines
-  pub words : AllByRecursion (λ (line : Line). All IsBare line.words) lines
+  pub requests : AllByRecursion IsRequestLine lines
   pub clock_told : FoldsTo (λ earlier (line : Line) later. Tells earlier line.now later) clock lines later
   pub read : Consumes had left (flat_map frame_of lines)
   pub answered : Appends held holds (flat_map answer_of lines)
@@ -159,13 +147,14 @@ off_then false leads_on lines line on off further stops =
 off_then true leads_on lines line on off further stops = off_more lines line (off refl)
 
 module _ {S : Type 0} {g : Ghosts S} {C : Type 0} (settings : Settings) (Tells : C → ℕ → C → Type 0) where
-  pub none_so_far : (clock : C) (old : Spool S g) (had held : Option (List ℕ)) → SoFar settings Tells false clock clock old old had had held held
+  pub none_so_far : (clock : C) (old : Spool S g) (had held : Option (List ℕ)) → SoFar settings Tells false 0 clock clock old old had had held held
   none_so_far clock old had held = record {
     lines = [];
+    counted = refl;
     served = refl;
     on = λ no. tt;
     off = λ yes. absurd (true≢false (sym yes));
-    words = tt;
+    requests = tt;
     clock_told = refl;
     read = Consumes-nil had;
     answered = Appends-nil held;
@@ -177,16 +166,17 @@ module _ {S : Type 0} {g : Ghosts S} {C : Type 0} (settings : Settings) (Tells :
   lines_then true lines line clock later old mid new served on off next =
       let left = next.left refl in unserved_more settings lines line old mid new served (off refl) left.0 left.1 left.2
 
-  module _ (failed : Bool) (clock now later : C) (old mid new : Spool S g) (had left rest held holds more : Option (List ℕ)) (so : SoFar settings Tells failed clock now old mid had left held holds) where
+  module _ (failed : Bool) (count : ℕ) (clock now later : C) (old mid new : Spool S g) (had left rest held holds more : Option (List ℕ)) (so : SoFar settings Tells failed count clock now old mid had left held holds) where
     pub one_more_so_far : (leads_on after : Bool) → (after ≡ true → leads_on ≡ false) → (after ≡ false → leads_on ≡ true)
-        → (let r : Result Step Fault = Ok (step.Answered leads_on) in IsStep settings Tells failed now later mid new left rest holds more r)
-        → SoFar settings Tells after clock later old new had rest held more
+        → (let r : Result Step Fault = Ok (step.Answered leads_on) in IsBatchStep settings Tells failed now later mid new left rest holds more r)
+        → SoFar settings Tells after (count + 1) clock later old new had rest held more
     one_more_so_far leads_on after fails goes (line, next, consumes, appends, further) = record {
       lines = so.lines ++ line ∷ [];
+      counted = one_counted so.lines line count so.counted;
       served = lines_then failed so.lines line now later old mid new so.served so.on so.off next;
       on = λ no. on_then failed leads_on so.lines line so.on (λ was. (next.left was).1) further (goes no);
       off = λ yes. off_then failed leads_on so.lines line so.on so.off further (fails yes);
-      words = all_more (λ (l : Line). All IsBare l.words) so.lines line so.words next.words;
+      requests = all_more IsRequestLine so.lines line so.requests next.request;
       clock_told = folds_more (λ earlier (l : Line) later. Tells earlier l.now later) clock so.lines now line later so.clock_told next.told;
       read = subst (Consumes had rest) (flat_more frame_of so.lines line) (Consumes-trans had left rest (flat_map frame_of so.lines) (frame_of line) so.read consumes);
       answered = subst (Appends held more) (flat_more answer_of so.lines line) (Appends-trans held holds more (flat_map answer_of so.lines) (answer_of line) so.answered appends);
@@ -194,57 +184,60 @@ module _ {S : Type 0} {g : Ghosts S} {C : Type 0} (settings : Settings) (Tells :
 
     module _ (law : (lines : List Line) (old new : Spool S g) → AreServed settings lines old new → IsOneRun settings lines old new) where
       -- the requests so far are all
-      ended_so : (r : Result ℕ Fault) → new ≡ mid
-          → IfOk r (EndsWith (IfSome had (λ all. all ≡ flat_map frame_of so.lines)) (λ last. Appends held more (flat_map answer_of so.lines ++ last)))
+      ended_so : (r : Result ℕ Fault) → new ≡ mid → IfOk r (EndsWith left (λ last. Appends held more (flat_map answer_of so.lines ++ last)))
+          → IfErr r (λ why. IsOfAnswer why ⊎ ((why ≡ fault.Read) × (length so.lines ≡ most_requests)))
           → IsBatch settings Tells clock old new had held more r
-      ended_so r still ends =
+      ended_so r still ends breaks =
           let served = subst (λ (n : Spool S g). AreServed settings so.lines old n) (sym still) so.served in record {
             lines = so.lines;
             served = served;
             run = law so.lines old new served;
-            words = so.words;
+            requests = so.requests;
             clock_told = (now, so.clock_told);
-            read = begins_of had left (flat_map frame_of so.lines) so.read;
+            left = left;
+            read = so.read;
             answered = ends;
+            broken_off = breaks;
           }
 
-      pub batch_ended : (status : ℕ) → (let r : Result Step Fault = Ok (step.Ended status) in IsStep settings Tells failed now later mid new left rest holds more r)
+      pub batch_ended : (status : ℕ) → (let r : Result Step Fault = Ok (step.Ended status) in IsBatchStep settings Tells failed now later mid new left rest holds more r)
           → (let r : Result ℕ Fault = Ok status in IsBatch settings Tells clock old new had held more r)
-      batch_ended status (still, ends) = ended_so (Ok status) still (ends_with ends)
+      batch_ended status (still, ends) = ended_so (Ok status) still (ends_with ends) tt
         where
-          frames : List ℕ
-          frames = flat_map frame_of so.lines
-
-          ends_with : EndsWith (IsAtEnd left) (Appends holds more) status → EndsWith (IfSome had (λ all. all ≡ frames)) (λ last. Appends held more (flat_map answer_of so.lines ++ last)) status
-          ends_with (inl (zero, at_end, writes)) =
-              inl (zero, whole_of had left frames so.read at_end, Appends-trans held holds more (flat_map answer_of so.lines) [] so.answered writes)
+          ends_with : EndsWith left (Appends holds more) status → EndsWith left (λ last. Appends held more (flat_map answer_of so.lines ++ last)) status
+          ends_with (inl (zero, at_end, writes)) = inl (zero, at_end, Appends-trans held holds more (flat_map answer_of so.lines) [] so.answered writes)
           ends_with (inr (why, is, same, writes)) = inr (why, is, same, Appends-trans held holds more (flat_map answer_of so.lines) (fault_answer why) so.answered writes)
 
-      pub batch_broken : (why : Fault) → (let r : Result Step Fault = Err why in IsStep settings Tells failed now later mid new left rest holds more r)
+      pub batch_full : new ≡ mid → count ≡ most_requests → (let r : Result ℕ Fault = Err fault.Read in IsBatch settings Tells clock old new had held more r)
+      batch_full still full = ended_so (Err fault.Read) still tt (inr (refl, so.counted ∙ full))
+
+      pub batch_broken : (why : Fault) → (let r : Result Step Fault = Err why in IsBatchStep settings Tells failed now later mid new left rest holds more r)
           → (let r : Result ℕ Fault = Err why in IsBatch settings Tells clock old new had held more r)
-      batch_broken why (inl still) = ended_so (Err why) still tt
-      batch_broken why (inr (line, next, begins)) =
+      batch_broken why (breaks, inl still) = ended_so (Err why) still tt (inl breaks)
+      batch_broken why (breaks, inr (line, next, consumes)) =
           let served = lines_then failed so.lines line now later old mid new so.served so.on so.off next in record {
             lines = so.lines ++ line ∷ [];
             served = served;
             run = law (so.lines ++ line ∷ []) old new served;
-            words = all_more (λ (l : Line). All IsBare l.words) so.lines line so.words next.words;
+            requests = all_more IsRequestLine so.lines line so.requests next.request;
             clock_told = (later, folds_more (λ earlier (l : Line) later. Tells earlier l.now later) clock so.lines now line later so.clock_told next.told);
-            read = subst (Begins had) (flat_more frame_of so.lines line) (begins_then had left (flat_map frame_of so.lines) (frame_of line) so.read begins);
+            left = rest;
+            read = subst (Consumes had rest) (flat_more frame_of so.lines line) (Consumes-trans had left rest (flat_map frame_of so.lines) (frame_of line) so.read consumes);
             answered = tt;
+            broken_off = inl breaks;
           }
 
 -- ---- one step
 
 module _ {S : Type 0} {g : Ghosts S} {C : Type 0} (settings : Settings) (Tells : C → ℕ → C → Type 0) (failed : Bool) (clock later : C) (old new : Spool S g) (had left held holds : Option (List ℕ)) where
   -- the stream ended with the answer to a fault of its own
-  pub step_of_end : (r : Result Step Fault) (why : Fault) → IsOfStream why → new ≡ old
-      → IfOk r (λ made. (made ≡ step.Ended (status_of why)) × Appends held holds (fault_answer why))
-      → IsStep settings Tells failed clock later old new had left held holds r
-  step_of_end (Ok (step.Ended status)) why is still (same, appends) = let status_is : status ≡ status_of why = cc in (still, inr (why, is, status_is, appends))
-  step_of_end (Ok (step.Answered leads_on)) why is still (same, appends) = absurd (cc)
-  step_of_end (Err fault) why is still none = inl still
+  pub step_of_end : (r : Result Step Fault) (why : Fault) → IsOfStream had why → new ≡ old
+      → IfOk r (λ made. (made ≡ step.Ended (status_of why)) × Appends held holds (fault_answer why)) → IfErr r IsOfAnswer
+      → IsBatchStep settings Tells failed clock later old new had left held holds r
+  step_of_end (Ok (step.Ended status)) why is still (same, appends) named = let status_is : status ≡ status_of why = cc in (still, inr (why, is, status_is, appends))
+  step_of_end (Ok (step.Answered leads_on)) why is still (same, appends) named = absurd (cc)
+  step_of_end (Err fault) why is still none named = (named, inl still)
 
-  pub step_broken : (why : Fault) (line : Line) → IsNext settings Tells failed clock later old new line → Consumes had left (frame_of line)
-      → (let r : Result Step Fault = Err why in IsStep settings Tells failed clock later old new had left held holds r)
-  step_broken why line next consumes = inr (line, next, begins_of had left (frame_of line) consumes)
+  pub step_broken : (why : Fault) (line : Line) → IsOfAnswer why → IsNext settings Tells failed clock later old new line → Consumes had left (frame_of line)
+      → (let r : Result Step Fault = Err why in IsBatchStep settings Tells failed clock later old new had left held holds r)
+  step_broken why line named next consumes = (named, inr (line, next, consumes))

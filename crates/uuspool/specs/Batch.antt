@@ -1,10 +1,11 @@
 -- A stream of requests, each a line that is served over one spool, and the stream of their answers. All of it is this project's choice.
-use Rattle.std.specs.Prelude.{◌≡◌, ◌⊎◌, ◌++◌, ℕ, Bool, true, false, List, [], All, Option, Result, Ok, Err, IfOk, IfSome, ⊤, codes}
+use Rattle.std.specs.Prelude.{◌≡◌, ◌⊎◌, ◌≤◌, ◌-◌, ◌^◌, ◌++◌, ℕ, Bool, true, false, List, [], Option, Result, Ok, Err, IfOk, IfErr, IfSome, length, ⊤, codes}
 use Rattle.std.specs.List.{AllByRecursion, FoldsTo, flat_map}
 use Rattle.std.specs.String.{string_bytes}
-use Rattle.std.specs.Io.KnownBytes.{Appends}
+use Rattle.std.specs.Io.KnownBytes.{Appends, Consumes, IsAtEnd}
 use Rattle.sqlite.specs.Store.{Ghosts}
-use Rattle.uu_frame.specs.Frames.{IsBare, answer_frame, request_frame}
+use Rattle.uu_frame.specs.Frames.{BeginsWithNoRequest, BeginsWithTooMuch, IsHead, answer_frame, request_frame}
+use Rattle.uu_names.specs.Text.{most_text}
 use Rattle.uu_settings.specs.declared.settings.Settings.{Settings}
 use Rattle.uu_store.specs.declared.spool.Spool.{Spool}
 use Rattle.uuspool.specs.Faults.{line_of_fault, named, status_of}
@@ -17,6 +18,10 @@ use Rattle.uuspool.specs.declared.fault.Fault.TheVariants as fault
 -- the line of a request, with what came of it
 abbrev pub line_with : List (List ℕ) → ℕ → List ℕ → List ℕ → Result ℕ Fault → Line
 line_with words now input output result = record { words = words; now = now; input = input; output = output; result = result }
+
+-- the line is that of a request, and its input is within the limit
+abbrev pub IsRequestLine : Line → Type 0
+IsRequestLine line = IsHead (length line.input) line.words × (length line.input ≤ most_text)
 
 -- the frame of a line's request
 abbrev pub frame_of : Line → List ℕ
@@ -41,14 +46,14 @@ answer_of line = answer_frame (end_status line.result) (line.output ++ end_text 
 abbrev pub no_request : List ℕ
 no_request = named (codes "no request")
 
--- the faults of a stream that can't be followed: a line that is none of a request, an input that is too large, bytes that can't be read or
--- end too early or a clock that can't be read, and want of memory
-abbrev pub IsOfStream : Fault → Type 0
-IsOfStream (fault.Words text help) = (string_bytes text ≡ no_request) × (help ≡ false)
-IsOfStream fault.Input = ⊤
-IsOfStream fault.Read = ⊤
-IsOfStream fault.Memory = ⊤
-IsOfStream _ = ⊥
+-- The faults of a stream that can't be followed, with their causes in the bytes that are left of it, where these are known: no request is next,
+-- or the line of one whose input is too large. Bytes may be unreadable or end within a request, the clock be unreadable, and memory be short.
+abbrev pub IsOfStream : Option (List ℕ) → Fault → Type 0
+IsOfStream left (fault.Words text help) = (string_bytes text ≡ no_request) × (help ≡ false) × IfSome left BeginsWithNoRequest
+IsOfStream left fault.Input = IfSome left (BeginsWithTooMuch most_text)
+IsOfStream left fault.Read = ⊤
+IsOfStream left fault.Memory = ⊤
+IsOfStream left _ = ⊥
 
 -- the answer that tells of such a fault
 abbrev pub fault_answer : Fault → List ℕ
@@ -58,32 +63,37 @@ fault_answer why = answer_frame (status_of why) (line_of_fault why)
 
 -- The line was served at the second that the clock told, or it was left, since a line before it does not lead on.
 pub record IsNext {S : Type 0} {g : Ghosts S} {C : Type 0} (settings : Settings) (Tells : C → ℕ → C → Type 0) (failed : Bool) (clock later : C) (old new : Spool S g) (line : Line) : Type 0 where
-  pub words : All IsBare line.words
+  pub request : IsRequestLine line
   pub told : Tells clock line.now later
   pub served : failed ≡ false → Serves settings line old new
   pub left : failed ≡ true → (line.output ≡ []) × (line.result ≡ Err left_fault) × (new ≡ old)
 
--- the bytes that a reader had begin so, where they are known
-abbrev pub Begins : Option (List ℕ) → List ℕ → Type 0
-Begins known front = IfSome known (λ all. (rest : List ℕ) × (all ≡ front ++ rest))
+-- how a stream of which these bytes are left ends with a status: they are none, or have a fault, whose answer is written at last
+abbrev pub EndsWith : Option (List ℕ) → (Writes : List ℕ → Type 0) → ℕ → Type 0
+EndsWith left Writes status =
+    ((status ≡ 0) × IsAtEnd left × Writes [])
+    ⊎ ((why : Fault) × IsOfStream left why × (status ≡ status_of why) × Writes (fault_answer why))
 
--- how a stream ends with a status: at its end, or with the answer to a fault of its own, which is written at last
-abbrev pub EndsWith : (AtEnd : Type 0) → (Writes : List ℕ → Type 0) → ℕ → Type 0
-EndsWith AtEnd Writes status =
-    ((status ≡ 0) × AtEnd × Writes [])
-    ⊎ ((why : Fault) × IsOfStream why × (status ≡ status_of why) × Writes (fault_answer why))
+-- the faults of an answer that could not be made or written
+abbrev pub IsOfAnswer : Fault → Type 0
+IsOfAnswer why = (why ≡ fault.Write) ⊎ (why ≡ fault.Memory)
 
 -- ---- the whole stream
 
+-- the most requests of a stream that are answered
+abbrev pub most_requests : ℕ
+most_requests = 2 ^ 64 - 1
+
 -- The lines of the requests were served one after the other, the clock asked for each. Where the batch ends with a status, the answers are
--- theirs, in their order, and the stream was read to its end or has a fault, which is answered at last. Where an answer could not be made or
--- written, the line in hand is the last one.
+-- theirs, in their order, and what is left of the stream is nothing or has a fault, which is answered at last. Where an answer could not be made
+-- or written, the line in hand is the last one. A batch has at most 2^64 - 1 lines, and then ends so, too.
 pub record IsBatch {S : Type 0} {g : Ghosts S} {C : Type 0} (settings : Settings) (Tells : C → ℕ → C → Type 0) (clock : C) (old new : Spool S g) (had held holds : Option (List ℕ)) (result : Result ℕ Fault) : Type 0 where
   pub lines : List Line
   pub served : AreServed settings lines old new
   pub run : IsOneRun settings lines old new
-  pub words : AllByRecursion (λ (line : Line). All IsBare line.words) lines
+  pub requests : AllByRecursion IsRequestLine lines
   pub clock_told : (last : C) × FoldsTo (λ earlier (line : Line) later. Tells earlier line.now later) clock lines last
-  pub read : Begins had (flat_map frame_of lines)
-  pub answered : IfOk result
-      (EndsWith (IfSome had (λ all. all ≡ flat_map frame_of lines)) (λ last. Appends held holds (flat_map answer_of lines ++ last)))
+  pub left : Option (List ℕ)
+  pub read : Consumes had left (flat_map frame_of lines)
+  pub answered : IfOk result (EndsWith left (λ last. Appends held holds (flat_map answer_of lines ++ last)))
+  pub broken_off : IfErr result (λ why. IsOfAnswer why ⊎ ((why ≡ fault.Read) × (length lines ≡ most_requests)))

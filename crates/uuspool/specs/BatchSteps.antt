@@ -1,10 +1,10 @@
 -- One step through a stream of requests.
 use Rattle.std.specs.Prelude.{◌≡◌, ◌⊎◌, ℕ, Bool, true, false, List, Option, Result, Ok, Err}
-use Rattle.std.specs.Io.KnownBytes.{Appends, Consumes, IsAtEnd}
+use Rattle.std.specs.Io.KnownBytes.{Appends, Consumes}
 use Rattle.sqlite.specs.Store.{Ghosts}
 use Rattle.uu_settings.specs.declared.settings.Settings.{Settings}
 use Rattle.uu_store.specs.declared.spool.Spool.{Spool}
-use Rattle.uuspool.specs.Batch.{Begins, EndsWith, IsNext, answer_of, frame_of}
+use Rattle.uuspool.specs.Batch.{EndsWith, IsNext, IsOfAnswer, answer_of, frame_of}
 use Rattle.uuspool.specs.Sessions.{Further, Line}
 use Rattle.uuspool.specs.declared.batching.Step.{Step}
 use Rattle.uuspool.specs.declared.batching.Step.TheVariants as step
@@ -12,9 +12,10 @@ use Rattle.uuspool.specs.declared.fault.Fault.{Fault}
 
 module _ {S : Type 0} {g : Ghosts S} {C : Type 0} (settings : Settings) (Tells : C → ℕ → C → Type 0) (failed : Bool) (clock later : C) (old new : Spool S g) (had left held holds : Option (List ℕ)) where
   -- a request was answered, or the stream ended; where no answer was made or written, one request may have been served
-  abbrev pub IsStep : Result Step Fault → Type 0
-  IsStep (Ok (step.Answered leads_on)) =
+  abbrev pub IsBatchStep : Result Step Fault → Type 0
+  IsBatchStep (Ok (step.Answered leads_on)) =
       (line : Line) × IsNext settings Tells failed clock later old new line × Consumes had left (frame_of line) × Appends held holds (answer_of line)
       × Further line.result (leads_on ≡ true) (leads_on ≡ false)
-  IsStep (Ok (step.Ended status)) = (new ≡ old) × EndsWith (IsAtEnd had) (Appends held holds) status
-  IsStep (Err why) = (new ≡ old) ⊎ ((line : Line) × IsNext settings Tells failed clock later old new line × Begins had (frame_of line))
+  IsBatchStep (Ok (step.Ended status)) = (new ≡ old) × EndsWith had (Appends held holds) status
+  IsBatchStep (Err why) =
+      IsOfAnswer why × ((new ≡ old) ⊎ ((line : Line) × IsNext settings Tells failed clock later old new line × Consumes had left (frame_of line)))

@@ -1,11 +1,12 @@
 //! Many requests in one process: a stream of lines that are served over one spool, and the stream of their answers.
-ghost use Rattle.std.specs.Prelude.{◌≡◌, ◌⊎◌, ◌++◌, ℕ, Bool, true, false, [], Err, IfErr, IfOk, IfSome, OnOk, ⊤, map, string_bytes};
-ghost use Rattle.std.specs.Io.KnownBytes.{Appends, Consumes};
-ghost use Rattle.uu_frame.specs.Frames.{IsBare, answer_frame};
+ghost use Rattle.std.specs.Prelude.{◌≡◌, ◌++◌, ℕ, List, Bool, true, false, [], Option, Err, IfErr, IfOk, IfSome, OnOk, ⊤, map, string_bytes};
+ghost use Rattle.std.specs.Io.KnownBytes.{Appends};
+ghost use Rattle.uu_frame.specs.Frames.{IsCause, answer_frame};
+ghost use Rattle.uu_names.specs.Text.{most_text};
 ghost use Rattle.uuspool.specs.Sessions.{Further, Serves, left_fault};
 ghost use Rattle.uuspool.specs.Faults.{status_of};
-ghost use Rattle.uuspool.specs.Batch.{IsBatch, IsOfStream, end_status, end_text, fault_answer, line_with};
-ghost use Rattle.uuspool.specs.BatchSteps.{IsStep};
+ghost use Rattle.uuspool.specs.Batch.{IsBatch, IsOfAnswer, IsOfStream, end_status, end_text, fault_answer, line_with};
+ghost use Rattle.uuspool.specs.BatchSteps.{IsBatchStep};
 
 use crate::fault::{Fault, fault_line, fault_status};
 use crate::laws::lines_are_one_run;
@@ -48,7 +49,7 @@ pub fn batch<S: Alter, C: Clock, R: BufRead, W: Write>(
 {
     lines_are_one_run::<S>();
     let mut failed = false;
-    for _ in 0..u64::MAX {
+    for _count in 0..u64::MAX {
         match answer_next(alloc, settings, failed, clock, reader, spool, out) {
             Ok(Step::Answered { leads_on }) => failed = !leads_on,
             Ok(Step::Ended(status)) => return Ok(status),
@@ -76,7 +77,7 @@ fn answer_next<S: Alter, C: Clock, R: BufRead, W: Write>(
     spool: &mut Spool<S>,
     out: &mut W,
 ) -> Result<Step, Fault>
-    ensures { IsStep settings.now C.tells failed clock.old clock.new spool.old spool.new (R.remaining reader.old) (R.remaining reader.new) (W.contents out.old) (W.contents out.new) result }
+    ensures { IsBatchStep settings.now C.tells failed clock.old clock.new spool.old spool.new (R.remaining reader.old) (R.remaining reader.new) (W.contents out.old) (W.contents out.new) result }
 {
     let frame = match read_request(alloc, MAX_TEXT, reader) {
         Ok(Some(frame)) => frame,
@@ -142,7 +143,7 @@ fn leads_on(end: &Result<u8, Fault>) -> bool
 // Writes the answer: the status, the output, and the line of the fault.
 fn tell<W: Write>(alloc: Global, answer: Answer, out: &mut W) -> Result<(), Fault>
     ensures answer { OnOk result (Appends (W.contents out.old) (W.contents out.new) (answer_frame (end_status answer.end) (answer.output.items ++ end_text answer.end))) }
-    ensures named { IfErr result (λ fault. (fault ≡ Fault.Write) ⊎ (fault ≡ Fault.Memory)) }
+    ensures named { IfErr result IsOfAnswer }
 {
     let Answer { mut output, end } = answer;
     let status = match end {
@@ -166,7 +167,8 @@ fn tell<W: Write>(alloc: Global, answer: Answer, out: &mut W) -> Result<(), Faul
 
 // Ends the stream with the answer to a fault of its own.
 fn end_with<W: Write>(alloc: Global, fault: Fault, out: &mut W) -> Result<Step, Fault>
-    ensures { IfOk result (λ step. (step ≡ Step.Ended (status_of fault)) × Appends (W.contents out.old) (W.contents out.new) (fault_answer fault)) }
+    ensures answer { IfOk result (λ step. (step ≡ Step.Ended (status_of fault)) × Appends (W.contents out.old) (W.contents out.new) (fault_answer fault)) }
+    ensures named { IfErr result IsOfAnswer }
 {
     let status = fault_status(&fault);
     let answer = Answer {
@@ -181,7 +183,7 @@ fn end_with<W: Write>(alloc: Global, fault: Fault, out: &mut W) -> Result<Step, 
 
 // A fault of the stream as the program tells it.
 fn stream_fault(alloc: Global, fault: FrameFault) -> Fault
-    ensures { IsOfStream result }
+    ensures { (left : Option (List ℕ)) → IsCause most_text left fault → IsOfStream left result }
 {
     match fault {
         FrameFault::NoRequest => match String::from_str(alloc, "uuspool: no request\n") {
