@@ -1,10 +1,12 @@
 -- How the end of a run, and what is printed of it, make up the service of a line's commands.
-use Rattle.std.proofs.Common.{◌≡◌, ◌∙◌, ◌≤◌, inl, inr, ℕ, List, length, take, Vec, Option, Some, None, Result, Ok, Err, Bool, MatchOption, IfOk, IfErr, IfSome, OnOk, IsOkAnd, IsTrue, ap, arith, subst, sym}
+use Rattle.std.proofs.Common.{◌≡◌, ◌≢◌, ◌⊎◌, ◌∙◌, ◌≤◌, ◌++◌, ◌∷◌, inl, inr, ℕ, List, [], length, take, Vec, Option, Some, None, Result, Ok, Err, Bool, MatchOption, IfOk, IfErr, IfSome, OnOk, IsOkAnd, IsTrue, ap, arith, refl, subst, sym}
 use Rattle.std.proofs.lemmas.List.{take_all}
 use Rattle.std.specs.declared.alloc.AllocError.{AllocError}
 use Rattle.std.specs.declared.alloc.Global.{Global}
 use Rattle.sqlite.specs.Store.{Ghosts}
 use Rattle.uu_core.specs.Run.{state_after, replies_to}
+use Rattle.uu_core.specs.declared.command.Reply.{Reply}
+use Rattle.uu_core.specs.declared.command.Reply.TheVariants.{Done, Number, Refused}
 use Rattle.uu_schema.specs.declared.fault.StoreFault.{StoreFault}
 use Rattle.uu_store.specs.Runs.{Ran, GoesOn}
 use Rattle.uu_store.specs.Spool as spool
@@ -12,22 +14,24 @@ use Rattle.uu_store.specs.declared.run.RunEnd.{RunEnd}
 use Rattle.uu_store.specs.declared.spool.Spool.{Spool}
 use Rattle.uu_settings.specs.declared.settings.Settings.{Settings}
 use Rattle.uu_report.specs.declared.output.Subject.{Subject}
-use Rattle.uu_report.specs.Outputs.{answers_text, output_text, replies_status}
+use Rattle.uu_report.specs.Outputs.{answers_text, output_text, replies_status, subject_text}
+use Rattle.uu_report.specs.Replies.{reply_text}
 use Rattle.uu_request.specs.declared.request.Batch.{Batch}
 use Rattle.uu_request.specs.declared.request.Request.TheVariants as request
-use Rattle.uuspool.proofs.ServedLemmas.{IsOfPrinting, marked_is_of_call}
-use Rattle.uuspool.specs.Served.{IsServed, IsNoted, IsOfCall, IsPrintedEnd, Marks}
+use Rattle.uuspool.proofs.ServedLemmas.{IsOfPrinting, marked_is_of_call, store_is_printed}
+use Rattle.uuspool.specs.Served.{IsCut, IsServed, IsNoted, IsOfCall, IsPrintedEnd, Marks}
 use Rattle.uuspool.specs.declared.fault.Fault.{Fault}
 use Rattle.uuspool.specs.declared.fault.Fault.TheVariants as fault
 
 -- ---- printing
 
-printing_ends : (subjects : List Subject) (skipped : List ℕ) (end : RunEnd) (written : List ℕ → Type 0) (f : Fault) → IsOfPrinting f
+printing_ends : (subjects : List Subject) (skipped : List ℕ) (end : RunEnd) (written : List ℕ → Type 0) (f : Fault)
+    → (end.stopped ≡ None) ⊎ IsCut (answers_text subjects end.replies.items) written → IsOfPrinting f
     → (let r : Result ℕ Fault = Err f in IsPrintedEnd subjects skipped end written r)
-printing_ends subjects skipped end written f (inl is) =
-    subst (λ (other : Fault). let r : Result ℕ Fault = Err other in IsPrintedEnd subjects skipped end written r) (sym is) tt
-printing_ends subjects skipped end written f (inr is) =
-    subst (λ (other : Fault). let r : Result ℕ Fault = Err other in IsPrintedEnd subjects skipped end written r) (sym is) tt
+printing_ends subjects skipped end written f hides_none (inl is) =
+    subst (λ (other : Fault). let r : Result ℕ Fault = Err other in IsPrintedEnd subjects skipped end written r) (sym is) hides_none
+printing_ends subjects skipped end written f hides_none (inr is) =
+    subst (λ (other : Fault). let r : Result ℕ Fault = Err other in IsPrintedEnd subjects skipped end written r) (sym is) hides_none
 
 -- a whole run, whose output was printed
 pub whole_printed : (subjects : List Subject) (skipped : List ℕ) (end : RunEnd) (written : List ℕ → Type 0) (made : Result (Vec ℕ Global) AllocError) (status : ℕ) (r : Result ℕ Fault)
@@ -37,14 +41,33 @@ pub whole_printed : (subjects : List Subject) (skipped : List ℕ) (end : RunEnd
 whole_printed subjects skipped end written (Ok output) status (Ok answered) whole same is printed answers printing =
     (whole, answers ∙ same, subst written is printed)
 whole_printed subjects skipped end written (Err none) status (Ok answered) whole same is printed answers printing = absurd printed
-whole_printed subjects skipped end written made status (Err f) whole same is printed answers printing = printing_ends subjects skipped end written f printing
+whole_printed subjects skipped end written made status (Err f) whole same is printed answers printing = printing_ends subjects skipped end written f (inl whole) printing
 
--- a run that was broken off, of which the answers were printed
-pub broken_off_printed : (subjects : List Subject) (skipped : List ℕ) (end : RunEnd) (written : List ℕ → Type 0) (made : Result (Vec ℕ Global) AllocError) (why : StoreFault)
-    → end.stopped ≡ Some why → IfOk made (λ output. output.items ≡ answers_text subjects end.replies.items) → IsOkAnd made (λ output. written output.items)
-    → (let r : Result ℕ Fault = Err (fault.Store why) in IsPrintedEnd subjects skipped end written r)
-broken_off_printed subjects skipped end written (Ok output) why stopped is printed = (stopped, subst written is printed)
-broken_off_printed subjects skipped end written (Err none) why stopped is printed = absurd printed
+-- ---- what is printed of answers
+
+no_text : (a b c : List ℕ) → (b ≡ [] → ⊥) → (a ++ b) ++ c ≡ [] → ⊥
+no_text [] [] c some is = some refl
+no_text [] (x ∷ b) c some is = cc
+no_text (y ∷ a) b c some is = cc
+
+some_reply : (reply : Reply) → reply_text reply ≡ [] → ⊥
+some_reply Done is = cc
+some_reply (Number number) is = cc
+some_reply (Refused refusal) is = cc
+
+-- something is printed of an answer
+pub some_answer : (subjects : List Subject) (replies : List Reply) → length subjects ≢ 0 → length replies ≢ 0 → answers_text subjects replies ≢ []
+some_answer [] replies subject reply is = subject refl
+some_answer (s ∷ subjects) [] subject reply is = reply refl
+some_answer (s ∷ subjects) (r ∷ replies) subject reply is =
+    no_text (subject_text s) (reply_text r) (answers_text subjects replies) (some_reply r) is
+
+-- and nothing of none
+pub no_reply : (subjects : List Subject) (replies : List Reply) → length replies ≡ 0 → answers_text subjects replies ≡ []
+no_reply [] [] none = refl
+no_reply (s ∷ subjects) [] none = refl
+no_reply [] (r ∷ replies) none = refl
+no_reply (s ∷ subjects) (r ∷ replies) none = absurd (omega arith)
 
 -- ---- the service
 
@@ -72,6 +95,7 @@ run_served settings batch old new written end (Ok status) ran every marked noted
         subst (λ commands. spool.Shows new (state_after s commands)) all (from.shows (subst GoesOn (sym printed.0) tt)),
       );
   broken_off = λ why same. absurd (cc);
+  hides_none = λ unprinted. inl printed.0;
   late = tt;
   marked = marked;
   noted = noted;
@@ -84,6 +108,7 @@ run_served settings batch old new written end (Err (fault.Store why)) ran every 
   whole = tt;
   output = λ clean s shown. tt;
   broken_off = λ other same. (let is : why ≡ other = cc in (printed.0 ∙ ap Some is, printed.1));
+  hides_none = store_is_printed why;
   late = subst (λ stopped. IfSome stopped IsOfCall) printed.0 call;
   marked = marked;
   noted = noted;
@@ -96,6 +121,7 @@ run_served settings batch old new written end (Err fault.Write) ran every marked
   whole = tt;
   output = λ clean s shown. tt;
   broken_off = λ other same. absurd (cc);
+  hides_none = λ unprinted. printed;
   late = tt;
   marked = marked;
   noted = noted;
@@ -108,6 +134,7 @@ run_served settings batch old new written end (Err fault.Memory) ran every marke
   whole = tt;
   output = λ clean s shown. tt;
   broken_off = λ other same. absurd (cc);
+  hides_none = λ unprinted. printed;
   late = tt;
   marked = marked;
   noted = noted;

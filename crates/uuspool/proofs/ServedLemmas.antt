@@ -16,7 +16,7 @@ use Rattle.uu_settings.specs.declared.settings.Settings.{Settings}
 use Rattle.uu_request.specs.declared.request.Question.{Question}
 use Rattle.uu_request.specs.declared.request.Request.TheVariants as request
 use Rattle.uuspool.specs.Answers.{IsAnswer}
-use Rattle.uuspool.specs.Served.{IsServed, IsLate, IsNoted, IsOfCall, Marks, commands_of}
+use Rattle.uuspool.specs.Served.{IsServed, IsLate, IsNoted, IsOfCall, IsUnprinted, Marks, commands_of}
 use Rattle.uuspool.specs.declared.fault.Fault.{Fault}
 use Rattle.uuspool.specs.declared.fault.Fault.TheVariants as fault
 
@@ -84,6 +84,11 @@ pub noted_of_run : {S : Type 0} {g : Ghosts S} (old new : Spool S g) (stopped : 
 noted_of_run old new None marked = λ clean s shown kind same. absurd (cc)
 noted_of_run old new (Some why) marked = noted_of_call old new why marked
 
+-- a fault of the store is none of the output, nor of memory
+pub store_is_printed : {X : Type 0} (why : StoreFault) → (let r : Result ℕ Fault = Err (fault.Store why) in IsUnprinted r) → X
+store_is_printed why (inl is) = absurd (cc)
+store_is_printed why (inr is) = absurd (cc)
+
 -- no spool had failed
 pub never_failed : {X : Type 0} (before : Bool) → before ≡ false → IsTrue before → X
 never_failed before is had = absurd (cc)
@@ -109,6 +114,7 @@ module _ {S : Type 0} {g : Ghosts S} (settings : Settings) (q : Question) (old n
     whole = whole_of q r;
     output = λ clean s shown. shown_after r s (answers clean s shown).0 (answers clean s shown).1;
     broken_off = λ why store. absurd (no_store r why printing store);
+    hides_none = λ unprinted. inl refl;
     late = late_of r printing;
     marked = marked;
     noted = λ clean s shown kind same. absurd (cc);
@@ -131,6 +137,7 @@ module _ {S : Type 0} {g : Ghosts S} (settings : Settings) (q : Question) (old n
     whole = tt;
     output = λ clean s shown. tt;
     broken_off = λ other same. (let is : why ≡ other = cc in subst (λ w. (let stopped : Option StoreFault = Some why in stopped ≡ Some w) × written []) is (refl, nothing));
+    hides_none = store_is_printed why;
     late = call;
     marked = marked;
     noted = noted;

@@ -1,5 +1,5 @@
 -- A line that was served to a writer whose bytes are known.
-use Rattle.std.proofs.Common.{◌≡◌, ◌∙◌, inl, inr, ℕ, List, [], Option, Some, None, Result, Ok, Err, IfOk, IfErr, IsSome, refl, sym}
+use Rattle.std.proofs.Common.{◌≡◌, ◌⊎◌, ◌∙◌, inl, inr, ℕ, List, [], Option, Some, None, Result, Ok, Err, IfOk, IfErr, IsSome, refl, sym}
 use Rattle.std.proofs.lemmas.List.{append_cancel_left}
 use Rattle.std.specs.Io.KnownBytes.{Appends}
 use Rattle.sqlite.specs.Store.{Ghosts}
@@ -10,7 +10,7 @@ use Rattle.uu_store.specs.Spool as spool
 use Rattle.uu_core.specs.Run.{state_after}
 use Rattle.uu_store.specs.declared.spool.Spool.{Spool}
 use Rattle.uuspool.proofs.ServedLemmas.{Appends-nothing}
-use Rattle.uuspool.specs.Served.{Ask, EndsAs, IsEarly, IsFaultOf, IsLate, IsOutput, IsServed, commands_of}
+use Rattle.uuspool.specs.Served.{Ask, EndsAs, IsCut, IsEarly, IsFaultOf, IsLate, IsOutput, IsServed, answered_text, commands_of}
 use Rattle.uuspool.specs.Sessions.{Line, Serves}
 use Rattle.uuspool.specs.declared.fault.Fault.{Fault}
 use Rattle.uuspool.specs.declared.fault.Fault.TheVariants as fault
@@ -28,6 +28,10 @@ output_as : {S : Type 0} {g : Ghosts S} (settings : Settings) (s : State) (reque
 output_as settings s request new written other (Ok status) into (output, is, done, shows) = (output, is, into output done, shows)
 output_as settings s request new written other (Err why) into none = tt
 
+cut_as : (A : Type 0) (text : List ℕ) (written other : List ℕ → Type 0) → ((output : List ℕ) → written output → other output) → A ⊎ IsCut text written → A ⊎ IsCut text other
+cut_as A text written other into (inl a) = inl a
+cut_as A text written other into (inr (front, rest, is, some, done)) = inr (front, rest, is, some, into front done)
+
 -- what was written, said in other words
 served_as : {S : Type 0} {g : Ghosts S} (settings : Settings) (request : Request) (old new : Spool S g) (written other : List ℕ → Type 0) (r : Result ℕ Fault)
     → ((output : List ℕ) → written output → other output) → IsServed settings request old new written r → IsServed settings request old new other r
@@ -38,6 +42,7 @@ served_as settings request old new written other r into it = record {
   whole = it.whole;
   output = λ clean s shown. output_as settings s request new written other r into (it.output clean s shown);
   broken_off = λ why same. (let broken = it.broken_off why same in (broken.0, into _ broken.1));
+  hides_none = λ unprinted. cut_as _ (answered_text request it.replies) written other into (it.hides_none unprinted);
   late = it.late;
   marked = it.marked;
   noted = it.noted;

@@ -1,5 +1,5 @@
 -- What the words of a call ask of a spool, what the program prints, and its status. All of it is this project's choice.
-use Rattle.std.specs.Prelude.{◌≡◌, ◌⊎◌, ℕ, pos, Bool, true, false, IsTrue, Option, Some, None, List, [], Result, Ok, Err, IfOk, IfErr, OnOk, ⊤, unwrap_or, length}
+use Rattle.std.specs.Prelude.{◌≡◌, ◌≢◌, ◌⊎◌, ◌++◌, ℕ, pos, Bool, true, false, IsTrue, Option, Some, None, List, [], Result, Ok, Err, IfOk, IfErr, OnOk, ⊤, unwrap_or, length}
 use Rattle.sqlite.specs.Store.{Ghosts}
 use Rattle.sqlite.specs.State.{HasCleanDisk}
 use Rattle.uu_times.specs.Moment.{IsPast, Shows, local_second, week_minute}
@@ -69,14 +69,18 @@ abbrev pub answered_text : Request → List Reply → List ℕ
 answered_text (Commands batch) replies = answers_text batch.subjects replies
 answered_text (Question question) replies = []
 
+-- less than this text was written: a front of it, and something is left
+abbrev pub IsCut : List ℕ → (List ℕ → Type 0) → Type 0
+IsCut text written = (front : List ℕ) × (rest : List ℕ) × (text ≡ front ++ rest) × (rest ≢ []) × written front
+
 -- What a run's end is printed as: of a whole run the output and its status, of one that was broken off the output of the commands that
--- were answered, with its fault.
+-- were answered, with its fault. Another fault hides that one only where less than that output was written.
 abbrev pub IsPrintedEnd : List Subject → List ℕ → RunEnd → (List ℕ → Type 0) → Result ℕ Fault → Type 0
 IsPrintedEnd subjects skipped end written (Ok status) =
     (end.stopped ≡ None) × (status ≡ replies_status end.replies.items) × written (output_text subjects skipped end.replies.items)
 IsPrintedEnd subjects skipped end written (Err (fault.Store why)) = (end.stopped ≡ Some why) × written (answers_text subjects end.replies.items)
-IsPrintedEnd subjects skipped end written (Err fault.Write) = ⊤
-IsPrintedEnd subjects skipped end written (Err fault.Memory) = ⊤
+IsPrintedEnd subjects skipped end written (Err fault.Write) = (end.stopped ≡ None) ⊎ IsCut (answers_text subjects end.replies.items) written
+IsPrintedEnd subjects skipped end written (Err fault.Memory) = (end.stopped ≡ None) ⊎ IsCut (answers_text subjects end.replies.items) written
 IsPrintedEnd subjects skipped end written (Err _) = ⊥
 
 -- the faults that come before the spool is asked
@@ -100,6 +104,10 @@ IsLate fault.Write = ⊤
 IsLate fault.Memory = ⊤
 IsLate _ = ⊥
 
+-- the output could not be written, or memory ran out
+abbrev pub IsUnprinted : Result ℕ Fault → Type 0
+IsUnprinted result = (result ≡ Err fault.Write) ⊎ (result ≡ Err fault.Memory)
+
 -- How a request ends, by whether the spool had failed before and has afterwards: `Failed` is told of a spool that had failed, and of no other.
 abbrev pub Marks : Bool → Bool → Option StoreFault → Type 0
 Marks before afterwards None = (before ≡ false) × (afterwards ≡ false)
@@ -116,7 +124,8 @@ IsNoted old new stopped =
 
 -- A request was served: it was a run of its commands, so that the replies are the machine's, the spool shows the machine's state after the
 -- commands that were answered, and a stop leaves that. With a status, all were answered, and their output was `written`. Where the store
--- gave a fault, the output of the commands that were answered was. A spool that had failed is left as it was.
+-- gave a fault, the output of the commands that were answered was, or less of it, and then alone another fault hides the store's. A spool
+-- that had failed is left as it was.
 pub record IsServed {S : Type 0} {g : Ghosts S} (settings : Settings) (request : Request) (old new : Spool S g) (written : List ℕ → Type 0) (result : Result ℕ Fault) : Type 0 where
   pub replies : List Reply
   pub stopped : Option StoreFault
@@ -125,6 +134,7 @@ pub record IsServed {S : Type 0} {g : Ghosts S} (settings : Settings) (request :
   pub output : HasCleanDisk (spool.disk new) → (s : State) → spool.Shows old s → IfOk result (λ status.
       (output : List ℕ) × IsOutput settings s request output status × written output × spool.Shows new (state_after s (commands_of request)))
   pub broken_off : (why : StoreFault) → result ≡ Err (fault.Store why) → (stopped ≡ Some why) × written (answered_text request replies)
+  pub hides_none : IsUnprinted result → (stopped ≡ None) ⊎ IsCut (answered_text request replies) written
   pub late : IfErr result IsLate
   pub marked : Marks (spool.has_failed old) (spool.has_failed new) stopped
   pub noted : IsNoted old new stopped

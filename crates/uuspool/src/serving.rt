@@ -1,8 +1,9 @@
 //! One line of the program: what its words ask of the spool is asked, and what is answered is printed.
 
-ghost use Rattle.std.specs.Prelude.{◌≡◌, ℕ, List, Ok, IfOk, IfErr, IsSome, map};
+ghost use Rattle.std.specs.Prelude.{◌≡◌, ◌≢◌, ℕ, true, false, List, [], Ok, IfOk, IfErr, IsSome, map};
 ghost use Rattle.std.specs.String.{string_bytes};
 ghost use Rattle.std.specs.Io.KnownBytes.{Appends};
+ghost use Rattle.uu_report.specs.Outputs.{answers_text};
 ghost use Rattle.uu_request.specs.declared.request.Request.TheVariants as request;
 ghost use Rattle.uuspool.specs.Served.{Ask, EndsAs, IsEarly, IsServed, IsPrintedEnd, IsFaultOf};
 ghost use Rattle.uuspool.specs.Sessions.{Serves};
@@ -18,7 +19,7 @@ use std::io::Write;
 use uu_report::{Subject, answer_lines, output_of, status_of};
 use uu_request::{Batch, Request, request_of};
 use uu_settings::Settings;
-use uu_store::{RunEnd, Spool};
+use uu_store::{Reply, RunEnd, Spool};
 
 /// Runs the line that the words after the program's name mean, at the second `now` where the line
 /// gives none, with this input. Writes its output to `out` and answers its status: 0 done, 1 where a command was
@@ -27,7 +28,8 @@ use uu_store::{RunEnd, Spool};
 /// # Errors
 /// `Words`, `Name`, `TwoSystems`, `Time` and `Input` come before the spool is asked, in this order, but for the `Time` of
 /// a sys file, which comes last; then nothing is written and nothing changes. `Store` comes after the output of the
-/// commands that were answered. After `Write` accepted commands stay accepted. `Settings` and `Read` never come.
+/// commands that were answered. After `Write` accepted commands stay accepted; where the store gave a fault, `Write` and `Memory` come in its
+/// place only where less than that output was written. `Settings` and `Read` never come.
 pub fn serve<S: Alter, W: Write>(
     alloc: Global,
     words: &[String],
@@ -99,7 +101,8 @@ fn run<S: Alter, W: Write>(
     print_end(alloc, subjects.as_slice(), skipped.as_slice(), &end, out)
 }
 
-// Prints the output of a run, or where it was broken off that of the commands that were answered.
+// Prints the output of a run, or where it was broken off that of the commands that were answered. Where there is none, no fault of memory or
+// of the output hides the store's.
 fn print_end<W: Write>(
     alloc: Global,
     subjects: &[Subject],
@@ -115,9 +118,22 @@ fn print_end<W: Write>(
             status_of(&end.replies),
             out,
         ),
-        Some(fault) => match print(answer_lines(alloc, subjects, &end.replies), 0, out) {
-            Ok(_) => Err(Fault::Store(fault)),
-            Err(fault) => Err(fault),
-        },
+        Some(fault) => {
+            if !is_answered(subjects, &end.replies) {
+                return Err(Fault::Store(fault));
+            }
+            match print(answer_lines(alloc, subjects, &end.replies), 0, out) {
+                Ok(_) => Err(Fault::Store(fault)),
+                Err(fault) => Err(fault),
+            }
+        }
     }
+}
+
+// Whether something is printed of these replies.
+fn is_answered(subjects: &[Subject], replies: &[Reply]) -> bool
+    ensures some { result ≡ true → answers_text subjects.now replies.now ≢ [] }
+    ensures none { result ≡ false → answers_text subjects.now replies.now ≡ [] }
+{
+    !subjects.is_empty() && !replies.is_empty()
 }
