@@ -7,6 +7,7 @@ use Rattle.sqlite_wal.specs.Recovery.{Image}
 use Rattle.sqlite_wal.specs.Reads.{AreClean}
 use Rattle.sqlite_store.specs.declared.store.FileStore.{FileStore}
 use Rattle.sqlite_store.specs.FileStore as store
+use Rattle.sqlite_store.specs.Laws.{stays_at}
 use Rattle.sqlite.specs.Closing.{HoldsAlone, IsCopied}
 use Rattle.sqlite.specs.Effect.{Database}
 use Rattle.sqlite.specs.Files.{over_files}
@@ -34,13 +35,15 @@ module _ {D : Type 0} {g : disk.Ghosts D} (was : Held (FileStore D g)) (conn : H
   pub let_go : IsLetGo over_files was.store last
   let_go = record { left = closed_it.quiet.outcomes; clean = closed_it.quiet.clean }
 
-pub is_closed : {D : Type 0} {g : disk.Ghosts D} (spool : Spool (FileStore D g) over_files) (files : Files D) (conn : Held (FileStore D g)) → conn ≡ connection_of spool
+pub is_closed : {D : Type 0} {g : disk.Ghosts D} → ((file : D) → g.may_leave file (g.seen file)) → (spool : Spool (FileStore D g) over_files) (files : Files D) (conn : Held (FileStore D g)) → conn ≡ connection_of spool
     → (last : FileStore D g) → store.files last ≡ (files.log, files.db) → file.IsClosed conn last → (AreClean g files.log files.db → IsCopied conn files) → IsClosed spool files
-is_closed {D} {g} spool files conn same last are closed copied =
+is_closed {D} {g} stays spool files conn same last are closed copied =
     let copied_it : AreClean g files.log files.db → IsCopied (connection_of spool) files = λ clean. subst (λ (c : Held (FileStore D g)). IsCopied c files) same (copied clean) in record {
       last = last;
       files_are = are;
       let_go = let_go (connection_of spool) conn same last closed;
+      clean = λ clean. (copied_it clean).was_clean;
+      left = λ clean image may. ∥∥₁_map ((copied_it clean).left image may).both (λ holds. ((disk spool).committed.trees, stays_at (connection_of spool).store stays (copied_it clean).was_open, holds));
       now = λ clean s shows. keeps_alone _ _ s (committed_keeps spool s shows) (copied_it clean).seen;
       stop = λ clean s shows image may. keeps_alone image _ s (committed_keeps spool s shows) ((copied_it clean).left image may);
     }

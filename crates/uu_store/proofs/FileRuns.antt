@@ -3,6 +3,7 @@ use Rattle.std.proofs.Common.{◌⊎◌, inl, inr, ℕ, List, [], ◌∷◌, ◌
 use Rattle.std.proofs.Math.Logic.{∥∥₁_elim, ∥∥₁_map}
 use Rattle.std.specs.Prelude.{IsTrue}
 use Rattle.sqlite_disk.specs.declared.Disk as disk
+use Rattle.sqlite_disk.specs.declared.Files.{Files}
 use Rattle.sqlite_store.specs.declared.store.FileStore.{FileStore}
 use Rattle.sqlite_store.specs.FileStore.{recovers, view}
 use Rattle.sqlite_wal.specs.Recovery.{Image}
@@ -22,10 +23,11 @@ use Rattle.uu_store.specs.Kept.{Keeps, KeepsEither}
 use Rattle.uu_store.specs.Spool.{connection_of}
 use Rattle.uu_store.specs.Runs.{Ran}
 use Rattle.uu_store.specs.Exchanges.{Exchange, exchange_of, Counts, Passes}
-use Rattle.uu_store.specs.Stretches.{IsLetGo, stretch}
+use Rattle.uu_store.specs.Stretches.{Stretch, IsLetGo, stretch}
 use Rattle.uu_store.specs.Acknowledged.{IsAcknowledged, IsAccountedFor}
 use Rattle.uu_store.specs.Openings.{ImageKeeps, Started}
-use Rattle.uu_store.specs.Files.{End, not_started, let_go, FileStretch, IsOverFiles, Ended, AllFilesPassed, last_left, file_exchanges, KeepsAfter, KeepsJob, IsStretch}
+use Rattle.uu_store.specs.Closing.{IsClosed}
+use Rattle.uu_store.specs.Files.{End, not_started, let_go, closed, FileStretch, IsOverFiles, IsOverClosed, Ended, AllFilesPassed, last_left, file_exchanges, KeepsAfter, KeepsJob, IsStretch, IsClosedStretch}
 use Rattle.uu_store.proofs.Running.{StatesFollow, RepliesFollow}
 use Rattle.uu_store.proofs.Reopening.{LeavesTwo, leaves_two}
 use Rattle.uu_store.proofs.Accounting.{good_of}
@@ -38,17 +40,26 @@ databases could_leave s t keeps trees may = elim (keeps trees may) [ inl it ↦ 
 abbrev OneCounts : Exchange → State → Image → Type 0
 OneCounts exchange s left = (here : List Command) × Counts exchange s here × ImageKeeps left (state_after s here)
 
+-- what is left holds one of the two databases that a stretch could leave
+of_two : (it : Stretch) (s : State) (l : LeavesTwo it s) (left : Image) (trees : Trees) → HoldsDatabase left trees → Keeps trees (state_after s l.one) ⊎ Keeps trees (state_after s l.other) → OneCounts it.exchange s left
+of_two it s l left trees held (inl kept) = (l.one, l.counts_one, inl (trees, held, kept))
+of_two it s l left trees held (inr kept) = (l.other, l.counts_other, inl (trees, held, kept))
+
 module _ (states : StatesFollow) (answers : RepliesFollow) where
   over_them : {D : Type 0} {g : disk.Ghosts D} (before : Image) (exchange : Exchange) (opened : Held (FileStore D g)) (stopped : FileStore D g) (left : Image) (s : State) → ImageKeeps before s
       → IsOverFiles before exchange opened stopped left → ∥ OneCounts exchange s left ∥₁
   over_them before exchange opened stopped left s keeps is =
       let found = found_stores before s (file_state opened) is.found keeps in
       let l = leaves_two answers (stretch over_files opened exchange stopped) s is.passed found.0 found.1 in
-      ∥∥₁_map (opens_again stopped is.numbered (databases (recovers stopped) (state_after s l.one) (state_after s l.other) l.keeps) left is.may) (λ db. one l db.0 db.2 (l.keeps db.0 db.1))
-    where
-      one : (l : LeavesTwo (stretch over_files opened exchange stopped) s) (trees : Trees) → HoldsDatabase left trees → Keeps trees (state_after s l.one) ⊎ Keeps trees (state_after s l.other) → OneCounts exchange s left
-      one l trees held (inl kept) = (l.one, l.counts_one, inl (trees, held, kept))
-      one l trees held (inr kept) = (l.other, l.counts_other, inl (trees, held, kept))
+      ∥∥₁_map (opens_again stopped is.numbered (databases (recovers stopped) (state_after s l.one) (state_after s l.other) l.keeps) left is.may)
+      (λ db. of_two (stretch over_files opened exchange stopped) s l left db.0 db.2 (l.keeps db.0 db.1))
+
+  over_closed : {D : Type 0} {g : disk.Ghosts D} (before : Image) (exchange : Exchange) (opened : Held (FileStore D g)) (files : Files D) (left : Image) (s : State) → ImageKeeps before s
+      → IsOverClosed before exchange opened files left → ∥ OneCounts exchange s left ∥₁
+  over_closed before exchange opened files left s keeps is =
+      let found = found_stores before s (file_state opened) is.found keeps in
+      let l = leaves_two answers (stretch over_files opened exchange (connection_of is.last).store) s is.passed found.0 found.1 in
+      ∥∥₁_map (is.close.left is.clean left is.may) (λ db. of_two (stretch over_files opened exchange (connection_of is.last).store) s l left db.0 db.2 (l.keeps db.0 db.1))
 
   ended : (before : Image) (exchange : Exchange) (left : Image) (end : End) (s : State) → ImageKeeps before s → Ended before exchange left end → ∥ OneCounts exchange s left ∥₁
   ended before exchange left not_started s keeps (no_reply, ending, kept) = ∥∥₁_map (kept s keeps) (λ still. ([], none, still))
@@ -56,6 +67,7 @@ module _ (states : StatesFollow) (answers : RepliesFollow) where
       none : Counts exchange s []
       none = record { rest = exchange.commands; prefix = refl; unheard = []; at_most_one = omega arith; settled = λ _. refl; answers = ap (λ l. l ++ []) (sym no_reply) }
   ended before exchange left (let_go D g opened stopped) s keeps is = over_them before exchange opened stopped left s keeps is
+  ended before exchange left (closed D g opened files) s keeps is = over_closed before exchange opened files left s keeps is
 
   pub files_pass : (stretches : List FileStretch) (before : Image) (s : State) → ImageKeeps before s → AllFilesPassed before stretches → ∥ KeepsAfter s stretches (last_left before stretches) ∥₁
   files_pass [] before s keeps all = ∣ ([], refl, keeps) ∣₁
@@ -80,15 +92,31 @@ jobs_pass none account stretches before left s new number keeps told after =
 
 -- ---- a stretch, by what its calls ensure
 
-module _ {D : Type 0} {g : disk.Ghosts D} (image : Image) (commands : List Command) (begun ended : Spool (FileStore D g) over_files) (replies : List Reply) (fault : Option StoreFault) (stopped : FileStore D g) where
-  pub stretch_is : Started image begun → Ran commands begun ended replies fault → IsLetGo over_files (connection_of ended).store stopped → (IsClean (view stopped) → IsTrue (view stopped).is_numbered)
-      → IsStretch image (exchange_of commands replies fault) stopped
-  stretch_is started ran last numbered = record {
+module _ {D : Type 0} {g : disk.Ghosts D} (image : Image) (commands : List Command) (begun ended : Spool (FileStore D g) over_files) (replies : List Reply) (fault : Option StoreFault) (started : Started image begun) (ran : Ran commands begun ended replies fault) where
+  pub stretch_is : (stopped : FileStore D g) → IsLetGo over_files (connection_of ended).store stopped → (IsClean (view stopped) → IsTrue (view stopped).is_numbered) → IsStretch image (exchange_of commands replies fault) stopped
+  stretch_is stopped last numbered = record {
     opened = started.opened;
     passed = λ clean left may. (record {
       found = started.found (omega (arith, started.adopted.clean, ran.clean, last.clean, clean));
       passed = record { work = inl (record { begun = begun; ended = ended; fault = fault; ending = refl; adopted = started.adopted; ran = ran; let_go = last }); clean = clean };
       numbered = numbered clean;
+      may = may;
+    });
+  }
+
+  -- nothing was done since
+  at_once : IsLetGo over_files (connection_of ended).store (connection_of ended).store
+  at_once = record { left = λ trees may. may; clean = omega arith }
+
+  pub closed_is : (files : Files D) → IsClosed ended files → IsClosedStretch g image (exchange_of commands replies fault) files
+  closed_is files close = record {
+    opened = started.opened;
+    passed = λ clean left may. (record {
+      found = let sure = close.clean clean in started.found (omega (arith, started.adopted.clean, ran.clean, sure));
+      last = ended;
+      passed = record { work = inl (record { begun = begun; ended = ended; fault = fault; ending = refl; adopted = started.adopted; ran = ran; let_go = at_once }); clean = close.clean clean };
+      close = close;
+      clean = clean;
       may = may;
     });
   }

@@ -1,6 +1,6 @@
 -- Commands over a spool, one after the other.
-use Rattle.std.proofs.Common.{◌≡◌, inl, ℕ, zero, suc, ◌+◌, true, false, true≢false, List, [], ◌∷◌, ◌++◌, length, take, Option, Some, None, Result, Ok, Err, refl, sym, ap, subst, ◌∙◌, append_assoc, append-nil, arith}
-use Rattle.std.specs.Prelude.{IfOk}
+use Rattle.std.proofs.Common.{◌≡◌, inl, Bool, ℕ, zero, suc, ◌+◌, true, false, true≢false, List, [], ◌∷◌, ◌++◌, length, take, Option, Some, None, Result, Ok, Err, refl, sym, ap, subst, ◌∙◌, append_assoc, append-nil, arith}
+use Rattle.std.specs.Prelude.{IfOk, IfSome, MatchOption}
 use Rattle.std.proofs.lemmas.List.{length-append, length-take, take_all}
 use Rattle.std.proofs.Math.Seq.{take-append_seam}
 use Rattle.sqlite.specs.Store.{Ghosts}
@@ -13,6 +13,7 @@ use Rattle.uu_core.specs.After.{after}
 use Rattle.uu_core.specs.Run.{state_after, replies_to}
 use Rattle.uu_schema.specs.declared.fault.StoreFault.{StoreFault}
 use Rattle.uu_schema.specs.declared.fault.StoreFault.TheVariants.{Memory, Store, Failed, Foreign, Newer}
+use Rattle.uu_schema.specs.Faults.{IsFresh}
 use Rattle.uu_store.specs.declared.spool.Spool.{Spool}
 use Rattle.uu_store.specs.Calls.{StaysUnclean, IsAnswered}
 use Rattle.uu_store.specs.Encoded.{Leaves, LeavesEither}
@@ -266,3 +267,13 @@ module _ {S : Type 0} {g : Ghosts S} (old new : Spool S g) (commands : List Comm
             stop_store = subst (λ l. LeavesEither (disk new) (state_after s l) (state_after s (take (k + 1) (take k commands)))) (sym same)
                 (λ trees may. let there = left trees may in (there.0, inl there.1));
           }
+
+-- ---- which fault ends a run of a spool that can be used
+
+pub stopped_fresh : (stopped : Option StoreFault) (before later : Bool) → before ≡ false → MatchOption stopped ((before ≡ false) × (later ≡ false)) (Marks before later) → IfSome stopped IsFresh
+stopped_fresh None before later usable marks = tt
+stopped_fresh (Some Memory) before later usable marks = tt
+stopped_fresh (Some (Store kind)) before later usable marks = tt
+stopped_fresh (Some Failed) before later usable marks = absurd (true≢false (sym marks.0 ∙ usable))
+stopped_fresh (Some Foreign) before later usable marks = absurd marks
+stopped_fresh (Some Newer) before later usable marks = absurd marks

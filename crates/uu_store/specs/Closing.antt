@@ -7,22 +7,30 @@ use Rattle.sqlite_wal.specs.Files.{outcomes}
 use Rattle.sqlite_wal.specs.Reads.{AreClean}
 use Rattle.sqlite_store.specs.declared.store.FileStore.{FileStore}
 use Rattle.sqlite_store.specs.FileStore as store
-use Rattle.sqlite.specs.Files.{over_files, image_of}
+use Rattle.sqlite.specs.Tree.{Trees}
+use Rattle.sqlite.specs.State.{HasCleanDisk}
+use Rattle.sqlite.specs.Files.{HoldsDatabase, over_files, image_of}
 use Rattle.uu_core.specs.State.{State}
 use Rattle.uu_store.specs.declared.spool.Spool.{Spool}
 use Rattle.uu_store.specs.Openings.{ImageKeeps}
-use Rattle.uu_store.specs.Spool.{connection_of, Shows}
+use Rattle.uu_store.specs.Spool.{connection_of, disk, Shows}
 use Rattle.uu_store.specs.Stretches.{IsLetGo}
 
 -- the two files keep the state, and so does the database file with no log
 abbrev pub KeepsAlone : Image → State → Type 0
 KeepsAlone image s = ∥ ImageKeeps image s ∥₁ × ∥ ImageKeeps (record image { log = [] }) s ∥₁
 
--- The store was let go, and its files are these. While the disk returned what was written, they keep the state that the spool showed, as they
--- read now and as a stop leaves them.
+-- the two files hold a database that could be left
+abbrev pub HoldsOneOf : (Trees → Type 0) → Image → Type 0
+HoldsOneOf could_leave image = ∥ ((trees : Trees) × could_leave trees × HoldsDatabase image trees) ∥₁
+
+-- The store was let go, and its files are these. While the disk returned what was written, a stop leaves files that hold a database which it
+-- could leave before, and they keep the state that the spool showed, as they read now and as a stop leaves them.
 pub record IsClosed {D : Type 0} {g : disk.Ghosts D} (spool : Spool (FileStore D g) over_files) (files : Files D) : Type 0 where
   pub last : FileStore D g
   pub files_are : store.files last ≡ (files.log, files.db)
   pub let_go : IsLetGo over_files (connection_of spool).store last
+  pub clean : AreClean g files.log files.db → HasCleanDisk (disk spool)
+  pub left : AreClean g files.log files.db → (image : Image) → outcomes g files.log files.db image → HoldsOneOf (disk spool).may_leave image
   pub now : AreClean g files.log files.db → (s : State) → Shows spool s → KeepsAlone (image_of g files) s
   pub stop : AreClean g files.log files.db → (s : State) → Shows spool s → (image : Image) → outcomes g files.log files.db image → KeepsAlone image s

@@ -1,9 +1,17 @@
 //! What follows from the definitions.
-ghost use Rattle.std.specs.Prelude.{◌≡◌, ◌++◌, ℕ, List, length, take, Option, None};
+ghost use Rattle.std.specs.Prelude.{◌≡◌, ◌++◌, ℕ, List, length, take, Option, None, IsTrue};
+ghost use Rattle.sqlite_disk.specs.declared.Files.{Files};
+ghost use Rattle.sqlite_store.specs.declared.store.FileStore.{FileStore};
+ghost use Rattle.sqlite.specs.declared.file.Leftover.{Leftover};
+ghost use Rattle.sqlite.specs.Files.{IsCleanLeft, image_of, over_files};
 ghost use Rattle.sqlite.specs.Tree.{Trees};
 ghost use Rattle.sqlite.specs.Held.{Held, state};
 ghost use Rattle.sqlite.specs.State as db;
 ghost use Rattle.sqlite.specs.State.{IsLive};
+ghost use Rattle.sqlite.specs.View.{IsClean};
+ghost use Rattle.sqlite_store.specs.FileStore.{state as files_of, view};
+ghost use Rattle.sqlite_wal.specs.Files.{outcomes};
+ghost use Rattle.sqlite_wal.specs.Reads.{AreClean};
 ghost use Rattle.sqlite_wal.specs.Recovery.{Image};
 ghost use Rattle.uu_sql.specs.Steps.{Rests};
 ghost use Rattle.uu_core.specs.declared.command.Command.{Command};
@@ -13,15 +21,20 @@ ghost use Rattle.uu_core.specs.State.{State, IsWellFormed};
 ghost use Rattle.uu_schema.specs.declared.fault.StoreFault.{StoreFault};
 ghost use Rattle.uu_store.specs.declared.spool.Spool.{Spool};
 ghost use Rattle.uu_store.specs.Encoded.{HoldsState};
+ghost use Rattle.uu_store.specs.Closing.{IsClosed};
+ghost use Rattle.uu_store.specs.Spool.{connection_of};
 ghost use Rattle.uu_store.specs.Kept.{Stores, KeepsOnly};
 ghost use Rattle.uu_store.specs.Runs.{GoesOn, Ran};
-ghost use Rattle.uu_store.specs.Exchanges.{Exchange, Passes};
-ghost use Rattle.uu_store.specs.Stretches.{Stretch, StretchOver, Reopens, LeadTo, StoresAfter, Led, exchanges, told};
+ghost use Rattle.uu_store.specs.Exchanges.{Exchange, exchange_of, Passes};
+ghost use Rattle.uu_store.specs.Stretches.{Stretch, StretchOver, IsLetGo, Reopens, LeadTo, StoresAfter, Led, exchanges, told};
 ghost use Rattle.uu_store.specs.Acknowledged.{IsAcknowledged, IsAccountedFor, StoresJob};
-ghost use Rattle.uu_store.specs.Files.{FileStretch, AllFilesPassed, last_left, file_exchanges, KeepsAfter, KeepsJob};
-ghost use Rattle.uu_store.specs.Openings.{ImageKeeps};
+ghost use Rattle.uu_store.specs.Files.{FileStretch, FilePassed, AllFilesPassed, last_left, file_exchanges, KeepsAfter, KeepsJob, IsStretch, IsClosedStretch};
+ghost use Rattle.uu_store.specs.Files.{let_go_after, closed_after, not_started_for};
+ghost use Rattle.uu_store.specs.Openings.{ImageKeeps, IsTakenAsMade, LeavesAsKept, Started, may_be_left};
+ghost use Rattle.uu_store.specs.declared.remains.Remains.TheVariants as remains;
 
 use sqlite::Alter;
+use sqlite_disk::Disk;
 use uu_check::laws::{tables_are_in_order, tables_are_readable, tables_tell_the_state};
 use uu_core::laws::{
     jobs_are_handed_in, jobs_stay_through_runs, numbers_are_not_used_again,
@@ -121,3 +134,33 @@ pub fn no_answered_command_is_lost_in_files<H: FileHistory>()
     states_stay_well_formed();
     acknowledged_jobs_are_accounted_for();
 }
+
+/// Whatever commands and questions a spool in files that were opened is given, they are a stretch of work once its store is let go, or its
+/// files are closed: what [`crate::work`] says of its calls holds of any.
+pub fn calls_make_a_stretch<D: Disk>()
+    ensures let_go { (before : Image) (commands : List Command) (begun ended : Spool (FileStore D D.Disk) over_files) (replies : List Reply) (stopped : Option StoreFault) (store : FileStore D D.Disk)
+        → Started before begun → Ran commands begun ended replies stopped → IsLetGo over_files (connection_of ended).store store
+        → (IsClean (view store) → IsTrue (view store).is_numbered) → IsStretch before (exchange_of commands replies stopped) store }
+    ensures closed { (before : Image) (commands : List Command) (begun ended : Spool (FileStore D D.Disk) over_files) (replies : List Reply) (stopped : Option StoreFault) (files : Files D)
+        → Started before begun → Ran commands begun ended replies stopped → IsClosed ended files
+        → IsClosedStretch D.Disk before (exchange_of commands replies stopped) files }
+{}
+
+/// A stretch that calls made, and an opening that failed, are stretches of a history, with any contents that a stop may leave then: so calls
+/// that follow one another meet what is supposed of a history.
+pub fn stretches_make_a_history<D: Disk>()
+    ensures let_go { (before left : Image) (exchange : Exchange) (store : FileStore D D.Disk) (it : IsStretch before exchange store)
+        → IsClean (view store) → (files_of store).may_leave left → FilePassed before (let_go_after it left) }
+    ensures closed { (before left : Image) (exchange : Exchange) (files : Files D) (it : IsClosedStretch D.Disk before exchange files)
+        → AreClean D.Disk files.log files.db → outcomes D.Disk files.log files.db left → FilePassed before (closed_after it left) }
+
+    // Without a stop the closed files hold what they read as.
+    ensures not_stopped { (before : Image) (exchange : Exchange) (files : Files D) (it : IsClosedStretch D.Disk before exchange files)
+        → AreClean D.Disk files.log files.db → FilePassed before (closed_after it (image_of D.Disk files)) }
+
+    // No database was opened, or one that was not taken as a spool. No command was given.
+    ensures not_opened { (before left : Image) (commands : List Command) (it : Leftover D D.Disk) → LeavesAsKept before (remains.Files it)
+        → IsCleanLeft it → IsTakenAsMade before it → may_be_left it left → FilePassed before (not_started_for commands left) }
+    ensures not_taken { (before left : Image) (commands : List Command) (it : FileStore D D.Disk) → LeavesAsKept before (remains.Store it)
+        → IsTrue (view it).is_clean → (files_of it).may_leave left → FilePassed before (not_started_for commands left) }
+{}

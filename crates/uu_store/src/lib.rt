@@ -19,7 +19,7 @@ pub use open::{FileSpool, open_spool, start};
 pub use remains::{OpenFault, Remains};
 pub use run::RunEnd;
 pub use spool::Spool;
-pub use stretch::{start_again, work};
+pub use stretch::{CloseEnd, start_again, work, work_and_close};
 pub use uu_core::{
     By, CallState, Command, Due, Filter, JobHead, Kind, NewJob, Outcome, Refusal, Reply, SystemRow,
 };

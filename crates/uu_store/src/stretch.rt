@@ -1,12 +1,14 @@
 // Stretches of work over files.
-ghost use Rattle.std.specs.Prelude.{◌≡◌, ◌↔◌, ℕ, None, IfOk, IfErr, length};
+ghost use Rattle.std.specs.Prelude.{◌≡◌, ◌↔◌, ℕ, None, IfOk, IfErr, IfSome, IsTrue, length};
 ghost use Rattle.sqlite.specs.State.{HasCleanDisk};
 ghost use Rattle.sqlite_wal.specs.Files.{image_at};
+ghost use Rattle.sqlite_store.specs.FileStore.{view};
 ghost use Rattle.uu_core.specs.declared.job.NewJob.{NewJob};
 ghost use Rattle.uu_core.specs.State.{State};
+ghost use Rattle.uu_schema.specs.Faults.{IsFresh};
 ghost use Rattle.uu_store.specs.Acknowledged.{IsAcknowledged, ShowsJob};
 ghost use Rattle.uu_store.specs.Exchanges.{exchange_of};
-ghost use Rattle.uu_store.specs.Files.{AllFilesPassed, last_left, file_exchanges, IsStretch};
+ghost use Rattle.uu_store.specs.Files.{AllFilesPassed, last_left, file_exchanges, IsStretch, IsClosedStretch};
 ghost use Rattle.uu_store.specs.Openings.{ImageKeeps, IsNamed, LeavesAsKept, remains_of};
 ghost use Rattle.uu_store.specs.Spool.{disk};
 ghost use Rattle.uu_store.specs.Stretches.{ShowsAfter};
@@ -15,8 +17,10 @@ use crate::laws::{FileHistory, no_answered_command_is_lost_in_files};
 use crate::open::{FileSpool, open_spool};
 use crate::remains::OpenFault;
 use crate::run::RunEnd;
-use sqlite::{FileFrom, FileStore, Start};
+use sqlite::{FileFrom, FileStore, Files, Start};
+use sqlite_disk::Disk;
 use uu_core::Command;
+use uu_schema::StoreFault;
 
 /// A stretch of work: opens the file at the path, gives the spool in it the commands, and lets its store go.
 ///
@@ -32,12 +36,41 @@ pub fn work<T: Start>(
 
     // Nothing stopped it exactly where all were answered.
     ensures every { IfOk result (λ end. (end.0.stopped ≡ None) ↔ (length end.0.replies.items ≡ length commands.items)) }
+    ensures fresh { IfOk result (λ end. IfSome end.0.stopped IsFresh) }
     ensures named { IfErr result (λ e. IsNamed (image_at T.Start) e.fault (remains_of e)) }
     ensures left { IfErr result (λ e. LeavesAsKept (image_at T.Start) (remains_of e)) }
 {
     let mut spool = open_spool(rt, path, start)?;
     let end = spool.run(rt.alloc(), commands);
     Ok((end, spool.into_store()))
+}
+
+/// What a close answers: the two files, or why it failed and the store as it was let go.
+pub type CloseEnd<D> = Result<Files<D>, (StoreFault, FileStore<D>)>;
+
+/// [`work`], and then the files are closed.
+///
+/// # Errors
+/// Those of [`open_spool`]. No command was given then. A close that fails is no error of the stretch, which has its replies.
+pub fn work_and_close<T: Start>(
+    rt: &HostRuntime,
+    path: &str,
+    start: T,
+    commands: Vec<Command>,
+) -> Result<(RunEnd, CloseEnd<FileFrom<T>>), OpenFault<FileFrom<T>>>
+    ensures closed { IfOk result (λ end. IfOk end.1 (IsClosedStretch ⟦<FileFrom<T> as Disk>⟧ (image_at T.Start) (exchange_of commands.items end.0.replies.items end.0.stopped))) }
+
+    // Of a store that a close gave back the port does not say that its trees have their places; where they have, it was let go as any.
+    ensures let_go { IfOk result (λ end. IfErr end.1 (λ e. IsTrue (view e.1).is_numbered
+        → IsStretch (image_at T.Start) (exchange_of commands.items end.0.replies.items end.0.stopped) e.1)) }
+    ensures every { IfOk result (λ end. (end.0.stopped ≡ None) ↔ (length end.0.replies.items ≡ length commands.items)) }
+    ensures fresh { IfOk result (λ end. IfSome end.0.stopped IsFresh) }
+    ensures named { IfErr result (λ e. IsNamed (image_at T.Start) e.fault (remains_of e)) }
+    ensures left { IfErr result (λ e. LeavesAsKept (image_at T.Start) (remains_of e)) }
+{
+    let mut spool = open_spool(rt, path, start)?;
+    let end = spool.run(rt.alloc(), commands);
+    Ok((end, spool.close()))
 }
 
 /// Opens the file again, after any stretches of work over it. While nobody else wrote the files, and the disk returned what was written, the

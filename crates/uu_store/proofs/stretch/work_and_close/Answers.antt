@@ -1,0 +1,23 @@
+use Rattle.std.proofs.lemmas.Result.{IfOk-weaker, IfErr-weaker}
+use Rattle.sqlite_wal.specs.Files.{image_at}
+use Rattle.uu_store.proofs.Running.{stopped_fresh}
+use Rattle.uu_store.proofs.FileRuns.{stretch_is, closed_is}
+use Rattle.uu_store.proofs.stretch.work_and_close.Goals as goal
+
+pub returns-clause-closed : goal.returns-clause-closed
+returns-clause-closed g c = IfOk-weaker c.close.result _ _ (λ files close.
+    closed_is (image_at g.T.Start) c.args.commands.items c.in_ok-spool.spool c.run-end.new.self c.run-end.result.replies.items c.run-end.result.stopped c.in_ok-spool.ensures.started c.run-end.ensures.ran
+    files close) c.close.ensures.closed
+
+pub returns-clause-let_go : goal.returns-clause-let_go
+returns-clause-let_go g c = IfErr-weaker c.close.result _ _ (λ e last numbered.
+    stretch_is (image_at g.T.Start) c.args.commands.items c.in_ok-spool.spool c.run-end.new.self c.run-end.result.replies.items c.run-end.result.stopped c.in_ok-spool.ensures.started c.run-end.ensures.ran
+    e.1 last (λ _. numbered)) c.close.ensures.let_go
+
+pub returns-clause-every : goal.returns-clause-every
+returns-clause-every g c =
+    let every = c.run-end.ensures.every in
+    (λ none. (every.0 none).1, λ all. every.1 (c.in_ok-spool.ensures.usable, all))
+
+pub returns-clause-fresh : goal.returns-clause-fresh
+returns-clause-fresh g c = stopped_fresh c.run-end.result.stopped _ _ c.in_ok-spool.ensures.usable c.run-end.ensures.marked
