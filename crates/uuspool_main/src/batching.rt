@@ -1,9 +1,11 @@
 //! Many requests in one process, over standard input and output.
+ghost use Rattle.uu_store.specs.Runs.{WasUsed};
 
 use sqlite::Alter;
 use std::io;
 use std::io::{BufReader, BufWriter};
 use uu_store::Spool;
+use uuspool::laws::lines_are_one_run;
 use uuspool::{Clock, Fault, Settings, batch};
 
 /// How many bytes of the stream are read and written at once.
@@ -26,7 +28,10 @@ pub(crate) fn batch_on<S: Alter>(
     rt: &HostRuntime,
     settings: &Settings,
     spool: &mut Spool<S>,
-) -> Result<u8, Fault> {
+) -> Result<u8, Fault>
+    ensures { WasUsed spool.old spool.new }
+{
+    lines_are_one_run::<S>();
     let Ok(mut reader) = BufReader::with_capacity(rt.alloc(), CHUNK, rt.reader()) else {
         return Err(Fault::Memory);
     };

@@ -3,18 +3,16 @@
 #![tactic(auto)]
 
 mod batching;
+mod stretch;
 
-use crate::batching::batch_on;
-use sqlite::{Alter, FileStore, Wary};
-use sqlite_disk::Disk;
+use crate::stretch::{Work, work_on_file};
+use sqlite::Wary;
 use std::io::Write;
 use std::process::ExitCode;
 use std::time::SystemTime;
 use std::{env, fs, io};
-use uu_store::{OpenFault, Spool, open_spool};
 use uuspool::{
     Fault, Settings, batch_settings, fault_line, fault_status, line_of, moment_of, read_input,
-    serve,
 };
 
 /// The most bytes of a log that a run leaves beside the spool's file: an opening reads it whole.
@@ -57,19 +55,6 @@ fn run_line(rt: &HostRuntime, words: &[String]) -> Result<u8, Fault> {
         input: &input,
     };
     run_on_file(rt, &settings, &work)
-}
-
-// What is done over the spool.
-#[derive(Drop)]
-enum Work<'a> {
-    // A line, at this second where it gives none, with this input.
-    Line {
-        words: &'a [String],
-        now: u64,
-        input: &'a [u8],
-    },
-    // The requests on standard input.
-    Requests,
 }
 
 // The words after the program's name.
@@ -149,52 +134,11 @@ fn input_for(rt: &HostRuntime, takes_input: bool) -> Result<Vec<u8>, Fault> {
     }
 }
 
-// Does the work over the file of the settings, opened by the function whose clauses speak of all contents.
-// No other function names the spool over a file, since each that does is dear to prove.
+// Does the work over the file of the settings, by a function whose clauses speak of all contents. What is left of the files is dropped.
 fn run_on_file(rt: &HostRuntime, settings: &Settings, work: &Work<'_>) -> Result<u8, Fault> {
-    let opened = open_spool(rt, settings.spool.as_str(), Wary);
-    run_on(rt, settings, work, opened)
-}
-
-// Does the work over a spool, if it opened, and lets it go. All is answered by then, so a close that
-// fails changes nothing of it: the log keeps what it has, and the next run tries again.
-fn run_on<D: Disk + Drop>(
-    rt: &HostRuntime,
-    settings: &Settings,
-    work: &Work<'_>,
-    opened: Result<Spool<FileStore<D>>, OpenFault<D>>,
-) -> Result<u8, Fault> {
-    match opened {
-        Ok(mut spool) => {
-            let answer = answer_on(rt, settings, work, &mut spool);
-            let is_long = answer.is_ok() && is_log_long(rt, settings.spool.as_str());
-            let_go(spool, is_long);
-            answer
-        }
+    match work_on_file(rt, settings, work, Wary) {
+        Ok((answer, _rest)) => answer,
         Err(failed) => Err(Fault::Store(failed.fault)),
-    }
-}
-
-// Does the work over a spool.
-fn answer_on<S: Alter>(
-    rt: &HostRuntime,
-    settings: &Settings,
-    work: &Work<'_>,
-    spool: &mut Spool<S>,
-) -> Result<u8, Fault> {
-    match work {
-        Work::Line { words, now, input } => {
-            let mut out = io::writer(rt);
-            serve(rt.alloc(), words, settings, *now, input, spool, &mut out)
-        }
-        Work::Requests => batch_on(rt, settings, spool),
-    }
-}
-
-// Lets the spool go, and closes its files where their log is long.
-fn let_go<D: Disk + Drop>(spool: Spool<FileStore<D>>, is_long: bool) {
-    if is_long {
-        let _ = spool.close();
     }
 }
 

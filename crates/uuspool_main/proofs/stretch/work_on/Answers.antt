@@ -1,0 +1,15 @@
+use Rattle.uu_store.specs.Exchanges.{exchange_of}
+use Rattle.uuspool_main.proofs.StretchLemmas.{ends}
+use Rattle.uuspool_main.proofs.stretch.work_on.Goals as goal
+
+pub returns : goal.returns
+returns g c before started =
+    let (commands, replies, stopped, ran) = c.answer_on-answer.ensures in
+    let ended = c.answer_on-answer.new.spool in
+    let make = c.calls_make_a_stretch.ensures in (
+      exchange_of commands replies stopped,
+      ends before (exchange_of commands replies stopped) ended
+      (λ store last numbered. make.let_go before commands c.args.spool ended replies stopped store started ran last numbered)
+      (λ files close. make.closed before commands c.args.spool ended replies stopped files started ran close)
+      c.let_go-rest.result c.let_go-rest.ensures,
+    )

@@ -1,0 +1,111 @@
+//! One stretch of work over the files of the spool, from their opening until the spool is let go.
+ghost use Rattle.std.specs.Prelude.{IfOk, IfErr};
+ghost use Rattle.sqlite_wal.specs.Files.{image_at};
+ghost use Rattle.sqlite_wal.specs.Recovery.{Image};
+ghost use Rattle.uu_store.specs.Exchanges.{Exchange};
+ghost use Rattle.uu_store.specs.Openings.{LeavesAsKept, Started, remains_of};
+ghost use Rattle.uu_store.specs.Runs.{WasUsed};
+ghost use Rattle.uuspool_main.specs.Stretch.{EndsStretch, LetsGo};
+
+use crate::batching::batch_on;
+use crate::is_log_long;
+use sqlite::{Alter, FileFrom, FileStore, Files, Start};
+use sqlite_disk::Disk;
+use std::io;
+use uu_store::laws::calls_make_a_stretch;
+use uu_store::{OpenFault, Spool, open_spool};
+use uuspool::laws::lines_are_one_run;
+use uuspool::{Fault, Settings, serve};
+
+/// What is done over the spool.
+#[derive(Drop)]
+pub(crate) enum Work<'a> {
+    /// A line, at this second where it gives none, with this input.
+    Line {
+        words: &'a [String],
+        now: u64,
+        input: &'a [u8],
+    },
+    /// The requests on standard input.
+    Requests,
+}
+
+/// What is left of the spool's files.
+#[derive(Drop)]
+pub(crate) enum Rest<D: Disk> {
+    /// The store of a spool that was let go.
+    Store(FileStore<D>),
+    /// The files, which were closed.
+    Closed(Files<D>),
+    /// The store of a spool whose files could not be closed.
+    Unclosed(FileStore<D>),
+}
+
+/// Opens the file of the settings, does the work over the spool in it, and lets it go: a stretch of work, whatever the files held.
+///
+/// # Errors
+/// Those of `open_spool`.
+pub(crate) fn work_on_file<T: Start>(
+    rt: &HostRuntime,
+    settings: &Settings,
+    work: &Work<'_>,
+    start: T,
+) -> Result<(Result<u8, Fault>, Rest<FileFrom<T>>), OpenFault<FileFrom<T>>>
+    ensures stretch { IfOk result (λ end. (exchange : Exchange) × EndsStretch (image_at T.Start) exchange end.1) }
+    ensures left { IfErr result (λ e. LeavesAsKept (image_at T.Start) (remains_of e)) }
+{
+    match open_spool(rt, settings.spool.as_str(), start) {
+        Ok(spool) => Ok(work_on(rt, settings, work, spool)),
+        Err(failed) => Err(failed),
+    }
+}
+
+// Does the work over a spool, and lets it go. All is answered by then, so a close that fails changes nothing of it: the log keeps what
+// it has, and the next run tries again.
+fn work_on<D: Disk + Drop>(
+    rt: &HostRuntime,
+    settings: &Settings,
+    work: &Work<'_>,
+    spool: Spool<FileStore<D>>,
+) -> (Result<u8, Fault>, Rest<D>)
+    ensures { (before : Image) → Started before spool → (exchange : Exchange) × EndsStretch before exchange result.1 }
+{
+    calls_make_a_stretch::<D>();
+    let mut spool = spool;
+    let answer = answer_on(rt, settings, work, &mut spool);
+    let closes = answer.is_ok() && is_log_long(rt, settings.spool.as_str());
+    let rest = let_go(spool, closes);
+    (answer, rest)
+}
+
+// Does the work over a spool.
+fn answer_on<S: Alter>(
+    rt: &HostRuntime,
+    settings: &Settings,
+    work: &Work<'_>,
+    spool: &mut Spool<S>,
+) -> Result<u8, Fault>
+    ensures { WasUsed spool.old spool.new }
+{
+    lines_are_one_run::<S>();
+    match work {
+        Work::Line { words, now, input } => {
+            let mut out = io::writer(rt);
+            serve(rt.alloc(), words, settings, *now, input, spool, &mut out)
+        }
+        Work::Requests => batch_on(rt, settings, spool),
+    }
+}
+
+// Lets the spool go, or closes its files.
+fn let_go<D: Disk + Drop>(spool: Spool<FileStore<D>>, closes: bool) -> Rest<D>
+    ensures { LetsGo spool result }
+{
+    if !closes {
+        return Rest::Store(spool.into_store());
+    }
+    match spool.close() {
+        Ok(files) => Rest::Closed(files),
+        Err((_, store)) => Rest::Unclosed(store),
+    }
+}
