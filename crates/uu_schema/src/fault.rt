@@ -29,8 +29,7 @@ pub enum StoreFault {
     /// Memory was refused. Nothing changed, and the spool can be used.
     #[error("out of memory")]
     Memory,
-    /// The database failed. The command in hand may stand in the file or not; from then on every call but `release`
-    /// and `into_store` answers `Failed`.
+    /// The database failed. The command in hand may stand in the file or not; from then on every call but `release` answers `Failed`.
     #[error("the store failed")]
     Store(StoreKind),
     /// An earlier call answered `Store`. The file is to be opened again.

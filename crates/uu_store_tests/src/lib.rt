@@ -5,8 +5,6 @@
 #[cfg(test)]
 mod asking;
 #[cfg(test)]
-mod closing;
-#[cfg(test)]
 mod disk;
 #[cfg(test)]
 mod files;

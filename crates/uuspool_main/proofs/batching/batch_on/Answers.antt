@@ -4,8 +4,8 @@ use Rattle.uuspool_main.proofs.batching.batch_on.Goals as goal
 pub returns-in_default : goal.returns-in_default
 returns-in_default g c = let run = c.lines_are_one_run.ensures c.args.settings.now [] c.args.spool.now c.args.spool.now refl in (_, run.replies, run.stopped, run.ran)
 
-pub returns-in_default-2 : goal.returns-in_default-2
-returns-in_default-2 g c = let run = c.lines_are_one_run.ensures c.args.settings.now [] c.args.spool.now c.args.spool.now refl in (_, run.replies, run.stopped, run.ran)
+pub returns-in_default-with_capacity : goal.returns-in_default-with_capacity
+returns-in_default-with_capacity g c = let run = c.lines_are_one_run.ensures c.args.settings.now [] c.args.spool.now c.args.spool.now refl in (_, run.replies, run.stopped, run.ran)
 
 pub returns : goal.returns
 returns g c = let run = c.batch.ensures.run in (_, run.replies, run.stopped, run.ran)
