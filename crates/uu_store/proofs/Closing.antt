@@ -1,5 +1,5 @@
 -- From what a spool shows to what its closed files keep.
-use Rattle.std.proofs.Common.{◌≡◌, inl, subst}
+use Rattle.std.proofs.Common.{◌≡◌, inl, sym, subst}
 use Rattle.std.proofs.Math.Logic.{∥∥₁_map}
 use Rattle.sqlite_disk.specs.declared.Disk as disk
 use Rattle.sqlite_disk.specs.declared.Files.{Files}
@@ -13,10 +13,15 @@ use Rattle.sqlite.specs.Effect.{Database}
 use Rattle.sqlite.specs.Files.{over_files}
 use Rattle.sqlite.specs.Files as file
 use Rattle.sqlite.specs.Held.{Held}
+use Rattle.sqlite.specs.State.{store_error}
 use Rattle.sqlite.specs.Store.{Ghosts}
 use Rattle.sqlite.specs.Tree.{Trees}
+use Rattle.sqlite_trees.specs.declared.error.StoreError.{StoreError}
+use Rattle.sqlite_trees.specs.declared.error.StoreError.TheVariants.{OutOfMemory, Io, Corrupt, Full, Broken, Unstorable}
 use Rattle.uu_core.specs.State.{State}
-use Rattle.uu_store.specs.Closing.{IsClosed, KeepsAlone}
+use Rattle.uu_schema.specs.Faults.{kind_of_error}
+use Rattle.uu_schema.specs.declared.fault.StoreKind.{StoreKind}
+use Rattle.uu_store.specs.Closing.{HasCause, IsClosed, KeepsAlone}
 use Rattle.uu_store.specs.Kept.{Keeps}
 use Rattle.uu_store.specs.Spool.{connection_of, disk, Shows}
 use Rattle.uu_store.specs.Stretches.{IsLetGo}
@@ -47,3 +52,17 @@ is_closed {D} {g} stays spool files conn same last are closed copied =
       now = λ clean s shows. keeps_alone _ _ s (committed_keeps spool s shows) (copied_it clean).seen;
       stop = λ clean s shows image may. keeps_alone image _ s (committed_keeps spool s shows) ((copied_it clean).left image may);
     }
+
+module _ {D : Type 0} {g : disk.Ghosts D} (was conn : Held (FileStore D g)) (same : conn ≡ was) (last : FileStore D g) where
+  of_cause : (cause : StoreError) → file.ExcusesClose conn last cause → HasCause (kind_of_error (store_error cause)) conn.store last
+  of_cause OutOfMemory excuse = tt
+  of_cause Io excuse = excuse
+  of_cause Corrupt excuse = excuse
+  of_cause Full excuse = excuse
+  of_cause Broken excuse = tt
+  of_cause Unstorable excuse = excuse
+
+  -- the kind that is told is that of the port's error, which has a cause
+  pub close_cause : (cause : StoreError) (kind : StoreKind) → kind ≡ kind_of_error (store_error cause) → file.ExcusesClose conn last cause → HasCause kind was.store last
+  close_cause cause kind is excuse =
+      subst (λ (h : Held (FileStore D g)). HasCause kind h.store last) same (subst (λ k. HasCause k conn.store last) (sym is) (of_cause cause excuse))

@@ -1,7 +1,8 @@
 -- What a close of a spool's two files leaves.
-use Rattle.std.specs.Prelude.{◌≡◌, []}
+use Rattle.std.specs.Prelude.{◌≡◌, [], ⊤}
 use Rattle.sqlite_disk.specs.declared.Disk as disk
 use Rattle.sqlite_disk.specs.declared.Files.{Files}
+use Rattle.sqlite_disk.specs.Disk.{MoreFaults}
 use Rattle.sqlite_wal.specs.Recovery.{Image}
 use Rattle.sqlite_wal.specs.Files.{outcomes}
 use Rattle.sqlite_wal.specs.Reads.{AreClean}
@@ -11,6 +12,8 @@ use Rattle.sqlite.specs.Tree.{Trees}
 use Rattle.sqlite.specs.State.{HasCleanDisk}
 use Rattle.sqlite.specs.Files.{HoldsDatabase, over_files, image_of}
 use Rattle.uu_core.specs.State.{State}
+use Rattle.uu_schema.specs.declared.fault.StoreKind.{StoreKind}
+use Rattle.uu_schema.specs.declared.fault.StoreKind.TheVariants as part
 use Rattle.uu_store.specs.declared.spool.Spool.{Spool}
 use Rattle.uu_store.specs.Openings.{ImageKeeps}
 use Rattle.uu_store.specs.Spool.{connection_of, disk, Shows}
@@ -34,3 +37,10 @@ pub record IsClosed {D : Type 0} {g : disk.Ghosts D} (spool : Spool (FileStore D
   pub left : AreClean g files.log files.db → (image : Image) → outcomes g files.log files.db image → HoldsOneOf (disk spool).may_leave image
   pub now : AreClean g files.log files.db → (s : State) → Shows spool s → KeepsAlone (image_of g files) s
   pub stop : AreClean g files.log files.db → (s : State) → Shows spool s → (image : Image) → outcomes g files.log files.db image → KeepsAlone image s
+
+-- Why a close failed: it tells of the disk only where that failed or refused a call meanwhile, and nothing is too big. (Memory that was refused
+-- and a store that was shut are told as `Database`.)
+abbrev pub HasCause : {D : Type 0} {g : disk.Ghosts D} → StoreKind → FileStore D g → FileStore D g → Type 0
+HasCause part.Disk was last = MoreFaults (store.faults was) (store.faults last)
+HasCause part.Size was last = ⊥
+HasCause part.Database was last = ⊤

@@ -3,7 +3,8 @@ ghost use Rattle.std.specs.Prelude.{◌≡◌, true, false, IsTrue, IfOk, IfErr,
 ghost use Rattle.sqlite.specs.Files.{over_files};
 ghost use Rattle.sqlite.specs.View.{IsClean};
 ghost use Rattle.sqlite_store.specs.FileStore.{view};
-ghost use Rattle.uu_store.specs.Closing.{IsClosed};
+ghost use Rattle.uu_schema.specs.declared.fault.StoreKind.{StoreKind};
+ghost use Rattle.uu_store.specs.Closing.{HasCause, IsClosed};
 ghost use Rattle.uu_store.specs.Spool.{connection_of, has_failed, Marks};
 ghost use Rattle.uu_store.specs.Stretches.{IsLetGo};
 
@@ -17,12 +18,14 @@ impl<D: Disk + Drop> Spool<FileStore<D>> {
     /// nothing that it could not leave before; once the files are closed they keep what the spool showed, and so does the database file alone.
     ///
     /// # Errors
-    /// With the store as it was let go: `Failed` where the store failed before, and nothing is copied then; else `Store`.
+    /// With the store as it was let go: `Failed` where the store failed before, and nothing is copied then; else `Store`. Of kind `Disk` only where the
+    /// disk failed or refused a call meanwhile, and never of kind `Size`; want of memory, and a store that was shut before, are of kind `Database`.
     pub fn close(self) -> Result<Files<D>, (StoreFault, FileStore<D>)>
         ensures closed { IfOk result (IsClosed self) }
         ensures let_go { IfErr result (λ e. IsLetGo over_files (connection_of self).store e.1) }
         ensures marked { MatchResult result (λ _. has_failed self ≡ false) (λ e. Marks (has_failed self) true e.0) }
         ensures numbered { IsTrue (has_failed self) → IfErr result (λ e. IsClean (view e.1) → IsTrue (view e.1).is_numbered) }
+        ensures cause { IfErr result (λ e. IsClean (view e.1) → (kind : StoreKind) → e.0 ≡ StoreFault.Store kind → HasCause kind (connection_of self).store e.1) }
     {
         if self.is_failed() {
             return Err((StoreFault::Failed, self.into_store()));
