@@ -7,6 +7,7 @@ use Rattle.sqlite.specs.Listing.{understood}
 use Rattle.sqlite_value.specs.declared.keys.Key.{Key}
 use Rattle.uu_sql.specs.Layout.{equal_terms}
 use Rattle.uu_sql.proofs.Asks.{Means, ordered, up}
+use Rattle.uu_sql.proofs.Questions.{IsQuestion}
 use Rattle.uu_schema.specs.Schema.{site, systems, lines, ranges}
 use Rattle.uu_rows.specs.Texts.{systems_text, lines_text, ranges_text}
 
@@ -50,3 +51,17 @@ lines_means = record { command = refl; plain = (refl, refl); listing = refl }
 pub ranges_means : Means site ranges_text (ordered ranges.tree [] (at_places (1 ∷ 2 ∷ 3 ∷ 4 ∷ [])) (by_places (1 ∷ 2 ∷ 3 ∷ []))) range_names
 unfolding understood everything
 ranges_means = record { command = refl; plain = (refl, refl); listing = refl }
+
+-- ---- each is a query
+
+pub systems_ask : IsQuestion systems_text
+unfolding everything
+systems_ask = refl
+
+pub lines_ask : IsQuestion lines_text
+unfolding everything
+lines_ask = refl
+
+pub ranges_ask : IsQuestion ranges_text
+unfolding everything
+ranges_ask = refl

@@ -2,6 +2,7 @@
 ghost use Rattle.std.specs.Prelude.{◌≡◌, false, []};
 ghost use Rattle.sqlite.specs.Held.{state};
 ghost use Rattle.uu_rows.specs.Texts.{systems_text, lines_text, ranges_text};
+ghost use Rattle.uu_sql.specs.Spares.{Spares};
 ghost use Rattle.uu_rows.specs.Shows.{Shows};
 
 use sqlite::{Alter, Connection, Error, Row};
@@ -10,6 +11,7 @@ use sqlite::{Alter, Connection, Error, Row};
 pub fn ask_systems<S: Alter>(conn: &mut Connection<S>) -> Result<Vec<Row>, Error>
     ensures idle { conn.old.in_transaction ≡ false → conn.new.in_transaction ≡ false }
     ensures shows { Shows systems_text [] (state S.Store conn.old) (state S.Store conn.new) result }
+    ensures spares { Spares (state S.Store conn.old) (state S.Store conn.new) result }
 {
     conn.query_all(
         "SELECT name, max_retries, last, failures, wait, outcome, why FROM systems ORDER BY name",
@@ -21,6 +23,7 @@ pub fn ask_systems<S: Alter>(conn: &mut Connection<S>) -> Result<Vec<Row>, Error
 pub fn ask_lines<S: Alter>(conn: &mut Connection<S>) -> Result<Vec<Row>, Error>
     ensures idle { conn.old.in_transaction ≡ false → conn.new.in_transaction ≡ false }
     ensures shows { Shows lines_text [] (state S.Store conn.old) (state S.Store conn.new) result }
+    ensures spares { Spares (state S.Store conn.old) (state S.Store conn.new) result }
 {
     conn.query_all(
         "SELECT system, place, rank, retry FROM lines ORDER BY system, place",
@@ -32,6 +35,7 @@ pub fn ask_lines<S: Alter>(conn: &mut Connection<S>) -> Result<Vec<Row>, Error>
 pub fn ask_ranges<S: Alter>(conn: &mut Connection<S>) -> Result<Vec<Row>, Error>
     ensures idle { conn.old.in_transaction ≡ false → conn.new.in_transaction ≡ false }
     ensures shows { Shows ranges_text [] (state S.Store conn.old) (state S.Store conn.new) result }
+    ensures spares { Spares (state S.Store conn.old) (state S.Store conn.new) result }
 {
     conn.query_all(
         "SELECT system, place, low, high FROM ranges ORDER BY system, place, low",

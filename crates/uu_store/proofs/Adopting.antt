@@ -16,7 +16,8 @@ use Rattle.uu_core.specs.Run.{state_after}
 use Rattle.uu_schema.specs.Schema.{no_schema}
 use Rattle.uu_schema.specs.declared.fault.StoreFault.{StoreFault}
 use Rattle.uu_store.specs.declared.spool.Spool.{Spool}
-use Rattle.uu_store.specs.Adoption.{IsInspected, StopsAs}
+use Rattle.uu_store.specs.Adoption.{IsSpared, StopsAs}
+use Rattle.uu_store.specs.FoundTables.{HasNone}
 use Rattle.uu_store.specs.Calls.{CreatesTables, StaysUnclean}
 use Rattle.uu_store.specs.Encoded.{Encodes, HoldsState}
 use Rattle.uu_store.specs.Kept.{Stores, KeepsOnly}
@@ -37,14 +38,14 @@ module _ {S : Type 0} (g : Ghosts S) (was now : Held S) where
   abbrev b : db.State
   b = state g now
 
-  pub adopted_as : (spool : Spool S g) → connection_of spool ≡ now → has_failed spool ≡ false → IsInspected a b (Ok tt) → CreatesTables a b (Ok tt) → StaysUnclean a b → Adopted was spool
-  adopted_as spool same usable inspected creates stays = record {
+  pub adopted_as : (spool : Spool S g) → connection_of spool ≡ now → has_failed spool ≡ false → (¬ HasNone a.now.schema → IsSpared a b (Ok tt)) → CreatesTables a b (Ok tt) → StaysUnclean a b → Adopted was spool
+  adopted_as spool same usable spared creates stays = record {
     shows = λ clean s rests stores. shown (clean_before spool now same clean) s rests stores;
     clean = subst (λ h. StaysUnclean a (state g h)) (sym same) stays;
   }
     where
       shown : db.HasCleanDisk b → (s : State) → Rests a → Stores a.now s → Shows spool s
-      shown clean s rests (inl enc) = let it = kept_as a b inspected clean s rests enc in shows_again spool now s same usable it.0 it.1
+      shown clean s rests (inl enc) = let it = kept_as a b spared clean s rests enc in shows_again spool now s same usable it.0 it.1
       shown clean s rests (inr none) = let it = creates.ok clean rests none.0 in shows_again spool now s same usable it.0 (subst (Encodes b.now) (sym none.1) it.1)
 
   -- a stop leaves the state, also where the tables are made
@@ -55,8 +56,8 @@ module _ {S : Type 0} (g : Ghosts S) (was now : Held S) where
     | inr made ↦ inl (made.0, subst (HoldsState trees) (sym none.1) made.1)
   ]
 
-  pub turned_away_as : (r : Result (Unit {0}) StoreFault) → Settles a → IsInspected a b r → CreatesTables a b r → StaysUnclean a b → TurnedAway g was now
-  turned_away_as r settles inspected creates stays = record { stop = λ clean s rests stores. keeps_as s (stops_as a b r settles clean rests inspected creates) stores; clean = stays }
+  pub turned_away_as : (r : Result (Unit {0}) StoreFault) → Settles a → (¬ HasNone a.now.schema → IsSpared a b r) → CreatesTables a b r → StaysUnclean a b → TurnedAway g was now
+  turned_away_as r settles spared creates stays = record { stop = λ clean s rests stores. keeps_as s (stops_as a b r settles clean rests spared creates) stores; clean = stays }
 
 -- a connection at rest leaves what it stores
 pub rests_leaves : (s : State) (a : db.State) → Settles a → Rests a → Stores a.now s → KeepsOnly a.may_leave s

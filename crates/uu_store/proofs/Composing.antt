@@ -5,7 +5,7 @@ use Rattle.sqlite.specs.declared.error.Error.{Error}
 use Rattle.sqlite.specs.Tree.{Trees}
 use Rattle.sqlite.specs.State.{State as DbState, HasCleanDisk}
 use Rattle.uu_sql.specs.Steps.{Stands}
-use Rattle.uu_sql.proofs.Steps.{told_also, told_not, told_told}
+use Rattle.uu_sql.proofs.Questions.{spared_as, spared_then}
 use Rattle.uu_schema.specs.Schema.{site}
 use Rattle.uu_taking.specs.Taking.{Takes}
 
@@ -16,21 +16,21 @@ from_ok (Err e) ok p = absurd (cc)
 -- the same question, answered otherwise
 pub takes_as : {T U : Type 0} (P : Trees → T → Type 0) (R : Trees → U → Type 0) (a b : DbState) (p : Result T Error) (r : Result U Error) → Takes P a b p → (IsOk r → IsOk p) → ((trees : Trees) → IfOk p (P trees) → IfOk r (R trees)) → Takes R a b r
 takes_as P R a b p (Ok y) h ok step = record {
-  told = told_also site a b p (Ok y) (ok refl) h.told;
+  spares = spared_as a b p (Ok y) ok h.spares;
   same = λ clean stands. from_ok p (ok refl) (h.same clean stands);
   found = λ clean stands. step a.now.trees (h.found clean stands);
 }
-takes_as P R a b p (Err e) h ok step = record { told = told_not site a b p (Err e) refl h.told; same = λ clean stands. tt; found = λ clean stands. tt }
+takes_as P R a b p (Err e) h ok step = record { spares = spared_as a b p (Err e) ok h.spares; same = λ clean stands. tt; found = λ clean stands. tt }
 
 -- an error answers nothing
 pub takes_none : {T U : Type 0} (P : Trees → T → Type 0) (R : Trees → U → Type 0) (a b : DbState) (p : Result T Error) (r : Result U Error) → IsErr r → Takes P a b p → Takes R a b r
 takes_none P R a b p (Ok y) fails h = absurd (cc)
-takes_none P R a b p (Err e) fails h = record { told = told_not site a b p (Err e) refl h.told; same = λ clean stands. tt; found = λ clean stands. tt }
+takes_none P R a b p (Err e) fails h = record { spares = spared_as a b p (Err e) (λ is. absurd (cc)) h.spares; same = λ clean stands. tt; found = λ clean stands. tt }
 
 -- both answers are of the tables as they were before the first question
 module _ {T V : Type 0} (P : Trees → T → Type 0) (Q : Trees → V → Type 0) (a b c : DbState) (x : T) (q : Result V Error) (first : Takes P a b (Ok x)) (second : Takes Q b c q) where
   early : HasCleanDisk c → HasCleanDisk b
-  early clean = omega (arith, clean, second.told.asked.survives.clean)
+  early clean = omega (arith, clean, second.spares.survives.clean)
 
   stays : HasCleanDisk c → Stands site a.now → b.now ≡ a.now
   stays clean stands = first.same (early clean) stands
@@ -48,7 +48,7 @@ module _ {T V : Type 0} (P : Trees → T → Type 0) (Q : Trees → V → Type 0
 
   pub then_takes : Takes (λ trees y. P trees x × Q trees y) a c q
   then_takes = record {
-    told = told_told site a b (Ok x) c q refl first.told second.told;
+    spares = spared_then a b (Ok x) c q refl first.spares second.spares;
     same = λ clean stands. same_after q (stays clean stands) (second.same clean (stands_still clean stands));
     found = λ clean stands. both_found q (stays clean stands) (first.found (early clean) stands) (second.found clean (stands_still clean stands));
   }

@@ -1,7 +1,9 @@
 -- How the tables of an empty spool are made, and that a database that has the spool's tables is seen to have them.
-use Rattle.std.proofs.Common.{◌≡◌, true≢false, inl, inr, Bool, true, false, Result, Ok, Err, refl, sym, ap, ◌∙◌, arith}
-use Rattle.std.specs.Prelude.{IsTrue, IsOk, IsErr}
+use Rattle.std.proofs.Common.{◌≡◌, ◌⊎◌, true≢false, inl, inr, Bool, true, false, Result, Ok, Err, refl, sym, ap, ◌∙◌, arith}
+use Rattle.std.specs.Prelude.{IsTrue, IsOk, IsErr, OnOk}
+use Rattle.std.proofs.lemmas.Bool.{cases_Bool}
 use Rattle.sqlite.specs.Schema.{Schema}
+use Rattle.sqlite.specs.Effect.{Database}
 use Rattle.sqlite.specs.Tree.{Trees}
 use Rattle.sqlite.specs.State as db
 use Rattle.sqlite_schema.specs.Names.{same_name}
@@ -13,7 +15,7 @@ use Rattle.uu_schema.specs.declared.fault.StoreFault.{StoreFault}
 use Rattle.uu_schema.specs.declared.fault.StoreFault.TheVariants.{Memory}
 use Rattle.uu_store.specs.declared.tables.Found.{Found}
 use Rattle.uu_store.specs.declared.tables.Found.TheVariants.{Nothing, Spool, Other}
-use Rattle.uu_store.specs.FoundTables.{found_of}
+use Rattle.uu_store.specs.FoundTables.{found_of, HasNone, HasAll, HasOther}
 use Rattle.uu_store.specs.Encoded.{HoldsState}
 use Rattle.uu_store.specs.Calls.{CreatesTables}
 
@@ -71,3 +73,35 @@ not_other h = cc
 
 pub not_half : (whole : Bool) → whole ≡ false → Spool whole ≡ Spool true → ⊥
 not_half whole half h = let e : whole ≡ true = cc in true≢false (sym e ∙ half)
+
+-- ---- what is found is what the connection has
+
+pub found_is : (a : db.State) (schema : Schema) (found : Found) → schema ≡ a.now.schema → found ≡ found_of schema → found_of a.now.schema ≡ found
+found_is a schema found has is = sym (is ∙ ap found_of has)
+
+-- a database without tables has none of the spool's
+pub none_found : (d : Database) → Stands no_schema d → HasNone d.schema
+none_found d stands = ap found_of stands.schema
+
+-- one that has the spool's tables hasn't none of them
+pub all_found : (d : Database) → Stands site d → ¬ HasNone d.schema
+all_found d stands none = let all = ap found_of stands.schema ∙ found_site in cc
+
+pub none_or_other : (schema : Schema) → HasNone schema → HasOther schema → ⊥
+none_or_other schema none other = cc
+
+pub some_or_other : (schema : Schema) (whole : Bool) → found_of schema ≡ Spool whole → HasOther schema → ⊥
+some_or_other schema whole some other = cc
+
+pub some_or_none : (schema : Schema) (whole : Bool) → found_of schema ≡ Spool whole → HasNone schema → ⊥
+some_or_none schema whole some none = cc
+
+-- ---- by which tables a database is taken
+
+pub taken_none : {T E : Type 0} (schema : Schema) (r : Result T E) → HasNone schema → OnOk r (HasNone schema ⊎ HasAll schema)
+taken_none schema (Ok x) none = inl none
+taken_none schema (Err e) none = tt
+
+pub taken_some : {T E : Type 0} (schema : Schema) (whole : Bool) (r : Result T E) → found_of schema ≡ Spool whole → (whole ≡ false → IsErr r) → OnOk r (HasNone schema ⊎ HasAll schema)
+taken_some schema whole (Ok x) some half = elim (cases_Bool whole) [ inl every ↦ inr (some ∙ ap Spool every) | inr less ↦ absurd (let fails = half less in cc) ]
+taken_some schema whole (Err e) some half = tt

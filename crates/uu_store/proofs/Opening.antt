@@ -1,5 +1,5 @@
 -- From what the files of a spool hold to what it shows.
-use Rattle.std.proofs.Common.{◌≡◌, ◌≢◌, ◌⊎◌, inl, inr, [], Option, Some, None, refl, sym, ap, subst, ◌∙◌, arith}
+use Rattle.std.proofs.Common.{◌≡◌, ◌≢◌, ◌⊎◌, inl, inr, true, [], Option, Some, None, refl, sym, ap, subst, ◌∙◌, arith}
 use Rattle.std.specs.Prelude.{IsTrue, IfSome, length}
 use Rattle.sqlite.specs.Tree.{Trees}
 use Rattle.sqlite.specs.Schema.{Schema}
@@ -40,7 +40,9 @@ use Rattle.uu_schema.specs.declared.fault.StoreFault.TheVariants.{Memory, Store,
 use Rattle.uu_schema.specs.declared.fault.StoreKind.{StoreKind}
 use Rattle.uu_schema.specs.declared.fault.StoreKind.TheVariants as part
 use Rattle.uu_schema.specs.Faults.{kind_of_error}
-use Rattle.uu_store.specs.Openings.{ImageKeeps, IsFound, IsNamed, IsNotTaken, IsOfNoContents, LeavesAsKept, remains_of, remains_of_opening}
+use Rattle.uu_store.specs.FoundTables.{HasNone, HasAll, HasOther}
+use Rattle.uu_store.specs.Openings.{ImageHasOther, ImageKeeps, IsFound, IsNamed, IsNotTaken, IsOfNoContents, LeavesAsKept, remains_of, remains_of_opening}
+use Rattle.uu_store.proofs.Creating.{none_or_other, some_or_other}
 use Rattle.uu_store.proofs.Images.{unfound, stop_has}
 use Rattle.uu_store.proofs.Reopening.{stores_of}
 
@@ -65,6 +67,12 @@ found_stores image s opened found keeps = (rests, stores_of opened s found.live 
     keeps_now (inl held) = subst (λ trees. Keeps trees s) (sym (now_is ∙ found.finds.holds held.0 held.1)) held.2
     keeps_now (inr none) = none_fits s none.1 opened.now.trees (ap (λ (trees : Trees). trees catalog_tree) now_is ∙ unfound image none.0 opened.committed.trees found.finds.reads)
 
+-- what is opened has something else under one of the names, where the files' database has
+pub other_found : (image : Image) (opened : db.State) → IsFound image opened → ImageHasOther image → HasOther opened.now.schema
+other_found image opened found it =
+    let trees_are = ap (λ (d : Database). d.trees) found.opens.clean ∙ found.finds.holds it.0 it.1 in
+    it.2 opened.now.schema (subst (IsSound opened.now.schema) trees_are (found.live found.opens.is_open).0)
+
 pub is_found : (image : Image) (opened : db.State) → (db.HasCleanDisk opened → db.Opens opened × db.IsLive opened) → (db.HasCleanDisk opened → FindsIn image opened) → db.HasCleanDisk opened → IsFound image opened
 is_found image opened opens finds clean = let it = opens clean in record { opens = it.0; live = it.1; finds = finds clean }
 
@@ -74,17 +82,24 @@ module _ {S : Type 0} (g : Ghosts S) (image : Image) (opened : Held S) (found : 
       let it = found_stores image s (state g opened) (found (omega (arith, adopted.clean, clean))) keeps in
       adopted.shows clean s it.0 it.1
 
+  pub started_never_other : (spool : Spool S g) → Adopted opened spool → HasNone (state g opened).now.schema ⊎ HasAll (state g opened).now.schema → db.HasCleanDisk (disk spool) → ImageHasOther image → ⊥
+  started_never_other spool adopted taken clean it =
+      let schema = (state g opened).now.schema in
+      let other = other_found image (state g opened) (found (omega (arith, adopted.clean, clean))) it in
+      elim taken [ inl none ↦ none_or_other schema none other | inr all ↦ some_or_other schema true all other ]
+
 -- ---- where the database was not taken
 
 pub not_taken : {S : Type 0} (g : Ghosts S) (was last : Held S) (stopped : S) (fault : StoreFault) → TurnedAway g was last → IsQuiet g.view g.faults g.recovers g.is_shielded last.store stopped
     → (IsClean (g.view stopped) → IsTrue (g.view stopped).is_numbered) → (db.HasCleanDisk (state g last) → (s : State) → Encodes (state g was).now s → (fault ≢ Foreign) × (fault ≢ Newer))
-    → (Stands no_schema (state g was).now → (fault ≢ Foreign) × (fault ≢ Newer)) → IsNotTaken g was stopped fault
-not_taken g was last stopped fault away quiet numbered ours of_empty = record {
+    → (Stands no_schema (state g was).now → (fault ≢ Foreign) × (fault ≢ Newer)) → (HasOther (state g was).now.schema → fault ≡ Foreign) → IsNotTaken g was stopped fault
+not_taken g was last stopped fault away quiet numbered ours of_empty other = record {
   last = last;
   turned_away = away;
   let_go = record { left = quiet.outcomes; clean = quiet.clean };
   numbered = numbered;
   ours = λ clean s stores. elim stores [ inl enc ↦ ours (omega (arith, quiet.clean, clean)) s enc | inr none ↦ of_empty none.0 ];
+  other = other;
 }
 
 module _ {D : Type 0} {g : disk.Ghosts D} (image : Image) (opened : Held (FileStore D g)) (found : db.HasCleanDisk (file_state opened) → IsFound image (file_state opened)) (stopped : FileStore D g) (fault : StoreFault)
@@ -92,8 +107,14 @@ module _ {D : Type 0} {g : disk.Ghosts D} (image : Image) (opened : Held (FileSt
   found_away : IsFound image (file_state opened)
   found_away = let sure = no_doubt (view stopped).is_clean clean in found (omega (arith, away.turned_away.clean, away.let_go.clean, sure))
 
-  pub away_ours : (s : State) → ImageKeeps image s → (fault ≢ Foreign) × (fault ≢ Newer)
+  away_ours : (s : State) → ImageKeeps image s → (fault ≢ Foreign) × (fault ≢ Newer)
   away_ours s keeps = away.ours (no_doubt (view stopped).is_clean clean) s (found_stores image s (file_state opened) found_away keeps).1
+
+  away_other : ImageHasOther image → fault ≡ Foreign
+  away_other it = away.other (other_found image (file_state opened) found_away it)
+
+  pub away_rightly : ((s : State) → ImageKeeps image s → (fault ≢ Foreign) × (fault ≢ Newer)) × (ImageHasOther image → fault ≡ Foreign)
+  away_rightly = (away_ours, away_other)
 
   pub away_keeps : (s : State) → ImageKeeps image s → (trees : Trees) → store.recovers stopped trees → Keeps trees s
   away_keeps s keeps trees may =
@@ -105,6 +126,10 @@ pub away_leaves : {D : Type 0} {g : disk.Ghosts D} (image : Image) (opened : Hel
     → IsNotTaken over_files opened stopped fault → LeavesAsKept image (remains.Store stopped)
 away_leaves image opened found stopped fault away clean s keeps left may =
     stop_has (λ trees. Keeps trees s) (s ≡ empty) (keeps_sound s) (none_fits s) stopped (away.numbered (no_doubt (view stopped).is_clean clean)) (away_keeps image opened found stopped fault away clean s keeps) left may
+
+pub away_named : {D : Type 0} {g : disk.Ghosts D} (image : Image) (opened : Held (FileStore D g)) → (db.HasCleanDisk (file_state opened) → IsFound image (file_state opened)) → (stopped : FileStore D g) (fault : StoreFault)
+    → IsNotTaken over_files opened stopped fault → IsNamed image fault (remains.Store stopped)
+away_named image opened found stopped fault away clean = away_rightly image opened found stopped fault away clean
 
 -- ---- where nothing was opened
 

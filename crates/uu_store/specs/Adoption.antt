@@ -3,7 +3,7 @@ use Rattle.std.specs.Prelude.{◌≡◌, ◌⊎◌, Result, Ok, Err, OnOk, ⊤}
 use Rattle.sqlite.specs.Tree.{Trees}
 use Rattle.sqlite.specs.State as db
 use Rattle.sqlite_catalog.specs.Listing.{IsSound}
-use Rattle.uu_sql.specs.Steps.{Stands, Rests, Ready}
+use Rattle.uu_sql.specs.Steps.{Stands, Rests}
 use Rattle.uu_core.specs.State.{State, empty}
 use Rattle.uu_schema.specs.Schema.{site, no_schema}
 use Rattle.uu_schema.specs.declared.fault.StoreFault.{StoreFault}
@@ -12,6 +12,7 @@ use Rattle.uu_taking.specs.Version.{IsLater}
 use Rattle.uu_store.specs.declared.inspection.Finding.{Finding}
 use Rattle.uu_store.specs.declared.inspection.Finding.TheVariants.{Spool, Foreign, Later}
 use Rattle.uu_store.specs.Encoded.{Encodes, HoldsState, Leaves}
+use Rattle.uu_store.specs.FoundTables.{HasNone}
 
 -- no state has these rows
 abbrev pub IsOfNone : Trees → Type 0
@@ -33,21 +34,25 @@ UnlessStore (Ok x) Fact = Fact
 UnlessStore (Err fault) Fact = UnlessFailed fault Fact
 
 -- A database that has the spool's tables is taken exactly where it encodes a state, told as that of a later version exactly where a row
--- says so, and else as foreign. It stays as it is, and a stop leaves what it would have left.
+-- says so, and else as foreign.
 pub record IsInspected (old new : db.State) (r : Result (Unit {0}) StoreFault) : Type 0 where
   pub ok : db.HasCleanDisk new → Stands site old.now → OnOk r ((s : State) × HoldsState old.now.trees s)
   pub newer : db.HasCleanDisk new → Stands site old.now → r ≡ Err Newer → IsLater old.now.trees
   pub foreign : db.HasCleanDisk new → Stands site old.now → r ≡ Err ForeignFault → (¬ IsLater old.now.trees) × IsOfNone old.now.trees
-  pub same : db.HasCleanDisk new → Ready site old → UnlessStore r (Rests new × (new.now ≡ old.now))
-  pub stop : db.HasCleanDisk new → Ready site old → (trees : Trees) → new.may_leave trees → old.may_leave trees
 
--- a database with the spool's tables, or with none, is as it was
+-- a database was only looked at: it stays as it is, and a stop leaves what it would have left
+pub record IsSpared (old new : db.State) (r : Result (Unit {0}) StoreFault) : Type 0 where
+  pub same : db.HasCleanDisk new → Rests old → UnlessStore r (Rests new × (new.now ≡ old.now))
+  pub stop : db.HasCleanDisk new → (trees : Trees) → new.may_leave trees → old.may_leave trees
+
+-- a database with any of the spool's tables, whatever their shape and whatever stands beside them, or with no tables, is as it was
 pub record IsAsBefore (old new : db.State) : Type 0 where
-  pub tables : Stands site old.now → Rests new × (new.now ≡ old.now)
+  pub some : ¬ HasNone old.now.schema → Rests new × (new.now ≡ old.now)
   pub none : Stands no_schema old.now → Rests new × (new.now ≡ old.now)
 
--- a stop leaves the state that a database encodes, and of one without tables what it was or an empty spool
+-- A stop leaves the state that a database encodes, of one with any of the spool's tables what it was, and of one without tables that or an
+-- empty spool.
 pub record StopsAs (old new : db.State) : Type 0 where
-  pub tables : Stands site old.now → (trees : Trees) → new.may_leave trees → trees ≡ old.now.trees
+  pub some : ¬ HasNone old.now.schema → (trees : Trees) → new.may_leave trees → trees ≡ old.now.trees
   pub state : (s : State) → Encodes old.now s → Leaves new s
   pub none : Stands no_schema old.now → (trees : Trees) → new.may_leave trees → (trees ≡ old.now.trees) ⊎ (IsSound site trees × HoldsState trees empty)

@@ -1,5 +1,5 @@
 -- Which of the spool's tables a database has, by their names and those of their columns, compared without regard to ASCII case as SQLite does.
-use Rattle.std.specs.Prelude.{ℕ, Bool, false, ◌&&◌, ◌||◌, if◌then◌else◌, List, [], ◌∷◌, codes, find, Option, Some, None, is_some}
+use Rattle.std.specs.Prelude.{◌≡◌, ℕ, Bool, true, false, ◌&&◌, ◌||◌, if◌then◌else◌, List, [], ◌∷◌, codes, find, Option, Some, None, is_some}
 use Rattle.std.specs.List.{list_any, list_all}
 use Rattle.std.specs.Option.{option_map_or}
 use Rattle.sqlite.specs.Schema.{Schema}
@@ -70,3 +70,17 @@ found_beside schema (Some spool) =
 
 abbrev pub found_of : Schema → Found
 found_of schema = found_beside schema (table_of schema (codes "spool"))
+
+-- ---- the same in words
+
+-- none of the spool's tables is there
+abbrev pub HasNone : Schema → Type 0
+HasNone schema = found_of schema ≡ Nothing
+
+-- all of them are, with all their columns
+abbrev pub HasAll : Schema → Type 0
+HasAll schema = found_of schema ≡ Spool true
+
+-- something else stands under one of their names
+abbrev pub HasOther : Schema → Type 0
+HasOther schema = found_of schema ≡ Other

@@ -1,5 +1,5 @@
 -- Opening the two files of a spool: what they hold, what an opening finds in them, and what one that failed leaves.
-use Rattle.std.specs.Prelude.{◌≡◌, ◌≢◌, ◌⊎◌, IsTrue, ⊤, Option, None, Some}
+use Rattle.std.specs.Prelude.{◌≡◌, ◌≢◌, ◌⊎◌, IsTrue, ⊤, [], Option, None, Some}
 use Rattle.sqlite_disk.specs.declared.Disk as disk
 use Rattle.sqlite_wal.specs.Recovery.{Image}
 use Rattle.sqlite_wal.specs.Files.{outcomes}
@@ -7,6 +7,7 @@ use Rattle.sqlite_pool.specs.Stored.{stored_size, is_summed}
 use Rattle.sqlite_store.specs.FileStore as store
 use Rattle.sqlite_store.specs.Unopened.{state_of}
 use Rattle.sqlite.specs.Tree.{Trees}
+use Rattle.sqlite.specs.Schema.{Schema}
 use Rattle.sqlite.specs.Store.{Ghosts}
 use Rattle.sqlite.specs.Held.{Held, state}
 use Rattle.sqlite.specs.View.{IsClean}
@@ -15,6 +16,7 @@ use Rattle.sqlite.specs.Start.{FindsIn}
 use Rattle.sqlite.specs.Files.{HoldsDatabase, IsNothing, SaysSums, IsCleanLeft}
 use Rattle.sqlite.specs.declared.file.Leftover.{Leftover}
 use Rattle.sqlite.specs.declared.file.Leftover.TheVariants as left
+use Rattle.sqlite_catalog.specs.Listing.{IsSound}
 use Rattle.uu_core.specs.State.{State, empty}
 use Rattle.uu_store.specs.declared.remains.OpenFault.{OpenFault}
 use Rattle.uu_store.specs.declared.remains.Remains.{Remains}
@@ -23,12 +25,21 @@ use Rattle.uu_store.specs.declared.spool.Spool.{Spool}
 use Rattle.uu_schema.specs.declared.fault.StoreFault.{StoreFault}
 use Rattle.uu_schema.specs.declared.fault.StoreFault.TheVariants.{Memory, Store, Foreign, Newer}
 use Rattle.uu_schema.specs.declared.fault.StoreKind.TheVariants.{Database}
+use Rattle.uu_store.specs.FoundTables.{HasOther}
 use Rattle.uu_store.specs.Kept.{Keeps, Stores}
 use Rattle.uu_store.specs.Stretches.{Adopted, TurnedAway, IsLetGo}
+
+-- two files that hold nothing
+abbrev pub no_bytes : Image
+no_bytes = record { log = []; db = [] }
 
 -- the files hold a database that keeps the state, or none was made yet and the state is an empty spool's
 abbrev pub ImageKeeps : Image → State → Type 0
 ImageKeeps image s = ((trees : Trees) × HoldsDatabase image trees × Keeps trees s) ⊎ (IsNothing image × (s ≡ empty))
+
+-- the files hold a database, and as each schema that fits it has the tables, something else stands under one of the names of the spool's
+abbrev pub ImageHasOther : Image → Type 0
+ImageHasOther image = (trees : Trees) × HoldsDatabase image trees × ((schema : Schema) → IsSound schema trees → HasOther schema)
 
 -- an opening of these files found what they hold
 pub record IsFound (image : Image) (opened : db.State) : Type 0 where
@@ -50,13 +61,15 @@ IsOfNoContents fault = (fault ≢ Foreign) × (fault ≢ Newer)
 abbrev pub StaysKept : Image → (Image → Type 0) → Type 0
 StaysKept before may_hold = (s : State) → ImageKeeps before s → (image : Image) → may_hold image → ∥ ImageKeeps image s ∥₁
 
--- A database was opened and not taken as a spool, and its store was let go. One that stores a state is not called foreign or newer.
+-- A database was opened and not taken as a spool, and its store was let go. One that stores a state is not called foreign or newer, and one
+-- that has something else under one of the names is called foreign.
 pub record IsNotTaken {S : Type 0} (g : Ghosts S) (was : Held S) (stopped : S) (fault : StoreFault) : Type 0 where
   pub last : Held S
   pub turned_away : TurnedAway g was last
   pub let_go : IsLetGo g last.store stopped
   pub numbered : IsClean (g.view stopped) → IsTrue (g.view stopped).is_numbered
   pub ours : IsClean (g.view stopped) → (s : State) → Stores (state g was).now s → IsOfNoContents fault
+  pub other : HasOther (state g was).now.schema → fault ≡ Foreign
 
 -- ---- an opening that failed, by what is left of the files
 
@@ -90,8 +103,10 @@ module _ {D : Type 0} {g : disk.Ghosts D} where
   LeavesAsKept before (remains.Store it) = IsTrue (store.view it).is_clean → StaysKept before (store.state it).may_leave
 
   -- The fault names the contents rightly: only a database that was opened is called foreign or newer, and none that keeps a state, nor files
-  -- that held nothing. Files that were not opened were refused by the system, or there was no memory.
+  -- that held nothing; one that has something else under one of the names is called foreign. Files that were not opened were refused by the
+  -- system, or there was no memory.
   abbrev pub IsNamed : Image → StoreFault → Remains D g → Type 0
   IsNamed before fault remains.Unopened = (fault ≡ Memory) ⊎ (fault ≡ Store Database)
   IsNamed before fault (remains.Files it) = IsOfNoContents fault
-  IsNamed before fault (remains.Store it) = IsTrue (store.view it).is_clean → (s : State) → ImageKeeps before s → IsOfNoContents fault
+  IsNamed before fault (remains.Store it) =
+      IsTrue (store.view it).is_clean → ((s : State) → ImageKeeps before s → IsOfNoContents fault) × (ImageHasOther before → fault ≡ Foreign)

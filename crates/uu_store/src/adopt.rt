@@ -1,13 +1,13 @@
 // Taking a database as a spool.
-ghost use Rattle.std.specs.Prelude.{◌≡◌, ◌≢◌, false, IfErr};
+ghost use Rattle.std.specs.Prelude.{◌≡◌, ◌≢◌, ◌⊎◌, false, Err, IfErr, OnOk};
 ghost use Rattle.sqlite.specs.Held.{state};
 ghost use Rattle.sqlite.specs.State.{HasCleanDisk};
-ghost use Rattle.uu_sql.specs.Steps.{Rests, Stands};
-ghost use Rattle.uu_schema.specs.Schema.{no_schema};
+ghost use Rattle.uu_sql.specs.Steps.{Rests};
 ghost use Rattle.uu_schema.specs.Faults.{IsFresh};
 ghost use Rattle.uu_store.specs.Calls.{CreatesTables, StaysUnclean};
 ghost use Rattle.uu_store.specs.Encoded.{Encodes};
-ghost use Rattle.uu_store.specs.Adoption.{IsInspected};
+ghost use Rattle.uu_store.specs.Adoption.{IsInspected, IsSpared};
+ghost use Rattle.uu_store.specs.FoundTables.{HasAll, HasNone, HasOther};
 
 use crate::inspection::inspect;
 use crate::laws::no_answered_command_is_lost_over;
@@ -48,8 +48,11 @@ fn prepare<S: Alter>(alloc: Global, conn: &mut Connection<S>) -> Result<(), Stor
     ensures never_failed { IfErr result (λ fault. fault ≢ StoreFault.Failed) }
     ensures idle { conn.new.in_transaction ≡ false }
     ensures inspected { IsInspected (state S.Store conn.old) (state S.Store conn.new) result }
+    ensures spared { ¬ HasNone (state S.Store conn.old).now.schema → IsSpared (state S.Store conn.old) (state S.Store conn.new) result }
     ensures creates { CreatesTables (state S.Store conn.old) (state S.Store conn.new) result }
-    ensures empty_never_refused { Stands no_schema (state S.Store conn.old).now → IfErr result (λ fault. (fault ≢ StoreFault.Foreign) × (fault ≢ StoreFault.Newer)) }
+    ensures taken { OnOk result (HasNone (state S.Store conn.old).now.schema ⊎ HasAll (state S.Store conn.old).now.schema) }
+    ensures other { HasOther (state S.Store conn.old).now.schema → (result ≡ Err StoreFault.Foreign) × (conn.new ≡ conn.old) }
+    ensures empty_never_refused { HasNone (state S.Store conn.old).now.schema → IfErr result (λ fault. (fault ≢ StoreFault.Foreign) × (fault ≢ StoreFault.Newer)) }
     ensures clean { StaysUnclean (state S.Store conn.old) (state S.Store conn.new) }
 {
     match found_in(conn.schema()) {
@@ -60,7 +63,7 @@ fn prepare<S: Alter>(alloc: Global, conn: &mut Connection<S>) -> Result<(), Stor
 }
 
 impl<S: Alter> Spool<S> {
-    ghost use Rattle.std.specs.Prelude.{IfOk, Err};
+    ghost use Rattle.std.specs.Prelude.{IfOk, IsErrAnd};
     ghost use Rattle.uu_sql.specs.Steps.{Stands};
     ghost use Rattle.uu_schema.specs.Schema.{site, no_schema};
     ghost use Rattle.uu_core.specs.State.{empty};
@@ -72,13 +75,14 @@ impl<S: Alter> Spool<S> {
     ghost use Rattle.uu_store.specs.Remembered.{Remembers};
 
     /// Takes the database as a spool: one without the spool's tables gets them, in one transaction. One that has them, and no
-    /// others, is taken exactly where its rows are those of a spool's state.
+    /// others, is taken exactly where its rows are those of a spool's state. One that has some of them, and not all with their columns, is never taken.
     ///
     /// # Errors
-    /// The connection is handed back with no transaction open. `Newer` where a row of id 1 in the table `spool` names a
-    /// version later than this program's, which is asked before the rest. `Foreign` where the tables or their columns are
-    /// not there by name, another table stands under one of the names, or a row is not one of a spool's. Then, and after
-    /// `Memory`, the database is as it was. Every row is read; of a job's bytes only their number is handed out.
+    /// The connection is handed back with no transaction open. `Foreign` where a table stands under one of the names and the table `spool` is
+    /// not there, or without the columns that tell its version: then nothing is asked, and the connection comes back as it was handed in. Else
+    /// `Newer` where a row of id 1 in the table `spool` names a version later than this program's, which is asked before the rest, and
+    /// `Foreign` where another table or a column is missing, or a row is not one of a spool's. Then, and after `Memory`, a database with any of
+    /// the spool's tables, or with no tables, is as it was. Every row is read; of a job's bytes only their number is handed out.
     pub fn adopt(alloc: Global, conn: Connection<S>) -> Result<Spool<S>, AdoptFault<S>>
         requires { conn.in_transaction ≡ false }
 
@@ -90,15 +94,20 @@ impl<S: Alter> Spool<S> {
         ensures adopted { IfOk result (λ spool. Adopted conn spool) }
         ensures encoded_before { IfOk result (λ spool. HasCleanDisk (disk spool) → Stands site (state S.Store conn).now → (s : _) × Encodes (state S.Store conn).now s) }
 
-        // A spool is never refused by name, and neither is an empty database.
+        // What is taken had none of the spool's tables, or all of them. One with something else under one of their names is foreign, and comes
+        // back as it was handed in: nothing is asked of it, and no memory taken.
+        ensures taken_by_tables { IfOk result (λ spool. HasNone (state S.Store conn).now.schema ⊎ HasAll (state S.Store conn).now.schema) }
+        ensures other_is_foreign { HasOther (state S.Store conn).now.schema → IsErrAnd result (λ e. (e.fault ≡ StoreFault.Foreign) × (e.conn ≡ conn)) }
+
+        // A spool is never refused by name, and neither is a database that has none of the tables.
         ensures spool_never_refused { IfErr result (λ e. HasCleanDisk (state S.Store e.conn) → (s : _) → Encodes (state S.Store conn).now s → (e.fault ≢ StoreFault.Foreign) × (e.fault ≢ StoreFault.Newer)) }
-        ensures empty_never_refused { IfErr result (λ e. Stands no_schema (state S.Store conn).now → (e.fault ≢ StoreFault.Foreign) × (e.fault ≢ StoreFault.Newer)) }
+        ensures empty_never_refused { IfErr result (λ e. HasNone (state S.Store conn).now.schema → (e.fault ≢ StoreFault.Foreign) × (e.fault ≢ StoreFault.Newer)) }
 
         // Of a database that has the tables, a refusal by name tells why.
         ensures foreign_encodes_no_state { IfErr result (λ e. HasCleanDisk (state S.Store e.conn) → Stands site (state S.Store conn).now → e.fault ≡ StoreFault.Foreign → (¬ IsLater (state S.Store conn).now.trees) × ((s : _) → ¬ Encodes (state S.Store conn).now s)) }
         ensures newer_names_a_later_version { IfErr result (λ e. HasCleanDisk (state S.Store e.conn) → Stands site (state S.Store conn).now → e.fault ≡ StoreFault.Newer → IsLater (state S.Store conn).now.trees) }
 
-        // A refusal leaves it as it was.
+        // A refusal leaves it as it was, also where the tables are of another shape or others stand beside them.
         ensures refusal_changes_nothing { IfErr result (λ e. HasCleanDisk (state S.Store e.conn) → Rests (state S.Store conn) → UnlessFailed e.fault (IsAsBefore (state S.Store conn) (state S.Store e.conn))) }
 
         // What a stop at its end leaves: the state that was encoded, or of an empty one nothing or an empty spool.

@@ -1,10 +1,11 @@
 // What a database with a table `spool` is found to be.
-ghost use Rattle.std.specs.Prelude.{◌≡◌, ◌≢◌, false, true, IfOk, IfErr};
+ghost use Rattle.std.specs.Prelude.{◌≡◌, ◌≢◌, false, true, IfOk, IfErr, IsErr};
 ghost use Rattle.sqlite.specs.Held.{state};
 ghost use Rattle.sqlite.specs.State.{HasCleanDisk};
-ghost use Rattle.uu_sql.specs.Steps.{Stands, Told};
+ghost use Rattle.uu_sql.specs.Spares.{Spares};
+ghost use Rattle.uu_sql.specs.Steps.{Stands};
 ghost use Rattle.uu_schema.specs.Schema.{site};
-ghost use Rattle.uu_store.specs.Adoption.{Finds, IsInspected};
+ghost use Rattle.uu_store.specs.Adoption.{Finds, IsInspected, IsSpared};
 ghost use Rattle.uu_store.specs.Calls.{StaysUnclean};
 
 use crate::reading::are_of_a_state;
@@ -31,8 +32,9 @@ fn find_out<S: Alter>(
     whole: bool,
 ) -> Result<Finding, Error>
     ensures idle { conn.old.in_transaction ≡ false → conn.new.in_transaction ≡ false }
-    ensures told { Told site (state S.Store conn.old) (state S.Store conn.new) result }
+    ensures spares { Spares (state S.Store conn.old) (state S.Store conn.new) result }
     ensures finding { HasCleanDisk (state S.Store conn.new) → Stands site (state S.Store conn.old).now → whole ≡ true → IfOk result (λ finding. Finds finding (state S.Store conn.old).now.trees) }
+    ensures half { whole ≡ false → IfOk result (λ finding. finding ≢ Finding.Spool) }
 {
     if names_later(conn)? {
         return Ok(Finding::Later);
@@ -57,6 +59,8 @@ pub(crate) fn inspect<S: Alter>(
     ensures never_failed { IfErr result (λ fault. fault ≢ StoreFault.Failed) }
     ensures idle { conn.new.in_transaction ≡ false }
     ensures inspected { whole ≡ true → IsInspected (state S.Store conn.old) (state S.Store conn.new) result }
+    ensures half { whole ≡ false → IsErr result }
+    ensures spared { IsSpared (state S.Store conn.old) (state S.Store conn.new) result }
     ensures clean { StaysUnclean (state S.Store conn.old) (state S.Store conn.new) }
 {
     match find_out(alloc, conn, whole) {

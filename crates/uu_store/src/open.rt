@@ -1,9 +1,11 @@
 // Opening the spool's files.
-ghost use Rattle.std.specs.Prelude.{◌≡◌, ◌≢◌, false, IfOk, IfErr};
+ghost use Rattle.std.specs.Prelude.{◌≡◌, ◌≢◌, ◌⊎◌, false, IfOk, IfErr};
+ghost use Rattle.sqlite.specs.Held.{state};
 ghost use Rattle.sqlite.specs.State.{HasCleanDisk};
 ghost use Rattle.sqlite_wal.specs.Files.{image_at};
 ghost use Rattle.uu_core.specs.State.{State, empty};
-ghost use Rattle.uu_store.specs.Openings.{ImageKeeps, IsNamed, IsNotTaken, LeavesAsKept, Started, remains_of};
+ghost use Rattle.uu_store.specs.FoundTables.{HasAll, HasNone};
+ghost use Rattle.uu_store.specs.Openings.{ImageHasOther, ImageKeeps, IsNamed, IsNotTaken, LeavesAsKept, Started, no_bytes, remains_of};
 ghost use Rattle.uu_store.specs.Spool.{disk, has_failed, Shows};
 ghost use Rattle.uu_store.specs.Stretches.{Adopted};
 
@@ -23,7 +25,8 @@ pub type FileSpool<T> = Spool<FileStore<FileFrom<T>>>;
 ///
 /// # Errors
 /// With what is left of the two files. A stop then leaves files that keep what was kept (`left`). Files that keep the state of a spool, or hold
-/// nothing yet, are never answered `Foreign` or `Newer` (`named`).
+/// nothing yet, are never answered `Foreign` or `Newer`, and a database that has something else under one of the names of the spool's tables is
+/// answered `Foreign` once it was opened (`named`).
 pub fn open_spool<T: Start>(
     rt: &HostRuntime,
     path: &str,
@@ -35,6 +38,9 @@ pub fn open_spool<T: Start>(
 
     // It shows the state that the files kept.
     ensures shows { IfOk result (λ spool. HasCleanDisk (disk spool) → (s : State) → ImageKeeps (image_at T.Start) s → Shows spool s) }
+
+    // A database that has something else under one of the names is never taken.
+    ensures never_other { IfOk result (λ spool. HasCleanDisk (disk spool) → ¬ ImageHasOther (image_at T.Start)) }
 
     // What is left of files that were opened keeps what they kept, and the fault names it rightly.
     ensures named { IfErr result (λ e. IsNamed (image_at T.Start) e.fault (remains_of e)) }
@@ -56,6 +62,7 @@ pub(crate) fn adopted<S: Alter + Drop>(
     ensures usable { IfOk result (λ spool. has_failed spool ≡ false) }
     ensures never_failed { IfErr result (λ e. e.0 ≢ StoreFault.Failed) }
     ensures adopted { IfOk result (Adopted conn) }
+    ensures taken { IfOk result (λ spool. HasNone (state S.Store conn).now.schema ⊎ HasAll (state S.Store conn).now.schema) }
     ensures away { IfErr result (λ e. IsNotTaken S.Store conn e.1 e.0) }
 {
     match Spool::adopt(alloc, conn) {
@@ -64,15 +71,17 @@ pub(crate) fn adopted<S: Alter + Drop>(
     }
 }
 
-/// [`open_spool`] as the program uses it, where what is left of the files after a fault is closed. No code can name what the files of a path
-/// held, so `Wary` stands for empty files: what is said of the state here is said of those, and of all others by `open_spool`.
-pub fn start(rt: &HostRuntime, path: &str) -> Result<FileSpool<Wary>, StoreFault>
+/// [`open_spool`] as the program uses it. No code can name what the files of a path held, so `Wary` stands for empty files: what is said here
+/// is said of those, and of all others by `open_spool`.
+///
+/// # Errors
+/// Those of [`open_spool`], with what is left of the two files.
+pub fn start(rt: &HostRuntime, path: &str) -> Result<FileSpool<Wary>, OpenFault<FileFrom<Wary>>>
     ensures usable { IfOk result (λ spool. has_failed spool ≡ false) }
-    ensures never_failed { IfErr result (λ fault. fault ≢ StoreFault.Failed) }
+    ensures never_failed { IfErr result (λ e. e.fault ≢ StoreFault.Failed) }
     ensures shows { IfOk result (λ spool. HasCleanDisk (disk spool) → Shows spool empty) }
+    ensures named { IfErr result (λ e. IsNamed no_bytes e.fault (remains_of e)) }
+    ensures left { IfErr result (λ e. LeavesAsKept no_bytes (remains_of e)) }
 {
-    match open_spool(rt, path, Wary) {
-        Ok(spool) => Ok(spool),
-        Err(failed) => Err(failed.fault),
-    }
+    open_spool(rt, path, Wary)
 }

@@ -6,6 +6,7 @@ use Rattle.sqlite.specs.Query.{Query}
 use Rattle.sqlite_tied.specs.Compute.{everything}
 use Rattle.sqlite.specs.Listing.{understood}
 use Rattle.uu_sql.proofs.Asks.{Means, ordered}
+use Rattle.uu_sql.proofs.Questions.{IsQuestion}
 use Rattle.uu_schema.specs.Schema.{site, spool, systems, lines, ranges, jobs, pieces, entries}
 use Rattle.uu_rows.proofs.Meanings.{at_places, by_places, is_first, head_names}
 use Rattle.uu_taking.specs.Texts.{version_text, spool_text, heads_text, sizes_text, numbered_sizes_text, entries_text, system_rowids_text, line_rowids_text, range_rowids_text, piece_rowids_text, entry_rowids_text}
@@ -66,3 +67,49 @@ piece_rowids_means = record { command = refl; plain = (refl, refl); listing = re
 pub entry_rowids_means : Means site entry_rowids_text (rowids_of entries.tree) (codes "rowid" ∷ [])
 unfolding understood everything
 entry_rowids_means = record { command = refl; plain = (refl, refl); listing = refl }
+
+-- ---- each is a query
+
+pub version_ask : IsQuestion version_text
+unfolding everything
+version_ask = refl
+
+pub spool_ask : IsQuestion spool_text
+unfolding everything
+spool_ask = refl
+
+pub heads_ask : IsQuestion heads_text
+unfolding everything
+heads_ask = refl
+
+pub sizes_ask : IsQuestion sizes_text
+unfolding everything
+sizes_ask = refl
+
+pub numbered_sizes_ask : IsQuestion numbered_sizes_text
+unfolding everything
+numbered_sizes_ask = refl
+
+pub entries_ask : IsQuestion entries_text
+unfolding everything
+entries_ask = refl
+
+pub system_rowids_ask : IsQuestion system_rowids_text
+unfolding everything
+system_rowids_ask = refl
+
+pub line_rowids_ask : IsQuestion line_rowids_text
+unfolding everything
+line_rowids_ask = refl
+
+pub range_rowids_ask : IsQuestion range_rowids_text
+unfolding everything
+range_rowids_ask = refl
+
+pub piece_rowids_ask : IsQuestion piece_rowids_text
+unfolding everything
+piece_rowids_ask = refl
+
+pub entry_rowids_ask : IsQuestion entry_rowids_text
+unfolding everything
+entry_rowids_ask = refl

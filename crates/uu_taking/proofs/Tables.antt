@@ -16,8 +16,9 @@ use Rattle.sqlite_value.specs.declared.keys.Key.{Key}
 use Rattle.sqlite.specs.Term.{Term}
 use Rattle.sqlite_keyed.proofs.ListLemmas.{ascending-map, ascending_weaker, map_same}
 use Rattle.sqlite_trees.proofs.ListLemmas.{ascending_from_map, pull_back}
-use Rattle.uu_sql.specs.Steps.{Stands, Told}
-use Rattle.uu_sql.proofs.Steps.{told_told, told_not, told_also}
+use Rattle.uu_sql.specs.Steps.{Stands}
+use Rattle.uu_sql.specs.Spares.{Spares}
+use Rattle.uu_sql.proofs.Questions.{spared_as, spared_then}
 use Rattle.uu_sql.proofs.Asks.{ordered}
 use Rattle.uu_sql.proofs.Rows.{all_stay}
 use Rattle.uu_sql.proofs.Answers.{answer_moved}
@@ -77,26 +78,21 @@ of_ok : {T E P : Type 0} (r : Result T E) → IsOk r → OnOk r P → P
 of_ok (Ok x) ok p = p
 of_ok (Err e) ok p = absurd (cc)
 
-told_any : {T U : Type 0} (a b : db.State) (q : Result T Error) (r : Result U Error) → IsOk q → Told site a b q → Told site a b r
-told_any a b q (Ok x) ok h = told_also site a b q (Ok x) ok h
-told_any a b q (Err e) ok h = told_not site a b q (Err e) refl h
-
-pub took : {T : Type 0} (P : (ℕ → List Row) → T → Type 0) (text more : List ℕ) (a b c : db.State) (p q : Result (Vec Row Global) Error) (r : Result T Error) → IsOk p → IsOk q → Shows text [] a b p → Shows more [] b c q
+pub took : {T : Type 0} (P : (ℕ → List Row) → T → Type 0) (text more : List ℕ) (a b c : db.State) (p q : Result (Vec Row Global) Error) (r : Result T Error) → IsOk p → IsOk q → Shows text [] a b p → Shows more [] b c q → Spares a b p → Spares b c q
     → (HasCleanDisk b → HasCleanDisk c → Stands site a.now → b.now ≡ a.now → IfOk r (P a.now.trees)) → Takes P a c r
-took P text more a b c p q r ok fine first second step =
-    let both = told_told site a b p c q ok first.told second.told in
-    let early : HasCleanDisk c → HasCleanDisk b = λ clean. omega (arith, clean, second.told.asked.survives.clean) in
+took P text more a b c p q r ok fine first second spared also_spared step =
+    let early : HasCleanDisk c → HasCleanDisk b = λ clean. omega (arith, clean, also_spared.survives.clean) in
     let stays : HasCleanDisk c → Stands site a.now → b.now ≡ a.now = λ clean stands. of_ok p ok (first.same (early clean) stands) in
     record {
-      told = told_any a c q r fine both;
+      spares = spared_as a c q r (λ _. fine) (spared_then a b p c q ok spared also_spared);
       same = λ clean stands. any_told _ r (of_ok q fine (second.same clean (subst (Stands site) (sym (stays clean stands)) stands)) ∙ stays clean stands);
       found = λ clean stands. step (early clean) clean stands (stays clean stands);
     }
 
-pub took_one : {T : Type 0} (P : (ℕ → List Row) → T → Type 0) (text : List ℕ) (a b : db.State) (p : Result (Vec Row Global) Error) (r : Result T Error) → IsOk p → Shows text [] a b p
+pub took_one : {T : Type 0} (P : (ℕ → List Row) → T → Type 0) (text : List ℕ) (a b : db.State) (p : Result (Vec Row Global) Error) (r : Result T Error) → IsOk p → Shows text [] a b p → Spares a b p
     → (HasCleanDisk b → Stands site a.now → IfOk r (P a.now.trees)) → Takes P a b r
-took_one P text a b p r ok first step = record {
-  told = told_any a b p r ok first.told;
+took_one P text a b p r ok first spared step = record {
+  spares = spared_as a b p r (λ _. ok) spared;
   same = λ clean stands. any_told _ r (of_ok p ok (first.same clean stands));
   found = step;
 }

@@ -10,7 +10,8 @@ use Rattle.sqlite.specs.declared.types.Value.TheVariants.{Int}
 use Rattle.sqlite.specs.Order.{Row}
 use Rattle.sqlite.specs.Tree.{IsAscending}
 use Rattle.sqlite.specs.State as db
-use Rattle.uu_sql.specs.Steps.{Stands, Told}
+use Rattle.uu_sql.specs.Steps.{Stands}
+use Rattle.uu_sql.specs.Spares.{Spares}
 use Rattle.uu_sql.specs.Rowids.{AreNumbered, OnceEach}
 use Rattle.uu_tables.specs.declared.rows.PieceSize.{PieceSize}
 use Rattle.uu_tables.specs.Tables.{Piece, size_of}
@@ -62,9 +63,9 @@ pub record Finds {K X : Type 0} (key : X → K) (cells : X → Row) (places : Li
 abbrev pub Tells : Bool → Type 0 → Type 0 → Type 0
 Tells good Yes No = (good ≡ true → Yes) × (good ≡ false → No)
 
--- The question commits nothing and changes nothing, whatever it answers, and what it answers is so.
+-- The question commits nothing and changes nothing, whatever it answers and whatever tables there are, and what it answers is so.
 pub record Takes {T : Type 0} (IsAnswer : (ℕ → List Row) → T → Type 0) (old new : db.State) (r : Result T Error) : Type 0 where
-  pub told : Told site old new r
+  pub spares : Spares old new r
   pub same : db.HasCleanDisk new → Stands site old.now → OnOk r (new.now ≡ old.now)
   pub found : db.HasCleanDisk new → Stands site old.now → IfOk r (IsAnswer old.now.trees)
 

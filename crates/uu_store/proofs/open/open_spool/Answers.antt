@@ -2,7 +2,7 @@ use Rattle.std.proofs.Common.{sym, subst}
 use Rattle.sqlite.specs.Files.{over_files}
 use Rattle.sqlite_wal.specs.Files.{image_at}
 use Rattle.uu_store.specs.Openings.{LeavesAsKept}
-use Rattle.uu_store.proofs.Opening.{started_shows, named_as, away_ours, away_leaves}
+use Rattle.uu_store.proofs.Opening.{started_shows, started_never_other, named_as, away_named, away_leaves}
 use Rattle.uu_store.proofs.open.open_spool.Goals as goal
 
 pub returns-in-Ok-clause-started : goal.returns-in-Ok-clause-started
@@ -11,10 +11,14 @@ returns-in-Ok-clause-started g c = record { opened = c.in_ok-conn.conn; found = 
 pub returns-in-Ok-clause-shows : goal.returns-in-Ok-clause-shows
 returns-in-Ok-clause-shows g c = started_shows over_files (image_at g.T.Start) c.in_ok-conn.conn c.in_ok-conn.ensures.found c.in-Ok.spool c.in-Ok.ensures.adopted
 
+pub returns-in-Ok-clause-never_other : goal.returns-in-Ok-clause-never_other
+returns-in-Ok-clause-never_other g c =
+    started_never_other over_files (image_at g.T.Start) c.in_ok-conn.conn c.in_ok-conn.ensures.found c.in-Ok.spool c.in-Ok.ensures.adopted c.in-Ok.ensures.taken
+
 pub returns-in-Err-clause-named : goal.returns-in-Err-clause-named
 returns-in-Err-clause-named g c =
     named_as (image_at g.T.Start) c.not_taken.result c.in-Err.fault _ c.not_taken.ensures.fault c.not_taken.ensures.remains
-    (away_ours (image_at g.T.Start) c.in_ok-conn.conn c.in_ok-conn.ensures.found c.in-Err.store c.in-Err.fault c.in-Err.ensures.away)
+    (away_named (image_at g.T.Start) c.in_ok-conn.conn c.in_ok-conn.ensures.found c.in-Err.store c.in-Err.fault c.in-Err.ensures.away)
 
 pub returns-in-Err-clause-left : goal.returns-in-Err-clause-left
 returns-in-Err-clause-left g c =

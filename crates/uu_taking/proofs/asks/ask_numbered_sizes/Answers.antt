@@ -1,10 +1,15 @@
 use Rattle.std.proofs.Common.{[]}
 use Rattle.sqlite.specs.Held.{state}
 use Rattle.uu_taking.specs.Texts.{numbered_sizes_text}
-use Rattle.uu_taking.proofs.Meanings.{numbered_sizes_means}
+use Rattle.uu_taking.proofs.Meanings.{numbered_sizes_means, numbered_sizes_ask}
+use Rattle.uu_sql.proofs.Questions.{spares}
 use Rattle.uu_rows.proofs.Showing.{shows}
 use Rattle.uu_taking.proofs.asks.ask_numbered_sizes.Goals as goal
 
 pub returns-clause-shows : goal.returns-clause-shows
 returns-clause-shows g c =
     shows numbered_sizes_text _ _ [] (state g.S.Store c.args.conn.now) (state g.S.Store c.query_all.new.self) numbered_sizes_means c.query_all.result c.query_all.ensures.ok c.query_all.ensures.err c.query_all.ensures.survives
+
+pub returns-clause-spares : goal.returns-clause-spares
+returns-clause-spares g c =
+    spares numbered_sizes_text numbered_sizes_ask [] (state g.S.Store c.args.conn.now) (state g.S.Store c.query_all.new.self) c.query_all.result c.query_all.ensures.ok c.query_all.ensures.err c.query_all.ensures.survives

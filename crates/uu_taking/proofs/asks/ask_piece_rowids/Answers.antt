@@ -1,10 +1,15 @@
 use Rattle.std.proofs.Common.{[]}
 use Rattle.sqlite.specs.Held.{state}
 use Rattle.uu_taking.specs.Texts.{piece_rowids_text}
-use Rattle.uu_taking.proofs.Meanings.{piece_rowids_means}
+use Rattle.uu_taking.proofs.Meanings.{piece_rowids_means, piece_rowids_ask}
+use Rattle.uu_sql.proofs.Questions.{spares}
 use Rattle.uu_rows.proofs.Showing.{shows}
 use Rattle.uu_taking.proofs.asks.ask_piece_rowids.Goals as goal
 
 pub returns-clause-shows : goal.returns-clause-shows
 returns-clause-shows g c =
     shows piece_rowids_text _ _ [] (state g.S.Store c.args.conn.now) (state g.S.Store c.query_all.new.self) piece_rowids_means c.query_all.result c.query_all.ensures.ok c.query_all.ensures.err c.query_all.ensures.survives
+
+pub returns-clause-spares : goal.returns-clause-spares
+returns-clause-spares g c =
+    spares piece_rowids_text piece_rowids_ask [] (state g.S.Store c.args.conn.now) (state g.S.Store c.query_all.new.self) c.query_all.result c.query_all.ensures.ok c.query_all.ensures.err c.query_all.ensures.survives

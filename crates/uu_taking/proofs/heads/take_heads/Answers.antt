@@ -10,5 +10,5 @@ pub returns-clause-takes : goal.returns-clause-takes
 returns-clause-takes g c =
     let a = state g.S.Store c.args.conn.now in
     let b = state g.S.Store c.ask_heads.new.conn in
-    took_one _ heads_text a b c.ask_heads.result c.found.result (answered _ _ c.in_ok-rows.was) c.ask_heads.ensures.shows
+    took_one _ heads_text a b c.ask_heads.result c.found.result (answered _ _ c.in_ok-rows.was) c.ask_heads.ensures.shows c.ask_heads.ensures.spares
     (λ clean stands. IfOk-weaker c.found.result _ _ (λ found read. heads_taken a b c.in_ok-rows.rows.items stands (c.in_ok-rows.ensures.shows.rows clean) found (rw c.deref.ensures.value at read)) c.found.ensures.read)

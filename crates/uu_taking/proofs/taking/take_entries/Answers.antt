@@ -11,6 +11,6 @@ returns-clause-takes g c =
     let a = state g.S.Store c.args.conn.now in
     let b = state g.S.Store c.ask_entries.new.conn in
     let d = state g.S.Store c.ask_entry_rowids.new.conn in
-    took _ entries_text entry_rowids_text a b d c.ask_entries.result c.ask_entry_rowids.result c.found.result (answered _ _ c.in_ok-rows.was) (answered _ _ c.in_ok-ids.was) c.ask_entries.ensures.shows c.ask_entry_rowids.ensures.shows
+    took _ entries_text entry_rowids_text a b d c.ask_entries.result c.ask_entry_rowids.result c.found.result (answered _ _ c.in_ok-rows.was) (answered _ _ c.in_ok-ids.was) c.ask_entries.ensures.shows c.ask_entry_rowids.ensures.shows c.ask_entries.ensures.spares c.ask_entry_rowids.ensures.spares
     (λ early clean stands same. IfOk-weaker c.found.result _ _
     (λ found read. entries_taken a b d c.in_ok-rows.rows.items c.in_ok-ids.ids.items stands same (c.in_ok-rows.ensures.shows.rows early) (c.in_ok-ids.ensures.shows.rows clean) found (rw (c.deref.ensures.value, c.deref-2.ensures.value) at read)) c.found.ensures.read)

@@ -4,7 +4,8 @@ use Rattle.uu_store.specs.Encoded.{Leaves}
 use Rattle.uu_store.specs.Adoption.{StopsAs}
 use Rattle.uu_core.specs.State.{empty}
 use Rattle.uu_store.proofs.Ending.{clean_before, adopt_creates}
-use Rattle.uu_store.proofs.Inspecting.{read_as, taken_as, refused_as, same_as, stops_as}
+use Rattle.uu_schema.specs.declared.fault.StoreFault.TheVariants.{Foreign}
+use Rattle.uu_store.proofs.Inspecting.{read_as, taken_as, refused_as, same_as, stops_as, not_ok, same_fault}
 use Rattle.uu_store.proofs.Adopting.{adopted_as, turned_away_as, remembers}
 use Rattle.uu_store.proofs.spool.Spool.adopt.Goals as goal
 
@@ -17,7 +18,7 @@ returns-in-Ok-clause-stop_when_taken g c clean rests =
     let same = c.over.ensures.connection in
     let a = state g.S.Store c.args.conn in
     let b = state g.S.Store c.prepare.new.conn in
-    subst (λ h. StopsAs a (state g.S.Store h)) (sym same) (stops_as a b c.prepare.result (g.met.S.Store.settled c.args.conn.store) (clean_before c.over.result c.prepare.new.conn same clean) rests c.prepare.ensures.inspected c.prepare.ensures.creates)
+    subst (λ h. StopsAs a (state g.S.Store h)) (sym same) (stops_as a b c.prepare.result (g.met.S.Store.settled c.args.conn.store) (clean_before c.over.result c.prepare.new.conn same clean) rests c.prepare.ensures.spared c.prepare.ensures.creates)
 
 pub returns-in-Ok-clause-stop_when_created : goal.returns-in-Ok-clause-stop_when_created
 returns-in-Ok-clause-stop_when_created g c clean rests stands =
@@ -36,22 +37,33 @@ returns-in-Err-clause-foreign_encodes_no_state g c clean stands is =
 
 pub returns-in-Err-clause-refusal_changes_nothing : goal.returns-in-Err-clause-refusal_changes_nothing
 returns-in-Err-clause-refusal_changes_nothing g c clean rests =
-    same_as (state g.S.Store c.args.conn) (state g.S.Store c.prepare.new.conn) c.in-Err.fault (rw c.in-Err.is at c.prepare.ensures.inspected) (rw c.in-Err.is at c.prepare.ensures.creates)
+    same_as (state g.S.Store c.args.conn) (state g.S.Store c.prepare.new.conn) c.in-Err.fault (rw c.in-Err.is at c.prepare.ensures.spared) (rw c.in-Err.is at c.prepare.ensures.creates)
     (rw c.in-Err.is at c.prepare.ensures.empty_never_refused) (rw c.in-Err.is at c.prepare.ensures.never_failed) clean rests
 
 pub returns-in-Err-clause-stop_when_turned_away : goal.returns-in-Err-clause-stop_when_turned_away
 returns-in-Err-clause-stop_when_turned_away g c clean rests =
-    stops_as (state g.S.Store c.args.conn) (state g.S.Store c.prepare.new.conn) c.prepare.result (g.met.S.Store.settled c.args.conn.store) clean rests c.prepare.ensures.inspected c.prepare.ensures.creates
+    stops_as (state g.S.Store c.args.conn) (state g.S.Store c.prepare.new.conn) c.prepare.result (g.met.S.Store.settled c.args.conn.store) clean rests c.prepare.ensures.spared c.prepare.ensures.creates
 
 pub returns-in-Ok-clause-adopted : goal.returns-in-Ok-clause-adopted
 returns-in-Ok-clause-adopted g c =
-    adopted_as g.S.Store c.args.conn c.prepare.new.conn c.over.result c.over.ensures.connection c.over.ensures.usable (rw c.in-Ok.is at c.prepare.ensures.inspected) (rw c.in-Ok.is at c.prepare.ensures.creates) c.prepare.ensures.clean
+    adopted_as g.S.Store c.args.conn c.prepare.new.conn c.over.result c.over.ensures.connection c.over.ensures.usable (rw c.in-Ok.is at c.prepare.ensures.spared) (rw c.in-Ok.is at c.prepare.ensures.creates) c.prepare.ensures.clean
 
 pub returns-in-Err-clause-turned_away : goal.returns-in-Err-clause-turned_away
 returns-in-Err-clause-turned_away g c =
-    turned_away_as g.S.Store c.args.conn c.prepare.new.conn c.prepare.result (g.met.S.Store.settled c.args.conn.store) c.prepare.ensures.inspected c.prepare.ensures.creates c.prepare.ensures.clean
+    turned_away_as g.S.Store c.args.conn c.prepare.new.conn c.prepare.result (g.met.S.Store.settled c.args.conn.store) c.prepare.ensures.spared c.prepare.ensures.creates c.prepare.ensures.clean
 
 pub returns-in-Ok-clause-remembers : goal.returns-in-Ok-clause-remembers
 returns-in-Ok-clause-remembers g c =
     remembers c.args.conn c.over.result (returns-in-Ok-clause-adopted g c) (λ s before stretches led. c.no_answered_command_is_lost_over.ensures.commands s before stretches c.args.conn led)
     (λ s before stretches new number led acknowledged. c.no_answered_command_is_lost_over.ensures.jobs s before stretches c.args.conn new number led acknowledged)
+
+pub returns-in-Ok-clause-taken_by_tables : goal.returns-in-Ok-clause-taken_by_tables
+returns-in-Ok-clause-taken_by_tables g c = rw c.in-Ok.is at c.prepare.ensures.taken
+
+pub returns-in-Ok-clause-other_is_foreign : goal.returns-in-Ok-clause-other_is_foreign
+returns-in-Ok-clause-other_is_foreign g c other = absurd (not_ok c.prepare.result tt (c.prepare.ensures.other other).0 c.in-Ok.is)
+
+pub returns-in-Err-clause-other_is_foreign : goal.returns-in-Err-clause-other_is_foreign
+returns-in-Err-clause-other_is_foreign g c other =
+    let it = c.prepare.ensures.other other in
+    (same_fault c.prepare.result c.in-Err.fault Foreign c.in-Err.is it.0, it.1)
