@@ -3,6 +3,7 @@ pub mod Typed
 pub mod Columns
 pub mod Ascii
 pub mod Refused
+pub mod Told
 pub mod Words
 pub mod RowByRow
 pub mod Showing

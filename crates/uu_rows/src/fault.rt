@@ -1,8 +1,9 @@
 // Why a row is not read.
 ghost use Rattle.std.specs.Prelude.{◌≡◌, ◌≢◌};
-ghost use Rattle.sqlite.specs.declared.error.Error.TheVariants.{SqliteFailure, QueryReturnedNoRows};
+ghost use Rattle.sqlite.specs.declared.error.Error.TheVariants.{SqliteFailure};
 ghost use Rattle.sqlite.specs.declared.error.ErrorCode.TheVariants.{OutOfMemory};
 ghost use Rattle.uu_rows.specs.declared.fault.RowFault.TheVariants.{Memory};
+ghost use Rattle.uu_rows.specs.Faults.{error_of, or_error, or_none};
 
 use sqlite::{Error, ErrorCode};
 use std::alloc::{AllocError, AllocFailed};
@@ -21,8 +22,7 @@ pub enum RowFault {
 impl RowFault {
     /// The same as an error of the database: want of memory as want of memory, and a bad row as one that is not there.
     pub fn as_error(self) -> Error
-        ensures memory { self ≡ RowFault.Memory → result ≡ SqliteFailure OutOfMemory }
-        ensures bad { self ≡ RowFault.Bad → result ≡ QueryReturnedNoRows }
+        ensures { result ≡ error_of self }
     {
         match self {
             RowFault::Memory => Error::SqliteFailure(ErrorCode::OutOfMemory),
@@ -44,6 +44,27 @@ impl<T: Drop> From<AllocFailed<T>> for RowFault {
 
     fn from(_refused: AllocFailed<T>) -> RowFault {
         RowFault::Memory
+    }
+}
+
+/// What was read, or its fault as an error of the database.
+pub fn or_error<T>(read: Result<T, RowFault>) -> Result<T, Error>
+    ensures { result ≡ or_error read }
+{
+    match read {
+        Ok(typed) => Ok(typed),
+        Err(fault) => Err(fault.as_error()),
+    }
+}
+
+/// What was read, or none where a row is bad. Want of memory stays an error.
+pub fn or_none<T>(read: Result<T, RowFault>) -> Result<Option<T>, Error>
+    ensures { result ≡ or_none read }
+{
+    match read {
+        Ok(typed) => Ok(Some(typed)),
+        Err(RowFault::Bad) => Ok(None),
+        Err(RowFault::Memory) => Err(RowFault::Memory.as_error()),
     }
 }
 

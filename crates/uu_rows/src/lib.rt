@@ -9,7 +9,7 @@ mod rows;
 mod values;
 
 pub use asks::{ask_lines, ask_ranges, ask_systems};
-pub use fault::{RowFault, read_fault};
+pub use fault::{RowFault, or_error, or_none, read_fault};
 pub use reading::{TypedRow, first_row, read_all, read_rows};
 pub use rows::has_width;
 pub use values::{grade_in, name_in, number_in};

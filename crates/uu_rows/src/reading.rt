@@ -6,7 +6,7 @@ ghost use Rattle.sqlite.specs.declared.error.ErrorCode.TheVariants.{OutOfMemory}
 ghost use Rattle.sqlite.specs.Order.{Row};
 ghost use Rattle.uu_rows.specs.Values.{NotIf};
 
-use crate::fault::RowFault;
+use crate::fault::{RowFault, or_error};
 use sqlite::{Error, Row};
 use std::alloc::Global;
 
@@ -49,13 +49,22 @@ pub fn read_rows<T: TypedRow>(alloc: Global, rows: &[Row]) -> Result<Vec<T>, Err
     // Of any rows, any other error is that of a row that the format does not allow.
     ensures bad { IfErr result (λ error. error ≢ SqliteFailure OutOfMemory → error ≡ QueryReturnedNoRows) }
 {
-    match read_all(alloc, rows) {
-        Ok(all) => Ok(all),
-        Err(fault) => Err(fault.as_error()),
+    or_error(read_all(alloc, rows))
+}
+
+// The first of the rows as a typed row, if there is one.
+fn read_first<T: TypedRow>(alloc: Global, rows: &[Row]) -> Result<Option<T>, RowFault>
+    ensures row { IfOk result (λ found. option_map T.cells found ≡ slice_get rows.now 0) }
+    ensures readable { IfOk result (λ found. IfSome found T.IsReadable) }
+    ensures bad { (found : Option T) → IfSome found T.IsReadable → NotIf result (option_map T.cells found ≡ slice_get rows.now 0) }
+{
+    match rows.first() {
+        None => Ok(None),
+        Some(row) => Ok(Some(T::read(alloc, row)?)),
     }
 }
 
-/// The first of the rows as a typed row, if there is one.
+/// The first of the rows as a typed row, if there is one. A row that the format does not allow is an error of the database.
 pub fn first_row<T: TypedRow>(alloc: Global, rows: &[Row]) -> Result<Option<T>, Error>
     ensures row { IfOk result (λ found. option_map T.cells found ≡ slice_get rows.now 0) }
     ensures readable { IfOk result (λ found. IfSome found T.IsReadable) }
@@ -66,11 +75,5 @@ pub fn first_row<T: TypedRow>(alloc: Global, rows: &[Row]) -> Result<Option<T>, 
     // Of any row, any other error is that of a row that the format does not allow.
     ensures bad { IfErr result (λ error. error ≢ SqliteFailure OutOfMemory → error ≡ QueryReturnedNoRows) }
 {
-    match rows.first() {
-        None => Ok(None),
-        Some(row) => match T::read(alloc, row) {
-            Ok(typed) => Ok(Some(typed)),
-            Err(fault) => Err(fault.as_error()),
-        },
-    }
+    or_error(read_first(alloc, rows))
 }
