@@ -15,7 +15,7 @@ use crate::asks::ask_heads;
 use sqlite::{Alter, Connection, Error, Row};
 use std::alloc::Global;
 use uu_core::JobHead;
-use uu_rows::{RowFault, read_all};
+use uu_rows::{RowFault, or_none, read_all};
 
 // Whether each number is below the next.
 fn rise(heads: &[JobHead]) -> bool
@@ -52,11 +52,7 @@ fn found(alloc: Global, rows: &[Row]) -> Result<Option<Vec<JobHead>>, Error>
     ensures read { IfOk result (λ found. MatchOption found ((all : List JobHead) → ¬ AreHeads rows.now all) (λ all. AreHeads rows.now all.items)) }
     ensures memory { IfErr result (λ error. error ≡ SqliteFailure OutOfMemory) }
 {
-    match typed(alloc, rows) {
-        Ok(all) => Ok(Some(all)),
-        Err(RowFault::Bad) => Ok(None),
-        Err(RowFault::Memory) => Err(RowFault::Memory.as_error()),
-    }
+    or_none(typed(alloc, rows))
 }
 
 /// The jobs without their bytes, by number. None, where the rows of the table are not such rows.

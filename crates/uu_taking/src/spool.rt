@@ -14,7 +14,7 @@ ghost use Rattle.uu_taking.specs.Taking.{Takes, spool_cells};
 
 use crate::asks::ask_spool;
 use sqlite::{Alter, Connection, Error, Row};
-use uu_rows::{RowFault, has_width, number_in};
+use uu_rows::{RowFault, has_width, number_in, or_none};
 
 // The next number, of the one row.
 fn next_in_row(rows: &[Row]) -> Result<u32, RowFault>
@@ -40,11 +40,7 @@ fn found_next(rows: &[Row]) -> Result<Option<u32>, Error>
     ensures found { IfOk result (λ found. MatchOption found ((next : ℕ) → IsSmall next → rows.now ≢ spool_cells next ∷ []) (λ next. rows.now ≡ spool_cells next ∷ [])) }
     ensures memory { IfErr result (λ error. error ≡ SqliteFailure OutOfMemory) }
 {
-    match next_in_row(rows) {
-        Ok(next) => Ok(Some(next)),
-        Err(RowFault::Bad) => Ok(None),
-        Err(RowFault::Memory) => Err(RowFault::Memory.as_error()),
-    }
+    or_none(next_in_row(rows))
 }
 
 /// The next number, of the one row of the table `spool`. None, where the table has not this one row with our version and a number of

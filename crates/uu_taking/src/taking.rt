@@ -18,7 +18,7 @@ use crate::asks::{
 use crate::integer::Integer;
 use sqlite::{Alter, Connection, Error, Row};
 use std::alloc::Global;
-use uu_rows::{RowFault, TypedRow, ask_lines, ask_ranges, ask_systems, read_all};
+use uu_rows::{RowFault, TypedRow, ask_lines, ask_ranges, ask_systems, or_none, read_all};
 use uu_tables::{EntryColumns, LineColumns, PieceSize, RangeColumns, SystemColumns};
 
 // Whether each rowid is below the next.
@@ -66,11 +66,7 @@ fn found<T: TypedRow>(alloc: Global, rows: &[Row], ids: &[Row]) -> Result<Option
     ensures read { IfOk result (IsRead T.cells T.IsReadable rows.now ids.now) }
     ensures memory { IfErr result (λ error. error ≡ SqliteFailure OutOfMemory) }
 {
-    match typed(alloc, rows, ids) {
-        Ok(all) => Ok(Some(all)),
-        Err(RowFault::Bad) => Ok(None),
-        Err(RowFault::Memory) => Err(RowFault::Memory.as_error()),
-    }
+    or_none(typed(alloc, rows, ids))
 }
 
 /// The systems, by name. None, where the rows of the table are not such rows, or have rowids that do not tell them apart.

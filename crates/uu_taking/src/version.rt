@@ -12,7 +12,7 @@ ghost use Rattle.uu_taking.specs.Taking.{Takes, Tells};
 use crate::asks::ask_version;
 use crate::integer::integer_in;
 use sqlite::{Alter, Connection, Error, Row};
-use uu_rows::RowFault;
+use uu_rows::{RowFault, or_error};
 
 /// The version of the tables that this program makes and reads.
 const VERSION: i64 = 1;
@@ -49,10 +49,7 @@ fn found_later(rows: &[Row]) -> Result<bool, Error>
     ensures found { IfOk result (λ later. Tells later (HasLater rows.now) (¬ HasLater rows.now)) }
     ensures memory { IfErr result (λ error. error ≡ SqliteFailure OutOfMemory) }
 {
-    match later_in(rows) {
-        Ok(later) => Ok(later),
-        Err(fault) => Err(fault.as_error()),
-    }
+    or_error(later_in(rows))
 }
 
 /// Whether the table `spool` names a later version than this program's. Asked before all else, since the other tables of a later
