@@ -1,5 +1,5 @@
--- What is put together from the rows of a state's systems is these systems.
-use Rattle.std.proofs.Common.{◌≡◌, ℕ, ◌+◌, ◌<◌, ◌==◌, Bool, true, false, cond, List, [], ◌∷◌, ◌++◌, map, filter, take, drop, length, flat_map, refl, sym, ap, subst, ◌∙◌, arith, map-id}
+-- What is put together from the rows of systems is these systems.
+use Rattle.std.proofs.Common.{◌≡◌, ℕ, zero, suc, ◌+◌, ◌<◌, ◌==◌, Bool, true, false, cond, Option, Some, None, List, [], ◌∷◌, ◌++◌, map, filter, take, drop, length, flat_map, refl, sym, ap, subst, ◌∙◌, arith, map-id}
 use Rattle.std.specs.Prelude.{◌&&◌}
 use Rattle.std.specs.List.{AllByRecursion, prefix_len}
 use Rattle.std.specs.Cmp.Lexicographic.{bytes_decides}
@@ -12,14 +12,18 @@ use Rattle.std.specs.Ordering.{ordering_reverse}
 use Rattle.sqlite.specs.Tree.{IsAscending}
 use Rattle.sqlite_keyed.proofs.ListLemmas.{map-map}
 use Rattle.uu_times.specs.declared.system.Line.{Line}
+use Rattle.uu_times.specs.System.{AreWithinLimits}
 use Rattle.uu_core.specs.declared.system.SystemRow.{SystemRow}
+use Rattle.uu_core.specs.declared.system.CallState.{CallState}
 use Rattle.uu_core.specs.declared.system.Outcome.{Outcome}
 use Rattle.uu_core.specs.declared.system.Outcome.TheVariants.{Never, Failed, Done}
-use Rattle.uu_core.specs.State.{ComesBefore, same_text, is_system}
+use Rattle.uu_core.specs.State.{ComesBefore, IsLine, IsDefinition, same_text, is_system}
+use Rattle.uu_tables.specs.declared.rows.SystemColumns.{SystemColumns}
 use Rattle.uu_tables.specs.declared.rows.LineColumns.{LineColumns}
 use Rattle.uu_tables.specs.declared.rows.RangeColumns.{RangeColumns}
-use Rattle.uu_tables.specs.Tables.{PlacedLine, system_columns, placed, placed_from, line_columns, range_columns, ranges_of, outcome_number, reason_of}
-use Rattle.uu_questions.specs.Assembly.{is_line_of, is_range_of, is_range_of_line, own, others, range_of, lines_from, outcome_from, systems_from}
+use Rattle.uu_tables.specs.Tables.{PlacedLine, system_columns, call_columns, placed, placed_from, line_columns, range_columns, ranges_of, outcome_number, reason_of}
+use Rattle.uu_questions.specs.Assembly.{is_line_of, is_range_of, is_range_of_line, own, others, range_of, lines_from, lines_in, lines_of_each, HaveWindows, MakeSystems}
+use Rattle.uu_questions.proofs.InOrder.{by_recursion}
 
 -- ---- texts
 
@@ -117,10 +121,36 @@ lines_back name place (line ∷ lines) =
 
 -- ---- systems
 
+abbrev outcome_from : ℕ → Option (List ℕ) → Outcome
+outcome_from number (Some why) = Failed why
+outcome_from zero None = Never
+outcome_from (suc number) None = Done
+
 outcome_back : (o : Outcome) → outcome_from (outcome_number o) (reason_of o) ≡ o
 outcome_back Never = refl
 outcome_back (Failed why) = refl
 outcome_back Done = refl
+
+same_call : (x y : CallState) → call_columns x ≡ call_columns y → x ≡ y
+same_call x y h =
+    let outcome : x.outcome ≡ y.outcome = sym (outcome_back x.outcome) ∙ (λ i. outcome_from (h i).outcome (h i).why) ∙ outcome_back y.outcome in
+    λ i. record { last = (h i).last; failures = (h i).failures; wait = (h i).wait; outcome = outcome i }
+
+abbrev first_or : {X : Type 0} → X → List X → X
+first_or d [] = d
+first_or d (x ∷ xs) = x
+
+-- systems with the same columns and the same lines are the same
+pub same_rows : (xs ys : List SystemRow) → map system_columns xs ≡ map system_columns ys → map lines_in xs ≡ map lines_in ys → xs ≡ ys
+same_rows [] [] columns lines = refl
+same_rows [] (y ∷ ys) columns lines = absurd (let long = ap length columns in omega (arith, long))
+same_rows (x ∷ xs) [] columns lines = absurd (let long = ap length columns in omega (arith, long))
+same_rows (x ∷ xs) (y ∷ ys) columns lines =
+    let row : system_columns x ≡ system_columns y = ap (first_or (system_columns x)) columns in
+    let own : x.def.lines ≡ y.def.lines = ap (first_or x.def.lines) lines in
+    let call : x.call ≡ y.call = same_call x.call y.call (ap (λ (s : SystemColumns). s.call) row) in
+    let rest : xs ≡ ys = same_rows xs ys (ap (drop 1) columns) (ap (drop 1) lines) in
+    λ i. record { def = record { name = (row i).name; lines = own i; max_retries = (row i).max_retries }; call = call i } ∷ rest i
 
 -- each line, and each of its ranges, is of the system whose it is
 lines_pass : (p : LineColumns → Bool) (t : Bool) (name : List ℕ) (place : ℕ) (lines : List Line) → ((l : LineColumns) → l.system ≡ name → p l ≡ t) → AllByRecursion (λ l. p l ≡ t) (map line_columns (placed_from name place lines))
@@ -156,24 +186,58 @@ other_ranges row (r ∷ rows) h =
     subst (AllByRecursion (λ l. is_range_of (system_columns row) l ≡ false)) (sym (ranges_split r rows))
     (all_append _ (flat_map ranges_of (placed r)) (ranges_table rows) (all_ranges_pass (is_range_of (system_columns row)) false r.def.name 0 r.def.lines (λ l e. ap (λ n. same_text n row.def.name) e ∙ later_other row.def.name r.def.name h.0)) (other_ranges row rows h.1))
 
-pub assembled : (rows : List SystemRow) → IsAscending (λ (a b : SystemRow). ComesBefore a.def.name b.def.name) rows → systems_from (map system_columns rows) (lines_table rows) (ranges_table rows) ≡ rows
+abbrev Rises : List SystemRow → Type 0
+Rises rows = IsAscending (λ (a b : SystemRow). ComesBefore a.def.name b.def.name) rows
+
+-- the rows of the first system, and those behind them
+module _ (row : SystemRow) (rows : List SystemRow) (up : AllByRecursion (λ (r : SystemRow). ComesBefore row.def.name r.def.name) rows) where
+  own_lines : own is_line_of (system_columns row) (lines_table (row ∷ rows)) ≡ map line_columns (placed row)
+  own_lines =
+      ap (own is_line_of (system_columns row)) (lines_split row rows)
+      ∙ own_is is_line_of (system_columns row) (map line_columns (placed row)) (lines_table rows) (lines_pass (is_line_of (system_columns row)) true row.def.name 0 row.def.lines (λ l e. ap (λ n. same_text n row.def.name) e ∙ text_to row.def.name)) (other_lines row rows up)
+
+  own_ranges : own is_range_of (system_columns row) (ranges_table (row ∷ rows)) ≡ flat_map ranges_of (placed row)
+  own_ranges =
+      ap (own is_range_of (system_columns row)) (ranges_split row rows)
+      ∙ own_is is_range_of (system_columns row) (flat_map ranges_of (placed row)) (ranges_table rows) (all_ranges_pass (is_range_of (system_columns row)) true row.def.name 0 row.def.lines (λ r e. ap (λ n. same_text n row.def.name) e ∙ text_to row.def.name)) (other_ranges row rows up)
+
+  first_lines : lines_from (own is_line_of (system_columns row) (lines_table (row ∷ rows))) (own is_range_of (system_columns row) (ranges_table (row ∷ rows))) ≡ row.def.lines
+  first_lines = (λ i. lines_from (own_lines i) (own_ranges i)) ∙ lines_back row.def.name 0 row.def.lines
+
+  lines_behind : others is_line_of (system_columns row) (lines_table (row ∷ rows)) ≡ lines_table rows
+  lines_behind =
+      ap (others is_line_of (system_columns row)) (lines_split row rows)
+      ∙ others_are is_line_of (system_columns row) (map line_columns (placed row)) (lines_table rows) (lines_pass (is_line_of (system_columns row)) true row.def.name 0 row.def.lines (λ l e. ap (λ n. same_text n row.def.name) e ∙ text_to row.def.name)) (other_lines row rows up)
+
+  ranges_behind : others is_range_of (system_columns row) (ranges_table (row ∷ rows)) ≡ ranges_table rows
+  ranges_behind =
+      ap (others is_range_of (system_columns row)) (ranges_split row rows)
+      ∙ others_are is_range_of (system_columns row) (flat_map ranges_of (placed row)) (ranges_table rows) (all_ranges_pass (is_range_of (system_columns row)) true row.def.name 0 row.def.lines (λ r e. ap (λ n. same_text n row.def.name) e ∙ text_to row.def.name)) (other_ranges row rows up)
+
+pub assembled : (rows : List SystemRow) → Rises rows → lines_of_each (map system_columns rows) (lines_table rows) (ranges_table rows) ≡ map lines_in rows
 assembled [] up = refl
 assembled (row ∷ rows) up =
-    let s = system_columns row in
-    let name = row.def.name in
-    let ls = map line_columns (placed row) in
-    let rs = flat_map ranges_of (placed row) in
-    let mine = lines_pass (is_line_of s) true name 0 row.def.lines (λ l e. ap (λ n. same_text n name) e ∙ text_to name) in
-    let my_ranges = all_ranges_pass (is_range_of s) true name 0 row.def.lines (λ r e. ap (λ n. same_text n name) e ∙ text_to name) in
-    let none = other_lines row rows up.0 in
-    let no_range = other_ranges row rows up.0 in
-    let lines : lines_from (own is_line_of s (lines_table (row ∷ rows))) (own is_range_of s (ranges_table (row ∷ rows))) ≡ row.def.lines =
-    (λ i. lines_from ((ap (own is_line_of s) (lines_split row rows) ∙ own_is is_line_of s ls (lines_table rows) mine none) i) ((ap (own is_range_of s) (ranges_split row rows) ∙ own_is is_range_of s rs (ranges_table rows) my_ranges no_range) i))
-    ∙ lines_back name 0 row.def.lines in
-    let rest : systems_from (map system_columns rows) (others is_line_of s (lines_table (row ∷ rows))) (others is_range_of s (ranges_table (row ∷ rows))) ≡ rows =
-    (λ i. systems_from (map system_columns rows) ((ap (others is_line_of s) (lines_split row rows) ∙ others_are is_line_of s ls (lines_table rows) mine none) i) ((ap (others is_range_of s) (ranges_split row rows) ∙ others_are is_range_of s rs (ranges_table rows) my_ranges no_range) i))
-    ∙ assembled rows up.1 in
-    λ i. record { def = record row.def { lines = lines i }; call = record row.call { outcome = outcome_back row.call.outcome i } } ∷ rest i
+    let rest = (λ i. lines_of_each (map system_columns rows) (lines_behind row rows up.0 i) (ranges_behind row rows up.0 i)) ∙ assembled rows up.1 in
+    λ i. first_lines row rows up.0 i ∷ rest i
+
+have_windows : (lines : List Line) → AllByRecursion IsLine lines → HaveWindows lines
+have_windows [] each = tt
+have_windows (line ∷ lines) each = (each.0.1, have_windows lines each.1)
+
+-- the rows of systems make them
+pub rows_make : (rows : List SystemRow) → AllByRecursion (λ (row : SystemRow). IsDefinition row.def) rows → Rises rows → MakeSystems (map system_columns rows) (lines_table rows) (ranges_table rows)
+rows_make [] good up = tt
+rows_make (row ∷ rows) good up =
+    let lines = sym (first_lines row rows up.0) in (
+      record {
+        windows = subst HaveWindows lines (have_windows row.def.lines (by_recursion IsLine row.def.lines good.0.lines));
+        limits = subst (λ l. AreWithinLimits l row.def.max_retries) lines good.0.limits;
+        outcome = row.call.outcome;
+        call = record { number = refl; why = refl };
+      },
+      subst (λ l. MakeSystems (map system_columns rows) l (others is_range_of (system_columns row) (ranges_table (row ∷ rows)))) (sym (lines_behind row rows up.0))
+          (subst (λ r. MakeSystems (map system_columns rows) (lines_table rows) r) (sym (ranges_behind row rows up.0)) (rows_make rows good.1 up.1)),
+    )
 
 -- ---- one system
 

@@ -5,6 +5,7 @@ pub mod OfState
 pub mod Known
 pub mod FoundJobs
 pub mod Assembled
+pub mod OfSystems
 pub mod Rising
 pub mod SystemRows
 pub mod Refusals

@@ -7,7 +7,7 @@ use Rattle.sqlite.specs.State as db
 use Rattle.sqlite_sql.specs.declared.ops.CompareOp.TheVariants.{Eq}
 use Rattle.std.proofs.lemmas.Map.Text.{is_eq-slice_cmp}
 use Rattle.sqlite_typed.proofs.TestLemmas.{at_texts, last_term}
-use Rattle.sqlite_keyed.proofs.ListLemmas.{filter-map, map_back, ascending-map, ascending-filter, slice_get-filter}
+use Rattle.sqlite_keyed.proofs.ListLemmas.{filter-map, map_back, ascending-map, slice_get-filter}
 use Rattle.uu_sql.specs.Layout.{where_is}
 use Rattle.uu_core.specs.declared.system.SystemRow.{SystemRow}
 use Rattle.uu_core.specs.State.{State, IsWellFormed, is_system, same_text, system_at}
@@ -17,7 +17,7 @@ use Rattle.uu_tables.specs.declared.rows.RangeColumns.{RangeColumns}
 use Rattle.uu_tables.specs.Tables.{tables_of, system_columns}
 use Rattle.uu_schema.specs.Cells.{system_cells, line_cells, range_cells}
 use Rattle.uu_questions.specs.Answers.{IsOf}
-use Rattle.uu_questions.specs.Assembly.{systems_from}
+use Rattle.uu_questions.specs.Assembly.{AreRowsOfSystems}
 use Rattle.uu_rows.specs.Order.{system_cmp}
 use Rattle.uu_questions.specs.Texts.{system_text, lines_of_text, ranges_of_text}
 use Rattle.uu_rows.specs.Texts.{systems_text, lines_text, ranges_text}
@@ -26,7 +26,8 @@ use Rattle.uu_rows.proofs.Meanings.{systems_means, lines_means, ranges_means}
 use Rattle.uu_rows.proofs.Back.{system_back, system_returns, line_back, line_returns, range_back, range_returns}
 use Rattle.uu_questions.proofs.Rising.{names_rise, lines_rise, ranges_rise}
 use Rattle.uu_rows.proofs.InTables.{systems_are, lines_are, ranges_are, all_pass}
-use Rattle.uu_questions.proofs.Assembled.{assembled, lines_filtered, ranges_filtered}
+use Rattle.uu_questions.proofs.Assembled.{lines_filtered, ranges_filtered}
+use Rattle.uu_questions.proofs.OfSystems.{state_alone, name_alone, one_list}
 
 pub same_cells : {X : Type 0} (cells : X → Row) (back : Row → X) → ((x : X) → back (cells x) ≡ x) → (xs ys : List X) → map cells xs ≡ map cells ys → xs ≡ ys
 same_cells cells back returns xs ys same = sym (map_back cells back returns xs) ∙ ap (map back) same ∙ map_back cells back returns ys
@@ -73,12 +74,14 @@ module _ (old new : db.State) (s : State) (rows : List Row) (of : IsOf s old) wh
 -- ---- put together
 
 pub all_together : (s : State) (systems : List SystemColumns) (lines : List LineColumns) (ranges : List RangeColumns) → IsWellFormed s → systems ≡ map system_columns s.systems → lines ≡ (tables_of s).lines → ranges ≡ (tables_of s).ranges
-    → systems_from systems lines ranges ≡ s.systems
-all_together s systems lines ranges good a b c = (λ i. systems_from (a i) (b i) (c i)) ∙ assembled s.systems (names_rise s good)
+    → (made : List SystemRow) → AreRowsOfSystems made systems lines ranges → made ≡ s.systems
+all_together s systems lines ranges good a b c made h =
+    one_list systems lines ranges s.systems made (record { good = state_alone s good; systems_are = sym a; lines_are = sym b; ranges_are = sym c }) h
 
 pub one_together : (s : State) (name : List ℕ) (systems : List SystemColumns) (lines : List LineColumns) (ranges : List RangeColumns) → IsWellFormed s → systems ≡ map system_columns (filter (is_system name) s.systems)
-    → lines ≡ filter (λ (l : LineColumns). same_text l.system name) (tables_of s).lines → ranges ≡ filter (λ (r : RangeColumns). same_text r.system name) (tables_of s).ranges → (made : List SystemRow) → made ≡ systems_from systems lines ranges → (o : Option SystemRow) → o ≡ slice_get made 0 → o ≡ system_at s name
-one_together s name systems lines ranges good a b c made is o first =
+    → lines ≡ filter (λ (l : LineColumns). same_text l.system name) (tables_of s).lines → ranges ≡ filter (λ (r : RangeColumns). same_text r.system name) (tables_of s).ranges → (made : List SystemRow) → AreRowsOfSystems made systems lines ranges → (o : Option SystemRow) → o ≡ slice_get made 0 → o ≡ system_at s name
+one_together s name systems lines ranges good a b c made h o first =
     let rows = filter (is_system name) s.systems in
-    let whole : systems_from systems lines ranges ≡ rows = (λ i. systems_from (a i) ((b ∙ lines_filtered name s.systems) i) ((c ∙ ranges_filtered name s.systems) i)) ∙ assembled rows (ascending-filter _ (is_system name) s.systems (names_rise s good)) in
-    first ∙ ap (λ l. slice_get l 0) (is ∙ whole) ∙ slice_get-filter (is_system name) s.systems
+    let theirs : AreRowsOfSystems rows systems lines ranges =
+    record { good = name_alone s name good; systems_are = sym a; lines_are = sym (b ∙ lines_filtered name s.systems); ranges_are = sym (c ∙ ranges_filtered name s.systems) } in
+    first ∙ ap (λ l. slice_get l 0) (one_list systems lines ranges rows made theirs h) ∙ slice_get-filter (is_system name) s.systems

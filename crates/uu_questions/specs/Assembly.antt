@@ -1,19 +1,35 @@
 -- Systems put together from the rows of three tables, each in the order of its key.
-use Rattle.std.specs.Prelude.{◌≡◌, ⊤, ℕ, zero, suc, Bool, ◌==◌, ◌&&◌, List, [], ◌∷◌, map, take, drop, Option, None, Some}
-use Rattle.std.specs.List.{prefix_len, AllByRecursion}
+use Rattle.std.specs.Prelude.{◌≡◌, ⊤, ℕ, Bool, ◌==◌, ◌&&◌, List, [], ◌∷◌, map, take, drop}
+use Rattle.std.specs.List.{prefix_len, flat_map, AllByRecursion}
 use Rattle.uu_times.specs.declared.system.Line.{Line}
 use Rattle.uu_times.specs.Ranges.{AreRuns}
 use Rattle.uu_times.specs.System.{AreWithinLimits}
 use Rattle.uu_core.specs.declared.system.Outcome.{Outcome}
-use Rattle.uu_core.specs.declared.system.Outcome.TheVariants.{Never, Failed, Done}
-use Rattle.uu_core.specs.declared.system.CallState.{CallState}
 use Rattle.uu_core.specs.declared.system.SystemRow.{SystemRow}
-use Rattle.uu_core.specs.State.{same_text}
-use Rattle.uu_tables.specs.Tables.{call_columns}
+use Rattle.uu_core.specs.State.{State, IsWellFormed, same_text}
+use Rattle.uu_tables.specs.Tables.{outcome_number, reason_of, system_columns, line_columns, placed, ranges_of}
 use Rattle.uu_tables.specs.declared.rows.CallColumns.{CallColumns}
 use Rattle.uu_tables.specs.declared.rows.SystemColumns.{SystemColumns}
 use Rattle.uu_tables.specs.declared.rows.LineColumns.{LineColumns}
 use Rattle.uu_tables.specs.declared.rows.RangeColumns.{RangeColumns}
+
+-- ---- rows of systems
+
+-- a spool that holds these systems and nothing else
+abbrev pub holding : List SystemRow → State
+holding systems = record { jobs = []; systems = systems; entries = []; next = 1 }
+
+-- The rows are those of these systems, all of them, and a spool may hold these.
+pub record AreRowsOfSystems (made : List SystemRow) (systems : List SystemColumns) (lines : List LineColumns) (ranges : List RangeColumns) : Type 0 where
+  pub good : IsWellFormed (holding made)
+  pub systems_are : map system_columns made ≡ systems
+  pub lines_are : map line_columns (flat_map placed made) ≡ lines
+  pub ranges_are : flat_map ranges_of (flat_map placed made) ≡ ranges
+
+-- the columns have the number of the outcome, and its reason where it has one
+pub record HasOutcome (call : CallColumns) (outcome : Outcome) : Type 0 where
+  pub number : outcome_number outcome ≡ call.outcome
+  pub why : reason_of outcome ≡ call.why
 
 -- ---- which rows belong to which
 
@@ -45,21 +61,14 @@ abbrev pub lines_from : List LineColumns → List RangeColumns → List Line
 lines_from [] ranges = []
 lines_from (line ∷ lines) ranges = line_from line (own is_range_of_line line ranges) ∷ lines_from lines (others is_range_of_line line ranges)
 
-abbrev pub outcome_from : ℕ → Option (List ℕ) → Outcome
-outcome_from (suc zero) (Some why) = Failed why
-outcome_from (suc (suc zero)) None = Done
-outcome_from number why = Never
+abbrev pub lines_in : SystemRow → List Line
+lines_in row = row.def.lines
 
-abbrev pub call_from : CallColumns → CallState
-call_from c = record { last = c.last; failures = c.failures; wait = c.wait; outcome = outcome_from c.outcome c.why }
-
-abbrev pub system_from : SystemColumns → List LineColumns → List RangeColumns → SystemRow
-system_from s lines ranges = record { def = record { name = s.name; lines = lines_from lines ranges; max_retries = s.max_retries }; call = call_from s.call }
-
-abbrev pub systems_from : List SystemColumns → List LineColumns → List RangeColumns → List SystemRow
-systems_from [] lines ranges = []
-systems_from (s ∷ systems) lines ranges =
-    system_from s (own is_line_of s lines) (own is_range_of s ranges) ∷ systems_from systems (others is_line_of s lines) (others is_range_of s ranges)
+-- the lines of each system, one system after the other
+abbrev pub lines_of_each : List SystemColumns → List LineColumns → List RangeColumns → List (List Line)
+lines_of_each [] lines ranges = []
+lines_of_each (s ∷ systems) lines ranges =
+    lines_from (own is_line_of s lines) (own is_range_of s ranges) ∷ lines_of_each systems (others is_line_of s lines) (others is_range_of s ranges)
 
 -- ---- which rows make a system
 
@@ -71,7 +80,8 @@ HaveWindows lines = AllByRecursion (λ (line : Line). AreRuns line.windows) line
 pub record MakeSystem (s : SystemColumns) (lines : List LineColumns) (ranges : List RangeColumns) : Type 0 where
   pub windows : HaveWindows (lines_from lines ranges)
   pub limits : AreWithinLimits (lines_from lines ranges) s.max_retries
-  pub call : call_columns (call_from s.call) ≡ s.call
+  pub outcome : Outcome
+  pub call : HasOutcome s.call outcome
 
 -- those of each system make it
 abbrev pub MakeSystems : List SystemColumns → List LineColumns → List RangeColumns → Type 0

@@ -1,12 +1,15 @@
 // Systems put together from the rows of three tables.
-ghost use Rattle.std.specs.Prelude.{◌≡◌, ◌≤◌, ◌<◌, ◌^◌, List, Bool, map, IfOk, length};
+ghost use Rattle.std.specs.Prelude.{◌≡◌, ◌≤◌, ◌<◌, ◌^◌, true, false, List, Bool, map, Ok, IfOk, length};
 ghost use Rattle.std.specs.List.{prefix_len};
-ghost use Rattle.uu_questions.specs.Assembly.{is_line_of, is_range_of, is_range_of_line, own, others, range_of, line_from, lines_from, call_from, system_from, systems_from, outcome_from, HaveWindows, MakeSystem, MakeSystems};
+ghost use Rattle.uu_questions.specs.Assembly.{is_line_of, is_range_of, is_range_of_line, own, others, range_of, line_from, lines_from, lines_in, lines_of_each, AreRowsOfSystems, HasOutcome, HaveWindows, MakeSystem, MakeSystems};
+ghost use Rattle.uu_core.specs.declared.system.Outcome.{Outcome};
+ghost use Rattle.uu_core.specs.declared.system.SystemRow.{SystemRow};
 ghost use Rattle.uu_rows.specs.Values.{NotIf};
 ghost use Rattle.uu_times.specs.Ranges.{AreRuns};
-ghost use Rattle.uu_tables.specs.Tables.{call_columns};
+ghost use Rattle.uu_tables.specs.Tables.{system_columns};
 
 use std::alloc::{AllocError, Global};
+use uu_check::{Rows, are_tables};
 use uu_core::{CallState, Outcome, SystemRow};
 use uu_names::{Listed, Word};
 use uu_rows::RowFault;
@@ -111,8 +114,8 @@ fn lines_of(
 }
 
 fn outcome_of(call: &CallColumns) -> Result<Outcome, RowFault>
-    ensures outcome { IfOk result (λ outcome. outcome ≡ outcome_from call.now.outcome call.now.why) }
-    ensures bad { NotIf result (call_columns (call_from call.now) ≡ call.now) }
+    ensures outcome { IfOk result (HasOutcome call.now) }
+    ensures bad { (outcome : Outcome) → NotIf result (HasOutcome call.now outcome) }
 {
     match (call.outcome, &call.why) {
         (0, None) => Ok(Outcome::Never),
@@ -128,7 +131,8 @@ fn system_of(
     lines: &[LineColumns],
     ranges: &[RangeColumns],
 ) -> Result<SystemRow, RowFault>
-    ensures system { IfOk result (λ row. row ≡ system_from system.now lines.now ranges.now) }
+    ensures columns { IfOk result (λ row. system_columns row ≡ system.now) }
+    ensures lines { IfOk result (λ row. lines_in row ≡ lines_from lines.now ranges.now) }
     ensures bad { NotIf result (MakeSystem system.now lines.now ranges.now) }
 {
     let lines = lines_of(alloc, lines, ranges)?;
@@ -144,14 +148,15 @@ fn system_of(
     })
 }
 
-/// The systems whose rows, with those of their lines and of the ranges of these, are given, each list in the order of its key.
-pub(crate) fn systems_of(
+// The systems whose rows, with those of their lines and of the ranges of these, stand at the front one after the other.
+fn put_in_turn(
     alloc: Global,
     systems: &[SystemColumns],
     lines: &[LineColumns],
     ranges: &[RangeColumns],
 ) -> Result<Vec<SystemRow>, RowFault>
-    ensures systems { IfOk result (λ made. made.items ≡ systems_from systems.now lines.now ranges.now) }
+    ensures columns { IfOk result (λ made. map system_columns made.items ≡ systems.now) }
+    ensures lines { IfOk result (λ made. map lines_in made.items ≡ lines_of_each systems.now lines.now ranges.now) }
     ensures bad { NotIf result (MakeSystems systems.now lines.now ranges.now) }
 {
     let mut made = Vec::new(alloc);
@@ -165,4 +170,44 @@ pub(crate) fn systems_of(
         ranges = other_ranges;
     }
     Ok(made)
+}
+
+// Whether the rows are those of systems that a spool may hold: none is left over, and each line stands at its place.
+fn are_of_systems(
+    alloc: Global,
+    systems: &[SystemColumns],
+    lines: &[LineColumns],
+    ranges: &[RangeColumns],
+) -> Result<bool, AllocError>
+    ensures yes { result ≡ Ok true → (made : List SystemRow) × AreRowsOfSystems made systems.now lines.now ranges.now }
+    ensures no { result ≡ Ok false → (made : List SystemRow) → ¬ AreRowsOfSystems made systems.now lines.now ranges.now }
+{
+    are_tables(
+        alloc,
+        &Rows {
+            next: 1,
+            systems,
+            lines,
+            ranges,
+            jobs: &[],
+            pieces: &[],
+            entries: &[],
+        },
+    )
+}
+
+/// The systems whose rows, with those of their lines and of the ranges of these, are given, each list in the order of its key.
+pub(crate) fn systems_of(
+    alloc: Global,
+    systems: &[SystemColumns],
+    lines: &[LineColumns],
+    ranges: &[RangeColumns],
+) -> Result<Vec<SystemRow>, RowFault>
+    ensures systems { IfOk result (λ made. AreRowsOfSystems made.items systems.now lines.now ranges.now) }
+    ensures bad { (made : List SystemRow) → NotIf result (AreRowsOfSystems made systems.now lines.now ranges.now) }
+{
+    if !are_of_systems(alloc, systems, lines, ranges)? {
+        return Err(RowFault::Bad);
+    }
+    put_in_turn(alloc, systems, lines, ranges)
 }

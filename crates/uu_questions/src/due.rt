@@ -26,7 +26,7 @@ use std::collections::BTreeMap;
 use uu_core::Due;
 use uu_core::laws::{walks_go_job_by_job, walks_list_what_is_due};
 use uu_names::{Grade, SiteName};
-use uu_rows::{RowFault, grade_in, name_in, number_in};
+use uu_rows::{RowFault, grade_in, name_in, number_in, or_error};
 use uu_times::Moment;
 
 fn read_due(alloc: Global, row: &Row) -> Result<Due, RowFault>
@@ -46,10 +46,7 @@ fn due_in(alloc: Global, row: &Row) -> Result<Due, Error>
     ensures memory { (due : Due) → IsTrue (is_site_name due.system) → due.grade < grade_count → IsSmall due.number → row.now ≡ due_cells due → IfErr result (λ error. error ≡ SqliteFailure OutOfMemory) }
     ensures bad { IfErr result (λ error. error ≢ SqliteFailure OutOfMemory → error ≡ QueryReturnedNoRows) }
 {
-    match read_due(alloc, row) {
-        Ok(due) => Ok(due),
-        Err(fault) => Err(fault.as_error()),
-    }
+    or_error(read_due(alloc, row))
 }
 
 fn is_free(left: &BTreeMap<SiteName, Grade>, due: &Due) -> bool

@@ -1,5 +1,6 @@
 // Jobs without their bytes, and one job with them.
-ghost use Rattle.std.specs.Prelude.{◌≡◌, ◌==◌, ◌++◌, true, false, ℕ, List, filter, flat_map, option_map};
+ghost use Rattle.std.specs.Prelude.{◌≡◌, ◌≢◌, ◌↔◌, ◌==◌, ◌++◌, false, ℕ, List, length, Some, IsTrue, IfOk, IfErr, IfSome, filter, flat_map, option_map};
+ghost use Rattle.sqlite.specs.declared.error.Error.TheVariants.{QueryReturnedNoRows};
 ghost use Rattle.sqlite.specs.Held.{state};
 ghost use Rattle.sqlite.specs.Order.{Row, column};
 ghost use Rattle.sqlite.specs.declared.types.Value.TheVariants.{Blob};
@@ -20,7 +21,7 @@ use uu_rows::read_rows;
 
 // Whether neither the system nor the user matters.
 fn wants_all(filter: &Filter) -> bool
-    ensures { result ≡ true → WantsAll filter.now }
+    ensures { IsTrue result ↔ WantsAll filter.now }
 {
     filter.system_text().is_none() && filter.user_text().is_none()
 }
@@ -104,7 +105,21 @@ fn bytes_of_job<S: Alter>(
     Ok(joined.bytes)
 }
 
-/// The job of this number with its bytes, if it is there. Beside the job itself one piece at a time is held.
+// The job, if it has as many bytes as its row says.
+fn whole_job(head: JobHead, bytes: Vec<u8>) -> Result<Option<(JobHead, Vec<u8>)>, Error>
+    ensures job { IfOk result (λ found. found ≡ Some (head, bytes)) }
+    ensures size { IfOk result (λ _. head.size ≡ length bytes.items) }
+    ensures refused { IfErr result (λ error. (error ≡ QueryReturnedNoRows) × (head.size ≢ length bytes.items)) }
+{
+    if head.size as usize == bytes.len() {
+        Ok(Some((head, bytes)))
+    } else {
+        Err(Error::QueryReturnedNoRows)
+    }
+}
+
+/// The job of this number with its bytes, if it is there. Beside the job itself one piece at a time is held. A job that has another
+/// number of bytes than its row says is an error, off a clean store too.
 pub fn job_of_number<S: Alter>(
     alloc: Global,
     conn: &mut Connection<S>,
@@ -112,10 +127,11 @@ pub fn job_of_number<S: Alter>(
 ) -> Result<Option<(JobHead, Vec<u8>)>, Error>
     ensures idle { conn.old.in_transaction ≡ false → conn.new.in_transaction ≡ false }
     ensures answers { Answers (λ s found. option_map handed_out found ≡ option_map whole (job_at s number)) (state S.Store conn.old) (state S.Store conn.new) result }
+    ensures size { IfOk result (λ found. IfSome found (λ job. job.0.size ≡ length job.1.items)) }
 {
     let Some(head) = head_of_job(alloc, conn, number)? else {
         return Ok(None);
     };
     let bytes = bytes_of_job(alloc, conn, number)?;
-    Ok(Some((head, bytes)))
+    whole_job(head, bytes)
 }

@@ -4,7 +4,8 @@ ghost use Rattle.sqlite.specs.Held.{state};
 ghost use Rattle.uu_core.specs.State.{system_at, is_system, same_text};
 ghost use Rattle.uu_tables.specs.Tables.{tables_of, system_columns};
 ghost use Rattle.uu_questions.specs.Answers.{Answers};
-ghost use Rattle.uu_questions.specs.Assembly.{systems_from, MakeSystems};
+ghost use Rattle.uu_questions.specs.Assembly.{AreRowsOfSystems};
+ghost use Rattle.uu_core.specs.declared.system.SystemRow.{SystemRow};
 ghost use Rattle.sqlite.specs.declared.error.Error.TheVariants.{SqliteFailure, QueryReturnedNoRows};
 ghost use Rattle.sqlite.specs.declared.error.ErrorCode.TheVariants.{OutOfMemory};
 
@@ -14,7 +15,7 @@ use sqlite::{Alter, Connection, Error};
 use std::alloc::Global;
 use uu_core::SystemRow;
 use uu_names::SiteName;
-use uu_rows::{ask_lines, ask_ranges, ask_systems, read_rows};
+use uu_rows::{ask_lines, ask_ranges, ask_systems, or_error, read_rows};
 use uu_tables::{LineColumns, RangeColumns, SystemColumns};
 
 // The row of the system of this name, if it is there.
@@ -123,13 +124,15 @@ fn put_together(
     systems: &[SystemColumns],
     rows: &LineRows,
 ) -> Result<Vec<SystemRow>, Error>
-    ensures systems { IfOk result (λ made. made.items ≡ systems_from systems.now rows.now.lines.items rows.now.ranges.items) }
+    ensures systems { IfOk result (λ made. AreRowsOfSystems made.items systems.now rows.now.lines.items rows.now.ranges.items) }
 
-    // Of rows that make systems, want of memory is the only error.
-    ensures memory { MakeSystems systems.now rows.now.lines.items rows.now.ranges.items → IfErr result (λ error. error ≡ SqliteFailure OutOfMemory) }
+    // Of rows of systems that a spool may hold, want of memory is the only error.
+    ensures memory { (made : List SystemRow) → AreRowsOfSystems made systems.now rows.now.lines.items rows.now.ranges.items → IfErr result (λ error. error ≡ SqliteFailure OutOfMemory) }
+
+    // Of any rows, any other error is that of rows that the format does not allow.
     ensures bad { IfErr result (λ error. error ≢ SqliteFailure OutOfMemory → error ≡ QueryReturnedNoRows) }
 {
-    systems_of(alloc, systems, &rows.lines, &rows.ranges).map_err(|fault| fault.as_error())
+    or_error(systems_of(alloc, systems, &rows.lines, &rows.ranges))
 }
 
 // The first of some systems.

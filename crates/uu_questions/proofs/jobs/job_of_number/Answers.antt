@@ -1,6 +1,9 @@
-use Rattle.std.proofs.Common.{Ok, Some, None, sym, ◌∙◌}
+use Rattle.std.proofs.Common.{◌≡◌, Ok, Some, None, IfSome, length, option_map, sym, subst, ◌∙◌}
+use Rattle.std.proofs.lemmas.Result.{IfOk-weaker}
 use Rattle.sqlite.specs.Held.{state}
-use Rattle.uu_questions.proofs.Answering.{then_answers, answers_as, answer_in, none_ok, none_known}
+use Rattle.uu_core.specs.State.{job_at}
+use Rattle.uu_questions.specs.Listing.{handed_out, whole}
+use Rattle.uu_questions.proofs.Answering.{then_answers, answers_as, answer_in, both_ok, none_ok, none_known}
 use Rattle.uu_rows.proofs.Showing.{answered}
 use Rattle.uu_questions.proofs.JobBytes.{handed, not_there}
 use Rattle.uu_questions.proofs.jobs.job_of_number.Goals as goal
@@ -10,8 +13,15 @@ returns-clause-answers g c =
     let a = state g.S.Store c.args.conn.now in
     let b = state g.S.Store c.head_of_job.new.conn in
     let d = state g.S.Store c.bytes_of_job.new.conn in
-    then_answers _ a b c.head_of_job.result c.head_of_job.ensures.answers (answered _ _ c.in_ok-head.was) _ d c.bytes_of_job.result c.bytes_of_job.ensures.answers _ (Ok (Some (c.in-Some.head, c.in_ok-bytes.bytes))) (λ ok. answered _ _ c.in_ok-bytes.was)
-    (λ s good h k. handed s c.args.number c.in-Some.head c.in_ok-bytes.bytes good (sym c.in-Some.is ∙ answer_in _ c.head_of_job.result _ c.in_ok-head.was h) (answer_in _ c.bytes_of_job.result _ c.in_ok-bytes.was k))
+    then_answers _ a b c.head_of_job.result c.head_of_job.ensures.answers (answered _ _ c.in_ok-head.was) _ d c.bytes_of_job.result c.bytes_of_job.ensures.answers _ c.whole_job.result (λ ok. answered _ _ c.in_ok-bytes.was)
+    (λ s good h k. IfOk-weaker c.whole_job.result _ _
+    (λ found is. subst (λ o. option_map handed_out o ≡ option_map whole (job_at s c.args.number)) (sym is)
+    (handed s c.args.number c.in-Some.head c.in_ok-bytes.bytes good (sym c.in-Some.is ∙ answer_in _ c.head_of_job.result _ c.in_ok-head.was h) (answer_in _ c.bytes_of_job.result _ c.in_ok-bytes.was k)))
+    c.whole_job.ensures.job)
+
+pub returns-clause-size : goal.returns-clause-size
+returns-clause-size g c =
+    both_ok c.whole_job.result _ _ _ (λ found is size. subst (λ o. IfSome o (λ job. job.0.size ≡ length job.1.items)) (sym is) size) c.whole_job.ensures.job c.whole_job.ensures.size
 
 pub returns-in_default-clause-answers : goal.returns-in_default-clause-answers
 returns-in_default-clause-answers g c =

@@ -1,0 +1,105 @@
+-- Rows that are those of systems, and of no others.
+use Rattle.std.proofs.Common.{◌≡◌, ℕ, ◌<◌, List, [], map, filter, flat_map, All, AllPairs, Bool, true, false, true≢false, Result, Ok, refl, sym, ap, subst, ◌∙◌, arith}
+use Rattle.std.specs.Prelude.{◌↔◌, IfOk}
+use Rattle.std.specs.declared.alloc.AllocError.{AllocError}
+use Rattle.std.proofs.lemmas.List.Elements.{All-nil, All-filter}
+use Rattle.std.proofs.lemmas.List.Kept.{AllPairs-filter}
+use Rattle.uu_core.specs.declared.system.SystemRow.{SystemRow}
+use Rattle.uu_core.specs.State.{State, Job, MapEntry, ComesBefore, IsCall, IsDefinition, IsWellFormed, is_system}
+use Rattle.uu_tables.specs.declared.rows.SystemColumns.{SystemColumns}
+use Rattle.uu_tables.specs.declared.rows.LineColumns.{LineColumns}
+use Rattle.uu_tables.specs.declared.rows.RangeColumns.{RangeColumns}
+use Rattle.uu_tables.specs.Tables.{Tables, system_columns, line_columns, placed, ranges_of}
+use Rattle.uu_check.specs.OfState.{AreTables}
+use Rattle.uu_questions.specs.Assembly.{holding, AreRowsOfSystems, MakeSystems, lines_in, lines_of_each}
+use Rattle.uu_questions.proofs.InOrder.{by_recursion, ascending_pairs}
+use Rattle.uu_questions.proofs.Assembled.{assembled, rows_make, same_rows}
+
+-- ---- a spool of systems alone
+
+abbrev Before : SystemRow → SystemRow → Type 0
+Before a b = ComesBefore a.def.name b.def.name
+
+no_pairs : {X : Type 0} (R : X → X → Type 0) → AllPairs R []
+no_pairs R i j d below within = absurd (omega (arith, within))
+
+-- systems that a spool may hold beside jobs and entries, it may hold without them
+pub holds_alone : (rows : List SystemRow) → All (λ (row : SystemRow). IsDefinition row.def) rows → All (λ (row : SystemRow). IsCall row.call) rows → AllPairs Before rows → IsWellFormed (holding rows)
+holds_alone rows definitions calls by_name = record {
+  some_next = omega arith;
+  next = omega arith;
+  jobs = All-nil _;
+  rising = no_pairs (λ (a b : Job). a.number < b.number);
+  below_next = All-nil _;
+  placed = All-nil _;
+  definitions = definitions;
+  calls = calls;
+  by_name = by_name;
+  hosts = All-nil _;
+  by_host = no_pairs (λ (a b : MapEntry). ComesBefore a.host b.host);
+}
+
+-- the systems of a state, and those of one name
+pub state_alone : (s : State) → IsWellFormed s → IsWellFormed (holding s.systems)
+state_alone s good = holds_alone s.systems good.definitions good.calls good.by_name
+
+pub name_alone : (s : State) (name : List ℕ) → IsWellFormed s → IsWellFormed (holding (filter (is_system name) s.systems))
+name_alone s name good =
+    holds_alone (filter (is_system name) s.systems) (All-filter (is_system name) (λ (row : SystemRow). IsDefinition row.def) s.systems good.definitions) (All-filter (is_system name) (λ (row : SystemRow). IsCall row.call) s.systems good.calls) (AllPairs-filter Before (is_system name) s.systems good.by_name)
+
+-- ---- their tables
+
+-- the tables that have these rows and no others
+abbrev pub alone : List SystemColumns → List LineColumns → List RangeColumns → Tables
+alone systems lines ranges = record { next = 1; systems = systems; lines = lines; ranges = ranges; jobs = []; pieces = []; entries = [] }
+
+module _ (systems : List SystemColumns) (lines : List LineColumns) (ranges : List RangeColumns) where
+  of_tables : AreTables (alone systems lines ranges) → (made : List SystemRow) × AreRowsOfSystems made systems lines ranges
+  of_tables h = (
+    h.state.systems,
+    record {
+      good = state_alone h.state h.good;
+      systems_are = ap (λ (t : Tables). t.systems) h.same;
+      lines_are = ap (λ (t : Tables). t.lines) h.same;
+      ranges_are = ap (λ (t : Tables). t.ranges) h.same;
+    },
+  )
+
+  to_tables : (made : List SystemRow) → AreRowsOfSystems made systems lines ranges → AreTables (alone systems lines ranges)
+  to_tables made h = record {
+    state = holding made;
+    good = h.good;
+    same = λ i. record { next = 1; systems = h.systems_are i; lines = h.lines_are i; ranges = h.ranges_are i; jobs = []; pieces = []; entries = [] };
+  }
+
+  -- a verdict on the tables is one on the systems
+  module _ (r : Result Bool AllocError) (verdict : IfOk r (λ good. (good ≡ true) ↔ AreTables (alone systems lines ranges))) where
+    pub are_theirs : r ≡ Ok true → (made : List SystemRow) × AreRowsOfSystems made systems lines ranges
+    are_theirs is = of_tables ((subst (λ q. IfOk q (λ good. (good ≡ true) ↔ AreTables (alone systems lines ranges))) is verdict).0 refl)
+
+    pub are_of_none : r ≡ Ok false → (made : List SystemRow) → AreRowsOfSystems made systems lines ranges → ⊥
+    are_of_none is made h = true≢false (sym ((subst (λ q. IfOk q (λ good. (good ≡ true) ↔ AreTables (alone systems lines ranges))) is verdict).1 (to_tables made h)))
+
+  -- ---- what is put together from them
+
+  lines_of_rows : (rows : List SystemRow) → AreRowsOfSystems rows systems lines ranges → lines_of_each systems lines ranges ≡ map lines_in rows
+  lines_of_rows rows h = (λ i. lines_of_each (sym h.systems_are i) (sym h.lines_are i) (sym h.ranges_are i)) ∙ assembled rows (ascending_pairs Before rows h.good.by_name)
+
+  -- with the columns and the lines that the rows have, these are the systems
+  pub are_these : (rows made : List SystemRow) → AreRowsOfSystems rows systems lines ranges → map system_columns made ≡ systems → map lines_in made ≡ lines_of_each systems lines ranges → made ≡ rows
+  are_these rows made h columns own = same_rows made rows (columns ∙ sym h.systems_are) (own ∙ lines_of_rows rows h)
+
+  pub put_together : (rows made : List SystemRow) → AreRowsOfSystems rows systems lines ranges → map system_columns made ≡ systems → map lines_in made ≡ lines_of_each systems lines ranges → AreRowsOfSystems made systems lines ranges
+  put_together rows made h columns own = subst (λ l. AreRowsOfSystems l systems lines ranges) (sym (are_these rows made h columns own)) h
+
+  -- rows are those of no other systems
+  pub one_list : (rows made : List SystemRow) → AreRowsOfSystems rows systems lines ranges → AreRowsOfSystems made systems lines ranges → made ≡ rows
+  one_list rows made h k = are_these rows made h k.systems_are (sym (lines_of_rows made k))
+
+  pub make_theirs : (rows : List SystemRow) → AreRowsOfSystems rows systems lines ranges → MakeSystems systems lines ranges
+  make_theirs rows h =
+      let own_lines = map line_columns (flat_map placed rows) in
+      let made = rows_make rows (by_recursion (λ (row : SystemRow). IsDefinition row.def) rows h.good.definitions) (ascending_pairs Before rows h.good.by_name) in
+      subst (λ s. MakeSystems s lines ranges) h.systems_are
+      (subst (λ l. MakeSystems (map system_columns rows) l ranges) h.lines_are
+      (subst (λ r. MakeSystems (map system_columns rows) own_lines r) h.ranges_are made))
