@@ -90,7 +90,11 @@ impl<S: Alter> Spool<S> {
         fault
     }
 
-    /// Carries out one command. Its last call of the database is the commit; a refused command makes no change.
+    /// Carries out one command. Its last call of the database is the commit; a refused command makes no change, and is a reply, no error.
+    ///
+    /// # Errors
+    /// `Memory`: nothing changed, and the spool can be used. `Store`: the command is kept whole or not at all, which the next opening shows;
+    /// from then on every call answers `Failed` and does nothing.
     pub fn command(&mut self, alloc: Global, command: Command) -> Result<Reply, StoreFault>
         ensures marked { MatchResult result (λ _. (has_failed self.old ≡ false) × (has_failed self.new ≡ false)) (Marks (has_failed self.old) (has_failed self.new)) }
 
@@ -120,6 +124,10 @@ impl<S: Alter> Spool<S> {
     }
 
     /// The heads of the jobs that fit, by grade, the highest first, and in one grade by number.
+    ///
+    /// # Errors
+    /// `Memory`: nothing changed, and the spool can be used. `Store`: the database failed, or holds a row that a spool does not allow; nothing
+    /// that is kept changed. From then on every call answers `Failed` and does nothing.
     pub fn jobs(&mut self, alloc: Global, filter: &Filter) -> Result<Vec<JobHead>, StoreFault>
         ensures marked { MatchResult result (λ _. (has_failed self.old ≡ false) × (has_failed self.new ≡ false)) (Marks (has_failed self.old) (has_failed self.new)) }
         ensures answer { HasCleanDisk (disk self.new) → (s : _) → Shows self.old s → IfOk result (λ heads. (heads.items ≡ listed filter.now s) × Shows self.new s) }
@@ -140,6 +148,9 @@ impl<S: Alter> Spool<S> {
     }
 
     /// The job of this number with all its bytes, if it is there.
+    ///
+    /// # Errors
+    /// As [`Spool::jobs`].
     pub fn job(
         &mut self,
         alloc: Global,
@@ -165,6 +176,9 @@ impl<S: Alter> Spool<S> {
     }
 
     /// All systems with their definitions and call states, in byte order of their names.
+    ///
+    /// # Errors
+    /// As [`Spool::jobs`].
     pub fn systems(&mut self, alloc: Global) -> Result<Vec<SystemRow>, StoreFault>
         ensures marked { MatchResult result (λ _. (has_failed self.old ≡ false) × (has_failed self.new ≡ false)) (Marks (has_failed self.old) (has_failed self.new)) }
         ensures answer { HasCleanDisk (disk self.new) → (s : _) → Shows self.old s → IfOk result (λ systems. (systems.items ≡ s.systems) × Shows self.new s) }
@@ -185,6 +199,9 @@ impl<S: Alter> Spool<S> {
     }
 
     /// What is due at the moment: each system that may be called then, with its first job by grade and number.
+    ///
+    /// # Errors
+    /// As [`Spool::jobs`].
     pub fn due(&mut self, alloc: Global, at: &Moment) -> Result<Vec<Due>, StoreFault>
         ensures marked { MatchResult result (λ _. (has_failed self.old ≡ false) × (has_failed self.new ≡ false)) (Marks (has_failed self.old) (has_failed self.new)) }
         ensures answer { HasCleanDisk (disk self.new) → (s : _) → Shows self.old s → IfOk result (λ dues. AreDue s.systems (map head_of s.jobs) at.now dues.items × Shows self.new s) }
@@ -204,6 +221,9 @@ impl<S: Alter> Spool<S> {
     }
 
     /// The text of the map entry of a host, if it is there.
+    ///
+    /// # Errors
+    /// As [`Spool::jobs`].
     pub fn entry(&mut self, alloc: Global, host: &SiteName) -> Result<Option<Vec<u8>>, StoreFault>
         ensures marked { MatchResult result (λ _. (has_failed self.old ≡ false) × (has_failed self.new ≡ false)) (Marks (has_failed self.old) (has_failed self.new)) }
         ensures answer { HasCleanDisk (disk self.new) → (s : _) → Shows self.old s → IfOk result (λ found. (option_map (λ text. text.items) found ≡ option_map (λ entry. entry.bytes) (entry_at s host.now)) × Shows self.new s) }
@@ -223,6 +243,9 @@ impl<S: Alter> Spool<S> {
     }
 
     /// The number that the next job gets.
+    ///
+    /// # Errors
+    /// As [`Spool::jobs`].
     pub fn next(&mut self) -> Result<u32, StoreFault>
         ensures marked { MatchResult result (λ _. (has_failed self.old ≡ false) × (has_failed self.new ≡ false)) (Marks (has_failed self.old) (has_failed self.new)) }
         ensures answer { HasCleanDisk (disk self.new) → (s : _) → Shows self.old s → IfOk result (λ next. (next ≡ s.next) × Shows self.new s) }
