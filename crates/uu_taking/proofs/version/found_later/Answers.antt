@@ -7,8 +7,8 @@ use Rattle.uu_taking.specs.Taking.{Tells}
 use Rattle.uu_taking.proofs.version.found_later.Goals as goal
 
 tells : (r : Result Bool RowFault) (Yes No : Type 0) → (r ≡ Ok true → Yes) → (r ≡ Ok false → No) → IfOk r (λ good. Tells good Yes No)
-tells (Ok good) Yes No yes no = (λ is. yes (ap Ok is), λ is. no (ap Ok is))
-tells (Err fault) Yes No yes no = tt
+tells (Ok good) Yes No if_good if_bad = (λ is. if_good (ap Ok is), λ is. if_bad (ap Ok is))
+tells (Err fault) Yes No if_good if_bad = tt
 
 never_bad : (r : Result Bool RowFault) → IfErr r (λ fault. fault ≡ Memory) → r ≡ Err Bad → ⊥
 never_bad r h is = let same : Bad ≡ Memory = subst (λ q. IfErr q (λ fault. fault ≡ Memory)) is h in cc
