@@ -30,7 +30,7 @@ fn keep(replies: &mut Vec<Reply>, reply: Reply)
 }
 
 impl<S: Alter> Spool<S> {
-    ghost use Rattle.std.specs.Prelude.{◌↔◌, false, IsTrue, IfOk, IfErr, IfSome, Some, None, MatchOption, length};
+    ghost use Rattle.std.specs.Prelude.{◌≢◌, ◌↔◌, false, IsTrue, IfOk, IfErr, IfSome, Some, None, MatchOption, length};
     ghost use Rattle.sqlite.specs.View.{IsClean};
     ghost use Rattle.uu_schema.specs.Faults.{IsFresh};
     ghost use Rattle.uu_store.specs.Spool.{has_failed, Marks};
@@ -101,6 +101,7 @@ impl<S: Alter> Spool<S> {
         // Nothing stopped it exactly where all were answered.
         ensures every { IfOk result (λ end. (end.0.stopped ≡ None) ↔ (length end.0.replies.items ≡ length commands.items)) }
         ensures fresh { IfOk result (λ end. IfSome end.0.stopped IsFresh) }
+        ensures never_failed { IfErr result (λ e. e.0 ≢ StoreFault.Failed) }
         ensures away { IfErr result (λ e. IsNotTaken S.Store conn e.1 e.0) }
         ensures not_given { IfErr result (λ e. IsClean (S.Store.view e.1) → Passed (stretch S.Store conn (not_given commands.items) e.1)) }
     {

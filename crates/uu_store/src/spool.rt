@@ -94,7 +94,7 @@ impl<S: Alter> Spool<S> {
     ///
     /// # Errors
     /// `Memory`: nothing changed, and the spool can be used. `Store`: the command is kept whole or not at all, which the next opening shows;
-    /// from then on every call answers `Failed` and does nothing.
+    /// from then on every command and question answers `Failed` and does nothing.
     pub fn command(&mut self, alloc: Global, command: Command) -> Result<Reply, StoreFault>
         ensures marked { MatchResult result (λ _. (has_failed self.old ≡ false) × (has_failed self.new ≡ false)) (Marks (has_failed self.old) (has_failed self.new)) }
 
@@ -127,7 +127,7 @@ impl<S: Alter> Spool<S> {
     ///
     /// # Errors
     /// `Memory`: nothing changed, and the spool can be used. `Store`: the database failed, or holds a row that a spool does not allow; nothing
-    /// that is kept changed. From then on every call answers `Failed` and does nothing.
+    /// that is kept changed. From then on every command and question answers `Failed` and does nothing.
     pub fn jobs(&mut self, alloc: Global, filter: &Filter) -> Result<Vec<JobHead>, StoreFault>
         ensures marked { MatchResult result (λ _. (has_failed self.old ≡ false) × (has_failed self.new ≡ false)) (Marks (has_failed self.old) (has_failed self.new)) }
         ensures answer { HasCleanDisk (disk self.new) → (s : _) → Shows self.old s → IfOk result (λ heads. (heads.items ≡ listed filter.now s) × Shows self.new s) }

@@ -1,5 +1,5 @@
 // Stretches of work over files.
-ghost use Rattle.std.specs.Prelude.{◌≡◌, ◌↔◌, ℕ, None, IfOk, IfErr, IfSome, IsTrue, length};
+ghost use Rattle.std.specs.Prelude.{◌≡◌, ◌≢◌, ◌↔◌, ℕ, None, IfOk, IfErr, IfSome, IsTrue, length};
 ghost use Rattle.sqlite.specs.State.{HasCleanDisk};
 ghost use Rattle.sqlite_wal.specs.Files.{image_at};
 ghost use Rattle.sqlite_store.specs.FileStore.{view};
@@ -37,6 +37,7 @@ pub fn work<T: Start>(
     // Nothing stopped it exactly where all were answered.
     ensures every { IfOk result (λ end. (end.0.stopped ≡ None) ↔ (length end.0.replies.items ≡ length commands.items)) }
     ensures fresh { IfOk result (λ end. IfSome end.0.stopped IsFresh) }
+    ensures never_failed { IfErr result (λ e. e.fault ≢ StoreFault.Failed) }
     ensures named { IfErr result (λ e. IsNamed (image_at T.Start) e.fault (remains_of e)) }
     ensures left { IfErr result (λ e. LeavesAsKept (image_at T.Start) (remains_of e)) }
 {
@@ -65,6 +66,7 @@ pub fn work_and_close<T: Start>(
         → IsStretch (image_at T.Start) (exchange_of commands.items end.0.replies.items end.0.stopped) e.1)) }
     ensures every { IfOk result (λ end. (end.0.stopped ≡ None) ↔ (length end.0.replies.items ≡ length commands.items)) }
     ensures fresh { IfOk result (λ end. IfSome end.0.stopped IsFresh) }
+    ensures never_failed { IfErr result (λ e. e.fault ≢ StoreFault.Failed) }
     ensures named { IfErr result (λ e. IsNamed (image_at T.Start) e.fault (remains_of e)) }
     ensures left { IfErr result (λ e. LeavesAsKept (image_at T.Start) (remains_of e)) }
 {
@@ -90,6 +92,7 @@ pub fn start_again<H: FileHistory, T: Start>(
     ensures jobs { IfOk result (λ spool. HasCleanDisk (disk spool)
         → (s : State) (new : NewJob) (number : ℕ) → ImageKeeps H.before s → AllFilesPassed H.before H.stretches → image_at T.Start ≡ last_left H.before H.stretches
         → IsAcknowledged (file_exchanges H.stretches) new number → ∥ ShowsJob s (file_exchanges H.stretches) new number spool ∥₁) }
+    ensures never_failed { IfErr result (λ e. e.fault ≢ StoreFault.Failed) }
     ensures named { IfErr result (λ e. IsNamed (image_at T.Start) e.fault (remains_of e)) }
     ensures left { IfErr result (λ e. LeavesAsKept (image_at T.Start) (remains_of e)) }
 {
