@@ -146,8 +146,8 @@ pub fn calls_make_a_stretch<D: Disk>()
         → IsClosedStretch D.Disk before (exchange_of commands replies stopped) files }
 {}
 
-/// A stretch that calls made, and an opening that failed, are stretches of a history, with any contents that a stop may leave then: so calls
-/// that follow one another meet what is supposed of a history.
+/// A stretch that calls made, and an opening that failed once it had opened the files, are stretches of a history, with any contents that a stop
+/// may leave then: so calls that follow one another meet what is supposed of a history.
 pub fn stretches_make_a_history<D: Disk>()
     ensures let_go { (before left : Image) (exchange : Exchange) (store : FileStore D D.Disk) (it : IsStretch before exchange store)
         → IsClean (view store) → (files_of store).may_leave left → FilePassed before (let_go_after it left) }
