@@ -9,7 +9,7 @@ returns g c before started =
     let make = c.calls_make_a_stretch.ensures in (
       exchange_of commands replies stopped,
       ends before (exchange_of commands replies stopped) ended
-      (λ store last numbered. make.let_go before commands c.args.spool ended replies stopped store started ran last numbered)
-      (λ files close. make.closed before commands c.args.spool ended replies stopped files started ran close)
-      c.let_go-rest.result c.let_go-rest.ensures,
+          (λ store last numbered. make.let_go before commands c.args.spool ended replies stopped store started ran last numbered)
+          (λ files close. make.closed before commands c.args.spool ended replies stopped files started ran close)
+          c.let_go-rest.result c.let_go-rest.ensures,
     )
