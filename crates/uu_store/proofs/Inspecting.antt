@@ -1,7 +1,6 @@
 -- How looking at a database ends, with the fault that the caller is told.
 use Rattle.std.proofs.Common.{◌≡◌, ◌≢◌, inl, inr, Result, Ok, Err, refl, sym, ap, subst, ◌∙◌, arith}
 use Rattle.std.specs.Prelude.{IsTrue, IsOk}
-use Rattle.sqlite.specs.Tree.{Trees}
 use Rattle.sqlite.specs.State as db
 use Rattle.uu_sql.specs.Steps.{Stands, Rests}
 use Rattle.uu_sql.specs.Spares.{Spares}
@@ -9,7 +8,7 @@ use Rattle.uu_sql.proofs.Questions.{spared_same}
 use Rattle.uu_schema.specs.declared.fault.StoreFault.{StoreFault}
 use Rattle.uu_schema.specs.declared.fault.StoreFault.TheVariants.{Memory, Store, Failed, Newer, Foreign as ForeignFault}
 use Rattle.sqlite.specs.Effect.{Database}
-use Rattle.uu_schema.specs.Schema.{site, no_schema}
+use Rattle.uu_schema.specs.Schema.{site}
 use Rattle.uu_core.specs.State.{State}
 use Rattle.uu_schema.specs.Faults.{IsFresh}
 use Rattle.uu_store.specs.Encoded.{HoldsState, Encodes}
