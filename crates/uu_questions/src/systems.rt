@@ -1,10 +1,10 @@
 // Systems with their lines, the ranges of these, and their calls.
 ghost use Rattle.std.specs.Prelude.{◌≡◌, ◌≢◌, false, ℕ, List, Vec, map, filter, IfOk, IfErr, slice_get};
 ghost use Rattle.sqlite.specs.Held.{state};
-ghost use Rattle.uu_core.specs.State.{system_at, is_system, same_text};
+ghost use Rattle.uu_core.specs.State.{IsWellFormed, system_at, is_system, same_text};
 ghost use Rattle.uu_tables.specs.Tables.{tables_of, system_columns};
 ghost use Rattle.uu_questions.specs.Answers.{Answers};
-ghost use Rattle.uu_questions.specs.Assembly.{AreRowsOfSystems};
+ghost use Rattle.uu_questions.specs.Assembly.{AreRowsOfSystems, holding};
 ghost use Rattle.uu_core.specs.declared.system.SystemRow.{SystemRow};
 ghost use Rattle.sqlite.specs.declared.error.Error.TheVariants.{SqliteFailure, QueryReturnedNoRows};
 ghost use Rattle.sqlite.specs.declared.error.ErrorCode.TheVariants.{OutOfMemory};
@@ -156,13 +156,15 @@ pub fn system_of_name<S: Alter>(
     Ok(first_of(put_together(alloc, &columns, &rows)?))
 }
 
-/// All systems in the byte order of their names, with their definitions and their calls.
+/// All systems in the byte order of their names, with their definitions and their calls. A spool may hold what is handed out, off a clean store
+/// too.
 pub fn all_systems<S: Alter>(
     alloc: Global,
     conn: &mut Connection<S>,
 ) -> Result<Vec<SystemRow>, Error>
     ensures idle { conn.old.in_transaction ≡ false → conn.new.in_transaction ≡ false }
     ensures answers { Answers (λ s systems. systems.items ≡ s.systems) (state S.Store conn.old) (state S.Store conn.new) result }
+    ensures formed { IfOk result (λ systems. IsWellFormed (holding systems.items)) }
 {
     let columns = all_columns(alloc, conn)?;
     let rows = all_line_rows(alloc, conn)?;

@@ -1,6 +1,7 @@
 -- From what the files of a spool hold to what it shows.
 use Rattle.std.proofs.Common.{◌≡◌, ◌≢◌, ◌⊎◌, inl, inr, true, [], Option, Some, None, refl, sym, ap, subst, ◌∙◌, arith}
 use Rattle.std.specs.Prelude.{IsTrue, IfSome, length}
+use Rattle.std.proofs.Math.Logic.{∥∥₁_map}
 use Rattle.sqlite.specs.Tree.{Trees}
 use Rattle.sqlite.specs.Schema.{Schema}
 use Rattle.sqlite.specs.Effect.{Database}
@@ -9,7 +10,7 @@ use Rattle.sqlite.specs.Held.{Held, state}
 use Rattle.sqlite.specs.State as db
 use Rattle.sqlite.specs.Start.{FindsIn}
 use Rattle.sqlite.specs.View.{IsClean}
-use Rattle.sqlite.specs.Files.{file_state, over_files}
+use Rattle.sqlite.specs.Files.{HoldsDatabase, IsNothing, file_state, over_files}
 use Rattle.sqlite.specs.declared.file.Leftover.{Leftover}
 use Rattle.sqlite.specs.declared.error.Error.{Error}
 use Rattle.sqlite.specs.declared.error.Error.TheVariants.{SqliteFailure}
@@ -32,6 +33,8 @@ use Rattle.uu_store.specs.declared.remains.Remains.{Remains}
 use Rattle.uu_store.specs.declared.remains.Remains.TheVariants as remains
 use Rattle.uu_store.specs.declared.spool.Spool.{Spool}
 use Rattle.uu_store.specs.Encoded.{Encodes}
+use Rattle.uu_store.specs.Adoption.{StopsAs}
+use Rattle.uu_taking.specs.Version.{IsLater}
 use Rattle.uu_store.specs.Kept.{Keeps, Stores}
 use Rattle.uu_store.specs.Spool.{disk, Shows}
 use Rattle.uu_store.specs.Stretches.{Adopted, TurnedAway}
@@ -41,10 +44,10 @@ use Rattle.uu_schema.specs.declared.fault.StoreKind.{StoreKind}
 use Rattle.uu_schema.specs.declared.fault.StoreKind.TheVariants as part
 use Rattle.uu_schema.specs.Faults.{kind_of_error}
 use Rattle.uu_store.specs.FoundTables.{HasNone, HasAll, HasOther}
-use Rattle.uu_store.specs.Openings.{ImageHasOther, ImageKeeps, IsFound, IsNamed, IsNotTaken, IsOfNoContents, LeavesAsKept, remains_of, remains_of_opening}
+use Rattle.uu_store.specs.Openings.{ImageHasOther, ImageHasSome, ImageKeeps, IsFound, IsNamed, IsNotTaken, IsOfNoContents, IsToldRightly, LeavesAlone, LeavesAsKept, remains_of, remains_of_opening}
 use Rattle.uu_store.proofs.Creating.{none_or_other, some_or_other}
 use Rattle.uu_store.proofs.Images.{unfound, stop_has}
-use Rattle.uu_store.proofs.Reopening.{stores_of}
+use Rattle.uu_store.proofs.Reopening.{simple_site, stands_again, stores_of}
 
 pub none_fits : (s : State) → s ≡ empty → (trees : Trees) → trees catalog_tree ≡ [] → Keeps trees s
 none_fits s is trees none = inr (empty_is_sound trees none, is)
@@ -92,14 +95,19 @@ module _ {S : Type 0} (g : Ghosts S) (image : Image) (opened : Held S) (found : 
 
 pub not_taken : {S : Type 0} (g : Ghosts S) (was last : Held S) (stopped : S) (fault : StoreFault) → TurnedAway g was last → IsQuiet g.view g.faults g.recovers g.is_shielded last.store stopped
     → (IsClean (g.view stopped) → IsTrue (g.view stopped).is_numbered) → (db.HasCleanDisk (state g last) → (s : State) → Encodes (state g was).now s → (fault ≢ Foreign) × (fault ≢ Newer))
-    → (Stands no_schema (state g was).now → (fault ≢ Foreign) × (fault ≢ Newer)) → (HasOther (state g was).now.schema → fault ≡ Foreign) → IsNotTaken g was stopped fault
-not_taken g was last stopped fault away quiet numbered ours of_empty other = record {
+    → (Stands no_schema (state g was).now → (fault ≢ Foreign) × (fault ≢ Newer)) → (HasOther (state g was).now.schema → fault ≡ Foreign)
+    → (db.HasCleanDisk (state g last) → Rests (state g was) → StopsAs (state g was) (state g last))
+    → (db.HasCleanDisk (state g last) → Stands site (state g was).now → fault ≡ Newer → IsLater (state g was).now.trees)
+    → (db.HasCleanDisk (state g last) → Stands site (state g was).now → fault ≡ Foreign → (¬ IsLater (state g was).now.trees) × ((s : State) → ¬ Encodes (state g was).now s)) → IsNotTaken g was stopped fault
+not_taken g was last stopped fault away quiet numbered ours of_empty other stops newer foreign = record {
   last = last;
   turned_away = away;
   let_go = record { left = quiet.outcomes; clean = quiet.clean };
   numbered = numbered;
   ours = λ clean s stores. elim stores [ inl enc ↦ ours (omega (arith, quiet.clean, clean)) s enc | inr none ↦ of_empty none.0 ];
   other = other;
+  whole = λ clean stands. (newer (omega (arith, quiet.clean, clean)) stands, λ is. let it = foreign (omega (arith, quiet.clean, clean)) stands is in (it.0, λ s holds. it.1 s (record { stands = stands; holds = holds })));
+  some = λ clean rests some trees may. (stops (omega (arith, quiet.clean, clean)) rests).some some trees (quiet.outcomes trees may);
 }
 
 module _ {D : Type 0} {g : disk.Ghosts D} (image : Image) (opened : Held (FileStore D g)) (found : db.HasCleanDisk (file_state opened) → IsFound image (file_state opened)) (stopped : FileStore D g) (fault : StoreFault)
@@ -113,8 +121,33 @@ module _ {D : Type 0} {g : disk.Ghosts D} (image : Image) (opened : Held (FileSt
   away_other : ImageHasOther image → fault ≡ Foreign
   away_other it = away.other (other_found image (file_state opened) found_away it)
 
+  found_rests : Rests (file_state opened)
+  found_rests = let it = found_away.opens in record { is_open = it.is_open; idle = it.autocommit; settled = it.clean }
+
+  found_trees : (trees : Trees) → HoldsDatabase image trees → (file_state opened).now.trees ≡ trees
+  found_trees trees held = ap (λ (d : Database). d.trees) found_away.opens.clean ∙ found_away.finds.holds trees held
+
+  away_told : (trees : Trees) → HoldsDatabase image trees → IsSound site trees → IsToldRightly trees fault
+  away_told trees held sound =
+      let same = found_trees trees held in
+      let stands = stands_again site simple_site (file_state opened) found_away.live found_rests (subst (IsSound site) (sym same) sound) in
+      subst (λ trees. IsToldRightly trees fault) same (away.whole (no_doubt (view stopped).is_clean clean) stands)
+
   pub away_rightly : ((s : State) → ImageKeeps image s → (fault ≢ Foreign) × (fault ≢ Newer)) × (ImageHasOther image → fault ≡ Foreign)
-  away_rightly = (away_ours, away_other)
+      × ((trees : Trees) → HoldsDatabase image trees → IsSound site trees → IsToldRightly trees fault)
+  away_rightly = (away_ours, away_other, away_told)
+
+  -- what is left of another database is that database
+  pub away_same : (trees : Trees) → ImageHasSome image trees → (left : Trees) → store.recovers stopped left → left ≡ trees
+  away_same trees has left may =
+      let same = found_trees trees has.0 in
+      let some = has.1 (file_state opened).now.schema (subst (IsSound (file_state opened).now.schema) same (found_away.live found_away.opens.is_open).0) in
+      away.some (no_doubt (view stopped).is_clean clean) found_rests some left may ∙ same
+
+  pub away_sound : (trees : Trees) → ImageHasSome image trees → (left : Trees) → left ≡ trees → (schema : Schema) × IsSound schema left
+  away_sound trees has left is =
+      let same = found_trees trees has.0 in
+      ((file_state opened).now.schema, subst (IsSound (file_state opened).now.schema) (same ∙ sym is) (found_away.live found_away.opens.is_open).0)
 
   pub away_keeps : (s : State) → ImageKeeps image s → (trees : Trees) → store.recovers stopped trees → Keeps trees s
   away_keeps s keeps trees may =
@@ -126,6 +159,16 @@ pub away_leaves : {D : Type 0} {g : disk.Ghosts D} (image : Image) (opened : Hel
     → IsNotTaken over_files opened stopped fault → LeavesAsKept image (remains.Store stopped)
 away_leaves image opened found stopped fault away clean s keeps left may =
     stop_has (λ trees. Keeps trees s) (s ≡ empty) (keeps_sound s) (none_fits s) stopped (away.numbered (no_doubt (view stopped).is_clean clean)) (away_keeps image opened found stopped fault away clean s keeps) left may
+
+is_left : (trees : Trees) (left : Image) → ((found : Trees) × HoldsDatabase left found × (found ≡ trees)) ⊎ (IsNothing left × ⊥) → HoldsDatabase left trees
+is_left trees left (inl it) = subst (HoldsDatabase left) it.2 it.1
+is_left trees left (inr none) = absurd none.1
+
+pub away_alone : {D : Type 0} {g : disk.Ghosts D} (image : Image) (opened : Held (FileStore D g)) → (db.HasCleanDisk (file_state opened) → IsFound image (file_state opened)) → (stopped : FileStore D g) (fault : StoreFault)
+    → IsNotTaken over_files opened stopped fault → LeavesAlone image (remains.Store stopped)
+away_alone image opened found stopped fault away clean trees has left may =
+    ∥∥₁_map (stop_has (λ found. found ≡ trees) ⊥ (away_sound image opened found stopped fault away clean trees has) (λ none. absurd none) stopped (away.numbered (no_doubt (view stopped).is_clean clean))
+    (away_same image opened found stopped fault away clean trees has) left may) (is_left trees left)
 
 pub away_named : {D : Type 0} {g : disk.Ghosts D} (image : Image) (opened : Held (FileStore D g)) → (db.HasCleanDisk (file_state opened) → IsFound image (file_state opened)) → (stopped : FileStore D g) (fault : StoreFault)
     → IsNotTaken over_files opened stopped fault → IsNamed image fault (remains.Store stopped)
@@ -150,6 +193,10 @@ module _ {D : Type 0} {g : disk.Ghosts D} (image : Image) where
   pub left_of_opening : (o : Option (Leftover D g)) → IfSome o (λ it. LeavesAsKept image (remains.Files it)) → LeavesAsKept image (remains_of_opening o)
   left_of_opening None from = tt
   left_of_opening (Some it) from = from
+
+  pub alone_of_opening : (o : Option (Leftover D g)) → LeavesAlone image (remains_of_opening o)
+  alone_of_opening None = tt
+  alone_of_opening (Some it) = tt
 
   pub named_of_opening : (o : Option (Leftover D g)) (error : Error) (fault : StoreFault) → (fault ≢ Failed) × IsOfNoContents fault → ((kind : StoreKind) → fault ≡ Store kind → kind ≡ kind_of_error error)
       → (o ≡ None → (error ≡ SqliteFailure CannotOpen) ⊎ ((error ≡ SqliteFailure OutOfMemory) ⊎ (error ≡ SqliteFailure DatabaseBusy))) → IsNamed image fault (remains_of_opening o)

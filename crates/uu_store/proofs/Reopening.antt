@@ -24,7 +24,7 @@ use Rattle.uu_store.specs.Exchanges.{Exchange, IsSettled, Counts}
 use Rattle.uu_store.specs.Stretches.{Stretch, opened_as, left_by, Worked, Unworked, Passed, Reopens, LeadTo, exchanges, StoresAfter}
 use Rattle.uu_store.proofs.Running.{StatesFollow, RepliesFollow, take_next}
 
-simple_site : IsSimple site
+pub simple_site : IsSimple site
 simple_site = record { views = refl; keys = (omega arith, (omega arith, (omega arith, (omega arith, (omega arith, (omega arith, (omega arith, tt))))))) }
 
 pub simple_none : IsSimple no_schema

@@ -81,6 +81,6 @@ HasNone schema = found_of schema ≡ Nothing
 abbrev pub HasAll : Schema → Type 0
 HasAll schema = found_of schema ≡ Spool true
 
--- something else stands under one of their names
+-- one of their names is taken, and no table `spool` has the columns that tell a version
 abbrev pub HasOther : Schema → Type 0
 HasOther schema = found_of schema ≡ Other

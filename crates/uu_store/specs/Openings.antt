@@ -25,7 +25,13 @@ use Rattle.uu_store.specs.declared.spool.Spool.{Spool}
 use Rattle.uu_schema.specs.declared.fault.StoreFault.{StoreFault}
 use Rattle.uu_schema.specs.declared.fault.StoreFault.TheVariants.{Memory, Store, Foreign, Newer}
 use Rattle.uu_schema.specs.declared.fault.StoreKind.TheVariants.{Database}
-use Rattle.uu_store.specs.FoundTables.{HasOther}
+use Rattle.uu_store.specs.FoundTables.{HasNone, HasAll, HasOther}
+use Rattle.uu_store.specs.Adoption.{IsOfNone}
+use Rattle.uu_store.specs.Encoded.{Encodes}
+use Rattle.uu_sql.specs.Steps.{Stands, Rests}
+use Rattle.uu_schema.specs.Schema.{site}
+use Rattle.uu_taking.specs.Version.{IsLater}
+use Rattle.uu_store.specs.Spool.{connection_of}
 use Rattle.uu_store.specs.Kept.{Keeps, Stores}
 use Rattle.uu_store.specs.Stretches.{Adopted, TurnedAway, IsLetGo}
 
@@ -37,7 +43,11 @@ no_bytes = record { log = []; db = [] }
 abbrev pub ImageKeeps : Image → State → Type 0
 ImageKeeps image s = ((trees : Trees) × HoldsDatabase image trees × Keeps trees s) ⊎ (IsNothing image × (s ≡ empty))
 
--- the files hold a database, and as each schema that fits it has the tables, something else stands under one of the names of the spool's
+-- the files hold this database, and it has some of the spool's tables, by their names: so says each schema that fits it
+abbrev pub ImageHasSome : Image → Trees → Type 0
+ImageHasSome image trees = HoldsDatabase image trees × ((schema : Schema) → IsSound schema trees → ¬ HasNone schema)
+
+-- the files hold a database in which a name of the spool's tables is taken, and no table tells a version: so says each schema that fits it
 abbrev pub ImageHasOther : Image → Type 0
 ImageHasOther image = (trees : Trees) × HoldsDatabase image trees × ((schema : Schema) → IsSound schema trees → HasOther schema)
 
@@ -47,11 +57,14 @@ pub record IsFound (image : Image) (opened : db.State) : Type 0 where
   pub live : db.IsLive opened
   pub finds : FindsIn image opened
 
--- a spool over what an opening of these files found
+-- A spool over what an opening of these files found: a database with none of the spool's tables or with all, and of one with exactly these, the
+-- rows of a state.
 pub record Started {S : Type 0} {g : Ghosts S} (image : Image) (spool : Spool S g) : Type 0 where
   pub opened : Held S
   pub found : db.HasCleanDisk (state g opened) → IsFound image (state g opened)
   pub adopted : Adopted opened spool
+  pub taken : HasNone (state g opened).now.schema ⊎ HasAll (state g opened).now.schema
+  pub encoded : db.HasCleanDisk (state g (connection_of spool)) → Stands site (state g opened).now → (s : State) × Encodes (state g opened).now s
 
 -- a fault that says nothing of what the files hold
 abbrev pub IsOfNoContents : StoreFault → Type 0
@@ -61,8 +74,13 @@ IsOfNoContents fault = (fault ≢ Foreign) × (fault ≢ Newer)
 abbrev pub StaysKept : Image → (Image → Type 0) → Type 0
 StaysKept before may_hold = (s : State) → ImageKeeps before s → (image : Image) → may_hold image → ∥ ImageKeeps image s ∥₁
 
+-- Of a database with exactly the spool's tables: it is called newer only where a row names a later version, and foreign only where none does
+-- and no state has its rows.
+abbrev pub IsToldRightly : Trees → StoreFault → Type 0
+IsToldRightly trees fault = (fault ≡ Newer → IsLater trees) × (fault ≡ Foreign → (¬ IsLater trees) × IsOfNone trees)
+
 -- A database was opened and not taken as a spool, and its store was let go. One that stores a state is not called foreign or newer, and one
--- that has something else under one of the names is called foreign.
+-- where a name of the spool's tables is taken and no table tells a version is called foreign. A stop leaves one with any of the tables as it was.
 pub record IsNotTaken {S : Type 0} (g : Ghosts S) (was : Held S) (stopped : S) (fault : StoreFault) : Type 0 where
   pub last : Held S
   pub turned_away : TurnedAway g was last
@@ -70,6 +88,8 @@ pub record IsNotTaken {S : Type 0} (g : Ghosts S) (was : Held S) (stopped : S) (
   pub numbered : IsClean (g.view stopped) → IsTrue (g.view stopped).is_numbered
   pub ours : IsClean (g.view stopped) → (s : State) → Stores (state g was).now s → IsOfNoContents fault
   pub other : HasOther (state g was).now.schema → fault ≡ Foreign
+  pub whole : IsClean (g.view stopped) → Stands site (state g was).now → IsToldRightly (state g was).now.trees fault
+  pub some : IsClean (g.view stopped) → Rests (state g was) → ¬ HasNone (state g was).now.schema → (trees : Trees) → g.recovers stopped trees → trees ≡ (state g was).now.trees
 
 -- ---- an opening that failed, by what is left of the files
 
@@ -102,11 +122,19 @@ module _ {D : Type 0} {g : disk.Ghosts D} where
   LeavesAsKept before (remains.Files it) = IsCleanLeft it → IsTakenAsMade before it → StaysKept before (may_be_left it)
   LeavesAsKept before (remains.Store it) = IsTrue (store.view it).is_clean → StaysKept before (store.state it).may_leave
 
+  -- A database that was opened and not taken, and has any of the spool's tables, stays what it was: so of another program's, or a later version's.
+  abbrev pub LeavesAlone : Image → Remains D g → Type 0
+  LeavesAlone before remains.Unopened = ⊤
+  LeavesAlone before (remains.Files it) = ⊤
+  LeavesAlone before (remains.Store it) =
+      IsTrue (store.view it).is_clean → (trees : Trees) → ImageHasSome before trees → (image : Image) → (store.state it).may_leave image → ∥ HoldsDatabase image trees ∥₁
+
   -- The fault names the contents rightly: only a database that was opened is called foreign or newer, and none that keeps a state, nor files
-  -- that held nothing; one that has something else under one of the names is called foreign. Files that were not opened were refused by the
-  -- system, or there was no memory.
+  -- that held nothing; one where a name of the spool's tables is taken and no table tells a version is called foreign, and one with exactly the
+  -- tables rightly. Files that were not opened were refused by the system, or there was no memory.
   abbrev pub IsNamed : Image → StoreFault → Remains D g → Type 0
   IsNamed before fault remains.Unopened = (fault ≡ Memory) ⊎ (fault ≡ Store Database)
   IsNamed before fault (remains.Files it) = IsOfNoContents fault
   IsNamed before fault (remains.Store it) =
       IsTrue (store.view it).is_clean → ((s : State) → ImageKeeps before s → IsOfNoContents fault) × (ImageHasOther before → fault ≡ Foreign)
+      × ((trees : Trees) → HoldsDatabase before trees → IsSound site trees → IsToldRightly trees fault)

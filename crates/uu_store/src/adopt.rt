@@ -94,8 +94,8 @@ impl<S: Alter> Spool<S> {
         ensures adopted { IfOk result (λ spool. Adopted conn spool) }
         ensures encoded_before { IfOk result (λ spool. HasCleanDisk (disk spool) → Stands site (state S.Store conn).now → (s : _) × Encodes (state S.Store conn).now s) }
 
-        // What is taken had none of the spool's tables, or all of them. One with something else under one of their names is foreign, and comes
-        // back as it was handed in: nothing is asked of it, and no memory taken.
+        // What is taken had none of the spool's tables, or all of them. One in which a name of theirs is taken and no table tells a version is
+        // foreign, and comes back as it was handed in.
         ensures taken_by_tables { IfOk result (λ spool. HasNone (state S.Store conn).now.schema ⊎ HasAll (state S.Store conn).now.schema) }
         ensures other_is_foreign { HasOther (state S.Store conn).now.schema → IsErrAnd result (λ e. (e.fault ≡ StoreFault.Foreign) × (e.conn ≡ conn)) }
 

@@ -8,6 +8,7 @@ ghost use Rattle.uu_core.specs.Due.{AreDue};
 ghost use Rattle.uu_tables.specs.Plans.{AreFacts};
 ghost use Rattle.uu_schema.specs.Faults.{IsFresh};
 ghost use Rattle.uu_questions.specs.Listing.{listed};
+ghost use Rattle.uu_questions.specs.Assembly.{holding};
 ghost use Rattle.uu_store.specs.HandedOut.{IsBounded, IsTimed, is_bounded, is_found_bounded, is_timed, job_shown, within_limits};
 ghost use Rattle.uu_statements.specs.Step.{IsToldStep};
 ghost use Rattle.uu_store.specs.Calls.{IsStep, IsAnswered};
@@ -164,6 +165,7 @@ pub(crate) fn find<S: Alter>(
     ensures idle { conn.new.in_transaction ≡ false }
     ensures fresh { IfErr result IsFresh }
     ensures answered { IsAnswered (λ s found. (option_map job_shown found ≡ job_at s number) × IfSome found (λ job. job.0.size ≡ length job.1.items)) (state S.Store conn.old) (state S.Store conn.new) result }
+    ensures size { IfOk result (λ found. IfSome found (λ job. job.0.size ≡ length job.1.items)) }
     ensures bounds { IfOk result (λ found. IfSome found (λ job. IsBounded job.0)) }
 {
     match job_of_number(alloc, conn, number) {
@@ -181,6 +183,7 @@ pub(crate) fn systems<S: Alter>(
     ensures idle { conn.new.in_transaction ≡ false }
     ensures fresh { IfErr result IsFresh }
     ensures answered { IsAnswered (λ s systems. systems.items ≡ s.systems) (state S.Store conn.old) (state S.Store conn.new) result }
+    ensures formed { IfOk result (λ systems. IsWellFormed (holding systems.items)) }
     ensures bounds { IfOk result (λ systems. AllByRecursion IsTimed systems.items) }
 {
     match all_systems(alloc, conn) {

@@ -4,8 +4,11 @@ ghost use Rattle.sqlite.specs.Held.{state};
 ghost use Rattle.sqlite.specs.State.{HasCleanDisk};
 ghost use Rattle.sqlite_wal.specs.Files.{image_at};
 ghost use Rattle.uu_core.specs.State.{State, empty};
+ghost use Rattle.uu_sql.specs.Steps.{Stands};
+ghost use Rattle.uu_schema.specs.Schema.{site};
+ghost use Rattle.uu_store.specs.Encoded.{Encodes};
 ghost use Rattle.uu_store.specs.FoundTables.{HasAll, HasNone};
-ghost use Rattle.uu_store.specs.Openings.{ImageHasOther, ImageKeeps, IsNamed, IsNotTaken, LeavesAsKept, Started, no_bytes, remains_of};
+ghost use Rattle.uu_store.specs.Openings.{ImageHasOther, ImageKeeps, IsNamed, IsNotTaken, LeavesAlone, LeavesAsKept, Started, no_bytes, remains_of};
 ghost use Rattle.uu_store.specs.Spool.{disk, has_failed, Shows};
 ghost use Rattle.uu_store.specs.Stretches.{Adopted};
 
@@ -24,9 +27,10 @@ pub type FileSpool<T> = Spool<FileStore<FileFrom<T>>>;
 /// What is said of the contents is said of those that the files had as they were opened, which `T` stands for; no clause ties them to the path.
 ///
 /// # Errors
-/// With what is left of the two files. A stop then leaves files that keep what was kept (`left`). Files that keep the state of a spool, or hold
-/// nothing yet, are never answered `Foreign` or `Newer`, and a database that has something else under one of the names of the spool's tables is
-/// answered `Foreign` once it was opened (`named`).
+/// With what is left of the two files. A stop then leaves files that keep what was kept (`left`), and of a database that was opened and has any of
+/// the spool's tables what it was (`left_alone`). Files that keep the state of a spool, or hold nothing yet, are never answered `Foreign` or
+/// `Newer`; one that was opened and has exactly the tables is `Newer` where a row names a later version, and else `Foreign`; one in which a name
+/// of theirs is taken and no table tells a version is `Foreign` (`named`).
 pub fn open_spool<T: Start>(
     rt: &HostRuntime,
     path: &str,
@@ -39,12 +43,13 @@ pub fn open_spool<T: Start>(
     // It shows the state that the files kept.
     ensures shows { IfOk result (λ spool. HasCleanDisk (disk spool) → (s : State) → ImageKeeps (image_at T.Start) s → Shows spool s) }
 
-    // A database that has something else under one of the names is never taken.
+    // A database in which one of the names is taken and no table tells a version is never taken.
     ensures never_other { IfOk result (λ spool. HasCleanDisk (disk spool) → ¬ ImageHasOther (image_at T.Start)) }
 
     // What is left of files that were opened keeps what they kept, and the fault names it rightly.
     ensures named { IfErr result (λ e. IsNamed (image_at T.Start) e.fault (remains_of e)) }
     ensures left { IfErr result (λ e. LeavesAsKept (image_at T.Start) (remains_of e)) }
+    ensures left_alone { IfErr result (λ e. LeavesAlone (image_at T.Start) (remains_of e)) }
 {
     let conn = open_files(rt, path, start)?;
     match adopted(rt.alloc(), conn) {
@@ -63,6 +68,7 @@ pub(crate) fn adopted<S: Alter + Drop>(
     ensures never_failed { IfErr result (λ e. e.0 ≢ StoreFault.Failed) }
     ensures adopted { IfOk result (Adopted conn) }
     ensures taken { IfOk result (λ spool. HasNone (state S.Store conn).now.schema ⊎ HasAll (state S.Store conn).now.schema) }
+    ensures encoded { IfOk result (λ spool. HasCleanDisk (disk spool) → Stands site (state S.Store conn).now → (s : State) × Encodes (state S.Store conn).now s) }
     ensures away { IfErr result (λ e. IsNotTaken S.Store conn e.1 e.0) }
 {
     match Spool::adopt(alloc, conn) {

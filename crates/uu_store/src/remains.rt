@@ -4,7 +4,7 @@ ghost use Rattle.sqlite.specs.Files.{file_state};
 ghost use Rattle.sqlite.specs.State.{HasCleanDisk};
 ghost use Rattle.sqlite_wal.specs.Files.{image_at};
 ghost use Rattle.uu_schema.specs.Faults.{kind_of_error};
-ghost use Rattle.uu_store.specs.Openings.{IsFound, IsNamed, IsOfNoContents, LeavesAsKept, remains_of, remains_of_opening};
+ghost use Rattle.uu_store.specs.Openings.{IsFound, IsNamed, IsOfNoContents, LeavesAlone, LeavesAsKept, remains_of, remains_of_opening};
 
 use sqlite::{Connection, Error, FileFrom, FileStore, Leftover, Start};
 use sqlite_disk::Disk;
@@ -88,6 +88,7 @@ pub(crate) fn open_files<T: Start>(
     ensures never_failed { IfErr result (λ e. e.fault ≢ StoreFault.Failed) }
     ensures named { IfErr result (λ e. IsNamed (image_at T.Start) e.fault (remains_of e)) }
     ensures left { IfErr result (λ e. LeavesAsKept (image_at T.Start) (remains_of e)) }
+    ensures left_alone { IfErr result (λ e. LeavesAlone (image_at T.Start) (remains_of e)) }
 {
     match Connection::open_from(rt, path, true, start) {
         Ok(conn) => Ok(conn),

@@ -23,9 +23,10 @@ pub struct Spool<S: Alter> {
 impl<S: Alter> Spool<S> {
     ghost use Rattle.std.specs.Prelude.{[], ◌∷◌, IsTrue, IfOk, IfSome, Err, MatchResult, option_map, map, length};
     ghost use Rattle.std.specs.List.{AllByRecursion};
-    ghost use Rattle.uu_core.specs.State.{head_of, job_at, entry_at};
+    ghost use Rattle.uu_core.specs.State.{IsWellFormed, head_of, job_at, entry_at};
     ghost use Rattle.uu_core.specs.Due.{AreDue};
     ghost use Rattle.uu_questions.specs.Listing.{listed};
+    ghost use Rattle.uu_questions.specs.Assembly.{holding};
     ghost use Rattle.uu_store.specs.HandedOut.{IsBounded, IsTimed, job_shown};
     ghost use Rattle.sqlite.specs.State.{HasCleanDisk};
     ghost use Rattle.sqlite.specs.Held.{state};
@@ -158,7 +159,7 @@ impl<S: Alter> Spool<S> {
     ) -> Result<Option<(JobHead, Vec<u8>)>, StoreFault>
         ensures marked { MatchResult result (λ _. (has_failed self.old ≡ false) × (has_failed self.new ≡ false)) (Marks (has_failed self.old) (has_failed self.new)) }
         ensures answer { HasCleanDisk (disk self.new) → (s : _) → Shows self.old s → IfOk result (λ found. (option_map job_shown found ≡ job_at s number) × Shows self.new s) }
-        ensures size { HasCleanDisk (disk self.new) → (s : _) → Shows self.old s → IfOk result (λ found. IfSome found (λ job. job.0.size ≡ length job.1.items)) }
+        ensures size { IfOk result (λ found. IfSome found (λ job. job.0.size ≡ length job.1.items)) }
         ensures bounds { IfOk result (λ found. IfSome found (λ job. IsBounded job.0)) }
         ensures memory { HasCleanDisk (disk self.new) → (s : _) → Shows self.old s → result ≡ Err StoreFault.Memory → Shows self.new s }
         ensures stop { HasCleanDisk (disk self.new) → (s : _) → Shows self.old s → Leaves (disk self.new) s }
@@ -182,6 +183,7 @@ impl<S: Alter> Spool<S> {
     pub fn systems(&mut self, alloc: Global) -> Result<Vec<SystemRow>, StoreFault>
         ensures marked { MatchResult result (λ _. (has_failed self.old ≡ false) × (has_failed self.new ≡ false)) (Marks (has_failed self.old) (has_failed self.new)) }
         ensures answer { HasCleanDisk (disk self.new) → (s : _) → Shows self.old s → IfOk result (λ systems. (systems.items ≡ s.systems) × Shows self.new s) }
+        ensures formed { IfOk result (λ systems. IsWellFormed (holding systems.items)) }
         ensures bounds { IfOk result (λ systems. AllByRecursion IsTimed systems.items) }
         ensures memory { HasCleanDisk (disk self.new) → (s : _) → Shows self.old s → result ≡ Err StoreFault.Memory → Shows self.new s }
         ensures stop { HasCleanDisk (disk self.new) → (s : _) → Shows self.old s → Leaves (disk self.new) s }

@@ -14,7 +14,7 @@ pub(crate) enum Found {
     Nothing,
     /// The table `spool` with the columns that tell its version, and whether the rest is there too.
     Spool { whole: bool },
-    /// Something else under one of the names.
+    /// One of the names is taken, and there is no table `spool` with the columns that tell its version.
     Other,
 }
 

@@ -14,3 +14,6 @@ returns-in-Ok-clause-answered g c =
 
 pub returns-in-Ok-clause-bounds : goal.returns-in-Ok-clause-bounds
 returns-in-Ok-clause-bounds g c = within_ok _ (is_found_bounded c.in-Ok.found) c.in-Ok.found c.bounded_job.result c.bounded_job.ensures (found_bounded c.in-Ok.found)
+
+pub returns-in-Ok-clause-size : goal.returns-in-Ok-clause-size
+returns-in-Ok-clause-size g c = within_ok _ (is_found_bounded c.in-Ok.found) c.in-Ok.found c.bounded_job.result c.bounded_job.ensures (λ _. rw c.in-Ok.is at c.job_of_number.ensures.size)

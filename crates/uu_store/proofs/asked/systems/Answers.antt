@@ -14,3 +14,6 @@ returns-in-Ok-clause-answered g c =
 
 pub returns-in-Ok-clause-bounds : goal.returns-in-Ok-clause-bounds
 returns-in-Ok-clause-bounds g c = within_ok _ (list_all is_timed c.in-Ok.systems.items) c.in-Ok.systems c.timed_systems.result c.timed_systems.ensures (all_timed c.in-Ok.systems.items)
+
+pub returns-in-Ok-clause-formed : goal.returns-in-Ok-clause-formed
+returns-in-Ok-clause-formed g c = within_ok _ (list_all is_timed c.in-Ok.systems.items) c.in-Ok.systems c.timed_systems.result c.timed_systems.ensures (λ _. rw c.in-Ok.is at c.all_systems.ensures.formed)

@@ -3,9 +3,9 @@ use Rattle.sqlite.specs.Files.{file_state}
 use Rattle.sqlite_wal.specs.Files.{image_at}
 use Rattle.uu_core.specs.State.{empty}
 use Rattle.uu_store.specs.Kept.{Keeps}
-use Rattle.uu_store.specs.Openings.{LeavesAsKept}
+use Rattle.uu_store.specs.Openings.{LeavesAlone, LeavesAsKept}
 use Rattle.uu_store.proofs.Images.{failed_has, fresh_log, fresh_db, fresh_log_stays, fresh_db_stays}
-use Rattle.uu_store.proofs.Opening.{keeps_sound, none_fits, is_found, some_weaker, left_of_opening}
+use Rattle.uu_store.proofs.Opening.{keeps_sound, none_fits, is_found, some_weaker, left_of_opening, alone_of_opening}
 use Rattle.uu_store.proofs.remains.open_files.Goals as goal
 
 pub returns-in-Ok-clause-found : goal.returns-in-Ok-clause-found
@@ -17,3 +17,6 @@ returns-in-Err-clause-left g c = subst (LeavesAsKept (image_at g.T.Start)) (sym 
     let a = g.T.Start.log in
     let b = g.T.Start.db in
     failed_has (λ trees. Keeps trees s) (s ≡ empty) (keeps_sound s) (none_fits s) _ files a b (fresh_log a b log) (fresh_db a b db) (fresh_log_stays a b log _) (fresh_db_stays a b db _) it (leaves clean).1 taken keeps) c.in-Err.ensures.cause))
+
+pub returns-in-Err-clause-left_alone : goal.returns-in-Err-clause-left_alone
+returns-in-Err-clause-left_alone g c = subst (LeavesAlone (image_at g.T.Start)) (sym c.of_opening.ensures) (alone_of_opening (image_at g.T.Start) c.in-Err.left)

@@ -14,7 +14,7 @@ returns-in-Ok-Some g c =
     question_served c.args.settings.now (question.Job c.args.number) c.args.spool.now c.job.new.self written c.print.result c.in-Ok-Some.ensures.ran c.in-Ok-Some.ensures.marked c.print.ensures.fault
     (λ clean s shown.
     let found = c.in-Ok-Some.ensures.answer clean s shown in
-    let size : c.in-Ok-Some.head.size ≡ length c.in-Ok-Some.bytes.items = rw c.in-Ok-Some.field-0-is at (c.in-Ok-Some.ensures.size clean s shown) in (
+    let size : c.in-Ok-Some.head.size ≡ length c.in-Ok-Some.bytes.items = rw c.in-Ok-Some.field-0-is at c.in-Ok-Some.ensures.size in (
       found.1,
       printed c.print.result c.job_text.result 0 written
           (λ output. (line : List ℕ) × IsJobLine c.args.settings.now.offset c.in-Ok-Some.head line × (output ≡ line ++ c.deref.result.now))
