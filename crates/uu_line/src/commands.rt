@@ -1,351 +1,418 @@
 //! The program's command line, as `clap` is told of it.
-ghost use Rattle.std.specs.Prelude.{◌≡◌, IfOk, Some, codes, false, true};
-ghost use Rattle.clap.specs.Words.{App, app_of, new_app, rule_of, with_subcommand};
-ghost use Rattle.clap.specs.declared.builder.value_parser.ValueParser.TheVariants.{Unsigned};
+ghost use Rattle.std.specs.Prelude.{◌≡◌, IfOk, false};
+ghost use Rattle.clap.specs.Words.{App, app_of, rule_of};
 ghost use Rattle.clap.specs.declared.builder.command.Command.TheViews.{out-Command as fields_of};
 ghost use Rattle.uu_line.specs.Commands as spec;
+ghost use Rattle.uu_line.specs.Tables.{app_for, defaulted, placed, read, rule_for, with_apps, with_rules};
 
 use clap::{Arg, Command};
 use std::alloc::{AllocError, Global};
+
+// An argument or an option.
+struct Entry<'a> {
+    id: &'a str,
+    place: Place<'a>,
+    default: Option<&'a str>,
+    reading: Reading,
+    shown: &'a str,
+    help: &'a str,
+}
+
+// Where an entry stands in a line.
+#[derive(Clone, Copy)]
+enum Place<'a> {
+    // An option of one letter.
+    Short(char),
+    // An option of a name.
+    Long(&'a str),
+    // An argument that has to be there, by its place.
+    Required,
+    // The last arguments, any number of them.
+    Any,
+    // The last arguments, one or more.
+    Several,
+}
+
+// As what the values of an entry are read.
+#[derive(Clone, Copy)]
+enum Reading {
+    Text,
+    // A job's number.
+    Job,
+    // A second, UTC.
+    Second,
+}
+
+// A subcommand.
+struct Subcommand<'a> {
+    name: &'a str,
+    about: &'a str,
+    entries: &'a [Entry<'a>],
+}
+
+// `-c FILE`
+const CONFIG: Entry<'static> = Entry {
+    id: "config",
+    place: Place::Short('c'),
+    default: Some("uuspool.toml"),
+    reading: Reading::Text,
+    shown: "FILE",
+    help: "The settings file",
+};
+
+// `--at SECONDS`
+const SECOND: Entry<'static> = Entry {
+    id: "at",
+    place: Place::Long("at"),
+    default: None,
+    reading: Reading::Second,
+    shown: "SECONDS",
+    help: "The second of the call, UTC, in place of the clock's",
+};
+
+// `--as USER`
+const USER: Entry<'static> = Entry {
+    id: "as",
+    place: Place::Long("as"),
+    default: Some("uucp"),
+    reading: Reading::Text,
+    shown: "USER",
+    help: "The user who calls",
+};
+
+// `SYSTEM`, of a job
+const SYSTEM: Entry<'static> = Entry {
+    id: "system",
+    place: Place::Required,
+    default: None,
+    reading: Reading::Text,
+    shown: "SYSTEM",
+    help: "The neighbour that the job is for",
+};
+
+// `SYSTEM`, of a call
+const CALLED: Entry<'static> = Entry {
+    id: "system",
+    place: Place::Required,
+    default: None,
+    reading: Reading::Text,
+    shown: "SYSTEM",
+    help: "The neighbour that was called",
+};
+
+// `-g GRADE`
+const GRADE: Entry<'static> = Entry {
+    id: "grade",
+    place: Place::Short('g'),
+    default: Some("N"),
+    reading: Reading::Text,
+    shown: "GRADE",
+    help: "The job's grade: 0 to 9, A to Z or a to z, highest first",
+};
+
+// `JOB`
+const JOB: Entry<'static> = Entry {
+    id: "job",
+    place: Place::Required,
+    default: None,
+    reading: Reading::Job,
+    shown: "JOB",
+    help: "The job's number",
+};
+
+// `FROM`
+const SOURCE: Entry<'static> = Entry {
+    id: "from",
+    place: Place::Required,
+    default: None,
+    reading: Reading::Text,
+    shown: "FROM",
+    help: "The file's name where it is",
+};
+
+// `TO`
+const TARGET: Entry<'static> = Entry {
+    id: "to",
+    place: Place::Required,
+    default: None,
+    reading: Reading::Text,
+    shown: "TO",
+    help: "The file's name where it goes",
+};
+
+// The subcommands, in the order that help lists them in.
+const SUBCOMMANDS: &[Subcommand<'static>] = &[
+    Subcommand {
+        name: "load",
+        about: "Defines the systems of the sys file on standard input",
+        entries: &[],
+    },
+    Subcommand {
+        name: "drop",
+        about: "Forgets a system that no job waits for",
+        entries: &[Entry {
+            id: "system",
+            place: Place::Required,
+            default: None,
+            reading: Reading::Text,
+            shown: "SYSTEM",
+            help: "The neighbour that is forgotten",
+        }],
+    },
+    Subcommand {
+        name: "send",
+        about: "Queues standard input as a file for a system",
+        entries: &[SYSTEM, SOURCE, TARGET, GRADE],
+    },
+    Subcommand {
+        name: "request",
+        about: "Queues a request for a file of a system",
+        entries: &[SYSTEM, SOURCE, TARGET, GRADE],
+    },
+    Subcommand {
+        name: "exec",
+        about: "Queues a command for a system, with standard input as its input",
+        entries: &[
+            GRADE,
+            SYSTEM,
+            Entry {
+                id: "command",
+                place: Place::Required,
+                default: None,
+                reading: Reading::Text,
+                shown: "COMMAND",
+                help: "The command that the system is to run",
+            },
+            Entry {
+                id: "argument",
+                place: Place::Any,
+                default: None,
+                reading: Reading::Text,
+                shown: "ARG",
+                help: "The command's arguments; `--` before those that begin with a hyphen",
+            },
+        ],
+    },
+    Subcommand {
+        name: "mail",
+        about: "Queues standard input as a message",
+        entries: &[
+            GRADE,
+            Entry {
+                id: "address",
+                place: Place::Several,
+                default: None,
+                reading: Reading::Text,
+                shown: "ADDRESS",
+                help: "A bang path, each by way of the same neighbour",
+            },
+        ],
+    },
+    Subcommand {
+        name: "list",
+        about: "Lists the jobs, those of the highest grade first",
+        entries: &[
+            Entry {
+                id: "system",
+                place: Place::Short('s'),
+                default: None,
+                reading: Reading::Text,
+                shown: "SYSTEM",
+                help: "The jobs for this neighbour alone",
+            },
+            Entry {
+                id: "user",
+                place: Place::Short('u'),
+                default: None,
+                reading: Reading::Text,
+                shown: "USER",
+                help: "The jobs of this user alone",
+            },
+        ],
+    },
+    Subcommand {
+        name: "show",
+        about: "Shows a job and its bytes",
+        entries: &[JOB],
+    },
+    Subcommand {
+        name: "kill",
+        about: "Lets a job go",
+        entries: &[JOB],
+    },
+    Subcommand {
+        name: "regrade",
+        about: "Gives a job another grade",
+        entries: &[
+            JOB,
+            Entry {
+                id: "grade",
+                place: Place::Required,
+                default: None,
+                reading: Reading::Text,
+                shown: "GRADE",
+                help: "The job's new grade: 0 to 9, A to Z or a to z, highest first",
+            },
+        ],
+    },
+    Subcommand {
+        name: "rejuvenate",
+        about: "Lets a job count as queued now",
+        entries: &[JOB],
+    },
+    Subcommand {
+        name: "due",
+        about: "Lists the systems to call now, each with its next job",
+        entries: &[],
+    },
+    Subcommand {
+        name: "status",
+        about: "Lists the systems and how their calls went",
+        entries: &[],
+    },
+    Subcommand {
+        name: "failed",
+        about: "Notes a call that failed",
+        entries: &[
+            CALLED,
+            Entry {
+                id: "why",
+                place: Place::Required,
+                default: None,
+                reading: Reading::Text,
+                shown: "WHY",
+                help: "Why it failed, a word",
+            },
+        ],
+    },
+    Subcommand {
+        name: "done",
+        about: "Notes a call that succeeded, and lets the jobs go that it carried out",
+        entries: &[
+            CALLED,
+            Entry {
+                id: "job",
+                place: Place::Any,
+                default: None,
+                reading: Reading::Job,
+                shown: "JOB",
+                help: "The numbers of the jobs that were carried out",
+            },
+        ],
+    },
+    Subcommand {
+        name: "map",
+        about: "Keeps the map entries on standard input",
+        entries: &[],
+    },
+    Subcommand {
+        name: "neighbours",
+        about: "Lists the links of a host's map entry",
+        entries: &[Entry {
+            id: "host",
+            place: Place::Required,
+            default: None,
+            reading: Reading::Text,
+            shown: "HOST",
+            help: "The host of the map entry",
+        }],
+    },
+];
 
 /// The whole command: its options, and a subcommand, which has to be there.
 pub(crate) fn program_command<'a>(alloc: Global) -> Result<Command<'a>, AllocError>
     ensures { IfOk result (λ command. app_of command ≡ spec.program) }
 {
-    let due = plain_command(
-        alloc,
-        "due",
-        "Lists the systems to call now, each with its next job",
-    );
-    let status = plain_command(
-        alloc,
-        "status",
-        "Lists the systems and how their calls went",
-    );
-    let map = plain_command(alloc, "map", "Keeps the map entries on standard input");
-    let with_due = adding(with_jobs(alloc), Ok(due));
-    let with_status = adding(with_due, Ok(status));
-    let with_failed = adding(with_status, failed_command(alloc));
-    let with_done = adding(with_failed, done_command(alloc));
-    let with_map = adding(with_done, Ok(map));
-    adding(with_map, neighbours_command(alloc))
-}
-
-// The command with the subcommands that change systems, queue jobs, and show or change them.
-fn with_jobs<'a>(alloc: Global) -> Result<Command<'a>, AllocError>
-    ensures { IfOk result (λ command. app_of command ≡ spec.with_jobs) }
-{
-    let show = job_command(alloc, "show", "Shows a job and its bytes");
-    let kill = job_command(alloc, "kill", "Lets a job go");
-    let rejuvenate = job_command(alloc, "rejuvenate", "Lets a job count as queued now");
-    let with_list = adding(with_queueing(alloc), list_command(alloc));
-    let with_show = adding(with_list, show);
-    let with_kill = adding(with_show, kill);
-    let with_regrade = adding(with_kill, regrade_command(alloc));
-    adding(with_regrade, rejuvenate)
-}
-
-// The command with the subcommands that change systems and queue jobs.
-fn with_queueing<'a>(alloc: Global) -> Result<Command<'a>, AllocError>
-    ensures { IfOk result (λ command. app_of command ≡ spec.with_queueing) }
-{
-    let load = plain_command(
-        alloc,
-        "load",
-        "Defines the systems of the sys file on standard input",
-    );
-    let send = file_command(
-        alloc,
-        "send",
-        "Queues standard input as a file for a system",
-    );
-    let request = file_command(alloc, "request", "Queues a request for a file of a system");
-    let with_load = adding(with_options(alloc), Ok(load));
-    let with_drop = adding(with_load, drop_command(alloc));
-    let with_send = adding(with_drop, send);
-    let with_request = adding(with_send, request);
-    let with_exec = adding(with_request, exec_command(alloc));
-    adding(with_exec, mail_command(alloc))
-}
-
-// The command with one subcommand more. It takes results, since a caller with an exit at each step is dear to prove.
-fn adding<'a>(
-    command: Result<Command<'a>, AllocError>,
-    subcommand: Result<Command<'a>, AllocError>,
-) -> Result<Command<'a>, AllocError>
-    ensures { (whole part : App) → IfOk command.entry (λ command. app_of command ≡ whole)
-        → IfOk subcommand.entry (λ added. app_of added ≡ part)
-        → IfOk subcommand.entry (λ added. (fields_of added).has_globals ≡ false)
-        → IfOk result (λ command. app_of command ≡ with_subcommand whole part.top) }
-{
-    command?.subcommand(subcommand?)
-}
-
-// The command with its options alone.
-fn with_options<'a>(alloc: Global) -> Result<Command<'a>, AllocError>
-    ensures { IfOk result (λ command. app_of command ≡ spec.without_subcommands) }
-{
-    Command::new(alloc, "uuspool")
+    let bare = Command::new(alloc, "uuspool")
         .about("The job spool of a UUCP site")
         .no_binary_name(true)
-        .subcommand_required(true)
-        .arg(config_option(alloc))?
-        .arg(second_option(alloc))?
-        .arg(user_option(alloc))
+        .subcommand_required(true);
+    match with_entries(alloc, bare, &[CONFIG, SECOND, USER]) {
+        Ok(command) => with_subcommands(alloc, command, SUBCOMMANDS),
+        Err(error) => Err(error),
+    }
 }
 
-fn config_option<'a>(alloc: Global) -> Arg<'a>
-    ensures rule { rule_of result ≡ spec.config_option }
-    ensures local { result.global ≡ false }
+// The command with these subcommands more.
+fn with_subcommands<'a>(
+    alloc: Global,
+    mut command: Command<'a>,
+    subcommands: &[Subcommand<'a>],
+) -> Result<Command<'a>, AllocError>
+    ensures { (whole : App) → app_of command.entry ≡ whole → IfOk result (λ more. app_of more ≡ with_apps whole subcommands.now) }
 {
-    Arg::new(alloc, "config")
-        .short('c')
-        .value_name("FILE")
-        .default_value("uuspool.toml")
-        .help("The settings file")
+    for subcommand in subcommands {
+        command = command.subcommand(command_of(alloc, subcommand)?)?;
+    }
+    Ok(command)
 }
 
-fn second_option<'a>(alloc: Global) -> Arg<'a>
-    ensures rule { rule_of result ≡ spec.second_option }
-    ensures local { result.global ≡ false }
-{
-    Arg::new(alloc, "at")
-        .long("at")
-        .value_name("SECONDS")
-        .value_parser(clap::value_parser!(u64).range(0..=9_999_999_999))
-        .help("The second of the call, UTC, in place of the clock's")
-}
-
-fn user_option<'a>(alloc: Global) -> Arg<'a>
-    ensures rule { rule_of result ≡ spec.user_option }
-    ensures local { result.global ≡ false }
-{
-    Arg::new(alloc, "as")
-        .long("as")
-        .value_name("USER")
-        .default_value("uucp")
-        .help("The user who calls")
-}
-
-// A subcommand with no arguments.
-fn plain_command<'a>(alloc: Global, name: &'a str, about: &'a str) -> Command<'a>
-    ensures app { app_of result ≡ new_app name.entry.now }
-    ensures local { (fields_of result).has_globals ≡ false }
-{
-    Command::new(alloc, name).about(about)
-}
-
-fn drop_command<'a>(alloc: Global) -> Result<Command<'a>, AllocError>
-    ensures app { IfOk result (λ command. app_of command ≡ spec.drop_command) }
+// A subcommand with its entries.
+fn command_of<'a>(alloc: Global, subcommand: &Subcommand<'a>) -> Result<Command<'a>, AllocError>
+    ensures app { IfOk result (λ command. app_of command ≡ app_for subcommand.now) }
     ensures local { IfOk result (λ command. (fields_of command).has_globals ≡ false) }
 {
-    Command::new(alloc, "drop")
-        .about("Forgets a system that no job waits for")
-        .arg(argument(alloc, "system", "SYSTEM", "The neighbour that is forgotten"))
+    let bare = Command::new(alloc, subcommand.name).about(subcommand.about);
+    with_entries(alloc, bare, subcommand.entries)
 }
 
-// `NAME SYSTEM FROM TO [-g GRADE]`.
-fn file_command<'a>(alloc: Global, name: &'a str, about: &'a str) -> Result<Command<'a>, AllocError>
-    ensures app { IfOk result (λ command. app_of command ≡ spec.file_command name.entry.now) }
-    ensures local { IfOk result (λ command. (fields_of command).has_globals ≡ false) }
+// The command with these entries more.
+fn with_entries<'a>(
+    alloc: Global,
+    mut command: Command<'a>,
+    entries: &[Entry<'a>],
+) -> Result<Command<'a>, AllocError>
+    ensures app { (whole : App) → app_of command.entry ≡ whole → IfOk result (λ more. app_of more ≡ with_rules whole entries.now) }
+    ensures local { (fields_of command.entry).has_globals ≡ false → IfOk result (λ more. (fields_of more).has_globals ≡ false) }
 {
-    Command::new(alloc, name)
-        .about(about)
-        .arg(system_argument(alloc))?
-        .arg(argument(alloc, "from", "FROM", "The file's name where it is"))?
-        .arg(argument(alloc, "to", "TO", "The file's name where it goes"))?
-        .arg(grade_option(alloc))
+    for entry in entries {
+        command = command.arg(argument_of(alloc, entry))?;
+    }
+    Ok(command)
 }
 
-fn exec_command<'a>(alloc: Global) -> Result<Command<'a>, AllocError>
-    ensures app { IfOk result (λ command. app_of command ≡ spec.exec_command) }
-    ensures local { IfOk result (λ command. (fields_of command).has_globals ≡ false) }
-{
-    Command::new(alloc, "exec")
-        .about("Queues a command for a system, with standard input as its input")
-        .arg(grade_option(alloc))?
-        .arg(system_argument(alloc))?
-        .arg(argument(
-            alloc,
-            "command",
-            "COMMAND",
-            "The command that the system is to run",
-        ))?
-        .arg(command_arguments(alloc))
-}
-
-fn mail_command<'a>(alloc: Global) -> Result<Command<'a>, AllocError>
-    ensures app { IfOk result (λ command. app_of command ≡ spec.mail_command) }
-    ensures local { IfOk result (λ command. (fields_of command).has_globals ≡ false) }
-{
-    Command::new(alloc, "mail")
-        .about("Queues standard input as a message")
-        .arg(grade_option(alloc))?
-        .arg(address_arguments(alloc))
-}
-
-// `NAME JOB`.
-fn job_command<'a>(alloc: Global, name: &'a str, about: &'a str) -> Result<Command<'a>, AllocError>
-    ensures app { IfOk result (λ command. app_of command ≡ spec.job_command name.entry.now) }
-    ensures local { IfOk result (λ command. (fields_of command).has_globals ≡ false) }
-{
-    Command::new(alloc, name)
-        .about(about)
-        .arg(job_argument(alloc))
-}
-
-fn regrade_command<'a>(alloc: Global) -> Result<Command<'a>, AllocError>
-    ensures app { IfOk result (λ command. app_of command ≡ spec.regrade_command) }
-    ensures local { IfOk result (λ command. (fields_of command).has_globals ≡ false) }
-{
-    Command::new(alloc, "regrade")
-        .about("Gives a job another grade")
-        .arg(job_argument(alloc))?
-        .arg(argument(
-            alloc,
-            "grade",
-            "GRADE",
-            "The job's new grade: 0 to 9, A to Z or a to z, highest first",
-        ))
-}
-
-fn list_command<'a>(alloc: Global) -> Result<Command<'a>, AllocError>
-    ensures app { IfOk result (λ command. app_of command ≡ spec.list_command) }
-    ensures local { IfOk result (λ command. (fields_of command).has_globals ≡ false) }
-{
-    Command::new(alloc, "list")
-        .about("Lists the jobs, those of the highest grade first")
-        .arg(wanted_system(alloc))?
-        .arg(wanted_user(alloc))
-}
-
-fn failed_command<'a>(alloc: Global) -> Result<Command<'a>, AllocError>
-    ensures app { IfOk result (λ command. app_of command ≡ spec.failed_command) }
-    ensures local { IfOk result (λ command. (fields_of command).has_globals ≡ false) }
-{
-    Command::new(alloc, "failed")
-        .about("Notes a call that failed")
-        .arg(called_argument(alloc))?
-        .arg(argument(alloc, "why", "WHY", "Why it failed, a word"))
-}
-
-fn done_command<'a>(alloc: Global) -> Result<Command<'a>, AllocError>
-    ensures app { IfOk result (λ command. app_of command ≡ spec.done_command) }
-    ensures local { IfOk result (λ command. (fields_of command).has_globals ≡ false) }
-{
-    Command::new(alloc, "done")
-        .about("Notes a call that succeeded, and lets the jobs go that it carried out")
-        .arg(called_argument(alloc))?
-        .arg(job_arguments(alloc))
-}
-
-fn neighbours_command<'a>(alloc: Global) -> Result<Command<'a>, AllocError>
-    ensures app { IfOk result (λ command. app_of command ≡ spec.neighbours_command) }
-    ensures local { IfOk result (λ command. (fields_of command).has_globals ≡ false) }
-{
-    Command::new(alloc, "neighbours")
-        .about("Lists the links of a host's map entry")
-        .arg(argument(alloc, "host", "HOST", "The host of the map entry"))
-}
-
-fn wanted_system<'a>(alloc: Global) -> Arg<'a>
-    ensures rule { rule_of result ≡ spec.wanted_system }
+// The argument or option of an entry.
+fn argument_of<'a>(alloc: Global, entry: &Entry<'a>) -> Arg<'a>
+    ensures rule { rule_of result ≡ rule_for entry.now }
     ensures local { result.global ≡ false }
 {
-    Arg::new(alloc, "system")
-        .short('s')
-        .value_name("SYSTEM")
-        .help("The jobs for this neighbour alone")
+    let named = Arg::new(alloc, entry.id)
+        .value_name(entry.shown)
+        .help(entry.help);
+    let given = with_default(with_place(named, entry.place), entry.default);
+    with_reading(given, entry.reading)
 }
 
-fn wanted_user<'a>(alloc: Global) -> Arg<'a>
-    ensures rule { rule_of result ≡ spec.wanted_user }
-    ensures local { result.global ≡ false }
+fn with_place<'a>(arg: Arg<'a>, place: Place<'a>) -> Arg<'a>
+    ensures rule { rule_of result ≡ placed place.entry (rule_of arg.entry) }
+    ensures local { result.global ≡ arg.entry.global }
 {
-    Arg::new(alloc, "user")
-        .short('u')
-        .value_name("USER")
-        .help("The jobs of this user alone")
+    match place {
+        Place::Short(letter) => arg.short(letter),
+        Place::Long(name) => arg.long(name),
+        Place::Required => arg.required(true),
+        Place::Any => arg.num_args(0..),
+        Place::Several => arg.num_args(1..).required(true),
+    }
 }
 
-fn system_argument<'a>(alloc: Global) -> Arg<'a>
-    ensures rule { rule_of result ≡ spec.argument (codes "system") }
-    ensures local { result.global ≡ false }
+fn with_default<'a>(arg: Arg<'a>, default: Option<&'a str>) -> Arg<'a>
+    ensures rule { rule_of result ≡ defaulted default.entry (rule_of arg.entry) }
+    ensures local { result.global ≡ arg.entry.global }
 {
-    argument(
-        alloc,
-        "system",
-        "SYSTEM",
-        "The neighbour that the job is for",
-    )
+    match default {
+        Some(value) => arg.default_value(value),
+        None => arg,
+    }
 }
 
-fn called_argument<'a>(alloc: Global) -> Arg<'a>
-    ensures rule { rule_of result ≡ spec.argument (codes "system") }
-    ensures local { result.global ≡ false }
+fn with_reading<'a>(arg: Arg<'a>, reading: Reading) -> Arg<'a>
+    ensures rule { rule_of result ≡ read reading (rule_of arg.entry) }
+    ensures local { result.global ≡ arg.entry.global }
 {
-    argument(alloc, "system", "SYSTEM", "The neighbour that was called")
-}
-
-fn job_argument<'a>(alloc: Global) -> Arg<'a>
-    ensures rule { rule_of result ≡ spec.job_argument }
-    ensures local { result.global ≡ false }
-{
-    argument(alloc, "job", "JOB", "The job's number").value_parser(clap::value_parser!(u64).range(
-        0..=4_294_967_295,
-    ))
-}
-
-fn grade_option<'a>(alloc: Global) -> Arg<'a>
-    ensures rule { rule_of result ≡ spec.grade_option }
-    ensures local { result.global ≡ false }
-{
-    Arg::new(alloc, "grade")
-        .short('g')
-        .value_name("GRADE")
-        .default_value("N")
-        .help("The job's grade: 0 to 9, A to Z or a to z, highest first")
-}
-
-fn command_arguments<'a>(alloc: Global) -> Arg<'a>
-    ensures rule { rule_of result ≡ spec.arguments (codes "argument") 0 }
-    ensures local { result.global ≡ false }
-{
-    Arg::new(alloc, "argument")
-        .value_name("ARG")
-        .num_args(0..)
-        .help("The command's arguments; `--` before those that begin with a hyphen")
-}
-
-fn address_arguments<'a>(alloc: Global) -> Arg<'a>
-    ensures rule { rule_of result ≡ record (spec.arguments (codes "address") 1) { required = true } }
-    ensures local { result.global ≡ false }
-{
-    Arg::new(alloc, "address")
-        .value_name("ADDRESS")
-        .num_args(1..)
-        .required(true)
-        .help("A bang path, each by way of the same neighbour")
-}
-
-fn job_arguments<'a>(alloc: Global) -> Arg<'a>
-    ensures rule { rule_of result ≡ record (spec.arguments (codes "job") 0) { parser = Some (Unsigned 0 4_294_967_295) } }
-    ensures local { result.global ≡ false }
-{
-    Arg::new(alloc, "job")
-        .value_name("JOB")
-        .num_args(0..)
-        .value_parser(clap::value_parser!(u64).range(0..=4_294_967_295))
-        .help("The numbers of the jobs that were carried out")
-}
-
-// An argument that has to be there, by its place.
-fn argument<'a>(alloc: Global, id: &'a str, shown: &'a str, help: &'a str) -> Arg<'a>
-    ensures rule { rule_of result ≡ spec.argument id.entry.now }
-    ensures local { result.global ≡ false }
-{
-    Arg::new(alloc, id)
-        .value_name(shown)
-        .required(true)
-        .help(help)
+    match reading {
+        Reading::Text => arg,
+        Reading::Job => arg.value_parser(clap::value_parser!(u64).range(0..=4_294_967_295)),
+        Reading::Second => arg.value_parser(clap::value_parser!(u64).range(0..=9_999_999_999)),
+    }
 }

@@ -1,10 +1,18 @@
+use Rattle.std.proofs.Common.{◌≡◌, ◌∙◌, ap, true}
+use Rattle.clap.specs.Words.{app_of}
+use Rattle.clap.specs.Simple.{app_of_fields, on_top}
+use Rattle.clap.specs.declared.builder.command.Command.{Command}
+use Rattle.clap.specs.declared.builder.command.Command.TheOpen.{Command-F}
+use Rattle.uu_line.specs.Commands.{without_options, without_subcommands}
 use Rattle.uu_line.proofs.commands.program_command.Goals as goal
 
-pub returns : goal.returns
-returns c =
-    let due = c.adding-with_due.ensures _ _ c.with_jobs.ensures c.plain_command-due.ensures.app c.plain_command-due.ensures.local in
-    let status = c.adding-with_status.ensures _ _ due c.plain_command-status.ensures.app c.plain_command-status.ensures.local in
-    let failed = c.adding-with_failed.ensures _ _ status c.failed_command.ensures.app c.failed_command.ensures.local in
-    let done = c.adding-with_done.ensures _ _ failed c.done_command.ensures.app c.done_command.ensures.local in
-    let map = c.adding-with_map.ensures _ _ done c.plain_command-map.ensures.app c.plain_command-map.ensures.local in
-    c.adding.ensures _ _ map c.neighbours_command.ensures.app c.neighbours_command.ensures.local
+pub returns-in-Ok : goal.returns-in-Ok
+returns-in-Ok c =
+    let wanting : Command-F Command → Command-F Command = λ f. record f { subcommand_required = true } in
+    let nameless : Command-F Command → Command-F Command = λ f. record f { no_binary_name = true } in
+    let settings = c.subcommand_required-bare.ensures ∙ ap wanting (c.no_binary_name.ensures ∙ ap nameless c.about.ensures) in
+    let bare : app_of c.subcommand_required-bare.result ≡ without_options =
+    ap app_of_fields settings
+    ∙ ap (on_top (λ s. record s { no_binary_name = true; subcommand_required = true })) c.new.ensures.app in
+    let options : app_of c.in-Ok.command ≡ without_subcommands = c.in-Ok.ensures.app without_options bare in
+    c.with_subcommands.ensures without_subcommands options
