@@ -1,5 +1,5 @@
 -- The readings of a line's parts.
-use Rattle.std.proofs.Common.{◌≡◌, ◌≢◌, ◌∙◌, ◌^◌, ◌≤◌, ◌⊎◌, ◌&&◌, inl, inr, if◌then◌else◌, codes, ap, ap₂, sym, refl, ℕ, zero, suc, ◌<◌, Bool, true, false, List, [], ◌∷◌, ◌++◌, Option, Some, None, Result, Ok, Err, is_some, map, take, length, get_or, slice_index_or, subst, true≢false, arith}
+use Rattle.std.proofs.Common.{◌≡◌, ◌≢◌, ◌∙◌, ◌^◌, ◌≤◌, ◌⊎◌, ◌&&◌, inl, inr, if◌then◌else◌, codes, ap, ap₂, sym, refl, ℕ, zero, suc, ◌<◌, Bool, true, false, List, [], ◌∷◌, ◌++◌, Option, Some, None, Result, Ok, Err, is_some, map, drop, take, length, get_or, slice_index_or, subst, true≢false, arith}
 use Rattle.std.specs.Prelude.{⊤, cond, find, nat_le, option_and_then, option_map, slice_get, unwrap_or}
 use Rattle.std.specs.List.{All, list_all, prefix_len}
 use Rattle.std.specs.String.{string_bytes}
@@ -110,6 +110,19 @@ never_strange name (subcommand ∷ more) other found = go (bytes_eq subcommand.0
         → is_some (cond b (Some subcommand) (find (λ subcommand. bytes_eq subcommand.0 name) more)) ≡ true → ⊥
     go true is later found = other.0 (sym ((bytes_eq-Decides subcommand.0 name).0 is))
     go false is later found = later found
+
+-- a name that is none of the first rows is found in the others
+pub found_later : (name : Text) (n : ℕ) (table : List (Text × List Text)) → IsNone name (take n table)
+    → is_some (find (λ subcommand. bytes_eq subcommand.0 name) table) ≡ true → is_some (find (λ subcommand. bytes_eq subcommand.0 name) (drop n table)) ≡ true
+found_later name zero table other found = found
+found_later name (suc n) [] other found = found
+found_later name (suc n) (subcommand ∷ more) other found =
+    found_later name n more other.1 (go (bytes_eq subcommand.0 name) refl found)
+  where
+    go : (b : Bool) → bytes_eq subcommand.0 name ≡ b → is_some (cond b (Some subcommand) (find (λ subcommand. bytes_eq subcommand.0 name) more)) ≡ true
+        → is_some (find (λ subcommand. bytes_eq subcommand.0 name) more) ≡ true
+    go true is found = absurd (other.0 (sym ((bytes_eq-Decides subcommand.0 name).0 is)))
+    go false is found = found
 
 -- the texts of an entry that has one
 pub texts_given : (id : Text) (rows : List Row) → is_some (first_of id rows) ≡ true

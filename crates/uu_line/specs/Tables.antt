@@ -1,38 +1,31 @@
 -- What the rows of the program's tables mean, in the terms of `clap`.
-use Rattle.std.specs.Prelude.{List, Some, None, Option, [], ◌∷◌, true}
-use Rattle.std.specs.Borrow.{Bor}
+use Rattle.std.specs.Prelude.{List, Some, [], ◌∷◌, map}
 use Rattle.clap.specs.Lexer.{usize_max}
 use Rattle.clap.specs.Words.{App, Rule, Text, new_rule, new_app, with_rule, with_subcommand}
 use Rattle.clap.specs.declared.builder.value_parser.ValueParser.TheVariants.{Unsigned}
 use Rattle.uu_line.specs.declared.commands.Entry.{Entry}
-use Rattle.uu_line.specs.declared.commands.Place.{Place}
-use Rattle.uu_line.specs.declared.commands.Place.TheVariants as place
-use Rattle.uu_line.specs.declared.commands.Reading.{Reading}
-use Rattle.uu_line.specs.declared.commands.Reading.TheVariants as reading
+use Rattle.uu_line.specs.declared.commands.Form.{Form}
+use Rattle.uu_line.specs.declared.commands.Form.TheVariants as form
 use Rattle.uu_line.specs.declared.commands.Subcommand.{Subcommand}
 
--- where an entry stands in a line
-abbrev pub placed : Place → Rule → Rule
-placed (place.Short letter) rule = record rule { short = Some letter }
-placed (place.Long name) rule = record rule { long = Some name.now }
-placed place.Required rule = record rule { required = true }
-placed place.Any rule = record rule { range = Some (record { start_inclusive = 0; end_inclusive = usize_max }) }
-placed place.Several rule = record rule { range = Some (record { start_inclusive = 1; end_inclusive = usize_max }); required = true }
+-- an option or argument of this form and id
+abbrev pub rule_formed : Form → Text → Rule
+rule_formed (form.Letter letter) id = record (new_rule id) { short = Some letter }
+rule_formed (form.Name name) id = record (new_rule id) { long = Some name.now }
+rule_formed (form.Second name) id = record (new_rule id) { long = Some name.now; parser = Some (Unsigned 0 9_999_999_999) }
+rule_formed form.One id = new_rule id
+rule_formed form.Job id = record (new_rule id) { parser = Some (Unsigned 0 4_294_967_295) }
+rule_formed form.Any id = record (new_rule id) { range = Some (record { start_inclusive = 0; end_inclusive = usize_max }) }
+rule_formed form.Jobs id =
+    record (new_rule id) { range = Some (record { start_inclusive = 0; end_inclusive = usize_max }); parser = Some (Unsigned 0 4_294_967_295) }
+rule_formed form.Several id = record (new_rule id) { range = Some (record { start_inclusive = 1; end_inclusive = usize_max }) }
 
--- its value where it is not given
-abbrev pub defaulted : Option (Bor Text) → Rule → Rule
-defaulted None rule = rule
-defaulted (Some value) rule = record rule { defaults = value.now ∷ [] }
-
--- as what its values are read
-abbrev pub read : Reading → Rule → Rule
-read reading.Text rule = rule
-read reading.Job rule = record rule { parser = Some (Unsigned 0 4_294_967_295) }
-read reading.Second rule = record rule { parser = Some (Unsigned 0 9_999_999_999) }
-
+-- and with what else its entry says
 abbrev pub rule_for : Entry → Rule
-rule_for entry = read entry.reading (defaulted entry.default (placed entry.place (record (new_rule entry.id.now) { value_names = 1 })))
+rule_for entry =
+    record (rule_formed entry.form entry.id.now) { required = entry.required; defaults = map (λ text. text.now) entry.defaults.now; value_names = 1 }
 
+-- a command with the entries, and one with the subcommands, of these rows
 abbrev pub with_rules : App → List Entry → App
 with_rules app [] = app
 with_rules app (entry ∷ entries) = with_rules (with_rule app (rule_for entry)) entries

@@ -1,46 +1,46 @@
 //! The program's command line, as `clap` is told of it.
 ghost use Rattle.std.specs.Prelude.{◌≡◌, IfOk, false};
 ghost use Rattle.clap.specs.Words.{App, app_of, rule_of};
+ghost use Rattle.clap.specs.Built.{AddsInTurn, AddsSubcommand};
+ghost use Rattle.clap.specs.declared.builder.command.Command.{Command as AnyCommand};
 ghost use Rattle.clap.specs.declared.builder.command.Command.TheViews.{out-Command as fields_of};
+ghost use Rattle.clap.specs.declared.builder.value_parser.ValueParser.TheVariants.{Unsigned};
 ghost use Rattle.uu_line.specs.Commands as spec;
-ghost use Rattle.uu_line.specs.Tables.{app_for, defaulted, placed, read, rule_for, with_apps, with_rules};
+ghost use Rattle.uu_line.specs.Tables.{app_for, rule_for, rule_formed, with_apps, with_rules};
 
+use clap::builder::ValueParser;
 use clap::{Arg, Command};
 use std::alloc::{AllocError, Global};
 
 // An argument or an option.
 struct Entry<'a> {
     id: &'a str,
-    place: Place<'a>,
-    default: Option<&'a str>,
-    reading: Reading,
+    form: Form<'a>,
+    required: bool,
+    defaults: &'a [&'a str],
     shown: &'a str,
     help: &'a str,
 }
 
-// Where an entry stands in a line.
+// How an entry is written.
 #[derive(Clone, Copy)]
-enum Place<'a> {
+enum Form<'a> {
     // An option of one letter.
-    Short(char),
+    Letter(char),
     // An option of a name.
-    Long(&'a str),
-    // An argument that has to be there, by its place.
-    Required,
+    Name(&'a str),
+    // An option of a name, whose value is a second.
+    Second(&'a str),
+    // An argument by its place.
+    One,
+    // An argument by its place, a job's number.
+    Job,
     // The last arguments, any number of them.
     Any,
+    // The last arguments, any number of them, each a job's number.
+    Jobs,
     // The last arguments, one or more.
     Several,
-}
-
-// As what the values of an entry are read.
-#[derive(Clone, Copy)]
-enum Reading {
-    Text,
-    // A job's number.
-    Job,
-    // A second, UTC.
-    Second,
 }
 
 // A subcommand.
@@ -53,9 +53,9 @@ struct Subcommand<'a> {
 // `-c FILE`
 const CONFIG: Entry<'static> = Entry {
     id: "config",
-    place: Place::Short('c'),
-    default: Some("uuspool.toml"),
-    reading: Reading::Text,
+    form: Form::Letter('c'),
+    required: false,
+    defaults: &["uuspool.toml"],
     shown: "FILE",
     help: "The settings file",
 };
@@ -63,9 +63,9 @@ const CONFIG: Entry<'static> = Entry {
 // `--at SECONDS`
 const SECOND: Entry<'static> = Entry {
     id: "at",
-    place: Place::Long("at"),
-    default: None,
-    reading: Reading::Second,
+    form: Form::Second("at"),
+    required: false,
+    defaults: &[],
     shown: "SECONDS",
     help: "The second of the call, UTC, in place of the clock's",
 };
@@ -73,9 +73,9 @@ const SECOND: Entry<'static> = Entry {
 // `--as USER`
 const USER: Entry<'static> = Entry {
     id: "as",
-    place: Place::Long("as"),
-    default: Some("uucp"),
-    reading: Reading::Text,
+    form: Form::Name("as"),
+    required: false,
+    defaults: &["uucp"],
     shown: "USER",
     help: "The user who calls",
 };
@@ -83,9 +83,9 @@ const USER: Entry<'static> = Entry {
 // `SYSTEM`, of a job
 const SYSTEM: Entry<'static> = Entry {
     id: "system",
-    place: Place::Required,
-    default: None,
-    reading: Reading::Text,
+    form: Form::One,
+    required: true,
+    defaults: &[],
     shown: "SYSTEM",
     help: "The neighbour that the job is for",
 };
@@ -93,9 +93,9 @@ const SYSTEM: Entry<'static> = Entry {
 // `SYSTEM`, of a call
 const CALLED: Entry<'static> = Entry {
     id: "system",
-    place: Place::Required,
-    default: None,
-    reading: Reading::Text,
+    form: Form::One,
+    required: true,
+    defaults: &[],
     shown: "SYSTEM",
     help: "The neighbour that was called",
 };
@@ -103,9 +103,9 @@ const CALLED: Entry<'static> = Entry {
 // `-g GRADE`
 const GRADE: Entry<'static> = Entry {
     id: "grade",
-    place: Place::Short('g'),
-    default: Some("N"),
-    reading: Reading::Text,
+    form: Form::Letter('g'),
+    required: false,
+    defaults: &["N"],
     shown: "GRADE",
     help: "The job's grade: 0 to 9, A to Z or a to z, highest first",
 };
@@ -113,9 +113,9 @@ const GRADE: Entry<'static> = Entry {
 // `JOB`
 const JOB: Entry<'static> = Entry {
     id: "job",
-    place: Place::Required,
-    default: None,
-    reading: Reading::Job,
+    form: Form::Job,
+    required: true,
+    defaults: &[],
     shown: "JOB",
     help: "The job's number",
 };
@@ -123,9 +123,9 @@ const JOB: Entry<'static> = Entry {
 // `FROM`
 const SOURCE: Entry<'static> = Entry {
     id: "from",
-    place: Place::Required,
-    default: None,
-    reading: Reading::Text,
+    form: Form::One,
+    required: true,
+    defaults: &[],
     shown: "FROM",
     help: "The file's name where it is",
 };
@@ -133,15 +133,18 @@ const SOURCE: Entry<'static> = Entry {
 // `TO`
 const TARGET: Entry<'static> = Entry {
     id: "to",
-    place: Place::Required,
-    default: None,
-    reading: Reading::Text,
+    form: Form::One,
+    required: true,
+    defaults: &[],
     shown: "TO",
     help: "The file's name where it goes",
 };
 
+// The options of the whole command.
+static OPTIONS: [Entry<'static>; 3] = [CONFIG, SECOND, USER];
+
 // The subcommands, in the order that help lists them in.
-const SUBCOMMANDS: &[Subcommand<'static>] = &[
+static SUBCOMMANDS: [Subcommand<'static>; 17] = [
     Subcommand {
         name: "load",
         about: "Defines the systems of the sys file on standard input",
@@ -152,9 +155,9 @@ const SUBCOMMANDS: &[Subcommand<'static>] = &[
         about: "Forgets a system that no job waits for",
         entries: &[Entry {
             id: "system",
-            place: Place::Required,
-            default: None,
-            reading: Reading::Text,
+            form: Form::One,
+            required: true,
+            defaults: &[],
             shown: "SYSTEM",
             help: "The neighbour that is forgotten",
         }],
@@ -177,17 +180,17 @@ const SUBCOMMANDS: &[Subcommand<'static>] = &[
             SYSTEM,
             Entry {
                 id: "command",
-                place: Place::Required,
-                default: None,
-                reading: Reading::Text,
+                form: Form::One,
+                required: true,
+                defaults: &[],
                 shown: "COMMAND",
                 help: "The command that the system is to run",
             },
             Entry {
                 id: "argument",
-                place: Place::Any,
-                default: None,
-                reading: Reading::Text,
+                form: Form::Any,
+                required: false,
+                defaults: &[],
                 shown: "ARG",
                 help: "The command's arguments; `--` before those that begin with a hyphen",
             },
@@ -200,9 +203,9 @@ const SUBCOMMANDS: &[Subcommand<'static>] = &[
             GRADE,
             Entry {
                 id: "address",
-                place: Place::Several,
-                default: None,
-                reading: Reading::Text,
+                form: Form::Several,
+                required: true,
+                defaults: &[],
                 shown: "ADDRESS",
                 help: "A bang path, each by way of the same neighbour",
             },
@@ -214,17 +217,17 @@ const SUBCOMMANDS: &[Subcommand<'static>] = &[
         entries: &[
             Entry {
                 id: "system",
-                place: Place::Short('s'),
-                default: None,
-                reading: Reading::Text,
+                form: Form::Letter('s'),
+                required: false,
+                defaults: &[],
                 shown: "SYSTEM",
                 help: "The jobs for this neighbour alone",
             },
             Entry {
                 id: "user",
-                place: Place::Short('u'),
-                default: None,
-                reading: Reading::Text,
+                form: Form::Letter('u'),
+                required: false,
+                defaults: &[],
                 shown: "USER",
                 help: "The jobs of this user alone",
             },
@@ -247,9 +250,9 @@ const SUBCOMMANDS: &[Subcommand<'static>] = &[
             JOB,
             Entry {
                 id: "grade",
-                place: Place::Required,
-                default: None,
-                reading: Reading::Text,
+                form: Form::One,
+                required: true,
+                defaults: &[],
                 shown: "GRADE",
                 help: "The job's new grade: 0 to 9, A to Z or a to z, highest first",
             },
@@ -277,9 +280,9 @@ const SUBCOMMANDS: &[Subcommand<'static>] = &[
             CALLED,
             Entry {
                 id: "why",
-                place: Place::Required,
-                default: None,
-                reading: Reading::Text,
+                form: Form::One,
+                required: true,
+                defaults: &[],
                 shown: "WHY",
                 help: "Why it failed, a word",
             },
@@ -292,9 +295,9 @@ const SUBCOMMANDS: &[Subcommand<'static>] = &[
             CALLED,
             Entry {
                 id: "job",
-                place: Place::Any,
-                default: None,
-                reading: Reading::Job,
+                form: Form::Jobs,
+                required: false,
+                defaults: &[],
                 shown: "JOB",
                 help: "The numbers of the jobs that were carried out",
             },
@@ -310,9 +313,9 @@ const SUBCOMMANDS: &[Subcommand<'static>] = &[
         about: "Lists the links of a host's map entry",
         entries: &[Entry {
             id: "host",
-            place: Place::Required,
-            default: None,
-            reading: Reading::Text,
+            form: Form::One,
+            required: true,
+            defaults: &[],
             shown: "HOST",
             help: "The host of the map entry",
         }],
@@ -323,28 +326,39 @@ const SUBCOMMANDS: &[Subcommand<'static>] = &[
 pub(crate) fn program_command<'a>(alloc: Global) -> Result<Command<'a>, AllocError>
     ensures { IfOk result (λ command. app_of command ≡ spec.program) }
 {
-    let bare = Command::new(alloc, "uuspool")
-        .about("The job spool of a UUCP site")
-        .no_binary_name(true)
-        .subcommand_required(true);
-    match with_entries(alloc, bare, &[CONFIG, SECOND, USER]) {
-        Ok(command) => with_subcommands(alloc, command, SUBCOMMANDS),
+    match with_options(alloc) {
+        Ok(command) => match commands_of(alloc, &SUBCOMMANDS) {
+            Ok(subcommands) => command.subcommands(subcommands),
+            Err(error) => Err(error),
+        },
         Err(error) => Err(error),
     }
 }
 
-// The command with these subcommands more.
-fn with_subcommands<'a>(
-    alloc: Global,
-    mut command: Command<'a>,
-    subcommands: &[Subcommand<'a>],
-) -> Result<Command<'a>, AllocError>
-    ensures { (whole : App) → app_of command.entry ≡ whole → IfOk result (λ more. app_of more ≡ with_apps whole subcommands.now) }
+// The command with its options alone.
+fn with_options<'a>(alloc: Global) -> Result<Command<'a>, AllocError>
+    ensures { IfOk result (λ command. app_of command ≡ spec.without_subcommands) }
 {
-    for subcommand in subcommands {
-        command = command.subcommand(command_of(alloc, subcommand)?)?;
+    let bare = Command::new(alloc, "uuspool")
+        .about("The job spool of a UUCP site")
+        .no_binary_name(true)
+        .subcommand_required(true);
+    with_entries(alloc, bare, &OPTIONS)
+}
+
+// The subcommands of these rows.
+fn commands_of<'a>(alloc: Global, rows: &[Subcommand<'a>]) -> Result<Vec<Command<'a>>, AllocError>
+    ensures { IfOk result (λ commands. (old new : AnyCommand) (whole : App) → app_of old ≡ whole
+        → AddsInTurn AddsSubcommand old commands.items new → app_of new ≡ with_apps whole rows.now) }
+{
+    let mut commands = Vec::new(alloc);
+    for row in rows {
+        match command_of(alloc, row) {
+            Ok(command) => commands.push(command)?,
+            Err(error) => return Err(error),
+        }
     }
-    Ok(command)
+    Ok(commands)
 }
 
 // A subcommand with its entries.
@@ -376,43 +390,40 @@ fn argument_of<'a>(alloc: Global, entry: &Entry<'a>) -> Arg<'a>
     ensures rule { rule_of result ≡ rule_for entry.now }
     ensures local { result.global ≡ false }
 {
-    let named = Arg::new(alloc, entry.id)
+    formed(alloc, entry.id, entry.form)
+        .required(entry.required)
+        .default_values(entry.defaults)
         .value_name(entry.shown)
-        .help(entry.help);
-    let given = with_default(with_place(named, entry.place), entry.default);
-    with_reading(given, entry.reading)
+        .help(entry.help)
 }
 
-fn with_place<'a>(arg: Arg<'a>, place: Place<'a>) -> Arg<'a>
-    ensures rule { rule_of result ≡ placed place.entry (rule_of arg.entry) }
-    ensures local { result.global ≡ arg.entry.global }
+// An argument or option of this id and form. It is begun in each arm, since one that lives across a choice is dear to prove.
+fn formed<'a>(alloc: Global, id: &'a str, form: Form<'a>) -> Arg<'a>
+    ensures rule { rule_of result ≡ rule_formed form.entry id.entry.now }
+    ensures local { result.global ≡ false }
 {
-    match place {
-        Place::Short(letter) => arg.short(letter),
-        Place::Long(name) => arg.long(name),
-        Place::Required => arg.required(true),
-        Place::Any => arg.num_args(0..),
-        Place::Several => arg.num_args(1..).required(true),
+    match form {
+        Form::Letter(letter) => Arg::new(alloc, id).short(letter),
+        Form::Name(name) => Arg::new(alloc, id).long(name),
+        Form::Second(name) => Arg::new(alloc, id).long(name).value_parser(second()),
+        Form::One => Arg::new(alloc, id),
+        Form::Job => Arg::new(alloc, id).value_parser(job()),
+        Form::Any => Arg::new(alloc, id).num_args(0..),
+        Form::Jobs => Arg::new(alloc, id).num_args(0..).value_parser(job()),
+        Form::Several => Arg::new(alloc, id).num_args(1..),
     }
 }
 
-fn with_default<'a>(arg: Arg<'a>, default: Option<&'a str>) -> Arg<'a>
-    ensures rule { rule_of result ≡ defaulted default.entry (rule_of arg.entry) }
-    ensures local { result.global ≡ arg.entry.global }
+// The numbers that jobs may have.
+fn job<'a>() -> ValueParser<'a>
+    ensures { result ≡ Unsigned 0 4_294_967_295 }
 {
-    match default {
-        Some(value) => arg.default_value(value),
-        None => arg,
-    }
+    clap::value_parser!(u64).range(0..=4_294_967_295)
 }
 
-fn with_reading<'a>(arg: Arg<'a>, reading: Reading) -> Arg<'a>
-    ensures rule { rule_of result ≡ read reading (rule_of arg.entry) }
-    ensures local { result.global ≡ arg.entry.global }
+// The seconds that a line may give.
+fn second<'a>() -> ValueParser<'a>
+    ensures { result ≡ Unsigned 0 9_999_999_999 }
 {
-    match reading {
-        Reading::Text => arg,
-        Reading::Job => arg.value_parser(clap::value_parser!(u64).range(0..=4_294_967_295)),
-        Reading::Second => arg.value_parser(clap::value_parser!(u64).range(0..=9_999_999_999)),
-    }
+    clap::value_parser!(u64).range(0..=9_999_999_999)
 }

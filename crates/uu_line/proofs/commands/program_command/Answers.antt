@@ -1,18 +1,7 @@
-use Rattle.std.proofs.Common.{◌≡◌, ◌∙◌, ap, true}
-use Rattle.clap.specs.Words.{app_of}
-use Rattle.clap.specs.Simple.{app_of_fields, on_top}
-use Rattle.clap.specs.declared.builder.command.Command.{Command}
-use Rattle.clap.specs.declared.builder.command.Command.TheOpen.{Command-F}
-use Rattle.uu_line.specs.Commands.{without_options, without_subcommands}
+use Rattle.std.proofs.lemmas.Result.{IfOk-weaker}
+use Rattle.uu_line.specs.Commands.{without_subcommands}
 use Rattle.uu_line.proofs.commands.program_command.Goals as goal
 
-pub returns-in-Ok : goal.returns-in-Ok
-returns-in-Ok c =
-    let wanting : Command-F Command → Command-F Command = λ f. record f { subcommand_required = true } in
-    let nameless : Command-F Command → Command-F Command = λ f. record f { no_binary_name = true } in
-    let settings = c.subcommand_required-bare.ensures ∙ ap wanting (c.no_binary_name.ensures ∙ ap nameless c.about.ensures) in
-    let bare : app_of c.subcommand_required-bare.result ≡ without_options =
-    ap app_of_fields settings
-    ∙ ap (on_top (λ s. record s { no_binary_name = true; subcommand_required = true })) c.new.ensures.app in
-    let options : app_of c.in-Ok.command ≡ without_subcommands = c.in-Ok.ensures.app without_options bare in
-    c.with_subcommands.ensures without_subcommands options
+pub returns-in-Ok-commands_of : goal.returns-in-Ok-commands_of
+returns-in-Ok-commands_of c =
+    IfOk-weaker c.subcommands.result _ _ (λ new added. c.in-Ok-commands_of.ensures c.in-Ok.command new without_subcommands c.in-Ok.ensures added) c.subcommands.ensures

@@ -1,4 +1,4 @@
-use Rattle.std.proofs.Common.{◌≡◌, ◌∙◌, ap₂, subst, sym, ℕ, List, Ok}
+use Rattle.std.proofs.Common.{◌∙◌, ap₂, subst, sym, ℕ, List, Ok}
 use Rattle.uu_line.specs.Lines.{Answers, and_then, file_task, grade_of, site_of, word_of}
 use Rattle.uu_line.proofs.LineLemmas.{both_of, four_read}
 use Rattle.uu_line.proofs.reading.file_parts.Goals as goal

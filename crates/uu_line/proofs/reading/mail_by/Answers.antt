@@ -1,6 +1,6 @@
 use Rattle.std.proofs.Common.{◌≡◌, ◌∙◌, ⊎_elim, ap₂, subst, sym, ℕ, List, Result, Ok, map}
 use Rattle.std.specs.Prelude.{IfOk, IfErr}
-use Rattle.uu_names.specs.Path.{first_hop, rest_of}
+use Rattle.uu_names.specs.Path.{rest_of}
 use Rattle.uu_line.specs.Lines.{Answers, mail_by, site_of}
 use Rattle.uu_line.specs.declared.fault.LineFault.{LineFault}
 use Rattle.uu_line.specs.declared.fault.LineFault.TheVariants as fault
