@@ -1,4 +1,5 @@
 pub mod UseLemmas
 pub mod EntryLemmas
+pub mod TableLemmas
 pub mod ProgramLemmas
 pub mod LineLemmas

@@ -1,7 +1,8 @@
 -- The readings of a line's parts.
-use Rattle.std.proofs.Common.{◌≡◌, ◌≢◌, ◌∙◌, ◌^◌, ◌≤◌, ap, sym, refl, ℕ, zero, suc, ◌<◌, Bool, true, false, List, [], ◌∷◌, ◌++◌, Option, Some, None, Result, Ok, Err, is_some, map, take, length, get_or, slice_index_or, subst, true≢false, arith}
-use Rattle.std.specs.Prelude.{⊤, cond, find, option_and_then, option_map, slice_get, unwrap_or}
-use Rattle.std.specs.List.{All, list_all}
+use Rattle.std.proofs.Common.{◌≡◌, ◌≢◌, ◌∙◌, ◌^◌, ◌≤◌, ◌⊎◌, ◌&&◌, inl, inr, if◌then◌else◌, codes, ap, ap₂, sym, refl, ℕ, zero, suc, ◌<◌, Bool, true, false, List, [], ◌∷◌, ◌++◌, Option, Some, None, Result, Ok, Err, is_some, map, drop, take, length, get_or, slice_index_or, subst, true≢false, arith}
+use Rattle.std.specs.Prelude.{⊤, cond, find, nat_le, option_and_then, option_map, slice_get, unwrap_or}
+use Rattle.std.specs.List.{All, list_all, prefix_len}
+use Rattle.std.specs.String.{string_bytes}
 use Rattle.std.specs.Str.{bytes_eq}
 use Rattle.std.specs.Str.Parse.{IsNumeral, digits_value, without_leading_plus}
 use Rattle.std.proofs.Math.Seq.{take-suc}
@@ -9,7 +10,11 @@ use Rattle.std.proofs.lemmas.Slice.Eq.{bytes_eq-Decides}
 use Rattle.uu_names.specs.declared.fault.NameFault.{NameFault}
 use Rattle.std.proofs.lemmas.List.{get_or-map, length-map}
 use Rattle.std.proofs.lemmas.List.Elements.{All-append}
-use Rattle.uu_names.specs.Path.{IsPathText}
+use Rattle.uu_names.specs.Path.{IsPathFault, IsPathText, first_hop, rest_of}
+use Rattle.uu_names.specs.Name.{has_form, is_site_byte, is_site_name, is_word, is_word_byte, most_name, most_word}
+use Rattle.uu_names.specs.Fault.{UnlessMemory as UnlessMemoryOf}
+use Rattle.uu_names.specs.declared.fault.NameFault.TheVariants as name
+use Rattle.uu_names.specs.declared.fault.NameFault.TheVariants.{BadName, BadWord, TooLong}
 use Rattle.clap.specs.Words.{Row, Text, all_of, first_of, found_of, matches_of, rows_of, fault_of, subcommand_of, subcommand_rows_of}
 use Rattle.clap.specs.Simple.{subcommand_rows}
 use Rattle.clap.specs.declared.parser.matches.ArgMatches.{ArgMatches}
@@ -19,12 +24,15 @@ use Rattle.std.specs.Box.{box_value}
 use Rattle.std.specs.Prelude.{Box}
 use Rattle.uu_line.specs.Commands.{program}
 use Rattle.uu_line.specs.declared.line.CallLine.{CallLine}
+use Rattle.uu_line.specs.declared.task.Task.{Task}
+use Rattle.uu_line.specs.declared.task.Task.TheVariants as task
+use Rattle.uu_line.specs.Faults.{fault_of_name}
 use Rattle.clap.specs.ValueTests.{is_unsigned_in}
 use Rattle.clap.specs.declared.builder.value_parser.ValueParser.TheVariants as vp
 use Rattle.clap.proofs.ValueTestLemmas.{accepts-Accepts}
 use Rattle.clap.proofs.WalkLemmas.{both}
 use Rattle.uu_line.specs.Entries.{AreNumbersUpTo, AreTaken, HasSubcommand, texts_at}
-use Rattle.uu_line.specs.Lines.{Answers, AreNumbers, HasEntriesOf, IsAddressFault, IsAnswerTo, IsBadAddress, IsNumber, IsWordsWhere, Line, Means, MeansEntries, UnlessMemory, and_then, answered, optional, said, word_of, words_of}
+use Rattle.uu_line.specs.Lines.{Answers, AreNumbers, HasEntriesOf, IsAddressFault, IsAnswerTo, IsBadAddress, IsNumber, IsNumberOf, IsWordsWhere, Line, Means, MeansEntered, MeansEntries, MeansLineOf, UnlessMemory, and_then, answered, mail_by, named, optional, said, same_text, site_of, word_of, words_of}
 use Rattle.uu_line.proofs.ProgramLemmas.{program_takes}
 use Rattle.uu_line.specs.declared.fault.LineFault.{LineFault}
 use Rattle.uu_line.specs.declared.fault.LineFault.TheVariants as fault
@@ -102,6 +110,19 @@ never_strange name (subcommand ∷ more) other found = go (bytes_eq subcommand.0
         → is_some (cond b (Some subcommand) (find (λ subcommand. bytes_eq subcommand.0 name) more)) ≡ true → ⊥
     go true is later found = other.0 (sym ((bytes_eq-Decides subcommand.0 name).0 is))
     go false is later found = later found
+
+-- a name that is none of the first rows is found in the others
+pub found_later : (name : Text) (n : ℕ) (table : List (Text × List Text)) → IsNone name (take n table)
+    → is_some (find (λ subcommand. bytes_eq subcommand.0 name) table) ≡ true → is_some (find (λ subcommand. bytes_eq subcommand.0 name) (drop n table)) ≡ true
+found_later name zero table other found = found
+found_later name (suc n) [] other found = found
+found_later name (suc n) (subcommand ∷ more) other found =
+    found_later name n more other.1 (go (bytes_eq subcommand.0 name) refl found)
+  where
+    go : (b : Bool) → bytes_eq subcommand.0 name ≡ b → is_some (cond b (Some subcommand) (find (λ subcommand. bytes_eq subcommand.0 name) more)) ≡ true
+        → is_some (find (λ subcommand. bytes_eq subcommand.0 name) more) ≡ true
+    go true is found = absurd (other.0 (sym ((bytes_eq-Decides subcommand.0 name).0 is)))
+    go false is found = found
 
 -- the texts of an entry that has one
 pub texts_given : (id : Text) (rows : List Row) → is_some (first_of id rows) ≡ true
@@ -255,3 +276,178 @@ entered_is (Some b) said rows name_is rows_are = cc
 pub no_subcommand : (o : Option (Text × List Row)) → None ≡ option_map (λ p. p.1) o → HasSubcommand o → ⊥
 no_subcommand None is has = has
 no_subcommand (Some subcommand) is has = absurd cc
+
+-- both values, or the fault of the first that is none
+abbrev pub both_of : {V W : Type 0} → Result V LineFault → Result W LineFault → Result (V × W) LineFault
+both_of first second = and_then first (λ v. and_then second (λ w. Ok (v, w)))
+
+-- two readings, and what is made of both values
+pub two_read : {A B V : Type 0} (made : A → B → V) (a x : Result A LineFault) (b y : Result B LineFault) → Answers a x → Answers b y
+    → Answers (and_then (both_of a b) (λ p. Ok (made p.0 p.1))) (and_then x (λ v. and_then y (λ w. Ok (made v w))))
+two_read made (Ok v) x (Ok w) y is also =
+    ap (λ r. and_then r (λ w. Ok (made v w))) also ∙ ap (λ r. and_then r (λ v. and_then y (λ w. Ok (made v w)))) is
+two_read made (Ok v) x (Err f) y is also =
+    err_weaker (λ a. a ≡ y) (λ a. a ≡ and_then x (λ v. and_then y (λ w. Ok (made v w)))) f
+    (λ same. ap (λ r. and_then r (λ w. Ok (made v w))) same ∙ ap (λ r. and_then r (λ v. and_then y (λ w. Ok (made v w)))) is) also
+two_read made (Err f) x b y is also = answers_then f x (λ v. and_then y (λ w. Ok (made v w))) is
+
+-- the readings of a pair
+pub pair_read : {A B : Type 0} (a x : Result A LineFault) (b y : Result B LineFault) → Answers a x → Answers b y → Answers (both_of a b) (both_of x y)
+pair_read (Ok v) x (Ok w) y is also = ap₂ both_of is also
+pair_read (Ok v) x (Err f) y is also =
+    err_weaker (λ a. a ≡ y) (λ a. a ≡ both_of x y) f (λ same. ap₂ both_of is same) also
+pair_read (Err f) x b y is also = answers_then f x (λ v. and_then y (λ w. Ok (v, w))) is
+
+regrouped : {A B C D V : Type 0} (made : A → B → C → D → V) (x : Result A LineFault) (y : Result B LineFault) (z : Result C LineFault) (u : Result D LineFault)
+    → and_then (both_of x y) (λ p. and_then (both_of z u) (λ q. Ok (made p.0 p.1 q.0 q.1)))
+    ≡ and_then x (λ a. and_then y (λ b. and_then z (λ c. and_then u (λ d. Ok (made a b c d)))))
+regrouped made (Ok a) (Ok b) (Ok c) (Ok d) = refl
+regrouped made (Ok a) (Ok b) (Ok c) (Err f) = refl
+regrouped made (Ok a) (Ok b) (Err f) u = refl
+regrouped made (Ok a) (Err f) z u = refl
+regrouped made (Err f) y z u = refl
+
+-- four readings, and what is made of the values
+pub four_read : {A B C D V : Type 0} (made : A → B → C → D → V) (a x : Result A LineFault) (b y : Result B LineFault) (c z : Result C LineFault) (d u : Result D LineFault)
+    → Answers a x → Answers b y → Answers c z → Answers d u
+    → Answers (and_then (both_of (both_of a b) (both_of c d)) (λ p. Ok (made p.0.0 p.0.1 p.1.0 p.1.1)))
+    (and_then x (λ v. and_then y (λ w. and_then z (λ s. and_then u (λ t. Ok (made v w s t))))))
+four_read made a x b y c z d u is_a is_b is_c is_d =
+    let read = two_read (λ p q. made p.0 p.1 q.0 q.1) (both_of a b) (both_of x y) (both_of c d) (both_of z u) (pair_read a x b y is_a is_b) (pair_read c z d u is_c is_d) in
+    subst (Answers (and_then (both_of (both_of a b) (both_of c d)) (λ p. Ok (made p.0.0 p.0.1 p.1.0 p.1.1)))) (regrouped made x y z u) read
+
+abbrev firsts : {V W : Type 0} → Result (V × W) LineFault → Result V LineFault
+firsts pair = and_then pair (λ p. Ok p.0)
+
+abbrev seconds : {V W : Type 0} → Result (V × W) LineFault → Result W LineFault
+seconds pair = and_then pair (λ p. Ok p.1)
+
+-- both are values where the pair is one
+pub both_are : {V W : Type 0} (a : Result V LineFault) (b : Result W LineFault) (v : V) (w : W) → Ok (v, w) ≡ both_of a b → (a ≡ Ok v) × (b ≡ Ok w)
+both_are (Ok x) (Ok y) v w is = (ap firsts (sym is), ap seconds (sym is))
+both_are (Ok x) (Err f) v w is = absurd cc
+both_are (Err f) b v w is = absurd cc
+
+-- and a fault is that of the one or of the other
+pub one_fails : {V W : Type 0} (a : Result V LineFault) (b : Result W LineFault) (f : LineFault) → Err f ≡ both_of a b
+    → (a ≡ Err f) ⊎ ((v : V) × (a ≡ Ok v) × (b ≡ Err f))
+one_fails (Ok x) (Ok y) f is = absurd cc
+one_fails (Ok x) (Err g) f is = inr (x, refl, cc)
+one_fails (Err g) b f is = inl cc
+
+-- where the answer is known to be a value, a fault is want of memory
+pub only_memory : {V : Type 0} (f : LineFault) (expected : Result V LineFault) (value : V) → expected ≡ Ok value → Answers (Err f) expected → f ≡ fault.Memory
+only_memory (fault.Words text help) expected value known answers = absurd answers
+only_memory (fault.Name why) expected value known answers = absurd cc
+only_memory fault.TwoSystems expected value known answers = absurd cc
+only_memory fault.Memory expected value known answers = refl
+
+-- a word is itself as a word, and a site name as a site name
+pub word_known : (text : Text) → is_word text ≡ true → word_of text ≡ Ok text
+word_known text is = go (has_form is_word_byte text) (nat_le (length text) most_word) is
+  where
+    go : (form short : Bool) → (form && short) ≡ true
+        → (let read : Result (List ℕ) NameFault = if form then (if short then Ok text else Err TooLong) else Err (BadWord (prefix_len is_word_byte text)) in named read ≡ Ok text)
+    go true true is = refl
+    go true false is = absurd (true≢false (sym is))
+    go false short is = absurd (true≢false (sym is))
+
+pub site_known : (text : Text) → is_site_name text ≡ true → site_of text ≡ Ok text
+site_known text is = go (has_form is_site_byte text) (nat_le (length text) most_name) is
+  where
+    go : (form short : Bool) → (form && short) ≡ true
+        → (let read : Result (List ℕ) NameFault = if form then (if short then Ok text else Err TooLong) else Err (BadName (prefix_len is_site_byte text)) in named read ≡ Ok text)
+    go true true is = refl
+    go true false is = absurd (true≢false (sym is))
+    go false short is = absurd (true≢false (sym is))
+
+-- the fault of a text that is no bang path, as that of a list of addresses with it alone
+pub address_alone : (text : Text) (why : NameFault) → IsPathFault text why → UnlessMemoryOf why (¬ IsPathText text) → IsAddressFault (text ∷ []) (fault_of_name why)
+address_alone text name.BadGrade is none = absurd is
+address_alone text (name.BadName at) is none = absurd is
+address_alone text (name.BadPath at) is none = record { place = 0; address = text; at = refl; first = λ k d inside. absurd (omega arith); none = none; why = is; told = λ same. absurd cc }
+address_alone text (name.BadWord at) is none = absurd is
+address_alone text name.NoEnvelope is none = absurd is
+address_alone text name.TooLong is none = record { place = 0; address = text; at = refl; first = λ k d inside. absurd (omega arith); none = none; why = is; told = λ same. absurd cc }
+address_alone text name.Memory is none = tt
+
+the_one : (text : Text) (place : ℕ) (address : Text) → slice_get (text ∷ []) place ≡ Some address → address ≡ text
+the_one text zero address at = cc
+the_one text (suc place) address at = absurd cc
+
+item_at : {B : Type 0} (f : B → Text) (xs : List B) (i : ℕ) (d : B) → i < length xs → slice_get (map f xs) i ≡ Some (f (slice_index_or xs i d))
+item_at f [] i d inside = absurd (omega arith)
+item_at f (x ∷ xs) zero d inside = refl
+item_at f (x ∷ xs) (suc i) d inside = item_at f xs i d (omega arith)
+
+-- a text that is no bang path, after texts that are, is the first of the list that is none
+pub address_stop : {B : Type 0} (f : B → Text) (xs : List B) (i : ℕ) (d : B) (why : LineFault) → i < length xs → All IsPathText (take i (map f xs))
+    → IsAddressFault (f (slice_index_or xs i d) ∷ []) why → IsAddressFault (map f xs) why
+address_stop f xs i d (fault.Words text help) inside before bad = bad
+address_stop f xs i d (fault.Name why) inside before bad =
+    let same = the_one (f (slice_index_or xs i d)) bad.place bad.address bad.at in
+    record {
+      place = i;
+      address = f (slice_index_or xs i d);
+      at = item_at f xs i d inside;
+      first = before;
+      none = subst (λ text. ¬ IsPathText text) same bad.none;
+      why = subst (λ text. IsPathFault text why) same bad.why;
+      told = bad.told;
+    }
+address_stop f xs i d fault.TwoSystems inside before bad = bad
+address_stop f xs i d fault.Memory inside before bad = tt
+
+-- one more rest
+pub rests_next : (paths : List Text) (i : ℕ) (d : Text) (rests : List Text) (rest : Text) → i < length paths → rests ≡ map rest_of (take i paths)
+    → rest ≡ rest_of (slice_index_or paths i d) → rests ++ rest ∷ [] ≡ map rest_of (take (suc i) paths)
+rests_next [] i d rests rest inside so_far is = absurd (omega arith)
+rests_next (path ∷ paths) zero d rests rest inside so_far is = ap (λ r. r ++ rest ∷ []) so_far ∙ ap (λ r. r ∷ []) is
+rests_next (path ∷ paths) (suc i) d rests rest inside so_far is =
+    ap (λ r. r ++ rest ∷ []) so_far ∙ ap (λ r. rest_of path ∷ r) (rests_next paths i d (map rest_of (take i paths)) rest (omega arith) refl is)
+
+-- where all begin alike, the message is for the system that the first begins with
+pub mailed : (grade : ℕ) (first hop : Text) (paths : List Text) → hop ≡ first_hop first → list_all (λ path. same_text (first_hop path) hop) paths ≡ true
+    → mail_by grade first paths ≡ Ok (task.Mail grade (first_hop first) (map rest_of paths))
+mailed grade first hop paths same alike =
+    let begins : list_all (λ path. same_text (first_hop path) (first_hop first)) paths ≡ true =
+    subst (λ h. list_all (λ path. same_text (first_hop path) h) paths ≡ true) same alike in
+    rw begins refl
+
+-- the line of a user that is none, of a task that is none, and of both
+pub user_fault : (rows : List Row) (entered : Option (Text × List Row)) (config user : Text) (at : Option ℕ) (f : LineFault) → Some config ≡ first_of (codes "config") rows
+    → Some user ≡ first_of (codes "as") rows → IsNumberOf 64 (first_of (codes "at") rows) at
+    → (let answer : Result (List ℕ) LineFault = Err f in Answers answer (word_of user))
+    → (let answer : Result CallLine LineFault = Err f in UnlessMemory (λ a. MeansEntries rows entered (answered a)) answer)
+user_fault rows entered config user at f is_config is_user is_at answers =
+    err_weaker (λ a. a ≡ word_of user) (λ a. MeansEntries rows entered (answered a)) f
+    (λ is. (config, is_config, (user, is_user, (at, is_at, subst (λ read. MeansLineOf config at read entered (Err f)) is refl)))) answers
+
+pub task_fault : (rows : List Row) (entered : Option (Text × List Row)) (config user : Text) (at : Option ℕ) (word : List ℕ) (f : LineFault)
+    → Some config ≡ first_of (codes "config") rows → Some user ≡ first_of (codes "as") rows → IsNumberOf 64 (first_of (codes "at") rows) at
+    → Ok word ≡ word_of user → (let answer : Result Task LineFault = Err f in UnlessMemory (MeansEntered entered) answer)
+    → (let answer : Result CallLine LineFault = Err f in UnlessMemory (λ a. MeansEntries rows entered (answered a)) answer)
+task_fault rows entered config user at word f is_config is_user is_at is_word means =
+    err_weaker (MeansEntered entered) (λ a. MeansEntries rows entered (answered a)) f
+    (λ means. (config, is_config, (user, is_user, (at, is_at, subst (λ read. MeansLineOf config at read entered (Err f)) is_word (Err f, means, refl))))) means
+
+pub line_meant : (rows : List Row) (entered : Option (Text × List Row)) (user : Text) (line : CallLine) → Some (string_bytes line.config) ≡ first_of (codes "config") rows
+    → Some user ≡ first_of (codes "as") rows → IsNumberOf 64 (first_of (codes "at") rows) line.at → Ok line.user ≡ word_of user
+    → MeansEntered entered (Ok line.task) → MeansEntries rows entered (Ok (said line))
+line_meant rows entered user line is_config is_user is_at is_word means =
+    (string_bytes line.config, is_config, (user, is_user, (line.at, is_at, subst (λ read. MeansLineOf (string_bytes line.config) line.at read entered (Ok (said line))) is_word (Ok line.task, means, refl))))
+
+-- a task that means what its subcommand does
+pub task_meant : (P Q : Result Task LineFault → Type 0) (answer : Result Task LineFault) → ((meant : Result Task LineFault) → P meant → Q meant)
+    → UnlessMemory P answer → UnlessMemory Q answer
+task_meant P Q (Ok value) weaker means = weaker (Ok value) means
+task_meant P Q (Err (fault.Words text help)) weaker means = means
+task_meant P Q (Err (fault.Name why)) weaker means = weaker (Err (fault.Name why)) means
+task_meant P Q (Err fault.TwoSystems) weaker means = weaker (Err fault.TwoSystems) means
+task_meant P Q (Err fault.Memory) weaker means = tt
+
+pub word_is : (text : Text) (word : List ℕ) → is_word text ≡ true → Ok word ≡ word_of text → word ≡ text
+word_is text word is answers = let known = answers ∙ word_known text is in cc
+
+pub site_is : (text : Text) (site : List ℕ) → is_site_name text ≡ true → Ok site ≡ site_of text → site ≡ text
+site_is text site is answers = let known = answers ∙ site_known text is in cc

@@ -1,4 +1,5 @@
 pub mod Faults
 pub mod Commands
+pub mod Tables
 pub mod Entries
 pub mod Lines

@@ -1,8 +1,9 @@
 //! The task of a subcommand, by its entries.
 
-ghost use Rattle.std.specs.Prelude.{◌≡◌, ◌∷◌, [], Ok, codes};
+ghost use Rattle.std.specs.Prelude.{◌≡◌, ◌∷◌, [], IsSome, Ok, codes, drop, find};
+ghost use Rattle.std.specs.Str.{bytes_eq};
 ghost use Rattle.clap.specs.Words.{rows_of, found_of, first_of};
-ghost use Rattle.uu_line.specs.Entries.{AreNumbersUpTo, HaveTexts, IsEntered, most_job, texts_at};
+ghost use Rattle.uu_line.specs.Entries.{AreNumbersUpTo, HaveTexts, IsEntered, most_job, subcommands, texts_at};
 ghost use Rattle.uu_line.specs.Lines.{Answers, UnlessMemory, MeansTask};
 ghost use Rattle.uu_line.specs.Lines as spec;
 
@@ -28,11 +29,33 @@ pub(crate) fn task_in(alloc: Global, name: &str, given: &ArgMatches<'_>) -> Resu
         "request" => request_in(alloc, given),
         "exec" => execute_in(alloc, given),
         "mail" => mail_in(alloc, given),
+        _ => job_task_in(alloc, name, given),
+    }
+}
+
+// The task of a subcommand that shows or changes jobs, or of one after those.
+fn job_task_in(alloc: Global, name: &str, given: &ArgMatches<'_>) -> Result<Task, LineFault>
+    requires entered { IsEntered name.now (rows_of (found_of given.now)) }
+    requires later { IsSome (find (λ subcommand. bytes_eq subcommand.0 name.now) (drop 6 subcommands)) }
+    ensures { UnlessMemory (MeansTask name.now (rows_of (found_of given.now))) result }
+{
+    match name {
         "list" => list_in(alloc, given),
         "show" => Ok(show_in(given)),
         "kill" => Ok(kill_in(given)),
         "regrade" => regrade_in(given),
         "rejuvenate" => Ok(rejuvenate_in(given)),
+        _ => call_task_in(alloc, name, given),
+    }
+}
+
+// The task of a subcommand of calls or of the map.
+fn call_task_in(alloc: Global, name: &str, given: &ArgMatches<'_>) -> Result<Task, LineFault>
+    requires entered { IsEntered name.now (rows_of (found_of given.now)) }
+    requires later { IsSome (find (λ subcommand. bytes_eq subcommand.0 name.now) (drop 11 subcommands)) }
+    ensures { UnlessMemory (MeansTask name.now (rows_of (found_of given.now))) result }
+{
+    match name {
         "due" => Ok(Task::Due),
         "status" => Ok(Task::Status),
         "failed" => failed_in(alloc, given),

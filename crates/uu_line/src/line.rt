@@ -12,7 +12,7 @@ use crate::commands::program_command;
 use crate::entered::task_in;
 use crate::fault::LineFault;
 use crate::task::Task;
-use crate::values::{second_in, text_in, word_of};
+use crate::values::{both, second_in, string_of, text_in, word_of};
 use clap::ArgMatches;
 use clap::error::ErrorKind;
 use std::alloc::Global;
@@ -53,16 +53,18 @@ fn line_in(alloc: Global, given: &ArgMatches<'_>) -> Result<CallLine, LineFault>
 {
     let config = text_in(given, "config");
     let at = second_in(given);
-    match word_of(alloc, text_in(given, "as")) {
-        Ok(user) => match entered_in(alloc, given) {
-            Ok(task) => Ok(CallLine {
-                config: String::from_str(alloc, config)?,
+    let user = word_of(alloc, text_in(given, "as"));
+    let called = both(user, entered_in(alloc, given));
+    match both(called, string_of(alloc, config)) {
+        Ok(parts) => {
+            let ((user, task), config) = parts;
+            Ok(CallLine {
+                config,
                 at,
                 user,
                 task,
-            }),
-            Err(fault) => Err(fault),
-        },
+            })
+        }
         Err(fault) => Err(fault),
     }
 }

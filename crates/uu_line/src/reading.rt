@@ -1,16 +1,17 @@
 //! Tasks from the texts of their entries.
 
-ghost use Rattle.std.specs.Prelude.{◌≡◌, ℕ, List, Some, IfOk, IfErr, IsSome, map, codes, option_map, slice_get};
+ghost use Rattle.std.specs.Prelude.{◌≡◌, ℕ, List, Ok, Some, IfOk, IfErr, IsSome, map, codes, option_map, slice_get};
 ghost use Rattle.std.specs.List.{list_all};
 ghost use Rattle.clap.specs.Words.{found_of, rows_of};
 ghost use Rattle.uu_names.specs.Path.{first_hop, rest_of};
 ghost use Rattle.uu_line.specs.Entries.{texts_at};
-ghost use Rattle.uu_line.specs.Lines.{Answers};
+ghost use Rattle.uu_line.specs.Lines.{Answers, and_then};
+ghost use Rattle.uu_line.specs.declared.task.Task.{Task as AnyTask};
 ghost use Rattle.uu_line.specs.Lines as spec;
 
 use crate::fault::LineFault;
 use crate::task::Task;
-use crate::values::{grade_of, optional_site, optional_word, site_of, word_of, words_in};
+use crate::values::{both, grade_of, optional_site, optional_word, site_of, word_of, words_in};
 use clap::ArgMatches;
 use std::alloc::Global;
 use uu_core::Filter;
@@ -26,7 +27,6 @@ pub(crate) fn drop_task(alloc: Global, system: &str) -> Result<Task, LineFault>
 }
 
 /// The task of `send`.
-#[tactic(auto, using(crate::proofs::LineLemmas::answers_then))]
 pub(crate) fn send_task(
     alloc: Global,
     system: &str,
@@ -36,20 +36,21 @@ pub(crate) fn send_task(
 ) -> Result<Task, LineFault>
     ensures { Answers result (spec.file_task Task.Send system.now source.now target.now grade.now) }
 {
-    let system = site_of(alloc, system)?;
-    let source = word_of(alloc, source)?;
-    let target = word_of(alloc, target)?;
-    let grade = grade_of(grade)?;
-    Ok(Task::Send {
-        system,
-        source,
-        target,
-        grade,
-    })
+    match file_parts(alloc, system, source, target, grade) {
+        Ok(parts) => {
+            let ((system, source), (target, grade)) = parts;
+            Ok(Task::Send {
+                system,
+                source,
+                target,
+                grade,
+            })
+        }
+        Err(fault) => Err(fault),
+    }
 }
 
 /// The task of `request`.
-#[tactic(auto, using(crate::proofs::LineLemmas::answers_then))]
 pub(crate) fn request_task(
     alloc: Global,
     system: &str,
@@ -59,20 +60,39 @@ pub(crate) fn request_task(
 ) -> Result<Task, LineFault>
     ensures { Answers result (spec.file_task Task.Request system.now source.now target.now grade.now) }
 {
-    let system = site_of(alloc, system)?;
-    let source = word_of(alloc, source)?;
-    let target = word_of(alloc, target)?;
-    let grade = grade_of(grade)?;
-    Ok(Task::Request {
-        system,
-        source,
-        target,
-        grade,
-    })
+    match file_parts(alloc, system, source, target, grade) {
+        Ok(parts) => {
+            let ((system, source), (target, grade)) = parts;
+            Ok(Task::Request {
+                system,
+                source,
+                target,
+                grade,
+            })
+        }
+        Err(fault) => Err(fault),
+    }
+}
+
+// The parts of a task of a file.
+fn file_parts(
+    alloc: Global,
+    system: &str,
+    source: &str,
+    target: &str,
+    grade: &str,
+) -> Result<((SiteName, Word), (Word, Grade)), LineFault>
+    ensures { (made : List ℕ → List ℕ → List ℕ → ℕ → AnyTask)
+        → Answers (and_then result (λ parts. Ok (made parts.0.0 parts.0.1 parts.1.0 parts.1.1)))
+        (spec.file_task made system.now source.now target.now grade.now) }
+{
+    both(
+        both(site_of(alloc, system), word_of(alloc, source)),
+        both(word_of(alloc, target), grade_of(grade)),
+    )
 }
 
 /// The task of `exec`, with the arguments of these entries.
-#[tactic(auto, using(crate::proofs::LineLemmas::answers_then))]
 pub(crate) fn execute_task(
     alloc: Global,
     grade: &str,
@@ -82,16 +102,20 @@ pub(crate) fn execute_task(
 ) -> Result<Task, LineFault>
     ensures { Answers result (spec.exec_task grade.now system.now command.now (texts_at (codes "argument") (rows_of (found_of given.now)))) }
 {
-    let grade = grade_of(grade)?;
-    let system = site_of(alloc, system)?;
-    let command = word_of(alloc, command)?;
-    let arguments = words_in(alloc, given, "argument")?;
-    Ok(Task::Execute {
-        grade,
-        system,
-        command,
-        arguments,
-    })
+    let place = both(grade_of(grade), site_of(alloc, system));
+    let words = both(word_of(alloc, command), words_in(alloc, given, "argument"));
+    match both(place, words) {
+        Ok(parts) => {
+            let ((grade, system), (command, arguments)) = parts;
+            Ok(Task::Execute {
+                grade,
+                system,
+                command,
+                arguments,
+            })
+        }
+        Err(fault) => Err(fault),
+    }
 }
 
 /// The task of a message to these addresses, one or more.
@@ -112,13 +136,14 @@ fn mail_by(alloc: Global, grade: Grade, first: &Path, paths: &[Path]) -> Result<
     if !begin_alike(first.first_hop(), paths) {
         return Err(LineFault::TwoSystems);
     }
-    let system = SiteName::parse(alloc, first.first_hop())?;
-    let rests = rests_of(alloc, paths)?;
-    Ok(Task::Mail {
-        grade,
-        system,
-        rests,
-    })
+    match both(site_of(alloc, first.first_hop()), rests_of(alloc, paths)) {
+        Ok((system, rests)) => Ok(Task::Mail {
+            grade,
+            system,
+            rests,
+        }),
+        Err(fault) => Err(fault),
+    }
 }
 
 // Whether each path begins with this system.
@@ -135,7 +160,10 @@ fn rests_of(alloc: Global, paths: &[Path]) -> Result<Listed<Word>, LineFault>
 {
     let mut rests = Vec::new(alloc);
     for path in paths {
-        rests.push(Word::parse(alloc, path.rest())?)?;
+        match word_of(alloc, path.rest()) {
+            Ok(rest) => rests.push(rest)?,
+            Err(fault) => return Err(fault),
+        }
     }
     Ok(Listed::from_vec(rests))
 }
@@ -169,9 +197,10 @@ pub(crate) fn regrade_task(job: u32, grade: &str) -> Result<Task, LineFault>
 pub(crate) fn failed_task(alloc: Global, system: &str, why: &str) -> Result<Task, LineFault>
     ensures { Answers result (spec.failed_task system.now why.now) }
 {
-    let system = site_of(alloc, system)?;
-    let why = word_of(alloc, why)?;
-    Ok(Task::Failed { system, why })
+    match both(site_of(alloc, system), word_of(alloc, why)) {
+        Ok((system, why)) => Ok(Task::Failed { system, why }),
+        Err(fault) => Err(fault),
+    }
 }
 
 /// The task of `done`.

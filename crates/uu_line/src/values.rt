@@ -1,11 +1,12 @@
 //! The texts, numbers, words and bang paths that are given under an id, and texts as names, words and grades.
 
-ghost use Rattle.std.specs.Prelude.{◌≡◌, All, IfOk, IfErr, IsSome, IsTrue, Some, map, option_map, codes};
+ghost use Rattle.std.specs.Prelude.{◌≡◌, ◌∷◌, [], All, Ok, IfOk, IfErr, IsSome, IsTrue, Some, map, option_map, codes};
+ghost use Rattle.std.specs.String.{string_bytes};
 ghost use Rattle.clap.specs.ValueTests.{is_unsigned_in};
 ghost use Rattle.clap.specs.Words.{first_of, rows_of, found_of};
 ghost use Rattle.uu_names.specs.Path.{IsPathText};
 ghost use Rattle.uu_line.specs.Entries.{AreNumbersUpTo, most_job, most_second, texts_at};
-ghost use Rattle.uu_line.specs.Lines.{Answers, AreNumbers, IsNumber, IsNumberOf, WithText};
+ghost use Rattle.uu_line.specs.Lines.{Answers, AreNumbers, IsNumber, IsNumberOf, WithText, and_then};
 ghost use Rattle.uu_line.specs.Lines as spec;
 
 use crate::fault::LineFault;
@@ -88,6 +89,17 @@ fn second_of(text: &str) -> u64
     match text.parse::<u64>() {
         Ok(second) => second,
         Err(_) => unreachable!(),
+    }
+}
+
+/// The text as a string.
+pub(crate) fn string_of(alloc: Global, text: &str) -> Result<String, LineFault>
+    ensures text { IfOk result (λ string. string_bytes string ≡ text.now) }
+    ensures memory { IfErr result (λ fault. fault ≡ LineFault.Memory) }
+{
+    match String::from_str(alloc, text) {
+        Ok(string) => Ok(string),
+        Err(_) => Err(LineFault::Memory),
     }
 }
 
@@ -205,7 +217,37 @@ fn paths_of(alloc: Global, texts: &[&str]) -> Result<Vec<Path>, LineFault>
 {
     let mut paths = Vec::new(alloc);
     for text in texts {
-        paths.push(Path::parse(alloc, text)?)?;
+        match path_of(alloc, text) {
+            Ok(path) => paths.push(path)?,
+            Err(fault) => return Err(fault),
+        }
     }
     Ok(paths)
+}
+
+// The text as a bang path.
+fn path_of(alloc: Global, text: &str) -> Result<Path, LineFault>
+    ensures path { IfOk result (λ path. (path ≡ text.now) × IsPathText text.now) }
+    ensures fault { IfErr result (spec.IsAddressFault (text.now ∷ [])) }
+{
+    match Path::parse(alloc, text) {
+        Ok(path) => Ok(path),
+        Err(fault) => Err(LineFault::from(fault)),
+    }
+}
+
+/// Both values, or the fault of the first that is none. A caller with an exit at each value is dear to prove.
+pub(crate) fn both<A: Drop, B: Drop>(
+    first: Result<A, LineFault>,
+    second: Result<B, LineFault>,
+) -> Result<(A, B), LineFault>
+    ensures { result ≡ and_then first (λ a. and_then second (λ b. Ok (a, b))) }
+{
+    match first {
+        Ok(first) => match second {
+            Ok(second) => Ok((first, second)),
+            Err(fault) => Err(fault),
+        },
+        Err(fault) => Err(fault),
+    }
 }
