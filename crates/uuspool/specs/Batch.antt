@@ -94,10 +94,10 @@ BreaksOff lines left Writes why =
     ((front : List Line) × (last : Line) × (lines ≡ front ++ last ∷ []) × IsUntold (answer_of last) (Writes front) why)
     ⊎ ((cause : Fault) × IsOfStream left cause × IsUntold (fault_answer cause) (Writes lines) why)
 
--- The lines of the requests were served one after the other, the clock asked for each, and the answers that were written are theirs, in their
--- order. Where the batch ends with a status, all were answered, and what is left of the stream is nothing or has a fault, which is answered at
--- last. Where an answer could not be made or written, it is that of the last line or of such a fault, and the answers before it were written
--- and a beginning of it. A batch has at most 2^64 - 1 lines, which are answered, and then ends so, too.
+-- The lines of the requests were served one after the other, the clock asked for each. Where the batch ends with a status, the answers are
+-- theirs, in their order, and what is left of the stream is nothing or has a fault, which is answered at last. Where an answer could not be made
+-- or written, the batch breaks off there: those before it were written, and a beginning of it. A batch has at most 2^64 - 1 lines, and ends with a
+-- fault once these are answered, too.
 pub record IsBatch {S : Type 0} {g : Ghosts S} {C : Type 0} (settings : Settings) (Tells : C → ℕ → C → Type 0) (clock : C) (old new : Spool S g) (had held holds : Option (List ℕ)) (result : Result ℕ Fault) : Type 0 where
   pub lines : List Line
   pub served : AreServed settings lines old new

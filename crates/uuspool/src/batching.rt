@@ -35,8 +35,8 @@ pub trait Clock {
 /// the spool failed.
 ///
 /// # Errors
-/// `Write` and `Memory` where an answer could not be written or made; then the request in hand may have been carried out. `Read` after 2^64 - 1
-/// requests.
+/// `Write` and `Memory` where an answer could not be written or made; then a beginning of it was written, with `Memory` nothing of it, and the
+/// request in hand may have been carried out. `Read` after 2^64 - 1 requests, which were answered.
 pub fn batch<S: Alter, C: Clock, R: BufRead, W: Write>(
     alloc: Global,
     settings: &Settings,
