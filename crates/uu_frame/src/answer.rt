@@ -1,16 +1,18 @@
 //! Answers, as they stand in a stream.
-ghost use Rattle.std.specs.Prelude.{◌≡◌, ◌⊎◌, IfErr, OnOk};
+ghost use Rattle.std.specs.Prelude.{◌≡◌, ◌⊎◌, [], Err, IfErr, OnOk};
 ghost use Rattle.std.specs.Io.KnownBytes.{Appends};
 ghost use Rattle.uu_frame.specs.Frames.{answer_frame};
+ghost use Rattle.uu_frame.specs.Writing.{IsBegun};
 
 use crate::fault::FrameFault;
+use crate::writing::write_whole;
 use std::alloc::Global;
 use std::io::Write;
 
 /// Writes an answer, and flushes it.
 ///
 /// # Errors
-/// `Write`, and `Memory`.
+/// `Write`, where a front of the answer was written, or all of it and it was not flushed; and `Memory`, where nothing was written.
 pub fn write_answer<W: Write>(
     alloc: Global,
     status: u8,
@@ -19,16 +21,18 @@ pub fn write_answer<W: Write>(
 ) -> Result<(), FrameFault>
     ensures answer { OnOk result (Appends (W.contents out.old) (W.contents out.new) (answer_frame status bytes.now)) }
     ensures named { IfErr result (λ fault. (fault ≡ FrameFault.Write) ⊎ (fault ≡ FrameFault.Memory)) }
+    ensures begun { result ≡ Err FrameFault.Write → IsBegun (answer_frame status bytes.now) (Appends (W.contents out.old) (W.contents out.new)) }
+    ensures nothing { result ≡ Err FrameFault.Memory → Appends (W.contents out.old) (W.contents out.new) [] }
 {
     let count = bytes.len();
     let Ok(line) = format!(in alloc; "{status} {count}\n") else {
         return Err(FrameFault::Memory);
     };
-    if out.write_all(line.as_bytes()).is_err() {
-        return Err(FrameFault::Write);
+    if let Err(fault) = write_whole(line.as_bytes(), out) {
+        return Err(fault);
     }
-    if out.write_all(bytes).is_err() {
-        return Err(FrameFault::Write);
+    if let Err(fault) = write_whole(bytes, out) {
+        return Err(fault);
     }
     match out.flush() {
         Ok(()) => Ok(()),

@@ -6,8 +6,10 @@ mod fault;
 mod head;
 mod reading;
 mod request;
+mod writing;
 
 pub use answer::write_answer;
 pub use fault::FrameFault;
 pub use reading::MAX_LINE;
 pub use request::{Frame, read_request};
+pub use writing::write_whole;

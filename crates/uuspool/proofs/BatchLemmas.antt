@@ -8,7 +8,7 @@ use Rattle.std.proofs.lemmas.List.Concat.{flat_map-append}
 use Rattle.sqlite.specs.Store.{Ghosts}
 use Rattle.uu_settings.specs.declared.settings.Settings.{Settings}
 use Rattle.uu_store.specs.declared.spool.Spool.{Spool}
-use Rattle.uuspool.specs.Batch.{EndsWith, IsBatch, IsNext, IsOfAnswer, IsOfStream, IsRequestLine, answer_of, fault_answer, frame_of, most_requests}
+use Rattle.uuspool.specs.Batch.{BreaksOff, EndsWith, IsBatch, IsNext, IsOfStream, IsRequestLine, IsUntold, answer_of, fault_answer, frame_of, most_requests}
 use Rattle.uuspool.specs.BatchSteps.{IsBatchStep}
 use Rattle.uuspool.specs.Faults.{status_of}
 use Rattle.uuspool.specs.Sessions.{AreLeft, AreServed, Further, IsOneRun, LeadOn, Line, Serves, left_fault}
@@ -118,6 +118,20 @@ module _ {S : Type 0} {g : Ghosts S} (settings : Settings) where
         (λ rest off. unserved_more lines line m mid new rest off nothing is still) (λ left t. (left_more lines line left.0 nothing is, still ∙ left.1)) rest off,
   )
 
+-- what was written of an answer, behind those before it
+untold_behind : (held holds more : Option (List ℕ)) (before answer : List ℕ) (why : Fault) → Appends held holds before → IsUntold answer (Appends holds more) why
+    → IsUntold answer (λ last. Appends held more (before ++ last)) why
+untold_behind held holds more before answer fault.Write wrote (begun, rest, is, some) = (begun, rest, is, Appends-trans held holds more before begun wrote some)
+untold_behind held holds more before answer fault.Memory wrote some = Appends-trans held holds more before [] wrote some
+untold_behind held holds more before answer (fault.Words text help) wrote none = none
+untold_behind held holds more before answer (fault.Settings is) wrote none = none
+untold_behind held holds more before answer (fault.Name is) wrote none = none
+untold_behind held holds more before answer (fault.Time is) wrote none = none
+untold_behind held holds more before answer fault.TwoSystems wrote none = none
+untold_behind held holds more before answer fault.Input wrote none = none
+untold_behind held holds more before answer (fault.Store is) wrote none = none
+untold_behind held holds more before answer fault.Read wrote none = none
+
 -- ---- a stream so far
 
 -- the requests that were answered so far, and whether some line does not lead on
@@ -185,7 +199,8 @@ module _ {S : Type 0} {g : Ghosts S} {C : Type 0} (settings : Settings) (Tells :
     module _ (law : (lines : List Line) (old new : Spool S g) → AreServed settings lines old new → IsOneRun settings lines old new) where
       -- the requests so far are all
       ended_so : (r : Result ℕ Fault) → new ≡ mid → IfOk r (EndsWith left (λ last. Appends held more (flat_map answer_of so.lines ++ last)))
-          → IfErr r (λ why. IsOfAnswer why ⊎ ((why ≡ fault.Read) × (length so.lines ≡ most_requests)))
+          → IfErr r (λ why. BreaksOff so.lines left (λ front last. Appends held more (flat_map answer_of front ++ last)) why
+          ⊎ ((why ≡ fault.Read) × (length so.lines ≡ most_requests) × Appends held more (flat_map answer_of so.lines)))
           → IsBatch settings Tells clock old new had held more r
       ended_so r still ends breaks =
           let served = subst (λ (n : Spool S g). AreServed settings so.lines old n) (sym still) so.served in record {
@@ -208,13 +223,14 @@ module _ {S : Type 0} {g : Ghosts S} {C : Type 0} (settings : Settings) (Tells :
           ends_with (inl (zero, at_end, writes)) = inl (zero, at_end, Appends-trans held holds more (flat_map answer_of so.lines) [] so.answered writes)
           ends_with (inr (why, is, same, writes)) = inr (why, is, same, Appends-trans held holds more (flat_map answer_of so.lines) (fault_answer why) so.answered writes)
 
-      pub batch_full : new ≡ mid → count ≡ most_requests → (let r : Result ℕ Fault = Err fault.Read in IsBatch settings Tells clock old new had held more r)
-      batch_full still full = ended_so (Err fault.Read) still tt (inr (refl, so.counted ∙ full))
+      pub batch_full : new ≡ mid → holds ≡ more → count ≡ most_requests → (let r : Result ℕ Fault = Err fault.Read in IsBatch settings Tells clock old new had held more r)
+      batch_full still kept full = ended_so (Err fault.Read) still tt (inr (refl, so.counted ∙ full, subst (λ m. Appends held m (flat_map answer_of so.lines)) kept so.answered))
 
       pub batch_broken : (why : Fault) → (let r : Result Step Fault = Err why in IsBatchStep settings Tells failed now later mid new left rest holds more r)
           → (let r : Result ℕ Fault = Err why in IsBatch settings Tells clock old new had held more r)
-      batch_broken why (breaks, inl still) = ended_so (Err why) still tt (inl breaks)
-      batch_broken why (breaks, inr (line, next, consumes)) =
+      batch_broken why (inr (still, cause, is, untold)) =
+          ended_so (Err why) still tt (inl (inr (cause, is, untold_behind held holds more (flat_map answer_of so.lines) (fault_answer cause) why so.answered untold)))
+      batch_broken why (inl (line, next, consumes, untold)) =
           let served = lines_then failed so.lines line now later old mid new so.served so.on so.off next in record {
             lines = so.lines ++ line ∷ [];
             served = served;
@@ -224,7 +240,7 @@ module _ {S : Type 0} {g : Ghosts S} {C : Type 0} (settings : Settings) (Tells :
             left = rest;
             read = subst (Consumes had rest) (flat_more frame_of so.lines line) (Consumes-trans had left rest (flat_map frame_of so.lines) (frame_of line) so.read consumes);
             answered = tt;
-            broken_off = inl breaks;
+            broken_off = inl (inl (so.lines, line, refl, untold_behind held holds more (flat_map answer_of so.lines) (answer_of line) why so.answered untold));
           }
 
 -- ---- one step
@@ -232,12 +248,12 @@ module _ {S : Type 0} {g : Ghosts S} {C : Type 0} (settings : Settings) (Tells :
 module _ {S : Type 0} {g : Ghosts S} {C : Type 0} (settings : Settings) (Tells : C → ℕ → C → Type 0) (failed : Bool) (clock later : C) (old new : Spool S g) (had left held holds : Option (List ℕ)) where
   -- the stream ended with the answer to a fault of its own
   pub step_of_end : (r : Result Step Fault) (why : Fault) → IsOfStream had why → new ≡ old
-      → IfOk r (λ made. (made ≡ step.Ended (status_of why)) × Appends held holds (fault_answer why)) → IfErr r IsOfAnswer
+      → IfOk r (λ made. (made ≡ step.Ended (status_of why)) × Appends held holds (fault_answer why)) → IfErr r (IsUntold (fault_answer why) (Appends held holds))
       → IsBatchStep settings Tells failed clock later old new had left held holds r
   step_of_end (Ok (step.Ended status)) why is still (same, appends) named = let status_is : status ≡ status_of why = cc in (still, inr (why, is, status_is, appends))
   step_of_end (Ok (step.Answered leads_on)) why is still (same, appends) named = absurd (cc)
-  step_of_end (Err fault) why is still none named = (named, inl still)
+  step_of_end (Err fault) why is still none untold = inr (still, why, is, untold)
 
-  pub step_broken : (why : Fault) (line : Line) → IsOfAnswer why → IsNext settings Tells failed clock later old new line → Consumes had left (frame_of line)
+  pub step_broken : (why : Fault) (line : Line) → IsUntold (answer_of line) (Appends held holds) why → IsNext settings Tells failed clock later old new line → Consumes had left (frame_of line)
       → (let r : Result Step Fault = Err why in IsBatchStep settings Tells failed clock later old new had left held holds r)
-  step_broken why line named next consumes = (named, inr (line, next, consumes))
+  step_broken why line untold next consumes = inl (line, next, consumes, untold)

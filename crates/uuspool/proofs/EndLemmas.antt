@@ -12,6 +12,7 @@ use Rattle.uu_store.specs.Runs.{Ran, GoesOn}
 use Rattle.uu_store.specs.Spool as spool
 use Rattle.uu_store.specs.declared.run.RunEnd.{RunEnd}
 use Rattle.uu_store.specs.declared.spool.Spool.{Spool}
+use Rattle.uu_frame.specs.Writing.{IsCut}
 use Rattle.uu_settings.specs.declared.settings.Settings.{Settings}
 use Rattle.uu_report.specs.declared.output.Subject.{Subject}
 use Rattle.uu_report.specs.Outputs.{answers_text, output_text, replies_status, subject_text}
@@ -19,7 +20,7 @@ use Rattle.uu_report.specs.Replies.{reply_text}
 use Rattle.uu_request.specs.declared.request.Batch.{Batch}
 use Rattle.uu_request.specs.declared.request.Request.TheVariants as request
 use Rattle.uuspool.proofs.ServedLemmas.{IsOfPrinting, marked_is_of_call, store_is_printed}
-use Rattle.uuspool.specs.Served.{IsCut, IsServed, IsNoted, IsOfCall, IsPrintedEnd, Marks}
+use Rattle.uuspool.specs.Served.{IsServed, IsNoted, IsOfCall, IsPrintedEnd, Marks}
 use Rattle.uuspool.specs.declared.fault.Fault.{Fault}
 use Rattle.uuspool.specs.declared.fault.Fault.TheVariants as fault
 

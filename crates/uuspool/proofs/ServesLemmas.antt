@@ -3,6 +3,7 @@ use Rattle.std.proofs.Common.{◌≡◌, ◌⊎◌, ◌∙◌, inl, inr, ℕ, Li
 use Rattle.std.proofs.lemmas.List.{append_cancel_left}
 use Rattle.std.specs.Io.KnownBytes.{Appends}
 use Rattle.sqlite.specs.Store.{Ghosts}
+use Rattle.uu_frame.specs.Writing.{IsCut}
 use Rattle.uu_settings.specs.declared.settings.Settings.{Settings}
 use Rattle.uu_request.specs.declared.request.Request.{Request}
 use Rattle.uu_core.specs.State.{State}
@@ -10,7 +11,7 @@ use Rattle.uu_store.specs.Spool as spool
 use Rattle.uu_core.specs.Run.{state_after}
 use Rattle.uu_store.specs.declared.spool.Spool.{Spool}
 use Rattle.uuspool.proofs.ServedLemmas.{Appends-nothing}
-use Rattle.uuspool.specs.Served.{Ask, EndsAs, IsCut, IsEarly, IsFaultOf, IsLate, IsOutput, IsServed, answered_text, commands_of}
+use Rattle.uuspool.specs.Served.{Ask, EndsAs, IsEarly, IsFaultOf, IsLate, IsOutput, IsServed, answered_text, commands_of}
 use Rattle.uuspool.specs.Sessions.{Line, Serves}
 use Rattle.uuspool.specs.declared.fault.Fault.{Fault}
 use Rattle.uuspool.specs.declared.fault.Fault.TheVariants as fault

@@ -1,10 +1,11 @@
 -- A stream of requests, each a line that is served over one spool, and the stream of their answers. All of it is this project's choice.
-use Rattle.std.specs.Prelude.{◌≡◌, ◌⊎◌, ◌≤◌, ◌-◌, ◌^◌, ◌++◌, ℕ, Bool, true, false, List, [], Option, Result, Ok, Err, IfOk, IfErr, IfSome, length, ⊤, codes}
+use Rattle.std.specs.Prelude.{◌≡◌, ◌⊎◌, ◌≤◌, ◌-◌, ◌^◌, ◌++◌, ◌∷◌, ℕ, Bool, true, false, List, [], Option, Result, Ok, Err, IfOk, IfErr, IfSome, length, ⊤, codes}
 use Rattle.std.specs.List.{AllByRecursion, FoldsTo, flat_map}
 use Rattle.std.specs.String.{string_bytes}
 use Rattle.std.specs.Io.KnownBytes.{Appends, Consumes, IsAtEnd}
 use Rattle.sqlite.specs.Store.{Ghosts}
 use Rattle.uu_frame.specs.Frames.{BeginsWithNoRequest, BeginsWithTooMuch, IsHead, answer_frame, request_frame}
+use Rattle.uu_frame.specs.Writing.{IsBegun}
 use Rattle.uu_names.specs.Text.{most_text}
 use Rattle.uu_settings.specs.declared.settings.Settings.{Settings}
 use Rattle.uu_store.specs.declared.spool.Spool.{Spool}
@@ -74,9 +75,11 @@ EndsWith left Writes status =
     ((status ≡ 0) × IsAtEnd left × Writes [])
     ⊎ ((why : Fault) × IsOfStream left why × (status ≡ status_of why) × Writes (fault_answer why))
 
--- the faults of an answer that could not be made or written
-abbrev pub IsOfAnswer : Fault → Type 0
-IsOfAnswer why = (why ≡ fault.Write) ⊎ (why ≡ fault.Memory)
+-- An answer was not told to its end: a beginning of it was written, and where memory ran out nothing of it.
+abbrev pub IsUntold : List ℕ → (Writes : List ℕ → Type 0) → Fault → Type 0
+IsUntold answer Writes fault.Write = IsBegun answer Writes
+IsUntold answer Writes fault.Memory = Writes []
+IsUntold answer Writes _ = ⊥
 
 -- ---- the whole stream
 
@@ -84,9 +87,17 @@ IsOfAnswer why = (why ≡ fault.Write) ⊎ (why ≡ fault.Memory)
 abbrev pub most_requests : ℕ
 most_requests = 2 ^ 64 - 1
 
+-- How a batch breaks off: all lines but the last were answered, and that one's answer was not told to its end, or all were, and the answer to a
+-- fault of the stream was not. What was written is the answers of lines and then a text.
+abbrev pub BreaksOff : List Line → Option (List ℕ) → (Writes : List Line → List ℕ → Type 0) → Fault → Type 0
+BreaksOff lines left Writes why =
+    ((front : List Line) × (last : Line) × (lines ≡ front ++ last ∷ []) × IsUntold (answer_of last) (Writes front) why)
+    ⊎ ((cause : Fault) × IsOfStream left cause × IsUntold (fault_answer cause) (Writes lines) why)
+
 -- The lines of the requests were served one after the other, the clock asked for each. Where the batch ends with a status, the answers are
 -- theirs, in their order, and what is left of the stream is nothing or has a fault, which is answered at last. Where an answer could not be made
--- or written, the line in hand is the last one. A batch has at most 2^64 - 1 lines, and then ends so, too.
+-- or written, the batch breaks off there: those before it were written, and a beginning of it. A batch has at most 2^64 - 1 lines, and ends with a
+-- fault once these are answered, too.
 pub record IsBatch {S : Type 0} {g : Ghosts S} {C : Type 0} (settings : Settings) (Tells : C → ℕ → C → Type 0) (clock : C) (old new : Spool S g) (had held holds : Option (List ℕ)) (result : Result ℕ Fault) : Type 0 where
   pub lines : List Line
   pub served : AreServed settings lines old new
@@ -96,4 +107,6 @@ pub record IsBatch {S : Type 0} {g : Ghosts S} {C : Type 0} (settings : Settings
   pub left : Option (List ℕ)
   pub read : Consumes had left (flat_map frame_of lines)
   pub answered : IfOk result (EndsWith left (λ last. Appends held holds (flat_map answer_of lines ++ last)))
-  pub broken_off : IfErr result (λ why. IsOfAnswer why ⊎ ((why ≡ fault.Read) × (length lines ≡ most_requests)))
+  pub broken_off : IfErr result (λ why.
+      BreaksOff lines left (λ front last. Appends held holds (flat_map answer_of front ++ last)) why
+      ⊎ ((why ≡ fault.Read) × (length lines ≡ most_requests) × Appends held holds (flat_map answer_of lines)))

@@ -1,5 +1,5 @@
 -- What the words of a call ask of a spool, what the program prints, and its status. All of it is this project's choice.
-use Rattle.std.specs.Prelude.{◌≡◌, ◌≢◌, ◌⊎◌, ◌++◌, ℕ, pos, Bool, true, false, IsTrue, Option, Some, None, List, [], Result, Ok, Err, IfOk, IfErr, OnOk, ⊤, unwrap_or, length}
+use Rattle.std.specs.Prelude.{◌≡◌, ◌⊎◌, ℕ, pos, Bool, true, false, IsTrue, Option, Some, None, List, [], Result, Ok, Err, IfOk, IfErr, OnOk, ⊤, unwrap_or, length}
 use Rattle.sqlite.specs.Store.{Ghosts}
 use Rattle.sqlite.specs.State.{HasCleanDisk}
 use Rattle.uu_times.specs.Moment.{IsPast, Shows, local_second, week_minute}
@@ -16,6 +16,7 @@ use Rattle.uu_store.specs.Runs.{Ran}
 use Rattle.uu_store.specs.Spool as spool
 use Rattle.uu_store.specs.declared.spool.Spool.{Spool}
 use Rattle.uu_store.specs.declared.run.RunEnd.{RunEnd}
+use Rattle.uu_frame.specs.Writing.{IsCut}
 use Rattle.uu_line.specs.Lines.{AreRefused, MeansLine}
 use Rattle.uu_line.specs.declared.line.CallLine.{CallLine}
 use Rattle.uu_settings.specs.declared.settings.Settings.{Settings}
@@ -68,10 +69,6 @@ IsOutput settings s (Question question) output status = IsAnswer settings s ques
 abbrev pub answered_text : Request → List Reply → List ℕ
 answered_text (Commands batch) replies = answers_text batch.subjects replies
 answered_text (Question question) replies = []
-
--- less than this text was written: a front of it, and something is left
-abbrev pub IsCut : List ℕ → (List ℕ → Type 0) → Type 0
-IsCut text written = (front : List ℕ) × (rest : List ℕ) × (text ≡ front ++ rest) × (rest ≢ []) × written front
 
 -- What a run's end is printed as: of a whole run the output and its status, of one that was broken off the output of the commands that
 -- were answered, with its fault. Another fault hides that one only where less than that output was written.

@@ -5,7 +5,7 @@ ghost use Rattle.uu_frame.specs.Frames.{IsCause, answer_frame};
 ghost use Rattle.uu_names.specs.Text.{most_text};
 ghost use Rattle.uuspool.specs.Sessions.{Further, Serves, left_fault};
 ghost use Rattle.uuspool.specs.Faults.{status_of};
-ghost use Rattle.uuspool.specs.Batch.{IsBatch, IsOfAnswer, IsOfStream, end_status, end_text, fault_answer, line_with};
+ghost use Rattle.uuspool.specs.Batch.{IsBatch, IsOfStream, IsUntold, end_status, end_text, fault_answer, line_with};
 ghost use Rattle.uuspool.specs.BatchSteps.{IsBatchStep};
 
 use crate::fault::{Fault, fault_line, fault_status};
@@ -35,8 +35,8 @@ pub trait Clock {
 /// the spool failed.
 ///
 /// # Errors
-/// `Write` and `Memory` where an answer could not be written or made; then the request in hand may have been carried out. `Read` after 2^64 - 1
-/// requests.
+/// `Write` and `Memory` where an answer could not be written or made; then a beginning of it was written, with `Memory` nothing of it, and the
+/// request in hand may have been carried out. `Read` after 2^64 - 1 requests, which were answered.
 pub fn batch<S: Alter, C: Clock, R: BufRead, W: Write>(
     alloc: Global,
     settings: &Settings,
@@ -143,32 +143,41 @@ fn leads_on(end: &Result<u8, Fault>) -> bool
 // Writes the answer: the status, the output, and the line of the fault.
 fn tell<W: Write>(alloc: Global, answer: Answer, out: &mut W) -> Result<(), Fault>
     ensures answer { OnOk result (Appends (W.contents out.old) (W.contents out.new) (answer_frame (end_status answer.end) (answer.output.items ++ end_text answer.end))) }
-    ensures named { IfErr result IsOfAnswer }
+    ensures untold { IfErr result (IsUntold (answer_frame (end_status answer.end) (answer.output.items ++ end_text answer.end)) (Appends (W.contents out.old) (W.contents out.new))) }
 {
-    let Answer { mut output, end } = answer;
-    let status = match end {
-        Ok(status) => status,
-        Err(fault) => {
-            let Ok(line) = fault_line(alloc, &fault) else {
-                return Err(Fault::Memory);
-            };
-            if output.extend_from_slice(&line).is_err() {
-                return Err(Fault::Memory);
-            }
-            fault_status(&fault)
-        }
+    let Ok((status, bytes)) = told_of(alloc, answer) else {
+        return Err(Fault::Memory);
     };
-    match write_answer(alloc, status, &output, out) {
+    match write_answer(alloc, status, &bytes, out) {
         Ok(()) => Ok(()),
         Err(FrameFault::Memory) => Err(Fault::Memory),
         Err(_) => Err(Fault::Write),
     }
 }
 
+// The status that is told of an answer, and its output with the line of the fault behind it.
+fn told_of(alloc: Global, answer: Answer) -> Result<(u8, Vec<u8>), Fault>
+    ensures { IfOk result (λ told. (told.0 ≡ end_status answer.end) × (told.1.items ≡ answer.output.items ++ end_text answer.end)) }
+{
+    let Answer { mut output, end } = answer;
+    match end {
+        Ok(status) => Ok((status, output)),
+        Err(fault) => {
+            let Ok(line) = fault_line(alloc, &fault) else {
+                return Err(Fault::Memory);
+            };
+            match output.extend_from_slice(&line) {
+                Ok(()) => Ok((fault_status(&fault), output)),
+                Err(_) => Err(Fault::Memory),
+            }
+        }
+    }
+}
+
 // Ends the stream with the answer to a fault of its own.
 fn end_with<W: Write>(alloc: Global, fault: Fault, out: &mut W) -> Result<Step, Fault>
     ensures answer { IfOk result (λ step. (step ≡ Step.Ended (status_of fault)) × Appends (W.contents out.old) (W.contents out.new) (fault_answer fault)) }
-    ensures named { IfErr result IsOfAnswer }
+    ensures untold { IfErr result (IsUntold (fault_answer fault) (Appends (W.contents out.old) (W.contents out.new))) }
 {
     let status = fault_status(&fault);
     let answer = Answer {

@@ -1,12 +1,13 @@
 //! Printing to a writer.
 
-ghost use Rattle.std.specs.Prelude.{◌≡◌, ◌⊎◌, IfOk, IfErr, MatchResult, OnOk, IsOkAnd, []};
+ghost use Rattle.std.specs.Prelude.{◌≡◌, ◌⊎◌, IfOk, IfErr, OnOk, IsOkAnd, []};
 ghost use Rattle.std.specs.Io.KnownBytes.{Appends};
-ghost use Rattle.uuspool.specs.Served.{IsCut};
+ghost use Rattle.uu_frame.specs.Writing.{IsCut};
 
 use crate::fault::Fault;
 use std::alloc::AllocError;
-use std::io::{ErrorKind, Write};
+use std::io::Write;
+use uu_frame::write_whole;
 
 /// Prints an output, where there was memory to make it, and answers this status.
 ///
@@ -26,32 +27,8 @@ pub(crate) fn print<W: Write>(
     match output {
         Ok(output) => match write_whole(&output, out) {
             Ok(()) => Ok(status),
-            Err(fault) => Err(fault),
+            Err(_) => Err(Fault::Write),
         },
         Err(_) => Err(Fault::Memory),
-    }
-}
-
-// Writes all bytes, as `write_all` does, which says nothing of what it wrote where it fails. The one error is `Write`.
-fn write_whole<W: Write>(bytes: &[u8], out: &mut W) -> Result<(), Fault>
-    ensures fault { IfErr result (λ fault. fault ≡ Fault.Write) }
-    ensures bytes { MatchResult result (λ _. Appends (W.contents out.old) (W.contents out.new) bytes.now) (λ _. IsCut bytes.now (Appends (W.contents out.old) (W.contents out.new))) }
-{
-    let mut rest = bytes;
-    for _ in 0..u64::MAX {
-        if rest.is_empty() {
-            return Ok(());
-        }
-        match out.write(rest) {
-            Ok(0) => return Err(Fault::Write),
-            Ok(count) => rest = &rest[count..],
-            Err(error) if error.kind() == ErrorKind::Interrupted => {}
-            Err(_) => return Err(Fault::Write),
-        }
-    }
-    if rest.is_empty() {
-        Ok(())
-    } else {
-        Err(Fault::Write)
     }
 }

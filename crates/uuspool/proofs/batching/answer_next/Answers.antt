@@ -15,14 +15,14 @@ returns-in-Err g c =
     (g.R.Read.remaining c.args.reader.now) (g.R.Read.remaining c.read_request.new.reader)
     (g.W.Write.contents c.args.out.now) (g.W.Write.contents c.end_with.new.out)
     c.end_with.result c.stream_fault.result (c.stream_fault.ensures (g.R.Read.remaining c.args.reader.now) c.in-Err.ensures.cause)
-    refl c.end_with.ensures.answer c.end_with.ensures.named
+    refl c.end_with.ensures.answer c.end_with.ensures.untold
 
 pub returns-in_default : goal.returns-in_default
 returns-in_default g c =
     step_of_end c.args.settings.now g.C.Clock.tells c.args.failed c.args.clock.now c.second.new.self c.args.spool.now c.args.spool.now
     (g.R.Read.remaining c.args.reader.now) (g.R.Read.remaining c.read_request.new.reader)
     (g.W.Write.contents c.args.out.now) (g.W.Write.contents c.end_with-in_default.new.out)
-    c.end_with-in_default.result fault.Read tt refl c.end_with-in_default.ensures.answer c.end_with-in_default.ensures.named
+    c.end_with-in_default.result fault.Read tt refl c.end_with-in_default.ensures.answer c.end_with-in_default.ensures.untold
 
 pub returns-in-Ok : goal.returns-in-Ok
 returns-in-Ok g c =
@@ -62,7 +62,7 @@ returns g c =
     c.in-Ok-Some.field-0-is c.in-Ok-Some.ensures.request in
     step_broken c.args.settings.now g.C.Clock.tells c.args.failed c.args.clock.now c.second.new.self c.args.spool.now c.answer_to-answer.new.spool
     (g.R.Read.remaining c.args.reader.now) (g.R.Read.remaining c.read_request.new.reader)
-    (g.W.Write.contents c.args.out.now) (g.W.Write.contents c.tell.new.out) c.in-Err-tell.fault line c.in-Err-tell.ensures.named
+    (g.W.Write.contents c.args.out.now) (g.W.Write.contents c.tell.new.out) c.in-Err-tell.fault line c.in-Err-tell.ensures.untold
     record {
       request = request;
       told = c.in-Some.ensures;

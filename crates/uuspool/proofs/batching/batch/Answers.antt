@@ -27,7 +27,7 @@ returns g c =
     c.args.spool.now c.loop-count.spool c.loop-count.spool
     (g.R.Read.remaining c.args.reader.now) (g.R.Read.remaining c.loop-count.reader) (g.R.Read.remaining c.loop-count.reader)
     (g.W.Write.contents c.args.out.now) (g.W.Write.contents c.loop-count.out) (g.W.Write.contents c.loop-count.out) c.loop-count.invariant
-    (c.lines_are_one_run.ensures c.args.settings.now) refl (omega arith)
+    (c.lines_are_one_run.ensures c.args.settings.now) refl refl (omega arith)
 
 pub returns-in-Err : goal.returns-in-Err
 returns-in-Err g c =

@@ -1,6 +1,6 @@
 use Rattle.std.proofs.Common.{◌≡◌, ◌++◌, ℕ, List}
 use Rattle.std.specs.Io.KnownBytes.{Appends}
-use Rattle.uuspool.proofs.print.write_whole.Given as goal
+use Rattle.uu_frame.proofs.writing.write_whole.Given as goal
 
 -- what is gone from `rest` was written
 abbrev pub invariant-loop : goal.invariant-loop

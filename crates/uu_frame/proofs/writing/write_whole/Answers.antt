@@ -1,8 +1,8 @@
 use Rattle.std.proofs.Common.{◌≡◌, ◌∙◌, ◌-◌, ◌++◌, ℕ, List, length, take, drop, ap, append_assoc, sym, take-append-drop}
 use Rattle.std.proofs.lemmas.List.{take_rest}
 use Rattle.std.proofs.KnownBytes.{Appends-kept, Appends-trans}
-use Rattle.uuspool.proofs.print.write_whole.Goals as goal
-use Rattle.uuspool.proofs.print.write_whole.Goals.{in-Ok, in-Err}
+use Rattle.uu_frame.proofs.writing.write_whole.Goals as goal
+use Rattle.uu_frame.proofs.writing.write_whole.Goals.{in-Ok, in-Err}
 
 -- more of the front was written
 moved : (all front rest : List ℕ) (n : ℕ) → all ≡ front ++ rest → all ≡ (front ++ take n rest) ++ take (length rest - n) (drop n rest)
