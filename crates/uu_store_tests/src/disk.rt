@@ -1,11 +1,11 @@
 // A spool over the two files of a disk, one of which refuses every call from some call on.
 ghost use Rattle.std.specs.Prelude.{◌≡◌, false};
 
-use sqlite::{Alter, Connection, Options};
+use sqlite::{Alter, Connection, FileStore, Options};
 use sqlite_disk::{Crash, Disk, Files, Fuse, Memory};
 use std::alloc::Global;
 use std::process::Abort;
-use uu_store::Spool;
+use uu_store::{Spool, StoreFault};
 
 /// Which file the fuse is on.
 #[derive(Clone, Copy, Debug, PartialEq, Eq)]
@@ -85,6 +85,14 @@ impl Contents {
 
     pub(crate) fn is_same(&self, other: &Contents) -> bool {
         self.log.as_slice() == other.log.as_slice() && self.has_same_database(other)
+    }
+
+    /// The database file, with no log beside it.
+    pub(crate) fn database_alone(self, alloc: Global) -> Contents {
+        Contents {
+            log: Vec::new(alloc),
+            db: self.db,
+        }
     }
 }
 
@@ -195,5 +203,60 @@ fn visited_in<R: Abort, S: Alter + Drop, V: Visitor>(
             Ok(spool.release().into_store())
         }
         Err(refused) => Err(refused.conn.into_store()),
+    }
+}
+
+/// How a visit ended whose files were to be closed.
+#[derive(Clone, Copy, Debug, PartialEq, Eq)]
+pub(crate) enum Close {
+    /// The files were not taken as a spool.
+    Untaken,
+    Refused(StoreFault),
+    Done,
+}
+
+/// [`visit_files`], where the files of the spool are closed.
+pub(crate) fn visit_and_close<R: Abort, V: Visitor>(
+    rt: &R,
+    alloc: Global,
+    contents: &Contents,
+    used: Use,
+    visitor: &mut V,
+) -> (Visit, Close) {
+    let files = fused_files(rt, alloc, contents, used.stop);
+    let (files, close) = closing(rt, alloc, files, used.options, visitor);
+    let visit = visit_of(rt, alloc, close != Close::Untaken, files);
+    (visit, close)
+}
+
+fn closing<R: Abort, D: Disk + Drop, V: Visitor>(
+    rt: &R,
+    alloc: Global,
+    files: Files<D>,
+    options: Options,
+    visitor: &mut V,
+) -> (Files<D>, Close) {
+    assert!(rt; files.may_be_used(), "a sync of these files has failed");
+    match Connection::open_files(alloc, files, options) {
+        Ok(conn) => match Spool::adopt(alloc, conn) {
+            Ok(spool) => closing_of(rt, alloc, spool, visitor),
+            Err(refused) => (refused.conn.into_store().close(), Close::Untaken),
+        },
+        Err((_, left)) => (left.into_files(), Close::Untaken),
+    }
+}
+
+/// The spool is visited, and its files are closed.
+fn closing_of<R: Abort, D: Disk + Drop, V: Visitor>(
+    rt: &R,
+    alloc: Global,
+    spool: Spool<FileStore<D>>,
+    visitor: &mut V,
+) -> (Files<D>, Close) {
+    let mut spool = spool;
+    visitor.visit(rt, alloc, &mut spool);
+    match spool.close() {
+        Ok(files) => (files, Close::Done),
+        Err((fault, store)) => (store.close(), Close::Refused(fault)),
     }
 }

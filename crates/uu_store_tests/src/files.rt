@@ -5,14 +5,14 @@ use crate::order::{ANY, Order, Work, command};
 use crate::questions::Question::Next;
 use crate::questions::Step::Says;
 use crate::questions::play;
-use sqlite::{Alter, Wary};
+use sqlite::{Alter, Start, Wary};
 use std::alloc::Global;
 use std::fs;
 use std::io::ErrorKind;
 use std::process::Abort;
 use std::rt::Files;
 use uu_store::laws::FileHistory;
-use uu_store::{Command, FileSpool, Reply, RunEnd, Spool, start_again, work};
+use uu_store::{Command, FileSpool, Reply, RunEnd, Spool, start_again, work, work_and_close};
 
 const FILE: &str = "stretches.db";
 
@@ -62,11 +62,38 @@ fn expect_next<S: Alter + Drop>(
     play(rt, alloc, &mut spool, &[Says(Next, next)]);
 }
 
-fn worked(host: &HostRuntime, commands: Vec<Command>) -> Option<RunEnd> {
-    match work(host, FILE, Wary, commands) {
-        Ok((end, _store)) => Some(end),
+/// How a stretch ended, if there was one.
+fn ended<E: Drop, F: Drop>(worked: Result<(RunEnd, E), F>) -> Option<RunEnd> {
+    match worked {
+        Ok((end, _left)) => Some(end),
         Err(_) => None,
     }
+}
+
+/// How a stretch ended whose files were closed.
+fn ended_and_closed<E: Drop, F: Drop, G: Drop>(
+    worked: Result<(RunEnd, Result<G, E>), F>,
+) -> Option<RunEnd> {
+    match worked {
+        Ok((end, closed)) => match closed {
+            Ok(_files) => Some(end),
+            Err(_) => None,
+        },
+        Err(_) => None,
+    }
+}
+
+fn worked<T: Start>(host: &HostRuntime, start: T, commands: Vec<Command>) -> Option<RunEnd> {
+    ended(work(host, FILE, start, commands))
+}
+
+/// A stretch whose files are closed.
+fn worked_and_closed<T: Start>(
+    host: &HostRuntime,
+    start: T,
+    commands: Vec<Command>,
+) -> Option<RunEnd> {
+    ended_and_closed(work_and_close(host, FILE, start, commands))
 }
 
 fn opened_again(host: &HostRuntime) -> Option<FileSpool<Wary>> {
@@ -81,11 +108,13 @@ fn a_file_keeps_its_jobs_between_stretches(rt: HostRuntime) {
     remove(&rt, LOG);
     let duke = Order::Define("duke", ANY, 26);
     let job = Order::Queue("duke", b'N', Work::Send, 2);
-    let first = worked(&rt, commands_of(&rt, alloc, &[duke, job]));
+    let first = worked(&rt, Wary, commands_of(&rt, alloc, &[duke, job]));
     expect_end(&rt, first, &[Reply::Done, Reply::Number(1)]);
-    let second = worked(&rt, commands_of(&rt, alloc, &[job]));
+    let second = worked_and_closed(&rt, Wary, commands_of(&rt, alloc, &[job]));
     expect_end(&rt, second, &[Reply::Number(2)]);
-    expect_next(&rt, alloc, opened_again(&rt), "3");
+    let third = worked(&rt, Wary, commands_of(&rt, alloc, &[job]));
+    expect_end(&rt, third, &[Reply::Number(3)]);
+    expect_next(&rt, alloc, opened_again(&rt), "4");
     remove(&rt, FILE);
     remove(&rt, LOG);
 }

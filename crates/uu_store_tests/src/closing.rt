@@ -1,0 +1,79 @@
+// A stop at each call of a disk while the files of a spool are closed. The spool that is opened afterwards shows what the plain machine holds.
+// The log is never copied before, so that the close has all of it to copy.
+use crate::disk::{Close, LONG_LOG, Place, Stop, Use, Visit, nothing, visit_and_close};
+use crate::questions::{Step, told_picture};
+use crate::scripts::{EVERY_KIND, LARGE_JOB, machine_after};
+use crate::visitors::{Give, Way, expect_shown, expect_stopped};
+use std::alloc::Global;
+use std::process::Abort;
+use uu_store::StoreFault;
+
+/// The fewest calls of a file that a close makes.
+const FEWEST: u32 = 2;
+
+/// What is shown after a visit whose commands were all answered. The files may have been closed, and then the database file shows the same
+/// with no log beside it.
+fn expect_kept(rt: &impl Abort, alloc: Global, visit: Visit, close: Close, picture: &str) {
+    expect_shown(rt, alloc, &visit.synced, picture);
+    expect_shown(rt, alloc, &visit.written, picture);
+    match close {
+        Close::Refused(fault) => expect_stopped(rt, fault),
+        _ => expect_shown(rt, alloc, &visit.synced.database_alone(alloc), picture),
+    }
+}
+
+/// Gives all commands of a script, and stops at each call of one file, counting up until the files are closed. Where a stop comes within the
+/// commands, which other tests have, the spool has failed, and is not closed.
+fn stop_at_each_call(rt: &impl Abort, alloc: Global, place: Place, script: &'static [Step]) {
+    let count = script.len();
+    let machine = machine_after(rt, alloc, script, count);
+    let picture = told_picture(rt, alloc, &machine);
+    let mut stops = 0u32;
+    for calls in 0..10_000 {
+        let used = Use {
+            options: LONG_LOG,
+            stop: Stop { place, calls },
+        };
+        let mut give = Give {
+            script,
+            way: Way::Run,
+            answered: 0,
+        };
+        let (visit, close) = visit_and_close(rt, alloc, &nothing(alloc), used, &mut give);
+        if give.answered == count {
+            expect_kept(rt, alloc, visit, close, picture.as_str());
+            if close == Close::Done {
+                assert!(rt; stops >= FEWEST, "no stop within the close");
+                return;
+            }
+            stops = stops.saturating_add(1);
+        } else {
+            let failed = Close::Refused(StoreFault::Failed);
+            assert!(rt;
+                close == Close::Untaken || close == failed,
+                "a failed spool is closed"
+            );
+        }
+    }
+    panic!(rt; "no close ends")
+}
+
+#[test]
+fn closes_after_every_command_and_stops_of_the_log(rt: HostRuntime) {
+    stop_at_each_call(&rt, rt.alloc(), Place::Log, EVERY_KIND);
+}
+
+#[test]
+fn closes_after_every_command_and_stops_of_the_database(rt: HostRuntime) {
+    stop_at_each_call(&rt, rt.alloc(), Place::Database, EVERY_KIND);
+}
+
+#[test]
+fn closes_with_a_large_job_and_stops_of_the_log(rt: HostRuntime) {
+    stop_at_each_call(&rt, rt.alloc(), Place::Log, LARGE_JOB);
+}
+
+#[test]
+fn closes_with_a_large_job_and_stops_of_the_database(rt: HostRuntime) {
+    stop_at_each_call(&rt, rt.alloc(), Place::Database, LARGE_JOB);
+}
