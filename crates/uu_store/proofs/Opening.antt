@@ -1,6 +1,6 @@
 -- From what the files of a spool hold to what it shows.
 use Rattle.std.proofs.Common.{◌≡◌, ◌≢◌, ◌⊎◌, inl, inr, true, [], Option, Some, None, refl, sym, ap, subst, ◌∙◌, arith}
-use Rattle.std.specs.Prelude.{IsTrue, IfSome, length}
+use Rattle.std.specs.Prelude.{IsTrue, IfSome}
 use Rattle.std.proofs.Math.Logic.{∥∥₁_map}
 use Rattle.sqlite.specs.Tree.{Trees}
 use Rattle.sqlite.specs.Schema.{Schema}
@@ -209,6 +209,3 @@ named_as image it fault left same there named = subst (λ fault. IsNamed image f
 pub some_weaker : {T : Type 0} {A B : T → Type 0} (o : Option T) → ((x : T) → A x → B x) → IfSome o A → IfSome o B
 some_weaker None from h = tt
 some_weaker (Some x) from h = from x h
-
-pub started_empty : (image : Image) → image.db ≡ [] → ImageKeeps image empty
-started_empty image none = inr (inl (inl (ap length none)), refl)

@@ -35,10 +35,6 @@ use Rattle.uu_store.specs.Spool.{connection_of}
 use Rattle.uu_store.specs.Kept.{Keeps, Stores}
 use Rattle.uu_store.specs.Stretches.{Adopted, TurnedAway, IsLetGo}
 
--- two files that hold nothing
-abbrev pub no_bytes : Image
-no_bytes = record { log = []; db = [] }
-
 -- the files hold a database that keeps the state, or none was made yet and the state is an empty spool's
 abbrev pub ImageKeeps : Image → State → Type 0
 ImageKeeps image s = ((trees : Trees) × HoldsDatabase image trees × Keeps trees s) ⊎ (IsNothing image × (s ≡ empty))

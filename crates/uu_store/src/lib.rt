@@ -15,7 +15,7 @@ mod stretch;
 mod tables;
 
 pub use adopt::AdoptFault;
-pub use open::{FileSpool, open_spool, start};
+pub use open::{FileSpool, open_spool};
 pub use remains::{OpenFault, Remains};
 pub use run::RunEnd;
 pub use spool::Spool;

@@ -3,19 +3,19 @@ ghost use Rattle.std.specs.Prelude.{◌≡◌, ◌≢◌, ◌⊎◌, false, IfOk
 ghost use Rattle.sqlite.specs.Held.{state};
 ghost use Rattle.sqlite.specs.State.{HasCleanDisk};
 ghost use Rattle.sqlite_wal.specs.Files.{image_at};
-ghost use Rattle.uu_core.specs.State.{State, empty};
+ghost use Rattle.uu_core.specs.State.{State};
 ghost use Rattle.uu_sql.specs.Steps.{Stands};
 ghost use Rattle.uu_schema.specs.Schema.{site};
 ghost use Rattle.uu_store.specs.Encoded.{Encodes};
 ghost use Rattle.uu_store.specs.FoundTables.{HasAll, HasNone};
-ghost use Rattle.uu_store.specs.Openings.{ImageHasOther, ImageKeeps, IsNamed, IsNotTaken, LeavesAlone, LeavesAsKept, Started, no_bytes, remains_of};
+ghost use Rattle.uu_store.specs.Openings.{ImageHasOther, ImageKeeps, IsNamed, IsNotTaken, LeavesAlone, LeavesAsKept, Started, remains_of};
 ghost use Rattle.uu_store.specs.Spool.{disk, has_failed, Shows};
 ghost use Rattle.uu_store.specs.Stretches.{Adopted};
 
 use crate::adopt::AdoptFault;
 use crate::remains::{OpenFault, open_files};
 use crate::spool::Spool;
-use sqlite::{Alter, Connection, FileFrom, FileStore, Start, Wary};
+use sqlite::{Alter, Connection, FileFrom, FileStore, Start};
 use std::alloc::Global;
 use uu_schema::StoreFault;
 
@@ -75,19 +75,4 @@ pub(crate) fn adopted<S: Alter + Drop>(
         Ok(taken) => Ok(taken),
         Err(AdoptFault { fault, conn }) => Err((fault, conn.into_store())),
     }
-}
-
-/// [`open_spool`] as the program uses it. No code can name what the files of a path held, so `Wary` stands for empty files: what is said here
-/// is said of those, and of all others by `open_spool`.
-///
-/// # Errors
-/// Those of [`open_spool`], with what is left of the two files.
-pub fn start(rt: &HostRuntime, path: &str) -> Result<FileSpool<Wary>, OpenFault<FileFrom<Wary>>>
-    ensures usable { IfOk result (λ spool. has_failed spool ≡ false) }
-    ensures never_failed { IfErr result (λ e. e.fault ≢ StoreFault.Failed) }
-    ensures shows { IfOk result (λ spool. HasCleanDisk (disk spool) → Shows spool empty) }
-    ensures named { IfErr result (λ e. IsNamed no_bytes e.fault (remains_of e)) }
-    ensures left { IfErr result (λ e. LeavesAsKept no_bytes (remains_of e)) }
-{
-    open_spool(rt, path, Wary)
 }
