@@ -61,24 +61,42 @@ impl Visitor for Ask {
     }
 }
 
-/// Asks until a question is not answered, and tells how many were, which has to be as wanted.
+/// Asks a question: whether it was answered, which has to be as wanted.
+fn is_answered<S: Alter>(
+    rt: &impl Abort,
+    alloc: Global,
+    spool: &mut Spool<S>,
+    question: Question,
+    want: &str,
+) -> bool {
+    match asked(rt, alloc, spool, question) {
+        Ok(given) => {
+            assert_eq!(rt; given.as_str(), want);
+            true
+        }
+        Err(fault) => {
+            expect_stopped(rt, fault);
+            expect_failed(rt, alloc, spool, TWO_SYSTEMS);
+            false
+        }
+    }
+}
+
+/// Asks until a question is not answered, and tells how many were.
 fn answered<S: Alter>(
     rt: &impl Abort,
     alloc: Global,
     spool: &mut Spool<S>,
     wanted: &[String],
 ) -> usize {
-    for (place, (question, want)) in QUESTIONS.iter().zip(wanted.iter()).enumerate() {
-        match asked(rt, alloc, spool, *question) {
-            Ok(given) => assert_eq!(rt; given.as_str(), want.as_str()),
-            Err(fault) => {
-                expect_stopped(rt, fault);
-                expect_failed(rt, alloc, spool, TWO_SYSTEMS);
-                return place;
-            }
+    let mut answered = 0usize;
+    for (question, want) in QUESTIONS.iter().zip(wanted.iter()) {
+        if !is_answered(rt, alloc, spool, *question, want.as_str()) {
+            return answered;
         }
+        answered = answered.saturating_add(1);
     }
-    QUESTIONS.len()
+    answered
 }
 
 fn new_ask(rt: &impl Abort, alloc: Global, machine: &Machine) -> Ask {

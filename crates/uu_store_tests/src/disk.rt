@@ -197,10 +197,25 @@ fn visited_in<R: Abort, S: Alter + Drop, V: Visitor>(
 ) -> Result<S, S>
     requires { conn.in_transaction ≡ false }
 {
+    match visited_spool(rt, alloc, conn, visitor) {
+        Ok(spool) => Ok(spool.release().into_store()),
+        Err(store) => Err(store),
+    }
+}
+
+/// The spool after a visit, or the store that was not taken as one.
+fn visited_spool<R: Abort, S: Alter + Drop, V: Visitor>(
+    rt: &R,
+    alloc: Global,
+    conn: Connection<S>,
+    visitor: &mut V,
+) -> Result<Spool<S>, S>
+    requires { conn.in_transaction ≡ false }
+{
     match Spool::adopt(alloc, conn) {
         Ok(mut spool) => {
             visitor.visit(rt, alloc, &mut spool);
-            Ok(spool.release().into_store())
+            Ok(spool)
         }
         Err(refused) => Err(refused.conn.into_store()),
     }
@@ -238,23 +253,27 @@ fn closing<R: Abort, D: Disk + Drop, V: Visitor>(
 ) -> (Files<D>, Close) {
     assert!(rt; files.may_be_used(), "a sync of these files has failed");
     match Connection::open_files(alloc, files, options) {
-        Ok(conn) => match Spool::adopt(alloc, conn) {
-            Ok(spool) => closing_of(rt, alloc, spool, visitor),
-            Err(refused) => (refused.conn.into_store().close(), Close::Untaken),
-        },
+        Ok(conn) => closing_in(rt, alloc, conn, visitor),
         Err((_, left)) => (left.into_files(), Close::Untaken),
     }
 }
 
-/// The spool is visited, and its files are closed.
-fn closing_of<R: Abort, D: Disk + Drop, V: Visitor>(
+fn closing_in<R: Abort, D: Disk + Drop, V: Visitor>(
     rt: &R,
     alloc: Global,
-    spool: Spool<FileStore<D>>,
+    conn: Connection<FileStore<D>>,
     visitor: &mut V,
-) -> (Files<D>, Close) {
-    let mut spool = spool;
-    visitor.visit(rt, alloc, &mut spool);
+) -> (Files<D>, Close)
+    requires { conn.in_transaction ≡ false }
+{
+    match visited_spool(rt, alloc, conn, visitor) {
+        Ok(spool) => closed(spool),
+        Err(store) => (store.close(), Close::Untaken),
+    }
+}
+
+/// The files of a spool after their close.
+fn closed<D: Disk + Drop>(spool: Spool<FileStore<D>>) -> (Files<D>, Close) {
     match spool.close() {
         Ok(files) => (files, Close::Done),
         Err((fault, store)) => (store.close(), Close::Refused(fault)),

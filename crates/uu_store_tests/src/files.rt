@@ -5,14 +5,14 @@ use crate::order::{ANY, Order, Work, command};
 use crate::questions::Question::Next;
 use crate::questions::Step::Says;
 use crate::questions::play;
-use sqlite::{Alter, Start, Wary};
+use sqlite::{Start, Wary};
 use std::alloc::Global;
 use std::fs;
 use std::io::ErrorKind;
 use std::process::Abort;
 use std::rt::Files;
 use uu_store::laws::FileHistory;
-use uu_store::{Command, FileSpool, Reply, RunEnd, Spool, start_again, work, work_and_close};
+use uu_store::{Command, Reply, RunEnd, start_again, work, work_and_close};
 
 const FILE: &str = "stretches.db";
 
@@ -52,16 +52,6 @@ fn expect_end(rt: &impl Abort, end: Option<RunEnd>, want: &[Reply]) {
     assert_eq!(rt; end.replies.as_slice(), want);
 }
 
-fn expect_next<S: Alter + Drop>(
-    rt: &impl Abort,
-    alloc: Global,
-    spool: Option<Spool<S>>,
-    next: &'static str,
-) {
-    let mut spool = spool.expect(rt, "a spool");
-    play(rt, alloc, &mut spool, &[Says(Next, next)]);
-}
-
 /// How a stretch ended, if there was one.
 fn ended<E: Drop, F: Drop>(worked: Result<(RunEnd, E), F>) -> Option<RunEnd> {
     match worked {
@@ -96,25 +86,54 @@ fn worked_and_closed<T: Start>(
     ended_and_closed(work_and_close(host, FILE, start, commands))
 }
 
-fn opened_again(host: &HostRuntime) -> Option<FileSpool<Wary>> {
-    start_again::<NoHistory, Wary>(host, FILE, Wary).ok()
+/// A stretch is given these commands, and replies so.
+fn expect_stretch<T: Start>(
+    rt: &impl Abort,
+    host: &HostRuntime,
+    start: T,
+    orders: &[Order],
+    want: &[Reply],
+) {
+    let commands = commands_of(rt, host.alloc(), orders);
+    expect_end(rt, worked(host, start, commands), want);
+}
+
+/// The same, and the files are closed.
+fn expect_closed_stretch<T: Start>(
+    rt: &impl Abort,
+    host: &HostRuntime,
+    start: T,
+    orders: &[Order],
+    want: &[Reply],
+) {
+    let commands = commands_of(rt, host.alloc(), orders);
+    expect_end(rt, worked_and_closed(host, start, commands), want);
+}
+
+/// The next job gets this number.
+fn expect_next<T: Start>(rt: &impl Abort, host: &HostRuntime, start: T, next: &'static str) {
+    let spool = start_again::<NoHistory, T>(host, FILE, start).ok();
+    let mut spool = spool.expect(rt, "a spool");
+    play(rt, host.alloc(), &mut spool, &[Says(Next, next)]);
 }
 
 #[test]
 fn a_file_keeps_its_jobs_between_stretches(rt: HostRuntime) {
-    let alloc = rt.alloc();
     // A run that broke off may have left them.
     remove(&rt, FILE);
     remove(&rt, LOG);
     let duke = Order::Define("duke", ANY, 26);
     let job = Order::Queue("duke", b'N', Work::Send, 2);
-    let first = worked(&rt, Wary, commands_of(&rt, alloc, &[duke, job]));
-    expect_end(&rt, first, &[Reply::Done, Reply::Number(1)]);
-    let second = worked_and_closed(&rt, Wary, commands_of(&rt, alloc, &[job]));
-    expect_end(&rt, second, &[Reply::Number(2)]);
-    let third = worked(&rt, Wary, commands_of(&rt, alloc, &[job]));
-    expect_end(&rt, third, &[Reply::Number(3)]);
-    expect_next(&rt, alloc, opened_again(&rt), "4");
+    expect_stretch(
+        &rt,
+        &rt,
+        Wary,
+        &[duke, job],
+        &[Reply::Done, Reply::Number(1)],
+    );
+    expect_closed_stretch(&rt, &rt, Wary, &[job], &[Reply::Number(2)]);
+    expect_stretch(&rt, &rt, Wary, &[job], &[Reply::Number(3)]);
+    expect_next(&rt, &rt, Wary, "4");
     remove(&rt, FILE);
     remove(&rt, LOG);
 }

@@ -23,6 +23,8 @@ mod ranges;
 #[cfg(test)]
 mod reopening;
 #[cfg(test)]
+mod rows;
+#[cfg(test)]
 mod runs;
 #[cfg(test)]
 mod scripts;

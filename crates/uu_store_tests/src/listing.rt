@@ -1,25 +1,23 @@
 // What listing many jobs costs.
 ghost use Rattle.std.specs.Prelude.{◌≡◌, false};
 
-use crate::order::{ANY, Order, Work, command};
+use crate::order::Order;
+use crate::questions::Step::Does;
+use crate::questions::play;
+use crate::worked::{DUKE, taken};
 use sqlite::{Alter, Connection};
 use std::alloc::Global;
 use std::process::Abort;
 use std::time::{Clock, Duration, Instant};
-use uu_store::{Filter, Reply, Spool};
-
-fn give<S: Alter>(rt: &impl Abort, alloc: Global, spool: &mut Spool<S>, order: Order, want: Reply) {
-    let reply = spool.command(alloc, command(rt, alloc, order));
-    assert_eq!(rt; reply, Ok(want));
-}
+use uu_store::Reply::Number;
+use uu_store::{Filter, Spool};
 
 /// Tells the spool of the system duke and queues so many jobs for it.
 fn fill<S: Alter>(rt: &impl Abort, alloc: Global, spool: &mut Spool<S>, jobs: u32) {
-    let duke = Order::Define("duke", ANY, 26);
-    give(rt, alloc, spool, duke, Reply::Done);
+    play(rt, alloc, spool, &[DUKE]);
     for number in 1..=jobs {
-        let job = Order::Queue("duke", b'N', Work::Send, 0);
-        give(rt, alloc, spool, job, Reply::Number(number));
+        let job = Does(Order::File("duke", b'N'), Number(number));
+        play(rt, alloc, spool, &[job]);
     }
 }
 
@@ -46,13 +44,9 @@ fn listing_in<S: Alter + Drop>(
 ) -> Duration
     requires { conn.in_transaction ≡ false }
 {
-    match Spool::adopt(alloc, conn) {
-        Ok(mut spool) => {
-            fill(rt, alloc, &mut spool, jobs);
-            time_of_listing(rt, alloc, &mut spool, jobs)
-        }
-        Err(_) => panic!(rt; "a fresh database is no spool"),
-    }
+    let mut spool = taken(rt, alloc, conn);
+    fill(rt, alloc, &mut spool, jobs);
+    time_of_listing(rt, alloc, &mut spool, jobs)
 }
 
 /// The time of one listing of so many jobs, in a spool in memory.

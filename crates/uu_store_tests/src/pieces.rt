@@ -1,11 +1,12 @@
 // The pieces in which the bytes of a job are kept, seen by a question on their table.
-ghost use Rattle.std.specs.Prelude.{◌≡◌, false};
-
-use crate::order::{ANY, Order, Work, command};
-use sqlite::{Alter, Connection};
+use crate::order::{Order, Work};
+use crate::questions::Step::Does;
+use crate::rows::{number, rows_of};
+use crate::worked::{DUKE, after};
+use sqlite::Row;
 use std::alloc::Global;
 use std::process::Abort;
-use uu_store::{Reply, Spool};
+use uu_store::Reply::Number;
 
 /// The bytes of a job, how many pieces they are cut into, and how many bytes the last one has. Each other piece has 16,384.
 const PIECES: [(usize, usize, u32); 5] = [
@@ -16,59 +17,27 @@ const PIECES: [(usize, usize, u32); 5] = [
     (1_048_576, 64, 16_384),
 ];
 
-/// The spool gets a job of so many bytes, and is given up.
-fn queued<S: Alter + Drop>(
-    rt: &impl Abort,
-    alloc: Global,
-    conn: Connection<S>,
-    size: usize,
-) -> Connection<S>
-    requires { conn.in_transaction ≡ false }
-{
-    let Ok(mut spool) = Spool::adopt(alloc, conn) else {
-        panic!(rt; "a fresh database is no spool");
-    };
-    give(rt, alloc, &mut spool, Order::Define("duke", ANY, 26));
-    give(
-        rt,
-        alloc,
-        &mut spool,
-        Order::Queue("duke", b'N', Work::Send, size),
+/// The pieces in the order of their places, which count from 0.
+const QUESTION: &str = "SELECT job, place, length(bytes) FROM pieces ORDER BY place";
+
+/// The piece is that of job 1 at its place, and has so many bytes.
+fn expect_piece(rt: &impl Abort, row: &Row, place: usize, length: u32, size: usize) {
+    let given = (
+        number(rt, row, 0),
+        number(rt, row, 1) as usize,
+        number(rt, row, 2),
     );
-    spool.release()
-}
-
-fn give<S: Alter>(rt: &impl Abort, alloc: Global, spool: &mut Spool<S>, order: Order) {
-    let reply = spool.command(alloc, command(rt, alloc, order));
-    assert!(rt; matches!(reply, Ok(Reply::Done | Reply::Number(1))));
-}
-
-/// How many bytes each piece of job 1 has, in the order of their places, which count from 0.
-fn lengths<S: Alter>(rt: &impl Abort, alloc: Global, conn: &mut Connection<S>) -> Vec<u32> {
-    let rows = conn
-        .query_all(
-            "SELECT job, place, length(bytes) FROM pieces ORDER BY place",
-            &[],
-        )
-        .expect(rt, "rows");
-    let mut lengths: Vec<u32> = Vec::new(alloc);
-    for (place, row) in rows.iter().enumerate() {
-        assert_eq!(rt; row.get::<u32>(0).expect(rt, "a number"), 1);
-        assert_eq!(rt; row.get::<u32>(1).expect(rt, "a place") as usize, place);
-        let length = row.get::<u32>(2).expect(rt, "a length");
-        lengths.push(length).expect(rt, "memory");
-    }
-    lengths
+    assert_eq!(rt; given, (1, place, length), "{size} bytes");
 }
 
 fn expect_pieces(rt: &impl Abort, alloc: Global, size: usize, count: usize, last: u32) {
-    let conn = Connection::open_in_memory(alloc).expect(rt, "memory");
-    let mut conn = queued(rt, alloc, conn, size);
-    let lengths = lengths(rt, alloc, &mut conn);
-    assert_eq!(rt; lengths.len(), count, "{size} bytes");
-    for (place, length) in lengths.iter().enumerate() {
-        let wanted = if place + 1 == count { last } else { 16_384 };
-        assert_eq!(rt; *length, wanted, "{size} bytes");
+    let job = Order::Queue("duke", b'N', Work::Send, size);
+    let mut conn = after(rt, alloc, &[DUKE, Does(job, Number(1))]);
+    let rows = rows_of(rt, &mut conn, QUESTION);
+    assert_eq!(rt; rows.len(), count, "{size} bytes");
+    for (place, row) in rows.iter().enumerate() {
+        let length = if place + 1 == count { last } else { 16_384 };
+        expect_piece(rt, row, place, length, size);
     }
 }
 

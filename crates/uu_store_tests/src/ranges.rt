@@ -3,8 +3,9 @@ use crate::order::{ANY, MONDAY, NEVER_OPEN, NIGHT, Order, SUNDAY, TimeLine};
 use crate::questions::Question::{Chosen, Due, Jobs, Systems};
 use crate::questions::Step::{Does, Says};
 use crate::questions::{Step, compare, play};
-use crate::worked::{fresh, taken};
-use sqlite::{Alter, Connection};
+use crate::rows::{number, rows_of};
+use crate::worked::{after, fresh, taken};
+use sqlite::Row;
 use std::alloc::Global;
 use std::process::Abort;
 use uu_store::Reply::{Done, Number};
@@ -26,32 +27,31 @@ const RANGES: [(&[TimeLine], &[(u32, u32)]); 3] = [
     (NEVER_OPEN, &[]),
 ];
 
-fn expect_ranges<S: Alter>(rt: &impl Abort, conn: &mut Connection<S>, wanted: &[(u32, u32)]) {
-    let rows = conn
-        .query_all("SELECT low, high FROM ranges ORDER BY low", &[])
-        .expect(rt, "rows");
-    assert_eq!(rt; rows.len(), wanted.len());
-    for (row, (low, high)) in rows.iter().zip(wanted.iter()) {
-        assert_eq!(rt; row.get::<u32>(0).expect(rt, "a minute"), *low);
-        assert_eq!(rt; row.get::<u32>(1).expect(rt, "a minute"), *high);
-    }
+/// The row of a time line at this place of the table above is that of a range.
+fn expect_range(rt: &impl Abort, row: &Row, wanted: (u32, u32), place: usize) {
+    let given = (number(rt, row, 0), number(rt, row, 1));
+    assert_eq!(rt; given, wanted, "time lines {place}");
 }
 
-fn expect_rows(rt: &impl Abort, alloc: Global, lines: &'static [TimeLine], wanted: &[(u32, u32)]) {
-    let mut spool = fresh(rt, alloc);
-    play(
-        rt,
-        alloc,
-        &mut spool,
-        &[Does(Order::Define("duke", lines, 26), Done)],
-    );
-    expect_ranges(rt, &mut spool.release(), wanted);
+fn expect_rows(
+    rt: &impl Abort,
+    alloc: Global,
+    lines: &'static [TimeLine],
+    wanted: &[(u32, u32)],
+    place: usize,
+) {
+    let mut conn = after(rt, alloc, &[Does(Order::Define("duke", lines, 26), Done)]);
+    let rows = rows_of(rt, &mut conn, "SELECT low, high FROM ranges ORDER BY low");
+    assert_eq!(rt; rows.len(), wanted.len(), "time lines {place}");
+    for (row, range) in rows.iter().zip(wanted.iter()) {
+        expect_range(rt, row, *range, place);
+    }
 }
 
 #[test]
 fn ranges_are_rows(rt: HostRuntime) {
-    for (lines, ranges) in RANGES {
-        expect_rows(&rt, rt.alloc(), lines, ranges);
+    for (place, (lines, ranges)) in RANGES.iter().enumerate() {
+        expect_rows(&rt, rt.alloc(), lines, ranges, place);
     }
 }
 

@@ -1,11 +1,13 @@
 // Runs with ample memory, which answer every command, and runs of a spool that has failed.
+ghost use Rattle.std.specs.Prelude.{◌≡◌, false};
+
 use crate::questions::{Step, asked_picture};
 use crate::scripts::{EVERY_KIND, LARGE_JOB, TWO_SYSTEMS, commands, is_picture, pictures, replies};
 use crate::worked::fresh;
-use sqlite::Connection;
+use sqlite::{Alter, Connection};
 use std::alloc::Global;
 use std::process::Abort;
-use uu_store::{Reply, RunEnd, Spool};
+use uu_store::{Command, Reply, RunEnd, Spool};
 
 const SCRIPTS: [&[Step]; 4] = [&[], LARGE_JOB, TWO_SYSTEMS, EVERY_KIND];
 
@@ -14,13 +16,13 @@ fn expect_whole(rt: &impl Abort, end: &RunEnd, wanted: &[Reply]) {
     assert_eq!(rt; end.replies.as_slice(), wanted);
 }
 
-fn expect_run(rt: &impl Abort, alloc: Global, script: &[Step]) {
+/// The spool answers every command of a script, and shows then what the machine does.
+fn expect_run<S: Alter>(rt: &impl Abort, alloc: Global, spool: &mut Spool<S>, script: &[Step]) {
     let wanted = replies(rt, alloc, script);
     let count = wanted.len();
-    let mut spool = fresh(rt, alloc);
     let end = spool.run(alloc, commands(rt, alloc, script, count));
     expect_whole(rt, &end, &wanted);
-    let shown = asked_picture(rt, alloc, &mut spool);
+    let shown = asked_picture(rt, alloc, spool);
     let pictures = pictures(rt, alloc, script);
     assert!(rt; is_picture(&pictures, count, shown.as_str()));
 }
@@ -28,17 +30,30 @@ fn expect_run(rt: &impl Abort, alloc: Global, script: &[Step]) {
 #[test]
 fn a_run_answers_every_command(rt: HostRuntime) {
     for script in SCRIPTS {
-        expect_run(&rt, rt.alloc(), script);
+        expect_run(&rt, rt.alloc(), &mut fresh(&rt, rt.alloc()), script);
+    }
+}
+
+/// How a stretch of work in a database ended, which has to be taken as a spool.
+fn stretch_in<S: Alter + Drop>(
+    rt: &impl Abort,
+    alloc: Global,
+    conn: Connection<S>,
+    commands: Vec<Command>,
+) -> RunEnd
+    requires { conn.in_transaction ≡ false }
+{
+    match Spool::adopt_and_run(alloc, conn, commands) {
+        Ok((end, _store)) => end,
+        Err(_) => panic!(rt; "it was not taken"),
     }
 }
 
 fn expect_stretch(rt: &impl Abort, alloc: Global, script: &[Step]) {
     let wanted = replies(rt, alloc, script);
-    let conn = Connection::open_in_memory(alloc).expect(rt, "memory");
     let commands = commands(rt, alloc, script, wanted.len());
-    let worked = Spool::adopt_and_run(alloc, conn, commands).ok();
-    let (end, _store) = worked.expect(rt, "a spool");
-    expect_whole(rt, &end, &wanted);
+    let conn = Connection::open_in_memory(alloc).expect(rt, "memory");
+    expect_whole(rt, &stretch_in(rt, alloc, conn, commands), &wanted);
 }
 
 #[test]

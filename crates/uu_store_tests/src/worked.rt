@@ -33,6 +33,26 @@ pub(crate) fn fresh(rt: &impl Abort, alloc: Global) -> Spool<MemStore> {
     taken(rt, alloc, conn)
 }
 
+/// Takes a database as a spool and through steps, and gives it back.
+fn played<S: Alter + Drop>(
+    rt: &impl Abort,
+    alloc: Global,
+    conn: Connection<S>,
+    steps: &[Step],
+) -> Connection<S>
+    requires { conn.in_transaction ≡ false }
+{
+    let mut spool = taken(rt, alloc, conn);
+    play(rt, alloc, &mut spool, steps);
+    spool.release()
+}
+
+/// The database of a spool in memory after these steps.
+pub(crate) fn after(rt: &impl Abort, alloc: Global, steps: &[Step]) -> Connection<MemStore> {
+    let conn = Connection::open_in_memory(alloc).expect(rt, "memory");
+    played(rt, alloc, conn, steps)
+}
+
 /// Takes a fresh spool through steps, and another beside the plain machine.
 fn play_anew(rt: &impl Abort, alloc: Global, steps: &[Step]) {
     play(rt, alloc, &mut fresh(rt, alloc), steps);
@@ -40,7 +60,7 @@ fn play_anew(rt: &impl Abort, alloc: Global, steps: &[Step]) {
 }
 
 /// A system that may be called all week.
-const DUKE: Step = Does(Order::Define("duke", ANY, 26), Done);
+pub(crate) const DUKE: Step = Does(Order::Define("duke", ANY, 26), Done);
 
 const UNC: Step = Does(Order::Define("unc", ANY, 26), Done);
 
@@ -349,9 +369,7 @@ const LAST_NUMBER: &[Step] = &[
 #[test]
 fn numbers_end(rt: HostRuntime) {
     let alloc = rt.alloc();
-    let mut spool = fresh(&rt, alloc);
-    play(&rt, alloc, &mut spool, &[DUKE]);
-    let mut conn = spool.release();
+    let mut conn = after(&rt, alloc, &[DUKE]);
     let changed = conn.execute("UPDATE spool SET next = 4294967294", &[]);
     assert_eq!(rt; changed.expect(&rt, "a change"), 1);
     assert!(rt; conn.is_autocommit());
