@@ -16,6 +16,7 @@ use Rattle.sqlite.specs.Held.{Held}
 use Rattle.sqlite.specs.State.{store_error}
 use Rattle.sqlite.specs.Store.{Ghosts}
 use Rattle.sqlite.specs.Tree.{Trees}
+use Rattle.sqlite.specs.View.{IsClean}
 use Rattle.sqlite_trees.specs.declared.error.StoreError.{StoreError}
 use Rattle.sqlite_trees.specs.declared.error.StoreError.TheVariants.{OutOfMemory, Io, Corrupt, Full, Broken, Unstorable}
 use Rattle.uu_core.specs.State.{State}
@@ -41,12 +42,13 @@ module _ {D : Type 0} {g : disk.Ghosts D} (was : Held (FileStore D g)) (conn : H
   let_go = record { left = closed_it.quiet.outcomes; clean = closed_it.quiet.clean }
 
 pub is_closed : {D : Type 0} {g : disk.Ghosts D} → ((file : D) → g.may_leave file (g.seen file)) → (spool : Spool (FileStore D g) over_files) (files : Files D) (conn : Held (FileStore D g)) → conn ≡ connection_of spool
-    → (last : FileStore D g) → store.files last ≡ (files.log, files.db) → file.IsClosed conn last → (AreClean g files.log files.db → IsCopied conn files) → IsClosed spool files
-is_closed {D} {g} stays spool files conn same last are closed copied =
+    → (last : FileStore D g) → store.files last ≡ (files.log, files.db) → file.IsClosed conn last → (IsClean (store.view last) → store.log_frames last ≡ 0) → (AreClean g files.log files.db → IsCopied conn files) → IsClosed spool files
+is_closed {D} {g} stays spool files conn same last are closed emptied copied =
     let copied_it : AreClean g files.log files.db → IsCopied (connection_of spool) files = λ clean. subst (λ (c : Held (FileStore D g)). IsCopied c files) same (copied clean) in record {
       last = last;
       files_are = are;
       let_go = let_go (connection_of spool) conn same last closed;
+      emptied = emptied;
       clean = λ clean. (copied_it clean).was_clean;
       left = λ clean image may. ∥∥₁_map ((copied_it clean).left image may).both (λ holds. ((disk spool).committed.trees, stays_at (connection_of spool).store stays (copied_it clean).was_open, holds));
       now = λ clean s shows. keeps_alone _ _ s (committed_keeps spool s shows) (copied_it clean).seen;

@@ -44,7 +44,7 @@ use Rattle.uu_schema.specs.declared.fault.StoreKind.{StoreKind}
 use Rattle.uu_schema.specs.declared.fault.StoreKind.TheVariants as part
 use Rattle.uu_schema.specs.Faults.{kind_of_error}
 use Rattle.uu_store.specs.FoundTables.{HasNone, HasAll, HasOther}
-use Rattle.uu_store.specs.Openings.{ImageHasOther, ImageHasSome, ImageKeeps, IsFound, IsNamed, IsNotTaken, IsOfNoContents, IsToldRightly, LeavesAlone, LeavesAsKept, remains_of, remains_of_opening}
+use Rattle.uu_store.specs.Openings.{ImageHasOther, ImageHasSome, ImageKeeps, IsFound, IsNamed, IsNotTaken, IsOfNoContents, IsToldRightly, LeavesAlone, LeavesAsKept, LeavesSame, remains_of, remains_of_opening}
 use Rattle.uu_store.proofs.Creating.{none_or_other, some_or_other}
 use Rattle.uu_store.proofs.Images.{unfound, stop_has}
 use Rattle.uu_store.proofs.Reopening.{simple_site, stands_again, stores_of}
@@ -56,12 +56,23 @@ pub keeps_sound : (s : State) (trees : Trees) → Keeps trees s → (schema : Sc
 keeps_sound s trees (inl it) = (site, it.0)
 keeps_sound s trees (inr it) = (no_schema, it.0)
 
+rests_found : (image : Image) (opened : db.State) → IsFound image opened → Rests opened
+rests_found image opened found = record { is_open = found.opens.is_open; idle = found.opens.autocommit; settled = found.opens.clean }
+
+trees_found : (image : Image) (opened : db.State) → IsFound image opened → (trees : Trees) → HoldsDatabase image trees → opened.now.trees ≡ trees
+trees_found image opened found trees held = ap (λ (d : Database). d.trees) found.opens.clean ∙ found.finds.holds trees held
+
+-- what is opened has some of the spool's tables, where the files' database has
+some_found : (image : Image) (opened : db.State) → IsFound image opened → (trees : Trees) → ImageHasSome image trees → ¬ HasNone opened.now.schema
+some_found image opened found trees has =
+    has.1 opened.now.schema (subst (IsSound opened.now.schema) (trees_found image opened found trees has.0) (found.live found.opens.is_open).0)
+
 -- what is opened is at rest, and stores the state that the files kept
 pub found_stores : (image : Image) (s : State) (opened : db.State) → IsFound image opened → ImageKeeps image s → Rests opened × Stores opened.now s
 found_stores image s opened found keeps = (rests, stores_of opened s found.live rests (keeps_now keeps))
   where
     rests : Rests opened
-    rests = record { is_open = found.opens.is_open; idle = found.opens.autocommit; settled = found.opens.clean }
+    rests = rests_found image opened found
 
     now_is : opened.now.trees ≡ opened.committed.trees
     now_is = ap (λ (d : Database). d.trees) found.opens.clean
@@ -90,6 +101,11 @@ module _ {S : Type 0} (g : Ghosts S) (image : Image) (opened : Held S) (found : 
       let schema = (state g opened).now.schema in
       let other = other_found image (state g opened) (found (omega (arith, adopted.clean, clean))) it in
       elim taken [ inl none ↦ none_or_other schema none other | inr all ↦ some_or_other schema true all other ]
+
+  pub started_same : (spool : Spool S g) → Adopted opened spool → (db.HasCleanDisk (disk spool) → Rests (state g opened) → StopsAs (state g opened) (disk spool)) → db.HasCleanDisk (disk spool) → LeavesSame image (disk spool).may_leave
+  started_same spool adopted stops clean trees has left may =
+      let it = found (omega (arith, adopted.clean, clean)) in
+      (stops clean (rests_found image (state g opened) it)).some (some_found image (state g opened) it trees has) left may ∙ trees_found image (state g opened) it trees has.0
 
 -- ---- where the database was not taken
 
@@ -122,10 +138,10 @@ module _ {D : Type 0} {g : disk.Ghosts D} (image : Image) (opened : Held (FileSt
   away_other it = away.other (other_found image (file_state opened) found_away it)
 
   found_rests : Rests (file_state opened)
-  found_rests = let it = found_away.opens in record { is_open = it.is_open; idle = it.autocommit; settled = it.clean }
+  found_rests = rests_found image (file_state opened) found_away
 
   found_trees : (trees : Trees) → HoldsDatabase image trees → (file_state opened).now.trees ≡ trees
-  found_trees trees held = ap (λ (d : Database). d.trees) found_away.opens.clean ∙ found_away.finds.holds trees held
+  found_trees = trees_found image (file_state opened) found_away
 
   away_told : (trees : Trees) → HoldsDatabase image trees → IsSound site trees → IsToldRightly trees fault
   away_told trees held sound =
@@ -140,9 +156,7 @@ module _ {D : Type 0} {g : disk.Ghosts D} (image : Image) (opened : Held (FileSt
   -- what is left of another database is that database
   pub away_same : (trees : Trees) → ImageHasSome image trees → (left : Trees) → store.recovers stopped left → left ≡ trees
   away_same trees has left may =
-      let same = found_trees trees has.0 in
-      let some = has.1 (file_state opened).now.schema (subst (IsSound (file_state opened).now.schema) same (found_away.live found_away.opens.is_open).0) in
-      away.some (no_doubt (view stopped).is_clean clean) found_rests some left may ∙ same
+      away.some (no_doubt (view stopped).is_clean clean) found_rests (some_found image (file_state opened) found_away trees has) left may ∙ found_trees trees has.0
 
   pub away_sound : (trees : Trees) → ImageHasSome image trees → (left : Trees) → left ≡ trees → (schema : Schema) × IsSound schema left
   away_sound trees has left is =

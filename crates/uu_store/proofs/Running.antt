@@ -1,6 +1,6 @@
 -- Commands over a spool, one after the other.
 use Rattle.std.proofs.Common.{◌≡◌, inl, Bool, ℕ, zero, suc, ◌+◌, true, false, true≢false, List, [], ◌∷◌, ◌++◌, length, take, Option, Some, None, Result, Ok, Err, refl, sym, ap, subst, ◌∙◌, append_assoc, append-nil, arith}
-use Rattle.std.specs.Prelude.{IfOk, IfSome, MatchOption}
+use Rattle.std.specs.Prelude.{IfOk, IfErr, IfSome, MatchOption, MatchResult}
 use Rattle.std.proofs.lemmas.List.{length-append, length-take, take_all}
 use Rattle.std.proofs.Math.Seq.{take-append_seam}
 use Rattle.sqlite.specs.Store.{Ghosts}
@@ -16,6 +16,7 @@ use Rattle.uu_schema.specs.declared.fault.StoreFault.TheVariants.{Memory, Store,
 use Rattle.uu_schema.specs.Faults.{IsFresh}
 use Rattle.uu_store.specs.declared.spool.Spool.{Spool}
 use Rattle.uu_store.specs.Calls.{StaysUnclean, IsAnswered}
+use Rattle.uu_store.specs.Closing.{IsToldAfter}
 use Rattle.uu_store.specs.Encoded.{Leaves, LeavesEither}
 use Rattle.uu_store.specs.Spool.{connection_of, disk, has_failed, Shows, Marks}
 use Rattle.uu_store.specs.Runs.{GoesOn, RanFrom, Ran, reply_in, fault_in}
@@ -277,3 +278,33 @@ stopped_fresh (Some (Store kind)) before later usable marks = tt
 stopped_fresh (Some Failed) before later usable marks = absurd (true≢false (sym marks.0 ∙ usable))
 stopped_fresh (Some Foreign) before later usable marks = absurd marks
 stopped_fresh (Some Newer) before later usable marks = absurd marks
+
+-- ---- which fault a close tells that fails after such a run
+
+goes_on : (stopped : Option StoreFault) (before later : Bool) → before ≡ false → MatchOption stopped ((before ≡ false) × (later ≡ false)) (Marks before later) → later ≡ false → GoesOn stopped
+goes_on None before later usable marks is = tt
+goes_on (Some Memory) before later usable marks is = tt
+goes_on (Some (Store kind)) before later usable marks is = absurd (true≢false (sym marks.1 ∙ is))
+goes_on (Some Failed) before later usable marks is = absurd (true≢false (sym marks.0 ∙ usable))
+goes_on (Some Foreign) before later usable marks is = absurd marks
+goes_on (Some Newer) before later usable marks is = absurd marks
+
+ends_there : (stopped : Option StoreFault) (before later : Bool) → MatchOption stopped ((before ≡ false) × (later ≡ false)) (Marks before later) → later ≡ true → ¬ GoesOn stopped
+ends_there None before later marks is on = true≢false (sym is ∙ marks.1)
+ends_there (Some Memory) before later marks is on = true≢false (sym is ∙ marks.1)
+ends_there (Some (Store kind)) before later marks is on = on
+ends_there (Some Failed) before later marks is on = on
+ends_there (Some Foreign) before later marks is on = on
+ends_there (Some Newer) before later marks is on = on
+
+told_as : (stopped : Option StoreFault) (before later : Bool) → before ≡ false → MatchOption stopped ((before ≡ false) × (later ≡ false)) (Marks before later) → (fault : StoreFault) → Marks later true fault → IsToldAfter stopped fault
+told_as stopped before later usable marks Memory closes = absurd (true≢false closes.1)
+told_as stopped before later usable marks (Store kind) closes = goes_on stopped before later usable marks closes.0
+told_as stopped before later usable marks Failed closes = ends_there stopped before later marks closes.0
+told_as stopped before later usable marks Foreign closes = absurd closes
+told_as stopped before later usable marks Newer closes = absurd closes
+
+pub told_after : {F L : Type 0} (close : Result F (StoreFault × L)) (stopped : Option StoreFault) (before later : Bool) → before ≡ false → MatchOption stopped ((before ≡ false) × (later ≡ false)) (Marks before later)
+    → MatchResult close (λ _. later ≡ false) (λ e. Marks later true e.0) → IfErr close (λ e. IsToldAfter stopped e.0)
+told_after (Ok files) stopped before later usable marks closes = tt
+told_after (Err e) stopped before later usable marks closes = told_as stopped before later usable marks e.0 closes

@@ -1,5 +1,5 @@
 -- What a close of a spool's two files leaves.
-use Rattle.std.specs.Prelude.{◌≡◌, [], ⊤}
+use Rattle.std.specs.Prelude.{◌≡◌, [], Option, ⊤}
 use Rattle.sqlite_disk.specs.declared.Disk as disk
 use Rattle.sqlite_disk.specs.declared.Files.{Files}
 use Rattle.sqlite_disk.specs.Disk.{MoreFaults}
@@ -10,12 +10,16 @@ use Rattle.sqlite_store.specs.declared.store.FileStore.{FileStore}
 use Rattle.sqlite_store.specs.FileStore as store
 use Rattle.sqlite.specs.Tree.{Trees}
 use Rattle.sqlite.specs.State.{HasCleanDisk}
+use Rattle.sqlite.specs.View.{IsClean}
 use Rattle.sqlite.specs.Files.{HoldsDatabase, over_files, image_of}
 use Rattle.uu_core.specs.State.{State}
+use Rattle.uu_schema.specs.declared.fault.StoreFault.{StoreFault}
+use Rattle.uu_schema.specs.declared.fault.StoreFault.TheVariants.{Memory, Store, Failed, Foreign, Newer}
 use Rattle.uu_schema.specs.declared.fault.StoreKind.{StoreKind}
 use Rattle.uu_schema.specs.declared.fault.StoreKind.TheVariants as part
 use Rattle.uu_store.specs.declared.spool.Spool.{Spool}
 use Rattle.uu_store.specs.Openings.{ImageKeeps}
+use Rattle.uu_store.specs.Runs.{GoesOn}
 use Rattle.uu_store.specs.Spool.{connection_of, disk, Shows}
 use Rattle.uu_store.specs.Stretches.{IsLetGo}
 
@@ -27,12 +31,13 @@ KeepsAlone image s = ∥ ImageKeeps image s ∥₁ × ∥ ImageKeeps (record ima
 abbrev pub HoldsOneOf : (Trees → Type 0) → Image → Type 0
 HoldsOneOf could_leave image = ∥ ((trees : Trees) × could_leave trees × HoldsDatabase image trees) ∥₁
 
--- The store was let go, and its files are these. While the disk returned what was written, a stop leaves files that hold a database which it
--- could leave before, and they keep the state that the spool showed, as they read now and as a stop leaves them.
+-- The store was let go with an empty log, and its files are these. While the disk returned what was written, a stop leaves files that hold a
+-- database which it could leave before, and they keep the state that the spool showed, as they read now and as a stop leaves them.
 pub record IsClosed {D : Type 0} {g : disk.Ghosts D} (spool : Spool (FileStore D g) over_files) (files : Files D) : Type 0 where
   pub last : FileStore D g
   pub files_are : store.files last ≡ (files.log, files.db)
   pub let_go : IsLetGo over_files (connection_of spool).store last
+  pub emptied : IsClean (store.view last) → store.log_frames last ≡ 0
   pub clean : AreClean g files.log files.db → HasCleanDisk (disk spool)
   pub left : AreClean g files.log files.db → (image : Image) → outcomes g files.log files.db image → HoldsOneOf (disk spool).may_leave image
   pub now : AreClean g files.log files.db → (s : State) → Shows spool s → KeepsAlone (image_of g files) s
@@ -44,3 +49,11 @@ abbrev pub HasCause : {D : Type 0} {g : disk.Ghosts D} → StoreKind → FileSto
 HasCause part.Disk was last = MoreFaults (store.faults was) (store.faults last)
 HasCause part.Size was last = ⊥
 HasCause part.Database was last = ⊤
+
+-- which fault a close that fails after a run tells, by how the run ended: `Failed` exactly where the store had failed in it, and else `Store`
+abbrev pub IsToldAfter : Option StoreFault → StoreFault → Type 0
+IsToldAfter stopped (Store kind) = GoesOn stopped
+IsToldAfter stopped Failed = ¬ GoesOn stopped
+IsToldAfter stopped Memory = ⊥
+IsToldAfter stopped Foreign = ⊥
+IsToldAfter stopped Newer = ⊥

@@ -47,6 +47,10 @@ ImageHasSome image trees = HoldsDatabase image trees × ((schema : Schema) → I
 abbrev pub ImageHasOther : Image → Type 0
 ImageHasOther image = (trees : Trees) × HoldsDatabase image trees × ((schema : Schema) → IsSound schema trees → HasOther schema)
 
+-- where the files' database has any of the spool's tables, whatever stands beside them, only this database may be left
+abbrev pub LeavesSame : Image → (Trees → Type 0) → Type 0
+LeavesSame before could_leave = (trees : Trees) → ImageHasSome before trees → (left : Trees) → could_leave left → left ≡ trees
+
 -- an opening of these files found what they hold
 pub record IsFound (image : Image) (opened : db.State) : Type 0 where
   pub opens : db.Opens opened
@@ -112,7 +116,8 @@ module _ {D : Type 0} {g : disk.Ghosts D} where
   remains_of_opening None = remains.Unopened
   remains_of_opening (Some it) = remains.Files it
 
-  -- While the disk returned what was written, a stop leaves files that keep what these kept. Of files that were not opened nothing is said.
+  -- While the disk returned what was written, a stop leaves files that keep what these kept; where the opening failed, if it took them as they
+  -- were made. Of files that were not opened nothing is said.
   abbrev pub LeavesAsKept : Image → Remains D g → Type 0
   LeavesAsKept before remains.Unopened = ⊤
   LeavesAsKept before (remains.Files it) = IsCleanLeft it → IsTakenAsMade before it → StaysKept before (may_be_left it)

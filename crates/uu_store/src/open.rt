@@ -4,11 +4,12 @@ ghost use Rattle.sqlite.specs.Held.{state};
 ghost use Rattle.sqlite.specs.State.{HasCleanDisk};
 ghost use Rattle.sqlite_wal.specs.Files.{image_at};
 ghost use Rattle.uu_core.specs.State.{State};
-ghost use Rattle.uu_sql.specs.Steps.{Stands};
+ghost use Rattle.uu_sql.specs.Steps.{Rests, Stands};
 ghost use Rattle.uu_schema.specs.Schema.{site};
+ghost use Rattle.uu_store.specs.Adoption.{StopsAs};
 ghost use Rattle.uu_store.specs.Encoded.{Encodes};
 ghost use Rattle.uu_store.specs.FoundTables.{HasAll, HasNone};
-ghost use Rattle.uu_store.specs.Openings.{ImageHasOther, ImageKeeps, IsNamed, IsNotTaken, LeavesAlone, LeavesAsKept, Started, remains_of};
+ghost use Rattle.uu_store.specs.Openings.{ImageHasOther, ImageKeeps, IsNamed, IsNotTaken, LeavesAlone, LeavesAsKept, LeavesSame, Started, remains_of};
 ghost use Rattle.uu_store.specs.Spool.{disk, has_failed, Shows};
 ghost use Rattle.uu_store.specs.Stretches.{Adopted};
 
@@ -29,8 +30,8 @@ pub type FileSpool<T> = Spool<FileStore<FileFrom<T>>>;
 /// # Errors
 /// With what is left of the two files. A stop then leaves files that keep what was kept (`left`), and of a database that was opened and has any of
 /// the spool's tables what it was (`left_alone`). Files that keep the state of a spool, or hold nothing yet, are never answered `Foreign` or
-/// `Newer`; one that was opened and has exactly the tables is `Newer` where a row names a later version, and else `Foreign`; one in which a name
-/// of theirs is taken and no table tells a version is `Foreign` (`named`).
+/// `Newer`; one that has exactly the tables is answered `Newer` only where a row names a later version, and `Foreign` only where none does and
+/// no state has its rows; one in which a name of theirs is taken and no table tells a version is `Foreign` (`named`).
 pub fn open_spool<T: Start>(
     rt: &HostRuntime,
     path: &str,
@@ -45,6 +46,9 @@ pub fn open_spool<T: Start>(
 
     // A database in which one of the names is taken and no table tells a version is never taken.
     ensures never_other { IfOk result (λ spool. HasCleanDisk (disk spool) → ¬ ImageHasOther (image_at T.Start)) }
+
+    // One that has any of the spool's tables is left as it was, whatever stands beside them.
+    ensures left_same { IfOk result (λ spool. HasCleanDisk (disk spool) → LeavesSame (image_at T.Start) (disk spool).may_leave) }
 
     // What is left of files that were opened keeps what they kept, and the fault names it rightly.
     ensures named { IfErr result (λ e. IsNamed (image_at T.Start) e.fault (remains_of e)) }
@@ -69,6 +73,7 @@ pub(crate) fn adopted<S: Alter + Drop>(
     ensures adopted { IfOk result (Adopted conn) }
     ensures taken { IfOk result (λ spool. HasNone (state S.Store conn).now.schema ⊎ HasAll (state S.Store conn).now.schema) }
     ensures encoded { IfOk result (λ spool. HasCleanDisk (disk spool) → Stands site (state S.Store conn).now → (s : State) × Encodes (state S.Store conn).now s) }
+    ensures stop { IfOk result (λ spool. HasCleanDisk (disk spool) → Rests (state S.Store conn) → StopsAs (state S.Store conn) (disk spool)) }
     ensures away { IfErr result (λ e. IsNotTaken S.Store conn e.1 e.0) }
 {
     match Spool::adopt(alloc, conn) {

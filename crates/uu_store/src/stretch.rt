@@ -1,5 +1,5 @@
 // Stretches of work over files.
-ghost use Rattle.std.specs.Prelude.{◌≡◌, ◌≢◌, ◌↔◌, ℕ, None, IfOk, IfErr, IfSome, IsTrue, length};
+ghost use Rattle.std.specs.Prelude.{◌≡◌, ◌≢◌, ◌↔◌, ℕ, false, None, IfOk, IfErr, IfSome, IsTrue, length};
 ghost use Rattle.sqlite.specs.State.{HasCleanDisk};
 ghost use Rattle.sqlite_wal.specs.Files.{image_at};
 ghost use Rattle.sqlite_store.specs.FileStore.{view};
@@ -7,10 +7,11 @@ ghost use Rattle.uu_core.specs.declared.job.NewJob.{NewJob};
 ghost use Rattle.uu_core.specs.State.{State};
 ghost use Rattle.uu_schema.specs.Faults.{IsFresh};
 ghost use Rattle.uu_store.specs.Acknowledged.{IsAcknowledged, ShowsJob};
+ghost use Rattle.uu_store.specs.Closing.{IsToldAfter};
 ghost use Rattle.uu_store.specs.Exchanges.{exchange_of};
 ghost use Rattle.uu_store.specs.Files.{AllFilesPassed, last_left, file_exchanges, IsStretch, IsClosedStretch};
-ghost use Rattle.uu_store.specs.Openings.{ImageKeeps, IsNamed, LeavesAsKept, remains_of};
-ghost use Rattle.uu_store.specs.Spool.{disk};
+ghost use Rattle.uu_store.specs.Openings.{ImageHasOther, ImageKeeps, IsNamed, LeavesAlone, LeavesAsKept, LeavesSame, Started, remains_of};
+ghost use Rattle.uu_store.specs.Spool.{disk, has_failed};
 ghost use Rattle.uu_store.specs.Stretches.{ShowsAfter};
 
 use crate::laws::{FileHistory, no_answered_command_is_lost_in_files};
@@ -40,6 +41,7 @@ pub fn work<T: Start>(
     ensures never_failed { IfErr result (λ e. e.fault ≢ StoreFault.Failed) }
     ensures named { IfErr result (λ e. IsNamed (image_at T.Start) e.fault (remains_of e)) }
     ensures left { IfErr result (λ e. LeavesAsKept (image_at T.Start) (remains_of e)) }
+    ensures left_alone { IfErr result (λ e. LeavesAlone (image_at T.Start) (remains_of e)) }
 {
     let mut spool = open_spool(rt, path, start)?;
     let end = spool.run(rt.alloc(), commands);
@@ -52,7 +54,8 @@ pub type CloseEnd<D> = Result<Files<D>, (StoreFault, FileStore<D>)>;
 /// [`work`], and then the files are closed.
 ///
 /// # Errors
-/// Those of [`open_spool`]. No command was given then. A close that fails is no error of the stretch, which has its replies.
+/// Those of [`open_spool`]. No command was given then. A close that fails is no error of the stretch, which has its replies: it answers `Failed`
+/// where the store failed in the run, and else `Store`.
 pub fn work_and_close<T: Start>(
     rt: &HostRuntime,
     path: &str,
@@ -64,11 +67,13 @@ pub fn work_and_close<T: Start>(
     // Of a store that a close gave back the port does not say that its trees have their places; where they have, it was let go as any.
     ensures let_go { IfOk result (λ end. IfErr end.1 (λ e. IsTrue (view e.1).is_numbered
         → IsStretch (image_at T.Start) (exchange_of commands.items end.0.replies.items end.0.stopped) e.1)) }
+    ensures told { IfOk result (λ end. IfErr end.1 (λ e. IsToldAfter end.0.stopped e.0)) }
     ensures every { IfOk result (λ end. (end.0.stopped ≡ None) ↔ (length end.0.replies.items ≡ length commands.items)) }
     ensures fresh { IfOk result (λ end. IfSome end.0.stopped IsFresh) }
     ensures never_failed { IfErr result (λ e. e.fault ≢ StoreFault.Failed) }
     ensures named { IfErr result (λ e. IsNamed (image_at T.Start) e.fault (remains_of e)) }
     ensures left { IfErr result (λ e. LeavesAsKept (image_at T.Start) (remains_of e)) }
+    ensures left_alone { IfErr result (λ e. LeavesAlone (image_at T.Start) (remains_of e)) }
 {
     let mut spool = open_spool(rt, path, start)?;
     let end = spool.run(rt.alloc(), commands);
@@ -92,9 +97,16 @@ pub fn start_again<H: FileHistory, T: Start>(
     ensures jobs { IfOk result (λ spool. HasCleanDisk (disk spool)
         → (s : State) (new : NewJob) (number : ℕ) → ImageKeeps H.before s → AllFilesPassed H.before H.stretches → image_at T.Start ≡ last_left H.before H.stretches
         → IsAcknowledged (file_exchanges H.stretches) new number → ∥ ShowsJob s (file_exchanges H.stretches) new number spool ∥₁) }
+
+    // Beside that, it is opened as any, so that further stretches go on from it.
+    ensures usable { IfOk result (λ spool. has_failed spool ≡ false) }
+    ensures started { IfOk result (Started (image_at T.Start)) }
+    ensures never_other { IfOk result (λ spool. HasCleanDisk (disk spool) → ¬ ImageHasOther (image_at T.Start)) }
+    ensures left_same { IfOk result (λ spool. HasCleanDisk (disk spool) → LeavesSame (image_at T.Start) (disk spool).may_leave) }
     ensures never_failed { IfErr result (λ e. e.fault ≢ StoreFault.Failed) }
     ensures named { IfErr result (λ e. IsNamed (image_at T.Start) e.fault (remains_of e)) }
     ensures left { IfErr result (λ e. LeavesAsKept (image_at T.Start) (remains_of e)) }
+    ensures left_alone { IfErr result (λ e. LeavesAlone (image_at T.Start) (remains_of e)) }
 {
     no_answered_command_is_lost_in_files::<H>();
     open_spool(rt, path, start)

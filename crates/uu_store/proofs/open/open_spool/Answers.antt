@@ -2,7 +2,7 @@ use Rattle.std.proofs.Common.{sym, subst}
 use Rattle.sqlite.specs.Files.{over_files}
 use Rattle.sqlite_wal.specs.Files.{image_at}
 use Rattle.uu_store.specs.Openings.{LeavesAlone, LeavesAsKept}
-use Rattle.uu_store.proofs.Opening.{started_shows, started_never_other, named_as, away_named, away_leaves, away_alone}
+use Rattle.uu_store.proofs.Opening.{started_shows, started_never_other, started_same, named_as, away_named, away_leaves, away_alone}
 use Rattle.uu_store.proofs.open.open_spool.Goals as goal
 
 pub returns-in-Ok-clause-started : goal.returns-in-Ok-clause-started
@@ -14,6 +14,10 @@ returns-in-Ok-clause-shows g c = started_shows over_files (image_at g.T.Start) c
 pub returns-in-Ok-clause-never_other : goal.returns-in-Ok-clause-never_other
 returns-in-Ok-clause-never_other g c =
     started_never_other over_files (image_at g.T.Start) c.in_ok-conn.conn c.in_ok-conn.ensures.found c.in-Ok.spool c.in-Ok.ensures.adopted c.in-Ok.ensures.taken
+
+pub returns-in-Ok-clause-left_same : goal.returns-in-Ok-clause-left_same
+returns-in-Ok-clause-left_same g c =
+    started_same over_files (image_at g.T.Start) c.in_ok-conn.conn c.in_ok-conn.ensures.found c.in-Ok.spool c.in-Ok.ensures.adopted c.in-Ok.ensures.stop
 
 pub returns-in-Err-clause-named : goal.returns-in-Err-clause-named
 returns-in-Err-clause-named g c =

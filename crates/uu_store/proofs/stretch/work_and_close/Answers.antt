@@ -1,6 +1,6 @@
 use Rattle.std.proofs.lemmas.Result.{IfOk-weaker, IfErr-weaker}
 use Rattle.sqlite_wal.specs.Files.{image_at}
-use Rattle.uu_store.proofs.Running.{stopped_fresh}
+use Rattle.uu_store.proofs.Running.{stopped_fresh, told_after}
 use Rattle.uu_store.proofs.FileRuns.{stretch_is, closed_is}
 use Rattle.uu_store.proofs.stretch.work_and_close.Goals as goal
 
@@ -21,3 +21,6 @@ returns-clause-every g c =
 
 pub returns-clause-fresh : goal.returns-clause-fresh
 returns-clause-fresh g c = stopped_fresh c.run-end.result.stopped _ _ c.in_ok-spool.ensures.usable c.run-end.ensures.marked
+
+pub returns-clause-told : goal.returns-clause-told
+returns-clause-told g c = told_after c.close.result c.run-end.result.stopped _ _ c.in_ok-spool.ensures.usable c.run-end.ensures.marked c.close.ensures.marked
