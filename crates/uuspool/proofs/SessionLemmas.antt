@@ -102,13 +102,13 @@ Joins S g = (old mid new : Spool S g) (one other : List Command) (first second :
 abbrev pub Settles : (S : Type 0) → Ghosts S → Type 0
 Settles S g = (spool : Spool S g) (trees : Trees) → IsTrue (disk spool).is_open → (disk spool).may_leave trees → trees ≡ (disk spool).committed.trees
 
-module _ {S : Type 0} {g : Ghosts S} (joins : Joins S g) (settles : Settles S g) (settings : Settings) where
+module _ {S : Type 0} {g : Ghosts S} (settles : Settles S g) where
   leaves_shown : (spool : Spool S g) (s : State) → Shows spool s → Leaves (disk spool) s
   leaves_shown spool s shown trees may =
       let is : trees ≡ (disk spool).now.trees = settles spool trees shown.rests.is_open may ∙ sym (ap (λ (d : Database). d.trees) shown.rests.settled) in
       rw is (shown.encodes.stands.sound, shown.encodes.holds)
 
-  ran_nothing : (spool : Spool S g) → Ran [] spool spool [] None
+  pub ran_nothing : (spool : Spool S g) → Ran [] spool spool [] None
   ran_nothing spool = record {
     within = omega arith;
     from = λ clean s shown.
@@ -117,6 +117,7 @@ module _ {S : Type 0} {g : Ghosts S} (joins : Joins S g) (settles : Settles S g)
     clean = omega arith;
   }
 
+module _ {S : Type 0} {g : Ghosts S} (joins : Joins S g) (settles : Settles S g) (settings : Settings) where
   -- the run has its own commands, replies and end, from which the rest follows
   one_run_of : (lines : List Line) (old new : Spool S g) (asked : List (Option Request)) (replies : List Reply) (stopped : Option StoreFault)
       → Ran (commands_in asked) old new replies stopped
@@ -195,7 +196,7 @@ module _ {S : Type 0} {g : Ghosts S} (joins : Joins S g) (settles : Settles S g)
     unasked_last off none same left still =
         one_run_of (line ∷ lines) old new (None ∷ nones lines) [] None
         (subst (λ commands. Ran commands old new [] None) (sym (nones_ask_nothing lines))
-        (subst (λ (n : Spool S g). Ran [] old n [] None) (sym (still ∙ same)) (ran_nothing old)))
+        (subst (λ (n : Spool S g). Ran [] old n [] None) (sym (still ∙ same)) (ran_nothing settles old)))
         (λ clean s shown. (none, left_are_told settings s lines left))
         (λ on. absurd (off on))
 
@@ -231,7 +232,7 @@ module _ {S : Type 0} {g : Ghosts S} (joins : Joins S g) (settles : Settles S g)
   -- lines that are served one after the other are one run
   pub one_run : (lines : List Line) (old new : Spool S g) → AreServed settings lines old new → IsOneRun settings lines old new
   one_run [] old new same =
-      one_run_of [] old new [] [] None (subst (λ (n : Spool S g). Ran [] old n [] None) (sym same) (ran_nothing old)) (λ clean s shown. refl) (λ on. (refl, refl))
+      one_run_of [] old new [] [] None (subst (λ (n : Spool S g). Ran [] old n [] None) (sym same) (ran_nothing settles old)) (λ clean s shown. refl) (λ on. (refl, refl))
   one_run (line ∷ lines) old new (mid, serves, rest) =
       one_more line lines old mid new line.result refl serves.ends serves.told
       (further_on line.result (AreServed settings lines mid new) (IsOneRun settings lines mid new) (AreLeft lines × (new ≡ mid)) (one_run lines mid new) rest)

@@ -75,7 +75,7 @@ EndsWith left Writes status =
     ((status ≡ 0) × IsAtEnd left × Writes [])
     ⊎ ((why : Fault) × IsOfStream left why × (status ≡ status_of why) × Writes (fault_answer why))
 
--- An answer was not told to its end: a beginning of it was written, and where memory ran out nothing of it.
+-- The telling of an answer failed: a beginning of it was written, perhaps all of it, and where memory ran out nothing.
 abbrev pub IsUntold : List ℕ → (Writes : List ℕ → Type 0) → Fault → Type 0
 IsUntold answer Writes fault.Write = IsBegun answer Writes
 IsUntold answer Writes fault.Memory = Writes []
@@ -87,8 +87,8 @@ IsUntold answer Writes _ = ⊥
 abbrev pub most_requests : ℕ
 most_requests = 2 ^ 64 - 1
 
--- How a batch breaks off: all lines but the last were answered, and that one's answer was not told to its end, or all were, and the answer to a
--- fault of the stream was not. What was written is the answers of lines and then a text.
+-- How a batch breaks off: all lines but the last were answered, and the telling of that one's answer failed, or all were, and the telling of the
+-- answer to a fault of the stream failed. What was written is the answers of lines and then a text.
 abbrev pub BreaksOff : List Line → Option (List ℕ) → (Writes : List Line → List ℕ → Type 0) → Fault → Type 0
 BreaksOff lines left Writes why =
     ((front : List Line) × (last : Line) × (lines ≡ front ++ last ∷ []) × IsUntold (answer_of last) (Writes front) why)

@@ -11,7 +11,7 @@ use Rattle.uuspool.specs.declared.batching.Step.TheVariants as step
 use Rattle.uuspool.specs.declared.fault.Fault.{Fault}
 
 module _ {S : Type 0} {g : Ghosts S} {C : Type 0} (settings : Settings) (Tells : C → ℕ → C → Type 0) (failed : Bool) (clock later : C) (old new : Spool S g) (had left held holds : Option (List ℕ)) where
-  -- a request was answered, or the stream ended; or the answer to one of the two was not told to its end
+  -- a request was answered, or the stream ended; or the telling of the answer to one of the two failed
   abbrev pub IsBatchStep : Result Step Fault → Type 0
   IsBatchStep (Ok (step.Answered leads_on)) =
       (line : Line) × IsNext settings Tells failed clock later old new line × Consumes had left (frame_of line) × Appends held holds (answer_of line)

@@ -1,39 +1,72 @@
 -- From the calls over a spool to a stretch of work over its files.
-use Rattle.std.proofs.Common.{ℕ, Result, Ok, Err, inl, inr}
-use Rattle.std.specs.Prelude.{IsTrue}
+use Rattle.std.proofs.Common.{◌≡◌, ℕ, List, [], None, Result, Ok, Err, inl, inr, refl, subst, sym}
+use Rattle.std.specs.Prelude.{IsTrue, ⊤}
 use Rattle.sqlite_disk.specs.declared.Disk as disk
 use Rattle.sqlite_disk.specs.declared.Files.{Files}
 use Rattle.sqlite_wal.specs.Recovery.{Image}
 use Rattle.sqlite_store.specs.declared.store.FileStore.{FileStore}
 use Rattle.sqlite_store.specs.FileStore.{view}
 use Rattle.sqlite.specs.Files.{over_files}
+use Rattle.sqlite.specs.Store.{Ghosts}
 use Rattle.sqlite.specs.View.{IsClean}
 use Rattle.uu_store.specs.declared.spool.Spool.{Spool}
 use Rattle.uu_store.specs.Closing.{IsClosed}
-use Rattle.uu_store.specs.Exchanges.{Exchange}
+use Rattle.uu_store.specs.Exchanges.{Exchange, exchange_of}
 use Rattle.uu_store.specs.Files.{IsStretch, IsClosedStretch}
 use Rattle.uu_store.specs.Spool.{connection_of}
 use Rattle.uu_store.specs.Stretches.{IsLetGo}
-use Rattle.uuspool.specs.Served.{EndsAs}
+use Rattle.uu_store.specs.Runs.{Ran}
+use Rattle.uu_settings.specs.declared.settings.Settings.{Settings}
+use Rattle.uu_request.specs.declared.request.Request.{Request}
+use Rattle.uuspool.specs.Served.{Ask, EndsAs, IsServed, commands_of}
 use Rattle.uuspool.specs.declared.fault.Fault.{Fault}
 use Rattle.uuspool.specs.declared.fault.Fault.TheVariants as fault
-use Rattle.uuspool_main.specs.Stretch.{EndsStretch, LetsGo}
+use Rattle.uuspool_main.specs.Stretch.{EndsStretch, IsOfLine, LetsGo, WasGiven}
 use Rattle.uuspool_main.specs.declared.stretch.Rest.{Rest}
 use Rattle.uuspool_main.specs.declared.stretch.Rest.TheVariants as rest
 
--- however a line ended
-pub of_line : (r : Result ℕ Fault) (served unchanged Used : Type 0) → EndsAs r served unchanged → (served → Used) → (unchanged → Used) → Used
-of_line (Ok status) served unchanged Used it one other = one it
-of_line (Err (fault.Store why)) served unchanged Used it one other = one it
-of_line (Err fault.Write) served unchanged Used it one other = one it
-of_line (Err fault.Memory) served unchanged Used it one other = elim it [ inl done ↦ one done | inr not_done ↦ other not_done ]
-of_line (Err (fault.Words text help)) served unchanged Used it one other = other it
-of_line (Err (fault.Settings why)) served unchanged Used it one other = other it
-of_line (Err (fault.Name why)) served unchanged Used it one other = other it
-of_line (Err (fault.Time why)) served unchanged Used it one other = other it
-of_line (Err fault.TwoSystems) served unchanged Used it one other = other it
-of_line (Err fault.Input) served unchanged Used it one other = other it
-of_line (Err fault.Read) served unchanged Used it one other = other it
+-- ---- what a line was given
+
+module _ {S : Type 0} {g : Ghosts S} (settings : Settings) (begun ended : Spool S g) (words : List (List ℕ)) (now : ℕ) (input : List ℕ) where
+  -- its request was served
+  abbrev pub Asked : Result ℕ Fault → Type 0
+  Asked r = (request : Request) × Ask settings words now input (Ok request) × IsServed settings request begun ended (λ output. ⊤) r
+
+  -- and these are its commands and their replies
+  abbrev pub AskedSo : Result ℕ Fault → Exchange → Type 0
+  AskedSo r exchange = (request : Request) × Ask settings words now input (Ok request)
+      × (it : IsServed settings request begun ended (λ output. ⊤) r) × (exchange ≡ exchange_of (commands_of request) it.replies it.stopped)
+
+  -- nothing was done
+  abbrev pub NoneSo : Exchange → Type 0
+  NoneSo exchange = (ended ≡ begun) × (exchange ≡ exchange_of [] [] None)
+
+  asked_so : (r : Result ℕ Fault) → Asked r → WasGiven begun ended (AskedSo r)
+  asked_so r (request, asks, it) = (commands_of request, it.replies, it.stopped, it.ran, (request, asks, it, refl))
+
+  none_so : Ran [] begun begun [] None → ended ≡ begun → WasGiven begun ended NoneSo
+  none_so none same = ([], [], None, subst (λ (new : Spool S g). Ran [] begun new [] None) (sym same) none, (same, refl))
+
+  -- however it ended
+  pub line_given : (Still : Type 0) → Ran [] begun begun [] None → (r : Result ℕ Fault) → EndsAs r (Asked r) ((ended ≡ begun) × Still)
+      → WasGiven begun ended (IsOfLine settings begun ended words now input r)
+  line_given Still none (Ok status) it = asked_so (Ok status) it
+  line_given Still none (Err (fault.Store why)) it = asked_so (Err (fault.Store why)) it
+  line_given Still none (Err fault.Write) it = asked_so (Err fault.Write) it
+  line_given Still none (Err fault.Memory) it =
+      elim it [
+        | inl done ↦ let (commands, replies, stopped, ran, is) = asked_so (Err fault.Memory) done in (commands, replies, stopped, ran, inl is)
+        | inr not_done ↦ let (commands, replies, stopped, ran, is) = none_so none not_done.0 in (commands, replies, stopped, ran, inr is)
+      ]
+  line_given Still none (Err (fault.Words text help)) it = none_so none it.0
+  line_given Still none (Err (fault.Settings why)) it = none_so none it.0
+  line_given Still none (Err (fault.Name why)) it = none_so none it.0
+  line_given Still none (Err (fault.Time why)) it = none_so none it.0
+  line_given Still none (Err fault.TwoSystems) it = none_so none it.0
+  line_given Still none (Err fault.Input) it = none_so none it.0
+  line_given Still none (Err fault.Read) it = none_so none it.0
+
+-- ---- the end
 
 pub ends : {D : Type 0} {g : disk.Ghosts D} (before : Image) (exchange : Exchange) (ended : Spool (FileStore D g) over_files)
     → ((store : FileStore D g) → IsLetGo over_files (connection_of ended).store store → (IsClean (view store) → IsTrue (view store).is_numbered) → IsStretch before exchange store)

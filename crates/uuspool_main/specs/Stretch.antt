@@ -1,17 +1,31 @@
 -- How a run of the program leaves the spool's files.
-use Rattle.std.specs.Prelude.{IsTrue}
+use Rattle.std.specs.Prelude.{◌≡◌, ℕ, List, [], map, Option, None, Ok, Result, IsTrue, ⊤}
+use Rattle.std.specs.String.{string_bytes}
 use Rattle.sqlite_disk.specs.declared.Disk as disk
 use Rattle.sqlite_wal.specs.Recovery.{Image}
 use Rattle.sqlite_store.specs.declared.store.FileStore.{FileStore}
 use Rattle.sqlite_store.specs.FileStore.{view}
 use Rattle.sqlite.specs.Files.{over_files}
+use Rattle.sqlite.specs.Store.{Ghosts}
 use Rattle.sqlite.specs.View.{IsClean}
+use Rattle.uu_core.specs.declared.command.Command.{Command}
+use Rattle.uu_core.specs.declared.command.Reply.{Reply}
+use Rattle.uu_schema.specs.declared.fault.StoreFault.{StoreFault}
+use Rattle.uu_store.specs.Runs.{Ran}
 use Rattle.uu_store.specs.declared.spool.Spool.{Spool}
 use Rattle.uu_store.specs.Closing.{IsClosed}
-use Rattle.uu_store.specs.Exchanges.{Exchange}
+use Rattle.uu_store.specs.Exchanges.{Exchange, exchange_of}
 use Rattle.uu_store.specs.Files.{IsStretch, IsClosedStretch}
 use Rattle.uu_store.specs.Spool.{connection_of}
+use Rattle.uu_store.specs.Openings.{Started}
 use Rattle.uu_store.specs.Stretches.{IsLetGo}
+use Rattle.uu_settings.specs.declared.settings.Settings.{Settings}
+use Rattle.uu_request.specs.declared.request.Request.{Request}
+use Rattle.uuspool.specs.Served.{Ask, EndsAs, IsServed, commands_of}
+use Rattle.uuspool.specs.Sessions.{AreServed, IsOneRun, Line, commands_in}
+use Rattle.uuspool.specs.declared.fault.Fault.{Fault}
+use Rattle.uuspool_main.specs.declared.stretch.Work.{Work}
+use Rattle.uuspool_main.specs.declared.stretch.Work.TheVariants as work
 use Rattle.uuspool_main.specs.declared.stretch.Rest.{Rest}
 use Rattle.uuspool_main.specs.declared.stretch.Rest.TheVariants as rest
 
@@ -28,3 +42,41 @@ module _ {D : Type 0} {g : disk.Ghosts D} where
   EndsStretch before exchange (rest.Store it) = IsStretch before exchange it
   EndsStretch before exchange (rest.Closed files) = IsClosedStretch g before exchange files
   EndsStretch before exchange (rest.Unclosed it) = IsTrue (view it).is_numbered → IsStretch before exchange it
+
+-- ---- what was given and answered
+
+-- a spool was given commands, and what came of them is such an exchange
+abbrev pub WasGiven : {S : Type 0} {g : Ghosts S} → Spool S g → Spool S g → (Exchange → Type 0) → Type 0
+WasGiven old new Is =
+    (commands : List Command) × (replies : List Reply) × (stopped : Option StoreFault) × Ran commands old new replies stopped × Is (exchange_of commands replies stopped)
+
+module _ {S : Type 0} {g : Ghosts S} (settings : Settings) (begun ended : Spool S g) where
+  -- The line's request was served, and these are its commands and their replies, or the line came to none, and nothing was done. (What a
+  -- terminal or a pipe was given is not known.)
+  abbrev pub IsOfLine : List (List ℕ) → ℕ → List ℕ → Result ℕ Fault → Exchange → Type 0
+  IsOfLine words now input result exchange = EndsAs result
+      ((request : Request) × Ask settings words now input (Ok request)
+      × (it : IsServed settings request begun ended (λ output. ⊤) result) × (exchange ≡ exchange_of (commands_of request) it.replies it.stopped))
+      ((ended ≡ begun) × (exchange ≡ exchange_of [] [] None))
+
+  -- lines were served, and these are the commands of their requests and the replies, by which each was told what the machine tells
+  abbrev pub IsOfLines : Exchange → Type 0
+  IsOfLines exchange =
+      (lines : List Line) × AreServed settings lines begun ended
+      × (it : IsOneRun settings lines begun ended) × (exchange ≡ exchange_of (commands_in it.asked) it.replies it.stopped)
+
+  -- this work was done, and these are its commands and their replies
+  abbrev pub IsOfWork : Work → Result ℕ Fault → Exchange → Type 0
+  IsOfWork (work.Line words now input) result exchange = IsOfLine (map string_bytes words.now) now input.now result exchange
+  IsOfWork work.Requests result exchange = IsOfLines exchange
+
+-- A run over files that held this: a spool was started over them, this work was done over it, and it was let go; that is a stretch of work, of
+-- the commands and the replies of this work.
+pub record IsRun {D : Type 0} {g : disk.Ghosts D} (settings : Settings) (what : Work) (before : Image) (result : Result ℕ Fault) (left : Rest D g) : Type 0 where
+  pub begun : Spool (FileStore D g) over_files
+  pub ended : Spool (FileStore D g) over_files
+  pub exchange : Exchange
+  pub started : Started before begun
+  pub done : IsOfWork settings begun ended what result exchange
+  pub gone : LetsGo ended left
+  pub stretch : EndsStretch before exchange left

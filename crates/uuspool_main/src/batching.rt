@@ -1,5 +1,5 @@
 //! Many requests in one process, over standard input and output.
-ghost use Rattle.uu_store.specs.Runs.{WasUsed};
+ghost use Rattle.uuspool_main.specs.Stretch.{IsOfLines, WasGiven};
 
 use sqlite::Alter;
 use std::io;
@@ -29,7 +29,7 @@ pub(crate) fn batch_on<S: Alter>(
     settings: &Settings,
     spool: &mut Spool<S>,
 ) -> Result<u8, Fault>
-    ensures { WasUsed spool.old spool.new }
+    ensures { WasGiven spool.old spool.new (IsOfLines settings.now spool.old spool.new) }
 {
     lines_are_one_run::<S>();
     let Ok(mut reader) = BufReader::with_capacity(rt.alloc(), CHUNK, rt.reader()) else {

@@ -5,8 +5,9 @@
 mod batching;
 mod stretch;
 
-use crate::stretch::{Work, work_on_file};
+use crate::stretch::{Rest, Work, work_on_file};
 use sqlite::Wary;
+use sqlite_disk::Disk;
 use std::io::Write;
 use std::process::ExitCode;
 use std::time::SystemTime;
@@ -137,9 +138,15 @@ fn input_for(rt: &HostRuntime, takes_input: bool) -> Result<Vec<u8>, Fault> {
 // Does the work over the file of the settings, by a function whose clauses speak of all contents. What is left of the files is dropped.
 fn run_on_file(rt: &HostRuntime, settings: &Settings, work: &Work<'_>) -> Result<u8, Fault> {
     match work_on_file(rt, settings, work, Wary) {
-        Ok((answer, _rest)) => answer,
+        Ok(worked) => answer_of(worked),
         Err(failed) => Err(Fault::Store(failed.fault)),
     }
+}
+
+// The answer; the rest is dropped.
+fn answer_of<D: Disk + Drop>(worked: (Result<u8, Fault>, Rest<D>)) -> Result<u8, Fault> {
+    let (answer, _rest) = worked;
+    answer
 }
 
 // Whether the log of the spool at this path is longer than `LOG_LIMIT`. Where it can't be asked, it is not.

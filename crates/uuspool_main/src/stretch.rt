@@ -2,10 +2,8 @@
 ghost use Rattle.std.specs.Prelude.{IfOk, IfErr};
 ghost use Rattle.sqlite_wal.specs.Files.{image_at};
 ghost use Rattle.sqlite_wal.specs.Recovery.{Image};
-ghost use Rattle.uu_store.specs.Exchanges.{Exchange};
-ghost use Rattle.uu_store.specs.Openings.{LeavesAsKept, Started, remains_of};
-ghost use Rattle.uu_store.specs.Runs.{WasUsed};
-ghost use Rattle.uuspool_main.specs.Stretch.{EndsStretch, LetsGo};
+ghost use Rattle.uu_store.specs.Openings.{IsNamed, LeavesAlone, LeavesAsKept, Started, remains_of};
+ghost use Rattle.uuspool_main.specs.Stretch.{IsOfWork, IsRun, LetsGo, WasGiven};
 
 use crate::batching::batch_on;
 use crate::is_log_long;
@@ -41,7 +39,8 @@ pub(crate) enum Rest<D: Disk> {
     Unclosed(FileStore<D>),
 }
 
-/// Opens the file of the settings, does the work over the spool in it, and lets it go: a stretch of work, whatever the files held.
+/// Opens the file of the settings, does the work over the spool in it, and lets it go: a stretch of work, whatever the files held, with the
+/// commands and the replies of this work.
 ///
 /// # Errors
 /// Those of `open_spool`.
@@ -51,8 +50,10 @@ pub(crate) fn work_on_file<T: Start>(
     work: &Work<'_>,
     start: T,
 ) -> Result<(Result<u8, Fault>, Rest<FileFrom<T>>), OpenFault<FileFrom<T>>>
-    ensures stretch { IfOk result (λ end. (exchange : Exchange) × EndsStretch (image_at T.Start) exchange end.1) }
+    ensures stretch { IfOk result (λ end. IsRun settings.now work.now (image_at T.Start) end.0 end.1) }
+    ensures named { IfErr result (λ e. IsNamed (image_at T.Start) e.fault (remains_of e)) }
     ensures left { IfErr result (λ e. LeavesAsKept (image_at T.Start) (remains_of e)) }
+    ensures left_alone { IfErr result (λ e. LeavesAlone (image_at T.Start) (remains_of e)) }
 {
     match open_spool(rt, settings.spool.as_str(), start) {
         Ok(spool) => Ok(work_on(rt, settings, work, spool)),
@@ -68,7 +69,7 @@ fn work_on<D: Disk + Drop>(
     work: &Work<'_>,
     spool: Spool<FileStore<D>>,
 ) -> (Result<u8, Fault>, Rest<D>)
-    ensures { (before : Image) → Started before spool → (exchange : Exchange) × EndsStretch before exchange result.1 }
+    ensures { (before : Image) → Started before spool → IsRun settings.now work.now before result.0 result.1 }
 {
     calls_make_a_stretch::<D>();
     let mut spool = spool;
@@ -85,7 +86,7 @@ fn answer_on<S: Alter>(
     work: &Work<'_>,
     spool: &mut Spool<S>,
 ) -> Result<u8, Fault>
-    ensures { WasUsed spool.old spool.new }
+    ensures { WasGiven spool.old spool.new (IsOfWork settings.now spool.old spool.new work.now result) }
 {
     lines_are_one_run::<S>();
     match work {

@@ -15,7 +15,7 @@ returns-in-Ok-Ended g c =
     c.args.spool.now c.loop-count.spool c.answer_next.new.spool
     (g.R.Read.remaining c.args.reader.now) (g.R.Read.remaining c.loop-count.reader) (g.R.Read.remaining c.answer_next.new.reader)
     (g.W.Write.contents c.args.out.now) (g.W.Write.contents c.loop-count.out) (g.W.Write.contents c.answer_next.new.out) c.loop-count.invariant
-    (c.lines_are_one_run.ensures c.args.settings.now) c.in-Ok-Ended.status
+    (c.lines_are_one_run.ensures.lines c.args.settings.now) c.in-Ok-Ended.status
     (subst (λ (r : Result Step Fault).
     IsBatchStep c.args.settings.now g.C.Clock.tells c.loop-count.failed c.loop-count.clock c.answer_next.new.clock c.loop-count.spool c.answer_next.new.spool
     (g.R.Read.remaining c.loop-count.reader) (g.R.Read.remaining c.answer_next.new.reader) (g.W.Write.contents c.loop-count.out) (g.W.Write.contents c.answer_next.new.out) r)
@@ -27,7 +27,7 @@ returns g c =
     c.args.spool.now c.loop-count.spool c.loop-count.spool
     (g.R.Read.remaining c.args.reader.now) (g.R.Read.remaining c.loop-count.reader) (g.R.Read.remaining c.loop-count.reader)
     (g.W.Write.contents c.args.out.now) (g.W.Write.contents c.loop-count.out) (g.W.Write.contents c.loop-count.out) c.loop-count.invariant
-    (c.lines_are_one_run.ensures c.args.settings.now) refl refl (omega arith)
+    (c.lines_are_one_run.ensures.lines c.args.settings.now) refl refl (omega arith)
 
 pub returns-in-Err : goal.returns-in-Err
 returns-in-Err g c =
@@ -35,7 +35,7 @@ returns-in-Err g c =
     c.args.spool.now c.loop-count.spool c.answer_next.new.spool
     (g.R.Read.remaining c.args.reader.now) (g.R.Read.remaining c.loop-count.reader) (g.R.Read.remaining c.answer_next.new.reader)
     (g.W.Write.contents c.args.out.now) (g.W.Write.contents c.loop-count.out) (g.W.Write.contents c.answer_next.new.out) c.loop-count.invariant
-    (c.lines_are_one_run.ensures c.args.settings.now) c.in-Err.fault
+    (c.lines_are_one_run.ensures.lines c.args.settings.now) c.in-Err.fault
     (subst (λ (r : Result Step Fault).
     IsBatchStep c.args.settings.now g.C.Clock.tells c.loop-count.failed c.loop-count.clock c.answer_next.new.clock c.loop-count.spool c.answer_next.new.spool
     (g.R.Read.remaining c.loop-count.reader) (g.R.Read.remaining c.answer_next.new.reader) (g.W.Write.contents c.loop-count.out) (g.W.Write.contents c.answer_next.new.out) r)

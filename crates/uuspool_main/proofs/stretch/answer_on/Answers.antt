@@ -1,11 +1,18 @@
-use Rattle.std.proofs.Common.{[]}
-use Rattle.uuspool_main.proofs.StretchLemmas.{of_line}
+use Rattle.std.proofs.Common.{map, string_bytes, subst, sym}
+use Rattle.uu_store.specs.Exchanges.{Exchange}
+use Rattle.uuspool_main.specs.Stretch.{IsOfWork, WasGiven}
+use Rattle.uuspool_main.specs.declared.stretch.Work.{Work}
+use Rattle.uuspool_main.proofs.StretchLemmas.{line_given}
 use Rattle.uuspool_main.proofs.stretch.answer_on.Goals as goal
 
 pub returns-in-Line : goal.returns-in-Line
 returns-in-Line g c =
-    of_line c.serve.result _ _ _ c.serve.ensures.ends (λ it. (_, it.2.replies, it.2.stopped, it.2.ran))
-    (λ it. let run = c.lines_are_one_run.ensures c.args.settings.now [] c.args.spool.now c.serve.new.spool it.0 in (_, run.replies, run.stopped, run.ran))
+    subst (λ (what : Work). WasGiven c.args.spool.now c.serve.new.spool (IsOfWork c.args.settings.now c.args.spool.now c.serve.new.spool what c.serve.result))
+    (sym c.in-Line.is)
+    (line_given c.args.settings.now c.args.spool.now c.serve.new.spool (map string_bytes c.in-Line.words.now) c.in-Line.now c.in-Line.input.now _
+    (c.lines_are_one_run.ensures.none c.args.spool.now) c.serve.result c.serve.ensures.ends)
 
 pub returns-in-Requests : goal.returns-in-Requests
-returns-in-Requests g c = c.batch_on.ensures
+returns-in-Requests g c =
+    subst (λ (what : Work). WasGiven c.args.spool.now c.batch_on.new.spool (IsOfWork c.args.settings.now c.args.spool.now c.batch_on.new.spool what c.batch_on.result))
+    (sym c.in-Requests.is) c.batch_on.ensures
