@@ -21,7 +21,7 @@ use Rattle.uu_request.specs.declared.request.Request.{Request}
 use Rattle.uuspool.specs.Served.{Ask, EndsAs, IsServed, commands_of}
 use Rattle.uuspool.specs.declared.fault.Fault.{Fault}
 use Rattle.uuspool.specs.declared.fault.Fault.TheVariants as fault
-use Rattle.uuspool_main.specs.Stretch.{EndsStretch, IsOfLine, LetsGo, WasGiven}
+use Rattle.uuspool_main.specs.Stretch.{EndsStretch, LetsGo, WasGiven}
 use Rattle.uuspool_main.specs.declared.stretch.Rest.{Rest}
 use Rattle.uuspool_main.specs.declared.stretch.Rest.TheVariants as rest
 
@@ -49,7 +49,7 @@ module _ {S : Type 0} {g : Ghosts S} (settings : Settings) (begun ended : Spool 
 
   -- however it ended
   pub line_given : (Still : Type 0) → Ran [] begun begun [] None → (r : Result ℕ Fault) → EndsAs r (Asked r) ((ended ≡ begun) × Still)
-      → WasGiven begun ended (IsOfLine settings begun ended words now input r)
+      → WasGiven begun ended (λ exchange. EndsAs r (AskedSo r exchange) (NoneSo exchange))
   line_given Still none (Ok status) it = asked_so (Ok status) it
   line_given Still none (Err (fault.Store why)) it = asked_so (Err (fault.Store why)) it
   line_given Still none (Err fault.Write) it = asked_so (Err fault.Write) it

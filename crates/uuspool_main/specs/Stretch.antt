@@ -1,5 +1,5 @@
--- How a run of the program leaves the spool's files.
-use Rattle.std.specs.Prelude.{◌≡◌, ℕ, List, [], map, Option, None, Ok, Result, IsTrue, ⊤}
+-- What a run of the program is given and answers, and how it leaves the spool's files.
+use Rattle.std.specs.Prelude.{◌≡◌, ℕ, List, [], map, Option, None, Ok, Result, IfErr, IsTrue, ⊤}
 use Rattle.std.specs.String.{string_bytes}
 use Rattle.sqlite_disk.specs.declared.Disk as disk
 use Rattle.sqlite_wal.specs.Recovery.{Image}
@@ -21,7 +21,7 @@ use Rattle.uu_store.specs.Openings.{Started}
 use Rattle.uu_store.specs.Stretches.{IsLetGo}
 use Rattle.uu_settings.specs.declared.settings.Settings.{Settings}
 use Rattle.uu_request.specs.declared.request.Request.{Request}
-use Rattle.uuspool.specs.Served.{Ask, EndsAs, IsServed, commands_of}
+use Rattle.uuspool.specs.Served.{Ask, EndsAs, IsFaultOf, IsServed, commands_of}
 use Rattle.uuspool.specs.Sessions.{AreServed, IsOneRun, Line, commands_in}
 use Rattle.uuspool.specs.declared.fault.Fault.{Fault}
 use Rattle.uuspool_main.specs.declared.stretch.Work.{Work}
@@ -51,21 +51,23 @@ WasGiven old new Is =
     (commands : List Command) × (replies : List Reply) × (stopped : Option StoreFault) × Ran commands old new replies stopped × Is (exchange_of commands replies stopped)
 
 module _ {S : Type 0} {g : Ghosts S} (settings : Settings) (begun ended : Spool S g) where
-  -- The line's request was served, and these are its commands and their replies, or the line came to none, and nothing was done. (What a
+  -- The line's request was served, and these are its commands and their replies, or nothing was done; a fault is one of the line. (What a
   -- terminal or a pipe was given is not known.)
   abbrev pub IsOfLine : List (List ℕ) → ℕ → List ℕ → Result ℕ Fault → Exchange → Type 0
   IsOfLine words now input result exchange = EndsAs result
       ((request : Request) × Ask settings words now input (Ok request)
       × (it : IsServed settings request begun ended (λ output. ⊤) result) × (exchange ≡ exchange_of (commands_of request) it.replies it.stopped))
       ((ended ≡ begun) × (exchange ≡ exchange_of [] [] None))
+      × IfErr result (IsFaultOf settings words now input)
 
-  -- lines were served, and these are the commands of their requests and the replies, by which each was told what the machine tells
+  -- Lines were served, and these are the commands of their requests and the replies. (Which lines they are, and how the batch ends, is said
+  -- of `batch` alone.)
   abbrev pub IsOfLines : Exchange → Type 0
   IsOfLines exchange =
       (lines : List Line) × AreServed settings lines begun ended
       × (it : IsOneRun settings lines begun ended) × (exchange ≡ exchange_of (commands_in it.asked) it.replies it.stopped)
 
-  -- this work was done, and these are its commands and their replies
+  -- this work was done, and these are the commands and the replies of its line or of its lines
   abbrev pub IsOfWork : Work → Result ℕ Fault → Exchange → Type 0
   IsOfWork (work.Line words now input) result exchange = IsOfLine (map string_bytes words.now) now input.now result exchange
   IsOfWork work.Requests result exchange = IsOfLines exchange

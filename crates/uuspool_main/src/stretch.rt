@@ -1,5 +1,5 @@
 //! One stretch of work over the files of the spool, from their opening until the spool is let go.
-ghost use Rattle.std.specs.Prelude.{IfOk, IfErr};
+ghost use Rattle.std.specs.Prelude.{◌≢◌, IfOk, IfErr};
 ghost use Rattle.sqlite_wal.specs.Files.{image_at};
 ghost use Rattle.sqlite_wal.specs.Recovery.{Image};
 ghost use Rattle.uu_store.specs.Openings.{IsNamed, LeavesAlone, LeavesAsKept, Started, remains_of};
@@ -11,7 +11,7 @@ use sqlite::{Alter, FileFrom, FileStore, Files, Start};
 use sqlite_disk::Disk;
 use std::io;
 use uu_store::laws::calls_make_a_stretch;
-use uu_store::{OpenFault, Spool, open_spool};
+use uu_store::{OpenFault, Spool, StoreFault, open_spool};
 use uuspool::laws::lines_are_one_run;
 use uuspool::{Fault, Settings, serve};
 
@@ -52,6 +52,7 @@ pub(crate) fn work_on_file<T: Start>(
 ) -> Result<(Result<u8, Fault>, Rest<FileFrom<T>>), OpenFault<FileFrom<T>>>
     ensures stretch { IfOk result (λ end. IsRun settings.now work.now (image_at T.Start) end.0 end.1) }
     ensures named { IfErr result (λ e. IsNamed (image_at T.Start) e.fault (remains_of e)) }
+    ensures never_failed { IfErr result (λ e. e.fault ≢ StoreFault.Failed) }
     ensures left { IfErr result (λ e. LeavesAsKept (image_at T.Start) (remains_of e)) }
     ensures left_alone { IfErr result (λ e. LeavesAlone (image_at T.Start) (remains_of e)) }
 {
