@@ -1,6 +1,6 @@
 // Entries and maps: worked ones, hostile ones, each front of one entry against a plain reader, and the time that large ones take.
-use crate::expecting::{expect_same, expect_text};
-use crate::plain_entries;
+use crate::expecting::{expect_same, expect_text, wanted};
+use crate::fronts::{ENTRIES, Fronts};
 use std::alloc::{AllocError, Global};
 use std::fmt::Write;
 use std::process::Abort;
@@ -488,15 +488,16 @@ fn the_largest_map_is_cut_in_time(rt: HostRuntime) {
     assert_eq!(rt; entries.len(), 1_048_576);
 }
 
-fn expect_as_plainly(rt: &impl Abort, alloc: Global, front: &str) {
-    expect_same(rt, &told(alloc, front), &plain_entries::entry(alloc, front));
+fn expect_fronts(rt: &impl Abort, alloc: Global, fronts: &Fronts) {
+    for length in 0..=fronts.text.len() {
+        let front = fronts.text.get(..length).expect(rt, "a front");
+        expect_text(rt, told(alloc, front), wanted(fronts, length));
+    }
 }
 
 #[test]
 fn each_front_of_an_entry_is_read_as_plainly(rt: HostRuntime) {
-    for end in 0..=ENTRY.len() {
-        if let Some(front) = ENTRY.get(..end) {
-            expect_as_plainly(&rt, rt.alloc(), front);
-        }
+    for fronts in ENTRIES.as_slice() {
+        expect_fronts(&rt, rt.alloc(), fronts);
     }
 }

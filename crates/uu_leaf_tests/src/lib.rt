@@ -8,6 +8,8 @@ mod entries;
 #[cfg(test)]
 mod expecting;
 #[cfg(test)]
+mod fronts;
+#[cfg(test)]
 mod machine;
 #[cfg(test)]
 mod mail;
@@ -17,10 +19,6 @@ mod names;
 mod order;
 #[cfg(test)]
 mod paths;
-#[cfg(test)]
-mod plain_entries;
-#[cfg(test)]
-mod plain_times;
 #[cfg(test)]
 mod questions;
 #[cfg(test)]

@@ -1,6 +1,6 @@
 // Sys files: a worked one, faults, each front of some files against a plain reader, and the time that large files take.
-use crate::expecting::{expect_same, expect_text};
-use crate::plain_times;
+use crate::expecting::{expect_same, expect_text, wanted};
+use crate::fronts::{Fronts, SYS_FILES};
 use crate::times::show_windows;
 use std::alloc::{AllocError, Global};
 use std::fmt::Write;
@@ -38,7 +38,7 @@ fn show_system(shown: &mut String, system: &SystemDef) -> Result<(), AllocError>
     shown.push_str("/")
 }
 
-// What a short sys file says, as the plain reader shows it.
+// What a short sys file says, as the plain readers show it.
 fn shown(alloc: Global, text: &[u8]) -> Result<String, TimeFault> {
     let file = read_short(alloc, text)?;
     let mut shown = String::new(alloc);
@@ -133,35 +133,18 @@ fn a_section_with_too_many_lines(rt: HostRuntime) {
     expect_same(&rt, &section_fault(&rt, rt.alloc(), 33), &too_many);
 }
 
-/// Sys files with rare forms, each up to its fault.
-const RARE_FORMS: [&str; 6] = [
-    "max-retries 3\r\nTIME never 0\ntimetable night Mo|tu0000-2400\ntimetable Rare-1 NIGHT\n\tsystem a.b-C_9 # one\nTimeGrade 9 SuMo2300-0100,Fr 525600\ntime rare-1\\\n 007\nport x \\\\# y \\# z\nmax-retries 12\nmax-retries 0\nsystem b\nsystem c\ntime nonpeak|Sa\\",
-    "system a\nmax-retries 1\ntime Any\nsystem A\n#\\\n\nsystem a",
-    "timetable t_1 Evening\r\n\r\n\\\r\n\\\ntimetable T_1 Moonlight\ntime Any",
-    "time Su2359-0000\ntimetable night Never\ntime Night 0000000001\n",
-    "timegrade N Any 1\\\n5\\\n\\# x\n",
-    "a\n\\\nb\\\n c\nd #\\\ne\nf\\",
-];
-
-fn expect_front_shown(rt: &impl Abort, alloc: Global, front: &str) {
-    let want = plain_times::file(alloc, front);
-    expect_same(rt, &shown(alloc, front.as_bytes()), &want);
-}
-
-fn expect_fronts_shown(rt: &impl Abort, alloc: Global, text: &str) {
-    for end in 0..=text.len() {
-        if let Some(front) = text.get(..end) {
-            expect_front_shown(rt, alloc, front);
-        }
+fn expect_fronts(rt: &impl Abort, alloc: Global, fronts: &Fronts) {
+    for length in 0..=fronts.text.len() {
+        let front = fronts.text.get(..length).expect(rt, "a front");
+        expect_text(rt, told(alloc, front.as_bytes()), wanted(fronts, length));
     }
 }
 
 #[test]
 fn each_front_of_a_sys_file_is_read_as_plainly(rt: HostRuntime) {
-    for text in RARE_FORMS.as_slice() {
-        expect_fronts_shown(&rt, rt.alloc(), text);
+    for fronts in SYS_FILES.as_slice() {
+        expect_fronts(&rt, rt.alloc(), fronts);
     }
-    expect_fronts_shown(&rt, rt.alloc(), DUKE_AND_UNC);
 }
 
 // The bounds below leave room for a loaded machine.

@@ -1,6 +1,6 @@
-// Moments, time strings and their sets, and each front of some time strings against a plain reader.
-use crate::expecting::{expect_same, expect_text};
-use crate::plain_times;
+// Moments, time strings and their sets, and each front of some time strings against plain readers.
+use crate::expecting::{expect_same, expect_text, wanted};
+use crate::fronts::{Fronts, TIME_STRINGS};
 use std::alloc::{AllocError, Global};
 use std::fmt::Write;
 use std::process::Abort;
@@ -210,55 +210,47 @@ fn systems_within_limits(rt: HostRuntime) {
     expect_same(&rt, &is_within_limits(&rt, rt.alloc(), 33), &false);
 }
 
-/// Time strings, those of the worked sys file among them, and texts that are none.
-const TIME_TEXTS: [&str; 14] = [
-    "Wk2305-0755",
-    "Wk1200-1300",
-    "Any",
-    "Lunch",
-    "Wk2305-0855,Sa,Su2305-1655",
-    "SuMoTuWeThFrSa0000-2400|wkANY2359-0000",
-    "Never",
-    "Evening",
-    "NonPeak",
-    "Night|Mo",
-    "MoTuXx",
-    "Wednesday",
-    "Any,,",
-    "Tu0960-1000",
-];
-
-fn has_minutes(windows: &Windows, minutes: &[bool]) -> bool {
-    for week in 0..10_080u16 {
-        if minutes.get(week as usize) != Some(&windows.contains(week)) {
-            return false;
+// Shows the runs of the minutes that a set says it has, each minute of the week being asked for.
+fn show_minutes(shown: &mut String, windows: &Windows) -> Result<(), AllocError> {
+    let mut last = None;
+    for minute in 0..10_080u16 {
+        let is_in = windows.contains(minute);
+        match (last, is_in) {
+            (None, true) => write!(shown, " {}", minute)?,
+            (Some(end), false) => write!(shown, "-{}", end)?,
+            _ => {}
         }
+        last = if is_in { Some(minute) } else { None };
     }
-    true
-}
-
-fn is_read_as_plainly(alloc: Global, text: &str) -> bool {
-    match (
-        windows(alloc, text),
-        plain_times::minutes(alloc, &[], 0, text),
-    ) {
-        (Ok(windows), Ok(minutes)) => has_minutes(&windows, &minutes),
-        (Err(fault), Err(plain_fault)) => fault == plain_fault,
-        _ => false,
+    match last {
+        Some(end) => write!(shown, "-{}", end),
+        None => Ok(()),
     }
 }
 
-fn expect_fronts(rt: &impl Abort, alloc: Global, text: &str) {
-    for end in 0..=text.len() {
-        if let Some(front) = text.get(..end) {
-            assert!(rt; is_read_as_plainly(alloc, front), "at {front}");
-        }
+fn shown_by_minutes(alloc: Global, windows: &Windows) -> Result<String, AllocError> {
+    let mut text = String::new(alloc);
+    show_minutes(&mut text, windows)?;
+    Ok(text)
+}
+
+fn told_by_minutes(alloc: Global, text: &str) -> Result<String, AllocError> {
+    match windows(alloc, text) {
+        Ok(windows) => shown_by_minutes(alloc, &windows),
+        Err(fault) => format!(in alloc; "{fault}"),
+    }
+}
+
+fn expect_fronts(rt: &impl Abort, alloc: Global, fronts: &Fronts) {
+    for length in 0..=fronts.text.len() {
+        let front = fronts.text.get(..length).expect(rt, "a front");
+        expect_text(rt, told_by_minutes(alloc, front), wanted(fronts, length));
     }
 }
 
 #[test]
 fn each_front_of_a_time_string_is_read_as_plainly(rt: HostRuntime) {
-    for text in TIME_TEXTS.as_slice() {
-        expect_fronts(&rt, rt.alloc(), text);
+    for fronts in TIME_STRINGS.as_slice() {
+        expect_fronts(&rt, rt.alloc(), fronts);
     }
 }
