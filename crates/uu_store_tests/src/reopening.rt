@@ -36,8 +36,8 @@ fn give() -> Give {
 }
 
 /// A run is stopped at each call of one file, until all commands are answered. Where that leaves something new on the disk, it is opened with
-/// a stop at each call of either file.
-fn stop_twice(rt: &impl Abort, alloc: Global, place: Place) {
+/// a stop at each call of the same file or of the other.
+fn stop_twice(rt: &impl Abort, alloc: Global, place: Place, again: Place) {
     let mut before = nothing(alloc);
     for calls in 0..10_000 {
         let used = Use {
@@ -47,8 +47,7 @@ fn stop_twice(rt: &impl Abort, alloc: Global, place: Place) {
         let mut give = give();
         let visit = visit_files(rt, alloc, &nothing(alloc), used, &mut give);
         if calls == 0 || !visit.synced.is_same(&before) {
-            stop_at_each_call(rt, alloc, &visit.synced, Place::Log);
-            stop_at_each_call(rt, alloc, &visit.synced, Place::Database);
+            stop_at_each_call(rt, alloc, &visit.synced, again);
             before = visit.synced;
         }
         if give.answered == LARGE_JOB.len() {
@@ -59,11 +58,21 @@ fn stop_twice(rt: &impl Abort, alloc: Global, place: Place) {
 }
 
 #[test]
-fn openings_of_what_stops_of_the_log_left(rt: HostRuntime) {
-    stop_twice(&rt, rt.alloc(), Place::Log);
+fn openings_stop_at_the_log_after_stops_of_the_log(rt: HostRuntime) {
+    stop_twice(&rt, rt.alloc(), Place::Log, Place::Log);
 }
 
 #[test]
-fn openings_of_what_stops_of_the_database_left(rt: HostRuntime) {
-    stop_twice(&rt, rt.alloc(), Place::Database);
+fn openings_stop_at_the_database_after_stops_of_the_log(rt: HostRuntime) {
+    stop_twice(&rt, rt.alloc(), Place::Log, Place::Database);
+}
+
+#[test]
+fn openings_stop_at_the_log_after_stops_of_the_database(rt: HostRuntime) {
+    stop_twice(&rt, rt.alloc(), Place::Database, Place::Log);
+}
+
+#[test]
+fn openings_stop_at_the_database_after_stops_of_the_database(rt: HostRuntime) {
+    stop_twice(&rt, rt.alloc(), Place::Database, Place::Database);
 }
