@@ -1,6 +1,7 @@
 -- From what a spool shows to what its closed files keep.
 use Rattle.std.proofs.Common.{◌≡◌, inl, sym, subst}
 use Rattle.std.proofs.Math.Logic.{∥∥₁_map}
+use Rattle.std.specs.Prelude.{IsTrue}
 use Rattle.sqlite_disk.specs.declared.Disk as disk
 use Rattle.sqlite_disk.specs.declared.Files.{Files}
 use Rattle.sqlite_wal.specs.Recovery.{Image}
@@ -42,7 +43,7 @@ module _ {D : Type 0} {g : disk.Ghosts D} (was : Held (FileStore D g)) (conn : H
   let_go = record { left = closed_it.quiet.outcomes; clean = closed_it.quiet.clean }
 
 pub is_closed : {D : Type 0} {g : disk.Ghosts D} → ((file : D) → g.may_leave file (g.seen file)) → (spool : Spool (FileStore D g) over_files) (files : Files D) (conn : Held (FileStore D g)) → conn ≡ connection_of spool
-    → (last : FileStore D g) → store.files last ≡ (files.log, files.db) → file.IsClosed conn last → (IsClean (store.view last) → store.log_frames last ≡ 0) → (AreClean g files.log files.db → IsCopied conn files) → IsClosed spool files
+    → (last : FileStore D g) → store.files last ≡ (files.log, files.db) → file.IsClosed conn last → (IsClean (store.view last) → IsTrue (store.view last).is_open × (store.log_frames last ≡ 0)) → (AreClean g files.log files.db → IsCopied conn files) → IsClosed spool files
 is_closed {D} {g} stays spool files conn same last are closed emptied copied =
     let copied_it : AreClean g files.log files.db → IsCopied (connection_of spool) files = λ clean. subst (λ (c : Held (FileStore D g)). IsCopied c files) same (copied clean) in record {
       last = last;

@@ -1,5 +1,5 @@
 -- What a close of a spool's two files leaves.
-use Rattle.std.specs.Prelude.{◌≡◌, [], Option, ⊤}
+use Rattle.std.specs.Prelude.{◌≡◌, [], IsTrue, Option, ⊤}
 use Rattle.sqlite_disk.specs.declared.Disk as disk
 use Rattle.sqlite_disk.specs.declared.Files.{Files}
 use Rattle.sqlite_disk.specs.Disk.{MoreFaults}
@@ -31,13 +31,13 @@ KeepsAlone image s = ∥ ImageKeeps image s ∥₁ × ∥ ImageKeeps (record ima
 abbrev pub HoldsOneOf : (Trees → Type 0) → Image → Type 0
 HoldsOneOf could_leave image = ∥ ((trees : Trees) × could_leave trees × HoldsDatabase image trees) ∥₁
 
--- The store was let go with an empty log, and its files are these. While the disk returned what was written, a stop leaves files that hold a
+-- The store was let go open, with a log of no frames, and its files are these. While the disk returned what was written, a stop leaves files that hold a
 -- database which it could leave before, and they keep the state that the spool showed, as they read now and as a stop leaves them.
 pub record IsClosed {D : Type 0} {g : disk.Ghosts D} (spool : Spool (FileStore D g) over_files) (files : Files D) : Type 0 where
   pub last : FileStore D g
   pub files_are : store.files last ≡ (files.log, files.db)
   pub let_go : IsLetGo over_files (connection_of spool).store last
-  pub emptied : IsClean (store.view last) → store.log_frames last ≡ 0
+  pub emptied : IsClean (store.view last) → IsTrue (store.view last).is_open × (store.log_frames last ≡ 0)
   pub clean : AreClean g files.log files.db → HasCleanDisk (disk spool)
   pub left : AreClean g files.log files.db → (image : Image) → outcomes g files.log files.db image → HoldsOneOf (disk spool).may_leave image
   pub now : AreClean g files.log files.db → (s : State) → Shows spool s → KeepsAlone (image_of g files) s
@@ -49,6 +49,10 @@ abbrev pub HasCause : {D : Type 0} {g : disk.Ghosts D} → StoreKind → FileSto
 HasCause part.Disk was last = MoreFaults (store.faults was) (store.faults last)
 HasCause part.Size was last = ⊥
 HasCause part.Database was last = ⊤
+
+-- it has a cause since some earlier time of the store
+abbrev pub HasSomeCause : {D : Type 0} {g : disk.Ghosts D} → StoreKind → FileStore D g → Type 0
+HasSomeCause {D} {g} kind last = (was : FileStore D g) × HasCause kind was last
 
 -- which fault a close that fails after a run tells, by how the run ended: `Failed` exactly where the store had failed in it, and else `Store`
 abbrev pub IsToldAfter : Option StoreFault → StoreFault → Type 0

@@ -116,8 +116,8 @@ module _ {D : Type 0} {g : disk.Ghosts D} where
   remains_of_opening None = remains.Unopened
   remains_of_opening (Some it) = remains.Files it
 
-  -- While the disk returned what was written, a stop leaves files that keep what these kept; where the opening failed, if it took them as they
-  -- were made. Of files that were not opened nothing is said.
+  -- While the disk returned what was written, a stop leaves files that keep what these kept; where no database was opened in them, if they were
+  -- taken as they were made. Of files that were not opened nothing is said.
   abbrev pub LeavesAsKept : Image → Remains D g → Type 0
   LeavesAsKept before remains.Unopened = ⊤
   LeavesAsKept before (remains.Files it) = IsCleanLeft it → IsTakenAsMade before it → StaysKept before (may_be_left it)

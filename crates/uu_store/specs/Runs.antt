@@ -36,10 +36,6 @@ pub record Ran {S : Type 0} {g : Ghosts S} (commands : List Command) (old new : 
   pub from : db.HasCleanDisk (disk new) → (s : State) → Shows old s → RanFrom s commands new replies stopped
   pub clean : StaysUnclean (disk old) (disk new)
 
--- it was given some commands, and asked some questions
-abbrev pub WasUsed : {S : Type 0} {g : Ghosts S} → Spool S g → Spool S g → Type 0
-WasUsed old new = (commands : List Command) × (replies : List Reply) × (stopped : Option StoreFault) × Ran commands old new replies stopped
-
 -- ---- one call as a run: a command alone, or a question, which is a run of no command
 
 abbrev pub reply_in : Result Reply StoreFault → List Reply

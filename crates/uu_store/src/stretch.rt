@@ -1,13 +1,16 @@
 // Stretches of work over files.
-ghost use Rattle.std.specs.Prelude.{◌≡◌, ◌≢◌, ◌↔◌, ℕ, false, None, IfOk, IfErr, IfSome, IsTrue, length};
+ghost use Rattle.std.specs.Prelude.{◌≡◌, ◌≢◌, ◌↔◌, ℕ, false, None, IfOk, IfErr, IfSome, IsTrue, MatchResult, length};
 ghost use Rattle.sqlite.specs.State.{HasCleanDisk};
+ghost use Rattle.sqlite.specs.View.{IsClean};
 ghost use Rattle.sqlite_wal.specs.Files.{image_at};
+ghost use Rattle.sqlite_wal.specs.Reads.{AreClean};
 ghost use Rattle.sqlite_store.specs.FileStore.{view};
 ghost use Rattle.uu_core.specs.declared.job.NewJob.{NewJob};
 ghost use Rattle.uu_core.specs.State.{State};
+ghost use Rattle.uu_schema.specs.declared.fault.StoreKind.{StoreKind};
 ghost use Rattle.uu_schema.specs.Faults.{IsFresh};
 ghost use Rattle.uu_store.specs.Acknowledged.{IsAcknowledged, ShowsJob};
-ghost use Rattle.uu_store.specs.Closing.{IsToldAfter};
+ghost use Rattle.uu_store.specs.Closing.{HasSomeCause, IsToldAfter};
 ghost use Rattle.uu_store.specs.Exchanges.{exchange_of};
 ghost use Rattle.uu_store.specs.Files.{AllFilesPassed, last_left, file_exchanges, IsStretch, IsClosedStretch};
 ghost use Rattle.uu_store.specs.Openings.{ImageHasOther, ImageKeeps, IsNamed, LeavesAlone, LeavesAsKept, LeavesSame, Started, remains_of};
@@ -35,6 +38,9 @@ pub fn work<T: Start>(
 ) -> Result<(RunEnd, FileStore<FileFrom<T>>), OpenFault<FileFrom<T>>>
     ensures worked { IfOk result (λ end. IsStretch (image_at T.Start) (exchange_of commands.items end.0.replies.items end.0.stopped) end.1) }
 
+    // No command is given to a database in which one of the names is taken and no table tells a version.
+    ensures never_other { IfOk result (λ end. IsClean (view end.1) → ¬ ImageHasOther (image_at T.Start)) }
+
     // Nothing stopped it exactly where all were answered.
     ensures every { IfOk result (λ end. (end.0.stopped ≡ None) ↔ (length end.0.replies.items ≡ length commands.items)) }
     ensures fresh { IfOk result (λ end. IfSome end.0.stopped IsFresh) }
@@ -55,7 +61,7 @@ pub type CloseEnd<D> = Result<Files<D>, (StoreFault, FileStore<D>)>;
 ///
 /// # Errors
 /// Those of [`open_spool`]. No command was given then. A close that fails is no error of the stretch, which has its replies: it answers `Failed`
-/// where the store failed in the run, and else `Store`.
+/// where the store failed in the run, and else `Store`, of kind `Disk` only where the disk failed or refused a call, and never of kind `Size`.
 pub fn work_and_close<T: Start>(
     rt: &HostRuntime,
     path: &str,
@@ -68,6 +74,9 @@ pub fn work_and_close<T: Start>(
     ensures let_go { IfOk result (λ end. IfErr end.1 (λ e. IsTrue (view e.1).is_numbered
         → IsStretch (image_at T.Start) (exchange_of commands.items end.0.replies.items end.0.stopped) e.1)) }
     ensures told { IfOk result (λ end. IfErr end.1 (λ e. IsToldAfter end.0.stopped e.0)) }
+    ensures cause { IfOk result (λ end. IfErr end.1 (λ e. IsClean (view e.1) → (kind : StoreKind) → e.0 ≡ StoreFault.Store kind → HasSomeCause kind e.1)) }
+    ensures never_other { IfOk result (λ end. MatchResult end.1
+        (λ files. AreClean ⟦<FileFrom<T> as Disk>⟧ files.log files.db → ¬ ImageHasOther (image_at T.Start)) (λ e. IsClean (view e.1) → ¬ ImageHasOther (image_at T.Start))) }
     ensures every { IfOk result (λ end. (end.0.stopped ≡ None) ↔ (length end.0.replies.items ≡ length commands.items)) }
     ensures fresh { IfOk result (λ end. IfSome end.0.stopped IsFresh) }
     ensures never_failed { IfErr result (λ e. e.fault ≢ StoreFault.Failed) }
