@@ -31,7 +31,7 @@ KeepsAlone image s = ∥ ImageKeeps image s ∥₁ × ∥ ImageKeeps (record ima
 abbrev pub HoldsOneOf : (Trees → Type 0) → Image → Type 0
 HoldsOneOf could_leave image = ∥ ((trees : Trees) × could_leave trees × HoldsDatabase image trees) ∥₁
 
--- The store was let go open, with a log of no frames, and its files are these. While the disk returned what was written, a stop leaves files that hold a
+-- The store that was let go has these files, and on a clean disk it is open, with a log of no frames. While the disk returned what was written, a stop leaves files that hold a
 -- database which it could leave before, and they keep the state that the spool showed, as they read now and as a stop leaves them.
 pub record IsClosed {D : Type 0} {g : disk.Ghosts D} (spool : Spool (FileStore D g) over_files) (files : Files D) : Type 0 where
   pub last : FileStore D g
@@ -50,7 +50,7 @@ HasCause part.Disk was last = MoreFaults (store.faults was) (store.faults last)
 HasCause part.Size was last = ⊥
 HasCause part.Database was last = ⊤
 
--- it has a cause since some earlier time of the store
+-- it has a cause, whatever the store was before: the disk failed or refused some call, and nothing is too big
 abbrev pub HasSomeCause : {D : Type 0} {g : disk.Ghosts D} → StoreKind → FileStore D g → Type 0
 HasSomeCause {D} {g} kind last = (was : FileStore D g) × HasCause kind was last
 

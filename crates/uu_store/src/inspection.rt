@@ -15,7 +15,7 @@ use uu_schema::{StoreFault, store_fault};
 use uu_taking::names_later;
 
 /// What a database with a table `spool` is found to be.
-#[derive(Clone, Copy, Debug, PartialEq, Eq)]
+#[derive(Clone, Copy)]
 pub(crate) enum Finding {
     /// That of a spool.
     Spool,

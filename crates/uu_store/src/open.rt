@@ -28,11 +28,11 @@ pub type FileSpool<T> = Spool<FileStore<FileFrom<T>>>;
 /// What is said of the contents is said of those that the files had as they were opened, which `T` stands for; no clause ties them to the path.
 ///
 /// # Errors
-/// With what is left of the two files. A stop then leaves files that keep what was kept (`left`), and of a database that was opened and has any of
-/// the spool's tables what it was (`left_alone`). `Memory` and `Store` tell what kept the files from being read. While the disk returned what was
-/// written, files that keep the state of a spool, or hold nothing yet, are never answered `Foreign` or `Newer`; and once a database was opened, one
-/// that has exactly the tables is answered `Newer` only where a row names a later version, and `Foreign` only where none does and no state has its
-/// rows; one in which a name of theirs is taken and no table tells a version is `Foreign` (`named`).
+/// With what is left of the two files. While the disk returned what was written, a stop then leaves files that keep what was kept (`left`), and of
+/// a database that was opened and has any of the spool's tables what it was (`left_alone`). Files that keep the state of a spool, or hold nothing
+/// yet, are never answered `Foreign` or `Newer`. Once a database was opened, one that has exactly the tables is answered `Newer` only where a row
+/// names a later version, and `Foreign` only where none does and no state has its rows; one in which a name of theirs is taken and no table tells a
+/// version is `Foreign` (`named`).
 pub fn open_spool<T: Start>(
     rt: &HostRuntime,
     path: &str,

@@ -13,7 +13,7 @@ ghost use Rattle.uu_store.specs.Acknowledged.{IsAcknowledged, ShowsJob};
 ghost use Rattle.uu_store.specs.Closing.{HasSomeCause, IsToldAfter};
 ghost use Rattle.uu_store.specs.Exchanges.{exchange_of};
 ghost use Rattle.uu_store.specs.Files.{AllFilesPassed, last_left, file_exchanges, IsStretch, IsClosedStretch};
-ghost use Rattle.uu_store.specs.Openings.{ImageHasOther, ImageKeeps, IsNamed, LeavesAlone, LeavesAsKept, LeavesSame, Started, remains_of};
+ghost use Rattle.uu_store.specs.Openings.{ImageHasOther, ImageKeeps, IsNamed, LeavesAlone, LeavesAsKept, LeavesSame, Started, WasStarted, remains_of};
 ghost use Rattle.uu_store.specs.Spool.{disk, has_failed};
 ghost use Rattle.uu_store.specs.Stretches.{ShowsAfter};
 
@@ -38,7 +38,8 @@ pub fn work<T: Start>(
 ) -> Result<(RunEnd, FileStore<FileFrom<T>>), OpenFault<FileFrom<T>>>
     ensures worked { IfOk result (λ end. IsStretch (image_at T.Start) (exchange_of commands.items end.0.replies.items end.0.stopped) end.1) }
 
-    // No command is given to a database in which one of the names is taken and no table tells a version.
+    // Commands are given only to what an opening takes, so never to a database in which one of the names is taken and no table tells a version.
+    ensures started { IfOk result (λ end. IsClean (view end.1) → WasStarted ⟦<FileFrom<T> as Disk>⟧ (image_at T.Start)) }
     ensures never_other { IfOk result (λ end. IsClean (view end.1) → ¬ ImageHasOther (image_at T.Start)) }
 
     // Nothing stopped it exactly where all were answered.
@@ -61,7 +62,8 @@ pub type CloseEnd<D> = Result<Files<D>, (StoreFault, FileStore<D>)>;
 ///
 /// # Errors
 /// Those of [`open_spool`]. No command was given then. A close that fails is no error of the stretch, which has its replies: it answers `Failed`
-/// where the store failed in the run, and else `Store`, of kind `Disk` only where the disk failed or refused a call, and never of kind `Size`.
+/// where the store failed in the run, and else `Store`; on a clean disk of kind `Disk` only where the disk failed or refused a call, and never of
+/// kind `Size`.
 pub fn work_and_close<T: Start>(
     rt: &HostRuntime,
     path: &str,
@@ -75,6 +77,9 @@ pub fn work_and_close<T: Start>(
         → IsStretch (image_at T.Start) (exchange_of commands.items end.0.replies.items end.0.stopped) e.1)) }
     ensures told { IfOk result (λ end. IfErr end.1 (λ e. IsToldAfter end.0.stopped e.0)) }
     ensures cause { IfOk result (λ end. IfErr end.1 (λ e. IsClean (view e.1) → (kind : StoreKind) → e.0 ≡ StoreFault.Store kind → HasSomeCause kind e.1)) }
+    ensures started { IfOk result (λ end. MatchResult end.1
+        (λ files. AreClean ⟦<FileFrom<T> as Disk>⟧ files.log files.db → WasStarted ⟦<FileFrom<T> as Disk>⟧ (image_at T.Start))
+        (λ e. IsClean (view e.1) → WasStarted ⟦<FileFrom<T> as Disk>⟧ (image_at T.Start))) }
     ensures never_other { IfOk result (λ end. MatchResult end.1
         (λ files. AreClean ⟦<FileFrom<T> as Disk>⟧ files.log files.db → ¬ ImageHasOther (image_at T.Start)) (λ e. IsClean (view e.1) → ¬ ImageHasOther (image_at T.Start))) }
     ensures every { IfOk result (λ end. (end.0.stopped ≡ None) ↔ (length end.0.replies.items ≡ length commands.items)) }

@@ -8,7 +8,7 @@ use sqlite_schema::names::same_name;
 use sqlite_schema::schema::{Schema, Table};
 
 /// Which tables a database has.
-#[derive(Clone, Copy, Debug, PartialEq, Eq)]
+#[derive(Clone, Copy)]
 pub(crate) enum Found {
     /// None of the spool's tables.
     Nothing,

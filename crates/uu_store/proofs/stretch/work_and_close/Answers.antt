@@ -28,6 +28,19 @@ returns-clause-told g c = told_after c.close.result c.run-end.result.stopped _ _
 pub returns-clause-cause : goal.returns-clause-cause
 returns-clause-cause g c = IfErr-weaker c.close.result _ _ (λ e cause clean kind is. (c.run-end.new.self.conn.store, cause clean kind is)) c.close.ensures.cause
 
+pub returns-clause-started : goal.returns-clause-started
+returns-clause-started g c =
+    MatchResult-from_both c.close.result _ _ (IfOk-weaker c.close.result _ _ (λ files close clean. (
+      c.in_ok-spool.spool,
+      begun_clean_of_closed (image_at g.T.Start) c.args.commands.items c.in_ok-spool.spool c.run-end.new.self c.run-end.result.replies.items c.run-end.result.stopped c.in_ok-spool.ensures.started c.run-end.ensures.ran files close clean,
+      c.in_ok-spool.ensures.started,
+    )) c.close.ensures.closed)
+    (IfErr-weaker c.close.result _ _ (λ e last clean. (
+      c.in_ok-spool.spool,
+      begun_clean (image_at g.T.Start) c.args.commands.items c.in_ok-spool.spool c.run-end.new.self c.run-end.result.replies.items c.run-end.result.stopped c.in_ok-spool.ensures.started c.run-end.ensures.ran e.1 last clean,
+      c.in_ok-spool.ensures.started,
+    )) c.close.ensures.let_go)
+
 pub returns-clause-never_other : goal.returns-clause-never_other
 returns-clause-never_other g c =
     MatchResult-from_both c.close.result _ _ (IfOk-weaker c.close.result _ _ (λ files close clean. c.in_ok-spool.ensures.never_other
