@@ -1,6 +1,6 @@
 -- From the calls over a spool to a stretch of work over its files.
-use Rattle.std.proofs.Common.{◌≡◌, ℕ, List, [], None, Result, Ok, Err, inl, inr, refl, subst, sym}
-use Rattle.std.specs.Prelude.{IsTrue, ⊤}
+use Rattle.std.proofs.Common.{◌≡◌, ◌⊎◌, ℕ, List, [], length, Option, None, Result, Ok, Err, inl, inr, refl, subst, sym}
+use Rattle.std.specs.Prelude.{IsTrue, IfOk, IfErr, ⊤}
 use Rattle.sqlite_disk.specs.declared.Disk as disk
 use Rattle.sqlite_disk.specs.declared.Files.{Files}
 use Rattle.sqlite_wal.specs.Recovery.{Image}
@@ -18,10 +18,12 @@ use Rattle.uu_store.specs.Stretches.{IsLetGo}
 use Rattle.uu_store.specs.Runs.{Ran}
 use Rattle.uu_settings.specs.declared.settings.Settings.{Settings}
 use Rattle.uu_request.specs.declared.request.Request.{Request}
+use Rattle.uuspool.specs.Batch.{BreaksOff, EndsWith, IsOfStream, IsUntold, answer_of, fault_answer, most_requests}
 use Rattle.uuspool.specs.Served.{Ask, EndsAs, IsServed, commands_of}
+use Rattle.uuspool.specs.Sessions.{Line}
 use Rattle.uuspool.specs.declared.fault.Fault.{Fault}
 use Rattle.uuspool.specs.declared.fault.Fault.TheVariants as fault
-use Rattle.uuspool_main.specs.Stretch.{EndsStretch, LetsGo, WasGiven}
+use Rattle.uuspool_main.specs.Stretch.{EndsBatch, EndsStretch, LetsGo, WasGiven}
 use Rattle.uuspool_main.specs.declared.stretch.Rest.{Rest}
 use Rattle.uuspool_main.specs.declared.stretch.Rest.TheVariants as rest
 
@@ -65,6 +67,44 @@ module _ {S : Type 0} {g : Ghosts S} (settings : Settings) (begun ended : Spool 
   line_given Still none (Err fault.TwoSystems) it = none_so none it.0
   line_given Still none (Err fault.Input) it = none_so none it.0
   line_given Still none (Err fault.Read) it = none_so none it.0
+
+-- ---- how a batch ended
+
+of_stream : (left : Option (List ℕ)) (why : Fault) → IsOfStream left why → IsOfStream None why
+of_stream left (fault.Words text help) it = (it.0, it.1, tt)
+of_stream left fault.Input it = tt
+of_stream left fault.Read it = tt
+of_stream left fault.Memory it = tt
+of_stream left (fault.Settings why) it = absurd it
+of_stream left (fault.Name why) it = absurd it
+of_stream left (fault.Time why) it = absurd it
+of_stream left fault.TwoSystems it = absurd it
+of_stream left (fault.Store why) it = absurd it
+of_stream left fault.Write it = absurd it
+
+-- an answer could not be written, or there was no memory for it
+untold : (lines : List Line) (answer : List ℕ) (Writes : List ℕ → Type 0) (why : Fault) → IsUntold answer Writes why → EndsBatch lines (Err why)
+untold lines answer Writes fault.Write it = tt
+untold lines answer Writes fault.Memory it = tt
+untold lines answer Writes (fault.Words text help) it = absurd it
+untold lines answer Writes fault.Input it = absurd it
+untold lines answer Writes fault.Read it = absurd it
+untold lines answer Writes (fault.Settings why) it = absurd it
+untold lines answer Writes (fault.Name why) it = absurd it
+untold lines answer Writes (fault.Time why) it = absurd it
+untold lines answer Writes fault.TwoSystems it = absurd it
+untold lines answer Writes (fault.Store why) it = absurd it
+
+module _ (lines : List Line) (left : Option (List ℕ)) (Writes : List Line → List ℕ → Type 0) (All : Type 0) where
+  pub batch_ended : (result : Result ℕ Fault) → IfOk result (EndsWith left (Writes lines))
+      → IfErr result (λ why. BreaksOff lines left Writes why ⊎ ((why ≡ fault.Read) × (length lines ≡ most_requests) × All))
+      → EndsBatch lines result
+  batch_ended (Ok status) ends broken = elim ends [ inl at_end ↦ inl (at_end.0, tt, tt) | inr faulty ↦ inr (faulty.0, of_stream left faulty.0 faulty.1, faulty.2, tt) ]
+  batch_ended (Err why) ends broken =
+      elim broken [
+        | inl off ↦ elim off [ inl last ↦ untold lines (answer_of last.1) (Writes last.0) why last.3 | inr cause ↦ untold lines (fault_answer cause.0) (Writes lines) why cause.2 ]
+        | inr most ↦ subst (λ (w : Fault). EndsBatch lines (Err w)) (sym most.0) most.1
+      ]
 
 -- ---- the end
 

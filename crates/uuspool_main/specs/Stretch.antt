@@ -1,5 +1,6 @@
 -- What a run of the program is given and answers, and how it leaves the spool's files.
-use Rattle.std.specs.Prelude.{◌≡◌, ℕ, List, [], map, Option, None, Ok, Result, IfErr, IsTrue, ⊤}
+use Rattle.std.specs.Prelude.{◌≡◌, ℕ, List, [], length, map, Option, None, Ok, Err, Result, IfErr, IsTrue, ⊤}
+use Rattle.std.specs.List.{AllByRecursion}
 use Rattle.std.specs.String.{string_bytes}
 use Rattle.sqlite_disk.specs.declared.Disk as disk
 use Rattle.sqlite_wal.specs.Recovery.{Image}
@@ -22,8 +23,10 @@ use Rattle.uu_store.specs.Stretches.{IsLetGo}
 use Rattle.uu_settings.specs.declared.settings.Settings.{Settings}
 use Rattle.uu_request.specs.declared.request.Request.{Request}
 use Rattle.uuspool.specs.Served.{Ask, EndsAs, IsFaultOf, IsServed, commands_of}
+use Rattle.uuspool.specs.Batch.{EndsWith, IsRequestLine, most_requests}
 use Rattle.uuspool.specs.Sessions.{AreServed, IsOneRun, Line, commands_in}
 use Rattle.uuspool.specs.declared.fault.Fault.{Fault}
+use Rattle.uuspool.specs.declared.fault.Fault.TheVariants as fault
 use Rattle.uuspool_main.specs.declared.stretch.Work.{Work}
 use Rattle.uuspool_main.specs.declared.stretch.Work.TheVariants as work
 use Rattle.uuspool_main.specs.declared.stretch.Rest.{Rest}
@@ -50,6 +53,15 @@ abbrev pub WasGiven : {S : Type 0} {g : Ghosts S} → Spool S g → Spool S g �
 WasGiven old new Is =
     (commands : List Command) × (replies : List Reply) × (stopped : Option StoreFault) × Ran commands old new replies stopped × Is (exchange_of commands replies stopped)
 
+-- How a batch of these lines may end: with status 0 or one that a fault of a stream has, and else because an answer could not be written, for
+-- want of memory, or since it has no number for a further line.
+abbrev pub EndsBatch : List Line → Result ℕ Fault → Type 0
+EndsBatch lines (Ok status) = EndsWith None (λ last. ⊤) status
+EndsBatch lines (Err fault.Write) = ⊤
+EndsBatch lines (Err fault.Memory) = ⊤
+EndsBatch lines (Err fault.Read) = length lines ≡ most_requests
+EndsBatch lines (Err _) = ⊥
+
 module _ {S : Type 0} {g : Ghosts S} (settings : Settings) (begun ended : Spool S g) where
   -- The line's request was served, and these are its commands and their replies, or nothing was done; a fault is one of the line. (What a
   -- terminal or a pipe was given is not known.)
@@ -60,17 +72,18 @@ module _ {S : Type 0} {g : Ghosts S} (settings : Settings) (begun ended : Spool 
       ((ended ≡ begun) × (exchange ≡ exchange_of [] [] None))
       × IfErr result (IsFaultOf settings words now input)
 
-  -- Lines were served, and these are the commands of their requests and the replies. (Which lines they are, and how the batch ends, is said
-  -- of `batch` alone.)
-  abbrev pub IsOfLines : Exchange → Type 0
-  IsOfLines exchange =
-      (lines : List Line) × AreServed settings lines begun ended
+  -- Lines of requests were served, and these are the commands of their requests and the replies. (That they are those of standard input, and
+  -- that the stream was at its end or had the fault, is said of `batch` alone.)
+  abbrev pub IsOfLines : Result ℕ Fault → Exchange → Type 0
+  IsOfLines result exchange =
+      (lines : List Line) × AllByRecursion IsRequestLine lines × AreServed settings lines begun ended
       × (it : IsOneRun settings lines begun ended) × (exchange ≡ exchange_of (commands_in it.asked) it.replies it.stopped)
+      × EndsBatch lines result
 
   -- this work was done, and these are the commands and the replies of its line or of its lines
   abbrev pub IsOfWork : Work → Result ℕ Fault → Exchange → Type 0
   IsOfWork (work.Line words now input) result exchange = IsOfLine (map string_bytes words.now) now input.now result exchange
-  IsOfWork work.Requests result exchange = IsOfLines exchange
+  IsOfWork work.Requests result exchange = IsOfLines result exchange
 
 -- A run over files that held this: a spool was started over them, this work was done over it, and it was let go; that is a stretch of work, of
 -- the commands and the replies of this work.

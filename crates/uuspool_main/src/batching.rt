@@ -29,7 +29,7 @@ pub(crate) fn batch_on<S: Alter>(
     settings: &Settings,
     spool: &mut Spool<S>,
 ) -> Result<u8, Fault>
-    ensures { WasGiven spool.old spool.new (IsOfLines settings.now spool.old spool.new) }
+    ensures { WasGiven spool.old spool.new (IsOfLines settings.now spool.old spool.new result) }
 {
     lines_are_one_run::<S>();
     let Ok(mut reader) = BufReader::with_capacity(rt.alloc(), CHUNK, rt.reader()) else {
