@@ -9,4 +9,3 @@ mod systems;
 mod walk;
 
 pub use spool::{Rows, are_tables};
-pub use walk::{Owner, Ranked, rise, walk_owners};

@@ -4,7 +4,7 @@ ghost use Rattle.std.specs.List.{prefix_len};
 ghost use Rattle.uu_check.specs.Walk.{walk, rises, rises_from};
 
 /// A row to which rows of another table belong.
-pub trait Owner<C> {
+pub(crate) trait Owner<C> {
     ghost owns: { Self → C → Bool };
 
     ghost fits: { Self → List C → Bool };
@@ -33,7 +33,7 @@ fn count_own<P: Owner<C>, C>(owner: &P, children: &[C]) -> usize
 }
 
 /// Whether the rows are those of the owners, one owner after the other.
-pub fn walk_owners<P: Owner<C>, C>(owners: &[P], children: &[C]) -> bool
+pub(crate) fn walk_owners<P: Owner<C>, C>(owners: &[P], children: &[C]) -> bool
     ensures { result ≡ walk P.owns P.fits owners.now children.now }
 {
     let mut rest = children;
@@ -49,7 +49,7 @@ pub fn walk_owners<P: Owner<C>, C>(owners: &[P], children: &[C]) -> bool
 }
 
 /// A row that has its place in an order.
-pub trait Ranked {
+pub(crate) trait Ranked {
     ghost before: { Self → Self → Bool };
 
     /// Whether this row comes before the other.
@@ -58,7 +58,7 @@ pub trait Ranked {
 }
 
 /// Whether each row comes before the next.
-pub fn rise<P: Ranked>(rows: &[P]) -> bool
+pub(crate) fn rise<P: Ranked>(rows: &[P]) -> bool
     ensures { result ≡ rises P.before rows.now }
 {
     let Some((first, rest)) = rows.split_first() else {

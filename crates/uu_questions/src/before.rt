@@ -14,13 +14,25 @@ use uu_core::{Command, JobHead, SystemRow};
 use uu_names::SiteName;
 use uu_tables::Facts;
 
+// Nothing was asked.
+fn unasked(alloc: Global) -> Facts {
+    Facts {
+        is_known: false,
+        is_waiting: false,
+        system: None,
+        next: 1,
+        head: None,
+        found: Vec::new(alloc),
+    }
+}
+
 // That a system is known or not, and nothing else.
 fn facts_of_system(alloc: Global, is_known: bool, is_waiting: bool, next: u32) -> Facts
     ensures known { result.is_known ≡ is_known }
     ensures waiting { result.is_waiting ≡ is_waiting }
     ensures next { result.next ≡ next }
 {
-    let mut facts = Facts::new(alloc);
+    let mut facts = unasked(alloc);
     facts.is_known = is_known;
     facts.is_waiting = is_waiting;
     facts.next = next;
@@ -30,7 +42,7 @@ fn facts_of_system(alloc: Global, is_known: bool, is_waiting: bool, next: u32) -
 fn facts_of_row(alloc: Global, system: Option<SystemRow>) -> Facts
     ensures { result.system ≡ system }
 {
-    let mut facts = Facts::new(alloc);
+    let mut facts = unasked(alloc);
     facts.system = system;
     facts
 }
@@ -38,7 +50,7 @@ fn facts_of_row(alloc: Global, system: Option<SystemRow>) -> Facts
 fn facts_of_head(alloc: Global, head: Option<JobHead>) -> Facts
     ensures { result.head ≡ head }
 {
-    let mut facts = Facts::new(alloc);
+    let mut facts = unasked(alloc);
     facts.head = head;
     facts
 }
@@ -47,7 +59,7 @@ fn facts_of_jobs(alloc: Global, is_known: bool, found: Vec<JobHead>) -> Facts
     ensures known { result.is_known ≡ is_known }
     ensures found { result.found ≡ found }
 {
-    let mut facts = Facts::new(alloc);
+    let mut facts = unasked(alloc);
     facts.is_known = is_known;
     facts.found = found;
     facts
@@ -141,6 +153,6 @@ pub fn facts_for<S: Alter>(
         Command::Done { system, jobs, .. } => {
             known_and_found(alloc, conn, system, jobs.as_slice())
         }
-        Command::Entry(_) => Ok(Facts::new(alloc)),
+        Command::Entry(_) => Ok(unasked(alloc)),
     }
 }

@@ -17,7 +17,7 @@ use uu_names::SiteName;
 use uu_rows::first_row;
 
 /// Whether a system of this name is known.
-pub fn is_known<S: Alter>(conn: &mut Connection<S>, name: &SiteName) -> Result<bool, Error>
+pub(crate) fn is_known<S: Alter>(conn: &mut Connection<S>, name: &SiteName) -> Result<bool, Error>
     ensures idle { conn.old.in_transaction ≡ false → conn.new.in_transaction ≡ false }
     ensures answers { Answers (λ s known. known ≡ has_system s name.now) (state S.Store conn.old) (state S.Store conn.new) result }
 {
@@ -26,7 +26,7 @@ pub fn is_known<S: Alter>(conn: &mut Connection<S>, name: &SiteName) -> Result<b
 }
 
 /// Whether a job waits for the system of this name.
-pub fn is_waiting<S: Alter>(conn: &mut Connection<S>, name: &SiteName) -> Result<bool, Error>
+pub(crate) fn is_waiting<S: Alter>(conn: &mut Connection<S>, name: &SiteName) -> Result<bool, Error>
     ensures idle { conn.old.in_transaction ≡ false → conn.new.in_transaction ≡ false }
     ensures answers { Answers (λ s waiting. waiting ≡ is_waiting s name.now) (state S.Store conn.old) (state S.Store conn.new) result }
 {
@@ -55,7 +55,7 @@ pub fn next_number<S: Alter>(conn: &mut Connection<S>) -> Result<u32, Error>
 }
 
 /// The job of this number without its bytes, if it is there.
-pub fn head_of_job<S: Alter>(
+pub(crate) fn head_of_job<S: Alter>(
     alloc: Global,
     conn: &mut Connection<S>,
     number: u32,
@@ -68,7 +68,7 @@ pub fn head_of_job<S: Alter>(
 }
 
 /// The jobs of these numbers without their bytes, as many as are there; a number that stands twice gives its job twice.
-pub fn heads_of_jobs<S: Alter>(
+pub(crate) fn heads_of_jobs<S: Alter>(
     alloc: Global,
     conn: &mut Connection<S>,
     numbers: &[u32],

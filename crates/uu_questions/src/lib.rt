@@ -17,6 +17,6 @@ mod walk;
 pub use before::facts_for;
 pub use due::systems_due;
 pub use entries::entry_of_host;
-pub use facts::{head_of_job, heads_of_jobs, is_known, is_waiting, next_number};
+pub use facts::next_number;
 pub use jobs::{job_of_number, list_jobs};
-pub use systems::{all_systems, system_of_name};
+pub use systems::all_systems;

@@ -143,7 +143,7 @@ fn first_of(systems: Vec<SystemRow>) -> Option<SystemRow>
 }
 
 /// The system of this name, if it is known, with its definition and its calls.
-pub fn system_of_name<S: Alter>(
+pub(crate) fn system_of_name<S: Alter>(
     alloc: Global,
     conn: &mut Connection<S>,
     name: &SiteName,

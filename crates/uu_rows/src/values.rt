@@ -32,7 +32,7 @@ pub(crate) fn number_or_null_in(row: &Row, at: usize) -> Result<Option<u32>, Row
     ensures bad { (o : Option ℕ) → IfSome o (λ n. n < 2 ^ 32) → at < length row.now → NotIf result (column row.now at ≡ or_null number_cell o) }
 {
     match row.get(at) {
-        Ok(number) => Ok(number),
+        Ok(number_or_null) => Ok(number_or_null),
         Err(error) => Err(read_fault(&error)),
     }
 }

@@ -73,7 +73,7 @@ fn write_all<S: Alter>(
 }
 
 /// Makes the changes, one after the other, all of them or none, in one transaction.
-pub fn commit<S: Alter>(
+pub(crate) fn commit<S: Alter>(
     alloc: Global,
     conn: &mut Connection<S>,
     changes: &[Change<'_>],

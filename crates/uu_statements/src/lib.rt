@@ -9,5 +9,4 @@ mod lines;
 mod systems;
 mod words;
 
-pub use changes::commit;
 pub use command::carry_out;

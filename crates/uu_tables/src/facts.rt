@@ -1,7 +1,4 @@
 // What is asked of the tables before a command.
-ghost use Rattle.std.specs.Prelude.{◌≡◌, None, []};
-
-use std::alloc::Global;
 use uu_core::{JobHead, SystemRow};
 
 /// What is asked of the tables before a command, as far as the command names it. What it doesn't name isn't asked.
@@ -19,22 +16,4 @@ pub struct Facts {
     pub head: Option<JobHead>,
     /// The jobs whose numbers are named, those that are there: asked for `Done`.
     pub found: Vec<JobHead>,
-}
-
-impl Facts {
-    /// Nothing was asked.
-    pub fn new(alloc: Global) -> Facts
-        ensures system { result.system ≡ None }
-        ensures head { result.head ≡ None }
-        ensures found { result.found.items ≡ [] }
-    {
-        Facts {
-            is_known: false,
-            is_waiting: false,
-            system: None,
-            next: 1,
-            head: None,
-            found: Vec::new(alloc),
-        }
-    }
 }

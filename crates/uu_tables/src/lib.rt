@@ -9,10 +9,7 @@ mod rows;
 
 pub use change::{Change, JobColumns};
 pub use facts::Facts;
-pub use plan::{
-    PIECE_BYTES, Plan, make_plan, plan_define, plan_done, plan_entry, plan_failed, plan_kill,
-    plan_queue, plan_regrade, plan_rejuvenate, plan_remove,
-};
+pub use plan::{PIECE_BYTES, Plan, make_plan};
 pub use rows::{
     CALL_FAILED, CALL_MADE, CallColumns, EntryColumns, LineColumns, NEVER_CALLED, PieceSize,
     RangeColumns, SystemColumns,

@@ -11,12 +11,13 @@ mod system;
 
 use crate::change::Change;
 use crate::facts::Facts;
-pub use entry::plan_entry;
-pub use job::{plan_kill, plan_regrade, plan_rejuvenate};
-pub use queue::{PIECE_BYTES, plan_queue};
-pub use report::{plan_done, plan_failed};
+use entry::plan_entry;
+use job::{plan_kill, plan_regrade, plan_rejuvenate};
+pub use queue::PIECE_BYTES;
+use queue::plan_queue;
+use report::{plan_done, plan_failed};
 use std::alloc::{AllocError, Global};
-pub use system::{plan_define, plan_remove};
+use system::{plan_define, plan_remove};
 use uu_core::{Command, Refusal, Reply};
 
 /// What a command answers, and what it changes.

@@ -24,7 +24,7 @@ fn entry_host(alloc: Global, text: &[u8]) -> Result<Option<SiteName>, AllocError
 }
 
 /// A map entry: that of its host goes, if there is one, and the new one is added whole.
-pub fn plan_entry<'a>(alloc: Global, bytes: &'a [u8]) -> Result<Plan<'a>, AllocError>
+pub(crate) fn plan_entry<'a>(alloc: Global, bytes: &'a [u8]) -> Result<Plan<'a>, AllocError>
     ensures { (s : State) → IfOk result (IsPlan s (Entry bytes.now)) }
 {
     match entry_host(alloc, bytes)? {

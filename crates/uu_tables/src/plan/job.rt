@@ -13,7 +13,7 @@ use uu_names::Grade;
 use uu_times::Moment;
 
 /// A job that goes, with its pieces.
-pub fn plan_kill<'a>(
+pub(crate) fn plan_kill<'a>(
     alloc: Global,
     facts: &Facts,
     number: u32,
@@ -28,7 +28,7 @@ pub fn plan_kill<'a>(
 }
 
 /// Another grade for a job, whose number stays.
-pub fn plan_regrade<'a>(
+pub(crate) fn plan_regrade<'a>(
     alloc: Global,
     facts: &Facts,
     number: u32,
@@ -44,7 +44,7 @@ pub fn plan_regrade<'a>(
 }
 
 /// A job that counts as handed in at this moment.
-pub fn plan_rejuvenate<'a>(
+pub(crate) fn plan_rejuvenate<'a>(
     alloc: Global,
     facts: &Facts,
     number: u32,

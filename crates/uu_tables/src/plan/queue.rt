@@ -56,7 +56,11 @@ fn add_pieces<'a>(
 }
 
 /// A job that is handed in: its row, its pieces, and the next number.
-pub fn plan_queue<'a>(alloc: Global, facts: &Facts, job: &'a NewJob) -> Result<Plan<'a>, AllocError>
+pub(crate) fn plan_queue<'a>(
+    alloc: Global,
+    facts: &Facts,
+    job: &'a NewJob,
+) -> Result<Plan<'a>, AllocError>
     ensures { (s : State) → AreFacts facts.now s (Queue job.now) → IfOk result (IsPlan s (Queue job.now)) }
 {
     match decide_queue(facts.is_known, facts.next, job) {

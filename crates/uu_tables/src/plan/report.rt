@@ -62,7 +62,7 @@ fn failed_call(system: Option<&SystemRow>, at: &Moment, why: Word) -> Result<Cal
 }
 
 /// A call that failed: the system's calls change.
-pub fn plan_failed<'a>(
+pub(crate) fn plan_failed<'a>(
     alloc: Global,
     facts: &Facts,
     system: &'a SiteName,
@@ -106,7 +106,7 @@ fn done_call(
 }
 
 /// A call in which jobs went through: the system's calls change, and the jobs go.
-pub fn plan_done<'a>(
+pub(crate) fn plan_done<'a>(
     alloc: Global,
     facts: &Facts,
     system: &'a SiteName,

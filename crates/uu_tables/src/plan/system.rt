@@ -78,7 +78,7 @@ fn definition<'a>(
 
 /// A system that is defined: a new one was never called, a known one keeps its calls, and its lines are those of the
 /// definition alone.
-pub fn plan_define<'a>(
+pub(crate) fn plan_define<'a>(
     alloc: Global,
     facts: &Facts,
     def: &'a SystemDef,
@@ -94,7 +94,7 @@ pub fn plan_define<'a>(
 }
 
 /// A system that goes, with its calls, its lines and their ranges.
-pub fn plan_remove<'a>(
+pub(crate) fn plan_remove<'a>(
     alloc: Global,
     facts: &Facts,
     system: &'a SiteName,
