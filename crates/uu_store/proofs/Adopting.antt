@@ -16,10 +16,10 @@ use Rattle.uu_core.specs.Run.{state_after}
 use Rattle.uu_schema.specs.Schema.{no_schema}
 use Rattle.uu_schema.specs.declared.fault.StoreFault.{StoreFault}
 use Rattle.uu_store.specs.declared.spool.Spool.{Spool}
-use Rattle.uu_store.specs.Adoption.{IsSpared, StopsAs}
-use Rattle.uu_store.specs.FoundTables.{HasNone}
-use Rattle.uu_store.specs.Calls.{CreatesTables, StaysUnclean}
-use Rattle.uu_store.specs.Encoded.{Encodes, HoldsState}
+use Rattle.uu_database.specs.Adoption.{IsSpared, StopsAs}
+use Rattle.uu_database.specs.FoundTables.{HasNone}
+use Rattle.uu_database.specs.Calls.{CreatesTables, StaysUnclean}
+use Rattle.uu_database.specs.Encoded.{Encodes, HoldsState}
 use Rattle.uu_store.specs.Kept.{Stores, KeepsOnly}
 use Rattle.uu_store.specs.Spool.{connection_of, has_failed, Shows}
 use Rattle.uu_store.specs.Runs.{Ran}
@@ -28,8 +28,9 @@ use Rattle.uu_store.specs.Exchanges.{exchange_of, not_given}
 use Rattle.uu_store.specs.Openings.{IsNotTaken}
 use Rattle.uu_store.specs.Acknowledged.{IsAcknowledged, StoresJob}
 use Rattle.uu_store.specs.Remembered.{Remembers}
-use Rattle.uu_store.proofs.Ending.{Settles, leaves, shows_again, clean_before}
-use Rattle.uu_store.proofs.Inspecting.{kept_as, stops_as}
+use Rattle.uu_database.proofs.Settling.{Settles, leaves}
+use Rattle.uu_store.proofs.Ending.{shows_again, clean_before}
+use Rattle.uu_database.proofs.Inspecting.{kept_as, stops_as}
 
 module _ {S : Type 0} (g : Ghosts S) (was now : Held S) where
   abbrev a : db.State

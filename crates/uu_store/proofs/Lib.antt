@@ -1,17 +1,7 @@
-pub mod Resting
-pub mod Answering
 pub mod Ending
-pub mod Later
-pub mod Inspecting
-pub mod Creating
-pub mod Stepping
-pub mod Composing
-pub mod Rows
-pub mod Verdict
 pub mod Words
 pub mod CellsTell
 pub mod OneState
-pub mod Handing
 pub mod Adopting
 pub mod Running
 pub mod Reopening

@@ -25,7 +25,7 @@ use Rattle.uu_check.specs.Order.{AreInOrder}
 use Rattle.uu_check.specs.Readable.{IsJobRow, AreReadable}
 use Rattle.uu_schema.specs.Held.{Holds}
 use Rattle.uu_schema.specs.Cells.{system_cells, line_cells, range_cells, job_cells, piece_cells, entry_cells}
-use Rattle.uu_store.specs.Encoded.{HoldsState}
+use Rattle.uu_database.specs.Encoded.{HoldsState}
 use Rattle.uu_store.proofs.CellsTell.{same_system, same_line, same_range, same_job, same_piece, same_entry}
 
 -- ---- lists in one strict order with the same members

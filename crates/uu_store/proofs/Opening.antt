@@ -32,8 +32,8 @@ use Rattle.uu_store.specs.declared.remains.OpenFault.{OpenFault}
 use Rattle.uu_store.specs.declared.remains.Remains.{Remains}
 use Rattle.uu_store.specs.declared.remains.Remains.TheVariants as remains
 use Rattle.uu_store.specs.declared.spool.Spool.{Spool}
-use Rattle.uu_store.specs.Encoded.{Encodes}
-use Rattle.uu_store.specs.Adoption.{StopsAs}
+use Rattle.uu_database.specs.Encoded.{Encodes}
+use Rattle.uu_database.specs.Adoption.{StopsAs}
 use Rattle.uu_taking.specs.Version.{IsLater}
 use Rattle.uu_store.specs.Kept.{Keeps, Stores}
 use Rattle.uu_store.specs.Spool.{disk, Shows}
@@ -43,9 +43,9 @@ use Rattle.uu_schema.specs.declared.fault.StoreFault.TheVariants.{Memory, Store,
 use Rattle.uu_schema.specs.declared.fault.StoreKind.{StoreKind}
 use Rattle.uu_schema.specs.declared.fault.StoreKind.TheVariants as part
 use Rattle.uu_schema.specs.Faults.{kind_of_error}
-use Rattle.uu_store.specs.FoundTables.{HasNone, HasAll, HasOther}
+use Rattle.uu_database.specs.FoundTables.{HasNone, HasAll, HasOther}
 use Rattle.uu_store.specs.Openings.{ImageHasOther, ImageHasSome, ImageKeeps, IsFound, IsNamed, IsNotTaken, IsOfNoContents, IsToldRightly, LeavesAlone, LeavesAsKept, LeavesSame, remains_of, remains_of_opening}
-use Rattle.uu_store.proofs.Creating.{none_or_other, some_or_other}
+use Rattle.uu_database.proofs.Creating.{none_or_other, some_or_other}
 use Rattle.uu_store.proofs.Images.{unfound, stop_has}
 use Rattle.uu_store.proofs.Reopening.{simple_site, stands_again, stores_of}
 

@@ -6,7 +6,7 @@ use Rattle.sqlite_catalog.specs.Listing.{IsSound}
 use Rattle.uu_sql.specs.Steps.{Stands}
 use Rattle.uu_core.specs.State.{State, empty}
 use Rattle.uu_schema.specs.Schema.{site, no_schema}
-use Rattle.uu_store.specs.Encoded.{Encodes, HoldsState}
+use Rattle.uu_database.specs.Encoded.{Encodes, HoldsState}
 
 -- the database encodes the state, or has no tables and the state is an empty spool's
 abbrev pub Stores : Database → State → Type 0

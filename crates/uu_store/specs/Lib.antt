@@ -1,11 +1,5 @@
-pub mod Encoded
 pub mod Kept
-pub mod Calls
 pub mod Spool
-pub mod FoundTables
-pub mod Adoption
-pub mod Reading
-pub mod HandedOut
 pub mod Runs
 pub mod Exchanges
 pub mod Stretches

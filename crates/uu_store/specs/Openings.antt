@@ -1,5 +1,5 @@
 -- Opening the two files of a spool: what they hold, what an opening finds in them, and what one that failed leaves.
-use Rattle.std.specs.Prelude.{◌≡◌, ◌≢◌, ◌⊎◌, IsTrue, ⊤, [], Option, None, Some}
+use Rattle.std.specs.Prelude.{◌≡◌, ◌≢◌, ◌⊎◌, IsTrue, ⊤, Option, None, Some}
 use Rattle.sqlite_disk.specs.declared.Disk as disk
 use Rattle.sqlite_wal.specs.Recovery.{Image}
 use Rattle.sqlite_wal.specs.Files.{outcomes}
@@ -26,9 +26,9 @@ use Rattle.uu_store.specs.declared.spool.Spool.{Spool}
 use Rattle.uu_schema.specs.declared.fault.StoreFault.{StoreFault}
 use Rattle.uu_schema.specs.declared.fault.StoreFault.TheVariants.{Memory, Store, Foreign, Newer}
 use Rattle.uu_schema.specs.declared.fault.StoreKind.TheVariants.{Database}
-use Rattle.uu_store.specs.FoundTables.{HasNone, HasAll, HasOther}
-use Rattle.uu_store.specs.Adoption.{IsOfNone}
-use Rattle.uu_store.specs.Encoded.{Encodes}
+use Rattle.uu_database.specs.FoundTables.{HasNone, HasAll, HasOther}
+use Rattle.uu_database.specs.Adoption.{IsOfNone}
+use Rattle.uu_database.specs.Encoded.{Encodes}
 use Rattle.uu_sql.specs.Steps.{Stands, Rests}
 use Rattle.uu_schema.specs.Schema.{site}
 use Rattle.uu_taking.specs.Version.{IsLater}

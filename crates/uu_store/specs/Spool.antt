@@ -8,7 +8,7 @@ use Rattle.uu_core.specs.State.{State}
 use Rattle.uu_schema.specs.declared.fault.StoreFault.{StoreFault}
 use Rattle.uu_schema.specs.declared.fault.StoreFault.TheVariants.{Memory, Store, Failed, Foreign, Newer}
 use Rattle.uu_store.specs.declared.spool.Spool.{Spool}
-use Rattle.uu_store.specs.Encoded.{Encodes}
+use Rattle.uu_database.specs.Encoded.{Encodes}
 
 -- the connection that it owns
 abbrev pub connection_of : {S : Type 0} {g : Ghosts S} → Spool S g → Held S

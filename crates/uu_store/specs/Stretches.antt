@@ -11,7 +11,7 @@ use Rattle.uu_core.specs.State.{State}
 use Rattle.uu_core.specs.Run.{state_after}
 use Rattle.uu_schema.specs.declared.fault.StoreFault.{StoreFault}
 use Rattle.uu_store.specs.declared.spool.Spool.{Spool}
-use Rattle.uu_store.specs.Calls.{StaysUnclean}
+use Rattle.uu_database.specs.Calls.{StaysUnclean}
 use Rattle.uu_store.specs.Kept.{Stores, KeepsOnly}
 use Rattle.uu_store.specs.Spool.{connection_of, disk, Shows}
 use Rattle.uu_store.specs.Runs.{Ran}

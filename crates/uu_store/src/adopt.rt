@@ -1,22 +1,17 @@
 // Taking a database as a spool.
-ghost use Rattle.std.specs.Prelude.{◌≡◌, ◌≢◌, ◌⊎◌, false, Err, IfErr, OnOk};
+ghost use Rattle.std.specs.Prelude.{◌≡◌, ◌≢◌, ◌⊎◌, false, Err, IfErr};
 ghost use Rattle.sqlite.specs.Held.{state};
 ghost use Rattle.sqlite.specs.State.{HasCleanDisk};
 ghost use Rattle.uu_sql.specs.Steps.{Rests};
-ghost use Rattle.uu_schema.specs.Faults.{IsFresh};
-ghost use Rattle.uu_store.specs.Calls.{CreatesTables, StaysUnclean};
-ghost use Rattle.uu_store.specs.Encoded.{Encodes};
-ghost use Rattle.uu_store.specs.Adoption.{IsInspected, IsSpared};
-ghost use Rattle.uu_store.specs.FoundTables.{HasAll, HasNone, HasOther};
+ghost use Rattle.uu_database.specs.Encoded.{Encodes};
+ghost use Rattle.uu_database.specs.FoundTables.{HasAll, HasNone, HasOther};
 
-use crate::inspection::inspect;
 use crate::laws::no_answered_command_is_lost_over;
 use crate::spool::Spool;
-use crate::tables::{Found, found_in};
 use sqlite::{Alter, Connection};
 use std::alloc::Global;
-use uu_core::laws::states_stay_well_formed;
-use uu_schema::{StoreFault, create, halt_fault};
+use uu_database::prepare;
+use uu_schema::StoreFault;
 
 /// Why a database was not taken, and the connection to it, with no transaction open.
 #[derive(Drop)]
@@ -28,48 +23,14 @@ pub struct AdoptFault<S: Alter> {
     ghost idle: { conn.in_transaction ≡ false },
 }
 
-// An empty spool in a database that has none of its tables.
-fn create_tables<S: Alter>(conn: &mut Connection<S>) -> Result<(), StoreFault>
-    requires { conn.old.in_transaction ≡ false }
-    ensures fresh { IfErr result IsFresh }
-    ensures idle { conn.new.in_transaction ≡ false }
-    ensures creates { CreatesTables (state S.Store conn.old) (state S.Store conn.new) result }
-    ensures clean { StaysUnclean (state S.Store conn.old) (state S.Store conn.new) }
-{
-    states_stay_well_formed();
-    match create(conn) {
-        Ok(()) => Ok(()),
-        Err(halt) => Err(halt_fault(conn, &halt)),
-    }
-}
-
-fn prepare<S: Alter>(alloc: Global, conn: &mut Connection<S>) -> Result<(), StoreFault>
-    requires { conn.old.in_transaction ≡ false }
-    ensures never_failed { IfErr result (λ fault. fault ≢ StoreFault.Failed) }
-    ensures idle { conn.new.in_transaction ≡ false }
-    ensures inspected { IsInspected (state S.Store conn.old) (state S.Store conn.new) result }
-    ensures spared { ¬ HasNone (state S.Store conn.old).now.schema → IsSpared (state S.Store conn.old) (state S.Store conn.new) result }
-    ensures creates { CreatesTables (state S.Store conn.old) (state S.Store conn.new) result }
-    ensures taken { OnOk result (HasNone (state S.Store conn.old).now.schema ⊎ HasAll (state S.Store conn.old).now.schema) }
-    ensures other { HasOther (state S.Store conn.old).now.schema → (result ≡ Err StoreFault.Foreign) × (conn.new ≡ conn.old) }
-    ensures empty_never_refused { HasNone (state S.Store conn.old).now.schema → IfErr result (λ fault. (fault ≢ StoreFault.Foreign) × (fault ≢ StoreFault.Newer)) }
-    ensures clean { StaysUnclean (state S.Store conn.old) (state S.Store conn.new) }
-{
-    match found_in(conn.schema()) {
-        Found::Nothing => create_tables(conn),
-        Found::Spool { whole } => inspect(alloc, conn, whole),
-        Found::Other => Err(StoreFault::Foreign),
-    }
-}
-
 impl<S: Alter> Spool<S> {
     ghost use Rattle.std.specs.Prelude.{IfOk, IsErrAnd};
     ghost use Rattle.uu_sql.specs.Steps.{Stands};
     ghost use Rattle.uu_schema.specs.Schema.{site, no_schema};
     ghost use Rattle.uu_core.specs.State.{empty};
-    ghost use Rattle.uu_store.specs.Encoded.{Leaves};
+    ghost use Rattle.uu_database.specs.Encoded.{Leaves};
     ghost use Rattle.uu_taking.specs.Version.{IsLater};
-    ghost use Rattle.uu_store.specs.Adoption.{UnlessFailed, IsAsBefore, StopsAs};
+    ghost use Rattle.uu_database.specs.Adoption.{UnlessFailed, IsAsBefore, StopsAs};
     ghost use Rattle.uu_store.specs.Spool.{disk, has_failed};
     ghost use Rattle.uu_store.specs.Stretches.{Adopted, TurnedAway};
     ghost use Rattle.uu_store.specs.Remembered.{Remembers};

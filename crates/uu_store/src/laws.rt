@@ -20,7 +20,7 @@ ghost use Rattle.uu_core.specs.declared.job.NewJob.{NewJob};
 ghost use Rattle.uu_core.specs.State.{State, IsWellFormed};
 ghost use Rattle.uu_schema.specs.declared.fault.StoreFault.{StoreFault};
 ghost use Rattle.uu_store.specs.declared.spool.Spool.{Spool};
-ghost use Rattle.uu_store.specs.Encoded.{HoldsState};
+ghost use Rattle.uu_database.specs.Encoded.{HoldsState};
 ghost use Rattle.uu_store.specs.Closing.{IsClosed};
 ghost use Rattle.uu_store.specs.Spool.{connection_of};
 ghost use Rattle.uu_store.specs.Kept.{Stores, KeepsOnly};

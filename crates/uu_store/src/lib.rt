@@ -2,17 +2,13 @@
 #![tactic(auto)]
 
 mod adopt;
-mod asked;
 mod close;
-mod inspection;
 pub mod laws;
 mod open;
-mod reading;
 mod remains;
 mod run;
 mod spool;
 mod stretch;
-mod tables;
 
 pub use adopt::AdoptFault;
 pub use open::{FileSpool, open_spool};

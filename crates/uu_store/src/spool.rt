@@ -1,10 +1,10 @@
 // The spool over one connection.
 ghost use Rattle.std.specs.Prelude.{◌≡◌, false};
 
-use crate::asked::{due, entry, find, give, list, next, systems};
 use sqlite::{Alter, Connection};
 use std::alloc::Global;
 use uu_core::{Command, Due, Filter, JobHead, Reply, SystemRow};
+use uu_database::{due, entry, find, give, list, next, systems};
 use uu_names::SiteName;
 use uu_schema::StoreFault;
 use uu_times::Moment;
@@ -27,14 +27,14 @@ impl<S: Alter> Spool<S> {
     ghost use Rattle.uu_core.specs.Due.{AreDue};
     ghost use Rattle.uu_questions.specs.Listing.{listed};
     ghost use Rattle.uu_questions.specs.Assembly.{holding};
-    ghost use Rattle.uu_store.specs.HandedOut.{IsBounded, IsTimed, job_shown};
+    ghost use Rattle.uu_database.specs.HandedOut.{IsBounded, IsTimed, job_shown};
     ghost use Rattle.sqlite.specs.State.{HasCleanDisk};
     ghost use Rattle.sqlite.specs.Held.{state};
     ghost use Rattle.sqlite.specs.View.{IsClean};
     ghost use Rattle.uu_core.specs.After.{after};
     ghost use Rattle.uu_schema.specs.Faults.{IsFresh};
-    ghost use Rattle.uu_store.specs.Calls.{StaysUnclean};
-    ghost use Rattle.uu_store.specs.Encoded.{Leaves, LeavesEither};
+    ghost use Rattle.uu_database.specs.Calls.{StaysUnclean};
+    ghost use Rattle.uu_database.specs.Encoded.{Leaves, LeavesEither};
     ghost use Rattle.uu_store.specs.Spool.{connection_of, disk, has_failed, Shows, Marks};
     ghost use Rattle.uu_store.specs.Runs.{Ran, reply_in, fault_in};
     ghost use Rattle.uu_store.specs.Stretches.{IsLetGo};

@@ -1,5 +1,5 @@
 use Rattle.sqlite.specs.Held.{state}
-use Rattle.uu_store.proofs.Creating.{none_found}
+use Rattle.uu_database.proofs.Creating.{none_found}
 use Rattle.uu_store.proofs.Opening.{not_taken}
 use Rattle.uu_store.proofs.open.adopted.Goals as goal
 

@@ -1,7 +1,8 @@
 use Rattle.std.proofs.Common.{refl, sym, subst}
 use Rattle.sqlite.specs.Held.{state}
-use Rattle.uu_store.specs.Encoded.{Leaves}
-use Rattle.uu_store.proofs.Ending.{leaves, clean_before}
+use Rattle.uu_database.specs.Encoded.{Leaves}
+use Rattle.uu_database.proofs.Settling.{leaves}
+use Rattle.uu_store.proofs.Ending.{clean_before}
 use Rattle.uu_store.proofs.Running.{ran_answered, ran_unanswered}
 use Rattle.uu_store.proofs.spool.Spool.job.Goals as goal
 

@@ -1,0 +1,11 @@
+pub mod Settling
+pub mod Resting
+pub mod Answering
+pub mod Later
+pub mod Inspecting
+pub mod Creating
+pub mod Stepping
+pub mod Composing
+pub mod Rows
+pub mod Verdict
+pub mod Handing

@@ -1,0 +1,20 @@
+use Rattle.std.proofs.Common.{Ok, refl}
+use Rattle.sqlite.specs.Held.{state}
+use Rattle.uu_database.specs.Reading.{AreWaiting, OrNone}
+use Rattle.uu_database.proofs.Composing.{takes_as, takes_none, then_takes}
+use Rattle.uu_database.proofs.reading.take_waiting.Goals as goal
+
+pub returns-in_err-pieces-clause-takes : goal.returns-in_err-pieces-clause-takes
+returns-in_err-pieces-clause-takes g c =
+    let a = state g.S.Store c.args.conn.now in
+    let b = state g.S.Store c.take_heads.new.conn in
+    let d = state g.S.Store c.take_sizes.new.conn in
+    takes_none _ (OrNone AreWaiting) a d c.take_sizes.result _ c.from_residual-in_err-pieces.ensures.0 (then_takes _ _ a b d c.in_ok-jobs.jobs c.take_sizes.result c.in_ok-jobs.ensures.takes c.take_sizes.ensures.takes)
+
+pub returns-clause-takes : goal.returns-clause-takes
+returns-clause-takes g c =
+    let a = state g.S.Store c.args.conn.now in
+    let b = state g.S.Store c.take_heads.new.conn in
+    let d = state g.S.Store c.take_sizes.new.conn in
+    takes_as _ (OrNone AreWaiting) a d (Ok c.in_ok-pieces.pieces) (Ok c.waiting_of.result) (then_takes _ _ a b d c.in_ok-jobs.jobs (Ok c.in_ok-pieces.pieces) c.in_ok-jobs.ensures.takes c.in_ok-pieces.ensures.takes) (λ ok. refl)
+    (λ trees found. c.waiting_of.ensures trees found.0 found.1)

@@ -1,0 +1,6 @@
+pub mod Encoded
+pub mod Calls
+pub mod FoundTables
+pub mod Adoption
+pub mod Reading
+pub mod HandedOut

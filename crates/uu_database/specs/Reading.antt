@@ -1,0 +1,70 @@
+-- What is read of a database's seven tables, when it is looked at as a spool.
+use Rattle.std.specs.Prelude.{◌≡◌, ◌≢◌, ℕ, [], ◌∷◌, Vec, Option, Some, MatchOption}
+use Rattle.std.specs.declared.alloc.Global.{Global}
+use Rattle.sqlite.specs.Tree.{Trees}
+use Rattle.uu_core.specs.declared.job.JobHead.{JobHead}
+use Rattle.uu_tables.specs.declared.rows.SystemColumns.{SystemColumns}
+use Rattle.uu_tables.specs.declared.rows.LineColumns.{LineColumns}
+use Rattle.uu_tables.specs.declared.rows.RangeColumns.{RangeColumns}
+use Rattle.uu_tables.specs.declared.rows.PieceSize.{PieceSize}
+use Rattle.uu_tables.specs.declared.rows.EntryColumns.{EntryColumns}
+use Rattle.uu_schema.specs.Schema.{spool, systems, lines, ranges, jobs, pieces, entries}
+use Rattle.uu_schema.specs.Made.{spool_row}
+use Rattle.uu_schema.specs.Held.{system_key, line_key, range_key, job_key, entry_key, system_places, line_places, range_places, job_places, entry_places}
+use Rattle.uu_schema.specs.Cells.{system_cells, line_cells, range_cells, job_cells, entry_cells}
+use Rattle.uu_rows.specs.Readable.{IsSmall, IsSystem, IsLine, IsRange, IsHead, IsEntry}
+use Rattle.uu_rows.specs.Order.{system_cmp, line_cmp, range_cmp, head_cmp, entry_cmp}
+use Rattle.uu_taking.specs.Taking.{Finds, FindsSizes}
+use Rattle.uu_database.specs.Adoption.{IsOfNone}
+use Rattle.uu_database.specs.declared.reading.Callers.{Callers}
+use Rattle.uu_database.specs.declared.reading.Waiting.{Waiting}
+use Rattle.uu_database.specs.declared.reading.Rest.{Rest}
+use Rattle.uu_database.specs.declared.reading.AllRows.{AllRows}
+
+-- ---- one table
+
+abbrev pub FindsSystems : Trees → Option (Vec SystemColumns Global) → Type 0
+FindsSystems trees found = Finds system_key system_cells system_places IsSystem system_cmp (trees systems.tree) found
+
+abbrev pub FindsLines : Trees → Option (Vec LineColumns Global) → Type 0
+FindsLines trees found = Finds line_key line_cells line_places IsLine line_cmp (trees lines.tree) found
+
+abbrev pub FindsRanges : Trees → Option (Vec RangeColumns Global) → Type 0
+FindsRanges trees found = Finds range_key range_cells range_places IsRange range_cmp (trees ranges.tree) found
+
+abbrev pub FindsJobs : Trees → Option (Vec JobHead Global) → Type 0
+FindsJobs trees found = Finds job_key job_cells job_places IsHead head_cmp (trees jobs.tree) found
+
+abbrev pub FindsPieces : Trees → Option (Vec PieceSize Global) → Type 0
+FindsPieces trees found = FindsSizes (trees pieces.tree) found
+
+abbrev pub FindsEntries : Trees → Option (Vec EntryColumns Global) → Type 0
+FindsEntries trees found = Finds entry_key entry_cells entry_places IsEntry entry_cmp (trees entries.tree) found
+
+-- the table `spool` has its one row, and this next number, or none of 32 bits
+abbrev pub FindsNext : Trees → Option ℕ → Type 0
+FindsNext trees found = MatchOption found ((next : ℕ) → IsSmall next → trees spool.tree ≢ spool_row next ∷ []) (λ next. trees spool.tree ≡ spool_row next ∷ [])
+
+-- ---- several tables
+
+pub record AreCallers (trees : Trees) (all : Callers) : Type 0 where
+  pub systems : FindsSystems trees (Some all.systems)
+  pub lines : FindsLines trees (Some all.lines)
+  pub ranges : FindsRanges trees (Some all.ranges)
+
+pub record AreWaiting (trees : Trees) (all : Waiting) : Type 0 where
+  pub jobs : FindsJobs trees (Some all.jobs)
+  pub pieces : FindsPieces trees (Some all.pieces)
+
+pub record AreTheRest (trees : Trees) (all : Rest) : Type 0 where
+  pub next : FindsNext trees (Some all.next)
+  pub entries : FindsEntries trees (Some all.entries)
+
+pub record AreAllRows (trees : Trees) (all : AllRows) : Type 0 where
+  pub callers : AreCallers trees all.callers
+  pub waiting : AreWaiting trees all.waiting
+  pub rest : AreTheRest trees all.rest
+
+-- the rows, or that no state has those of the database
+abbrev pub OrNone : {X : Type 0} → (Trees → X → Type 0) → Trees → Option X → Type 0
+OrNone AreRows trees found = MatchOption found (IsOfNone trees) (AreRows trees)

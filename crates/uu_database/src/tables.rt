@@ -1,0 +1,140 @@
+// Which of the spool's tables a database has.
+ghost use Rattle.std.specs.Prelude.{◌≡◌, map};
+ghost use Rattle.std.specs.Option.{option_copied};
+ghost use Rattle.std.specs.List.{list_all};
+ghost use Rattle.uu_database.specs.FoundTables.{table_of, has_column, has_table, has_systems, has_jobs, is_whole, is_taken, is_any_taken, found_of};
+
+use sqlite_schema::names::same_name;
+use sqlite_schema::schema::{Schema, Table};
+
+/// Which tables a database has.
+#[derive(Clone, Copy)]
+pub(crate) enum Found {
+    /// None of the spool's tables.
+    Nothing,
+    /// The table `spool` with the columns that tell its version, and whether the rest is there too.
+    Spool { whole: bool },
+    /// One of the names is taken, and there is no table `spool` with the columns that tell its version.
+    Other,
+}
+
+const SYSTEMS: [&str; 7] = [
+    "name",
+    "max_retries",
+    "last",
+    "failures",
+    "wait",
+    "outcome",
+    "why",
+];
+
+const LINES: [&str; 4] = ["system", "place", "rank", "retry"];
+
+const RANGES: [&str; 4] = ["system", "place", "low", "high"];
+
+const JOBS: [&str; 9] = [
+    "number",
+    "system",
+    "rank",
+    "user",
+    "kind",
+    "queued",
+    "first_word",
+    "second_word",
+    "size",
+];
+
+const PIECES: [&str; 3] = ["job", "place", "bytes"];
+
+const ENTRIES: [&str; 2] = ["host", "bytes"];
+
+fn table_of<'a>(schema: &'a Schema, name: &str) -> Option<&'a Table>
+    ensures { option_copied result ≡ table_of schema.now name.now }
+{
+    schema
+        .tables
+        .as_slice()
+        .iter()
+        .find(|table| same_name(table.name.as_slice(), name.as_bytes()))
+}
+
+fn has_column(table: &Table, name: &str) -> bool
+    ensures { result ≡ has_column table.now name.now }
+{
+    table.columns.as_slice().iter().any(|column| same_name(column.name.as_slice(), name.as_bytes()))
+}
+
+fn has_columns(table: &Table, names: &[&str]) -> bool
+    ensures { result ≡ list_all (λ name. has_column table.now name.now) names.now }
+{
+    names.iter().all(|name| has_column(table, name))
+}
+
+fn has_table(schema: &Schema, name: &str, columns: &[&str]) -> bool
+    ensures { result ≡ has_table schema.now name.now (map (λ column. column.now) columns.now) }
+{
+    match table_of(schema, name) {
+        Some(table) => has_columns(table, columns),
+        None => false,
+    }
+}
+
+fn has_systems(schema: &Schema) -> bool
+    ensures { result ≡ has_systems schema.now }
+{
+    has_table(schema, "systems", &SYSTEMS)
+        && has_table(schema, "lines", &LINES)
+        && has_table(schema, "ranges", &RANGES)
+}
+
+fn has_jobs(schema: &Schema) -> bool
+    ensures { result ≡ has_jobs schema.now }
+{
+    has_table(schema, "jobs", &JOBS)
+        && has_table(schema, "pieces", &PIECES)
+        && has_table(schema, "entries", &ENTRIES)
+}
+
+// Whether the rest of the columns and tables is there.
+fn is_whole(schema: &Schema, spool: &Table) -> bool
+    ensures { result ≡ is_whole schema.now spool.now }
+{
+    has_column(spool, "next") && has_systems(schema) && has_jobs(schema)
+}
+
+fn is_taken(schema: &Schema, name: &str) -> bool
+    ensures { result ≡ is_taken schema.now name.now }
+{
+    table_of(schema, name).is_some()
+}
+
+// Whether a table stands under one of the names but `spool`.
+fn is_any_taken(schema: &Schema) -> bool
+    ensures { result ≡ is_any_taken schema.now }
+{
+    is_taken(schema, "systems")
+        || is_taken(schema, "lines")
+        || is_taken(schema, "ranges")
+        || is_taken(schema, "jobs")
+        || is_taken(schema, "pieces")
+        || is_taken(schema, "entries")
+}
+
+/// Which of the spool's tables there are, by their names and those of their columns.
+pub(crate) fn found_in(schema: &Schema) -> Found
+    ensures { result ≡ found_of schema.now }
+{
+    let Some(spool) = table_of(schema, "spool") else {
+        return if is_any_taken(schema) {
+            Found::Other
+        } else {
+            Found::Nothing
+        };
+    };
+    if !has_column(spool, "id") || !has_column(spool, "version") {
+        return Found::Other;
+    }
+    Found::Spool {
+        whole: is_whole(schema, spool),
+    }
+}
