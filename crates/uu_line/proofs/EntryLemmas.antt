@@ -10,8 +10,8 @@ use Rattle.std.proofs.lemmas.Slice.Eq.{bytes_eq-Decides}
 use Rattle.clap.specs.Facts.{explicit_source, parser_of_value, unwrap_or_range}
 use Rattle.clap.specs.Values.{refused_kind}
 use Rattle.clap.specs.ValueTests.{is_unsigned_in}
-use Rattle.clap.specs.Walk.{Held, Names, Outcome, done, waits, plain, refused, Row, Rule, Step, next, trailing, subcommand, value, Text, Waiting, idle, option, positional, Walk, action_of, after_flag, after_step, answers_to, arg_by_index, arg_by_long, at_row, bundle, default_rows, first_of, finished, has_row, is_empty, long_met, long_or_other, more_values, most_values, nothing_held, plain_word, reading_by, rows_after, settled, short_or_plain, subcommand_met, subcommand_or_other, to_positional, values_or_missing, walk, walk_from, walked, walked_from, with_default, word_met}
-use Rattle.clap.specs.Lexer.{long_of, short_of}
+use Rattle.clap.specs.Walk.{Held, Names, Row, Rule, trailing, Text, Waiting, Walk, action_of, answers_to, at_row, default_rows, first_of, finished, has_row, is_empty, long_or_other, more_values, most_values, nothing_held, reading_by, rows_after, settled, subcommand_met, subcommand_or_other, values_or_missing, walk, walk_from, walked, walked_from, with_default, word_met}
+use Rattle.clap.specs.Lexer.{long_of}
 use Rattle.clap.specs.Simple.{App, Shape, entered, label_of, names_of}
 use Rattle.clap.specs.Takes.{is_given}
 use Rattle.clap.specs.Kinds.{Kinds, check_kinds, or_else, range_kinds, value_kinds, values_kinds}
@@ -27,23 +27,24 @@ use Rattle.clap.specs.declared.error.kind.ErrorKind.TheVariants as kind
 use Rattle.clap.proofs.SimpleLemmas.{is_false, is_nil}
 use Rattle.clap.proofs.WalkLemmas.{both}
 use Rattle.uu_line.specs.Entries.{AreNumbersUpTo, AreTaken, HasSubcommand, HaveTexts, IsEntered, most_job, most_second, subcommand_named, texts_at, texts_of}
+use Rattle.uu_line.proofs.StopLemmas.{long_steps, steps_so, step_stops, stops_so}
 use Rattle.uu_line.proofs.UseLemmas.{HoldsIfAny, RowsHold, RulesHold, UsesHold, all_pass, first_passes, is_counting, level_holds, then_passes}
 
 -- ---- tests
 
-and_true : (a b : Bool) → a ≡ true → b ≡ true → (a && b) ≡ true
+pub and_true : (a b : Bool) → a ≡ true → b ≡ true → (a && b) ≡ true
 and_true true b e f = f
 and_true false b e f = absurd (true≢false (sym e))
 
-or_left : (a b : Bool) → a ≡ true → (a || b) ≡ true
+pub or_left : (a b : Bool) → a ≡ true → (a || b) ≡ true
 or_left true b e = refl
 or_left false b e = absurd (true≢false (sym e))
 
-or_right : (a b : Bool) → b ≡ true → (a || b) ≡ true
+pub or_right : (a b : Bool) → b ≡ true → (a || b) ≡ true
 or_right true b e = refl
 or_right false b e = e
 
-either : (a b : Bool) → (a || b) ≡ true → (a ≡ true) ⊎ (b ≡ true)
+pub either : (a b : Bool) → (a || b) ≡ true → (a ≡ true) ⊎ (b ≡ true)
 either true b e = inl refl
 either false b e = inr e
 
@@ -72,7 +73,7 @@ any_found p (x ∷ xs) e = go (p x) (any_found p xs) e
     go false more e = more e
 
 -- what is found passes, as all of the list do
-found_passes : {X : Type 0} (p test : X → Bool) (xs : List X) (x : X) → list_all test xs ≡ true → Some x ≡ find p xs → (p x ≡ true) × (test x ≡ true)
+pub found_passes : {X : Type 0} (p test : X → Bool) (xs : List X) (x : X) → list_all test xs ≡ true → Some x ≡ find p xs → (p x ≡ true) × (test x ≡ true)
 found_passes p test [] x all is = absurd cc
 found_passes p test (y ∷ ys) x all is = go (p y) refl (found_passes p test ys x (both (test y) (list_all test ys) all).1) is
   where
@@ -380,33 +381,6 @@ module _ (s : Shape) (names : Names) (words : List Text) where
 abbrev is_other : Text → Bool
 is_other name = not (bytes_eq name (codes "help"))
 
-abbrev stops_well : Option (Text × List Text) → Bool
-stops_well None = true
-stops_well (Some p) = is_other p.0
-
-abbrev steps_well : Step → Bool
-steps_well (subcommand name) = is_other name
-steps_well _ = true
-
-plain_steps : (c : List Rule) (waiting : Waiting) (word : Text) (h : Held) → steps_well (plain_word c waiting word h).1 ≡ true
-plain_steps c idle word h = refl
-plain_steps c (option id) word h = refl
-plain_steps c positional word h = refl
-
-flag_steps : (c : List Rule) (waiting : Waiting) (word : Text) (h : Held) (o : Outcome) → steps_well (after_flag c waiting word h o).1 ≡ true
-flag_steps c waiting word h done = refl
-flag_steps c waiting word h (waits id) = refl
-flag_steps c waiting word h plain = plain_steps c waiting word h
-flag_steps c waiting word h refused = plain_steps c waiting word h
-
-short_steps : (c : List Rule) (o : Option Text) (waiting : Waiting) (word : Text) (h : Held) → steps_well (short_or_plain c waiting word o h).1 ≡ true
-short_steps c None waiting word h = plain_steps c waiting word h
-short_steps c (Some flags) waiting word h = flag_steps c waiting word (bundle c flags h).0 (bundle c flags h).1
-
-long_steps : (c : List Rule) (o : Option (Text × Option Text)) (waiting : Waiting) (word : Text) (h : Held) → steps_well (long_or_other c waiting word o h).1 ≡ true
-long_steps c None waiting word h = short_steps c (short_of word) waiting word h
-long_steps c (Some p) waiting word h = flag_steps c waiting word (long_met c (arg_by_long c p.0) p.1 h).0 (long_met c (arg_by_long c p.0) p.1 h).1
-
 no_help : (is_help disabled : Bool) (k : ErrorKind) (ks : Kinds) → disabled ≡ false → cond (is_help && not disabled) (k ∷ ks) [] ≡ [] → not is_help ≡ true
 no_help true true k ks off e = absurd (true≢false off)
 no_help true false k ks off e = absurd cc
@@ -414,45 +388,35 @@ no_help false disabled k ks off e = refl
 
 module _ (s : Shape) (names : Names) (helps : s.disable_help_subcommand ≡ false) where
   other_steps : (o : Option Text) (waiting : Waiting) (position : ℕ) (word : Text) (h : Held) → other_fault s o word h ≡ []
-      → steps_well (subcommand_or_other s.rules o waiting position word h).1 ≡ true
+      → steps_so is_other (subcommand_or_other s.rules o waiting position word h).1 ≡ true
   other_steps (Some name) waiting position word h e = no_help (bytes_eq name (codes "help")) s.disable_help_subcommand kind.DisplayHelp (kind.InvalidSubcommand ∷ []) helps e
   other_steps None waiting position word h e = go (bytes_eq word (45 ∷ 45 ∷ []))
     where
-      go : (b : Bool) → steps_well (cond b (h, trailing position) (long_or_other s.rules waiting word (long_of word) h)).1 ≡ true
+      go : (b : Bool) → steps_so is_other (cond b (h, trailing position) (long_or_other s.rules waiting word (long_of word) h)).1 ≡ true
       go true = refl
-      go false = long_steps s.rules (long_of word) waiting word h
+      go false = long_steps is_other s.rules (long_of word) waiting word h
 
   word_steps : (is_trailing : Bool) (waiting : Waiting) (position : ℕ) (word : Text) (h : Held) → word_fault s names is_trailing waiting word h ≡ []
-      → steps_well (word_met s.rules names is_trailing waiting position word h).1 ≡ true
+      → steps_so is_other (word_met s.rules names is_trailing waiting position word h).1 ≡ true
   word_steps true waiting position word h e = refl
   word_steps false waiting position word h e = other_steps (subcommand_met names waiting word) waiting position word h e
 
-  step_stops : (word : Text) (w : Walk) (h : Held) (step : Step) → steps_well step ≡ true → stops_well w.stopped ≡ true → stops_well (after_step s.rules word w h step).stopped ≡ true
-  step_stops word w h (next waiting) well so_far = so_far
-  step_stops word w h (trailing position) well so_far = so_far
-  step_stops word w h (subcommand name) well so_far = well
-  step_stops word w h value well so_far = go (arg_by_index s.rules w.position)
-    where
-      go : (o : Option Rule) → stops_well (to_positional s.rules o word w h).stopped ≡ true
-      go None = so_far
-      go (Some a) = refl
-
-  turn_stops : (w : Walk) (word : Text) → turn_fault s names w word ≡ [] → stops_well w.stopped ≡ true → stops_well (walked s.rules names w word).stopped ≡ true
+  turn_stops : (w : Walk) (word : Text) → turn_fault s names w word ≡ [] → stops_so is_other w.stopped ≡ true → stops_so is_other (walked s.rules names w word).stopped ≡ true
   unfolding walked
   turn_stops w word e so_far = go w.stopped e so_far
     where
       go : (o : Option (Text × List Text))
           → (let met = word_met s.rules names w.is_trailing w.waiting w.position word w.held in
           cond (is_some o) [] (or_else (word_fault s names w.is_trailing w.waiting word w.held) (step_fault s w.position met.0 met.1)) ≡ [])
-          → stops_well o ≡ true → stops_well (walked_from s.rules names o w word).stopped ≡ true
+          → stops_so is_other o ≡ true → stops_so is_other (walked_from s.rules names o w word).stopped ≡ true
       go (Some p) e well = well
       go None e well =
           let met = word_met s.rules names w.is_trailing w.waiting w.position word w.held in
-          step_stops word w met.0 met.1
+          step_stops is_other s.rules word w met.0 met.1
           (word_steps w.is_trailing w.waiting w.position word w.held
           (first_passes (word_fault s names w.is_trailing w.waiting word w.held) (step_fault s w.position met.0 met.1) e)) so_far
 
-  walk_stops : (w : Walk) (words : List Text) → walk_fault s names w words ≡ [] → stops_well w.stopped ≡ true → stops_well (fold (walked s.rules names) w words).stopped ≡ true
+  walk_stops : (w : Walk) (words : List Text) → walk_fault s names w words ≡ [] → stops_so is_other w.stopped ≡ true → stops_so is_other (fold (walked s.rules names) w words).stopped ≡ true
   unfolding walk_fault
   walk_stops w [] e so_far = so_far
   walk_stops w (word ∷ words) e so_far =
@@ -479,7 +443,7 @@ met_there true wanted is e = refl
 met_there false true is e = absurd (true≢false e)
 met_there false false is e = absurd (true≢false (sym is))
 
-answered_by : (word name : Text) (aliases : List Text) → is_empty aliases ≡ true → answers_to word (name, aliases) ≡ true → bytes_eq name word ≡ true
+pub answered_by : (word name : Text) (aliases : List Text) → is_empty aliases ≡ true → answers_to word (name, aliases) ≡ true → bytes_eq name word ≡ true
 answered_by word name aliases none e =
     ⊎_elim (λ own. own)
     (λ other. absurd (true≢false (sym (subst (λ (l : List Text). list_any (λ alias. bytes_eq alias word) l ≡ true) (is_nil aliases none) other))))
@@ -514,7 +478,7 @@ below_taken s word words test answers other e = record {
     more = both _ _ parts.1
 
 module _ (b : App) (below : list_all passes_below b.subs ≡ true) (on_top : passes_on_top b.top ≡ true) where
-  subcommand_taken : (stop : Option (Text × List Text)) → is_some (entered b stop) ≡ true → entered_fault b stop ≡ [] → stops_well stop ≡ true → HasSubcommand (entered b stop)
+  subcommand_taken : (stop : Option (Text × List Text)) → is_some (entered b stop) ≡ true → entered_fault b stop ≡ [] → stops_so is_other stop ≡ true → HasSubcommand (entered b stop)
   subcommand_taken None has e well = absurd (true≢false (sym has))
   subcommand_taken (Some p) has e well = go (find (λ s. answers_to p.0 (label_of s)) b.subs) refl has e
     where

@@ -1,5 +1,7 @@
 pub mod UseLemmas
+pub mod StopLemmas
 pub mod EntryLemmas
+pub mod NamedLemmas
 pub mod TableLemmas
 pub mod ProgramLemmas
 pub mod LineLemmas

@@ -1,8 +1,10 @@
 -- What the rows of the program's tables mean, in the terms of `clap`.
-use Rattle.std.specs.Prelude.{List, Some, [], ◌∷◌, map}
+use Rattle.std.specs.Prelude.{◌≡◌, Bool, true, false, List, Option, Some, [], ◌∷◌, map}
+use Rattle.std.specs.List.{filter}
 use Rattle.clap.specs.Lexer.{usize_max}
 use Rattle.clap.specs.Words.{App, Rule, Text, new_rule, new_app, with_rule, with_subcommand}
 use Rattle.clap.specs.declared.builder.value_parser.ValueParser.TheVariants.{Unsigned}
+use Rattle.uu_line.specs.Commands.{is_wanted}
 use Rattle.uu_line.specs.declared.commands.Entry.{Entry}
 use Rattle.uu_line.specs.declared.commands.Form.{Form}
 use Rattle.uu_line.specs.declared.commands.Form.TheVariants as form
@@ -36,3 +38,19 @@ app_for subcommand = with_rules (new_app subcommand.name.now) subcommand.entries
 abbrev pub with_apps : App → List Subcommand → App
 with_apps app [] = app
 with_apps app (subcommand ∷ subcommands) = with_apps (with_subcommand app (app_for subcommand).top) subcommands
+
+-- the row's subcommand is wanted for the words
+abbrev pub is_row_wanted : Option (List Text) → Subcommand → Bool
+is_row_wanted words subcommand = is_wanted words subcommand.name.now
+
+-- the first row is wanted
+abbrev pub IsFirstWanted : Option (List Text) → List Subcommand → Type 0
+IsFirstWanted words [] = ⊥
+IsFirstWanted words (row ∷ rows) = is_row_wanted words row ≡ true
+
+-- a command without subcommands, with those of the rows that are wanted
+abbrev pub with_wanted : App → Option (List Text) → List Subcommand → App
+with_wanted app words rows = record {
+  top = record app.top { is_leaf = false };
+  subs = filter (λ s. is_wanted words s.name) (map (λ row. (app_for row).top) rows);
+}

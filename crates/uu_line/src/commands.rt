@@ -1,12 +1,15 @@
 //! The program's command line, as `clap` is told of it.
-ghost use Rattle.std.specs.Prelude.{◌≡◌, IfOk, false};
+ghost use Rattle.std.specs.Prelude.{◌≡◌, [], IfOk, false, map, option_map};
+ghost use Rattle.std.specs.List.{list_any};
+ghost use Rattle.std.specs.Str.{bytes_eq};
+ghost use Rattle.std.specs.String.{string_bytes};
 ghost use Rattle.clap.specs.Words.{App, app_of, rule_of};
 ghost use Rattle.clap.specs.Built.{AddsInTurn, AddsSubcommand};
 ghost use Rattle.clap.specs.declared.builder.command.Command.{Command as AnyCommand};
 ghost use Rattle.clap.specs.declared.builder.command.Command.TheViews.{out-Command as fields_of};
 ghost use Rattle.clap.specs.declared.builder.value_parser.ValueParser.TheVariants.{Unsigned};
 ghost use Rattle.uu_line.specs.Commands as spec;
-ghost use Rattle.uu_line.specs.Tables.{app_for, rule_for, rule_formed, with_apps, with_rules};
+ghost use Rattle.uu_line.specs.Tables.{IsFirstWanted, app_for, rule_for, rule_formed, with_rules, with_wanted};
 
 use clap::builder::ValueParser;
 use clap::{Arg, Command};
@@ -322,12 +325,16 @@ static SUBCOMMANDS: [Subcommand<'static>; 17] = [
     },
 ];
 
-/// The whole command: its options, and a subcommand, which has to be there.
-pub(crate) fn program_command<'a>(alloc: Global) -> Result<Command<'a>, AllocError>
-    ensures { IfOk result (λ command. app_of command ≡ spec.program) }
+/// The command: its options and its subcommands, of which one has to be there. Without words it has all of them, and for words those that they
+/// name, and `load`.
+pub(crate) fn program_command<'a>(
+    alloc: Global,
+    words: Option<&[String]>,
+) -> Result<Command<'a>, AllocError>
+    ensures { IfOk result (λ command. app_of command ≡ spec.program_for (option_map (λ ws. map string_bytes ws.now) words.entry)) }
 {
     match with_options(alloc) {
-        Ok(command) => match commands_of(alloc, &SUBCOMMANDS) {
+        Ok(command) => match commands_of(alloc, &SUBCOMMANDS, words) {
             Ok(subcommands) => command.subcommands(subcommands),
             Err(error) => Err(error),
         },
@@ -346,19 +353,44 @@ fn with_options<'a>(alloc: Global) -> Result<Command<'a>, AllocError>
     with_entries(alloc, bare, &OPTIONS)
 }
 
-// The subcommands of these rows.
-fn commands_of<'a>(alloc: Global, rows: &[Subcommand<'a>]) -> Result<Vec<Command<'a>>, AllocError>
-    ensures { IfOk result (λ commands. (old new : AnyCommand) (whole : App) → app_of old ≡ whole
-        → AddsInTurn AddsSubcommand old commands.items new → app_of new ≡ with_apps whole rows.now) }
+// The subcommands of these rows, for words those that are wanted for them.
+fn commands_of<'a>(
+    alloc: Global,
+    rows: &[Subcommand<'a>],
+    words: Option<&[String]>,
+) -> Result<Vec<Command<'a>>, AllocError>
+    ensures { IfOk result (λ commands. (old new : AnyCommand) (whole : App) → app_of old ≡ whole → whole.subs ≡ []
+        → IsFirstWanted (option_map (λ ws. map string_bytes ws.now) words.entry) rows.now → AddsInTurn AddsSubcommand old commands.items new
+        → app_of new ≡ with_wanted whole (option_map (λ ws. map string_bytes ws.now) words.entry) rows.now) }
 {
     let mut commands = Vec::new(alloc);
     for row in rows {
-        match command_of(alloc, row) {
-            Ok(command) => commands.push(command)?,
-            Err(error) => return Err(error),
+        if is_wanted(words, row.name) {
+            match command_of(alloc, row) {
+                Ok(command) => commands.push(command)?,
+                Err(error) => return Err(error),
+            }
         }
     }
     Ok(commands)
+}
+
+// Whether the subcommand is wanted for the words: they name it, or it is `load`, the first row, since a command without subcommands reads words
+// otherwise.
+fn is_wanted(words: Option<&[String]>, name: &str) -> bool
+    ensures { result ≡ spec.is_wanted (option_map (λ ws. map string_bytes ws.now) words.entry) name.now }
+{
+    match words {
+        Some(words) => name == "load" || is_among(words, name),
+        None => true,
+    }
+}
+
+// Whether one of the words is this name.
+fn is_among(words: &[String], name: &str) -> bool
+    ensures { result ≡ list_any (λ word. bytes_eq name.now (string_bytes word)) words.now }
+{
+    words.iter().any(|word| name == word.as_str())
 }
 
 // A subcommand with its entries.

@@ -1,6 +1,6 @@
 //! From words to a line of typed values.
 
-ghost use Rattle.std.specs.Prelude.{◌≢◌, [], IfOk, IfErr, map};
+ghost use Rattle.std.specs.Prelude.{◌≢◌, [], IfOk, IfErr, IfSome, map};
 ghost use Rattle.std.specs.String.{string_bytes};
 ghost use Rattle.clap.specs.Words.{rows_of, found_of, kind_of, fault_of, subcommand_rows_of};
 ghost use Rattle.uu_line.specs.Commands.{program};
@@ -74,9 +74,23 @@ fn entries_of<'a>(alloc: Global, words: &'a [String]) -> Result<ArgMatches<'a>, 
     ensures entries { IfOk result (λ found. HasEntriesOf (map string_bytes words.now) found) }
     ensures refused { IfErr result (IsWordsWhere (fault_of program (map string_bytes words.now) ≢ [])) }
 {
-    match program_command(alloc)?.try_get_matches_from(words) {
+    if let Some(matches) = entries_by_named(alloc, words) {
+        return Ok(matches);
+    }
+    match program_command(alloc, None)?.try_get_matches_from(words) {
         Ok(matches) => Ok(matches),
         Err(error) => Err(refused(alloc, &error)),
+    }
+}
+
+// The entries that `clap` finds with the subcommands that the words name, and `load`, which are those that it finds with all. What it refuses so
+// is asked once more of the whole command, whose faults name every subcommand.
+fn entries_by_named<'a>(alloc: Global, words: &'a [String]) -> Option<ArgMatches<'a>>
+    ensures { IfSome result (λ found. HasEntriesOf (map string_bytes words.now) found) }
+{
+    match program_command(alloc, Some(words)) {
+        Ok(command) => command.try_get_matches_from(words).ok(),
+        Err(_) => None,
     }
 }
 
