@@ -1,15 +1,17 @@
 // Opening the spool's files.
 ghost use Rattle.std.specs.Prelude.{◌≡◌, ◌≢◌, ◌⊎◌, false, IfOk, IfErr};
+ghost use Rattle.sqlite.specs.Files.{over_files};
 ghost use Rattle.sqlite.specs.Held.{state};
 ghost use Rattle.sqlite.specs.State.{HasCleanDisk};
 ghost use Rattle.sqlite_wal.specs.Files.{image_at};
+ghost use Rattle.sqlite_wal.specs.Recovery.{Image};
 ghost use Rattle.uu_core.specs.State.{State};
 ghost use Rattle.uu_sql.specs.Steps.{Rests, Stands};
 ghost use Rattle.uu_schema.specs.Schema.{site};
 ghost use Rattle.uu_database.specs.Adoption.{StopsAs};
 ghost use Rattle.uu_database.specs.Encoded.{Encodes};
 ghost use Rattle.uu_database.specs.FoundTables.{HasAll, HasNone};
-ghost use Rattle.uu_store.specs.Openings.{ImageHasOther, ImageKeeps, IsNamed, IsNotTaken, LeavesAlone, LeavesAsKept, LeavesSame, Started, remains_of};
+ghost use Rattle.uu_store.specs.Openings.{FoundBy, ImageHasOther, ImageKeeps, IsNamed, IsNotTaken, LeavesAlone, LeavesAsKept, LeavesSame, Started, remains_of};
 ghost use Rattle.uu_store.specs.Spool.{disk, has_failed, Shows};
 ghost use Rattle.uu_store.specs.Stretches.{Adopted};
 
@@ -17,6 +19,7 @@ use crate::adopt::AdoptFault;
 use crate::remains::{OpenFault, open_files};
 use crate::spool::Spool;
 use sqlite::{Alter, Connection, FileFrom, FileStore, Start};
+use sqlite_disk::Disk;
 use std::alloc::Global;
 use uu_schema::StoreFault;
 
@@ -56,8 +59,29 @@ pub fn open_spool<T: Start>(
     ensures left { IfErr result (λ e. LeavesAsKept (image_at T.Start) (remains_of e)) }
     ensures left_alone { IfErr result (λ e. LeavesAlone (image_at T.Start) (remains_of e)) }
 {
-    let conn = open_files(rt, path, start)?;
-    match adopted(rt.alloc(), conn) {
+    match open_files(rt, path, start) {
+        Ok(conn) => adopted_in_files(rt.alloc(), conn),
+        Err(failed) => Err(failed),
+    }
+}
+
+// The spool in a database that was opened in files, whatever they held.
+fn adopted_in_files<D: Disk + Drop>(
+    alloc: Global,
+    conn: Connection<FileStore<D>>,
+) -> Result<Spool<FileStore<D>>, OpenFault<D>>
+    requires { conn.in_transaction ≡ false }
+    ensures usable { IfOk result (λ spool. has_failed spool ≡ false) }
+    ensures never_failed { IfErr result (λ e. e.fault ≢ StoreFault.Failed) }
+    ensures started { (before : Image) → FoundBy over_files before conn → IfOk result (Started before) }
+    ensures shows { (before : Image) → FoundBy over_files before conn → IfOk result (λ spool. HasCleanDisk (disk spool) → (s : State) → ImageKeeps before s → Shows spool s) }
+    ensures never_other { (before : Image) → FoundBy over_files before conn → IfOk result (λ spool. HasCleanDisk (disk spool) → ¬ ImageHasOther before) }
+    ensures left_same { (before : Image) → FoundBy over_files before conn → IfOk result (λ spool. HasCleanDisk (disk spool) → LeavesSame before (disk spool).may_leave) }
+    ensures named { (before : Image) → FoundBy over_files before conn → IfErr result (λ e. IsNamed before e.fault (remains_of e)) }
+    ensures left { (before : Image) → FoundBy over_files before conn → IfErr result (λ e. LeavesAsKept before (remains_of e)) }
+    ensures left_alone { (before : Image) → FoundBy over_files before conn → IfErr result (λ e. LeavesAlone before (remains_of e)) }
+{
+    match adopted(alloc, conn) {
         Ok(spool) => Ok(spool),
         Err((fault, store)) => Err(OpenFault::not_taken(fault, store)),
     }

@@ -1,6 +1,9 @@
 // A list of commands over a spool.
-ghost use Rattle.std.specs.Prelude.{◌≡◌, ◌≤◌, ◌<◌, ◌+◌, ◌++◌, ◌∷◌, []};
+ghost use Rattle.std.specs.Prelude.{◌≡◌, ◌↔◌, ◌≤◌, ◌<◌, ◌+◌, ◌++◌, ◌∷◌, [], false, None, IfSome, length};
 ghost use Rattle.std.specs.Vec.{vec_len, vec_capacity};
+ghost use Rattle.uu_schema.specs.Faults.{IsFresh};
+ghost use Rattle.uu_store.specs.Spool.{has_failed};
+ghost use Rattle.uu_store.specs.Stretches.{IsWorked};
 
 use crate::open::adopted;
 use crate::spool::Spool;
@@ -30,10 +33,9 @@ fn keep(replies: &mut Vec<Reply>, reply: Reply)
 }
 
 impl<S: Alter> Spool<S> {
-    ghost use Rattle.std.specs.Prelude.{◌≢◌, ◌↔◌, false, IsTrue, IfOk, IfErr, IfSome, Some, None, MatchOption, length};
+    ghost use Rattle.std.specs.Prelude.{◌≢◌, IsTrue, IfOk, IfErr, Some, MatchOption};
     ghost use Rattle.sqlite.specs.View.{IsClean};
-    ghost use Rattle.uu_schema.specs.Faults.{IsFresh};
-    ghost use Rattle.uu_store.specs.Spool.{has_failed, Marks};
+    ghost use Rattle.uu_store.specs.Spool.{Marks};
     ghost use Rattle.uu_store.specs.Runs.{Ran};
     ghost use Rattle.uu_store.specs.Exchanges.{exchange_of, not_given};
     ghost use Rattle.uu_store.specs.Openings.{IsNotTaken};
@@ -106,12 +108,23 @@ impl<S: Alter> Spool<S> {
         ensures not_given { IfErr result (λ e. IsClean (S.Store.view e.1) → Passed (stretch S.Store conn (not_given commands.items) e.1)) }
     {
         match adopted(alloc, conn) {
-            Ok(spool) => {
-                let mut spool = spool;
-                let end = spool.run(alloc, commands);
-                Ok((end, spool.into_store()))
-            }
+            Ok(spool) => Ok(run_and_let_go(alloc, spool, commands)),
             Err((fault, store)) => Err((fault, store)),
         }
     }
+}
+
+// Gives a spool the commands, and lets its store go.
+pub(crate) fn run_and_let_go<S: Alter + Drop>(
+    alloc: Global,
+    spool: Spool<S>,
+    commands: Vec<Command>,
+) -> (RunEnd, S)
+    ensures worked { IsWorked spool commands.items result.0.replies.items result.0.stopped result.1 }
+    ensures every { has_failed spool ≡ false → ((result.0.stopped ≡ None) ↔ (length result.0.replies.items ≡ length commands.items)) }
+    ensures fresh { has_failed spool ≡ false → IfSome result.0.stopped IsFresh }
+{
+    let mut spool = spool;
+    let end = spool.run(alloc, commands);
+    (end, spool.into_store())
 }

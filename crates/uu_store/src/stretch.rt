@@ -12,7 +12,7 @@ ghost use Rattle.uu_schema.specs.Faults.{IsFresh};
 ghost use Rattle.uu_store.specs.Acknowledged.{IsAcknowledged, ShowsJob};
 ghost use Rattle.uu_store.specs.Closing.{HasSomeCause, IsToldAfter};
 ghost use Rattle.uu_store.specs.Exchanges.{exchange_of};
-ghost use Rattle.uu_store.specs.Files.{AllFilesPassed, last_left, file_exchanges, IsStretch, IsClosedStretch};
+ghost use Rattle.uu_store.specs.Files.{AllFilesPassed, last_left, file_exchanges, IsStretch, IsClosedStretch, IsWorkedAndClosed};
 ghost use Rattle.uu_store.specs.Openings.{ImageHasOther, ImageKeeps, IsNamed, LeavesAlone, LeavesAsKept, LeavesSame, Started, WasStarted, remains_of};
 ghost use Rattle.uu_store.specs.Spool.{disk, has_failed};
 ghost use Rattle.uu_store.specs.Stretches.{ShowsAfter};
@@ -20,9 +20,11 @@ ghost use Rattle.uu_store.specs.Stretches.{ShowsAfter};
 use crate::laws::{FileHistory, no_answered_command_is_lost_in_files};
 use crate::open::{FileSpool, open_spool};
 use crate::remains::OpenFault;
-use crate::run::RunEnd;
+use crate::run::{RunEnd, run_and_let_go};
+use crate::spool::Spool;
 use sqlite::{FileFrom, FileStore, Files, Start};
 use sqlite_disk::Disk;
+use std::alloc::Global;
 use uu_core::Command;
 use uu_schema::StoreFault;
 
@@ -50,9 +52,10 @@ pub fn work<T: Start>(
     ensures left { IfErr result (λ e. LeavesAsKept (image_at T.Start) (remains_of e)) }
     ensures left_alone { IfErr result (λ e. LeavesAlone (image_at T.Start) (remains_of e)) }
 {
-    let mut spool = open_spool(rt, path, start)?;
-    let end = spool.run(rt.alloc(), commands);
-    Ok((end, spool.into_store()))
+    match open_spool(rt, path, start) {
+        Ok(spool) => Ok(run_and_let_go(rt.alloc(), spool, commands)),
+        Err(failed) => Err(failed),
+    }
 }
 
 /// What a close answers: the two files, or why it failed and the store as it was let go.
@@ -89,9 +92,27 @@ pub fn work_and_close<T: Start>(
     ensures left { IfErr result (λ e. LeavesAsKept (image_at T.Start) (remains_of e)) }
     ensures left_alone { IfErr result (λ e. LeavesAlone (image_at T.Start) (remains_of e)) }
 {
-    let mut spool = open_spool(rt, path, start)?;
-    let end = spool.run(rt.alloc(), commands);
-    Ok((end, spool.close()))
+    match open_spool(rt, path, start) {
+        Ok(spool) => Ok(run_and_close(rt.alloc(), spool, commands)),
+        Err(failed) => Err(failed),
+    }
+}
+
+// Gives a spool the commands, and closes its files.
+fn run_and_close<D: Disk + Drop>(
+    alloc: Global,
+    spool: Spool<FileStore<D>>,
+    commands: Vec<Command>,
+) -> (RunEnd, CloseEnd<D>)
+    ensures worked { IsWorkedAndClosed spool commands.items result.0.replies.items result.0.stopped result.1 }
+    ensures told { has_failed spool ≡ false → IfErr result.1 (λ e. IsToldAfter result.0.stopped e.0) }
+    ensures cause { IfErr result.1 (λ e. IsClean (view e.1) → (kind : StoreKind) → e.0 ≡ StoreFault.Store kind → HasSomeCause kind e.1) }
+    ensures every { has_failed spool ≡ false → ((result.0.stopped ≡ None) ↔ (length result.0.replies.items ≡ length commands.items)) }
+    ensures fresh { has_failed spool ≡ false → IfSome result.0.stopped IsFresh }
+{
+    let mut spool = spool;
+    let end = spool.run(alloc, commands);
+    (end, spool.close())
 }
 
 /// Opens the file again, after any stretches of work over it. While nobody else wrote the files, and the disk returned what was written, the
