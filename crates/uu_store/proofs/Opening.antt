@@ -44,7 +44,7 @@ use Rattle.uu_schema.specs.declared.fault.StoreKind.{StoreKind}
 use Rattle.uu_schema.specs.declared.fault.StoreKind.TheVariants as part
 use Rattle.uu_schema.specs.Faults.{kind_of_error}
 use Rattle.uu_database.specs.FoundTables.{HasNone, HasAll, HasOther}
-use Rattle.uu_store.specs.Openings.{FoundBy, ImageHasOther, ImageHasSome, ImageKeeps, IsFound, IsNamed, IsNotTaken, IsOfNoContents, IsToldRightly, LeavesAlone, LeavesAsKept, LeavesSame, remains_of, remains_of_opening}
+use Rattle.uu_store.specs.Openings.{ImageHasOther, ImageHasSome, ImageKeeps, IsFound, IsFoundIfClean, IsNamed, IsNotTaken, IsOfNoContents, IsToldRightly, LeavesAlone, LeavesAsKept, LeavesSame, remains_of, remains_of_opening}
 use Rattle.uu_database.proofs.Creating.{none_or_other, some_or_other}
 use Rattle.uu_store.proofs.Images.{unfound, stop_has}
 use Rattle.uu_store.proofs.Reopening.{simple_site, stands_again, stores_of}
@@ -90,7 +90,7 @@ other_found image opened found it =
 pub is_found : (image : Image) (opened : db.State) → (db.HasCleanDisk opened → db.Opens opened × db.IsLive opened) → (db.HasCleanDisk opened → FindsIn image opened) → db.HasCleanDisk opened → IsFound image opened
 is_found image opened opens finds clean = let it = opens clean in record { opens = it.0; live = it.1; finds = finds clean }
 
-module _ {S : Type 0} (g : Ghosts S) (image : Image) (opened : Held S) (found : FoundBy g image opened) where
+module _ {S : Type 0} (g : Ghosts S) (image : Image) (opened : Held S) (found : IsFoundIfClean g image opened) where
   pub started_shows : (spool : Spool S g) → Adopted opened spool → db.HasCleanDisk (disk spool) → (s : State) → ImageKeeps image s → Shows spool s
   started_shows spool adopted clean s keeps =
       let it = found_stores image s (state g opened) (found (omega (arith, adopted.clean, clean))) keeps in
@@ -126,7 +126,7 @@ not_taken g was last stopped fault away quiet numbered ours of_empty other stops
   some = λ clean rests some trees may. (stops (omega (arith, quiet.clean, clean)) rests).some some trees (quiet.outcomes trees may);
 }
 
-module _ {D : Type 0} {g : disk.Ghosts D} (image : Image) (opened : Held (FileStore D g)) (found : FoundBy over_files image opened) (stopped : FileStore D g) (fault : StoreFault)
+module _ {D : Type 0} {g : disk.Ghosts D} (image : Image) (opened : Held (FileStore D g)) (found : IsFoundIfClean over_files image opened) (stopped : FileStore D g) (fault : StoreFault)
     (away : IsNotTaken over_files opened stopped fault) (clean : IsTrue (view stopped).is_clean) where
   found_away : IsFound image (file_state opened)
   found_away = let sure = no_doubt (view stopped).is_clean clean in found (omega (arith, away.turned_away.clean, away.let_go.clean, sure))
@@ -169,7 +169,7 @@ module _ {D : Type 0} {g : disk.Ghosts D} (image : Image) (opened : Held (FileSt
       let it = found_stores image s (file_state opened) found_away keeps in
       away.turned_away.stop (omega (arith, away.let_go.clean, sure)) s it.0 it.1 trees (away.let_go.left trees may)
 
-pub away_leaves : {D : Type 0} {g : disk.Ghosts D} (image : Image) (opened : Held (FileStore D g)) → FoundBy over_files image opened → (stopped : FileStore D g) (fault : StoreFault)
+pub away_leaves : {D : Type 0} {g : disk.Ghosts D} (image : Image) (opened : Held (FileStore D g)) → IsFoundIfClean over_files image opened → (stopped : FileStore D g) (fault : StoreFault)
     → IsNotTaken over_files opened stopped fault → LeavesAsKept image (remains.Store stopped)
 away_leaves image opened found stopped fault away clean s keeps left may =
     stop_has (λ trees. Keeps trees s) (s ≡ empty) (keeps_sound s) (none_fits s) stopped (away.numbered (no_doubt (view stopped).is_clean clean)) (away_keeps image opened found stopped fault away clean s keeps) left may
@@ -178,13 +178,13 @@ is_left : (trees : Trees) (left : Image) → ((found : Trees) × HoldsDatabase l
 is_left trees left (inl it) = subst (HoldsDatabase left) it.2 it.1
 is_left trees left (inr none) = absurd none.1
 
-pub away_alone : {D : Type 0} {g : disk.Ghosts D} (image : Image) (opened : Held (FileStore D g)) → FoundBy over_files image opened → (stopped : FileStore D g) (fault : StoreFault)
+pub away_alone : {D : Type 0} {g : disk.Ghosts D} (image : Image) (opened : Held (FileStore D g)) → IsFoundIfClean over_files image opened → (stopped : FileStore D g) (fault : StoreFault)
     → IsNotTaken over_files opened stopped fault → LeavesAlone image (remains.Store stopped)
 away_alone image opened found stopped fault away clean trees has left may =
     ∥∥₁_map (stop_has (λ found. found ≡ trees) ⊥ (away_sound image opened found stopped fault away clean trees has) (λ none. absurd none) stopped (away.numbered (no_doubt (view stopped).is_clean clean))
     (away_same image opened found stopped fault away clean trees has) left may) (is_left trees left)
 
-pub away_named : {D : Type 0} {g : disk.Ghosts D} (image : Image) (opened : Held (FileStore D g)) → FoundBy over_files image opened → (stopped : FileStore D g) (fault : StoreFault)
+pub away_named : {D : Type 0} {g : disk.Ghosts D} (image : Image) (opened : Held (FileStore D g)) → IsFoundIfClean over_files image opened → (stopped : FileStore D g) (fault : StoreFault)
     → IsNotTaken over_files opened stopped fault → IsNamed image fault (remains.Store stopped)
 away_named image opened found stopped fault away clean = away_rightly image opened found stopped fault away clean
 

@@ -1,5 +1,5 @@
 -- What a close of a spool's two files leaves.
-use Rattle.std.specs.Prelude.{◌≡◌, [], IsTrue, Option, ⊤}
+use Rattle.std.specs.Prelude.{◌≡◌, List, [], IsTrue, IfOk, IfErr, Option, Result, ⊤}
 use Rattle.sqlite_disk.specs.declared.Disk as disk
 use Rattle.sqlite_disk.specs.declared.Files.{Files}
 use Rattle.sqlite_disk.specs.Disk.{MoreFaults}
@@ -12,6 +12,8 @@ use Rattle.sqlite.specs.Tree.{Trees}
 use Rattle.sqlite.specs.State.{HasCleanDisk}
 use Rattle.sqlite.specs.View.{IsClean}
 use Rattle.sqlite.specs.Files.{HoldsDatabase, over_files, image_of}
+use Rattle.uu_core.specs.declared.command.Command.{Command}
+use Rattle.uu_core.specs.declared.command.Reply.{Reply}
 use Rattle.uu_core.specs.State.{State}
 use Rattle.uu_schema.specs.declared.fault.StoreFault.{StoreFault}
 use Rattle.uu_schema.specs.declared.fault.StoreFault.TheVariants.{Memory, Store, Failed, Foreign, Newer}
@@ -19,7 +21,7 @@ use Rattle.uu_schema.specs.declared.fault.StoreKind.{StoreKind}
 use Rattle.uu_schema.specs.declared.fault.StoreKind.TheVariants as part
 use Rattle.uu_store.specs.declared.spool.Spool.{Spool}
 use Rattle.uu_store.specs.Openings.{ImageKeeps}
-use Rattle.uu_store.specs.Runs.{GoesOn}
+use Rattle.uu_store.specs.Runs.{GoesOn, Ran}
 use Rattle.uu_store.specs.Spool.{connection_of, disk, Shows}
 use Rattle.uu_store.specs.Stretches.{IsLetGo}
 
@@ -42,6 +44,14 @@ pub record IsClosed {D : Type 0} {g : disk.Ghosts D} (spool : Spool (FileStore D
   pub left : AreClean g files.log files.db → (image : Image) → outcomes g files.log files.db image → HoldsOneOf (disk spool).may_leave image
   pub now : AreClean g files.log files.db → (s : State) → Shows spool s → KeepsAlone (image_of g files) s
   pub stop : AreClean g files.log files.db → (s : State) → Shows spool s → (image : Image) → outcomes g files.log files.db image → KeepsAlone image s
+
+-- a spool was given the commands, which ended so, and then its files were closed, or its store was let go where that failed
+pub record IsRunAndClosed {D : Type 0} {g : disk.Ghosts D} (spool : Spool (FileStore D g) over_files) (commands : List Command) (replies : List Reply) (fault : Option StoreFault)
+    (close : Result (Files D) (StoreFault × FileStore D g)) : Type 0 where
+  pub ended : Spool (FileStore D g) over_files
+  pub ran : Ran commands spool ended replies fault
+  pub closed : IfOk close (IsClosed ended)
+  pub let_go : IfErr close (λ e. IsLetGo over_files (connection_of ended).store e.1)
 
 -- Why a close failed: it tells of the disk only where that failed or refused a call meanwhile, and nothing is too big. (Memory that was refused
 -- and a store that was shut are told as `Database`.)

@@ -1,5 +1,5 @@
 -- Stretches of work over the two files of a spool, each from an opening by path to a stop.
-use Rattle.std.specs.Prelude.{◌≡◌, ℕ, List, [], ◌∷◌, map, Option, Result, IfOk, IfErr, IsTrue, ⊤}
+use Rattle.std.specs.Prelude.{◌≡◌, ℕ, List, [], ◌∷◌, map, IsTrue, ⊤}
 use Rattle.sqlite_disk.specs.declared.Disk as disk
 use Rattle.sqlite_disk.specs.declared.Files.{Files}
 use Rattle.sqlite_wal.specs.Recovery.{Image}
@@ -11,16 +11,13 @@ use Rattle.sqlite.specs.Held.{Held}
 use Rattle.sqlite.specs.View.{IsClean}
 use Rattle.sqlite.specs.Files.{over_files, file_state}
 use Rattle.uu_core.specs.declared.command.Command.{Command}
-use Rattle.uu_core.specs.declared.command.Reply.{Reply}
 use Rattle.uu_core.specs.declared.job.NewJob.{NewJob}
 use Rattle.uu_core.specs.State.{State}
 use Rattle.uu_core.specs.Run.{state_after}
-use Rattle.uu_schema.specs.declared.fault.StoreFault.{StoreFault}
 use Rattle.uu_store.specs.declared.spool.Spool.{Spool}
 use Rattle.uu_store.specs.Exchanges.{Exchange, none_given, not_given, Passes}
 use Rattle.uu_store.specs.Acknowledged.{IsAccountedFor}
-use Rattle.uu_store.specs.Runs.{Ran}
-use Rattle.uu_store.specs.Stretches.{IsLetGo, Passed, stretch}
+use Rattle.uu_store.specs.Stretches.{Passed, stretch}
 use Rattle.uu_store.specs.Openings.{ImageKeeps, IsFound}
 use Rattle.uu_store.specs.Closing.{IsClosed}
 use Rattle.uu_store.specs.Spool.{connection_of}
@@ -86,13 +83,6 @@ abbrev pub KeepsJob : State → List Exchange → NewJob → ℕ → Image → T
 KeepsJob s told new number image = (counted : List Command) × Passes s told counted × ImageKeeps image (state_after s counted) × IsAccountedFor s counted new number
 
 -- ---- the stretches that calls make
-
--- a spool was given the commands, which ended so, and then its files were closed, or its store was let go where that failed
-pub record IsWorkedAndClosed {D : Type 0} {g : disk.Ghosts D} (spool : Spool (FileStore D g) over_files) (commands : List Command) (replies : List Reply) (fault : Option StoreFault) (close : Result (Files D) (StoreFault × FileStore D g)) : Type 0 where
-  pub ended : Spool (FileStore D g) over_files
-  pub ran : Ran commands spool ended replies fault
-  pub closed : IfOk close (IsClosed ended)
-  pub let_go : IfErr close (λ e. IsLetGo over_files (connection_of ended).store e.1)
 
 -- A stretch of work over files that held this: this was asked and answered, and the store was let go so.
 pub record IsStretch {D : Type 0} {g : disk.Ghosts D} (before : Image) (exchange : Exchange) (stopped : FileStore D g) : Type 0 where

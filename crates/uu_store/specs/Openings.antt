@@ -59,14 +59,14 @@ pub record IsFound (image : Image) (opened : db.State) : Type 0 where
   pub finds : FindsIn image opened
 
 -- on a clean disk what was opened is what these files hold
-abbrev pub FoundBy : {S : Type 0} → Ghosts S → Image → Held S → Type 0
-FoundBy g image opened = db.HasCleanDisk (state g opened) → IsFound image (state g opened)
+abbrev pub IsFoundIfClean : {S : Type 0} → Ghosts S → Image → Held S → Type 0
+IsFoundIfClean g image opened = db.HasCleanDisk (state g opened) → IsFound image (state g opened)
 
 -- A spool over what an opening of these files found: a database with none of the spool's tables or with all, and of one with exactly these, the
 -- rows of a state.
 pub record Started {S : Type 0} {g : Ghosts S} (image : Image) (spool : Spool S g) : Type 0 where
   pub opened : Held S
-  pub found : FoundBy g image opened
+  pub found : IsFoundIfClean g image opened
   pub adopted : Adopted opened spool
   pub taken : HasNone (state g opened).now.schema ⊎ HasAll (state g opened).now.schema
   pub encoded : db.HasCleanDisk (state g (connection_of spool)) → Stands site (state g opened).now → (s : State) × Encodes (state g opened).now s

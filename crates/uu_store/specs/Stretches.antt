@@ -35,8 +35,10 @@ pub record IsLetGo {S : Type 0} (g : Ghosts S) (last stopped : S) : Type 0 where
   pub left : (trees : Trees) → g.recovers stopped trees → g.recovers last trees
   pub clean : doubt (g.view last).is_clean ≤ doubt (g.view stopped).is_clean
 
+-- ---- a run and what follows it
+
 -- a spool was given the commands, which ended so, and then its store was let go
-pub record IsWorked {S : Type 0} {g : Ghosts S} (spool : Spool S g) (commands : List Command) (replies : List Reply) (fault : Option StoreFault) (stopped : S) : Type 0 where
+pub record IsRunAndLetGo {S : Type 0} {g : Ghosts S} (spool : Spool S g) (commands : List Command) (replies : List Reply) (fault : Option StoreFault) (stopped : S) : Type 0 where
   pub ended : Spool S g
   pub ran : Ran commands spool ended replies fault
   pub let_go : IsLetGo g (connection_of ended).store stopped

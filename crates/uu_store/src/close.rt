@@ -33,13 +33,13 @@ impl<D: Disk + Drop> Spool<FileStore<D>> {
             return Err((StoreFault::Failed, self.into_store()));
         }
         let conn = self.release();
-        told(conn.close_files())
+        with_store_fault(conn.close_files())
     }
 }
 
 // A close with its error told as a fault of the store. What it gives back stays unnamed here, since a function that names a store over files
 // is dear to prove.
-fn told<F: Drop, S: Drop>(closed: Result<F, (Error, S)>) -> Result<F, (StoreFault, S)>
+fn with_store_fault<F: Drop, S: Drop>(closed: Result<F, (Error, S)>) -> Result<F, (StoreFault, S)>
     ensures { MatchResult closed (λ files. result ≡ Ok files) (λ e. result ≡ Err (StoreFault.Store (kind_of_error e.0), e.1)) }
 {
     match closed {

@@ -11,7 +11,7 @@ ghost use Rattle.uu_schema.specs.Schema.{site};
 ghost use Rattle.uu_database.specs.Adoption.{StopsAs};
 ghost use Rattle.uu_database.specs.Encoded.{Encodes};
 ghost use Rattle.uu_database.specs.FoundTables.{HasAll, HasNone};
-ghost use Rattle.uu_store.specs.Openings.{FoundBy, ImageHasOther, ImageKeeps, IsNamed, IsNotTaken, LeavesAlone, LeavesAsKept, LeavesSame, Started, remains_of};
+ghost use Rattle.uu_store.specs.Openings.{ImageHasOther, ImageKeeps, IsFoundIfClean, IsNamed, IsNotTaken, LeavesAlone, LeavesAsKept, LeavesSame, Started, remains_of};
 ghost use Rattle.uu_store.specs.Spool.{disk, has_failed, Shows};
 ghost use Rattle.uu_store.specs.Stretches.{Adopted};
 
@@ -73,13 +73,13 @@ fn adopted_in_files<D: Disk + Drop>(
     requires { conn.in_transaction ≡ false }
     ensures usable { IfOk result (λ spool. has_failed spool ≡ false) }
     ensures never_failed { IfErr result (λ e. e.fault ≢ StoreFault.Failed) }
-    ensures started { (before : Image) → FoundBy over_files before conn → IfOk result (Started before) }
-    ensures shows { (before : Image) → FoundBy over_files before conn → IfOk result (λ spool. HasCleanDisk (disk spool) → (s : State) → ImageKeeps before s → Shows spool s) }
-    ensures never_other { (before : Image) → FoundBy over_files before conn → IfOk result (λ spool. HasCleanDisk (disk spool) → ¬ ImageHasOther before) }
-    ensures left_same { (before : Image) → FoundBy over_files before conn → IfOk result (λ spool. HasCleanDisk (disk spool) → LeavesSame before (disk spool).may_leave) }
-    ensures named { (before : Image) → FoundBy over_files before conn → IfErr result (λ e. IsNamed before e.fault (remains_of e)) }
-    ensures left { (before : Image) → FoundBy over_files before conn → IfErr result (λ e. LeavesAsKept before (remains_of e)) }
-    ensures left_alone { (before : Image) → FoundBy over_files before conn → IfErr result (λ e. LeavesAlone before (remains_of e)) }
+    ensures started { (before : Image) → IsFoundIfClean over_files before conn → IfOk result (Started before) }
+    ensures shows { (before : Image) → IsFoundIfClean over_files before conn → IfOk result (λ spool. HasCleanDisk (disk spool) → (s : State) → ImageKeeps before s → Shows spool s) }
+    ensures never_other { (before : Image) → IsFoundIfClean over_files before conn → IfOk result (λ spool. HasCleanDisk (disk spool) → ¬ ImageHasOther before) }
+    ensures left_same { (before : Image) → IsFoundIfClean over_files before conn → IfOk result (λ spool. HasCleanDisk (disk spool) → LeavesSame before (disk spool).may_leave) }
+    ensures named { (before : Image) → IsFoundIfClean over_files before conn → IfErr result (λ e. IsNamed before e.fault (remains_of e)) }
+    ensures left { (before : Image) → IsFoundIfClean over_files before conn → IfErr result (λ e. LeavesAsKept before (remains_of e)) }
+    ensures left_alone { (before : Image) → IsFoundIfClean over_files before conn → IfErr result (λ e. LeavesAlone before (remains_of e)) }
 {
     match adopted(alloc, conn) {
         Ok(spool) => Ok(spool),

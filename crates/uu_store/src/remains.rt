@@ -3,7 +3,7 @@ ghost use Rattle.std.specs.Prelude.{◌≡◌, ◌≢◌, false, IfOk, IfErr};
 ghost use Rattle.sqlite.specs.Files.{over_files};
 ghost use Rattle.sqlite_wal.specs.Files.{image_at};
 ghost use Rattle.uu_schema.specs.Faults.{kind_of_error};
-ghost use Rattle.uu_store.specs.Openings.{FoundBy, IsNamed, IsOfNoContents, LeavesAlone, LeavesAsKept, remains_of, remains_of_opening};
+ghost use Rattle.uu_store.specs.Openings.{IsFoundIfClean, IsNamed, IsOfNoContents, LeavesAlone, LeavesAsKept, remains_of, remains_of_opening};
 
 use sqlite::{Connection, Error, FileFrom, FileStore, Leftover, Start};
 use sqlite_disk::Disk;
@@ -83,7 +83,7 @@ pub(crate) fn open_files<T: Start>(
     start: T,
 ) -> Result<Connection<FileStore<FileFrom<T>>>, OpenFault<FileFrom<T>>>
     ensures idle { IfOk result (λ conn. conn.in_transaction ≡ false) }
-    ensures found { IfOk result (FoundBy over_files (image_at T.Start)) }
+    ensures found { IfOk result (IsFoundIfClean over_files (image_at T.Start)) }
     ensures never_failed { IfErr result (λ e. e.fault ≢ StoreFault.Failed) }
     ensures named { IfErr result (λ e. IsNamed (image_at T.Start) e.fault (remains_of e)) }
     ensures left { IfErr result (λ e. LeavesAsKept (image_at T.Start) (remains_of e)) }

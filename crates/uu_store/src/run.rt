@@ -3,7 +3,7 @@ ghost use Rattle.std.specs.Prelude.{◌≡◌, ◌↔◌, ◌≤◌, ◌<◌, �
 ghost use Rattle.std.specs.Vec.{vec_len, vec_capacity};
 ghost use Rattle.uu_schema.specs.Faults.{IsFresh};
 ghost use Rattle.uu_store.specs.Spool.{has_failed};
-ghost use Rattle.uu_store.specs.Stretches.{IsWorked};
+ghost use Rattle.uu_store.specs.Stretches.{IsRunAndLetGo};
 
 use crate::open::adopted;
 use crate::spool::Spool;
@@ -120,7 +120,7 @@ pub(crate) fn run_and_let_go<S: Alter + Drop>(
     spool: Spool<S>,
     commands: Vec<Command>,
 ) -> (RunEnd, S)
-    ensures worked { IsWorked spool commands.items result.0.replies.items result.0.stopped result.1 }
+    ensures worked { IsRunAndLetGo spool commands.items result.0.replies.items result.0.stopped result.1 }
     ensures every { has_failed spool ≡ false → ((result.0.stopped ≡ None) ↔ (length result.0.replies.items ≡ length commands.items)) }
     ensures fresh { has_failed spool ≡ false → IfSome result.0.stopped IsFresh }
 {

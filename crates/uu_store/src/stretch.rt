@@ -10,9 +10,9 @@ ghost use Rattle.uu_core.specs.State.{State};
 ghost use Rattle.uu_schema.specs.declared.fault.StoreKind.{StoreKind};
 ghost use Rattle.uu_schema.specs.Faults.{IsFresh};
 ghost use Rattle.uu_store.specs.Acknowledged.{IsAcknowledged, ShowsJob};
-ghost use Rattle.uu_store.specs.Closing.{HasSomeCause, IsToldAfter};
+ghost use Rattle.uu_store.specs.Closing.{HasSomeCause, IsRunAndClosed, IsToldAfter};
 ghost use Rattle.uu_store.specs.Exchanges.{exchange_of};
-ghost use Rattle.uu_store.specs.Files.{AllFilesPassed, last_left, file_exchanges, IsStretch, IsClosedStretch, IsWorkedAndClosed};
+ghost use Rattle.uu_store.specs.Files.{AllFilesPassed, last_left, file_exchanges, IsStretch, IsClosedStretch};
 ghost use Rattle.uu_store.specs.Openings.{ImageHasOther, ImageKeeps, IsNamed, LeavesAlone, LeavesAsKept, LeavesSame, Started, WasStarted, remains_of};
 ghost use Rattle.uu_store.specs.Spool.{disk, has_failed};
 ghost use Rattle.uu_store.specs.Stretches.{ShowsAfter};
@@ -104,7 +104,7 @@ fn run_and_close<D: Disk + Drop>(
     spool: Spool<FileStore<D>>,
     commands: Vec<Command>,
 ) -> (RunEnd, CloseEnd<D>)
-    ensures worked { IsWorkedAndClosed spool commands.items result.0.replies.items result.0.stopped result.1 }
+    ensures worked { IsRunAndClosed spool commands.items result.0.replies.items result.0.stopped result.1 }
     ensures told { has_failed spool ≡ false → IfErr result.1 (λ e. IsToldAfter result.0.stopped e.0) }
     ensures cause { IfErr result.1 (λ e. IsClean (view e.1) → (kind : StoreKind) → e.0 ≡ StoreFault.Store kind → HasSomeCause kind e.1) }
     ensures every { has_failed spool ≡ false → ((result.0.stopped ≡ None) ↔ (length result.0.replies.items ≡ length commands.items)) }
