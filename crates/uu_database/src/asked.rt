@@ -15,6 +15,7 @@ ghost use Rattle.uu_database.specs.Calls.{IsStep, IsAnswered};
 
 use sqlite::{Alter, Connection};
 use std::alloc::Global;
+use std::mem::drop;
 use uu_core::laws::{commands_are_sound, states_stay_well_formed};
 use uu_core::limits::MAX_BYTES;
 use uu_core::{Command, Due, Filter, JobHead, Reply, SystemRow};
@@ -61,7 +62,11 @@ pub fn give<S: Alter>(
     commands_are_sound(command);
     states_stay_well_formed();
     match facts_for(alloc, conn, command) {
-        Ok(facts) => carry_out_with(alloc, conn, &facts, command),
+        Ok(facts) => {
+            let reply = carry_out_with(alloc, conn, &facts, command);
+            drop(facts);
+            reply
+        }
         Err(error) => Err(store_fault(conn, &error)),
     }
 }
@@ -112,6 +117,7 @@ fn bounded_job(found: Option<(JobHead, Vec<u8>)>) -> Result<Option<(JobHead, Vec
             if is_bounded(&head) {
                 Ok(Some((head, bytes)))
             } else {
+                drop(head);
                 Err(StoreFault::Store(StoreKind::Database))
             }
         }

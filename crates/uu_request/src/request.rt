@@ -13,6 +13,7 @@ use crate::mail::mail;
 use crate::maps::entries;
 use crate::systems::load;
 use std::alloc::Global;
+use std::mem::drop;
 use uu_core::{By, Command, Filter, Kind, NewJob};
 use uu_line::{CallLine, Task};
 use uu_names::text::MAX_TEXT;
@@ -72,6 +73,7 @@ pub fn request_of(
     ensures { AnswersUnlessMemory result (spec.request_of settings.now at input.now line) }
 {
     if line.task.has_input() && input.len() > MAX_TEXT {
+        drop(line);
         return Err(RequestFault::Input);
     }
     let CallLine {

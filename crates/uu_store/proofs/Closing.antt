@@ -1,7 +1,7 @@
 -- From what a spool shows to what its closed files keep.
-use Rattle.std.proofs.Common.{◌≡◌, inl, Bool, true, false, Result, Ok, Err, refl, sym, subst}
+use Rattle.std.proofs.Common.{◌≡◌, inl, sym, subst}
 use Rattle.std.proofs.Math.Logic.{∥∥₁_map}
-use Rattle.std.specs.Prelude.{IsTrue, IfOk, IfErr, MatchResult}
+use Rattle.std.specs.Prelude.{IsTrue}
 use Rattle.sqlite_disk.specs.declared.Disk as disk
 use Rattle.sqlite_disk.specs.declared.Files.{Files}
 use Rattle.sqlite_wal.specs.Recovery.{Image}
@@ -22,11 +22,10 @@ use Rattle.sqlite_trees.specs.declared.error.StoreError.{StoreError}
 use Rattle.sqlite_trees.specs.declared.error.StoreError.TheVariants.{OutOfMemory, Io, Corrupt, Full, Broken, Unstorable}
 use Rattle.uu_core.specs.State.{State}
 use Rattle.uu_schema.specs.Faults.{kind_of_error}
-use Rattle.uu_schema.specs.declared.fault.StoreFault.TheVariants.{Store}
 use Rattle.uu_schema.specs.declared.fault.StoreKind.{StoreKind}
 use Rattle.uu_store.specs.Closing.{HasCause, IsClosed, KeepsAlone}
 use Rattle.uu_store.specs.Kept.{Keeps}
-use Rattle.uu_store.specs.Spool.{connection_of, disk, Shows, Marks}
+use Rattle.uu_store.specs.Spool.{connection_of, disk, Shows}
 use Rattle.uu_store.specs.Stretches.{IsLetGo}
 use Rattle.uu_store.specs.declared.spool.Spool.{Spool}
 
@@ -70,31 +69,3 @@ module _ {D : Type 0} {g : disk.Ghosts D} (was conn : Held (FileStore D g)) (sam
   pub close_cause : (cause : StoreError) (kind : StoreKind) → kind ≡ kind_of_error (store_error cause) → file.ExcusesClose conn last cause → HasCause kind was.store last
   close_cause cause kind is excuse =
       subst (λ (h : Held (FileStore D g)). HasCause kind h.store last) same (subst (λ k. HasCause k conn.store last) (sym is) (of_cause cause excuse))
-
--- ---- what is said of a close is said of the one whose error is told
-
-pub ok_both : {F E : Type 0} {P Q R : F → Type 0} (r : Result F E) → ((x : F) → P x → Q x → R x) → IfOk r P → IfOk r Q → IfOk r R
-ok_both (Ok x) follows p q = follows x p q
-ok_both (Err e) follows p q = tt
-
-module _ {E L F T : Type 0} (name : E → T) where
-  -- the close, and what is told of it
-  abbrev IsTold : Result F (E × L) → Result F (T × L) → Type 0
-  IsTold closed told = MatchResult closed (λ files. told ≡ Ok files) (λ e. told ≡ Err (name e.0, e.1))
-
-  pub told_match : (P : F → Type 0) (Q : T × L → Type 0) (closed : Result F (E × L)) (told : Result F (T × L)) → IsTold closed told → MatchResult closed P (λ e. Q (name e.0, e.1)) → MatchResult told P Q
-  told_match P Q (Ok files) told is from = subst (λ r. MatchResult r P Q) (sym is) from
-  told_match P Q (Err e) told is from = subst (λ r. MatchResult r P Q) (sym is) from
-
-  pub told_ok : (P : F → Type 0) (closed : Result F (E × L)) (told : Result F (T × L)) → IsTold closed told → IfOk closed P → IfOk told P
-  told_ok P (Ok files) told is from = subst (λ r. IfOk r P) (sym is) from
-  told_ok P (Err e) told is from = subst (λ r. IfOk r P) (sym is) tt
-
-  pub told_err : (P : E × L → Type 0) (Q : T × L → Type 0) (closed : Result F (E × L)) (told : Result F (T × L)) → IsTold closed told → ((e : E × L) → P e → Q (name e.0, e.1)) → IfErr closed P → IfErr told Q
-  told_err P Q (Ok files) told is follows from = subst (λ r. IfErr r Q) (sym is) tt
-  told_err P Q (Err e) told is follows from = subst (λ r. IfErr r Q) (sym is) (follows e from)
-
--- a spool that had not failed is closed, or its store has failed by then
-pub told_marks : {F E L : Type 0} (closed : Result F (E × L)) (kind : E → StoreKind) (before : Bool) → before ≡ false → MatchResult closed (λ _. before ≡ false) (λ e. Marks before true (Store (kind e.0)))
-told_marks (Ok files) kind before usable = usable
-told_marks (Err e) kind before usable = (usable, refl)

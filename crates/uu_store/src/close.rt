@@ -1,16 +1,15 @@
 // Closing the files of a spool.
-ghost use Rattle.std.specs.Prelude.{◌≡◌, true, false, IsTrue, Ok, Err, IfOk, IfErr, MatchResult};
+ghost use Rattle.std.specs.Prelude.{◌≡◌, true, false, IsTrue, IfOk, IfErr, MatchResult};
 ghost use Rattle.sqlite.specs.Files.{over_files};
 ghost use Rattle.sqlite.specs.View.{IsClean};
 ghost use Rattle.sqlite_store.specs.FileStore.{view};
 ghost use Rattle.uu_schema.specs.declared.fault.StoreKind.{StoreKind};
-ghost use Rattle.uu_schema.specs.Faults.{kind_of_error};
 ghost use Rattle.uu_store.specs.Closing.{HasCause, IsClosed};
 ghost use Rattle.uu_store.specs.Spool.{connection_of, has_failed, Marks};
 ghost use Rattle.uu_store.specs.Stretches.{IsLetGo};
 
 use crate::spool::Spool;
-use sqlite::{Error, FileStore, Files};
+use sqlite::{FileStore, Files};
 use sqlite_disk::Disk;
 use uu_schema::{StoreFault, kind_of};
 
@@ -29,21 +28,12 @@ impl<D: Disk + Drop> Spool<FileStore<D>> {
         ensures numbered { IsTrue (has_failed self) → IfErr result (λ e. IsClean (view e.1) → IsTrue (view e.1).is_numbered) }
         ensures cause { IfErr result (λ e. IsClean (view e.1) → (kind : StoreKind) → e.0 ≡ StoreFault.Store kind → HasCause kind (connection_of self).store e.1) }
     {
-        if self.is_failed() {
-            return Err((StoreFault::Failed, self.into_store()));
+        match self.release_unless_failed() {
+            Ok(conn) => match conn.close_files() {
+                Ok(files) => Ok(files),
+                Err((error, store)) => Err((StoreFault::Store(kind_of(&error)), store)),
+            },
+            Err(failed) => Err(failed),
         }
-        let conn = self.release();
-        with_store_fault(conn.close_files())
-    }
-}
-
-// A close with its error told as a fault of the store. What it gives back stays unnamed here, since a function that names a store over files
-// is dear to prove.
-fn with_store_fault<F: Drop, S: Drop>(closed: Result<F, (Error, S)>) -> Result<F, (StoreFault, S)>
-    ensures { MatchResult closed (λ files. result ≡ Ok files) (λ e. result ≡ Err (StoreFault.Store (kind_of_error e.0), e.1)) }
-{
-    match closed {
-        Ok(files) => Ok(files),
-        Err((error, store)) => Err((StoreFault::Store(kind_of(&error)), store)),
     }
 }

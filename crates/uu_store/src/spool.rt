@@ -3,6 +3,7 @@ ghost use Rattle.std.specs.Prelude.{◌≡◌, false};
 
 use sqlite::{Alter, Connection};
 use std::alloc::Global;
+use std::mem::drop;
 use uu_core::{Command, Due, Filter, JobHead, Reply, SystemRow};
 use uu_database::{due, entry, find, give, list, next, systems};
 use uu_names::SiteName;
@@ -21,7 +22,7 @@ pub struct Spool<S: Alter> {
 }
 
 impl<S: Alter> Spool<S> {
-    ghost use Rattle.std.specs.Prelude.{[], ◌∷◌, IsTrue, IfOk, IfSome, Err, MatchResult, option_map, map, length};
+    ghost use Rattle.std.specs.Prelude.{[], ◌∷◌, IsTrue, IfOk, IfErr, IfSome, Err, MatchResult, option_map, map, length};
     ghost use Rattle.std.specs.List.{AllByRecursion};
     ghost use Rattle.uu_core.specs.State.{IsWellFormed, head_of, job_at, entry_at};
     ghost use Rattle.uu_core.specs.Due.{AreDue};
@@ -71,6 +72,21 @@ impl<S: Alter> Spool<S> {
         self.release().into_store()
     }
 
+    /// Gives the connection back, or where the store failed before, the store as it is let go.
+    pub(crate) fn release_unless_failed(self) -> Result<Connection<S>, (StoreFault, S)>
+    where
+        S: Drop,
+        ensures usable { MatchResult result (λ _. has_failed self ≡ false) (λ e. IsTrue (has_failed self) × (e.0 ≡ StoreFault.Failed)) }
+        ensures connection { IfOk result (λ conn. conn ≡ connection_of self) }
+        ensures let_go { IfErr result (λ e. IsLetGo S.Store (connection_of self).store e.1) }
+        ensures numbered { IfErr result (λ e. IsClean (S.Store.view e.1) → IsTrue (S.Store.view e.1).is_numbered) }
+    {
+        if self.failed {
+            return Err((StoreFault::Failed, self.into_store()));
+        }
+        Ok(self.release())
+    }
+
     /// Whether an earlier call answered that the store failed.
     pub(crate) fn is_failed(&self) -> bool
         ensures { result ≡ has_failed self.now }
@@ -116,9 +132,12 @@ impl<S: Alter> Spool<S> {
         ensures ran { Ran (command ∷ []) self.old self.new (reply_in result) (fault_in result) }
     {
         if self.failed {
+            drop(command);
             return Err(StoreFault::Failed);
         }
-        match give(alloc, &mut self.conn, &command) {
+        let answer = give(alloc, &mut self.conn, &command);
+        drop(command);
+        match answer {
             Ok(reply) => Ok(reply),
             Err(fault) => Err(self.noted(fault)),
         }

@@ -5,14 +5,14 @@ use crate::order::{ANY, Order, Work, command};
 use crate::questions::Question::Next;
 use crate::questions::Step::Says;
 use crate::questions::play;
-use sqlite::{Start, Wary};
+use sqlite::{Alter, Start, Wary};
 use std::alloc::Global;
 use std::fs;
 use std::io::ErrorKind;
 use std::process::Abort;
 use std::rt::Files;
 use uu_store::laws::FileHistory;
-use uu_store::{Command, Reply, RunEnd, start_again, work, work_and_close};
+use uu_store::{Command, Reply, RunEnd, Spool, start_again, work, work_and_close};
 
 const FILE: &str = "stretches.db";
 
@@ -112,9 +112,19 @@ fn expect_closed_stretch<T: Start>(
 
 /// The next job gets this number.
 fn expect_next<T: Start>(rt: &impl Abort, host: &HostRuntime, start: T, next: &'static str) {
-    let spool = start_again::<NoHistory, T>(host, FILE, start).ok();
-    let mut spool = spool.expect(rt, "a spool");
-    play(rt, host.alloc(), &mut spool, &[Says(Next, next)]);
+    let spool = start_again::<NoHistory, T>(host, FILE, start);
+    expect_next_in(rt, host.alloc(), spool, next);
+}
+
+/// The same, of what an opening answered.
+fn expect_next_in<S: Alter + Drop, F: Drop>(
+    rt: &impl Abort,
+    alloc: Global,
+    opened: Result<Spool<S>, F>,
+    next: &'static str,
+) {
+    let mut spool = opened.ok().expect(rt, "a spool");
+    play(rt, alloc, &mut spool, &[Says(Next, next)]);
 }
 
 #[test]

@@ -4,6 +4,7 @@ use crate::order::{MONDAY, Order, SUNDAY, command, moment, site, word};
 use crate::texts::{show_dues, show_entry, show_heads, show_job, show_systems};
 use sqlite::Alter;
 use std::alloc::Global;
+use std::mem::drop;
 use std::process::Abort;
 use uu_core::choose;
 use uu_core::plain::Machine;
@@ -316,4 +317,5 @@ pub(crate) fn compare<S: Alter>(
             expect_same(rt, alloc, spool, &machine);
         }
     }
+    drop(machine);
 }

@@ -12,6 +12,7 @@ use crate::print::print;
 use sqlite::Alter;
 use std::alloc::{AllocError, Global};
 use std::io::Write;
+use std::mem::drop;
 use uu_core::{Filter, JobHead};
 use uu_map::{MapFault, read_entry};
 use uu_names::SiteName;
@@ -68,7 +69,11 @@ fn show<S: Alter, W: Write>(
     ensures { IsServed settings.now (request.Question (question.Job number)) spool.old spool.new (λ output. Appends (W.contents out.old) (W.contents out.new) output) result }
 {
     match spool.job(alloc, number) {
-        Ok(Some((head, bytes))) => print(job_text(alloc, &head, &bytes, settings), 0, out),
+        Ok(Some((head, bytes))) => {
+            let text = job_text(alloc, &head, &bytes, settings);
+            drop(head);
+            print(text, 0, out)
+        }
         Ok(None) => print(Vec::from_slice(alloc, b"no job\n"), 1, out),
         Err(fault) => Err(Fault::Store(fault)),
     }

@@ -16,6 +16,7 @@ use crate::print::print;
 use sqlite::Alter;
 use std::alloc::Global;
 use std::io::Write;
+use std::mem::drop;
 use uu_report::{Subject, answer_lines, output_of, status_of};
 use uu_request::{Batch, Request, request_of};
 use uu_settings::Settings;
@@ -74,7 +75,10 @@ fn asked(
     };
     let at = match moment_of(line.at.unwrap_or(now), settings) {
         Ok(at) => at,
-        Err(fault) => return Err(fault),
+        Err(fault) => {
+            drop(line);
+            return Err(fault);
+        }
     };
     match request_of(alloc, line, settings, at, input) {
         Ok(request) => Ok(request),

@@ -9,11 +9,13 @@ use crate::stretch::{Rest, Work, work_on_file};
 use sqlite::Wary;
 use sqlite_disk::Disk;
 use std::io::Write;
+use std::mem::drop;
 use std::process::ExitCode;
 use std::time::SystemTime;
 use std::{env, fs, io};
 use uuspool::{
-    Fault, Settings, batch_settings, fault_line, fault_status, line_of, moment_of, read_input,
+    CallLine, Fault, Settings, batch_settings, fault_line, fault_status, line_of, moment_of,
+    read_input,
 };
 
 /// The most bytes of a log that a run leaves beside the spool's file: an opening reads it whole.
@@ -82,11 +84,17 @@ struct Needs {
 // What the line that these words mean is to be given.
 fn needs_of(rt: &HostRuntime, words: &[String]) -> Result<Needs, Fault> {
     match line_of(rt.alloc(), words) {
-        Ok(line) => Ok(Needs {
-            config: line.config,
-            at: line.at,
-            input: line.task.has_input(),
-        }),
+        Ok(line) => {
+            let CallLine {
+                config,
+                at,
+                user: _,
+                task,
+            } = line;
+            let input = task.has_input();
+            drop(task);
+            Ok(Needs { config, at, input })
+        }
         Err(fault) => Err(fault),
     }
 }
@@ -145,7 +153,8 @@ fn run_on_file(rt: &HostRuntime, settings: &Settings, work: &Work<'_>) -> Result
 
 // The answer; the rest is dropped.
 fn answer_of<D: Disk + Drop>(worked: (Result<u8, Fault>, Rest<D>)) -> Result<u8, Fault> {
-    let (answer, _rest) = worked;
+    let (answer, rest) = worked;
+    drop(rest);
     answer
 }
 

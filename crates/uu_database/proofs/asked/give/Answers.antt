@@ -5,7 +5,7 @@ use Rattle.uu_database.proofs.asked.give.Goals as goal
 pub returns-in-Ok-clause-step : goal.returns-in-Ok-clause-step
 returns-in-Ok-clause-step g c s =
     step_given s c.args.command.now (c.states_stay_well_formed.ensures.step s c.args.command.now c.commands_are_sound.ensures) (state g.S.Store c.args.conn.now) (state g.S.Store c.facts_for.new.conn) _ c.in-Ok.facts (rw c.in-Ok.is at c.facts_for.ensures.answers)
-    (state g.S.Store c.carry_out_with.new.conn) c.carry_out_with.ensures.clean c.carry_out_with.result (c.carry_out_with.ensures.step s)
+    (state g.S.Store c.carry_out_with-reply.new.conn) c.carry_out_with-reply.ensures.clean c.carry_out_with-reply.result (c.carry_out_with-reply.ensures.step s)
 
 pub returns-in-Err-clause-step : goal.returns-in-Err-clause-step
 returns-in-Err-clause-step g c s =

@@ -16,7 +16,7 @@ returns-in-Ok-Some g c =
     let found = c.in-Ok-Some.ensures.answer clean s shown in
     let size : c.in-Ok-Some.head.size ≡ length c.in-Ok-Some.bytes.items = rw c.in-Ok-Some.field-0-is at c.in-Ok-Some.ensures.size in (
       found.1,
-      printed c.print.result c.job_text.result 0 written
+      printed c.print.result c.job_text-text.result 0 written
           (λ output. (line : List ℕ) × IsJobLine c.args.settings.now.offset c.in-Ok-Some.head line × (output ≡ line ++ c.deref.result.now))
           (IsAnswer c.args.settings.now s (question.Job c.args.number))
           (λ output is. subst (λ job. IsShown c.args.settings.now.offset job output 0)
@@ -27,7 +27,7 @@ returns-in-Ok-Some g c =
             is.2,
             refl,
           ))
-          c.print.ensures.printed c.print.ensures.status c.job_text.ensures,
+          c.print.ensures.printed c.print.ensures.status c.job_text-text.ensures,
     ))
 
 pub returns-in-Ok-None : goal.returns-in-Ok-None
