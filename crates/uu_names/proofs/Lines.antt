@@ -41,3 +41,13 @@ lines_last xs line rest some el er none =
     let empty : rest ≡ [] = er ∙ drop_all n xs past in
     ap lines_of_parts (slice_split_none (λ b. b == 10) xs (λ k d h. fails_before_first (λ b. b == 10) xs k d (omega arith)))
     ∙ (single xs some ∙ (ap (λ l. l ∷ []) (sym whole) ∙ ap (λ r. line ∷ lines r) (sym empty)))
+
+-- the text behind the first line
+pub rest_after_feed : (xs rest : List ℕ) → rest ≡ drop (position_or_len (λ b. b == 10) xs) xs → drop 1 rest ≡ drop (position_or_len (λ b. b == 10) xs + 1) xs
+rest_after_feed xs rest er = ap (drop 1) er ∙ drop-drop 1 (position_or_len (λ b. b == 10) xs) xs
+
+pub rest_after_last : (xs rest : List ℕ) → rest ≡ drop (position_or_len (λ b. b == 10) xs) xs → length rest < 1 → rest ≡ drop (position_or_len (λ b. b == 10) xs + 1) xs
+rest_after_last xs rest er none =
+    let n : ℕ = position_or_len (λ b. b == 10) xs in
+    let past : length xs ≤ n = omega (arith, ap length er, length-drop n xs) in
+    (er ∙ drop_all n xs past) ∙ sym (drop_all (n + 1) xs (omega (arith, past)))

@@ -1,8 +1,8 @@
 //! Texts from outside: what sys files, map texts and messages have in common.
 ghost use Rattle.std.specs.Prelude.{◌≡◌, ◌<◌, ◌≤◌, ◌∷◌, ◌==◌, IsAscii, IfOk, length, string_bytes};
-ghost use Rattle.std.specs.List.{position_or_len, prefix_len};
+ghost use Rattle.std.specs.List.{after_first, position_or_len, prefix_len};
 ghost use Rattle.std.specs.Str.Lines.{lines, strip_carriage_return};
-ghost use Rattle.uu_names.specs.Text.{is_blank};
+ghost use Rattle.uu_names.specs.Text.{is_blank, line_feed};
 
 use std::alloc::{AllocError, Global};
 
@@ -48,6 +48,7 @@ pub(crate) fn strip_carriage_return(line: &[u8]) -> &[u8]
 pub fn first_line(text: &[u8]) -> (&[u8], &[u8])
     requires { 0 < length text.now }
     ensures lines { lines text.now ≡ result.0.now ∷ lines result.1.now }
+    ensures rest { result.1.now ≡ after_first (λ byte. byte == line_feed) text.now }
     ensures shorter { length result.1.now < length text.now }
 {
     let (line, rest) = text.split_at(len_before(text, b'\n'));
