@@ -1,13 +1,14 @@
 // Worked answers of single decisions: what is refused, how long a system is left alone, and what is due.
 use crate::expecting::{expect_same, expect_text};
-use crate::order::{SUNDAY, all_week, by, file, grade, moment, new_job, site, word};
-use crate::questions::show_dues;
+use crate::values::{SUNDAY, all_week, by, file, grade, moment, new_job, office, site, word};
 use std::alloc::{AllocError, Global};
+use std::fmt::Write;
 use std::process::Abort;
 use uu_core::{
-    CallState, JobHead, Outcome, Refusal, SystemRow, choose, decide_done, decide_drop,
+    CallState, Due, JobHead, Outcome, Refusal, SystemRow, choose, decide_done, decide_drop,
     decide_failed, decide_job, decide_queue, held, limit,
 };
+use uu_times::SystemDef;
 
 // A system that may be called all week for jobs of this grade and above.
 fn system(
@@ -91,11 +92,15 @@ const CALLS: [(&[u32], Result<(u64, u64), Refusal>); 5] = [
     (&[1], Ok((SUNDAY, 0))),
 ];
 
+fn second_and_wait(call: Result<CallState, Refusal>) -> Result<(u64, u64), Refusal> {
+    let call = call?;
+    Ok((call.last, call.wait))
+}
+
 fn done_decision(rt: &impl Abort, alloc: Global, numbers: &[u32]) -> Result<(u64, u64), Refusal> {
     let duke = site(rt, alloc, "duke");
     let jobs = jobs(rt, alloc, &[(1, "duke", b'N'), (3, "unc", b'N')]);
-    let call = decide_done(true, &duke, numbers, &jobs, &moment(rt, SUNDAY))?;
-    Ok((call.last, call.wait))
+    second_and_wait(decide_done(true, &duke, numbers, &jobs, &moment(rt, SUNDAY)))
 }
 
 #[test]
@@ -246,6 +251,20 @@ fn two_systems(rt: &impl Abort, alloc: Global, unc_failed: bool) -> Vec<SystemRo
     (vec![in alloc; duke, unc]).expect(rt, "memory")
 }
 
+fn show_due(text: &mut String, due: &Due) -> Result<(), AllocError> {
+    let grade = due.grade.as_byte() as char;
+    write!(text, "{} {} {}/", due.system.as_str(), grade, due.number)
+}
+
+// Who is to be called: system, grade and job of each.
+fn show_dues(alloc: Global, dues: Result<Vec<Due>, AllocError>) -> Result<String, AllocError> {
+    let mut text = String::new(alloc);
+    for due in &dues? {
+        show_due(&mut text, due)?;
+    }
+    Ok(text)
+}
+
 fn chosen(
     rt: &impl Abort,
     alloc: Global,
@@ -255,8 +274,7 @@ fn chosen(
 ) -> Result<String, AllocError> {
     let systems = two_systems(rt, alloc, unc_failed);
     let jobs = jobs(rt, alloc, rows);
-    let dues = choose(alloc, &systems, &jobs, &moment(rt, second))?;
-    show_dues(alloc, &dues)
+    show_dues(alloc, choose(alloc, &systems, &jobs, &moment(rt, second)))
 }
 
 #[test]
@@ -267,14 +285,16 @@ fn systems_called_now(rt: HostRuntime) {
     }
 }
 
-// The limit of a system that may be called all week for this grade and above.
-fn limit_on_sunday(rt: &impl Abort, alloc: Global, grade: u8) -> Option<u8> {
-    let def = all_week(rt, alloc, "duke", grade, None, 26);
-    let limit = limit(def.lines(), moment(rt, SUNDAY).week)?;
+// The lowest grade for which a system may be called on Monday at 10:00, minute 2,040 of the week.
+fn limit_on_monday(system: &SystemDef) -> Option<u8> {
+    let limit = limit(system.lines(), 2040)?;
     Some(limit.as_byte())
 }
 
 #[test]
-fn the_grade_of_the_line_is_the_limit(rt: HostRuntime) {
-    expect_same(&rt, &limit_on_sunday(&rt, rt.alloc(), b'C'), &Some(b'C'));
+fn the_lowest_grade_of_the_lines_is_the_limit(rt: HostRuntime) {
+    let high = all_week(&rt, rt.alloc(), "duke", b'C', None, 26);
+    expect_same(&rt, &limit_on_monday(&high), &Some(b'C'));
+    let office = office(&rt, rt.alloc(), "duke");
+    expect_same(&rt, &limit_on_monday(&office), &Some(b'z'));
 }

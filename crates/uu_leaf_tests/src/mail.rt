@@ -1,6 +1,6 @@
 // The line before a message, and the way back to who wrote it.
 use crate::expecting::{expect_same, expect_text};
-use jiff::civil::DateTime;
+use jiff_core::civil::{Date, DateTime, Time};
 use std::alloc::{AllocError, Global};
 use std::process::Abort;
 use uu_names::{NameFault, SiteName, Word, envelope, return_path};
@@ -12,12 +12,15 @@ fn date(
     minute: i8,
     second: i8,
 ) -> DateTime {
-    DateTime::new(year, month, day, hour, minute, second, 0).expect(rt, "a date")
+    DateTime {
+        date: Date::new(year, month, day).expect(rt, "a date"),
+        time: Time::new(hour, minute, second, 0).expect(rt, "a time"),
+    }
 }
 
 // The message as ann of mysite hands it on.
 fn handed_on(rt: &impl Abort, alloc: Global, local: &DateTime, message: &[u8]) -> Vec<u8> {
-    let year = local.year();
+    let year = local.date.year;
     assert!(rt; year >= 1000);
     assert!(rt; year <= 9999);
     let user = Word::parse(alloc, "ann").expect(rt, "a word");
@@ -38,7 +41,7 @@ const FROM_ANN: &[u8] =
 #[test]
 fn envelopes(rt: HostRuntime) {
     let september = date(&rt, (2001, 9, 9), 1, 46, 40);
-    assert!(rt; september.year() == 2001);
+    assert!(rt; september.date.year == 2001);
     expect_handed_on(&rt, rt.alloc(), &september, FROM_JOE, FROM_ANN);
     let december = date(&rt, (2024, 12, 31), 23, 59, 59);
     let want = b"From ann Tue Dec 31 23:59:59 2024 remote from mysite\nHello\n";

@@ -1,6 +1,7 @@
 // Moments, time strings and their sets, and each front of some time strings against plain readers.
 use crate::expecting::{expect_same, expect_text, wanted};
 use crate::fronts::{Fronts, TIME_STRINGS};
+use jiff_core::civil::DateTime;
 use std::alloc::{AllocError, Global};
 use std::fmt::Write;
 use std::process::Abort;
@@ -32,7 +33,7 @@ fn moments(rt: HostRuntime) {
     }
 }
 
-type Civil = ((i16, i8, i8), (i8, i8, i8));
+type Civil = ((i16, u8, u8), (u8, u8, u8));
 
 /// Seconds and offsets, and the date and time.
 const CIVIL_TIMES: [(u64, i32, Civil); 3] = [
@@ -42,9 +43,9 @@ const CIVIL_TIMES: [(u64, i32, Civil); 3] = [
 ];
 
 fn civil(second: u64, offset: i32) -> Result<Civil, TimeFault> {
-    let local = Moment::new(second, offset)?.local;
-    let date = (local.year(), local.month(), local.day());
-    Ok((date, (local.hour(), local.minute(), local.second())))
+    let DateTime { date, time } = Moment::new(second, offset)?.local;
+    let shown = (date.year, date.month, date.day);
+    Ok((shown, (time.hour, time.minute, time.second)))
 }
 
 #[test]

@@ -3,8 +3,8 @@
 use Rattle.std.specs.Prelude.{ℕ, ◌+◌, ◌-◌, ◌*◌, ◌/◌, ◌%◌, List, [], ◌∷◌, ◌++◌, codes, take, drop, nat_lt, nat_eq, if◌then◌else◌, unsigned_abs}
 use Rattle.std.specs.List.{concat, starts_with}
 use Rattle.std.specs.Str.{byte}
-use Rattle.jiff.specs.Types.{DateTime}
-use Rattle.jiff.specs.Words.{weekday_of}
+use Rattle.jiff_core.specs.Date.{weekday_of}
+use Rattle.jiff_core.specs.declared.civil.datetime.DateTime.{DateTime}
 use Rattle.uu_names.specs.Text.{line_feed}
 
 -- the name of the day that is so many days after a Monday

@@ -1,13 +1,13 @@
 // The line that `rmail` puts before a message.
 ghost use Rattle.std.specs.Prelude.{◌≡◌, ◌++◌, ◌<◌, ◌≤◌, ◌≤ℤ◌, pos, IfOk, OnOk, IsOkUnless};
 ghost use Rattle.std.specs.List.{flat_map};
-ghost use Rattle.jiff.specs.Words.{monday_zero};
+ghost use Rattle.jiff_core.specs.Weekday.{monday_zero};
 ghost use Rattle.uu_names.specs.Envelope.{day_name, month_name, two_digits, two_places, date_text, from_line, envelope_of};
 
 use crate::fault::NameFault;
 use crate::site_name::SiteName;
 use crate::word::Word;
-use jiff::civil::{DateTime, Weekday};
+use jiff_core::civil::{DateTime, Weekday};
 use std::alloc::{AllocError, Global};
 
 fn day_name(weekday: Weekday) -> [u8; 3]
@@ -120,22 +120,22 @@ fn append_date(bytes: &mut Vec<u8>, local: &DateTime) -> Result<(), AllocError>
     requires to { local.now.date.year ≤ℤ pos 9999 }
     ensures { OnOk result (bytes.new.items ≡ bytes.old.items ++ date_text local.now) }
 {
-    let plain = local.to_plain();
-    let year = plain.date.year.unsigned_abs();
+    let DateTime { date, time } = *local;
+    let year = date.year.unsigned_abs();
     append(
         bytes,
         &[
-            &day_name(local.weekday()),
+            &day_name(date.weekday()),
             b" ",
-            &month_name(plain.date.month),
+            &month_name(date.month),
             b" ",
-            &two_places(plain.date.day),
+            &two_places(date.day),
             b" ",
-            &two_digits(plain.time.hour),
+            &two_digits(time.hour),
             b":",
-            &two_digits(plain.time.minute),
+            &two_digits(time.minute),
             b":",
-            &two_digits(plain.time.second),
+            &two_digits(time.second),
             b" ",
             &two_digits((year / 100) as u8),
             &two_digits((year % 100) as u8),

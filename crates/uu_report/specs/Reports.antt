@@ -1,10 +1,12 @@
 -- The reports of jobs, of what is due, of systems and of links. Their forms are this project's choice; the civil
--- calendar is that of `jiff`.
+-- calendar is that of `jiff_core`.
 use Rattle.std.specs.Prelude.{◌≡◌, ℕ, ℤ, pos, ◌+ℤ◌, ◌*ℤ◌, List, [], ◌∷◌, ◌++◌, None, codes, slice_get, option_to_list}
 use Rattle.std.specs.Fmt.{decimal}
 use Rattle.std.specs.List.{flat_map}
-use Rattle.jiff.specs.Words.{civil_nanos, nanos_of_seconds, date_text, time_text}
-use Rattle.jiff.specs.declared.civil.datetimes.DateTime.{DateTime}
+use Rattle.jiff_core.specs.DateTime.{civil_nanos}
+use Rattle.jiff_core.specs.Timestamp.{nanos_of_seconds}
+use Rattle.jiff_core.specs.declared.civil.datetime.DateTime.{DateTime}
+use Rattle.jiff_fmt.specs.Text.{date_text, time_text}
 use Rattle.uu_names.specs.Grade.{grade_bytes}
 use Rattle.uu_map.specs.declared.entry.Cost.{Cost}
 use Rattle.uu_map.specs.declared.entry.Cost.TheVariants.{Value, Dead}

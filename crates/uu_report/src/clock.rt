@@ -5,9 +5,9 @@ ghost use Rattle.std.specs.String.{string_bytes};
 ghost use Rattle.uu_settings.specs.Offsets.{IsOffset};
 ghost use Rattle.uu_report.specs.Reports.{IsLocalTime, IsMoment};
 
-use jiff::Timestamp;
-use jiff::civil::DateTime;
-use jiff::tz::Offset;
+use jiff_core::civil::DateTime;
+use jiff_core::{Offset, Timestamp};
+use jiff_fmt::temporal::DateTimePrinter;
 use std::alloc::{AllocError, Global};
 use uu_times::moment::LAST_SECOND;
 
@@ -19,9 +19,8 @@ pub(crate) fn moment_text(alloc: Global, second: u64, offset: i32) -> Result<Str
     ensures { IfOk result (λ text. IsMoment offset second (string_bytes text)) }
 {
     let local = local_time(second, offset);
-    let date = local.date();
-    let time = local.time();
-    format!(in alloc; "{date} {time}")
+    let text = DateTimePrinter::new().separator(b' ').datetime_text(local);
+    String::from_str(alloc, text.as_str())
 }
 
 // What a clock that is `offset` minutes ahead of UTC shows at a second.
@@ -30,7 +29,7 @@ fn local_time(second: u64, offset: i32) -> DateTime
     requires offset { IsOffset offset }
     ensures { IsLocalTime offset second result }
 {
-    let instant = Timestamp::from_second(second as i64).unwrap();
-    let ahead = Offset::from_seconds(offset * 60).unwrap();
+    let instant = Timestamp::from_nanosecond(second as i128 * 1_000_000_000).unwrap();
+    let ahead = Offset::from_seconds(offset as i64 * 60).unwrap();
     ahead.to_datetime(instant)
 }

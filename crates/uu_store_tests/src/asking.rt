@@ -9,6 +9,7 @@ use crate::scripts::{TWO_SYSTEMS, commands, machine_after};
 use crate::visitors::{Pass, expect_failed, expect_shown, expect_stopped};
 use sqlite::Alter;
 use std::alloc::Global;
+use std::mem::drop;
 use std::process::Abort;
 use uu_core::plain::Machine;
 use uu_store::Spool;
@@ -99,57 +100,42 @@ fn answered<S: Alter>(
     answered
 }
 
-fn new_ask(rt: &impl Abort, alloc: Global, machine: &Machine) -> Ask {
-    let mut wanted = Vec::new(alloc);
+/// The answers of the machine to the questions.
+fn answers_of(rt: &impl Abort, alloc: Global, machine: &Machine) -> Vec<String> {
+    let mut answers = Vec::new(alloc);
     for question in QUESTIONS {
         let answer = told(rt, alloc, machine, question);
-        wanted.push(answer).expect(rt, "memory");
+        answers.push(answer).expect(rt, "memory");
     }
-    Ask {
-        wanted,
-        answered: 0,
-    }
+    answers
 }
 
-/// The spool that is asked.
-#[derive(Drop)]
-struct Asked {
-    contents: Contents,
-    machine: Machine,
-    /// What is shown.
-    picture: String,
-}
-
-fn new_asked(rt: &impl Abort, alloc: Global, place: Place) -> Asked {
+/// What the machine shows after the commands, and the questions with its answers.
+fn told_after(rt: &impl Abort, alloc: Global) -> (String, Ask) {
     let machine = machine_after(rt, alloc, TWO_SYSTEMS, GIVEN);
     let picture = told_picture(rt, alloc, &machine);
-    Asked {
-        contents: prepared(rt, alloc, place),
-        machine,
-        picture,
-    }
+    let wanted = answers_of(rt, alloc, &machine);
+    drop(machine);
+    let ask = Ask {
+        wanted,
+        answered: 0,
+    };
+    (picture, ask)
 }
 
-/// Whether the spool is opened before a stop.
-fn is_opened(rt: &impl Abort, alloc: Global, asked: &Asked, stop: Stop) -> bool {
+/// Whether the spool in files with these contents is opened before a stop.
+fn is_opened(rt: &impl Abort, alloc: Global, contents: &Contents, stop: Stop) -> bool {
     let options = FEW_PAGES;
-    visit_files(
-        rt,
-        alloc,
-        &asked.contents,
-        Use { options, stop },
-        &mut Pass {},
-    )
-    .taken
+    visit_files(rt, alloc, contents, Use { options, stop }, &mut Pass {}).taken
 }
 
 /// The fewest calls of a file with which the spool is opened.
-fn fewest_calls(rt: &impl Abort, alloc: Global, asked: &Asked, place: Place) -> u64 {
+fn fewest_calls(rt: &impl Abort, alloc: Global, contents: &Contents, place: Place) -> u64 {
     let mut low = 0u64;
     let mut high = 65_536u64;
     for _ in 0..16 {
         let calls = low.midpoint(high);
-        if is_opened(rt, alloc, asked, Stop { place, calls }) {
+        if is_opened(rt, alloc, contents, Stop { place, calls }) {
             high = calls;
         } else {
             low = calls;
@@ -158,44 +144,54 @@ fn fewest_calls(rt: &impl Abort, alloc: Global, asked: &Asked, place: Place) -> 
     high
 }
 
-/// A stop while the opened spool is asked and let go: how many questions were answered. What is left is what the stop before left, or else it is
-/// opened and shown.
+/// A stop while the opened spool is asked and let go: what was synced then. What is left is what the stop before left, or else it is opened
+/// and shown.
 fn stop_at(
     rt: &impl Abort,
     alloc: Global,
-    asked: &Asked,
+    contents: &Contents,
+    ask: &mut Ask,
     stop: Stop,
-    before: &mut Contents,
-) -> usize {
+    before: &Contents,
+    picture: &str,
+) -> Contents {
     let options = FEW_PAGES;
-    let mut ask = new_ask(rt, alloc, &asked.machine);
-    let visit = visit_files(rt, alloc, &asked.contents, Use { options, stop }, &mut ask);
+    let visit = visit_files(rt, alloc, contents, Use { options, stop }, ask);
     assert!(rt; visit.taken, "not opened");
     if !visit.synced.is_same(before) {
-        expect_shown(rt, alloc, &visit.synced, asked.picture.as_str());
+        expect_shown(rt, alloc, &visit.synced, picture);
     }
     if !visit.written.is_same(before) {
-        expect_shown(rt, alloc, &visit.written, asked.picture.as_str());
+        expect_shown(rt, alloc, &visit.written, picture);
     }
-    *before = visit.synced;
-    ask.answered
+    visit.synced
 }
 
 /// Stops at each call of one file from the first question on, until all are answered, and at ten calls more, of which there are none: how
 /// many questions were answered before the stops, each number once.
 fn stop_at_each_call(rt: &impl Abort, alloc: Global, place: Place) -> Vec<usize> {
-    let asked = new_asked(rt, alloc, place);
-    let first = fewest_calls(rt, alloc, &asked, place);
+    let contents = prepared(rt, alloc, place);
+    let (picture, mut ask) = told_after(rt, alloc);
+    let first = fewest_calls(rt, alloc, &contents, place);
     let mut before = nothing(alloc);
     let mut reached = Vec::new(alloc);
     let mut whole = 0u32;
     for more in 0..10_000 {
         let calls = first.saturating_add(more);
-        let answered = stop_at(rt, alloc, &asked, Stop { place, calls }, &mut before);
-        if reached.last() != Some(&answered) {
-            reached.push(answered).expect(rt, "memory");
+        let stop = Stop { place, calls };
+        before = stop_at(
+            rt,
+            alloc,
+            &contents,
+            &mut ask,
+            stop,
+            &before,
+            picture.as_str(),
+        );
+        if reached.last() != Some(&ask.answered) {
+            reached.push(ask.answered).expect(rt, "memory");
         }
-        if answered == QUESTIONS.len() {
+        if ask.answered == QUESTIONS.len() {
             whole = whole.saturating_add(1);
         }
         if whole > 10 {

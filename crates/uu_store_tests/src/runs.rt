@@ -7,6 +7,7 @@ use crate::worked::fresh;
 use sqlite::{Alter, Connection};
 use std::alloc::Global;
 use std::process::Abort;
+use uu_core::plain::Machine;
 use uu_store::{Command, Reply, RunEnd, Spool};
 
 const SCRIPTS: [&[Step]; 4] = [&[], LARGE_JOB, TWO_SYSTEMS, EVERY_KIND];
@@ -16,10 +17,18 @@ fn expect_whole(rt: &impl Abort, end: &RunEnd, wanted: &[Reply]) {
     assert_eq!(rt; end.replies.as_slice(), wanted);
 }
 
+/// The plain machine answers every command of a script in a run, too.
+fn expect_machine_run(rt: &impl Abort, alloc: Global, script: &[Step], wanted: &[Reply]) {
+    let mut machine = Machine::new(alloc);
+    let given = machine.run(alloc, commands(rt, alloc, script, wanted.len()));
+    assert_eq!(rt; given.expect(rt, "memory").as_slice(), wanted);
+}
+
 /// The spool answers every command of a script, and shows then what the machine does.
 fn expect_run<S: Alter>(rt: &impl Abort, alloc: Global, spool: &mut Spool<S>, script: &[Step]) {
     let wanted = replies(rt, alloc, script);
     let count = wanted.len();
+    expect_machine_run(rt, alloc, script, &wanted);
     let end = spool.run(alloc, commands(rt, alloc, script, count));
     expect_whole(rt, &end, &wanted);
     let shown = asked_picture(rt, alloc, spool);

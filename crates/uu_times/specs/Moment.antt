@@ -1,8 +1,9 @@
 -- Local time and the minute of the local week. Division goes towards minus infinity.
 use Rattle.std.specs.Prelude.{◌≡◌, ◌⊎◌, ℕ, ◌<◌, ℤ, pos, neg_ℤ, ◌+ℤ◌, ◌*ℤ◌, ◌<ℤ◌}
 use Rattle.std.specs.Int.{int_div_euclid, int_rem_euclid}
-use Rattle.jiff.specs.Types.{DateTime}
-use Rattle.jiff.specs.Words.{epoch_day, time_nanos}
+use Rattle.jiff_core.specs.Date.{epoch_day}
+use Rattle.jiff_core.specs.Time.{time_nanos}
+use Rattle.jiff_core.specs.declared.civil.datetime.DateTime.{DateTime}
 
 -- the last second of a moment: the first one of the year 2100 (this project's choice)
 abbrev pub last_second : ℕ

@@ -5,9 +5,8 @@ ghost use Rattle.uu_times.specs.Moment.{last_second, most_offset, IsPast, IsFarO
 
 use crate::TimeFault;
 use crate::windows::WEEK;
-use jiff::Timestamp;
-use jiff::civil::DateTime;
-use jiff::tz::Offset;
+use jiff_core::civil::DateTime;
+use jiff_core::{Offset, Timestamp};
 
 /// The last second that a moment may have, counted from 1970-01-01 00:00:00 UTC: the first
 /// second of the year 2100.
@@ -82,7 +81,7 @@ fn local_time(second: u64, offset: i32) -> DateTime
     requires high { offset ≤ℤ pos most_offset }
     ensures { Shows result (local_second second offset) }
 {
-    let timestamp = Timestamp::from_second(second as i64).unwrap();
-    let offset = Offset::from_seconds(60 * offset).unwrap();
+    let timestamp = Timestamp::from_nanosecond(second as i128 * 1_000_000_000).unwrap();
+    let offset = Offset::from_seconds(60 * offset as i64).unwrap();
     offset.to_datetime(timestamp)
 }

@@ -1,6 +1,8 @@
-use Rattle.std.proofs.Common.{FitsSigned, w32, ◌∙◌, refl}
+use Rattle.std.proofs.Common.{FitsSigned, w32, ◌∙◌, ◌≡◌, ap, false, None}
 use Rattle.std.proofs.Math.Facts.{to_z-of_z}
 use Rattle.std.proofs.lemmas.Result.{IfOk-weaker}
+use Rattle.jiff_fmt.specs.Printer.{options, datetime_text}
+use Rattle.jiff_fmt.specs.Text as Text
 use Rattle.uu_report.specs.Reports.{clock_text}
 use Rattle.uu_report.proofs.clock.moment_text.Goals as goal
 
@@ -8,6 +10,8 @@ pub returns : goal.returns
 unfolding clock_text
 returns c =
     let offset : FitsSigned w32 c.args.offset = c.ranges.offset in
+    let shown = c.local_time-local.result in
     let local = simp to_z-of_z at c.local_time-local.ensures in
-    IfOk-weaker c.format.result _ _ (λ text e. (c.local_time-local.result, local, e ∙ simp (c.date-date.ensures, c.time-time.ensures) refl))
-    c.format.ensures.ok
+    let with_space : options c.separator.result ≡ (false, 32, None) = c.separator.ensures ∙ ap (λ o. (o.0, 32, o.2)) c.new.ensures in
+    let text : datetime_text c.separator.result shown ≡ clock_text shown = ap (λ o. Text.datetime_text o.0 o.1 o.2 shown) with_space in
+    IfOk-weaker c.from_str.result _ _ (λ text_of e. (shown, local, e ∙ (c.as_str.ensures.value ∙ (c.datetime_text-text.ensures ∙ text)))) c.from_str.ensures.ok

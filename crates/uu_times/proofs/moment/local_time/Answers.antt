@@ -1,6 +1,8 @@
 use Rattle.std.proofs.Common.{◌≡◌, ◌<◌, arith, pos, ◌+ℤ◌, ◌*ℤ◌}
 use Rattle.std.proofs.lemmas.Int.{ints}
-use Rattle.jiff.specs.Words.{civil_nanos, epoch_day, time_nanos}
+use Rattle.jiff_core.specs.Date.{epoch_day}
+use Rattle.jiff_core.specs.DateTime.{civil_nanos}
+use Rattle.jiff_core.specs.Time.{time_nanos}
 use Rattle.uu_times.specs.Moment.{local_second}
 use Rattle.uu_times.proofs.Clock.{day_time}
 use Rattle.uu_times.proofs.moment.local_time.Goals as goal
@@ -8,7 +10,7 @@ use Rattle.uu_times.proofs.moment.local_time.Goals as goal
 pub returns : goal.returns
 unfolding civil_nanos
 returns c =
-    let t = rw c.unwrap-timestamp.ensures at c.from_second.ensures.value in
+    let t = rw c.unwrap-timestamp.ensures at c.from_nanosecond.ensures.value in
     let o = rw c.unwrap-offset.ensures at c.from_seconds.ensures.value in
     let dt = c.to_datetime.result in
     let below : time_nanos dt.time < 86_400_000_000_000 = omega (arith, dt.time.hour_in, dt.time.minute_in, dt.time.second_in, dt.time.subsec_in) in

@@ -1,6 +1,6 @@
 use Rattle.std.proofs.Common.{List, ℕ, FitsSigned, w32, arith, refl, subst, ◌∙◌}
 use Rattle.std.proofs.Math.Facts.{to_z-of_z}
-use Rattle.jiff.proofs.SpanFacts.{signed_arith}
+use Rattle.jiff_core.proofs.SignedLemmas.{signed_arith}
 use Rattle.std.specs.Io.KnownBytes.{Appends}
 use Rattle.uu_request.specs.declared.request.Question.TheVariants as question
 use Rattle.uuspool.specs.Answers.{IsAnswer}
