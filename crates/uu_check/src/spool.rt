@@ -56,7 +56,7 @@ fn are_jobs(next: u32, systems: &[SystemColumns], jobs: &[JobHead], pieces: &[Pi
 }
 
 /// The rows of the tables, each table in the order of its key.
-#[derive(Clone, Copy, Debug)]
+#[derive(Clone, Copy)]
 pub struct Rows<'a> {
     /// The next number.
     pub next: u32,

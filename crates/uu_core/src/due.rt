@@ -1,10 +1,10 @@
 // Which systems may be called now, and for which job.
-ghost use Rattle.std.specs.Prelude.{◌≡◌, ◌&&◌, ◌||◌, ℕ, List, map, IfOk, OnOk, IsPermutation, nat_le, max};
+ghost use Rattle.std.specs.Prelude.{◌≡◌, ◌&&◌, ◌||◌, ◌++◌, ◌∷◌, [], ℕ, List, map, IfOk, OnOk, IsPermutation, nat_le, max};
 ghost use Rattle.std.specs.Ordering.{nat_cmp};
 ghost use Rattle.std.specs.Cmp.Lexicographic.{slice_cmp};
 ghost use Rattle.std.specs.BTreeMap.{get};
 ghost use Rattle.uu_core.specs.State.{same_text};
-ghost use Rattle.uu_core.specs.Due.{limit_now, is_within, may_be_called, AreDue, HaveNumbers, AreInOrder};
+ghost use Rattle.uu_core.specs.Due.{limit_now, is_within, may_be_called, due_of, AreDue, HaveNumbers, AreInOrder};
 
 use crate::job::JobHead;
 use crate::system::SystemRow;
@@ -15,7 +15,7 @@ use uu_names::{Grade, SiteName};
 use uu_times::Moment;
 
 /// A system that may be called now, and the job for which it is called.
-#[derive(Debug, Drop)]
+#[derive(Drop)]
 pub struct Due {
     /// The system.
     pub system: SiteName,
@@ -84,17 +84,33 @@ fn is_free(free: &BTreeMap<SiteName, Grade>, job: &JobHead) -> bool
     }
 }
 
+fn references(alloc: Global, jobs: &[JobHead]) -> Result<Vec<&JobHead>, AllocError>
+    ensures { IfOk result (λ all. map (λ job. job.now) all.items ≡ jobs.now) }
+{
+    jobs.iter().collect(alloc)
+}
+
 // The jobs by grade and number.
 fn in_order(alloc: Global, jobs: &[JobHead]) -> Result<Vec<&JobHead>, AllocError>
     ensures same { IfOk result (λ ordered. IsPermutation jobs.now (map (λ job. job.now) ordered.items)) }
     ensures order { IfOk result (λ ordered. HaveNumbers jobs.now → AreInOrder (map (λ job. job.now) ordered.items)) }
 {
-    let mut ordered: Vec<&JobHead> = Vec::with_capacity(alloc, jobs.len())?;
-    for job in jobs {
-        ordered.push(job)?;
-    }
+    let mut ordered = references(alloc, jobs)?;
     ordered.sort_by_key(|job| (job.grade.rank(), job.number))?;
     Ok(ordered)
+}
+
+// Adds the job's system and the job.
+fn list(dues: &mut Vec<Due>, job: &JobHead) -> Result<(), AllocError>
+    ensures { OnOk result (dues.new.items ≡ dues.old.items ++ due_of job.now ∷ []) }
+{
+    let system = job.system.clone()?;
+    dues.push(Due {
+        system,
+        grade: job.grade,
+        number: job.number,
+    })?;
+    Ok(())
 }
 
 /// The systems that may be called at this moment and have a job to be called for: not held, and the first of the
@@ -114,11 +130,7 @@ pub fn choose(
     for job in &ordered {
         if is_free(&free, job) {
             free.remove(&job.system);
-            dues.push(Due {
-                system: job.system.clone()?,
-                grade: job.grade,
-                number: job.number,
-            })?;
+            list(&mut dues, job)?;
         }
     }
     Ok(dues)

@@ -28,7 +28,7 @@ use uu_times::Moment;
 
 /// A spool in memory, seen as its state. It never holds two jobs of one number, two systems of one name or two entries
 /// of one host.
-#[derive(Debug, Drop)]
+#[derive(Drop)]
 pub struct Machine {
     lists: Lists,
 }

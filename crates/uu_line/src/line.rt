@@ -19,7 +19,7 @@ use std::alloc::Global;
 use uu_names::Word;
 
 /// One line of the program.
-#[derive(Debug, Drop)]
+#[derive(Drop)]
 pub struct CallLine {
     /// The path of the settings file of `-c`, `uuspool.toml` where it is not given.
     pub config: String,

@@ -7,7 +7,7 @@ use uu_core::Filter;
 use uu_names::{Grade, Listed, Path, SiteName, Word};
 
 /// What a line asks for.
-#[derive(Debug, Drop)]
+#[derive(Drop)]
 pub enum Task {
     /// `load`: defines the systems of the sys file that is the input.
     Load,

@@ -13,7 +13,7 @@ use std::alloc::{AllocError, Global};
 const DEPTH: u32 = 32;
 
 /// What was read between two parentheses, up to the part that is being read.
-#[derive(Clone, Copy, Debug)]
+#[derive(Clone, Copy)]
 pub(crate) struct Level {
     /// The sum so far, with the operator behind it.
     sum: Option<(Option<i64>, Additive)>,
@@ -28,7 +28,7 @@ pub(crate) struct Level {
 }
 
 /// What comes next.
-#[derive(Clone, Copy, Debug)]
+#[derive(Clone, Copy)]
 pub(crate) enum Stage {
     /// A factor.
     Operand,

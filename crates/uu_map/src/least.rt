@@ -10,7 +10,7 @@ use std::alloc::{AllocError, Global};
 use uu_names::SiteName;
 
 /// A link, ordered by its cost and then by its name.
-#[derive(Debug, PartialEq, Eq, PartialOrd, Ord, Drop)]
+#[derive(PartialEq, Eq, PartialOrd, Ord, Drop)]
 pub(crate) struct Ranked {
     cost: Cost,
     to: SiteName,

@@ -19,7 +19,7 @@ fn begins_entry(text: &[u8]) -> bool
 }
 
 /// Where an entry begins.
-#[derive(Clone, Copy, Debug)]
+#[derive(Clone, Copy)]
 pub(crate) struct Start {
     line: u32,
     at: usize,

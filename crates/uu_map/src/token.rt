@@ -8,21 +8,21 @@ ghost use Rattle.uu_map.specs.Token.{words, symbol_token, decimal, sign_token, w
 use uu_names::text::blanks_len;
 
 /// An operator between terms, or a sign.
-#[derive(Clone, Copy, Debug, PartialEq, Eq)]
+#[derive(Clone, Copy)]
 pub(crate) enum Additive {
     Plus,
     Minus,
 }
 
 /// An operator between factors.
-#[derive(Clone, Copy, Debug, PartialEq, Eq)]
+#[derive(Clone, Copy)]
 pub(crate) enum Multiplicative {
     Times,
     Over,
 }
 
 /// The least part of an expression.
-#[derive(Clone, Copy, Debug, PartialEq, Eq)]
+#[derive(Clone, Copy)]
 pub(crate) enum Token {
     /// A number, or a symbol that stands for one; none where the number passes the limit.
     Amount(Option<i64>),

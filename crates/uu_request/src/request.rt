@@ -23,7 +23,7 @@ use uu_settings::Settings;
 use uu_times::Moment;
 
 /// What a line asks of a spool.
-#[derive(Debug, Drop)]
+#[derive(Drop)]
 pub enum Request {
     /// Commands, given one after the other.
     Commands(Batch),
@@ -32,7 +32,7 @@ pub enum Request {
 }
 
 /// Commands, and how their replies are printed.
-#[derive(Debug, Drop)]
+#[derive(Drop)]
 pub struct Batch {
     /// The commands, in the order in which they are given.
     pub commands: Listed<Command>,
@@ -43,7 +43,7 @@ pub struct Batch {
 }
 
 /// A question.
-#[derive(Debug, Drop)]
+#[derive(Drop)]
 pub enum Question {
     /// Which jobs fit.
     Jobs(Filter),

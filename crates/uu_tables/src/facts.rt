@@ -2,7 +2,7 @@
 use uu_core::{JobHead, SystemRow};
 
 /// What is asked of the tables before a command, as far as the command names it. What it doesn't name isn't asked.
-#[derive(Debug, Drop)]
+#[derive(Drop)]
 pub struct Facts {
     /// Whether the system is known: asked for `Define`, `Remove`, `Queue` and `Done`.
     pub is_known: bool,

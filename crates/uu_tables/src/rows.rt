@@ -11,7 +11,7 @@ pub const CALL_FAILED: u32 = 1;
 pub const CALL_MADE: u32 = 2;
 
 /// The columns of a system that say how its calls went.
-#[derive(Debug, Drop)]
+#[derive(Drop)]
 pub struct CallColumns {
     /// When the last call was reported, in UTC seconds, at most 4,102,444,800.
     pub last: u32,
@@ -26,7 +26,7 @@ pub struct CallColumns {
 }
 
 /// A row of the table `systems`.
-#[derive(Debug, Drop)]
+#[derive(Drop)]
 pub struct SystemColumns {
     /// The system's name.
     pub name: SiteName,
@@ -37,7 +37,7 @@ pub struct SystemColumns {
 }
 
 /// A row of the table `lines`.
-#[derive(Debug, Drop)]
+#[derive(Drop)]
 pub struct LineColumns {
     /// The system that the line is of.
     pub system: SiteName,
@@ -50,7 +50,7 @@ pub struct LineColumns {
 }
 
 /// A row of the table `ranges`.
-#[derive(Debug, Drop)]
+#[derive(Drop)]
 pub struct RangeColumns {
     /// The system that the range's line is of.
     pub system: SiteName,
@@ -63,7 +63,7 @@ pub struct RangeColumns {
 }
 
 /// A row of the table `pieces` without its bytes.
-#[derive(Debug, Drop)]
+#[derive(Drop)]
 pub struct PieceSize {
     /// The number of the job.
     pub job: u32,
@@ -74,7 +74,7 @@ pub struct PieceSize {
 }
 
 /// A row of the table `entries`.
-#[derive(Debug, Drop)]
+#[derive(Drop)]
 pub struct EntryColumns {
     /// The host that the entry is about.
     pub host: SiteName,

@@ -16,7 +16,7 @@ use uu_rows::{RowFault, TypedRow, has_width, number_in, read_all};
 use uu_tables::PieceSize;
 
 /// A row of the table `pieces` without its bytes, and its rowid.
-#[derive(Debug, Drop)]
+#[derive(Drop)]
 pub(crate) struct NumberedSize {
     pub(crate) rowid: Integer,
     pub(crate) size: PieceSize,

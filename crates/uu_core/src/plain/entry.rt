@@ -5,7 +5,7 @@ use std::marker::Model;
 use uu_names::{Listed, SiteName};
 
 /// A map entry, kept under its host.
-#[derive(Debug, Drop)]
+#[derive(Drop)]
 pub struct PlainEntry {
     pub(super) host: SiteName,
     pub(super) bytes: Listed<u8>,

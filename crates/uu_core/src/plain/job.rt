@@ -9,7 +9,7 @@ use uu_names::{Grade, Listed};
 use uu_times::Moment;
 
 /// A job of a spool with all its bytes.
-#[derive(Debug, Drop)]
+#[derive(Drop)]
 pub struct PlainJob {
     head: JobHead,
     bytes: Listed<u8>,

@@ -7,7 +7,7 @@ use Rattle.uu_core.specs.declared.job.JobHead.{JobHead}
 use Rattle.uu_core.specs.Due.{is_within, may_be_called, may_go, is_next, walk, walk_after, due_of, AreDue, AreInOrder}
 use Rattle.uu_core.proofs.DueLemmas.{is_called_before, free_listed, free_passed, step_listed, step_passed, walk_is_due, map_at, and-left}
 use Rattle.uu_core.proofs.due.choose.Goals as goal
-use Rattle.uu_core.proofs.due.choose.Goals.{then-is_free+in_ok-clone+in_ok-push, else-is_free}
+use Rattle.uu_core.proofs.due.choose.Goals.{then-is_free+in_ok-list, else-is_free}
 
 pub loop-job-preserved : goal.loop-job-preserved
 loop-job-preserved c =
@@ -25,10 +25,10 @@ loop-job-preserved c =
     let next_there : is_next rows at (take i all) (get_or all i job) ≡ c.is_free.result = ap (is_next rows at (take i all)) job_is ∙ next in
     let seen : take i all ++ job ∷ [] ≡ take (i + 1) all = ap (λ j. take i all ++ j ∷ []) (sym job_is) ∙ sym (take_more all i job within) in
     elim c.if-is_free.branch [
-      | then-is_free+in_ok-clone+in_ok-push w ↦
+      | then-is_free+in_ok-list w ↦
           let may : may_go rows at job ≡ true = and-left (may_go rows at job) _ (next ∙ w.if-is_free.true) in
-          let due : w.push.new.self.items ≡ c.loop-job.dues.items ++ due_of (get_or all i job) ∷ [] =
-          w.in_ok-push.ensures.items ∙ ap (λ s. c.loop-job.dues.items ++ (record { system = s; grade = job.grade; number = job.number }) ∷ []) w.in_ok-clone.ensures.cases ∙ ap (λ j. c.loop-job.dues.items ++ due_of j ∷ []) (sym job_is) in
+          let due : w.list.new.dues.items ≡ c.loop-job.dues.items ++ due_of (get_or all i job) ∷ [] =
+          w.in_ok-list.ensures ∙ ap (λ j. c.loop-job.dues.items ++ due_of j ∷ []) (sym job_is) in
           record {
             free = λ name grade.
                 let tied = ap (λ t. cond t None (get (slice_cmp nat_cmp) c.loop-job.free name)) (sym (texts_ties job.system name)) in

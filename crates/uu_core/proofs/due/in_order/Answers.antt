@@ -8,13 +8,12 @@ use Rattle.uu_core.proofs.due.in_order.Goals as goal
 
 pub returns-clause-same : goal.returns-clause-same
 returns-clause-same c =
-    let all : map (λ job. job.now) c.loop-job.ordered.items ≡ c.args.jobs.now = c.loop-job.invariant ∙ take_all c.loop-job.job-index c.args.jobs.now (omega arith) in
-    subst (λ (l : List JobHead). IsPermutation l (map (λ job. job.now) c.sort_by_key.new.self.items)) all (IsPermutation-map (λ (job : Bor JobHead). job.now) _ _ c.sort_by_key.ensures.permutation)
+    let now = λ (job : Bor JobHead). job.now in
+    subst (λ (l : List JobHead). IsPermutation l (map now c.sort_by_key.new.self.items)) c.in_ok-ordered.ensures (IsPermutation-map now _ _ c.sort_by_key.ensures.permutation)
 
 pub returns-clause-order : goal.returns-clause-order
 returns-clause-order c =
-    let all : map (λ job. job.now) c.loop-job.ordered.items ≡ c.args.jobs.now = c.loop-job.invariant ∙ take_all c.loop-job.job-index c.args.jobs.now (omega arith) in
-    let same = subst (λ (l : List JobHead). IsPermutation l (map (λ job. job.now) c.sort_by_key.new.self.items)) all (IsPermutation-map (λ (job : Bor JobHead). job.now) _ _ c.sort_by_key.ensures.permutation) in
+    let now = λ (job : Bor JobHead). job.now in
     order_from_sort c.sort_by_key.new.self.items c.args.jobs.now
     (c.in_ok-sort_by_key.ensures.sorted (λ job. (job.now.grade, job.now.number)) (answers_always _ _ _ (λ f a r q k. search rules)))
-    same
+    (subst (λ (l : List JobHead). IsPermutation l (map now c.sort_by_key.new.self.items)) c.in_ok-ordered.ensures (IsPermutation-map now _ _ c.sort_by_key.ensures.permutation))
