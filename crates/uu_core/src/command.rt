@@ -5,7 +5,7 @@ use uu_names::{Grade, Listed, SiteName, Word};
 use uu_times::{Moment, SystemDef};
 
 /// What a spool is told.
-#[derive(Drop)]
+#[derive(Debug, Drop)]
 pub enum Command {
     /// The definition is added, or replaces the one of its name; the calls so far stay.
     Define(SystemDef),

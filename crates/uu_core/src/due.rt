@@ -15,7 +15,7 @@ use uu_names::{Grade, SiteName};
 use uu_times::Moment;
 
 /// A system that may be called now, and the job for which it is called.
-#[derive(Drop)]
+#[derive(Debug, Drop)]
 pub struct Due {
     /// The system.
     pub system: SiteName,

@@ -4,7 +4,7 @@ ghost use Rattle.std.specs.Prelude.{◌≡◌, None, option_map};
 use uu_names::{SiteName, Word};
 
 /// Which jobs are listed: those that fit both, where an absent one is fitted by every job.
-#[derive(Drop)]
+#[derive(Debug, Drop)]
 pub struct Filter {
     /// The system that the jobs are for.
     pub system: Option<SiteName>,

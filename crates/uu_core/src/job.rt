@@ -3,7 +3,7 @@ use uu_names::{Grade, Listed, SiteName, Word};
 use uu_times::Moment;
 
 /// Who gives a command. The name is taken as given.
-#[derive(Drop)]
+#[derive(Debug, Drop)]
 pub struct By {
     /// The user's name.
     pub user: Word,
@@ -12,7 +12,7 @@ pub struct By {
 }
 
 /// What a job is for (Taylor UUCP 1.07 manual: send, request, execute).
-#[derive(Drop)]
+#[derive(Debug, Drop)]
 pub enum Kind {
     /// A file goes to the system.
     Send {
@@ -38,7 +38,7 @@ pub enum Kind {
 }
 
 /// A job that is handed in.
-#[derive(Drop)]
+#[derive(Debug, Drop)]
 pub struct NewJob {
     /// The system for which it waits.
     pub system: SiteName,
@@ -55,7 +55,7 @@ pub struct NewJob {
 }
 
 /// A job of the spool without its bytes.
-#[derive(Drop)]
+#[derive(Debug, Drop)]
 pub struct JobHead {
     /// Its number, 1 to 4,294,967,294, never used again.
     pub number: u32,

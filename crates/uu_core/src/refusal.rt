@@ -2,30 +2,38 @@
 ghost use Rattle.std.specs.Prelude.{◌≡◌};
 ghost use Rattle.uu_core.specs.Refusal.{refusal_code, refusal_name};
 
-use std::error::Error;
-use std::fmt;
+use thiserror::Error;
 
 /// Why a command is refused. A refused command changes nothing. Where several reasons apply, [`Refusal::TooLarge`] is
 /// told first, and else the one that stands first here.
-#[derive(Clone, Copy, Debug, PartialEq, Eq)]
+#[derive(Clone, Copy, Debug, PartialEq, Eq, Error)]
 pub enum Refusal {
     /// There is no such system.
+    #[error("no such system")]
     NoSystem,
     /// There is no such job.
+    #[error("no such job")]
     NoJob,
     /// The job belongs to somebody else.
+    #[error("not your job")]
     NotYours,
     /// A job is named twice.
+    #[error("a job is named twice")]
     JobTwice,
     /// A job waits for another system.
+    #[error("a job of another system")]
     OtherSystem,
     /// A job waits for the system.
+    #[error("jobs wait for the system")]
     Busy,
     /// Too many bytes, arguments or jobs.
+    #[error("too large")]
     TooLarge,
     /// No job number is left.
+    #[error("no job number is left")]
     NumbersOut,
     /// The map entry can't be read.
+    #[error("the map entry cannot be read")]
     BadEntry,
 }
 
@@ -64,22 +72,3 @@ impl Refusal {
         }
     }
 }
-
-impl fmt::Display for Refusal {
-    fn fmt<W: fmt::Write>(&self, f: &mut fmt::Formatter<W>) -> fmt::Result {
-        let text = match self {
-            Refusal::NoSystem => "no such system",
-            Refusal::NoJob => "no such job",
-            Refusal::NotYours => "not your job",
-            Refusal::JobTwice => "a job is named twice",
-            Refusal::OtherSystem => "a job of another system",
-            Refusal::Busy => "jobs wait for the system",
-            Refusal::TooLarge => "too large",
-            Refusal::NumbersOut => "no job number is left",
-            Refusal::BadEntry => "the map entry cannot be read",
-        };
-        f.write_str(text)
-    }
-}
-
-impl Error for Refusal {}

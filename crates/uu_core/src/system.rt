@@ -3,7 +3,7 @@ use uu_names::Word;
 use uu_times::SystemDef;
 
 /// How the last call of a system went.
-#[derive(Drop)]
+#[derive(Debug, Drop)]
 pub enum Outcome {
     /// It was never called.
     Never,
@@ -14,7 +14,7 @@ pub enum Outcome {
 }
 
 /// The calls of a system so far. For a new system all numbers are 0 and the outcome is [`Outcome::Never`].
-#[derive(Drop)]
+#[derive(Debug, Drop)]
 pub struct CallState {
     /// When the last call was reported, in UTC seconds.
     pub last: u64,
@@ -27,7 +27,7 @@ pub struct CallState {
 }
 
 /// A system of the spool.
-#[derive(Drop)]
+#[derive(Debug, Drop)]
 pub struct SystemRow {
     /// Its definition.
     pub def: SystemDef,

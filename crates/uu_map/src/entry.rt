@@ -13,7 +13,7 @@ pub struct EntryText {
 }
 
 /// What a link costs. Each value is below [`Cost::Dead`].
-#[derive(Clone, Copy, PartialEq, Eq, PartialOrd, Ord)]
+#[derive(Clone, Copy, Debug, PartialEq, Eq, PartialOrd, Ord)]
 pub enum Cost {
     /// A number without a unit, the less the better. Of an entry that was read, it is from 0 to 1,000,000,000,000.
     Value(u64),
@@ -23,7 +23,7 @@ pub enum Cost {
 
 /// A link to a neighbour. Links compare by the bytes of the name and then by the cost, which is not the order in which an
 /// [`Entry`] lists them.
-#[derive(PartialEq, Eq, PartialOrd, Ord, Drop)]
+#[derive(Debug, PartialEq, Eq, PartialOrd, Ord, Drop)]
 pub struct Link {
     /// The neighbour.
     pub to: SiteName,
@@ -32,7 +32,7 @@ pub struct Link {
 }
 
 /// What a map entry says of its host.
-#[derive(Drop)]
+#[derive(Debug, Drop)]
 pub struct Entry {
     /// The site that the entry is about.
     pub host: SiteName,
