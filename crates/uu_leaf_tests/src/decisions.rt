@@ -129,7 +129,7 @@ fn job_decision(
 ) -> Result<(), Refusal> {
     let own = job(rt, alloc, 1, "duke", b'N');
     let by = by(rt, alloc, user, admin);
-    decide_job(if is_there { Some(&own) } else { None }, &by)
+    decide_job(is_there.then_some(&own), &by)
 }
 
 #[test]
@@ -153,19 +153,19 @@ fn fail(rt: &impl Abort, alloc: Global, system: &mut SystemRow, second: u64) {
     system.call = call.expect(rt, "a system");
 }
 
-// A system whose calls failed at these seconds.
+// The call of a system whose calls failed at these seconds.
 fn failed(
     rt: &impl Abort,
     alloc: Global,
     retry: Option<u32>,
     max_retries: u32,
     seconds: &[u64],
-) -> SystemRow {
+) -> CallState {
     let mut system = system(rt, alloc, "duke", b'z', retry, max_retries);
     for second in seconds {
         fail(rt, alloc, &mut system, *second);
     }
-    system
+    system.call
 }
 
 /// A retry number and a most number of retries, the seconds of calls that failed, and the wait behind them.
@@ -183,33 +183,16 @@ const WAITS: [(Option<u32>, u32, &[u64], u64); 11] = [
     (Some(30), 2, &[SUNDAY, 1_000_116_000], 86_400),
 ];
 
-fn failures_and_wait(
-    rt: &impl Abort,
-    alloc: Global,
-    retry: Option<u32>,
-    max_retries: u32,
-    seconds: &[u64],
-) -> (usize, u64) {
-    let system = failed(rt, alloc, retry, max_retries, seconds);
-    (system.call.failures as usize, system.call.wait)
-}
-
 #[test]
 fn waits_double_up_to_a_day(rt: HostRuntime) {
     for (retry, most, seconds, wait) in WAITS.as_slice() {
-        let calls = failures_and_wait(&rt, rt.alloc(), *retry, *most, seconds);
-        expect_same(&rt, &calls, &(seconds.len(), *wait));
+        let call = failed(&rt, rt.alloc(), *retry, *most, seconds);
+        expect_same(&rt, &(call.failures as usize), &seconds.len());
+        expect_same(&rt, &call.wait, wait);
     }
 }
 
-// Whether a system is left alone at a second whose last call failed at 1,000,116,000, to be left alone for a day.
-fn is_held(rt: &impl Abort, alloc: Global, second: u64) -> bool {
-    let seconds = [SUNDAY, 1_000_116_000];
-    let system = failed(rt, alloc, Some(30), 2, seconds.as_slice());
-    held(&system.call, &moment(rt, second))
-}
-
-/// Seconds, and whether the system is left alone.
+/// Seconds, and whether a system is left alone whose last call failed at 1,000,116,000, to be left alone for a day.
 const HELD: [(u64, bool); 4] = [
     (1_000_116_000, true),
     (1_000_202_399, true),
@@ -219,8 +202,10 @@ const HELD: [(u64, bool); 4] = [
 
 #[test]
 fn systems_left_alone(rt: HostRuntime) {
+    let seconds = [SUNDAY, 1_000_116_000];
+    let call = failed(&rt, rt.alloc(), Some(30), 2, seconds.as_slice());
     for (second, want) in HELD.as_slice() {
-        expect_same(&rt, &is_held(&rt, rt.alloc(), *second), want);
+        expect_same(&rt, &held(&call, &moment(&rt, *second)), want);
     }
 }
 
@@ -234,11 +219,24 @@ const FOUR_JOBS: Jobs = &[
 const THREE_JOBS: Jobs = &[(1, "duke", b'a'), (3, "unc", b'z'), (4, "unc", b'9')];
 
 /// Whether a call of unc failed on Sunday, the jobs, a second, and who is to be called.
-const CHOSEN: [(bool, Jobs, u64, &str); 4] = [
+const CHOSEN: [(bool, Jobs, u64, &str); 6] = [
     (false, FOUR_JOBS, SUNDAY, "unc 9 4/duke B 2/"),
     (true, FOUR_JOBS, SUNDAY, "duke B 2/"),
     (true, THREE_JOBS, SUNDAY, ""),
     (true, THREE_JOBS, SUNDAY + 600, "unc 9 4/"),
+    // Of two jobs of one grade the lower number, and a capital before a small letter.
+    (
+        false,
+        &[(7, "duke", b'B'), (5, "duke", b'B')],
+        SUNDAY,
+        "duke B 5/",
+    ),
+    (
+        false,
+        &[(1, "unc", b'a'), (2, "unc", b'Z')],
+        SUNDAY,
+        "unc Z 2/",
+    ),
 ];
 
 // Duke may be called for grade C and above, unc for each grade.
@@ -286,7 +284,7 @@ fn systems_called_now(rt: HostRuntime) {
 }
 
 // The lowest grade for which a system may be called on Monday at 10:00, minute 2,040 of the week.
-fn limit_on_monday(system: &SystemDef) -> Option<u8> {
+fn limit_on_monday(system: SystemDef) -> Option<u8> {
     let limit = limit(system.lines(), 2040)?;
     Some(limit.as_byte())
 }
@@ -294,7 +292,7 @@ fn limit_on_monday(system: &SystemDef) -> Option<u8> {
 #[test]
 fn the_lowest_grade_of_the_lines_is_the_limit(rt: HostRuntime) {
     let high = all_week(&rt, rt.alloc(), "duke", b'C', None, 26);
-    expect_same(&rt, &limit_on_monday(&high), &Some(b'C'));
+    expect_same(&rt, &limit_on_monday(high), &Some(b'C'));
     let office = office(&rt, rt.alloc(), "duke");
-    expect_same(&rt, &limit_on_monday(&office), &Some(b'z'));
+    expect_same(&rt, &limit_on_monday(office), &Some(b'z'));
 }

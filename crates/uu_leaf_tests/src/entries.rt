@@ -1,5 +1,5 @@
 // Entries and maps: worked ones, hostile ones, each front of one entry against a plain reader, and the time that large ones take.
-use crate::expecting::{expect_same, expect_text, wanted};
+use crate::expecting::{expect_same, expect_soon, expect_text, show_skipped, wanted};
 use crate::fronts::{ENTRIES, Fronts};
 use std::alloc::{AllocError, Global};
 use std::fmt::Write;
@@ -19,18 +19,15 @@ fn show_link(text: &mut String, link: &Link) -> Result<(), AllocError> {
 }
 
 // An entry: its host, and then as a report shows it, with a slash for each line's end.
-fn shown(alloc: Global, entry: &Entry) -> Result<String, AllocError> {
-    let mut text = format!(in alloc; "{}: ", entry.host.as_str())?;
+fn show(text: &mut String, entry: &Entry) -> Result<(), AllocError> {
+    write!(text, "{}: ", entry.host.as_str())?;
     for link in entry.links.as_slice() {
-        show_link(&mut text, link)?;
+        show_link(text, link)?;
     }
     for alias in entry.aliases.as_slice() {
         write!(text, "= {}/", alias.as_str())?;
     }
-    for line in entry.skipped.as_slice() {
-        write!(text, "skipped {}/", line)?;
-    }
-    Ok(text)
+    show_skipped(text, entry.skipped.as_slice())
 }
 
 fn fault_name(fault: MapFault) -> &'static str {
@@ -44,10 +41,12 @@ fn fault_name(fault: MapFault) -> &'static str {
 
 // What a text says, or how it is refused.
 fn told(alloc: Global, text: &str) -> Result<String, AllocError> {
+    let mut told = String::new(alloc);
     match read_entry(alloc, text.as_bytes()) {
-        Ok(entry) => shown(alloc, &entry),
-        Err(fault) => String::from_str(alloc, fault_name(fault)),
+        Ok(entry) => show(&mut told, &entry)?,
+        Err(fault) => told.push_str(fault_name(fault))?,
     }
+    Ok(told)
 }
 
 const LONGEST: &str = "#N a234567890b234567890c234567890d234567890e234567890f234567890g23";
@@ -86,15 +85,10 @@ fn name_lines_name_the_host(rt: HostRuntime) {
     }
 }
 
-// A text that goes on with so many bytes in all.
-fn filled(alloc: Global, front: &str, length: usize) -> Result<Vec<u8>, AllocError> {
-    let mut text = Vec::from_slice(alloc, front.as_bytes())?;
-    text.resize(length, b'x')?;
-    Ok(text)
-}
-
+// Why a text of so many bytes that begins so is no entry.
 fn fault_of_filled(rt: &impl Abort, alloc: Global, front: &str, length: usize) -> Option<MapFault> {
-    let text = filled(alloc, front, length).expect(rt, "memory");
+    let mut text = Vec::from_slice(alloc, front.as_bytes()).expect(rt, "memory");
+    text.resize(length, b'x').expect(rt, "memory");
     read_entry(alloc, &text).err()
 }
 
@@ -132,15 +126,11 @@ fn faults_have_numbers(rt: HostRuntime) {
     }
 }
 
-// What these statements of host unc say, from line 2 on.
-fn said(alloc: Global, statements: &str) -> Result<String, AllocError> {
-    let text = format!(in alloc; "#N unc\n{statements}")?;
-    told(alloc, &text)
-}
-
+// What these statements of host unc say, from line 2 on, has to be this.
 fn expect_said(rt: &impl Abort, alloc: Global, statements: &str, want: &str) {
-    let got = said(alloc, statements).expect(rt, "memory");
-    assert_eq!(rt; got.strip_prefix("unc: "), Some(want), "at {statements}");
+    let text = format!(in alloc; "#N unc\n{statements}").expect(rt, "memory");
+    let want = format!(in alloc; "unc: {want}").expect(rt, "memory");
+    expect_text(rt, told(alloc, &text), &want);
 }
 
 fn expect_all(rt: &impl Abort, alloc: Global, rows: &[(&str, &str)]) {
@@ -304,81 +294,50 @@ fn symbols_have_their_values(rt: HostRuntime) {
     expect_all(&rt, rt.alloc(), SYMBOLS.as_slice());
 }
 
-// This with so many of these around it.
-fn nested(
-    alloc: Global,
-    open: &str,
-    core: &str,
-    close: &str,
-    depth: u32,
-) -> Result<String, AllocError> {
-    let mut text = String::new(alloc);
-    for _ in 0..depth {
-        text.push_str(open)?;
-    }
-    text.push_str(core)?;
-    for _ in 0..depth {
-        text.push_str(close)?;
-    }
-    Ok(text)
-}
-
-// What a link of host unc to a is read as, whose cost is nested, and such a cost twice with an operator between.
-fn priced(alloc: Global, once: &str, operator: &str) -> Result<String, AllocError> {
-    if operator.is_empty() {
-        format!(in alloc; "unc a({once})")
-    } else {
-        format!(in alloc; "unc a({once}{operator}{once})")
-    }
-}
-
-/// What opens, a core, what closes, and how often; an operator where such a cost stands twice; and what that is read as.
+/// A statement, what stands for each `[` in it, what for each `]`, so many times each, and what that is read as.
 type Nest = (
     &'static str,
     &'static str,
     &'static str,
-    u32,
-    &'static str,
+    usize,
     &'static str,
 );
 
 const NESTS: [Nest; 20] = [
-    ("-", "25", "", 32, "", "a 25/"),
-    ("-", "25", "", 33, "", "skipped 2/"),
-    ("+", "25", "", 32, "", "a 25/"),
-    ("+", "25", "", 33, "", "skipped 2/"),
-    ("(", "25", ")", 32, "", "a 25/"),
-    ("(", "25", ")", 33, "", "skipped 2/"),
-    ("-(", "25", ")", 16, "", "a 25/"),
-    ("-(", "-25", ")", 16, "", "skipped 2/"),
-    ("-(", "(25)", ")", 16, "", "skipped 2/"),
-    ("(", "+25", ")", 31, "", "a 25/"),
-    ("(", "1+25", ")", 32, "", "a 26/"),
-    ("(", "1+-25", ")", 32, "", "skipped 2/"),
-    ("-", "(DEAD)", "", 31, "", "a dead/"),
-    ("-", "(DEAD)", "", 32, "", "skipped 2/"),
+    ("unc a([25)", "-", "", 32, "a 25/"),
+    ("unc a([25)", "-", "", 33, "skipped 2/"),
+    ("unc a([25)", "+", "", 32, "a 25/"),
+    ("unc a([25)", "+", "", 33, "skipped 2/"),
+    ("unc a([25])", "(", ")", 32, "a 25/"),
+    ("unc a([25])", "(", ")", 33, "skipped 2/"),
+    ("unc a([25])", "-(", ")", 16, "a 25/"),
+    ("unc a([-25])", "-(", ")", 16, "skipped 2/"),
+    ("unc a([(25)])", "-(", ")", 16, "skipped 2/"),
+    ("unc a([+25])", "(", ")", 31, "a 25/"),
+    ("unc a([1+25])", "(", ")", 32, "a 26/"),
+    ("unc a([1+-25])", "(", ")", 32, "skipped 2/"),
+    ("unc a([(DEAD))", "-", "", 31, "a dead/"),
+    ("unc a([(DEAD))", "-", "", 32, "skipped 2/"),
     // The depth is given back.
-    ("(", "25", ")", 32, "+", "a 50/"),
-    ("(", "25", ")", 32, "*", "a 625/"),
-    ("-", "25", "", 32, "+", "a 50/"),
-    ("-", "25", "", 32, "*", "a 625/"),
-    ("-(", "25", ")", 16, "+", "a 50/"),
-    ("-(", "25", ")", 16, "*", "a 625/"),
+    ("unc a([25]+[25])", "(", ")", 32, "a 50/"),
+    ("unc a([25]*[25])", "(", ")", 32, "a 625/"),
+    ("unc a([25+[25)", "-", "", 32, "a 50/"),
+    ("unc a([25*[25)", "-", "", 32, "a 625/"),
+    ("unc a([25]+[25])", "-(", ")", 16, "a 50/"),
+    ("unc a([25]*[25])", "-(", ")", 16, "a 625/"),
 ];
 
-fn statement(
-    alloc: Global,
-    (open, core, close, depth, operator, _): Nest,
-) -> Result<String, AllocError> {
-    let once = nested(alloc, open, core, close, depth)?;
-    priced(alloc, &once, operator)
+fn nested(alloc: Global, nest: &Nest) -> Result<String, AllocError> {
+    let (statement, open, close, depth, _) = *nest;
+    let opened = statement.replace(alloc, "[", &open.repeat(alloc, depth)?)?;
+    opened.replace(alloc, "]", &close.repeat(alloc, depth)?)
 }
 
 #[test]
 fn signs_and_parentheses_nest_to_a_depth(rt: HostRuntime) {
     for nest in NESTS.as_slice() {
-        let statement = statement(rt.alloc(), *nest).expect(&rt, "memory");
-        expect_said(&rt, rt.alloc(), &statement, nest.5);
+        let statement = nested(rt.alloc(), nest).expect(&rt, "memory");
+        expect_said(&rt, rt.alloc(), &statement, nest.4);
     }
 }
 
@@ -413,36 +372,31 @@ const MAPS: [(&str, &[EntryText]); 2] = [
     ("nothing\n#N\r", &[]),
 ];
 
-fn expect_entries(rt: &impl Abort, alloc: Global, text: &str, want: &[EntryText]) {
-    assert!(rt; text.len() < 1000);
-    let entries = split(alloc, text.as_bytes()).expect(rt, "a map");
-    assert_eq!(rt; entries.as_slice(), want);
+// The entries of a map that is not too large.
+fn cut(rt: &impl Abort, alloc: Global, text: &str) -> Vec<EntryText> {
+    assert!(rt; text.len() <= 4_194_304);
+    split(alloc, text.as_bytes()).expect(rt, "a map")
 }
 
 #[test]
 fn a_map_is_cut_at_name_lines(rt: HostRuntime) {
     for (text, want) in MAPS.as_slice() {
-        expect_entries(&rt, rt.alloc(), text, want);
+        expect_same(&rt, &cut(&rt, rt.alloc(), text).as_slice(), want);
     }
 }
 
-// The name of the link of this number, below 17,576: three letters, and not in the order of the numbers.
-fn link_name(alloc: Global, number: u32) -> Result<String, AllocError> {
-    let mut rest = number.wrapping_mul(7_919) % 17_576;
-    let mut name = String::new(alloc);
-    for _ in 0..3 {
-        name.push(char::from(b'a' + (rest % 26) as u8))?;
-        rest /= 26;
-    }
-    Ok(name)
+fn letter(number: u32) -> char {
+    char::from(b'a' + (number % 26) as u8)
 }
 
-fn push_link(alloc: Global, text: &mut String, number: u32) -> Result<(), AllocError> {
-    let name = link_name(alloc, number)?;
+// The link of this number, below 17,576: three letters, not in the order of the numbers, and at first a cost.
+fn push_link(text: &mut String, number: u32) -> Result<(), AllocError> {
+    let name = number.wrapping_mul(7_919) % 17_576;
+    let (first, second, third) = (letter(name), letter(name / 26), letter(name / 676));
     if number < 8_508 {
-        write!(text, "{}({}),", name, number % 10)
+        write!(text, "{}{}{}({}),", first, second, third, number % 10)
     } else {
-        write!(text, "{},", name)
+        write!(text, "{}{}{},", first, second, third)
     }
 }
 
@@ -450,48 +404,44 @@ fn push_link(alloc: Global, text: &mut String, number: u32) -> Result<(), AllocE
 fn large_entry(alloc: Global) -> Result<String, AllocError> {
     let mut text = String::from_str(alloc, "#N unc\nunc ")?;
     for number in 0..10_000u32 {
-        push_link(alloc, &mut text, number)?;
+        push_link(&mut text, number)?;
     }
     text.push_str("\n")?;
     Ok(text)
 }
 
-// Each takes less than a second on a quiet machine; the bounds leave room for a loaded one.
+// How many links an entry has, and how many lines of it are skipped.
+fn links_and_skipped(rt: &impl Abort, alloc: Global, text: &str) -> (usize, usize) {
+    let entry = read_entry(alloc, text.as_bytes()).expect(rt, "an entry");
+    let links = entry.links.as_slice().len();
+    (links, entry.skipped.as_slice().len())
+}
+
 #[test]
 fn the_largest_entry_is_read_in_time(rt: HostRuntime) {
     let text = large_entry(rt.alloc()).expect(&rt, "memory");
-    assert_eq!(rt; text.len(), 65_536);
+    expect_same(&rt, &text.len(), &65_536);
     let start = Instant::now(&rt).expect(&rt, "a clock");
-    let entry = read_entry(rt.alloc(), text.as_bytes()).expect(&rt, "an entry");
-    let taken = start.elapsed(&rt).expect(&rt, "a clock");
-    assert!(rt; taken.as_millis() < 10_000);
-    assert_eq!(rt; entry.links.as_slice().len(), 10_000);
-    assert!(rt; entry.skipped.as_slice().is_empty());
-}
-
-fn large_map(alloc: Global) -> Result<Vec<u8>, AllocError> {
-    let mut map = Vec::new(alloc);
-    for _ in 0..1_048_576u32 {
-        map.extend_from_slice(b"#N \n")?;
-    }
-    Ok(map)
+    let counts = links_and_skipped(&rt, rt.alloc(), &text);
+    expect_soon(&rt, &start);
+    expect_same(&rt, &counts, &(10_000, 0));
 }
 
 #[test]
 fn the_largest_map_is_cut_in_time(rt: HostRuntime) {
-    let map = large_map(rt.alloc()).expect(&rt, "memory");
-    assert_eq!(rt; map.len(), 4_194_304);
+    let map = "#N \n".repeat(rt.alloc(), 1_048_576).expect(&rt, "memory");
+    expect_same(&rt, &map.len(), &4_194_304);
     let start = Instant::now(&rt).expect(&rt, "a clock");
-    let entries = split(rt.alloc(), &map).expect(&rt, "a map");
-    let taken = start.elapsed(&rt).expect(&rt, "a clock");
-    assert!(rt; taken.as_millis() < 10_000);
-    assert_eq!(rt; entries.len(), 1_048_576);
+    let count = cut(&rt, rt.alloc(), &map).len();
+    expect_soon(&rt, &start);
+    expect_same(&rt, &count, &1_048_576);
 }
 
 fn expect_fronts(rt: &impl Abort, alloc: Global, fronts: &Fronts) {
     for length in 0..=fronts.text.len() {
         let front = fronts.text.get(..length).expect(rt, "a front");
-        expect_text(rt, told(alloc, front), wanted(fronts, length));
+        let want = wanted(fronts, length).expect(rt, "an answer");
+        expect_text(rt, told(alloc, front), want);
     }
 }
 

@@ -1,8 +1,11 @@
 // What came compared with what had to come. A test that fails shows both.
 use crate::fronts::Fronts;
-use std::alloc::AllocError;
-use std::fmt::Debug;
+use std::alloc::{AllocError, Global};
+use std::fmt::{Debug, Write};
+use std::io::Print;
 use std::process::Abort;
+use std::rt::Clock;
+use std::time::Instant;
 
 /// A value has to be this one.
 pub fn expect_same<T: PartialEq + Debug>(rt: &impl Abort, got: &T, want: &T) {
@@ -11,16 +14,43 @@ pub fn expect_same<T: PartialEq + Debug>(rt: &impl Abort, got: &T, want: &T) {
 
 /// A text, for which memory is there, has to be this one.
 pub fn expect_text(rt: &impl Abort, got: Result<String, AllocError>, want: &str) {
-    let text = got.expect(rt, "memory");
-    assert_eq!(rt; text.as_str(), want);
+    expect_same(rt, &got.expect(rt, "memory").as_str(), &want);
 }
 
-/// What a front of a text has to mean: what the first row that goes so far says.
-pub fn wanted(fronts: &Fronts, length: usize) -> &'static str {
-    for (last, answer) in fronts.answers {
-        if length <= *last {
-            return *answer;
+/// What began then has to have taken less than ten seconds, which leaves room for a loaded machine.
+pub fn expect_soon(rt: &(impl Abort + Clock + Print), start: &Instant) {
+    let taken = start.elapsed(rt).expect(rt, "a clock").as_millis();
+    println!(rt; "{taken} ms").expect(rt, "an output");
+    expect_same(rt, &(taken < 10_000), &true);
+}
+
+/// What a front of a text has to mean: what the first line that goes so far says.
+pub fn wanted(fronts: &Fronts, length: usize) -> Option<&'static str> {
+    for line in fronts.answers.lines() {
+        let (last, answer) = line.split_once(' ')?;
+        if length <= last.parse::<usize>().ok()? {
+            return Some(answer);
         }
     }
-    "no answer"
+    None
+}
+
+/// A text with a piece so many times between a head and a tail.
+pub fn repeated(
+    alloc: Global,
+    head: &str,
+    piece: &str,
+    count: usize,
+    tail: &str,
+) -> Result<String, AllocError> {
+    let pieces = piece.repeat(alloc, count)?;
+    format!(in alloc; "{head}{pieces}{tail}")
+}
+
+/// Shows the numbers of the lines that were skipped.
+pub fn show_skipped(shown: &mut String, lines: &[u32]) -> Result<(), AllocError> {
+    for line in lines {
+        write!(shown, "skipped {}/", line)?;
+    }
+    Ok(())
 }

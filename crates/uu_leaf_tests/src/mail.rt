@@ -1,9 +1,10 @@
 // The line before a message, and the way back to who wrote it.
-use crate::expecting::{expect_same, expect_text};
+use crate::expecting::{expect_same, expect_text, repeated};
+use crate::values::{site, word};
 use jiff_core::civil::{Date, DateTime, Time};
 use std::alloc::{AllocError, Global};
 use std::process::Abort;
-use uu_names::{NameFault, SiteName, Word, envelope, return_path};
+use uu_names::{NameFault, envelope, return_path};
 
 fn date(
     rt: &impl Abort,
@@ -20,11 +21,9 @@ fn date(
 
 // The message as ann of mysite hands it on.
 fn handed_on(rt: &impl Abort, alloc: Global, local: &DateTime, message: &[u8]) -> Vec<u8> {
-    let year = local.date.year;
-    assert!(rt; year >= 1000);
-    assert!(rt; year <= 9999);
-    let user = Word::parse(alloc, "ann").expect(rt, "a word");
-    let site = SiteName::parse(alloc, "mysite").expect(rt, "a site name");
+    assert!(rt; (1000..=9999).contains(&local.date.year));
+    let user = word(rt, alloc, "ann");
+    let site = site(rt, alloc, "mysite");
     envelope(alloc, &user, local, &site, message).expect(rt, "memory")
 }
 
@@ -81,15 +80,9 @@ fn ways_back(rt: HostRuntime) {
     }
 }
 
-// A leading line of duke, with a user of so many letters.
-fn leading_line(alloc: Global, letters: usize) -> Result<String, AllocError> {
-    let user = "a".repeat(alloc, letters)?;
-    format!(in alloc; "From {user} remote from duke\n")
-}
-
-// How long the way back is to a user of so many letters, and where the message is.
+// How long the way back is to a user of duke of so many letters, and where the message is.
 fn lengths(rt: &impl Abort, alloc: Global, letters: usize) -> Result<(usize, usize), NameFault> {
-    let text = leading_line(alloc, letters).expect(rt, "memory");
+    let text = repeated(alloc, "From ", "a", letters, " remote from duke\n").expect(rt, "memory");
     let (path, body) = return_path(alloc, text.as_bytes())?;
     Ok((path.as_str().len(), body))
 }

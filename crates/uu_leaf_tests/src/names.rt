@@ -1,7 +1,6 @@
 // Grades, site names and words at their limits, and the numbers of faults.
 use crate::expecting::expect_same;
-use std::alloc::Global;
-use std::process::Abort;
+use crate::values::{site, word};
 use uu_names::{Grade, NameFault, SiteName, Word};
 
 // From the highest grade to the lowest.
@@ -41,70 +40,54 @@ fn codes(rt: HostRuntime) {
     }
 }
 
-/// A piece, how often it stands in a text, and what refuses that text.
-type Refused = (&'static str, usize, Option<NameFault>);
+/// A piece, how often it stands in a text, and what refuses that text as a site name and as a word.
+type Refused = (&'static str, usize, Option<NameFault>, Option<NameFault>);
 
-const SITES: [Refused; 5] = [
-    ("unc-ch", 1, None),
-    ("", 1, Some(NameFault::BadName(0))),
-    ("a b", 1, Some(NameFault::BadName(1))),
-    ("a", 63, None),
-    ("a", 64, Some(NameFault::TooLong)),
+const TEXTS: [Refused; 8] = [
+    ("unc-ch", 1, None, None),
+    ("~/a!b", 1, Some(NameFault::BadName(0)), None),
+    (
+        "",
+        1,
+        Some(NameFault::BadName(0)),
+        Some(NameFault::BadWord(0)),
+    ),
+    (
+        "a b",
+        1,
+        Some(NameFault::BadName(1)),
+        Some(NameFault::BadWord(1)),
+    ),
+    ("a", 63, None, None),
+    ("a", 64, Some(NameFault::TooLong), None),
+    ("a", 255, Some(NameFault::TooLong), None),
+    ("a", 256, Some(NameFault::TooLong), Some(NameFault::TooLong)),
 ];
 
-fn site_fault(rt: &impl Abort, alloc: Global, piece: &str, count: usize) -> Option<NameFault> {
-    let text = piece.repeat(alloc, count).expect(rt, "memory");
-    SiteName::parse(alloc, &text).err()
-}
-
 #[test]
-fn texts_that_are_site_names(rt: HostRuntime) {
-    for (piece, count, want) in SITES.as_slice() {
-        expect_same(&rt, &site_fault(&rt, rt.alloc(), piece, *count), want);
+fn texts_that_are_names_and_words(rt: HostRuntime) {
+    for (piece, count, as_name, as_word) in TEXTS.as_slice() {
+        let text = piece.repeat(rt.alloc(), *count).expect(&rt, "memory");
+        expect_same(&rt, &SiteName::parse(rt.alloc(), &text).err(), as_name);
+        expect_same(&rt, &Word::parse(rt.alloc(), &text).err(), as_word);
     }
-    let fault = SiteName::from_bytes(rt.alloc(), b"a\xff").err();
-    expect_same(&rt, &fault, &Some(NameFault::BadName(1)));
-}
-
-fn site(rt: &impl Abort, alloc: Global, text: &str) -> SiteName {
-    SiteName::parse(alloc, text).expect(rt, "a site name")
+    let no_name = SiteName::from_bytes(rt.alloc(), b"a\xff").err();
+    expect_same(&rt, &no_name, &Some(NameFault::BadName(1)));
+    let no_word = Word::from_bytes(rt.alloc(), b"\x7f").err();
+    expect_same(&rt, &no_word, &Some(NameFault::BadWord(0)));
 }
 
 #[test]
 fn site_names_compare(rt: HostRuntime) {
     let name = site(&rt, rt.alloc(), "unc-ch");
-    assert_eq!(rt; name.as_str(), "unc-ch");
-    let same = name.clone().expect(&rt, "memory");
-    assert!(rt; name == same);
-    assert!(rt; name < site(&rt, rt.alloc(), "und"));
-}
-
-const WORDS: [Refused; 5] = [
-    ("~/a!b", 1, None),
-    ("", 1, Some(NameFault::BadWord(0))),
-    ("a b", 1, Some(NameFault::BadWord(1))),
-    ("a", 255, None),
-    ("a", 256, Some(NameFault::TooLong)),
-];
-
-fn word_fault(rt: &impl Abort, alloc: Global, piece: &str, count: usize) -> Option<NameFault> {
-    let text = piece.repeat(alloc, count).expect(rt, "memory");
-    Word::parse(alloc, &text).err()
-}
-
-#[test]
-fn texts_that_are_words(rt: HostRuntime) {
-    for (piece, count, want) in WORDS.as_slice() {
-        expect_same(&rt, &word_fault(&rt, rt.alloc(), piece, *count), want);
-    }
-    let fault = Word::from_bytes(rt.alloc(), b"\x7f").err();
-    expect_same(&rt, &fault, &Some(NameFault::BadWord(0)));
+    expect_same(&rt, &name.as_str(), &"unc-ch");
+    expect_same(&rt, &name.clone().expect(&rt, "memory"), &name);
+    expect_same(&rt, &(name < site(&rt, rt.alloc(), "und")), &true);
 }
 
 #[test]
 fn words_compare(rt: HostRuntime) {
-    let word = Word::parse(rt.alloc(), "~/a!b").expect(&rt, "a word");
-    assert_eq!(rt; word.as_str(), "~/a!b");
-    let same = word.clone().expect(&rt, "memory");
-    assert!(rt; word == same);
+    let word = word(&rt, rt.alloc(), "~/a!b");
+    expect_same(&rt, &word.as_str(), &"~/a!b");
+    expect_same(&rt, &word.clone().expect(&rt, "memory"), &word);
 }

@@ -1,15 +1,15 @@
 // Bang paths, also against a plain program.
-use crate::expecting::expect_same;
-use std::alloc::{AllocError, Global};
+use crate::expecting::{expect_same, repeated};
+use std::alloc::Global;
 use std::process::Abort;
 use uu_names::{NameFault, Path};
 
 #[test]
 fn hops_of_a_path(rt: HostRuntime) {
     let path = Path::parse(rt.alloc(), "duke!unc!ann").expect(&rt, "a path");
-    assert_eq!(rt; path.as_str(), "duke!unc!ann");
-    assert_eq!(rt; path.first_hop(), "duke");
-    assert_eq!(rt; path.rest(), "unc!ann");
+    expect_same(&rt, &path.as_str(), &"duke!unc!ann");
+    expect_same(&rt, &path.first_hop(), &"duke");
+    expect_same(&rt, &path.rest(), &"unc!ann");
 }
 
 /// Texts that are no paths, and how many bytes of each begin one.
@@ -30,24 +30,19 @@ fn texts_that_are_no_paths(rt: HostRuntime) {
     }
 }
 
-// A site and a user of so many letters.
-fn path_text(alloc: Global, site: usize, user: usize) -> Result<String, AllocError> {
-    let site = "a".repeat(alloc, site)?;
-    let user = "a".repeat(alloc, user)?;
-    format!(in alloc; "{site}!{user}")
-}
-
-fn fault_of_letters(rt: &impl Abort, alloc: Global, site: usize, user: usize) -> Option<NameFault> {
-    let text = path_text(alloc, site, user).expect(rt, "memory");
-    Path::parse(alloc, &text).err()
-}
+/// What stands before and behind so many letters, and what refuses that text.
+const LONGEST: [(&str, usize, &str, Option<NameFault>); 3] = [
+    ("", 64, "!a", Some(NameFault::TooLong)),
+    ("a!", 253, "", None),
+    ("a!", 254, "", Some(NameFault::TooLong)),
+];
 
 #[test]
 fn the_longest_paths(rt: HostRuntime) {
-    let too_long = Some(NameFault::TooLong);
-    expect_same(&rt, &fault_of_letters(&rt, rt.alloc(), 64, 1), &too_long);
-    expect_same(&rt, &fault_of_letters(&rt, rt.alloc(), 1, 253), &None);
-    expect_same(&rt, &fault_of_letters(&rt, rt.alloc(), 1, 254), &too_long);
+    for (head, letters, tail, want) in LONGEST.as_slice() {
+        let text = repeated(rt.alloc(), head, "a", *letters, tail).expect(&rt, "memory");
+        expect_same(&rt, &Path::parse(rt.alloc(), &text).err(), want);
+    }
 }
 
 fn plain_site_byte(byte: u8) -> bool {
@@ -58,26 +53,30 @@ fn plain_local_byte(byte: u8) -> bool {
     (0x21..=0x7e).contains(&byte) && byte != b'!'
 }
 
+// How many bytes of the text are a `!`.
+fn bangs(text: &[u8]) -> usize {
+    let mut bangs = 0usize;
+    for byte in text {
+        bangs = bangs.saturating_add(usize::from(*byte == b'!'));
+    }
+    bangs
+}
+
 // Whether some path begins with the text: each part that a `!` ends is a site name's, the last part may go on.
 fn plain_begins(text: &[u8]) -> bool {
-    let mut bangs = 0u64;
+    let all = bangs(text);
+    let (mut left, mut is_empty) = (all, true);
     for byte in text {
-        if *byte == b'!' {
-            bangs = bangs.saturating_add(1);
+        let fits = match *byte {
+            b'!' => !is_empty,
+            byte if left < all && left == 0 => plain_local_byte(byte),
+            byte => plain_site_byte(byte),
+        };
+        if !fits {
+            return false;
         }
-    }
-    let mut seen = 0u64;
-    for part in text.split(|byte| *byte == b'!') {
-        if seen < bangs {
-            if part.is_empty() || !part.iter().all(|byte| plain_site_byte(*byte)) {
-                return false;
-            }
-        } else if bangs == 0 {
-            return part.iter().all(|byte| plain_site_byte(*byte));
-        } else {
-            return part.iter().all(|byte| plain_local_byte(*byte));
-        }
-        seen = seen.saturating_add(1);
+        is_empty = *byte == b'!';
+        left = left.saturating_sub(usize::from(is_empty));
     }
     true
 }

@@ -1,5 +1,5 @@
 // Sys files: a worked one, faults, each front of some files against a plain reader, and the time that large files take.
-use crate::expecting::{expect_same, expect_text, wanted};
+use crate::expecting::{expect_same, expect_soon, expect_text, repeated, show_skipped, wanted};
 use crate::fronts::{Fronts, SYS_FILES};
 use crate::times::show_windows;
 use std::alloc::{AllocError, Global};
@@ -10,13 +10,12 @@ use std::rt::Clock;
 use std::time::Instant;
 use uu_times::{Line, SysFile, SystemDef, TimeFault, read_sys};
 
-/// A sys file with defaults, a timetable on two lines, a comment, other keywords and two systems.
-const DUKE_AND_UNC: &str =
-    "# defaults\ntime Wk2305-0755\ntimetable Lunch Wk1200-\\\n1300\nsystem duke\n  time Lunch 15\n  port ser\\#1\n  alternate backup\n  timegrade C Any\nsystem unc\n  max-retries 2\n";
+/// The most bytes of a sys file.
+const LARGEST: usize = 4_194_304;
 
-// What a short sys file says.
-fn read_short(alloc: Global, text: &[u8]) -> Result<SysFile, TimeFault> {
-    if text.len() < 1000 {
+// What a sys file says that is not too large.
+fn read(alloc: Global, text: &[u8]) -> Result<SysFile, TimeFault> {
+    if text.len() <= LARGEST {
         read_sys(alloc, text)
     } else {
         Err(TimeFault::Memory)
@@ -38,34 +37,29 @@ fn show_system(shown: &mut String, system: &SystemDef) -> Result<(), AllocError>
     shown.push_str("/")
 }
 
-// What a short sys file says, as the plain readers show it.
-fn shown(alloc: Global, text: &[u8]) -> Result<String, TimeFault> {
-    let file = read_short(alloc, text)?;
-    let mut shown = String::new(alloc);
+fn show_file(shown: &mut String, file: &SysFile) -> Result<(), AllocError> {
     for system in file.systems.as_slice() {
-        show_system(&mut shown, system)?;
+        show_system(shown, system)?;
     }
-    for line in file.skipped.as_slice() {
-        write!(shown, "skipped {}/", line)?;
-    }
-    Ok(shown)
+    show_skipped(shown, file.skipped.as_slice())
 }
 
+// What a sys file says, as the plain readers show it, or how it is refused.
 fn told(alloc: Global, text: &[u8]) -> Result<String, AllocError> {
-    match shown(alloc, text) {
-        Ok(shown) => Ok(shown),
-        Err(fault) => format!(in alloc; "{fault}"),
+    let mut told = String::new(alloc);
+    match read(alloc, text) {
+        Ok(file) => show_file(&mut told, &file)?,
+        Err(fault) => write!(told, "{fault}")?,
     }
+    Ok(told)
 }
 
-#[test]
-fn two_systems(rt: HostRuntime) {
-    let want =
-        "duke 26: z 15: 2160-2220 3600-3660 5040-5100 6480-6540 7920-7980 C 0: 0-10079/unc 2: z 0: 1440-1915 2825-3355 4265-4795 5705-6235 7145-7675 8585-8639/skipped 7/skipped 8/";
-    expect_text(&rt, told(rt.alloc(), DUKE_AND_UNC.as_bytes()), want);
-}
-
-const SHORT_FILES: [(&[u8], &str); 26] = [
+const SHORT_FILES: [(&[u8], &str); 27] = [
+    // Defaults, a timetable on two lines, a comment, other keywords and two systems.
+    (
+        b"# defaults\ntime Wk2305-0755\ntimetable Lunch Wk1200-\\\n1300\nsystem duke\n  time Lunch 15\n  port ser\\#1\n  alternate backup\n  timegrade C Any\nsystem unc\n  max-retries 2\n",
+        "duke 26: z 15: 2160-2220 3600-3660 5040-5100 6480-6540 7920-7980 C 0: 0-10079/unc 2: z 0: 1440-1915 2825-3355 4265-4795 5705-6235 7145-7675 8585-8639/skipped 7/skipped 8/",
+    ),
     (b"time Any 30 \\# x", "line 1: bad words"),
     (b"time Any 30 # x", ""),
     (b"time Any x", "line 1: bad number"),
@@ -112,31 +106,11 @@ fn short_files(rt: HostRuntime) {
     }
 }
 
-// A section with so many time lines.
-fn section(alloc: Global, count: u32) -> Result<String, AllocError> {
-    let mut text = String::from_str(alloc, "system duke\n")?;
-    for _ in 0..count {
-        text.push_str("time Any\n")?;
-    }
-    Ok(text)
-}
-
-fn section_fault(rt: &impl Abort, alloc: Global, count: u32) -> Option<TimeFault> {
-    let text = section(alloc, count).expect(rt, "memory");
-    read_short(alloc, text.as_bytes()).err()
-}
-
-#[test]
-fn a_section_with_too_many_lines(rt: HostRuntime) {
-    expect_same(&rt, &section_fault(&rt, rt.alloc(), 32), &None);
-    let too_many = Some(TimeFault::TooManyLines(34));
-    expect_same(&rt, &section_fault(&rt, rt.alloc(), 33), &too_many);
-}
-
 fn expect_fronts(rt: &impl Abort, alloc: Global, fronts: &Fronts) {
     for length in 0..=fronts.text.len() {
         let front = fronts.text.get(..length).expect(rt, "a front");
-        expect_text(rt, told(alloc, front.as_bytes()), wanted(fronts, length));
+        let want = wanted(fronts, length).expect(rt, "an answer");
+        expect_text(rt, told(alloc, front.as_bytes()), want);
     }
 }
 
@@ -147,121 +121,147 @@ fn each_front_of_a_sys_file_is_read_as_plainly(rt: HostRuntime) {
     }
 }
 
-// The bounds below leave room for a loaded machine.
-/// The most bytes of a sys file.
-const LARGEST: usize = 4_194_304;
-
-fn read_large(rt: &impl Abort, alloc: Global, text: &[u8]) -> Result<SysFile, TimeFault> {
-    assert!(rt; text.len() <= LARGEST);
-    read_sys(alloc, text)
+/// A text of many lines, or of a long one.
+#[derive(Clone, Copy)]
+enum Large {
+    /// A section with so many time lines.
+    Section(usize),
+    /// Systems n0 to n9999, and this behind them.
+    TenThousand(&'static str),
+    /// Systems, each with a line of its own.
+    WithALine,
+    /// One line of many time strings.
+    LongLine,
+    /// Systems whose lines are the 32 of the defaults.
+    EvenMinutes,
 }
 
-// Reads a large sys file, which takes less than ten seconds.
-fn read_quickly(rt: &(impl Abort + Clock + Print), alloc: Global, text: &[u8]) -> SysFile {
-    let start = Instant::now(rt).expect(rt, "a clock");
-    let file = read_large(rt, alloc, text).expect(rt, "a sys file");
-    let taken = start.elapsed(rt).expect(rt, "a clock").as_millis();
-    println!(rt; "{taken} ms").expect(rt, "an output");
-    assert!(rt; taken < 10_000);
-    file
-}
-
-// So many systems, n0 and on.
-fn numbered_systems(alloc: Global, count: u32) -> Result<String, AllocError> {
+// Ten thousand systems, n0 and on.
+fn ten_thousand(alloc: Global, tail: &str) -> Result<String, AllocError> {
     let mut text = String::new(alloc);
-    for number in 0..count {
+    for number in 0..10_000u32 {
         write!(text, "system n{}\n", number)?;
     }
+    text.push_str(tail)?;
     Ok(text)
 }
 
-#[test]
-fn ten_thousand_systems(rt: HostRuntime) {
-    let text = numbered_systems(rt.alloc(), 10_000).expect(&rt, "memory");
-    let file = read_quickly(&rt, rt.alloc(), text.as_bytes());
-    let systems = file.systems.as_slice();
-    let last = systems.last().expect(&rt, "a system");
-    assert_eq!(rt; (systems.len(), last.name.as_str()), (10_000, "n9999"));
-}
-
-#[test]
-fn the_first_of_ten_thousand_systems_again(rt: HostRuntime) {
-    let mut text = numbered_systems(rt.alloc(), 10_000).expect(&rt, "memory");
-    text.push_str("system n0").expect(&rt, "memory");
-    let fault = read_large(&rt, rt.alloc(), text.as_bytes()).err();
-    assert_eq!(rt; fault, Some(TimeFault::SystemTwice(10_001)));
+// So many systems, n000000 and on, between these.
+fn push_systems(
+    text: &mut String,
+    before: &str,
+    count: u32,
+    after: &str,
+) -> Result<(), AllocError> {
+    for number in 0..count {
+        write!(text, "{}system n{:06}{}", before, number, after)?;
+    }
+    Ok(())
 }
 
 fn systems_with_a_line(alloc: Global) -> Result<String, AllocError> {
     let mut text = String::new(alloc);
-    for number in 0..131_072u32 {
-        write!(text, "system n{:06}\ntime Wk0900-1700\n", number)?;
-    }
+    push_systems(&mut text, "", 131_072, "\ntime Wk0900-1700\n")?;
     Ok(text)
-}
-
-#[test]
-fn many_systems_are_read_in_seconds(rt: HostRuntime) {
-    let text = systems_with_a_line(rt.alloc()).expect(&rt, "memory");
-    assert_eq!(rt; text.len(), LARGEST);
-    let file = read_quickly(&rt, rt.alloc(), text.as_bytes());
-    assert_eq!(rt; file.systems.as_slice().len(), 131_072);
-}
-
-fn long_line(alloc: Global) -> Result<String, AllocError> {
-    let mut text = String::from_str(alloc, "time ")?;
-    for _ in 0..1_048_574u32 {
-        text.push_str("Any,")?;
-    }
-    text.push_str("Any")?;
-    Ok(text)
-}
-
-#[test]
-fn one_long_line_is_read_in_seconds(rt: HostRuntime) {
-    let text = long_line(rt.alloc()).expect(&rt, "memory");
-    assert_eq!(rt; text.len(), LARGEST);
-    let file = read_quickly(&rt, rt.alloc(), text.as_bytes());
-    assert!(rt; file.systems.as_slice().is_empty());
 }
 
 // A timetable of each even minute.
 fn push_even_minutes(text: &mut String) -> Result<(), AllocError> {
     text.push_str("timetable Even Any0000-0000")?;
     for minute in 1..720u32 {
-        let (hour, minute) = (minute / 30, minute % 30 * 2);
-        write!(text, ",Any{hour:02}{minute:02}-{hour:02}{minute:02}")?;
+        let at = minute / 30 * 100 + minute % 30 * 2;
+        write!(text, ",Any{at:04}-{at:04}")?;
     }
     Ok(())
 }
 
-// Systems whose lines are the 32 of the defaults.
 fn systems_of_even_minutes(alloc: Global) -> Result<String, AllocError> {
     let mut text = String::new(alloc);
     push_even_minutes(&mut text)?;
     for _ in 0..32 {
         text.push_str("\ntime Even")?;
     }
-    for number in 0..270_000u32 {
-        write!(text, "\nsystem n{:06}", number)?;
-    }
+    push_systems(&mut text, "\n", 270_000, "")?;
     Ok(text)
 }
 
-fn expect_even_minutes(rt: &impl Abort, system: &SystemDef) {
-    assert_eq!(rt; system.lines().len(), 32);
-    for line in system.lines() {
-        assert_eq!(rt; line.windows.ranges().len(), 5_040);
+fn large_text(alloc: Global, large: Large) -> Result<String, AllocError> {
+    match large {
+        Large::Section(count) => repeated(alloc, "system duke\n", "time Any\n", count, ""),
+        Large::TenThousand(tail) => ten_thousand(alloc, tail),
+        Large::WithALine => systems_with_a_line(alloc),
+        Large::LongLine => repeated(alloc, "time ", "Any,", 1_048_574, "Any"),
+        Large::EvenMinutes => systems_of_even_minutes(alloc),
     }
 }
 
-// Copies of the runs would take 174 gigabytes.
+const LARGE_FAULTS: [(Large, Option<TimeFault>); 3] = [
+    (Large::Section(32), None),
+    (Large::Section(33), Some(TimeFault::TooManyLines(34))),
+    (
+        Large::TenThousand("system n0"),
+        Some(TimeFault::SystemTwice(10_001)),
+    ),
+];
+
 #[test]
-fn systems_share_the_runs_of_the_defaults(rt: HostRuntime) {
-    let text = systems_of_even_minutes(rt.alloc()).expect(&rt, "memory");
-    let file = read_quickly(&rt, rt.alloc(), text.as_bytes());
-    assert_eq!(rt; file.systems.as_slice().len(), 270_000);
-    for system in file.systems.as_slice() {
-        expect_even_minutes(&rt, system);
+fn faults_behind_many_lines(rt: HostRuntime) {
+    for (large, want) in LARGE_FAULTS.as_slice() {
+        let text = large_text(rt.alloc(), *large).expect(&rt, "memory");
+        expect_same(&rt, &read(rt.alloc(), text.as_bytes()).err(), want);
+    }
+}
+
+/// How long a text is, how many systems it has, the last one's name, and how many lines of how many runs each system has.
+type Counts = (usize, usize, &'static str, usize, usize);
+
+// Copies of the runs of the last row would take 174 gigabytes.
+const LARGE_FILES: [(Large, Counts); 4] = [
+    (Large::TenThousand(""), (128_890, 10_000, "n9999", 0, 0)),
+    (Large::WithALine, (LARGEST, 131_072, "n131071", 1, 5)),
+    (Large::LongLine, (LARGEST, 0, "", 0, 0)),
+    (
+        Large::EvenMinutes,
+        (4_059_694, 270_000, "n269999", 32, 5_040),
+    ),
+];
+
+// Reads a large sys file, which takes less than ten seconds.
+fn read_quickly(rt: &(impl Abort + Clock + Print), alloc: Global, text: &[u8]) -> SysFile {
+    let start = Instant::now(rt).expect(rt, "a clock");
+    let file = read(alloc, text).expect(rt, "a sys file");
+    expect_soon(rt, &start);
+    file
+}
+
+fn last_name(systems: &[SystemDef]) -> &str {
+    match systems.last() {
+        Some(system) => system.name.as_str(),
+        None => "",
+    }
+}
+
+fn expect_lines(rt: &impl Abort, system: &SystemDef, lines: usize, runs: usize) {
+    expect_same(rt, &system.lines().len(), &lines);
+    for line in system.lines() {
+        expect_same(rt, &line.windows.ranges().len(), &runs);
+    }
+}
+
+fn expect_systems(rt: &impl Abort, systems: &[SystemDef], (_, count, last, lines, runs): Counts) {
+    expect_same(rt, &systems.len(), &count);
+    expect_same(rt, &last_name(systems), &last);
+    for system in systems {
+        expect_lines(rt, system, lines, runs);
+    }
+}
+
+#[test]
+fn large_files_are_read_in_seconds(rt: HostRuntime) {
+    for (large, counts) in LARGE_FILES.as_slice() {
+        let text = large_text(rt.alloc(), *large).expect(&rt, "memory");
+        expect_same(&rt, &text.len(), &counts.0);
+        let file = read_quickly(&rt, rt.alloc(), text.as_bytes());
+        expect_systems(&rt, file.systems.as_slice(), *counts);
     }
 }

@@ -1,12 +1,13 @@
 // Moments, time strings and their sets, and each front of some time strings against plain readers.
 use crate::expecting::{expect_same, expect_text, wanted};
 use crate::fronts::{Fronts, TIME_STRINGS};
+use crate::values::{WEEK, line, site};
 use jiff_core::civil::DateTime;
 use std::alloc::{AllocError, Global};
 use std::fmt::Write;
 use std::process::Abort;
-use uu_names::{Grade, Listed, SiteName};
-use uu_times::{Line, Moment, SystemDef, TimeFault, Timetables, Windows, read_time};
+use uu_names::Listed;
+use uu_times::{Moment, SystemDef, TimeFault, Timetables, Windows, read_time};
 
 // The set of a time string that may name a predefined timetable.
 fn windows(alloc: Global, text: &str) -> Result<Windows, TimeFault> {
@@ -14,58 +15,39 @@ fn windows(alloc: Global, text: &str) -> Result<Windows, TimeFault> {
     read_time(alloc, text, &tables)
 }
 
-/// Seconds and offsets, and the minute of the week.
-const MINUTES: [(u64, i32, u16); 3] = [(0, 0, 5760), (0, -300, 5460), (1_000_000_000, 0, 106)];
+type Civil = ((i16, u8, u8), (u8, u8, u8));
 
-fn second_and_week(second: u64, offset: i32) -> Result<(u64, u16), TimeFault> {
+/// Seconds and offsets, and the minute of the week and the date and time, or the fault.
+const MOMENTS: [(u64, i32, Result<(u16, Civil), TimeFault>); 8] = [
+    (0, 0, Ok((5760, ((1970, 1, 1), (0, 0, 0))))),
+    (0, -300, Ok((5460, ((1969, 12, 31), (19, 0, 0))))),
+    (1_000_000_000, 0, Ok((106, ((2001, 9, 9), (1, 46, 40))))),
+    (4_102_444_800, 0, Ok((7200, ((2100, 1, 1), (0, 0, 0))))),
+    (4_102_444_801, 0, Err(TimeFault::MomentRange)),
+    (4_102_444_801, 1440, Err(TimeFault::MomentRange)),
+    (0, 1440, Err(TimeFault::OffsetRange)),
+    (0, -1440, Err(TimeFault::OffsetRange)),
+];
+
+// The second of a moment, and what the row of a moment has.
+fn moment(second: u64, offset: i32) -> Result<(u64, (u16, Civil)), TimeFault> {
     let moment = Moment::new(second, offset)?;
-    Ok((moment.second, moment.week))
+    let DateTime { date, time } = moment.local;
+    let civil = (
+        (date.year, date.month, date.day),
+        (time.hour, time.minute, time.second),
+    );
+    Ok((moment.second, (moment.week, civil)))
 }
 
 #[test]
 fn moments(rt: HostRuntime) {
-    for (second, offset, week) in MINUTES.as_slice() {
-        expect_same(
-            &rt,
-            &second_and_week(*second, *offset),
-            &Ok((*second, *week)),
-        );
-    }
-}
-
-type Civil = ((i16, u8, u8), (u8, u8, u8));
-
-/// Seconds and offsets, and the date and time.
-const CIVIL_TIMES: [(u64, i32, Civil); 3] = [
-    (0, -300, ((1969, 12, 31), (19, 0, 0))),
-    (1_000_000_000, 0, ((2001, 9, 9), (1, 46, 40))),
-    (4_102_444_800, 0, ((2100, 1, 1), (0, 0, 0))),
-];
-
-fn civil(second: u64, offset: i32) -> Result<Civil, TimeFault> {
-    let DateTime { date, time } = Moment::new(second, offset)?.local;
-    let shown = (date.year, date.month, date.day);
-    Ok((shown, (time.hour, time.minute, time.second)))
-}
-
-#[test]
-fn civil_times(rt: HostRuntime) {
-    for (second, offset, want) in CIVIL_TIMES.as_slice() {
-        expect_same(&rt, &civil(*second, *offset), &Ok(*want));
-    }
-}
-
-const NO_MOMENTS: [(u64, i32, TimeFault); 4] = [
-    (4_102_444_801, 0, TimeFault::MomentRange),
-    (4_102_444_801, 1440, TimeFault::MomentRange),
-    (0, 1440, TimeFault::OffsetRange),
-    (0, -1440, TimeFault::OffsetRange),
-];
-
-#[test]
-fn no_moments(rt: HostRuntime) {
-    for (second, offset, fault) in NO_MOMENTS.as_slice() {
-        expect_same(&rt, &Moment::new(*second, *offset).err(), &Some(*fault));
+    for (second, offset, want) in MOMENTS.as_slice() {
+        let want = match want {
+            Ok(want) => Ok((*second, *want)),
+            Err(fault) => Err(*fault),
+        };
+        expect_same(&rt, &moment(*second, *offset), &want);
     }
 }
 
@@ -98,21 +80,46 @@ pub fn show_windows(shown: &mut String, windows: &Windows) -> Result<(), AllocEr
     Ok(())
 }
 
-fn shown(alloc: Global, windows: &Windows) -> Result<String, AllocError> {
-    let mut text = String::new(alloc);
-    show_windows(&mut text, windows)?;
-    Ok(text)
+// Whether a set says of each minute of the week what its runs say.
+fn is_as_its_runs(windows: &Windows) -> bool {
+    for minute in 0..10_080u16 {
+        let mut is_in = false;
+        for (first, last) in windows.ranges() {
+            is_in |= *first <= minute && minute <= *last;
+        }
+        if windows.contains(minute) != is_in {
+            return false;
+        }
+    }
+    true
 }
 
-// The runs of a time string, or how it is refused.
-fn told(alloc: Global, text: &str) -> Result<String, AllocError> {
-    match windows(alloc, text) {
-        Ok(windows) => shown(alloc, &windows),
-        Err(fault) => format!(in alloc; "{fault}"),
+fn show(shown: &mut String, windows: &Windows) -> Result<(), AllocError> {
+    show_windows(shown, windows)?;
+    if is_as_its_runs(windows) {
+        Ok(())
+    } else {
+        shown.push_str(" but not minute by minute")
     }
 }
 
-const TOLD: [(&str, &str); 17] = [
+// The runs of a time string, which are those of its minutes, or how it is refused.
+fn told(alloc: Global, text: &str) -> Result<String, AllocError> {
+    let mut told = String::new(alloc);
+    match windows(alloc, text) {
+        Ok(windows) => show(&mut told, &windows)?,
+        Err(fault) => write!(told, "{fault}")?,
+    }
+    Ok(told)
+}
+
+const EVENING: &str = " 0-1915 2465-3355 3905-4795 5345-6235 6785-7675 8225-10079";
+
+const NIGHT: &str = " 0-1015 1385-1915 2825-3355 4265-4795 5705-6235 7145-7675 8585-10079";
+
+const NON_PEAK: &str = " 0-1855 2525-3295 3965-4735 5405-6175 6845-7615 8285-10079";
+
+const TOLD: [(&str, &str); 23] = [
     ("Any", " 0-10079"),
     ("Any0000-2400", " 0-10079"),
     ("never", ""),
@@ -136,6 +143,13 @@ const TOLD: [(&str, &str); 17] = [
     ("MoTuXx", "line 0: bad time string at 4"),
     ("Wednesday", "line 0: bad time string at 2"),
     ("Lunch", "line 0: unknown timetable"),
+    // The timetables that are there, each above a time string of the same set.
+    ("Evening", EVENING),
+    ("Wk1705-0755,Sa,Su", EVENING),
+    ("night", NIGHT),
+    ("Wk2305-0755,Sa,Su2305-1655", NIGHT),
+    ("NONPEAK", NON_PEAK),
+    ("Wk1805-0655,Sa,Su", NON_PEAK),
 ];
 
 #[test]
@@ -145,64 +159,37 @@ fn time_strings(rt: HostRuntime) {
     }
 }
 
-/// The timetables that are there, and time strings of the same sets.
-const PREDEFINED: [(&str, &str); 3] = [
-    ("Evening", "Wk1705-0755,Sa,Su"),
-    ("night", "Wk2305-0755,Sa,Su2305-1655"),
-    ("NONPEAK", "Wk1805-0655,Sa,Su"),
+/// Ranges, a minute, and whether it is in their set, where they are those of one.
+const RANGES: [(&[(u16, u16)], u16, Option<bool>); 5] = [
+    (&[(0, 10), (12, 12)], 11, Some(false)),
+    (&[(0, 10), (12, 12)], 12, Some(true)),
+    (&[(0, 10), (11, 12)], 11, None),
+    (&[(5, 10_080)], 5, None),
+    (&[], 0, Some(false)),
 ];
 
-#[test]
-fn timetables_that_are_there(rt: HostRuntime) {
-    for (name, text) in PREDEFINED.as_slice() {
-        expect_same(&rt, &told(rt.alloc(), name), &told(rt.alloc(), text));
+fn is_in(alloc: Global, ranges: &[(u16, u16)], minute: u16) -> Result<Option<bool>, AllocError> {
+    match Windows::from_ranges(alloc, ranges)? {
+        Some(set) => Ok(Some(set.contains(minute))),
+        None => Ok(None),
     }
-}
-
-/// Ranges, and whether they are those of a set.
-const RANGES: [(&[(u16, u16)], bool); 4] = [
-    (&[(0, 10), (12, 12)], true),
-    (&[(0, 10), (11, 12)], false),
-    (&[(5, 10_080)], false),
-    (&[], true),
-];
-
-fn is_set(alloc: Global, ranges: &[(u16, u16)]) -> Result<bool, AllocError> {
-    let set = Windows::from_ranges(alloc, ranges)?;
-    Ok(set.is_some())
 }
 
 #[test]
 fn sets_from_ranges(rt: HostRuntime) {
-    for (ranges, want) in RANGES.as_slice() {
-        expect_same(&rt, &is_set(rt.alloc(), ranges), &Ok(*want));
-    }
-}
-
-#[test]
-fn minutes_between_ranges(rt: HostRuntime) {
-    let apart = Windows::from_ranges(rt.alloc(), &[(0, 10), (12, 12)]).expect(&rt, "memory");
-    let apart = apart.expect(&rt, "ranges apart");
-    assert!(rt; !apart.contains(11));
-    assert!(rt; apart.contains(12));
-}
-
-fn any_line(rt: &impl Abort, alloc: Global) -> Line {
-    Line {
-        grade: Grade::default(),
-        windows: windows(alloc, "Any").expect(rt, "a time string"),
-        retry: None,
+    for (ranges, minute, want) in RANGES.as_slice() {
+        expect_same(&rt, &is_in(rt.alloc(), ranges, *minute), &Ok(*want));
     }
 }
 
 // Whether a system may have so many lines.
 fn is_within_limits(rt: &impl Abort, alloc: Global, count: u32) -> bool {
-    let name = SiteName::parse(alloc, "duke").expect(rt, "a site name");
     let mut lines = Vec::new(alloc);
     for _ in 0..count {
-        lines.push(any_line(rt, alloc)).expect(rt, "memory");
+        let line = line(rt, alloc, b'N', WEEK.as_slice(), None);
+        lines.push(line).expect(rt, "memory");
     }
-    SystemDef::new(name, Listed::from_vec(lines), 26).is_some()
+    SystemDef::new(site(rt, alloc, "duke"), Listed::from_vec(lines), 26).is_some()
 }
 
 #[test]
@@ -211,41 +198,11 @@ fn systems_within_limits(rt: HostRuntime) {
     expect_same(&rt, &is_within_limits(&rt, rt.alloc(), 33), &false);
 }
 
-// Shows the runs of the minutes that a set says it has, each minute of the week being asked for.
-fn show_minutes(shown: &mut String, windows: &Windows) -> Result<(), AllocError> {
-    let mut last = None;
-    for minute in 0..10_080u16 {
-        let is_in = windows.contains(minute);
-        match (last, is_in) {
-            (None, true) => write!(shown, " {}", minute)?,
-            (Some(end), false) => write!(shown, "-{}", end)?,
-            _ => {}
-        }
-        last = if is_in { Some(minute) } else { None };
-    }
-    match last {
-        Some(end) => write!(shown, "-{}", end),
-        None => Ok(()),
-    }
-}
-
-fn shown_by_minutes(alloc: Global, windows: &Windows) -> Result<String, AllocError> {
-    let mut text = String::new(alloc);
-    show_minutes(&mut text, windows)?;
-    Ok(text)
-}
-
-fn told_by_minutes(alloc: Global, text: &str) -> Result<String, AllocError> {
-    match windows(alloc, text) {
-        Ok(windows) => shown_by_minutes(alloc, &windows),
-        Err(fault) => format!(in alloc; "{fault}"),
-    }
-}
-
 fn expect_fronts(rt: &impl Abort, alloc: Global, fronts: &Fronts) {
     for length in 0..=fronts.text.len() {
         let front = fronts.text.get(..length).expect(rt, "a front");
-        expect_text(rt, told_by_minutes(alloc, front), wanted(fronts, length));
+        let want = wanted(fronts, length).expect(rt, "an answer");
+        expect_text(rt, told(alloc, front), want);
     }
 }
 

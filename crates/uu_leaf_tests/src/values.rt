@@ -8,7 +8,8 @@ use uu_times::{Line, Moment, SystemDef, Windows};
 /// 2001-09-09 01:46:40, a Sunday.
 pub const SUNDAY: u64 = 1_000_000_000;
 
-const WEEK: [(u16, u16); 1] = [(0, 10_079)];
+/// The whole week.
+pub const WEEK: [(u16, u16); 1] = [(0, 10_079)];
 
 /// Weekdays from 9:00 to 17:00.
 const OFFICE: [(u16, u16); 5] = [
@@ -35,8 +36,8 @@ pub fn moment(rt: &impl Abort, second: u64) -> Moment {
     Moment::new(second, 0).expect(rt, "a moment")
 }
 
-// A time line for this grade with these ranges of the week.
-fn line(
+/// A time line for this grade with these ranges of the week.
+pub fn line(
     rt: &impl Abort,
     alloc: Global,
     byte: u8,
