@@ -187,8 +187,13 @@ fn read_file(alloc: Global, text: &[u8]) -> Result<SysFile, TimeFault>
     ensures { AnswersUnlessMemory result (file_read text.now) }
 {
     let mut reader = Reader::new(alloc)?;
-    reader.read_lines(alloc, text)?;
-    Ok(reader.into_file(alloc)?)
+    match reader.read_lines(alloc, text) {
+        Ok(()) => Ok(reader.into_file(alloc)?),
+        Err(fault) => {
+            drop(reader);
+            Err(fault)
+        }
+    }
 }
 
 /// Reads a sys file of at most 4,194,304 bytes: its systems in order, each with the time lines and the number of failures of its
