@@ -4,7 +4,6 @@ use Rattle.std.proofs.lemmas.Bool.{eqb-true}
 use Rattle.std.specs.Str.Lines.{lines}
 use Rattle.uu_times.specs.declared.fault.TimeFault.{TimeFault}
 use Rattle.uu_times.specs.declared.fault.TimeFault.TheVariants.{Memory}
-use Rattle.uu_times.specs.Fault.{AnswersUnlessMemory}
 use Rattle.uu_times.specs.Directives.{◌>>=◌}
 use Rattle.uu_times.specs.Lines.{Numbered, joined}
 use Rattle.uu_times.specs.Internal.Reading.{Reading, Takes, line_read, lines_read}
@@ -30,16 +29,17 @@ unfolding lines_read joined
 reads-end reading number rest whole none answer = ap (λ (r : List ℕ). lines_read reading (joined number (lines r))) (sym none) ∙ answer
 
 -- a faulty line, or want of memory at it
-pub takes-fault : (fault : TimeFault) (reading next : Reading) (number : ℕ) (text : List ℕ) (all more : List Numbered) (whole : Result Reading TimeFault)
+pub takes-fault : (fault : TimeFault) (reading next last : Reading) (number : ℕ) (text : List ℕ) (all more : List Numbered) (whole : Result Reading TimeFault)
     → all ≡ record { number = number; line = text } ∷ more → Takes (Err fault) next (line_read reading number text) → lines_read reading all ≡ whole
-    → AnswersUnlessMemory (Err fault) whole
-takes-fault Memory reading next number text all more whole is takes answer = tt
-takes-fault fault reading next number text all more whole is takes answer = sym (reads-fault reading number text all more whole fault is takes answer)
+    → Takes (Err fault) last whole
+takes-fault Memory reading next last number text all more whole is takes answer = tt
+takes-fault fault reading next last number text all more whole is takes answer = reads-fault reading number text all more whole fault is takes answer
 
 -- a fault that is passed on
-pub passed-on : (result whole : Result Reading TimeFault) (fault : TimeFault) → IsErrAnd result (λ f. f ≡ fault) → AnswersUnlessMemory (Err fault) whole → AnswersUnlessMemory result whole
-passed-on (Ok reading) whole fault is answers = absurd is
-passed-on (Err f) whole fault is answers = subst (λ (f : TimeFault). AnswersUnlessMemory (Err f) whole) (sym is) answers
+pub passed-on : (result : Result (Unit {0}) TimeFault) (last : Reading) (whole : Result Reading TimeFault) (fault : TimeFault)
+    → IsErrAnd result (λ f. f ≡ fault) → Takes (Err fault) last whole → Takes result last whole
+passed-on (Ok done) last whole fault is takes = absurd is
+passed-on (Err f) last whole fault is takes = subst (λ (f : TimeFault). Takes (Err f) last whole) (sym is) takes
 
 pub empty_if : (rest : List ℕ) → (nat_eq (length rest) 0) ≡ true → rest ≡ []
 empty_if [] none = refl

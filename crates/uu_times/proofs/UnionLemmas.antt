@@ -1,8 +1,8 @@
 -- The ranges of simple strings hold their minutes, and so do the runs that they are put together to.
-use Rattle.std.proofs.Common.{◌≡◌, ℕ, zero, suc, ◌+◌, ◌*◌, ◌/◌, ◌%◌, ◌<◌, ◌≤◌, Bool, true, false, ◌&&◌, ◌||◌, max, Option, None, Some, IfSome, List, [], ◌∷◌, ◌++◌, All, lit≤, refl, ap, sym, ◌∙◌, arith, add-one, nat_eq, nat_le, nat_lt}
+use Rattle.std.proofs.Common.{◌≡◌, ℕ, zero, suc, ◌+◌, ◌*◌, ◌/◌, ◌%◌, ◌<◌, ◌≤◌, Bool, true, false, ◌&&◌, ◌||◌, max, Option, None, Some, IfSome, List, [], ◌∷◌, ◌++◌, All, lit≤, refl, ap, sym, ◌∙◌, arith, add-one, append_assoc, drop, drop-cons, get_or, length, nat_eq, nat_le, nat_lt}
 use Rattle.std.specs.List.{AllByRecursion}
 use Rattle.std.specs.List.Sorted.{IsNonDecreasingBy, IsPermutation}
-use Rattle.std.proofs.lemmas.Bool.{cond_both, leb-true, leb-false, eqb-true, lt-ltb, le-ltb, and_left}
+use Rattle.std.proofs.lemmas.Bool.{cond-false, cond-true, cond_both, leb-true, leb-false, eqb-true, lt-ltb, le-ltb, le-leb, lt-leb, and_left}
 use Rattle.std.proofs.lemmas.Bool.Decides.{nat_tests}
 use Rattle.std.proofs.lemmas.List.Elements.{All-nil, All-cons, All-head, All-tail, All-append, recursion_from_All}
 use Rattle.std.proofs.lemmas.List.Folds.{list_any-append}
@@ -151,3 +151,30 @@ merged-runs simples (range ∷ ranges) daily moved rises =
 pub days_ranges-more : (simple : Simple) (day : ℕ) → days_ranges simple (day + 1) ≡ days_ranges simple day ++ ranges_on simple day
 unfolding days_ranges
 days_ranges-more simple day = ap (days_ranges simple) (add-one day)
+
+-- a simple string more
+pub week-more : (ranges next : List (ℕ × ℕ)) (simples : List Simple) (at : ℕ) (d : Simple) (whole : List (ℕ × ℕ)) → at < length simples
+    → next ≡ ranges ++ days_ranges (get_or simples at d) 7 → ranges ++ week_ranges (drop at simples) ≡ whole → next ++ week_ranges (drop (suc at) simples) ≡ whole
+week-more ranges next simples at d whole below is answer =
+    ap (λ r. r ++ week_ranges (drop (suc at) simples)) is
+    ∙ append_assoc ranges (days_ranges (get_or simples at d) 7) (week_ranges (drop (suc at) simples))
+    ∙ ap (λ s. ranges ++ week_ranges s) (sym (drop-cons simples at d below))
+    ∙ answer
+
+-- a range that goes on with the run, and one that is apart from it
+pub goes-on : (runs : List (ℕ × ℕ)) (run : ℕ × ℕ) (rest : List (ℕ × ℕ)) (at : ℕ) (d : ℕ × ℕ) (whole : List (ℕ × ℕ)) → at < length rest
+    → (get_or rest at d).0 ≤ run.1 + 1 → runs ++ merged_from run (drop at rest) ≡ whole
+    → runs ++ merged_from (run.0, max run.1 (get_or rest at d).1) (drop (suc at) rest) ≡ whole
+goes-on runs run rest at d whole below touches answer =
+    ap (λ rs. runs ++ rs) (sym (ap (merged_from run) (drop-cons rest at d below)
+    ∙ cond-true (nat_le (get_or rest at d).0 (run.1 + 1)) (merged_from (run.0, max run.1 (get_or rest at d).1) (drop (suc at) rest)) (run ∷ merged_from (get_or rest at d) (drop (suc at) rest)) (le-leb (get_or rest at d).0 (run.1 + 1) touches)))
+    ∙ answer
+
+pub stands-apart : (runs : List (ℕ × ℕ)) (run : ℕ × ℕ) (rest : List (ℕ × ℕ)) (at : ℕ) (d : ℕ × ℕ) (whole : List (ℕ × ℕ)) → at < length rest
+    → run.1 + 1 < (get_or rest at d).0 → runs ++ merged_from run (drop at rest) ≡ whole
+    → runs ++ run ∷ [] ++ merged_from (get_or rest at d) (drop (suc at) rest) ≡ whole
+stands-apart runs run rest at d whole below apart answer =
+    append_assoc runs (run ∷ []) (merged_from (get_or rest at d) (drop (suc at) rest))
+    ∙ ap (λ rs. runs ++ rs) (sym (ap (merged_from run) (drop-cons rest at d below)
+    ∙ cond-false (nat_le (get_or rest at d).0 (run.1 + 1)) (merged_from (run.0, max run.1 (get_or rest at d).1) (drop (suc at) rest)) (run ∷ merged_from (get_or rest at d) (drop (suc at) rest)) (lt-leb (get_or rest at d).0 (run.1 + 1) apart)))
+    ∙ answer

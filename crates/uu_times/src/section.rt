@@ -40,6 +40,17 @@ fn copy_lines(alloc: Global, lines: &[Line]) -> Result<Vec<Line>, AllocError>
     Ok(copies)
 }
 
+// The lines, or copies of others where there are none.
+fn lines_or(alloc: Global, lines: Vec<Line>, others: &[Line]) -> Result<Vec<Line>, AllocError>
+    ensures { IfOk result (λ chosen. chosen.items ≡ lines_or lines.items others.now) }
+{
+    if lines.is_empty() {
+        copy_lines(alloc, others)
+    } else {
+        Ok(lines)
+    }
+}
+
 impl Section {
     fn new(alloc: Global) -> Section
         ensures { result ≡ no_part }
@@ -83,11 +94,7 @@ impl Section {
         ensures { IfOk result (λ system. system ≡ system_of name self defaults.now) }
     {
         let Section { lines, max_retries } = self;
-        let lines = if lines.is_empty() {
-            copy_lines(alloc, &defaults.lines)?
-        } else {
-            lines
-        };
+        let lines = lines_or(alloc, lines, &defaults.lines)?;
         let max_retries = max_retries
             .or(defaults.max_retries)
             .unwrap_or(DEFAULT_MAX_RETRIES);
@@ -97,6 +104,20 @@ impl Section {
             max_retries,
         })
     }
+}
+
+// Adds the system of a section.
+fn push_system(
+    alloc: Global,
+    done: &mut Vec<SystemDef>,
+    name: SiteName,
+    section: Section,
+    defaults: &Section,
+) -> Result<(), AllocError>
+    ensures { OnOk result (done.new.items ≡ done.old.items ++ system_of name section defaults.now ∷ []) }
+{
+    done.push(section.into_system(alloc, name, defaults)?)?;
+    Ok(())
 }
 
 /// The sections so far.
@@ -159,13 +180,14 @@ impl Sections {
     {
         let section = mem::replace(&mut self.section, Section::new(alloc));
         match mem::replace(&mut self.name, Some(name)) {
-            None => self.defaults = section,
+            None => {
+                self.defaults = section;
+                Ok(())
+            }
             Some(previous) => {
-                let system = section.into_system(alloc, previous, &self.defaults)?;
-                self.done.push(system)?;
+                push_system(alloc, &mut self.done, previous, section, &self.defaults)
             }
         }
-        Ok(())
     }
 
     /// The systems of all sections.
@@ -179,7 +201,7 @@ impl Sections {
             defaults,
         } = self;
         if let Some(name) = name {
-            done.push(section.into_system(alloc, name, &defaults)?)?;
+            push_system(alloc, &mut done, name, section, &defaults)?;
         }
         Ok(done)
     }

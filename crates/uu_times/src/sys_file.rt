@@ -1,12 +1,12 @@
 //! Sys files.
-ghost use Rattle.std.specs.Prelude.{◌≡◌, ◌≤◌, [], Ok, Err, OnOk, IfOk, IfSome, length, MatchResult};
+ghost use Rattle.std.specs.Prelude.{◌≡◌, ◌≤◌, true, false, [], Ok, OnOk, IfOk, IfErr, length};
 ghost use Rattle.uu_times.specs.Directives.{IsValid};
 ghost use Rattle.uu_times.specs.SysFile.{sys_file_of};
 ghost use Rattle.uu_times.specs.System.{HasRetry};
 ghost use Rattle.uu_times.specs.declared.directive.Directive.TheVariants.{Begin, Time, Table};
 ghost use Rattle.std.specs.Str.Lines.{lines};
 ghost use Rattle.uu_names.specs.Text.{most_text};
-ghost use Rattle.uu_times.specs.Fault.{AnswersUnlessMemory};
+ghost use Rattle.uu_times.specs.Fault.{AnswersUnlessMemory, UnlessMemory};
 ghost use Rattle.uu_times.specs.Lines.{joined};
 ghost use Rattle.uu_times.specs.Internal.Reading.{has_seen, with_seen, no_reading, absorbed, line_read, lines_read, file_of, file_read, Takes};
 
@@ -42,16 +42,15 @@ impl Names {
         }
     }
 
-    fn contains(&self, name: &SiteName) -> bool
-        ensures { result ≡ has_seen self.now name.now }
+    // Adds a name; the fault, where it was seen before.
+    fn add(&mut self, name: &SiteName, twice: TimeFault) -> Result<(), TimeFault>
+        ensures new { OnOk result ((has_seen self.old name.now ≡ false) × (self.new ≡ with_seen self.old name.now)) }
+        ensures seen { IfErr result (λ fault. UnlessMemory fault ((has_seen self.old name.now ≡ true) × (fault ≡ twice))) }
     {
-        self.names.contains(name)
-    }
-
-    fn insert(&mut self, name: SiteName) -> Result<(), AllocError>
-        ensures { OnOk result (self.new ≡ with_seen self.old name) }
-    {
-        self.names.insert(name)?;
+        if self.names.contains(name) {
+            return Err(twice);
+        }
+        self.names.insert(name.clone()?)?;
         Ok(())
     }
 }
@@ -90,10 +89,7 @@ impl Reader {
     fn begin(&mut self, alloc: Global, line: u32, name: SiteName) -> Result<(), TimeFault>
         ensures { Takes result self.new (absorbed self.old line (Begin name)) }
     {
-        if self.named.contains(&name) {
-            return Err(TimeFault::SystemTwice(line));
-        }
-        self.named.insert(name.clone()?)?;
+        self.named.add(&name, TimeFault::SystemTwice(line))?;
         self.sections.begin(alloc, name)?;
         Ok(())
     }
@@ -112,10 +108,7 @@ impl Reader {
     fn define(&mut self, line: u32, name: SiteName, windows: Windows) -> Result<(), TimeFault>
         ensures { Takes result self.new (absorbed self.old line (Table name windows)) }
     {
-        if self.tabled.contains(&name) {
-            return Err(TimeFault::TableTwice(line));
-        }
-        self.tabled.insert(name.clone()?)?;
+        self.tabled.add(&name, TimeFault::TableTwice(line))?;
         self.tables.set(name, windows)?;
         Ok(())
     }
@@ -150,39 +143,42 @@ impl Reader {
         }
     }
 
+    // Reads the lines of a text, of which the first has the number 1.
+    fn read_lines(&mut self, alloc: Global, text: &[u8]) -> Result<(), TimeFault>
+        requires { length text.now ≤ most_text }
+        ensures { Takes result self.new (lines_read self.old (joined 1 (lines text.now))) }
+    {
+        let mut rest = text;
+        let mut number = 1;
+        while !rest.is_empty() {
+            let first = joined_line(alloc, rest)?;
+            self.read_line(alloc, number, &first.line)?;
+            rest = first.rest;
+            number += first.count;
+        }
+        Ok(())
+    }
+
     // The systems and the skipped lines.
     fn into_file(self, alloc: Global) -> Result<SysFile, AllocError>
         ensures { IfOk result (λ file. file ≡ file_of self) }
     {
         let Reader {
-            tables: _,
-            tabled: _,
-            named: _,
+            tables,
+            tabled,
+            named,
             sections,
             skipped,
         } = self;
+        drop(tables);
+        drop(tabled);
+        drop(named);
+        let systems = sections.into_systems(alloc)?;
         Ok(SysFile {
-            systems: Listed::from_vec(sections.into_systems(alloc)?),
+            systems: Listed::from_vec(systems),
             skipped: Listed::from_vec(skipped),
         })
     }
-}
-
-// Reads the lines of a sys file.
-fn read_lines(alloc: Global, text: &[u8]) -> Result<Reader, TimeFault>
-    requires { length text.now ≤ most_text }
-    ensures { AnswersUnlessMemory result (lines_read no_reading (joined 1 (lines text.now))) }
-{
-    let mut reader = Reader::new(alloc)?;
-    let mut rest = text;
-    let mut number = 1;
-    while !rest.is_empty() {
-        let first = joined_line(alloc, rest)?;
-        reader.read_line(alloc, number, &first.line)?;
-        rest = first.rest;
-        number += first.count;
-    }
-    Ok(reader)
 }
 
 // Reads a sys file line by line.
@@ -190,8 +186,14 @@ fn read_file(alloc: Global, text: &[u8]) -> Result<SysFile, TimeFault>
     requires { length text.now ≤ most_text }
     ensures { AnswersUnlessMemory result (file_read text.now) }
 {
-    let reader = read_lines(alloc, text)?;
-    Ok(reader.into_file(alloc)?)
+    let mut reader = Reader::new(alloc)?;
+    match reader.read_lines(alloc, text) {
+        Ok(()) => Ok(reader.into_file(alloc)?),
+        Err(fault) => {
+            drop(reader);
+            Err(fault)
+        }
+    }
 }
 
 /// Reads a sys file of at most 4,194,304 bytes: its systems in order, each with the time lines and the number of failures of its

@@ -64,13 +64,11 @@ fn push_hours(
     requires hours { IfSome hours (λ h. (h.0 < 1440) × (h.1 < 1440)) }
     ensures { OnOk result (ranges.new.items ≡ ranges.old.items ++ day_ranges first hours) }
 {
-    match hours {
-        None => ranges.push((first, first + 1439))?,
-        Some((start, end)) if start <= end => ranges.push((first + start, first + end))?,
-        Some((start, end)) => {
-            ranges.push((first, first + end))?;
-            ranges.push((first + start, first + 1439))?;
-        }
+    let (start, end) = hours.unwrap_or((0, 1439));
+    if start <= end {
+        ranges.push((first + start, first + end))?;
+    } else {
+        ranges.extend_from_slice(&[(first, first + end), (first + start, first + 1439)])?;
     }
     Ok(())
 }
