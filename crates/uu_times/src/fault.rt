@@ -3,36 +3,46 @@ ghost use Rattle.std.specs.Prelude.{◌≡◌};
 ghost use Rattle.uu_times.specs.Fault.{code_of};
 
 use std::alloc::{AllocError, AllocFailed};
-use std::error::Error;
-use std::fmt;
+use thiserror::Error;
 
 /// A fault of a moment, of a time string or of a sys file.
 ///
 /// Lines count physical lines from 1, and are 0 where a time string was read by itself. An
 /// offset counts bytes of the time string from 0.
-#[derive(Clone, Copy, PartialEq, Eq, Debug, Drop)]
+#[derive(Clone, Copy, PartialEq, Eq, Debug, Drop, Error)]
 pub enum TimeFault {
     /// The second lies past the last moment.
+    #[error("moment out of range")]
     MomentRange,
     /// The offset from UTC is a day or more.
+    #[error("offset out of range")]
     OffsetRange,
     /// A text that is no time string: the line, and how many of its bytes begin one.
+    #[error("line {0}: bad time string at {1}")]
     BadTime(u32, usize),
     /// The name of no timetable.
+    #[error("line {0}: unknown timetable")]
     UnknownTable(u32),
     /// A second definition of a timetable.
+    #[error("line {0}: timetable defined twice")]
     TableTwice(u32),
     /// No number, or one past its limit.
+    #[error("line {0}: bad number")]
     BadNumber(u32),
     /// A `system` line without exactly one site name.
+    #[error("line {0}: bad system name")]
     BadSystem(u32),
     /// More time lines than a section may have.
+    #[error("line {0}: too many time lines")]
     TooManyLines(u32),
     /// A second section of a system.
+    #[error("line {0}: system defined twice")]
     SystemTwice(u32),
     /// The wrong words behind a keyword.
+    #[error("line {0}: bad words")]
     BadWords(u32),
     /// Memory ran out.
+    #[error("out of memory")]
     Memory,
 }
 
@@ -56,29 +66,6 @@ impl TimeFault {
         }
     }
 }
-
-impl fmt::Display for TimeFault {
-    fn fmt<W: fmt::Write>(&self, f: &mut fmt::Formatter<W>) -> fmt::Result {
-        let (line, text) = match self {
-            TimeFault::MomentRange => return f.write_str("moment out of range"),
-            TimeFault::OffsetRange => return f.write_str("offset out of range"),
-            TimeFault::Memory => return f.write_str("out of memory"),
-            TimeFault::BadTime(line, at) => {
-                return write!(f, "line {line}: bad time string at {at}");
-            }
-            TimeFault::UnknownTable(line) => (line, "unknown timetable"),
-            TimeFault::TableTwice(line) => (line, "timetable defined twice"),
-            TimeFault::BadNumber(line) => (line, "bad number"),
-            TimeFault::BadSystem(line) => (line, "bad system name"),
-            TimeFault::TooManyLines(line) => (line, "too many time lines"),
-            TimeFault::SystemTwice(line) => (line, "system defined twice"),
-            TimeFault::BadWords(line) => (line, "bad words"),
-        };
-        write!(f, "line {line}: {text}")
-    }
-}
-
-impl Error for TimeFault {}
 
 impl From<AllocError> for TimeFault {
     ghost use Rattle.std.specs.Prelude.{◌≡◌};
