@@ -64,22 +64,11 @@ const HANDED_IN: [(bool, u32, usize, Result<u32, Refusal>); 7] = [
     (true, 4_294_967_295, 0, Err(Refusal::NumbersOut)),
 ];
 
-fn queue_decision(
-    rt: &impl Abort,
-    alloc: Global,
-    is_defined: bool,
-    next: u32,
-    size: usize,
-) -> Result<u32, Refusal> {
-    let job = new_job(rt, alloc, "duke", b'N', size);
-    decide_queue(is_defined, next, &job)
-}
-
 #[test]
 fn jobs_handed_in(rt: HostRuntime) {
     for (is_defined, next, size, want) in HANDED_IN.as_slice() {
-        let decision = queue_decision(&rt, rt.alloc(), *is_defined, *next, *size);
-        expect_same(&rt, &decision, want);
+        let job = new_job(&rt, rt.alloc(), "duke", b'N', *size);
+        expect_same(&rt, &decide_queue(*is_defined, *next, &job), want);
     }
 }
 
@@ -120,23 +109,12 @@ const TOUCHED: [(bool, &str, bool, Result<(), Refusal>); 6] = [
     (false, "root", true, Err(Refusal::NoJob)),
 ];
 
-fn job_decision(
-    rt: &impl Abort,
-    alloc: Global,
-    is_there: bool,
-    user: &str,
-    admin: bool,
-) -> Result<(), Refusal> {
-    let own = job(rt, alloc, 1, "duke", b'N');
-    let by = by(rt, alloc, user, admin);
-    decide_job(is_there.then_some(&own), &by)
-}
-
 #[test]
 fn owners_and_waiting_jobs(rt: HostRuntime) {
+    let own = job(&rt, rt.alloc(), 1, "duke", b'N');
     for (is_there, user, admin, want) in TOUCHED.as_slice() {
-        let decision = job_decision(&rt, rt.alloc(), *is_there, user, *admin);
-        expect_same(&rt, &decision, want);
+        let by = by(&rt, rt.alloc(), user, *admin);
+        expect_same(&rt, &decide_job(is_there.then_some(&own), &by), want);
     }
 }
 
@@ -219,7 +197,9 @@ const FOUR_JOBS: Jobs = &[
 const THREE_JOBS: Jobs = &[(1, "duke", b'a'), (3, "unc", b'z'), (4, "unc", b'9')];
 
 /// Whether a call of unc failed on Sunday, the jobs, a second, and who is to be called.
-const CHOSEN: [(bool, Jobs, u64, &str); 6] = [
+type Chosen = (bool, Jobs, u64, &'static str);
+
+const CHOSEN: [Chosen; 6] = [
     (false, FOUR_JOBS, SUNDAY, "unc 9 4/duke B 2/"),
     (true, FOUR_JOBS, SUNDAY, "duke B 2/"),
     (true, THREE_JOBS, SUNDAY, ""),
@@ -263,23 +243,18 @@ fn show_dues(alloc: Global, dues: Result<Vec<Due>, AllocError>) -> Result<String
     Ok(text)
 }
 
-fn chosen(
-    rt: &impl Abort,
-    alloc: Global,
-    unc_failed: bool,
-    rows: Jobs,
-    second: u64,
-) -> Result<String, AllocError> {
+fn expect_chosen(rt: &impl Abort, alloc: Global, row: &Chosen) {
+    let (unc_failed, jobs_of_row, second, want) = *row;
     let systems = two_systems(rt, alloc, unc_failed);
-    let jobs = jobs(rt, alloc, rows);
-    show_dues(alloc, choose(alloc, &systems, &jobs, &moment(rt, second)))
+    let jobs = jobs(rt, alloc, jobs_of_row);
+    let dues = choose(alloc, &systems, &jobs, &moment(rt, second));
+    expect_text(rt, show_dues(alloc, dues), want);
 }
 
 #[test]
 fn systems_called_now(rt: HostRuntime) {
-    for (unc_failed, rows, second, want) in CHOSEN.as_slice() {
-        let shown = chosen(&rt, rt.alloc(), *unc_failed, rows, *second);
-        expect_text(&rt, shown, want);
+    for row in CHOSEN.as_slice() {
+        expect_chosen(&rt, rt.alloc(), row);
     }
 }
 

@@ -256,12 +256,16 @@ fn expect_systems(rt: &impl Abort, systems: &[SystemDef], (_, count, last, lines
     }
 }
 
+fn expect_large(rt: &(impl Abort + Clock + Print), alloc: Global, large: Large, counts: Counts) {
+    let text = large_text(alloc, large).expect(rt, "memory");
+    expect_same(rt, &text.len(), &counts.0);
+    let file = read_quickly(rt, alloc, text.as_bytes());
+    expect_systems(rt, file.systems.as_slice(), counts);
+}
+
 #[test]
 fn large_files_are_read_in_seconds(rt: HostRuntime) {
     for (large, counts) in LARGE_FILES.as_slice() {
-        let text = large_text(rt.alloc(), *large).expect(&rt, "memory");
-        expect_same(&rt, &text.len(), &counts.0);
-        let file = read_quickly(&rt, rt.alloc(), text.as_bytes());
-        expect_systems(&rt, file.systems.as_slice(), *counts);
+        expect_large(&rt, rt.alloc(), *large, *counts);
     }
 }
