@@ -117,11 +117,13 @@ const REGRADING: &[Step] = &[
     DUKE,
     Does(Order::File("duke", b'a'), Number(1)),
     Does(Order::File("duke", b'N'), Number(2)),
+    Says(Due(SUNDAY), "duke N 2/"),
     Says(
         Jobs("duke", ""),
         "2 duke ann N 0 1000000000 send /tmp/news ~/news/1 duke ann a 0 1000000000 send /tmp/news ~/news/",
     ),
     Does(Order::Regrade(1, b'N'), Done),
+    Says(Due(SUNDAY), "duke N 1/"),
     Says(
         Jobs("duke", ""),
         "1 duke ann N 0 1000000000 send /tmp/news ~/news/2 duke ann N 0 1000000000 send /tmp/news ~/news/",
@@ -246,6 +248,10 @@ fn refused_reports_leave_the_jobs(rt: HostRuntime) {
 const USERS: &[Step] = &[
     UNC,
     DUKE,
+    Says(
+        Systems,
+        "duke 26 [z 0 0-10079] 0 0 0 never/unc 26 [z 0 0-10079] 0 0 0 never/",
+    ),
     Does(Order::File("duke", b'N'), Number(1)),
     Does(Order::File("duke", b'N'), Number(2)),
     Does(Order::File("unc", b'N'), Number(3)),
@@ -327,6 +333,10 @@ const REJUVENATED: &[Step] = &[
         "1 duke ann N 3 1000000000 send /tmp/news ~/news/abc",
     ),
     Does(Order::Rejuvenate(1), Done),
+    Says(
+        Job(1),
+        "1 duke ann N 3 1000116000 send /tmp/news ~/news/abc",
+    ),
     Says(
         Jobs("duke", "ann"),
         "1 duke ann N 3 1000116000 send /tmp/news ~/news/",
