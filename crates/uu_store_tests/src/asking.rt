@@ -3,19 +3,29 @@
 use crate::disk::{
     Contents, FEW_PAGES, LONG_LOG, Place, SHORTEST_LOG, Stop, Use, Visitor, nothing, visit_files,
 };
-use crate::order::MONDAY;
-use crate::questions::{Question, asked, told, told_picture};
-use crate::scripts::{TWO_SYSTEMS, commands, machine_after};
-use crate::visitors::{Pass, expect_failed, expect_shown, expect_stopped};
+use crate::order::{ANY, ANY_30, MONDAY, Order, Work};
+use crate::questions::Step::Does;
+use crate::questions::{Question, Step, asked, told, told_picture};
+use crate::scripts::machine_after;
+use crate::visitors::{Way, expect_failed, expect_shown, expect_stopped, giving, no_command};
 use sqlite::Alter;
 use std::alloc::Global;
 use std::mem::drop;
 use std::process::Abort;
 use uu_core::plain::Machine;
-use uu_store::Spool;
+use uu_store::Reply::{Done, Number, Refused};
+use uu_store::{Refusal, Spool};
 
-/// The commands that are given before the questions.
-const GIVEN: usize = 7;
+/// The commands that are given before the questions: those of `TWO_SYSTEMS` while both have a job.
+const TWO_JOBS: &[Step] = &[
+    Does(Order::Define("duke", ANY_30, 2), Done),
+    Does(Order::Define("unc", ANY, 26), Done),
+    Does(Order::Queue("duke", b'N', Work::Send, 40_000), Number(1)),
+    Does(Order::Queue("unc", b'A', Work::Send, 0), Number(2)),
+    Does(Order::Kill(9, "root", true), Refused(Refusal::NoJob)),
+    Does(Order::Rejuvenate(1), Done),
+    Does(Order::Regrade(1, b'9'), Done),
+];
 
 const QUESTIONS: [Question; 6] = [
     Question::Jobs("", ""),
@@ -26,17 +36,6 @@ const QUESTIONS: [Question; 6] = [
     Question::Next,
 ];
 
-/// Gives a spool the commands.
-#[derive(Drop)]
-struct Prepare {}
-
-impl Visitor for Prepare {
-    fn visit<R: Abort, S: Alter>(&mut self, rt: &R, alloc: Global, spool: &mut Spool<S>) {
-        let end = spool.run(alloc, commands(rt, alloc, TWO_SYSTEMS, GIVEN));
-        assert_eq!(rt; end.stopped, None);
-    }
-}
-
 /// What the files hold after the commands: nearly all pages in this one.
 fn prepared(rt: &impl Abort, alloc: Global, place: Place) -> Contents {
     let options = match place {
@@ -44,7 +43,13 @@ fn prepared(rt: &impl Abort, alloc: Global, place: Place) -> Contents {
         Place::Database => SHORTEST_LOG,
     };
     let used = Use::unstopped(options);
-    visit_files(rt, alloc, &nothing(alloc), used, &mut Prepare {}).synced
+    let mut give = giving(TWO_JOBS, Way::Run);
+    let visit = visit_files(rt, alloc, &nothing(alloc), used, &mut give);
+    assert!(rt;
+        give.answered == TWO_JOBS.len(),
+        "a command is not answered"
+    );
+    visit.synced
 }
 
 /// Asks until a question is not answered.
@@ -72,12 +77,12 @@ fn is_answered<S: Alter>(
 ) -> bool {
     match asked(rt, alloc, spool, question) {
         Ok(given) => {
-            assert_eq!(rt; given.as_str(), want);
+            assert!(rt; given.as_str() == want, "another answer");
             true
         }
         Err(fault) => {
             expect_stopped(rt, fault);
-            expect_failed(rt, alloc, spool, TWO_SYSTEMS);
+            expect_failed(rt, alloc, spool, TWO_JOBS);
             false
         }
     }
@@ -112,7 +117,7 @@ fn answers_of(rt: &impl Abort, alloc: Global, machine: &Machine) -> Vec<String> 
 
 /// What the machine shows after the commands, and the questions with its answers.
 fn told_after(rt: &impl Abort, alloc: Global) -> (String, Ask) {
-    let machine = machine_after(rt, alloc, TWO_SYSTEMS, GIVEN);
+    let machine = machine_after(rt, alloc, TWO_JOBS, TWO_JOBS.len());
     let picture = told_picture(rt, alloc, &machine);
     let wanted = answers_of(rt, alloc, &machine);
     drop(machine);
@@ -125,8 +130,8 @@ fn told_after(rt: &impl Abort, alloc: Global) -> (String, Ask) {
 
 /// Whether the spool in files with these contents is opened before a stop.
 fn is_opened(rt: &impl Abort, alloc: Global, contents: &Contents, stop: Stop) -> bool {
-    let options = FEW_PAGES;
-    visit_files(rt, alloc, contents, Use { options, stop }, &mut Pass {}).taken
+    let used = Use::stopped(FEW_PAGES, stop);
+    visit_files(rt, alloc, contents, used, &mut no_command()).is_taken()
 }
 
 /// The fewest calls of a file with which the spool is opened.
@@ -155,9 +160,9 @@ fn stop_at(
     before: &Contents,
     picture: &str,
 ) -> Contents {
-    let options = FEW_PAGES;
-    let visit = visit_files(rt, alloc, contents, Use { options, stop }, ask);
-    assert!(rt; visit.taken, "not opened");
+    let used = Use::stopped(FEW_PAGES, stop);
+    let visit = visit_files(rt, alloc, contents, used, ask);
+    assert!(rt; visit.is_taken(), "not opened");
     if !visit.synced.is_same(before) {
         expect_shown(rt, alloc, &visit.synced, picture);
     }

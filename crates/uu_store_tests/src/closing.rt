@@ -1,9 +1,9 @@
 // A stop at each call of a disk while the files of a spool are closed. The spool that is opened afterwards shows what the plain machine holds.
 // The log is never copied before, so that the close has all of it to copy.
-use crate::disk::{Close, LONG_LOG, Place, Stop, Use, Visit, nothing, visit_and_close};
+use crate::disk::{End, LONG_LOG, Place, Stop, Use, Visit, nothing, visit_files};
 use crate::questions::{Step, told_picture};
 use crate::scripts::{EVERY_KIND, LARGE_JOB, machine_after};
-use crate::visitors::{Give, Way, expect_shown, expect_stopped};
+use crate::visitors::{Way, expect_shown, expect_stopped, giving};
 use std::alloc::Global;
 use std::process::Abort;
 use uu_store::StoreFault;
@@ -13,13 +13,19 @@ const FEWEST: u32 = 2;
 
 /// What is shown after a visit whose commands were all answered. The files may have been closed, and then the database file shows the same
 /// with no log beside it.
-fn expect_kept(rt: &impl Abort, alloc: Global, visit: Visit, close: Close, picture: &str) {
+fn expect_kept(rt: &impl Abort, alloc: Global, visit: Visit, picture: &str) {
     expect_shown(rt, alloc, &visit.synced, picture);
     expect_shown(rt, alloc, &visit.written, picture);
-    match close {
-        Close::Refused(fault) => expect_stopped(rt, fault),
+    match visit.end {
+        End::Refused(fault) => expect_stopped(rt, fault),
         _ => expect_shown(rt, alloc, &visit.synced.database_alone(alloc), picture),
     }
+}
+
+/// A spool that failed is not closed.
+fn expect_unclosed(rt: &impl Abort, end: End) {
+    let is_unclosed = matches!(end, End::Untaken | End::Refused(StoreFault::Failed));
+    assert!(rt; is_unclosed, "a failed spool is closed");
 }
 
 /// Gives all commands of a script, and stops at each call of one file, counting up until the files are closed. Where a stop comes within the
@@ -33,26 +39,20 @@ fn stop_at_each_call(rt: &impl Abort, alloc: Global, place: Place, script: &'sta
         let used = Use {
             options: LONG_LOG,
             stop: Stop { place, calls },
+            closes: true,
         };
-        let mut give = Give {
-            script,
-            way: Way::Run,
-            answered: 0,
-        };
-        let (visit, close) = visit_and_close(rt, alloc, &nothing(alloc), used, &mut give);
+        let mut give = giving(script, Way::Run);
+        let visit = visit_files(rt, alloc, &nothing(alloc), used, &mut give);
+        let end = visit.end;
         if give.answered == count {
-            expect_kept(rt, alloc, visit, close, picture.as_str());
-            if close == Close::Done {
+            expect_kept(rt, alloc, visit, picture.as_str());
+            if matches!(end, End::Closed) {
                 assert!(rt; stops >= FEWEST, "no stop within the close");
                 return;
             }
             stops = stops.saturating_add(1);
         } else {
-            let failed = Close::Refused(StoreFault::Failed);
-            assert!(rt;
-                close == Close::Untaken || close == failed,
-                "a failed spool is closed"
-            );
+            expect_unclosed(rt, end);
         }
     }
     panic!(rt; "no close ends")

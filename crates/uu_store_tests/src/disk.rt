@@ -8,7 +8,7 @@ use std::process::Abort;
 use uu_store::{Spool, StoreFault};
 
 /// Which file the fuse is on.
-#[derive(Clone, Copy, Debug, PartialEq, Eq)]
+#[derive(Clone, Copy)]
 pub(crate) enum Place {
     Log,
     Database,
@@ -53,21 +53,31 @@ pub(crate) const FEW_PAGES: Options = Options {
     seed: 7,
 };
 
-/// How the files are used, and when one of them stops.
+/// How the files are used, when one of them stops, and whether they are closed at the end, or else let go.
 #[derive(Clone, Copy)]
 pub(crate) struct Use {
     pub(crate) options: Options,
     pub(crate) stop: Stop,
+    pub(crate) closes: bool,
 }
 
 impl Use {
-    /// Every call is answered.
+    /// The files are let go.
+    pub(crate) fn stopped(options: Options, stop: Stop) -> Use {
+        Use {
+            options,
+            stop,
+            closes: false,
+        }
+    }
+
+    /// The same, and every call is answered.
     pub(crate) fn unstopped(options: Options) -> Use {
         let stop = Stop {
             place: Place::Log,
             calls: u64::MAX,
         };
-        Use { options, stop }
+        Use::stopped(options, stop)
     }
 }
 
@@ -104,13 +114,30 @@ pub(crate) fn nothing(alloc: Global) -> Contents {
     }
 }
 
+/// How a visit ended.
+#[derive(Clone, Copy)]
+pub(crate) enum End {
+    /// The files were not taken as a spool.
+    Untaken,
+    LetGo,
+    Closed,
+    /// The files were not closed.
+    Refused(StoreFault),
+}
+
 /// What a visit leaves: what was synced, which every crash leaves, and all that was written, which a crash may leave.
 #[derive(Drop)]
 pub(crate) struct Visit {
-    /// Whether the files were taken as a spool, and it was visited.
-    pub(crate) taken: bool,
+    pub(crate) end: End,
     pub(crate) synced: Contents,
     pub(crate) written: Contents,
+}
+
+impl Visit {
+    /// Whether the files were taken as a spool, and it was visited.
+    pub(crate) fn is_taken(&self) -> bool {
+        !matches!(self.end, End::Untaken)
+    }
 }
 
 /// What is done with a spool while its files are open.
@@ -118,7 +145,7 @@ pub(crate) trait Visitor {
     fn visit<R: Abort, S: Alter>(&mut self, rt: &R, alloc: Global, spool: &mut Spool<S>);
 }
 
-/// Opens files with these contents, takes them as a spool, has it visited, and lets it go.
+/// Opens files with these contents, takes them as a spool, has it visited, and closes it or lets it go.
 pub(crate) fn visit_files<R: Abort, V: Visitor>(
     rt: &R,
     alloc: Global,
@@ -127,10 +154,8 @@ pub(crate) fn visit_files<R: Abort, V: Visitor>(
     visitor: &mut V,
 ) -> Visit {
     let files = fused_files(rt, alloc, contents, used.stop);
-    match visited(rt, alloc, files, used.options, visitor) {
-        Ok(files) => visit_of(rt, alloc, true, files),
-        Err(files) => visit_of(rt, alloc, false, files),
-    }
+    let (files, end) = visited(rt, alloc, files, used, visitor);
+    visit_of(rt, alloc, end, files)
 }
 
 type FusedFiles = Files<Fuse<Memory>>;
@@ -153,13 +178,13 @@ fn synced_file(rt: &impl Abort, alloc: Global, bytes: &[u8]) -> Memory {
     file
 }
 
-fn visit_of(rt: &impl Abort, alloc: Global, taken: bool, files: FusedFiles) -> Visit {
+fn visit_of(rt: &impl Abort, alloc: Global, end: End, files: FusedFiles) -> Visit {
     let written = contents_of(rt, alloc, &files);
     let mut files = files;
     files.log.crash();
     files.db.crash();
     Visit {
-        taken,
+        end,
         synced: contents_of(rt, alloc, &files),
         written,
     }
@@ -172,110 +197,69 @@ fn contents_of(rt: &impl Abort, alloc: Global, files: &FusedFiles) -> Contents {
     }
 }
 
+/// The files after a visit, and how it ended.
 fn visited<R: Abort, D: Disk + Drop, V: Visitor>(
     rt: &R,
     alloc: Global,
     files: Files<D>,
-    options: Options,
+    used: Use,
     visitor: &mut V,
-) -> Result<Files<D>, Files<D>> {
+) -> (Files<D>, End) {
     assert!(rt; files.may_be_used(), "a sync of these files has failed");
-    match Connection::open_files(alloc, files, options) {
-        Ok(conn) => match visited_in(rt, alloc, conn, visitor) {
-            Ok(store) => Ok(store.close()),
-            Err(store) => Err(store.close()),
-        },
-        Err((_, left)) => Err(left.into_files()),
+    match Connection::open_files(alloc, files, used.options) {
+        Ok(conn) => ended(visited_in(rt, alloc, conn, used.closes, visitor)),
+        Err((_, left)) => (left.into_files(), End::Untaken),
     }
 }
 
+/// A database after a visit: not taken as a spool, let go, or still open.
+enum Left<S: Alter> {
+    Untaken(S),
+    LetGo(S),
+    Open(Spool<S>),
+}
+
+/// Has the spool in a database visited, and lets it go where its files are not to be closed.
 fn visited_in<R: Abort, S: Alter + Drop, V: Visitor>(
     rt: &R,
     alloc: Global,
     conn: Connection<S>,
+    closes: bool,
     visitor: &mut V,
-) -> Result<S, S>
-    requires { conn.in_transaction ≡ false }
-{
-    match visited_spool(rt, alloc, conn, visitor) {
-        Ok(spool) => Ok(spool.release().into_store()),
-        Err(store) => Err(store),
-    }
-}
-
-/// The spool after a visit, or the store that was not taken as one.
-fn visited_spool<R: Abort, S: Alter + Drop, V: Visitor>(
-    rt: &R,
-    alloc: Global,
-    conn: Connection<S>,
-    visitor: &mut V,
-) -> Result<Spool<S>, S>
+) -> Left<S>
     requires { conn.in_transaction ≡ false }
 {
     match Spool::adopt(alloc, conn) {
         Ok(mut spool) => {
             visitor.visit(rt, alloc, &mut spool);
-            Ok(spool)
+            left_open(spool, closes)
         }
-        Err(refused) => Err(refused.conn.into_store()),
+        Err(refused) => Left::Untaken(refused.conn.into_store()),
     }
 }
 
-/// How a visit ended whose files were to be closed.
-#[derive(Clone, Copy, Debug, PartialEq, Eq)]
-pub(crate) enum Close {
-    /// The files were not taken as a spool.
-    Untaken,
-    Refused(StoreFault),
-    Done,
-}
-
-/// [`visit_files`], where the files of the spool are closed.
-pub(crate) fn visit_and_close<R: Abort, V: Visitor>(
-    rt: &R,
-    alloc: Global,
-    contents: &Contents,
-    used: Use,
-    visitor: &mut V,
-) -> (Visit, Close) {
-    let files = fused_files(rt, alloc, contents, used.stop);
-    let (files, close) = closing(rt, alloc, files, used.options, visitor);
-    let visit = visit_of(rt, alloc, close != Close::Untaken, files);
-    (visit, close)
-}
-
-fn closing<R: Abort, D: Disk + Drop, V: Visitor>(
-    rt: &R,
-    alloc: Global,
-    files: Files<D>,
-    options: Options,
-    visitor: &mut V,
-) -> (Files<D>, Close) {
-    assert!(rt; files.may_be_used(), "a sync of these files has failed");
-    match Connection::open_files(alloc, files, options) {
-        Ok(conn) => closing_in(rt, alloc, conn, visitor),
-        Err((_, left)) => (left.into_files(), Close::Untaken),
+/// A spool that was visited: it stays open where its files are to be closed.
+fn left_open<S: Alter + Drop>(spool: Spool<S>, closes: bool) -> Left<S> {
+    if closes {
+        Left::Open(spool)
+    } else {
+        Left::LetGo(spool.release().into_store())
     }
 }
 
-fn closing_in<R: Abort, D: Disk + Drop, V: Visitor>(
-    rt: &R,
-    alloc: Global,
-    conn: Connection<FileStore<D>>,
-    visitor: &mut V,
-) -> (Files<D>, Close)
-    requires { conn.in_transaction ≡ false }
-{
-    match visited_spool(rt, alloc, conn, visitor) {
-        Ok(spool) => closed(spool),
-        Err(store) => (store.close(), Close::Untaken),
+/// The files, which are closed where the spool is open.
+fn ended<D: Disk + Drop>(left: Left<FileStore<D>>) -> (Files<D>, End) {
+    match left {
+        Left::Untaken(store) => (store.close(), End::Untaken),
+        Left::LetGo(store) => (store.close(), End::LetGo),
+        Left::Open(spool) => closed(spool),
     }
 }
 
 /// The files of a spool after their close.
-fn closed<D: Disk + Drop>(spool: Spool<FileStore<D>>) -> (Files<D>, Close) {
+fn closed<D: Disk + Drop>(spool: Spool<FileStore<D>>) -> (Files<D>, End) {
     match spool.close() {
-        Ok(files) => (files, Close::Done),
-        Err((fault, store)) => (store.close(), Close::Refused(fault)),
+        Ok(files) => (files, End::Closed),
+        Err((fault, store)) => (store.close(), End::Refused(fault)),
     }
 }

@@ -5,18 +5,24 @@ use crate::order::{ANY, Order, Work, command};
 use crate::questions::Question::Next;
 use crate::questions::Step::Says;
 use crate::questions::play;
-use sqlite::{Alter, Start, Wary};
+use sqlite::{Alter, FileStore, Start, Wary};
+use sqlite_disk::Disk;
 use std::alloc::Global;
 use std::fs;
 use std::io::ErrorKind;
 use std::process::Abort;
 use std::rt::Files;
+use uu_store::Reply::{Done, Number};
 use uu_store::laws::FileHistory;
 use uu_store::{Command, Reply, RunEnd, Spool, start_again, work, work_and_close};
 
 const FILE: &str = "stretches.db";
 
 const LOG: &str = "stretches.db-wal";
+
+const DUKE: Order = Order::Define("duke", ANY, 26);
+
+const JOB: Order = Order::Queue("duke", b'N', Work::Send, 2);
 
 /// Removes a file, which may not be there.
 fn remove(rt: &(impl Abort + Files), path: &str) {
@@ -110,21 +116,29 @@ fn expect_closed_stretch<T: Start>(
     expect_end(rt, worked_and_closed(host, start, commands), want);
 }
 
-/// The next job gets this number.
-fn expect_next<T: Start>(rt: &impl Abort, host: &HostRuntime, start: T, next: &'static str) {
-    let spool = start_again::<NoHistory, T>(host, FILE, start);
-    expect_next_in(rt, host.alloc(), spool, next);
+/// The next job gets number 4.
+fn expect_next<T: Start>(rt: &impl Abort, host: &HostRuntime, start: T) {
+    let opened = start_again::<NoHistory, T>(host, FILE, start);
+    expect_next_in_files(rt, host.alloc(), opened);
 }
 
 /// The same, of what an opening answered.
+fn expect_next_in_files<D: Disk + Drop, F: Drop>(
+    rt: &impl Abort,
+    alloc: Global,
+    opened: Result<Spool<FileStore<D>>, F>,
+) {
+    expect_next_in(rt, alloc, opened);
+}
+
+/// The same over any store.
 fn expect_next_in<S: Alter + Drop, F: Drop>(
     rt: &impl Abort,
     alloc: Global,
     opened: Result<Spool<S>, F>,
-    next: &'static str,
 ) {
     let mut spool = opened.ok().expect(rt, "a spool");
-    play(rt, alloc, &mut spool, &[Says(Next, next)]);
+    play(rt, alloc, &mut spool, &[Says(Next, "4")]);
 }
 
 #[test]
@@ -132,18 +146,10 @@ fn a_file_keeps_its_jobs_between_stretches(rt: HostRuntime) {
     // A run that broke off may have left them.
     remove(&rt, FILE);
     remove(&rt, LOG);
-    let duke = Order::Define("duke", ANY, 26);
-    let job = Order::Queue("duke", b'N', Work::Send, 2);
-    expect_stretch(
-        &rt,
-        &rt,
-        Wary,
-        &[duke, job],
-        &[Reply::Done, Reply::Number(1)],
-    );
-    expect_closed_stretch(&rt, &rt, Wary, &[job], &[Reply::Number(2)]);
-    expect_stretch(&rt, &rt, Wary, &[job], &[Reply::Number(3)]);
-    expect_next(&rt, &rt, Wary, "4");
+    expect_stretch(&rt, &rt, Wary, &[DUKE, JOB], &[Done, Number(1)]);
+    expect_closed_stretch(&rt, &rt, Wary, &[JOB], &[Number(2)]);
+    expect_stretch(&rt, &rt, Wary, &[JOB], &[Number(3)]);
+    expect_next(&rt, &rt, Wary);
     remove(&rt, FILE);
     remove(&rt, LOG);
 }

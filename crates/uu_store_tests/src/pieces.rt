@@ -1,5 +1,6 @@
 // The pieces in which the bytes of a job are kept, seen by a question on their table.
 use crate::order::{Order, Work};
+use crate::questions::Step;
 use crate::questions::Step::Does;
 use crate::rows::{number, rows_of};
 use crate::worked::{DUKE, after};
@@ -8,13 +9,53 @@ use std::alloc::Global;
 use std::process::Abort;
 use uu_store::Reply::Number;
 
-/// The bytes of a job, how many pieces they are cut into, and how many bytes the last one has. Each other piece has 16,384.
-const PIECES: [(usize, usize, u32); 5] = [
-    (0, 0, 0),
-    (16_384, 1, 16_384),
-    (16_385, 2, 1),
-    (40_000, 3, 7_232),
-    (1_048_576, 64, 16_384),
+/// A job, its bytes, how many pieces they are cut into, and how many bytes the last one has. Each other piece has 16,384.
+const PIECES: [(&[Step], usize, usize, u32); 5] = [
+    (
+        &[
+            DUKE,
+            Does(Order::Queue("duke", b'N', Work::Send, 0), Number(1)),
+        ],
+        0,
+        0,
+        0,
+    ),
+    (
+        &[
+            DUKE,
+            Does(Order::Queue("duke", b'N', Work::Send, 16_384), Number(1)),
+        ],
+        16_384,
+        1,
+        16_384,
+    ),
+    (
+        &[
+            DUKE,
+            Does(Order::Queue("duke", b'N', Work::Send, 16_385), Number(1)),
+        ],
+        16_385,
+        2,
+        1,
+    ),
+    (
+        &[
+            DUKE,
+            Does(Order::Queue("duke", b'N', Work::Send, 40_000), Number(1)),
+        ],
+        40_000,
+        3,
+        7_232,
+    ),
+    (
+        &[
+            DUKE,
+            Does(Order::Queue("duke", b'N', Work::Send, 1_048_576), Number(1)),
+        ],
+        1_048_576,
+        64,
+        16_384,
+    ),
 ];
 
 /// The pieces in the order of their places, which count from 0.
@@ -30,9 +71,15 @@ fn expect_piece(rt: &impl Abort, row: &Row, place: usize, length: u32, size: usi
     assert_eq!(rt; given, (1, place, length), "{size} bytes");
 }
 
-fn expect_pieces(rt: &impl Abort, alloc: Global, size: usize, count: usize, last: u32) {
-    let job = Order::Queue("duke", b'N', Work::Send, size);
-    let mut conn = after(rt, alloc, &[DUKE, Does(job, Number(1))]);
+fn expect_pieces(
+    rt: &impl Abort,
+    alloc: Global,
+    steps: &[Step],
+    size: usize,
+    count: usize,
+    last: u32,
+) {
+    let mut conn = after(rt, alloc, steps);
     let rows = rows_of(rt, &mut conn, QUESTION);
     assert_eq!(rt; rows.len(), count, "{size} bytes");
     for (place, row) in rows.iter().enumerate() {
@@ -43,7 +90,7 @@ fn expect_pieces(rt: &impl Abort, alloc: Global, size: usize, count: usize, last
 
 #[test]
 fn bytes_are_cut_into_pieces(rt: HostRuntime) {
-    for (size, count, last) in PIECES {
-        expect_pieces(&rt, rt.alloc(), size, count, last);
+    for (steps, size, count, last) in PIECES {
+        expect_pieces(&rt, rt.alloc(), steps, size, count, last);
     }
 }

@@ -1,19 +1,19 @@
 // The ranges of time lines: as rows of their table, and a line that has none.
-use crate::order::{ANY, MONDAY, NEVER_OPEN, NIGHT, Order, SUNDAY, TimeLine};
+use crate::order::{MONDAY, NEVER_OPEN, NIGHT, Order, SUNDAY};
 use crate::questions::Question::{Chosen, Due, Jobs, Systems};
 use crate::questions::Step::{Does, Says};
 use crate::questions::{Step, compare, play};
 use crate::rows::{number, rows_of};
-use crate::worked::{after, fresh, taken};
+use crate::worked::{DUKE, after, fresh, taken};
 use sqlite::Row;
 use std::alloc::Global;
 use std::process::Abort;
 use uu_store::Reply::{Done, Number};
 
-/// Time lines with their ranges, in minutes from Sunday 00:00: the nights of the weekdays from 23:05 to 07:55, all week, and never.
-const RANGES: [(&[TimeLine], &[(u32, u32)]); 3] = [
+/// Systems with the ranges of their time lines, in minutes from Sunday 00:00: the nights of the weekdays from 23:05 to 07:55, all week, and never.
+const RANGES: [(&[Step], &[(u32, u32)]); 3] = [
     (
-        NIGHT,
+        &[Does(Order::Define("duke", NIGHT, 26), Done)],
         &[
             (1440, 1915),
             (2825, 3355),
@@ -23,8 +23,8 @@ const RANGES: [(&[TimeLine], &[(u32, u32)]); 3] = [
             (8585, 8639),
         ],
     ),
-    (ANY, &[(0, 10_079)]),
-    (NEVER_OPEN, &[]),
+    (&[DUKE], &[(0, 10_079)]),
+    (&[Does(Order::Define("duke", NEVER_OPEN, 26), Done)], &[]),
 ];
 
 /// The row of a time line at this place of the table above is that of a range.
@@ -36,11 +36,11 @@ fn expect_range(rt: &impl Abort, row: &Row, wanted: (u32, u32), place: usize) {
 fn expect_rows(
     rt: &impl Abort,
     alloc: Global,
-    lines: &'static [TimeLine],
+    steps: &[Step],
     wanted: &[(u32, u32)],
     place: usize,
 ) {
-    let mut conn = after(rt, alloc, &[Does(Order::Define("duke", lines, 26), Done)]);
+    let mut conn = after(rt, alloc, steps);
     let rows = rows_of(rt, &mut conn, "SELECT low, high FROM ranges ORDER BY low");
     assert_eq!(rt; rows.len(), wanted.len(), "time lines {place}");
     for (row, range) in rows.iter().zip(wanted.iter()) {
@@ -50,8 +50,8 @@ fn expect_rows(
 
 #[test]
 fn ranges_are_rows(rt: HostRuntime) {
-    for (place, (lines, ranges)) in RANGES.iter().enumerate() {
-        expect_rows(&rt, rt.alloc(), lines, ranges, place);
+    for (place, (steps, ranges)) in RANGES.iter().enumerate() {
+        expect_rows(&rt, rt.alloc(), steps, ranges, place);
     }
 }
 

@@ -1,17 +1,17 @@
 // A stop at each call of a disk while the spool is opened that an earlier stop left: what is opened afterwards is what the earlier one left.
 use crate::disk::{Contents, Place, SHORT_LOG, Stop, Use, nothing, visit_files};
 use crate::scripts::LARGE_JOB;
-use crate::visitors::{Give, Pass, Way, expect_shown, shown};
+use crate::visitors::{Way, expect_shown, giving, no_command, shown};
 use std::alloc::Global;
 use std::process::Abort;
 
 /// A stop while files with these contents are opened: whether they were taken as a spool before it.
 fn stop_at(rt: &impl Abort, alloc: Global, contents: &Contents, stop: Stop, picture: &str) -> bool {
-    let options = SHORT_LOG;
-    let visit = visit_files(rt, alloc, contents, Use { options, stop }, &mut Pass {});
+    let used = Use::stopped(SHORT_LOG, stop);
+    let visit = visit_files(rt, alloc, contents, used, &mut no_command());
     expect_shown(rt, alloc, &visit.synced, picture);
     expect_shown(rt, alloc, &visit.written, picture);
-    visit.taken
+    visit.is_taken()
 }
 
 /// Stops at each call of one file while these contents are opened.
@@ -27,24 +27,13 @@ fn stop_at_each_call(rt: &impl Abort, alloc: Global, contents: &Contents, place:
     panic!(rt; "no opening ends")
 }
 
-fn give() -> Give {
-    Give {
-        script: LARGE_JOB,
-        way: Way::Run,
-        answered: 0,
-    }
-}
-
 /// A run is stopped at each call of one file, until all commands are answered. Where that leaves something new on the disk, it is opened with
 /// a stop at each call of the same file or of the other.
 fn stop_twice(rt: &impl Abort, alloc: Global, place: Place, again: Place) {
     let mut before = nothing(alloc);
     for calls in 0..10_000 {
-        let used = Use {
-            options: SHORT_LOG,
-            stop: Stop { place, calls },
-        };
-        let mut give = give();
+        let used = Use::stopped(SHORT_LOG, Stop { place, calls });
+        let mut give = giving(LARGE_JOB, Way::Run);
         let visit = visit_files(rt, alloc, &nothing(alloc), used, &mut give);
         if calls == 0 || !visit.synced.is_same(&before) {
             stop_at_each_call(rt, alloc, &visit.synced, again);

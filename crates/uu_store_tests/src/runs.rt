@@ -1,8 +1,8 @@
-// Runs with ample memory, which answer every command, and runs of a spool that has failed.
+// Runs and stretches with ample memory, of the spool and of the plain machine, which answer every command.
 ghost use Rattle.std.specs.Prelude.{◌≡◌, false};
 
-use crate::questions::{Step, asked_picture};
-use crate::scripts::{EVERY_KIND, LARGE_JOB, TWO_SYSTEMS, commands, is_picture, pictures, replies};
+use crate::questions::{Step, asked_picture, told_picture};
+use crate::scripts::{EVERY_KIND, LARGE_JOB, TWO_SYSTEMS, commands, pictures, replies};
 use crate::worked::fresh;
 use sqlite::{Alter, Connection};
 use std::alloc::Global;
@@ -17,23 +17,31 @@ fn expect_whole(rt: &impl Abort, end: &RunEnd, wanted: &[Reply]) {
     assert_eq!(rt; end.replies.as_slice(), wanted);
 }
 
-/// The plain machine answers every command of a script in a run, too.
-fn expect_machine_run(rt: &impl Abort, alloc: Global, script: &[Step], wanted: &[Reply]) {
+/// The plain machine answers every command of a script in a run, too, and shows then what it does after as many steps.
+fn expect_machine_run(
+    rt: &impl Abort,
+    alloc: Global,
+    script: &[Step],
+    wanted: &[Reply],
+    picture: &str,
+) {
     let mut machine = Machine::new(alloc);
     let given = machine.run(alloc, commands(rt, alloc, script, wanted.len()));
     assert_eq!(rt; given.expect(rt, "memory").as_slice(), wanted);
+    let shown = told_picture(rt, alloc, &machine);
+    assert_eq!(rt; shown.as_str(), picture);
 }
 
 /// The spool answers every command of a script, and shows then what the machine does.
 fn expect_run<S: Alter>(rt: &impl Abort, alloc: Global, spool: &mut Spool<S>, script: &[Step]) {
     let wanted = replies(rt, alloc, script);
-    let count = wanted.len();
-    expect_machine_run(rt, alloc, script, &wanted);
-    let end = spool.run(alloc, commands(rt, alloc, script, count));
+    let pictures = pictures(rt, alloc, script);
+    let picture = pictures.last().expect(rt, "a picture").as_str();
+    expect_machine_run(rt, alloc, script, &wanted, picture);
+    let end = spool.run(alloc, commands(rt, alloc, script, wanted.len()));
     expect_whole(rt, &end, &wanted);
     let shown = asked_picture(rt, alloc, spool);
-    let pictures = pictures(rt, alloc, script);
-    assert!(rt; is_picture(&pictures, count, shown.as_str()));
+    assert_eq!(rt; shown.as_str(), picture);
 }
 
 #[test]

@@ -4,7 +4,7 @@
 use crate::disk::{Contents, Place, SHORT_LOG, Stop, Use, Visit, nothing, visit_files};
 use crate::questions::Step;
 use crate::scripts::{EVERY_KIND, LARGE_JOB, TWO_SYSTEMS, is_picture, pictures};
-use crate::visitors::{Give, Way, shown};
+use crate::visitors::{Give, Way, giving, shown};
 use std::alloc::Global;
 use std::process::Abort;
 
@@ -41,11 +41,11 @@ struct Stopped {
 /// A stop at a call of one file. One that comes while the tables are made leaves an empty spool.
 fn stop_at(rt: &impl Abort, alloc: Global, give: Give, stop: Stop, pictures: &[String]) -> Stopped {
     let last = pictures.len().saturating_sub(1);
-    let options = SHORT_LOG;
+    let used = Use::stopped(SHORT_LOG, stop);
     let mut give = give;
-    let visit = visit_files(rt, alloc, &nothing(alloc), Use { options, stop }, &mut give);
+    let visit = visit_files(rt, alloc, &nothing(alloc), used, &mut give);
     let least = give.answered;
-    let most = if visit.taken {
+    let most = if visit.is_taken() {
         least.saturating_add(1).min(last)
     } else {
         0
@@ -74,11 +74,7 @@ fn stop_at_each_call(
     let mut checkpoints = 0u32;
     let mut whole = 0u32;
     for calls in 0..10_000 {
-        let give = Give {
-            script,
-            way,
-            answered: 0,
-        };
+        let give = giving(script, way);
         let Stopped { is_whole, visit } = stop_at(
             rt,
             alloc,
@@ -86,7 +82,7 @@ fn stop_at_each_call(
             Stop { place, calls },
             &pictures,
         );
-        if visit.taken && !visit.synced.has_same_database(&before) {
+        if visit.is_taken() && !visit.synced.has_same_database(&before) {
             checkpoints = checkpoints.saturating_add(1);
         }
         before = visit.synced;

@@ -24,6 +24,20 @@ pub(crate) struct Give {
     pub(crate) answered: usize,
 }
 
+/// The commands of a script, of which none is given yet.
+pub(crate) fn giving(script: &'static [Step], way: Way) -> Give {
+    Give {
+        script,
+        way,
+        answered: 0,
+    }
+}
+
+/// Gives nothing: the files are opened and let go.
+pub(crate) fn no_command() -> Give {
+    giving(&[], Way::OneByOne)
+}
+
 impl Visitor for Give {
     fn visit<R: Abort, S: Alter>(&mut self, rt: &R, alloc: Global, spool: &mut Spool<S>) {
         self.answered = match self.way {
@@ -112,20 +126,24 @@ pub(crate) fn expect_failed<S: Alter>(
     script: &[Step],
 ) {
     let end = spool.run(alloc, commands(rt, alloc, script, 3));
-    assert_eq!(rt; end.stopped, Some(StoreFault::Failed), "a run after a stop");
-    assert!(rt; end.replies.is_empty(), "replies after a stop");
     let given = spool.command(alloc, command(rt, alloc, Order::Remove("duke")));
-    assert_eq!(rt; given, Err(StoreFault::Failed), "a command after a stop");
-    let next = spool.next();
-    assert_eq!(rt; next, Err(StoreFault::Failed), "a question after a stop");
+    expect_answers_of_failed(rt, end, given, spool.next());
 }
 
-/// Does nothing: the files are opened and let go.
-#[derive(Drop)]
-pub(crate) struct Pass {}
-
-impl Visitor for Pass {
-    fn visit<R: Abort, S: Alter>(&mut self, _rt: &R, _alloc: Global, _spool: &mut Spool<S>) {}
+/// What a run, a command and a question are answered after a stop.
+fn expect_answers_of_failed(
+    rt: &impl Abort,
+    end: RunEnd,
+    given: Result<Reply, StoreFault>,
+    next: Result<u32, StoreFault>,
+) {
+    let run = matches!(end.stopped, Some(StoreFault::Failed));
+    assert!(rt; run, "a run after a stop");
+    assert!(rt; end.replies.is_empty(), "replies after a stop");
+    let command = matches!(given, Err(StoreFault::Failed));
+    assert!(rt; command, "a command after a stop");
+    let question = matches!(next, Err(StoreFault::Failed));
+    assert!(rt; question, "a question after a stop");
 }
 
 /// Keeps what the spool shows.
@@ -146,7 +164,7 @@ pub(crate) fn shown(rt: &impl Abort, alloc: Global, contents: &Contents) -> Stri
         shown: String::new(alloc),
     };
     let visit = visit_files(rt, alloc, contents, Use::unstopped(LONG_LOG), &mut look);
-    assert!(rt; visit.taken, "the files are no spool");
+    assert!(rt; visit.is_taken(), "the files are no spool");
     look.shown
 }
 

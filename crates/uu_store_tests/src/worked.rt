@@ -64,6 +64,7 @@ pub(crate) const DUKE: Step = Does(Order::Define("duke", ANY, 26), Done);
 
 const UNC: Step = Does(Order::Define("unc", ANY, 26), Done);
 
+/// Sizes of jobs.
 const SIZES: &[Step] = &[
     DUKE,
     Does(Order::Queue("duke", b'N', Work::Send, 1_048_576), Number(1)),
@@ -90,11 +91,7 @@ const SIZES: &[Step] = &[
     Says(Next, "4"),
 ];
 
-#[test]
-fn sizes_of_jobs(rt: HostRuntime) {
-    play_anew(&rt, rt.alloc(), SIZES);
-}
-
+/// Digits come before letters.
 const FIVE_GRADES: &[Step] = &[
     DUKE,
     Does(Order::File("duke", b'z'), Number(1)),
@@ -108,20 +105,18 @@ const FIVE_GRADES: &[Step] = &[
     ),
 ];
 
-#[test]
-fn digits_come_before_letters(rt: HostRuntime) {
-    play_anew(&rt, rt.alloc(), FIVE_GRADES);
-}
-
+/// Regrading keeps the number.
 const REGRADING: &[Step] = &[
     DUKE,
     Does(Order::File("duke", b'a'), Number(1)),
     Does(Order::File("duke", b'N'), Number(2)),
+    Says(Due(SUNDAY), "duke N 2/"),
     Says(
         Jobs("duke", ""),
         "2 duke ann N 0 1000000000 send /tmp/news ~/news/1 duke ann a 0 1000000000 send /tmp/news ~/news/",
     ),
     Does(Order::Regrade(1, b'N'), Done),
+    Says(Due(SUNDAY), "duke N 1/"),
     Says(
         Jobs("duke", ""),
         "1 duke ann N 0 1000000000 send /tmp/news ~/news/2 duke ann N 0 1000000000 send /tmp/news ~/news/",
@@ -129,12 +124,7 @@ const REGRADING: &[Step] = &[
     Does(Order::Regrade(3, b'N'), Refused(Refusal::NoJob)),
 ];
 
-#[test]
-fn regrading_keeps_the_number(rt: HostRuntime) {
-    play_anew(&rt, rt.alloc(), REGRADING);
-}
-
-// Monday at 10:00 is minute 2,040 of the week, at which the lower grade is let through, and its retry number counts.
+/// The wait is that of the lower grade. Monday at 10:00 is minute 2,040 of the week, at which the lower grade is let through, and its retry number counts.
 const TWO_LINES: &[Step] = &[
     Does(Order::Define("duke", OFFICE, 26), Done),
     Does(Order::File("duke", b'z'), Number(1)),
@@ -148,13 +138,9 @@ const TWO_LINES: &[Step] = &[
     Says(Due(MONDAY + 1_800), "duke z 1/"),
 ];
 
-#[test]
-fn the_wait_is_that_of_the_lower_grade(rt: HostRuntime) {
-    play_anew(&rt, rt.alloc(), TWO_LINES);
-}
-
 const AGAIN: Step = Does(Order::Failed("duke", SUNDAY), Done);
 
+/// Waits grow until a call goes through.
 const WAITS: &[Step] = &[
     DUKE,
     Says(Systems, "duke 26 [z 0 0-10079] 0 0 0 never/"),
@@ -183,11 +169,7 @@ const WAITS: &[Step] = &[
     Says(Systems, "duke 26 [C 0 0-10079] 0 0 1000116000 done/"),
 ];
 
-#[test]
-fn waits_grow_until_a_call_goes_through(rt: HostRuntime) {
-    play_anew(&rt, rt.alloc(), WAITS);
-}
-
+/// A day is waited after the most retries.
 const MOST_RETRIES: &[Step] = &[
     Does(Order::Define("duke", ANY_30, 2), Done),
     Does(Order::File("duke", b'N'), Number(1)),
@@ -201,17 +183,12 @@ const MOST_RETRIES: &[Step] = &[
     Says(Due(MONDAY + 86_400), "duke N 1/"),
 ];
 
-#[test]
-fn a_day_is_waited_after_the_most_retries(rt: HostRuntime) {
-    play_anew(&rt, rt.alloc(), MOST_RETRIES);
-}
-
 const THREE_LEFT: Step = Says(
     Jobs("", ""),
     "1 duke ann N 0 1000000000 send /tmp/news ~/news/2 duke ann N 0 1000000000 send /tmp/news ~/news/3 unc ann N 0 1000000000 send /tmp/news ~/news/",
 );
 
-// Job 4 of four is killed, and then reports are refused.
+/// Refused reports leave the jobs. Job 4 of four is killed, and then reports are refused.
 const REPORTS: &[Step] = &[
     UNC,
     DUKE,
@@ -238,14 +215,14 @@ const REPORTS: &[Step] = &[
     ),
 ];
 
-#[test]
-fn refused_reports_leave_the_jobs(rt: HostRuntime) {
-    play_anew(&rt, rt.alloc(), REPORTS);
-}
-
+/// Refused users and systems.
 const USERS: &[Step] = &[
     UNC,
     DUKE,
+    Says(
+        Systems,
+        "duke 26 [z 0 0-10079] 0 0 0 never/unc 26 [z 0 0-10079] 0 0 0 never/",
+    ),
     Does(Order::File("duke", b'N'), Number(1)),
     Does(Order::File("duke", b'N'), Number(2)),
     Does(Order::File("unc", b'N'), Number(3)),
@@ -265,11 +242,7 @@ const USERS: &[Step] = &[
     Says(Systems, "unc 26 [z 0 0-10079] 0 0 0 never/"),
 ];
 
-#[test]
-fn refused_users_and_systems(rt: HostRuntime) {
-    play_anew(&rt, rt.alloc(), USERS);
-}
-
+/// Held systems and low grades.
 const HELD_AND_LOW: &[Step] = &[
     Does(Order::Define("duke", HIGH, 26), Done),
     UNC,
@@ -291,12 +264,7 @@ const HELD_AND_LOW: &[Step] = &[
     Says(Chosen(SUNDAY + 600), "unc 9 4/"),
 ];
 
-#[test]
-fn held_systems_and_low_grades(rt: HostRuntime) {
-    play_anew(&rt, rt.alloc(), HELD_AND_LOW);
-}
-
-// From Monday 23:05 to Tuesday 07:55.
+/// A system is called in its windows. From Monday 23:05 to Tuesday 07:55.
 const NIGHTS: &[Step] = &[
     Does(Order::Define("duke", NIGHT, 26), Done),
     Does(Order::File("duke", b'N'), Number(1)),
@@ -314,11 +282,7 @@ const NIGHTS: &[Step] = &[
     Says(Chosen(1_000_194_960), ""),
 ];
 
-#[test]
-fn a_system_is_called_in_its_windows(rt: HostRuntime) {
-    play_anew(&rt, rt.alloc(), NIGHTS);
-}
-
+/// A rejuvenated job counts as handed in now.
 const REJUVENATED: &[Step] = &[
     DUKE,
     Does(Order::Queue("duke", b'N', Work::Send, 3), Number(1)),
@@ -328,6 +292,10 @@ const REJUVENATED: &[Step] = &[
     ),
     Does(Order::Rejuvenate(1), Done),
     Says(
+        Job(1),
+        "1 duke ann N 3 1000116000 send /tmp/news ~/news/abc",
+    ),
+    Says(
         Jobs("duke", "ann"),
         "1 duke ann N 3 1000116000 send /tmp/news ~/news/",
     ),
@@ -335,11 +303,7 @@ const REJUVENATED: &[Step] = &[
     Says(Jobs("unc", ""), ""),
 ];
 
-#[test]
-fn a_rejuvenated_job_counts_as_handed_in_now(rt: HostRuntime) {
-    play_anew(&rt, rt.alloc(), REJUVENATED);
-}
-
+/// Entries are replaced whole.
 const ENTRIES: &[Step] = &[
     Does(Order::Entry("#N unc\nunc duke(5)\n"), Done),
     Says(Entry("unc"), "#N unc\nunc duke(5)\n"),
@@ -350,13 +314,24 @@ const ENTRIES: &[Step] = &[
 ];
 
 #[test]
-fn entries_are_replaced_whole(rt: HostRuntime) {
-    play_anew(&rt, rt.alloc(), ENTRIES);
+fn jobs_are_kept_as_worked(rt: HostRuntime) {
+    for steps in [SIZES, FIVE_GRADES, REGRADING, REJUVENATED] {
+        play_anew(&rt, rt.alloc(), steps);
+    }
 }
 
 #[test]
-fn two_systems_until_their_jobs_are_done(rt: HostRuntime) {
-    play_anew(&rt, rt.alloc(), TWO_SYSTEMS);
+fn systems_are_called_as_worked(rt: HostRuntime) {
+    for steps in [TWO_LINES, WAITS, MOST_RETRIES, HELD_AND_LOW, NIGHTS] {
+        play_anew(&rt, rt.alloc(), steps);
+    }
+}
+
+#[test]
+fn reports_users_and_entries_are_as_worked(rt: HostRuntime) {
+    for steps in [REPORTS, USERS, ENTRIES, TWO_SYSTEMS] {
+        play_anew(&rt, rt.alloc(), steps);
+    }
 }
 
 const LAST_NUMBER: &[Step] = &[
