@@ -12,19 +12,19 @@ use Rattle.uu_schema.specs.Schema.{site}
 use Rattle.uu_questions.specs.Answers.{IsAt, IsOf, Answers}
 use Rattle.uu_rows.specs.Shows.{Shows}
 
-from_ok : {T E P : Type 0} (r : Result T E) → IsOk r → OnOk r P → P
+pub from_ok : {T E P : Type 0} (r : Result T E) → IsOk r → OnOk r P → P
 from_ok (Ok x) ok p = p
 from_ok (Err e) ok p = absurd (cc)
 
-to_any : {T E P : Type 0} (r : Result T E) → P → OnOk r P
+pub to_any : {T E P : Type 0} (r : Result T E) → P → OnOk r P
 to_any (Ok x) p = p
 to_any (Err e) p = tt
 
-none_told : {T E : Type 0} (P : Type 0) (r : Result T E) → IsErr r → OnOk r P
+pub none_told : {T E : Type 0} (P : Type 0) (r : Result T E) → IsErr r → OnOk r P
 none_told P (Ok x) fails = absurd (cc)
 none_told P (Err e) fails = tt
 
-none_answered : {T E : Type 0} (P : T → Type 0) (r : Result T E) → IsErr r → IfOk r P
+pub none_answered : {T E : Type 0} (P : T → Type 0) (r : Result T E) → IsErr r → IfOk r P
 none_answered P (Ok x) fails = absurd (cc)
 none_answered P (Err e) fails = tt
 

@@ -12,6 +12,7 @@ pub mod Refusals
 pub mod Listed
 pub mod JobBytes
 pub mod WalkLemmas
+pub mod Reading
 pub mod PieceRows
 pub mod OpenLines
 pub mod OpenRows

@@ -1,5 +1,6 @@
 pub mod Texts
 pub mod Answers
+pub mod Reading
 pub mod Assembly
 pub mod Listing
 pub mod Walks

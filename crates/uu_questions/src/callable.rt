@@ -11,12 +11,11 @@ ghost use Rattle.uu_tables.specs.Tables.{system_columns};
 ghost use Rattle.uu_questions.specs.Answers.{Answers};
 ghost use Rattle.uu_questions.specs.Dues.{lets_through, is_open, is_among};
 
-use crate::asks::{ask_held, ask_open};
-use sqlite::{Alter, Connection, Error};
+use crate::asks::typed_rows;
+use sqlite::{Alter, Connection, Error, params};
 use std::alloc::{AllocError, Global};
 use std::collections::BTreeMap;
 use uu_names::{Grade, SiteName};
-use uu_rows::read_rows;
 use uu_tables::{LineColumns, SystemColumns};
 use uu_times::Moment;
 
@@ -45,8 +44,12 @@ fn held_systems<S: Alter>(
     ensures idle { conn.old.in_transaction ≡ false → conn.new.in_transaction ≡ false }
     ensures answers { Answers (λ s held. held.items ≡ map system_columns (filter (λ row. is_held row.call at.now.second) s.systems)) (state S.Store conn.old) (state S.Store conn.new) result }
 {
-    let rows = ask_held(conn, second_of(at))?;
-    read_rows(alloc, &rows)
+    typed_rows(
+        alloc,
+        conn,
+        "SELECT name, max_retries, last, failures, wait, outcome, why FROM systems WHERE last <= ?1 AND ?1 < last + wait ORDER BY name",
+        params![second_of(at)],
+    )
 }
 
 // The lines whose windows hold the minute of the week.
@@ -58,8 +61,12 @@ fn open_lines<S: Alter>(
     ensures idle { conn.old.in_transaction ≡ false → conn.new.in_transaction ≡ false }
     ensures answers { Answers (λ s lines. (name : List ℕ) (grade : ℕ) → lets_through lines.items name grade ≡ is_open s.systems at.now.week name grade) (state S.Store conn.old) (state S.Store conn.new) result }
 {
-    let rows = ask_open(conn, week_of(at))?;
-    read_rows(alloc, &rows)
+    typed_rows(
+        alloc,
+        conn,
+        "SELECT lines.system, lines.place, lines.rank, lines.retry FROM lines JOIN ranges ON ranges.system = lines.system AND ranges.place = lines.place WHERE ranges.low <= ?1 AND ?1 <= ranges.high",
+        params![week_of(at)],
+    )
 }
 
 // ---- limits

@@ -5,11 +5,10 @@ ghost use Rattle.uu_core.specs.State.{entry_at};
 ghost use Rattle.uu_tables.specs.Tables.{entry_columns};
 ghost use Rattle.uu_questions.specs.Answers.{Answers};
 
-use crate::asks::ask_entry;
-use sqlite::{Alter, Connection, Error};
+use crate::asks::typed_row;
+use sqlite::{Alter, Connection, Error, params};
 use std::alloc::Global;
 use uu_names::SiteName;
-use uu_rows::first_row;
 use uu_tables::EntryColumns;
 
 // The row of the map entry of this host, if it is there.
@@ -21,8 +20,12 @@ fn row_of_host<S: Alter>(
     ensures idle { conn.old.in_transaction ≡ false → conn.new.in_transaction ≡ false }
     ensures answers { Answers (λ s found. found ≡ option_map entry_columns (entry_at s host.now)) (state S.Store conn.old) (state S.Store conn.new) result }
 {
-    let rows = ask_entry(conn, host.as_str())?;
-    first_row(alloc, &rows)
+    typed_row(
+        alloc,
+        conn,
+        "SELECT host, bytes FROM entries WHERE host = ?1 ORDER BY host",
+        params![host.as_str()],
+    )
 }
 
 /// The text of the map entry of this host, if it is there.

@@ -9,20 +9,22 @@ ghost use Rattle.uu_core.specs.Laws.{AreFound};
 ghost use Rattle.uu_rows.specs.Readable.{IsSmall};
 ghost use Rattle.uu_questions.specs.Answers.{Answers};
 
-use crate::asks::{ask_head, ask_known, ask_next, ask_waiting};
-use sqlite::{Alter, Connection, Error, Row};
+use crate::asks::{has_row, typed_row};
+use sqlite::{Alter, Connection, Error, Row, params};
 use std::alloc::Global;
 use uu_core::JobHead;
 use uu_names::SiteName;
-use uu_rows::first_row;
 
 /// Whether a system of this name is known.
 pub(crate) fn is_known<S: Alter>(conn: &mut Connection<S>, name: &SiteName) -> Result<bool, Error>
     ensures idle { conn.old.in_transaction ≡ false → conn.new.in_transaction ≡ false }
     ensures answers { Answers (λ s known. known ≡ has_system s name.now) (state S.Store conn.old) (state S.Store conn.new) result }
 {
-    let rows = ask_known(conn, name.as_str())?;
-    Ok(!rows.is_empty())
+    has_row(
+        conn,
+        "SELECT name FROM systems WHERE name = ?1",
+        params![name.as_str()],
+    )
 }
 
 /// Whether a job waits for the system of this name.
@@ -30,8 +32,11 @@ pub(crate) fn is_waiting<S: Alter>(conn: &mut Connection<S>, name: &SiteName) ->
     ensures idle { conn.old.in_transaction ≡ false → conn.new.in_transaction ≡ false }
     ensures answers { Answers (λ s waiting. waiting ≡ is_waiting s name.now) (state S.Store conn.old) (state S.Store conn.new) result }
 {
-    let rows = ask_waiting(conn, name.as_str())?;
-    Ok(!rows.is_empty())
+    has_row(
+        conn,
+        "SELECT number FROM jobs WHERE system = ?1 LIMIT 1",
+        params![name.as_str()],
+    )
 }
 
 // The number that the rows of the question show. No row is no spool's.
@@ -50,7 +55,7 @@ pub fn next_number<S: Alter>(conn: &mut Connection<S>) -> Result<u32, Error>
     ensures idle { conn.old.in_transaction ≡ false → conn.new.in_transaction ≡ false }
     ensures answers { Answers (λ s next. next ≡ s.next) (state S.Store conn.old) (state S.Store conn.new) result }
 {
-    let rows = ask_next(conn)?;
+    let rows = conn.query_all("SELECT next FROM spool WHERE id = 1", &[])?;
     next_in(rows.as_slice())
 }
 
@@ -63,8 +68,12 @@ pub(crate) fn head_of_job<S: Alter>(
     ensures idle { conn.old.in_transaction ≡ false → conn.new.in_transaction ≡ false }
     ensures answers { Answers (λ s head. head ≡ option_map head_of (job_at s number)) (state S.Store conn.old) (state S.Store conn.new) result }
 {
-    let rows = ask_head(conn, number)?;
-    first_row(alloc, &rows)
+    typed_row(
+        alloc,
+        conn,
+        "SELECT number, system, rank, user, kind, queued, first_word, second_word, size FROM jobs WHERE number = ?1 ORDER BY number",
+        params![number],
+    )
 }
 
 /// The jobs of these numbers without their bytes, as many as are there; a number that stands twice gives its job twice.

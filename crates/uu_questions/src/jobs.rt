@@ -10,14 +10,13 @@ ghost use Rattle.uu_tables.specs.Tables.{tables_of};
 ghost use Rattle.uu_questions.specs.Answers.{Answers};
 ghost use Rattle.uu_questions.specs.Listing.{WantsAll, listed, handed_out, whole};
 
-use crate::asks::{ask_all_jobs, ask_jobs};
+use crate::asks::typed_rows;
 use crate::facts::head_of_job;
 use crate::walk::{RowTaker, walk_rows};
 use sqlite::types::ValueRef;
 use sqlite::{Alter, Connection, Error, Row, params};
 use std::alloc::Global;
 use uu_core::{Filter, JobHead};
-use uu_rows::read_rows;
 
 // Whether neither the system nor the user matters.
 fn wants_all(filter: &Filter) -> bool
@@ -31,8 +30,12 @@ fn list_all_jobs<S: Alter>(alloc: Global, conn: &mut Connection<S>) -> Result<Ve
     ensures idle { conn.old.in_transaction ≡ false → conn.new.in_transaction ≡ false }
     ensures answers { (f : Filter) → WantsAll f → Answers (λ s heads. heads.items ≡ listed f s) (state S.Store conn.old) (state S.Store conn.new) result }
 {
-    let rows = ask_all_jobs(conn)?;
-    read_rows(alloc, &rows)
+    typed_rows(
+        alloc,
+        conn,
+        "SELECT number, system, rank, user, kind, queued, first_word, second_word, size FROM jobs ORDER BY rank, number",
+        &[],
+    )
 }
 
 // The jobs that fit.
@@ -44,8 +47,14 @@ fn list_fitting_jobs<S: Alter>(
     ensures idle { conn.old.in_transaction ≡ false → conn.new.in_transaction ≡ false }
     ensures answers { Answers (λ s heads. heads.items ≡ listed filter.now s) (state S.Store conn.old) (state S.Store conn.new) result }
 {
-    let rows = ask_jobs(conn, filter)?;
-    read_rows(alloc, &rows)
+    let system = filter.system_text();
+    let user = filter.user_text();
+    typed_rows(
+        alloc,
+        conn,
+        "SELECT number, system, rank, user, kind, queued, first_word, second_word, size FROM jobs WHERE (?1 IS NULL OR system = ?1) AND (?2 IS NULL OR user = ?2) ORDER BY rank, number",
+        params![system, user],
+    )
 }
 
 /// The jobs that fit, without their bytes, by (rank, number).

@@ -9,9 +9,9 @@ ghost use Rattle.uu_core.specs.declared.system.SystemRow.{SystemRow};
 ghost use Rattle.sqlite.specs.declared.error.Error.TheVariants.{SqliteFailure, QueryReturnedNoRows};
 ghost use Rattle.sqlite.specs.declared.error.ErrorCode.TheVariants.{OutOfMemory};
 
-use crate::asks::{ask_lines_of, ask_ranges_of, ask_system};
+use crate::asks::typed_rows;
 use crate::assembly::systems_of;
-use sqlite::{Alter, Connection, Error};
+use sqlite::{Alter, Connection, Error, params};
 use std::alloc::Global;
 use uu_core::SystemRow;
 use uu_names::SiteName;
@@ -27,8 +27,12 @@ fn columns_of<S: Alter>(
     ensures idle { conn.old.in_transaction ≡ false → conn.new.in_transaction ≡ false }
     ensures answers { Answers (λ s found. found.items ≡ map system_columns (filter (is_system name.now) s.systems)) (state S.Store conn.old) (state S.Store conn.new) result }
 {
-    let rows = ask_system(conn, name)?;
-    read_rows(alloc, &rows)
+    typed_rows(
+        alloc,
+        conn,
+        "SELECT name, max_retries, last, failures, wait, outcome, why FROM systems WHERE name = ?1 ORDER BY name",
+        params![name],
+    )
 }
 
 // The rows of the lines of the system of this name.
@@ -40,8 +44,12 @@ fn lines_of<S: Alter>(
     ensures idle { conn.old.in_transaction ≡ false → conn.new.in_transaction ≡ false }
     ensures answers { Answers (λ s lines. lines.items ≡ filter (λ line. same_text line.system name.now) (tables_of s).lines) (state S.Store conn.old) (state S.Store conn.new) result }
 {
-    let rows = ask_lines_of(conn, name)?;
-    read_rows(alloc, &rows)
+    typed_rows(
+        alloc,
+        conn,
+        "SELECT system, place, rank, retry FROM lines WHERE system = ?1 ORDER BY system, place",
+        params![name],
+    )
 }
 
 // The rows of the ranges of these lines.
@@ -53,8 +61,12 @@ fn ranges_of<S: Alter>(
     ensures idle { conn.old.in_transaction ≡ false → conn.new.in_transaction ≡ false }
     ensures answers { Answers (λ s ranges. ranges.items ≡ filter (λ range. same_text range.system name.now) (tables_of s).ranges) (state S.Store conn.old) (state S.Store conn.new) result }
 {
-    let rows = ask_ranges_of(conn, name)?;
-    read_rows(alloc, &rows)
+    typed_rows(
+        alloc,
+        conn,
+        "SELECT system, place, low, high FROM ranges WHERE system = ?1 ORDER BY system, place, low",
+        params![name],
+    )
 }
 
 // The rows of all systems.

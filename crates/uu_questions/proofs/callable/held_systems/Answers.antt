@@ -1,19 +1,20 @@
-use Rattle.std.proofs.Common.{map, filter, ap, ◌∙◌}
-use Rattle.std.proofs.lemmas.Result.{IfOk-weaker}
+use Rattle.std.proofs.Common.{pos, [], ◌∷◌, map, filter, ap, ◌∙◌}
+use Rattle.sqlite.specs.declared.types.Value.TheVariants.{Int}
 use Rattle.sqlite.specs.Held.{state}
 use Rattle.uu_core.specs.Waiting.{is_held}
 use Rattle.uu_tables.specs.Tables.{system_columns}
 use Rattle.uu_questions.specs.Texts.{held_text}
-use Rattle.uu_questions.proofs.Answering.{then_read}
-use Rattle.uu_rows.proofs.Showing.{answered}
+use Rattle.uu_questions.proofs.Meanings.{held_means}
 use Rattle.uu_questions.proofs.OpenRows.{held_found}
+use Rattle.uu_questions.proofs.Reading.{read_answers}
 use Rattle.uu_questions.proofs.callable.held_systems.Goals as goal
+
+pub typed_rows-requires : goal.typed_rows-requires
+typed_rows-requires g c = held_means.plain
 
 pub returns-clause-answers : goal.returns-clause-answers
 returns-clause-answers g c =
     let a = state g.S.Store c.args.conn.now in
-    let b = state g.S.Store c.ask_held.new.conn in
-    then_read _ held_text _ a b c.ask_held.result _ c.ask_held.ensures.shows (answered _ _ c.in_ok-rows.was)
-    (λ clean s of. IfOk-weaker c.read_rows.result _ _
-    (λ found read. held_found a b s c.second_of.result c.in_ok-rows.rows.items of (c.in_ok-rows.ensures.shows.rows clean) found.items (rw c.deref.ensures.value at read)
-    ∙ ap (λ second. map system_columns (filter (λ row. is_held row.call second) s.systems)) c.second_of.ensures) c.read_rows.ensures.rows)
+    let b = state g.S.Store c.typed_rows.new.conn in
+    read_answers _ _ held_text (Int (pos c.second_of.result) ∷ []) a b c.typed_rows.result (rw c.params-to_sql.ensures at c.typed_rows.ensures.reads)
+    (λ s of rows shown found it. held_found a b s c.second_of.result rows of shown found.items it.0 ∙ ap (λ second. map system_columns (filter (λ row. is_held row.call second) s.systems)) c.second_of.ensures)

@@ -1,17 +1,19 @@
-use Rattle.std.proofs.Common.{ap, ◌∙◌}
-use Rattle.std.proofs.lemmas.Result.{IfOk-weaker}
+use Rattle.std.proofs.Common.{pos, [], ◌∷◌, ap, ◌∙◌}
+use Rattle.sqlite.specs.declared.types.Value.TheVariants.{Int}
 use Rattle.sqlite.specs.Held.{state}
 use Rattle.uu_questions.specs.Dues.{is_open}
 use Rattle.uu_questions.specs.Texts.{open_text}
-use Rattle.uu_questions.proofs.Answering.{then_read}
-use Rattle.uu_rows.proofs.Showing.{answered}
+use Rattle.uu_questions.proofs.Meanings.{open_means}
 use Rattle.uu_questions.proofs.OpenRows.{open_found}
+use Rattle.uu_questions.proofs.Reading.{read_answers}
 use Rattle.uu_questions.proofs.callable.open_lines.Goals as goal
+
+pub typed_rows-requires : goal.typed_rows-requires
+typed_rows-requires g c = open_means.plain
 
 pub returns-clause-answers : goal.returns-clause-answers
 returns-clause-answers g c =
     let a = state g.S.Store c.args.conn.now in
-    let b = state g.S.Store c.ask_open.new.conn in
-    then_read _ open_text _ a b c.ask_open.result _ c.ask_open.ensures.shows (answered _ _ c.in_ok-rows.was)
-    (λ clean s of. IfOk-weaker c.read_rows.result _ _
-    (λ found read name grade. open_found a b s c.in_ok-rows.rows.items of c.week_of.result (c.in_ok-rows.ensures.shows.rows clean) found.items (rw c.deref.ensures.value at read) name grade ∙ ap (λ week. is_open s.systems week name grade) c.week_of.ensures) c.read_rows.ensures.rows)
+    let b = state g.S.Store c.typed_rows.new.conn in
+    read_answers _ _ open_text (Int (pos c.week_of.result) ∷ []) a b c.typed_rows.result (rw c.params-to_sql.ensures at c.typed_rows.ensures.reads)
+    (λ s of rows shown found it name grade. open_found a b s rows of c.week_of.result shown found.items it.0 name grade ∙ ap (λ week. is_open s.systems week name grade) c.week_of.ensures)

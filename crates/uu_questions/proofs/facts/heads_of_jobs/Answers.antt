@@ -2,12 +2,21 @@ use Rattle.std.proofs.Common.{◌≡◌, map, Ok, refl, sym, ap, ◌∙◌, arit
 use Rattle.std.proofs.lemmas.List.{take_all}
 use Rattle.sqlite.specs.Held.{state}
 use Rattle.uu_core.specs.State.{head_of}
-use Rattle.uu_questions.proofs.Answering.{then_answers, answers_as, answer_in, none_known}
+use Rattle.uu_questions.proofs.Answering.{then_answers, answers_as, answer_in, none_ok, none_known}
 use Rattle.uu_rows.proofs.Showing.{answered}
 use Rattle.uu_questions.proofs.OfState.{found_mapped}
 use Rattle.uu_questions.proofs.FoundJobs.{found_in, found_more, are_found, one_or_none}
 use Rattle.uu_questions.proofs.facts.heads_of_jobs.Goals as goal
 use Rattle.uu_questions.proofs.facts.heads_of_jobs.Goals.{in-Some+in_ok-push, in_default}
+
+pub returns-in_err-head-clause-answers : goal.returns-in_err-head-clause-answers
+returns-in_err-head-clause-answers g c =
+    let a = state g.S.Store c.args.conn.now in
+    let b = state g.S.Store c.loop-number.conn in
+    let d = state g.S.Store c.head_of_job.new.conn in
+    let r = c.from_residual.result in
+    let fails = c.from_residual.ensures.0 in
+    then_answers _ a b (Ok 0) c.loop-number.invariant.1 refl _ d c.head_of_job.result c.head_of_job.ensures.answers _ r (none_ok r c.head_of_job.result fails) (λ s good h k. none_known _ r fails)
 
 pub returns-in_err-push-clause-answers : goal.returns-in_err-push-clause-answers
 returns-in_err-push-clause-answers g c =

@@ -1,13 +1,16 @@
+use Rattle.std.proofs.Common.{[]}
 use Rattle.sqlite.specs.Held.{state}
 use Rattle.uu_questions.specs.Texts.{all_jobs_text}
-use Rattle.uu_questions.proofs.Answering.{then_read, both_ok}
-use Rattle.uu_rows.proofs.Showing.{answered}
+use Rattle.uu_questions.proofs.Meanings.{all_jobs_means}
 use Rattle.uu_questions.proofs.Listed.{all_jobs_listed}
+use Rattle.uu_questions.proofs.Reading.{read_answers}
 use Rattle.uu_questions.proofs.jobs.list_all_jobs.Goals as goal
+
+pub typed_rows-requires : goal.typed_rows-requires
+typed_rows-requires g c = all_jobs_means.plain
 
 pub returns-clause-answers : goal.returns-clause-answers
 returns-clause-answers g c f all =
     let a = state g.S.Store c.args.conn.now in
-    let b = state g.S.Store c.ask_all_jobs.new.conn in
-    then_read _ all_jobs_text _ a b c.ask_all_jobs.result _ c.ask_all_jobs.ensures.shows (answered _ _ c.in_ok-rows.was)
-    (λ clean s of. both_ok c.read_rows.result _ _ _ (λ found good read. all_jobs_listed a b s f all c.in_ok-rows.rows.items of (c.in_ok-rows.ensures.shows.rows clean) found.items good (rw c.deref.ensures.value at read)) c.read_rows.ensures.readable c.read_rows.ensures.rows)
+    let b = state g.S.Store c.typed_rows.new.conn in
+    read_answers _ _ all_jobs_text [] a b c.typed_rows.result c.typed_rows.ensures.reads (λ s of rows shown found it. all_jobs_listed a b s f all rows of shown found.items it.1 it.0)

@@ -1,14 +1,17 @@
-use Rattle.std.proofs.lemmas.Result.{IfOk-weaker}
+use Rattle.std.proofs.Common.{[], ◌∷◌}
+use Rattle.sqlite.specs.declared.types.Value.TheVariants.{Text}
 use Rattle.sqlite.specs.Held.{state}
 use Rattle.uu_questions.specs.Texts.{system_text}
-use Rattle.uu_questions.proofs.Answering.{then_read}
-use Rattle.uu_rows.proofs.Showing.{answered}
+use Rattle.uu_questions.proofs.Meanings.{system_means}
+use Rattle.uu_questions.proofs.Reading.{read_answers}
 use Rattle.uu_questions.proofs.SystemRows.{system_found}
 use Rattle.uu_questions.proofs.systems.columns_of.Goals as goal
+
+pub typed_rows-requires : goal.typed_rows-requires
+typed_rows-requires g c = system_means.plain
 
 pub returns-clause-answers : goal.returns-clause-answers
 returns-clause-answers g c =
     let a = state g.S.Store c.args.conn.now in
-    let b = state g.S.Store c.ask_system.new.conn in
-    then_read _ system_text _ a b c.ask_system.result _ c.ask_system.ensures.shows (answered _ _ c.in_ok-rows.was)
-    (λ clean s of. IfOk-weaker c.read_rows.result _ _ (λ found read. system_found a b s c.in_ok-rows.rows.items of c.args.name.now (c.in_ok-rows.ensures.shows.rows clean) found.items (rw c.deref.ensures.value at read)) c.read_rows.ensures.rows)
+    let b = state g.S.Store c.typed_rows.new.conn in
+    read_answers _ _ system_text (Text c.args.name.now ∷ []) a b c.typed_rows.result (rw c.params-to_sql.ensures at c.typed_rows.ensures.reads) (λ s of rows shown found it. system_found a b s rows of c.args.name.now shown found.items it.0)

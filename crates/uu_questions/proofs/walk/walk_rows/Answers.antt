@@ -1,4 +1,4 @@
-use Rattle.std.proofs.Common.{rules, [], ◌∷◌, ◌++◌, Ok, inl, refl, ◌∙◌, arith}
+use Rattle.std.proofs.Common.{◌≡◌, rules, [], ◌∷◌, ◌++◌, Ok, inl, refl, subst, ◌∙◌, arith}
 use Rattle.sqlite.specs.Given.{IsRefused}
 use Rattle.sqlite.specs.Held.{state}
 use Rattle.sqlite.specs.Values.{bound}
@@ -32,6 +32,7 @@ rows-init g c =
 
 pub returns-in_err-row-clause-walks : goal.returns-in_err-row-clause-walks
 returns-in_err-row-clause-walks g c =
+    let same : c.next.follows.lender-at-none.conn.now ≡ c.conn-in_err-row-1.given.0 = search rules in
     let moved = c.next.follows.holds-at-none in
     let old = state g.S.Store c.args.conn.now in
     let mid = state g.S.Store c.rows.rows.conn.now in
@@ -41,10 +42,11 @@ returns-in_err-row-clause-walks g c =
     (asked old now
     (λ clean stands. let was = c.rows.invariant.3 (omega (arith, moved.survives.clean)) stands in then_refused old mid now was.2 (refused_by mid now _ (err_of _ c.next.result _ c.in_err-row.was (moved.kept clean))))
     (survives_on old mid now _ c.rows.invariant.2 moved.survives)) in
-    search rules
+    subst (λ h. Walks {T = Unit {0}} g.T.RowTaker.takes c.args.sql.now (bound c.args.params.now) old (state g.S.Store h) c.args.taker.now c.rows.taker c.from_residual-in_err-row.result) same it
 
 pub returns-in_default-clause-walks : goal.returns-in_default-clause-walks
 returns-in_default-clause-walks g c =
+    let same : c.next.follows.lender-at-none.conn.now ≡ c.conn-in_default-1.given.0 = search rules in
     let moved = c.next.follows.holds-at-none in
     let sql = c.args.sql.now in
     let params = bound c.args.params.now in
@@ -57,10 +59,11 @@ returns-in_default-clause-walks g c =
     let was = c.rows.invariant.3 (omega (arith, moved.survives.clean)) stands in
     let shown = (rw (c.in_ok-row.was, c.in_default.is) at (moved.ok clean)) sql params was.0 was.1 in
     (was.0, was.2, on_ok_of _ c.next.result _ c.in_ok-row.was (moved.same clean), shown, was.3)) in
-    search rules
+    subst (λ h. Walks {T = Unit {0}} g.T.RowTaker.takes sql params old (state g.S.Store h) c.args.taker.now c.rows.taker (Ok tt)) same it
 
 pub returns-in_err-take-clause-walks : goal.returns-in_err-take-clause-walks
 returns-in_err-take-clause-walks g c =
+    let same : c.next.follows.lender-at-none.conn.now ≡ c.conn-in_err-take-1.given.0 = search rules in
     let moved = c.next.follows.holds-at-none in
     let old = state g.S.Store c.args.conn.now in
     let mid = state g.S.Store c.rows.rows.conn.now in
@@ -70,7 +73,7 @@ returns-in_err-take-clause-walks g c =
     (asked old now
     (λ clean stands. let was = c.rows.invariant.3 (omega (arith, moved.survives.clean)) stands in inl (unchanged_then old mid now was.2 (on_ok_of _ c.next.result _ c.in_ok-row.was (moved.same clean))))
     (survives_on old mid now _ c.rows.invariant.2 moved.survives)) in
-    search rules
+    subst (λ h. Walks {T = Unit {0}} g.T.RowTaker.takes c.args.sql.now (bound c.args.params.now) old (state g.S.Store h) c.args.taker.now c.take.new.self c.from_residual-in_err-take.result) same it
 
 pub rows-preserved : goal.rows-preserved
 rows-preserved g c =
