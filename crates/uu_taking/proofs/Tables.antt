@@ -1,6 +1,6 @@
 -- What two questions on a table, on its rows and on its rowids, say of it, both ways.
 use Rattle.std.proofs.Common.{◌≡◌, ℕ, List, [], ◌∷◌, map, refl, sym, ap, subst, ◌∙◌, Less, Ordering, Option, Some, None, Vec, Result, Ok, Err, arith}
-use Rattle.std.specs.Prelude.{IfOk, IsOk, OnOk}
+use Rattle.std.specs.Prelude.{IfOk, IsOk, IsErr, OnOk}
 use Rattle.std.specs.declared.alloc.Global.{Global}
 use Rattle.std.specs.List.Sorted.{IsPermutation}
 use Rattle.std.proofs.lemmas.List.Sorted.{IsPermutation-sym}
@@ -88,6 +88,11 @@ took P text more a b c p q r ok fine first second spared also_spared step =
       same = λ clean stands. any_told _ r (of_ok q fine (second.same clean (subst (Stands site) (sym (stays clean stands)) stands)) ∙ stays clean stands);
       found = λ clean stands. step (early clean) clean stands (stays clean stands);
     }
+
+-- the second was refused
+pub took_none : {T : Type 0} (P : (ℕ → List Row) → T → Type 0) (a b c : db.State) (p q : Result (Vec Row Global) Error) (r : Result T Error) → IsOk p → Spares a b p → Spares b c q → IsErr r → Takes P a c r
+took_none P a b c p q (Ok x) ok spared also_spared fails = absurd (cc)
+took_none P a b c p q (Err e) ok spared also_spared fails = record { spares = spared_as a c q (Err e) (λ is. absurd (cc)) (spared_then a b p c q ok spared also_spared); same = λ clean stands. tt; found = λ clean stands. tt }
 
 pub took_one : {T : Type 0} (P : (ℕ → List Row) → T → Type 0) (text : List ℕ) (a b : db.State) (p : Result (Vec Row Global) Error) (r : Result T Error) → IsOk p → Shows text [] a b p → Spares a b p
     → (HasCleanDisk b → Stands site a.now → IfOk r (P a.now.trees)) → Takes P a b r
