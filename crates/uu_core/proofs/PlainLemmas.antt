@@ -1,5 +1,5 @@
 -- What the plain machine does to its lists.
-use Rattle.std.proofs.Common.{◌≡◌, ℕ, zero, suc, ◌+◌, ◌-◌, ◌<◌, ◌≤◌, Bool, true, false, not, cond, ◌==◌, ◌||◌, List, [], ◌∷◌, ◌++◌, map, filter, find, length, take, drop, set, All, AllPairs, Option, Some, None, Result, Ok, Err, get_or, nat_cmp, nat_eq, is_err, IfOk, OnOk, OnErr, refl, ap, sym, ◌∙◌, subst, arith}
+use Rattle.std.proofs.Common.{◌≡◌, ℕ, zero, suc, ◌+◌, ◌-◌, ◌<◌, ◌≤◌, Bool, true, false, not, cond, ◌==◌, ◌||◌, List, [], ◌∷◌, ◌++◌, map, filter, find, length, take, drop, set, All, AllPairs, Option, Some, None, Result, Ok, Err, get_or, nat_cmp, nat_eq, is_err, OnErr, refl, ap, sym, ◌∙◌, subst, arith}
 use Rattle.std.specs.declared.cmp.Ordering.TheVariants.{Less, Equal, Greater}
 use Rattle.std.specs.declared.cmp.Ordering.{Ordering}
 use Rattle.std.specs.Ordering.{is_lt, ordering_reverse}
@@ -21,7 +21,7 @@ use Rattle.uu_core.specs.declared.job.NewJob.{NewJob}
 use Rattle.uu_core.specs.declared.command.Command.{Command}
 use Rattle.uu_core.specs.declared.command.Command.TheVariants.{Define, Remove, Queue, Kill, Regrade, Rejuvenate, Failed, Done, Entry}
 use Rattle.uu_core.specs.declared.command.Reply.{Reply}
-use Rattle.uu_core.specs.declared.command.Reply.TheVariants.{Done as Carried, Number, Refused}
+use Rattle.uu_core.specs.declared.command.Reply.TheVariants.{Done as Carried, Refused}
 use Rattle.uu_core.specs.declared.refusal.Refusal.{Refusal}
 use Rattle.uu_core.specs.declared.refusal.Refusal.TheVariants.{NoSystem, BadEntry}
 use Rattle.uu_core.specs.declared.system.CallState.{CallState}
@@ -282,23 +282,6 @@ queue_accepted known next job number e =
     let first = none_first (is_too_large job) _ _ d.0 in
     let second = none_first (not known) _ _ first.1 in
     (within most_bytes (length job.bytes) (or_false _ (has_many_arguments job.kind) first.0).0, (none_first (next == numbers_end) _ _ second.1).0, d.1)
-
-pub queue_given : {E : Type 0} (state new : State) (job : NewJob) (known : Bool) (number : ℕ) (result : Result Reply E) → known ≡ has_system state job.system → Ok number ≡ decided (queue_refusal known state.next job) state.next → IfOk result (λ reply. reply ≡ Number number) → OnOk result (new ≡ record state { jobs = state.jobs ++ job_of number job ∷ []; next = number + 1 }) → OnErr result (new ≡ state) → IsGiven state (Queue job) result new
-queue_given state new job known number (Ok reply) k e told is failed =
-    ap (λ s. (s, reply)) new-is ∙ ap (λ r. (accept state (Queue job), r)) reply-is ∙ sym (carried state (Queue job) accepted)
-  where
-    decision : (queue_refusal known state.next job ≡ None) × (state.next ≡ number)
-    decision = none_decided (queue_refusal known state.next job) state.next number (sym e)
-
-    accepted : verdict state (Queue job) ≡ None
-    accepted = ap (λ b. queue_refusal b state.next job) (sym k) ∙ decision.0
-
-    new-is : new ≡ accept state (Queue job)
-    new-is = is ∙ ap (λ n. record state { jobs = state.jobs ++ job_of n job ∷ []; next = n + 1 }) (sym decision.1)
-
-    reply-is : reply ≡ reply_to state (Queue job)
-    reply-is = told ∙ ap Number (sym decision.1)
-queue_given state new job known number (Err refused) k e told is failed = failed
 
 pub queue_refused : (state : State) (job : NewJob) (known : Bool) (refusal : Refusal) → known ≡ has_system state job.system → Err refusal ≡ decided (queue_refusal known state.next job) state.next → (state, Refused refusal) ≡ after state (Queue job)
 queue_refused state job known refusal k e =

@@ -84,6 +84,7 @@ fn is_free(free: &BTreeMap<SiteName, Grade>, job: &JobHead) -> bool
     }
 }
 
+// The jobs in their order, each borrowed.
 fn references(alloc: Global, jobs: &[JobHead]) -> Result<Vec<&JobHead>, AllocError>
     ensures { IfOk result (λ all. map (λ job. job.now) all.items ≡ jobs.now) }
 {

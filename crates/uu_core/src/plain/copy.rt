@@ -1,5 +1,5 @@
 // Copies of what the lists hold.
-ghost use Rattle.std.specs.Prelude.{◌≡◌, Ok, IfOk, map};
+ghost use Rattle.std.specs.Prelude.{◌≡◌, IfOk, map};
 ghost use Rattle.uu_core.specs.State.{head_of};
 
 use crate::job::{JobHead, Kind};
@@ -15,33 +15,23 @@ fn copy_words(alloc: Global, words: &[Word]) -> Result<Listed<Word>, AllocError>
     Ok(Listed::from_vec(words))
 }
 
-// Both words, if memory was there for each.
-fn both(
-    first: Result<Word, AllocError>,
-    second: Result<Word, AllocError>,
-) -> Result<(Word, Word), AllocError>
-    ensures { IfOk result (λ words. (first ≡ Ok words.0) × (second ≡ Ok words.1)) }
-{
-    Ok((first?, second?))
-}
-
 fn copy_kind(alloc: Global, kind: &Kind) -> Result<Kind, AllocError>
     ensures { IfOk result (λ copy. copy ≡ kind.now) }
 {
-    match kind {
-        Kind::Send { source, target } => {
-            let (source, target) = both(source.clone(), target.clone())?;
-            Ok(Kind::Send { source, target })
-        }
-        Kind::Request { source, target } => {
-            let (source, target) = both(source.clone(), target.clone())?;
-            Ok(Kind::Request { source, target })
-        }
-        Kind::Execute { command, arguments } => Ok(Kind::Execute {
+    Ok(match kind {
+        Kind::Send { source, target } => Kind::Send {
+            source: source.clone()?,
+            target: target.clone()?,
+        },
+        Kind::Request { source, target } => Kind::Request {
+            source: source.clone()?,
+            target: target.clone()?,
+        },
+        Kind::Execute { command, arguments } => Kind::Execute {
             command: command.clone()?,
             arguments: copy_words(alloc, arguments.as_slice())?,
-        }),
-    }
+        },
+    })
 }
 
 fn copy_head(alloc: Global, head: &JobHead) -> Result<JobHead, AllocError>

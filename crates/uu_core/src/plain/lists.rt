@@ -1,10 +1,7 @@
 // What the plain machine holds, and what each command makes of it.
-ghost use Rattle.std.specs.Prelude.{◌≡◌, ◌<◌, ◌≤◌, ◌+◌, ◌++◌, ◌∷◌, [], true, Ok, IfOk, OnOk, OnErr, MatchOption, is_err, length, map};
+ghost use Rattle.std.specs.Prelude.{◌≡◌, true, IfOk, MatchOption, is_err};
 ghost use Rattle.uu_map.specs.Text.{host_of};
-ghost use Rattle.uu_core.specs.Refusal.{decided};
-ghost use Rattle.uu_core.specs.State.{head_of, has_system, most_bytes, numbers_end};
-ghost use Rattle.uu_core.specs.Verdict.{done_refusal};
-ghost use Rattle.uu_core.specs.After.{after, job_of, done_call};
+ghost use Rattle.uu_core.specs.After.{after};
 ghost use Rattle.uu_core.specs.Plain.{state_of, IsInOrder, IsGiven};
 
 use super::copy::heads_of;
@@ -17,7 +14,7 @@ use crate::command::{Command, Reply};
 use crate::decide::{decide_done, decide_drop, decide_failed, decide_queue};
 use crate::job::{By, NewJob};
 use crate::refusal::Refusal;
-use crate::system::{CallState, SystemRow};
+use crate::system::SystemRow;
 use std::alloc::{AllocError, Global};
 use uu_map::{Entry, MapFault, read_entry};
 use uu_names::{Grade, Listed, SiteName, Word};
@@ -38,13 +35,13 @@ impl Lists {
     {
         match command {
             Command::Define(def) => self.define(def),
-            Command::Remove(name) => Ok(self.remove(name)),
+            Command::Remove(name) => Ok(self.remove(&name)),
             Command::Queue(job) => self.queue(job),
-            Command::Kill { job, by } => Ok(self.kill(job, by)),
-            Command::Regrade { job, grade, by } => Ok(self.regrade(job, grade, by)),
-            Command::Rejuvenate { job, at, by } => Ok(self.rejuvenate(job, &at, by)),
-            Command::Failed { system, at, why } => Ok(self.failed(system, &at, why)),
-            Command::Done { system, at, jobs } => self.done(alloc, system, &at, jobs),
+            Command::Kill { job, by } => Ok(self.kill(job, &by)),
+            Command::Regrade { job, grade, by } => Ok(self.regrade(job, grade, &by)),
+            Command::Rejuvenate { job, at, by } => Ok(self.rejuvenate(job, &at, &by)),
+            Command::Failed { system, at, why } => Ok(self.failed(&system, &at, why)),
+            Command::Done { system, at, jobs } => self.done(alloc, &system, &at, jobs.as_slice()),
             Command::Entry(bytes) => self.keep(alloc, bytes),
         }
     }
@@ -58,14 +55,14 @@ impl Lists {
         Ok(Reply::Done)
     }
 
-    fn remove(&mut self, name: SiteName) -> Reply
-        ensures { (state_of self.new, result) ≡ after (state_of self.old) (Command.Remove name) }
+    fn remove(&mut self, name: &SiteName) -> Reply
+        ensures { (state_of self.new, result) ≡ after (state_of self.old) (Command.Remove name.now) }
     {
-        let known = has_system(self.systems.as_slice(), &name);
-        let waiting = is_waiting(self.jobs.as_slice(), &name);
+        let known = has_system(self.systems.as_slice(), name);
+        let waiting = is_waiting(self.jobs.as_slice(), name);
         match decide_drop(known, waiting) {
             Ok(()) => {
-                drop_system(&mut self.systems, &name);
+                drop_system(&mut self.systems, name);
                 Reply::Done
             }
             Err(refusal) => Reply::Refused(refusal),
@@ -77,28 +74,19 @@ impl Lists {
     {
         let known = has_system(self.systems.as_slice(), &job.system);
         match decide_queue(known, self.next, &job) {
-            Ok(number) => self.add(number, job),
+            Ok(number) => {
+                self.jobs.push(PlainJob::new(number, job))?;
+                self.next = number + 1;
+                Ok(Reply::Number(number))
+            }
             Err(refusal) => Ok(Reply::Refused(refusal)),
         }
     }
 
-    // Adds a job under the next number, which is this.
-    fn add(&mut self, number: u32, job: NewJob) -> Result<Reply, AllocError>
-        requires size { length job.bytes ≤ most_bytes }
-        requires next { number < numbers_end }
-        ensures reply { IfOk result (λ reply. reply ≡ Reply.Number number) }
-        ensures done { OnOk result (state_of self.new ≡ record (state_of self.old) { jobs = self.old.jobs.items ++ job_of number job ∷ []; next = number + 1 }) }
-        ensures failed { OnErr result (state_of self.new ≡ state_of self.old) }
+    fn kill(&mut self, job: u32, by: &By) -> Reply
+        ensures { (state_of self.new, result) ≡ after (state_of self.old) (Command.Kill job by.now) }
     {
-        self.jobs.push(PlainJob::new(number, job))?;
-        self.next = number + 1;
-        Ok(Reply::Number(number))
-    }
-
-    fn kill(&mut self, job: u32, by: By) -> Reply
-        ensures { (state_of self.new, result) ≡ after (state_of self.old) (Command.Kill job by) }
-    {
-        match decide_on(self.jobs.as_slice(), job, &by) {
+        match decide_on(self.jobs.as_slice(), job, by) {
             Ok(()) => {
                 drop_job(&mut self.jobs, job);
                 Reply::Done
@@ -107,10 +95,10 @@ impl Lists {
         }
     }
 
-    fn regrade(&mut self, job: u32, grade: Grade, by: By) -> Reply
-        ensures { (state_of self.new, result) ≡ after (state_of self.old) (Command.Regrade job grade by) }
+    fn regrade(&mut self, job: u32, grade: Grade, by: &By) -> Reply
+        ensures { (state_of self.new, result) ≡ after (state_of self.old) (Command.Regrade job grade by.now) }
     {
-        match decide_on(self.jobs.as_slice(), job, &by) {
+        match decide_on(self.jobs.as_slice(), job, by) {
             Ok(()) => {
                 regrade(self.jobs.as_mut_slice(), job, grade);
                 Reply::Done
@@ -119,10 +107,10 @@ impl Lists {
         }
     }
 
-    fn rejuvenate(&mut self, job: u32, at: &Moment, by: By) -> Reply
-        ensures { (state_of self.new, result) ≡ after (state_of self.old) (Command.Rejuvenate job at.now by) }
+    fn rejuvenate(&mut self, job: u32, at: &Moment, by: &By) -> Reply
+        ensures { (state_of self.new, result) ≡ after (state_of self.old) (Command.Rejuvenate job at.now by.now) }
     {
-        match decide_on(self.jobs.as_slice(), job, &by) {
+        match decide_on(self.jobs.as_slice(), job, by) {
             Ok(()) => {
                 rejuvenate(self.jobs.as_mut_slice(), job, at);
                 Reply::Done
@@ -131,48 +119,35 @@ impl Lists {
         }
     }
 
-    fn failed(&mut self, system: SiteName, at: &Moment, why: Word) -> Reply
+    fn failed(&mut self, system: &SiteName, at: &Moment, why: Word) -> Reply
         requires { IsInOrder (state_of self.old) }
-        ensures { (state_of self.new, result) ≡ after (state_of self.old) (Command.Failed system at.now why) }
+        ensures { (state_of self.new, result) ≡ after (state_of self.old) (Command.Failed system.now at.now why) }
     {
-        match decide_failed(system_at(self.systems.as_slice(), &system), at, why) {
+        match decide_failed(system_at(self.systems.as_slice(), system), at, why) {
             Ok(call) => {
-                set_call(self.systems.as_mut_slice(), &system, call);
+                set_call(self.systems.as_mut_slice(), system, call);
                 Reply::Done
             }
             Err(refusal) => Reply::Refused(refusal),
         }
     }
 
-    // What a report of a call is decided to be, by the jobs and systems that are there.
-    fn decision(
-        &self,
+    fn done(
+        &mut self,
         alloc: Global,
         system: &SiteName,
         at: &Moment,
         jobs: &[u32],
-    ) -> Result<Result<CallState, Refusal>, AllocError>
-        ensures { IfOk result (λ decision. decision ≡ decided (done_refusal (has_system (state_of self.now) system.now) system.now jobs.now (map head_of self.now.jobs.items)) (done_call at.now)) }
+    ) -> Result<Reply, AllocError>
+        requires { IsInOrder (state_of self.old) }
+        ensures { IsGiven (state_of self.old) (Command.Done system.now at.now jobs.now) result (state_of self.new) }
     {
         let heads = heads_of(alloc, self.jobs.as_slice())?;
         let known = has_system(self.systems.as_slice(), system);
-        Ok(decide_done(known, system, jobs, heads.as_slice(), at))
-    }
-
-    fn done(
-        &mut self,
-        alloc: Global,
-        system: SiteName,
-        at: &Moment,
-        jobs: Listed<u32>,
-    ) -> Result<Reply, AllocError>
-        requires { IsInOrder (state_of self.old) }
-        ensures { IsGiven (state_of self.old) (Command.Done system at.now jobs) result (state_of self.new) }
-    {
-        match self.decision(alloc, &system, at, jobs.as_slice())? {
+        match decide_done(known, system, jobs, heads.as_slice(), at) {
             Ok(call) => {
-                drop_jobs(&mut self.jobs, jobs.as_slice());
-                set_call(self.systems.as_mut_slice(), &system, call);
+                drop_jobs(&mut self.jobs, jobs);
+                set_call(self.systems.as_mut_slice(), system, call);
                 Ok(Reply::Done)
             }
             Err(refusal) => Ok(Reply::Refused(refusal)),

@@ -1,6 +1,5 @@
 -- The references are to the jobs, in the order of the sort.
-use Rattle.std.proofs.Common.{◌≡◌, List, map, IsPermutation, subst, ◌∙◌, Bor, arith, rules}
-use Rattle.std.proofs.lemmas.List.{take_all}
+use Rattle.std.proofs.Common.{List, map, IsPermutation, subst, Bor, rules}
 use Rattle.std.proofs.lemmas.List.Sorted.{IsPermutation-map, answers_always}
 use Rattle.uu_core.specs.declared.job.JobHead.{JobHead}
 use Rattle.uu_core.proofs.DueLemmas.{order_from_sort}
