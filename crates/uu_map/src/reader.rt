@@ -171,10 +171,40 @@ impl Parsed {
                 pending = Some(parsed.take_line(alloc, host, pending, line, said)?);
             }
         }
+        parsed.finish(alloc, host, pending)
+    }
+
+    // All that was said, with what the last statement says, if there is one.
+    fn finish(
+        mut self,
+        alloc: Global,
+        host: &[u8],
+        pending: Option<Pending>,
+    ) -> Result<Parsed, AllocError>
+        ensures { IfOk result (λ parsed. as_said parsed ≡ in_all host.now (as_said self) (pending_list pending)) }
+    {
         if let Some(last) = pending {
-            parsed.add(alloc, host, &last)?;
+            self.add(alloc, host, &last)?;
         }
-        Ok(parsed)
+        Ok(self)
+    }
+
+    // The entry of this host, with the links in their order.
+    fn into_entry(self, alloc: Global, host: SiteName) -> Result<Entry, AllocError>
+        ensures { IfOk result (Says (as_said self) host) }
+    {
+        let Parsed {
+            aliases,
+            links,
+            skipped,
+        } = self;
+        let links = listed(alloc, links)?;
+        Ok(Entry {
+            host,
+            aliases: Listed::from_vec(aliases),
+            links: Listed::from_vec(links),
+            skipped: Listed::from_vec(skipped),
+        })
     }
 }
 
@@ -184,13 +214,7 @@ fn entry_of(alloc: Global, host: SiteName, text: &[u8]) -> Result<Entry, AllocEr
     ensures { IfOk result (Says (all_said host (statements_of text.now)) host) }
 {
     let parsed = Parsed::of_entry(alloc, host.as_str().as_bytes(), text)?;
-    let links = listed(alloc, parsed.links)?;
-    Ok(Entry {
-        host,
-        aliases: Listed::from_vec(parsed.aliases),
-        links: Listed::from_vec(links),
-        skipped: Listed::from_vec(parsed.skipped),
-    })
+    parsed.into_entry(alloc, host)
 }
 
 /// Reads a map entry: the host that its first `#N` line names, its aliases, its links and what was skipped.
