@@ -69,7 +69,8 @@ impl<S: Alter> Spool<S> {
         ensures let_go { IsLetGo S.Store (connection_of self).store result }
         ensures numbered { IsClean (S.Store.view result) → IsTrue (S.Store.view result).is_numbered }
     {
-        self.release().into_store()
+        let conn = self.release();
+        conn.into_store()
     }
 
     /// Gives the connection back, or where the store failed before, the store as it is let go.
