@@ -10,7 +10,7 @@ use std::alloc::Global;
 use std::io::BufRead;
 
 /// A request: words, and an input.
-#[derive(Debug, Drop)]
+#[derive(Drop)]
 pub struct Frame {
     /// The words.
     pub words: Vec<String>,

@@ -13,7 +13,7 @@ use uu_core::Reply;
 use uu_names::SiteName;
 
 /// What a reply is told of.
-#[derive(Debug, Drop)]
+#[derive(Drop)]
 pub enum Subject {
     /// The line itself, so that the reply stands alone.
     Line,

@@ -26,7 +26,7 @@ pub(crate) const EVERY_KIND: &[Step] = &[
     Does(Order::Rejuvenate(1), Done),
     Does(Order::Entry("#N unc\nunc duke(5)\n"), Done),
     Does(Order::Entry("#N unc\nunc phs(7/2)\n"), Done),
-    Does(Order::Queue("duke", b'N', Work::Send, 3), Number(4)),
+    Does(Order::Queue("duke", b'N', Work::Execute(1), 0), Number(4)),
     Does(Order::Kill(2, "root", true), Done),
     Does(Order::Called("duke", &[3, 1]), Done),
     Does(Order::Remove("unc"), Done),
@@ -37,7 +37,7 @@ pub(crate) const EVERY_KIND: &[Step] = &[
 /// A system, a large job and another grade for it.
 pub(crate) const LARGE_JOB: &[Step] = &[
     Does(Order::Define("duke", ANY, 26), Done),
-    Does(Order::Queue("duke", b'N', Work::Send, 40_000), Number(1)),
+    Does(Order::Queue("duke", b'N', Work::Request, 40_000), Number(1)),
     Does(Order::Regrade(1, b'A'), Done),
 ];
 

@@ -105,6 +105,22 @@ const FIVE_GRADES: &[Step] = &[
     ),
 ];
 
+/// So they do among the systems.
+const FIVE_SYSTEMS: &[Step] = &[
+    Does(Order::Define("a", ANY, 26), Done),
+    Does(Order::Define("b", ANY, 26), Done),
+    Does(Order::Define("c", ANY, 26), Done),
+    Does(Order::Define("d", ANY, 26), Done),
+    Does(Order::Define("e", ANY, 26), Done),
+    Does(Order::File("a", b'z'), Number(1)),
+    Does(Order::File("b", b'a'), Number(2)),
+    Does(Order::File("c", b'9'), Number(3)),
+    Does(Order::File("d", b'A'), Number(4)),
+    Does(Order::File("e", b'0'), Number(5)),
+    Says(Due(SUNDAY), "e 0 5/c 9 3/d A 4/b a 2/a z 1/"),
+    Says(Chosen(SUNDAY), "e 0 5/c 9 3/d A 4/b a 2/a z 1/"),
+];
+
 /// Regrading keeps the number.
 const REGRADING: &[Step] = &[
     DUKE,
@@ -322,7 +338,14 @@ fn jobs_are_kept_as_worked(rt: HostRuntime) {
 
 #[test]
 fn systems_are_called_as_worked(rt: HostRuntime) {
-    for steps in [TWO_LINES, WAITS, MOST_RETRIES, HELD_AND_LOW, NIGHTS] {
+    for steps in [
+        FIVE_SYSTEMS,
+        TWO_LINES,
+        WAITS,
+        MOST_RETRIES,
+        HELD_AND_LOW,
+        NIGHTS,
+    ] {
         play_anew(&rt, rt.alloc(), steps);
     }
 }

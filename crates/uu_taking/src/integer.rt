@@ -10,7 +10,7 @@ use std::alloc::Global;
 use uu_rows::{RowFault, TypedRow, has_width, read_fault};
 
 /// A whole number as the database keeps it: a rowid, or a version.
-#[derive(Clone, Copy, Debug, PartialEq, Eq)]
+#[derive(Clone, Copy, PartialEq, Eq)]
 pub(crate) struct Integer {
     pub(crate) value: i64,
 }
