@@ -12,7 +12,7 @@ use Rattle.uuspool.specs.declared.fault.Fault.TheVariants as fault
 use Rattle.uuspool.specs.Faults.{code_of, line_of_fault, status_of}
 
 -- the fault is told by this line, with this status, and has this number
-IsTold : Fault → List ℕ → ℕ → ℕ → Type 0
+abbrev pub IsTold : Fault → List ℕ → ℕ → ℕ → Type 0
 IsTold why line status number = (line_of_fault why ≡ line ++ 10 ∷ []) × (status_of why ≡ status) × (code_of why ≡ number)
 
 -- ---- settings
@@ -44,9 +44,6 @@ no_memory_for_a_name = (refl, refl, refl)
 
 pub offset_range : IsTold (fault.Time time.OffsetRange) (codes "uuspool: time: OffsetRange") 2 4
 offset_range = (refl, refl, refl)
-
-pub bad_time_in_a_line : IsTold (fault.Time (time.BadTime 12 3)) (codes "uuspool: line 12: BadTime") 2 4
-bad_time_in_a_line = (refl, refl, refl)
 
 pub bad_time_in_no_line : IsTold (fault.Time (time.BadTime 0 3)) (codes "uuspool: time: BadTime") 2 4
 bad_time_in_no_line = (refl, refl, refl)
