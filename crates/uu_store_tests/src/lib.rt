@@ -1,5 +1,5 @@
 //! Tests of the spool over disks and databases in memory: stops at each call of a disk, worked rows beside the plain machine, the
-//! pieces of jobs, what a listing costs, and stretches of work over a file.
+//! pieces of jobs, what a listing costs, stretches of work over a file, and databases that are handed over.
 #![tactic(auto)]
 
 #[cfg(test)]
@@ -10,6 +10,8 @@ mod closing;
 mod disk;
 #[cfg(test)]
 mod files;
+#[cfg(test)]
+mod handing_over;
 #[cfg(test)]
 mod listing;
 #[cfg(test)]

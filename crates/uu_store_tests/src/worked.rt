@@ -34,7 +34,7 @@ pub(crate) fn fresh(rt: &impl Abort, alloc: Global) -> Spool<MemStore> {
 }
 
 /// Takes a database as a spool and through steps, and gives it back.
-fn played<S: Alter + Drop>(
+pub(crate) fn played<S: Alter + Drop>(
     rt: &impl Abort,
     alloc: Global,
     conn: Connection<S>,

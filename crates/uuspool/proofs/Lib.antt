@@ -3,6 +3,7 @@ pub mod AskLemmas
 pub mod BatchCallLemmas
 pub mod BatchLemmas
 pub mod EndLemmas
+pub mod FaultExamples
 pub mod FaultLemmas
 pub mod LineLemmas
 pub mod ServedLemmas

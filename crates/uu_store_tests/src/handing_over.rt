@@ -1,36 +1,40 @@
 // Databases that are handed to a spool and come back: an adopted one by `release`, a refused one with its fault.
-use crate::support::{expect_line, fresh_spool};
+use crate::order::{Order, Work};
+use crate::questions::Question::{Jobs, Next};
+use crate::questions::Step::{Does, Says};
+use crate::questions::{Step, play};
+use crate::worked::{DUKE, after, played, taken};
 use sqlite::{Connection, MemStore};
 use std::alloc::Global;
 use std::process::Abort;
+use uu_store::Reply::Number;
 use uu_store::{Spool, StoreFault};
 
-/// The spool that this database has to be taken as.
-fn adopted(rt: &impl Abort, alloc: Global, conn: Connection<MemStore>) -> Spool<MemStore> {
-    assert!(rt; conn.is_autocommit(), "a transaction is open");
-    match Spool::adopt(alloc, conn) {
-        Ok(spool) => spool,
-        Err(_) => panic!(rt; "it was not adopted"),
-    }
-}
+const NO_JOB: &[Step] = &[Says(Next, "1"), Says(Jobs("", ""), "")];
+
+/// A job is handed in where none was.
+const FIRST_JOB: &[Step] = &[
+    Says(Next, "1"),
+    DUKE,
+    Does(Order::Queue("duke", b'N', Work::Execute(1), 3), Number(1)),
+];
+
+const ONE_JOB: &[Step] = &[
+    Says(Next, "2"),
+    Says(
+        Jobs("", ""),
+        "1 duke ann N 3 1000000000 execute /tmp/news 1/",
+    ),
+];
 
 #[test]
 fn a_spool_that_is_adopted_again_is_the_same(rt: HostRuntime) {
     let alloc = rt.alloc();
-    let spool = fresh_spool(&rt, alloc);
-    let mut again = adopted(&rt, alloc, spool.release());
-    assert_eq!(rt; again.next(), Ok(1));
-    expect_line(
-        &rt,
-        alloc,
-        &mut again,
-        "load",
-        b"system duke\n",
-        "duke done\n",
-    );
-    expect_line(&rt, alloc, &mut again, "exec duke lp", b"xyz", "job 1\n");
-    let mut again = adopted(&rt, alloc, again.release());
-    assert_eq!(rt; again.next(), Ok(2));
+    let conn = after(&rt, alloc, NO_JOB);
+    assert!(rt; conn.is_autocommit(), "a transaction is open");
+    let conn = played(&rt, alloc, conn, FIRST_JOB);
+    assert!(rt; conn.is_autocommit(), "a transaction is open");
+    play(&rt, alloc, &mut taken(&rt, alloc, conn), ONE_JOB);
 }
 
 /// The connection that is handed back where this database is refused, for that reason.
@@ -57,11 +61,11 @@ fn change(rt: &impl Abort, conn: &mut Connection<MemStore>, statement: &str) {
 #[test]
 fn a_refused_database_comes_back_with_no_transaction_open(rt: HostRuntime) {
     let alloc = rt.alloc();
-    let mut conn = fresh_spool(&rt, alloc).release();
+    let mut conn = after(&rt, alloc, NO_JOB);
     change(&rt, &mut conn, "UPDATE spool SET next = 0");
     let mut conn = refused(&rt, alloc, conn, StoreFault::Foreign);
     assert!(rt; conn.is_autocommit());
     change(&rt, &mut conn, "UPDATE spool SET next = 1");
-    let mut spool = adopted(&rt, alloc, conn);
-    assert_eq!(rt; spool.next(), Ok(1));
+    assert!(rt; conn.is_autocommit());
+    play(&rt, alloc, &mut taken(&rt, alloc, conn), NO_JOB);
 }
