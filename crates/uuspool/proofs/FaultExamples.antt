@@ -1,6 +1,7 @@
 -- What the program tells of faults, as worked examples of the definitions: the line, the status and the number of each. Many of them come of no line
 -- of the program alone.
-use Rattle.std.proofs.Common.{◌≡◌, ℕ, List, ◌∷◌, [], ◌++◌, codes, refl}
+use Rattle.std.proofs.Common.{◌≡◌, ℕ, Bool, List, ◌∷◌, [], ◌++◌, String, codes, refl}
+use Rattle.std.specs.declared.alloc.Global.{Global}
 use Rattle.uu_names.specs.declared.fault.NameFault.TheVariants as name
 use Rattle.uu_times.specs.declared.fault.TimeFault.TheVariants as time
 use Rattle.uu_schema.specs.declared.fault.StoreFault.TheVariants as store
@@ -14,6 +15,11 @@ use Rattle.uuspool.specs.Faults.{code_of, line_of_fault, status_of}
 -- the fault is told by this line, with this status, and has this number
 abbrev pub IsTold : Fault → List ℕ → ℕ → ℕ → Type 0
 IsTold why line status number = (line_of_fault why ≡ line ++ 10 ∷ []) × (status_of why ≡ status) × (code_of why ≡ number)
+
+-- ---- words: of any text, with help or without
+
+pub words : (text : String Global) (help : Bool) → code_of (fault.Words text help) ≡ 1
+words text help = refl
 
 -- ---- settings
 

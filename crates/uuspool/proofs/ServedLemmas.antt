@@ -1,6 +1,5 @@
 -- How the parts of a line's service make up the whole.
 use Rattle.std.proofs.Common.{◌≡◌, ◌⊎◌, inl, inr, ℕ, List, [], length, Vec, Option, Some, None, Result, Ok, Err, IfOk, IfErr, OnOk, IsOkAnd, append-nil, Bool, false, IsTrue, MatchOption, refl, subst, sym}
-use Rattle.std.specs.declared.alloc.AllocError.{AllocError}
 use Rattle.std.specs.declared.alloc.Global.{Global}
 use Rattle.std.specs.Io.KnownBytes.{Appends}
 use Rattle.sqlite.specs.Store.{Ghosts}
@@ -94,7 +93,7 @@ pub never_failed : {X : Type 0} (before : Bool) → before ≡ false → IsTrue 
 never_failed before is had = absurd (cc)
 
 -- an output that was made and printed, with its status
-pub printed : (r : Result ℕ Fault) (made : Result (Vec ℕ Global) AllocError) (status : ℕ) (written P : List ℕ → Type 0) (Q : List ℕ → ℕ → Type 0)
+pub printed : {E : Type 0} (r : Result ℕ Fault) (made : Result (Vec ℕ Global) E) (status : ℕ) (written P : List ℕ → Type 0) (Q : List ℕ → ℕ → Type 0)
     → ((output : List ℕ) → P output → Q output status)
     → OnOk r (IsOkAnd made (λ output. written output.items)) → IfOk r (λ answered. answered ≡ status) → IfOk made (λ output. P output.items)
     → IfOk r (λ answered. (output : List ℕ) × Q output answered × written output)

@@ -9,6 +9,7 @@ ghost use Rattle.uuspool.specs.Served.{IsServed};
 
 use crate::fault::Fault;
 use crate::print::print;
+use crate::report::{report_due, report_jobs, report_links, report_status};
 use sqlite::Alter;
 use std::alloc::{AllocError, Global};
 use std::io::Write;
@@ -16,7 +17,7 @@ use std::mem::drop;
 use uu_core::{Filter, JobHead};
 use uu_map::{MapFault, read_entry};
 use uu_names::SiteName;
-use uu_report::{due_report, job_line, jobs_report, links_report, status_report};
+use uu_report::job_line;
 use uu_request::Question;
 use uu_settings::Settings;
 use uu_store::{Spool, StoreFault, StoreKind};
@@ -53,7 +54,7 @@ fn list<S: Alter, W: Write>(
     ensures { IsServed settings.now (request.Question (question.Jobs filter.now)) spool.old spool.new (λ output. Appends (W.contents out.old) (W.contents out.new) output) result }
 {
     match spool.jobs(alloc, filter) {
-        Ok(jobs) => print(jobs_report(alloc, &jobs, settings.offset), 0, out),
+        Ok(jobs) => print(report_jobs(alloc, &jobs, settings), 0, out),
         Err(fault) => Err(Fault::Store(fault)),
     }
 }
@@ -106,7 +107,7 @@ fn due<S: Alter, W: Write>(
     ensures { IsServed settings.now (request.Question (question.Due at.now)) spool.old spool.new (λ output. Appends (W.contents out.old) (W.contents out.new) output) result }
 {
     match spool.due(alloc, at) {
-        Ok(dues) => print(due_report(alloc, &dues), 0, out),
+        Ok(dues) => print(report_due(alloc, &dues), 0, out),
         Err(fault) => Err(Fault::Store(fault)),
     }
 }
@@ -121,7 +122,7 @@ fn status<S: Alter, W: Write>(
     ensures { IsServed settings.now (request.Question question.Systems) spool.old spool.new (λ output. Appends (W.contents out.old) (W.contents out.new) output) result }
 {
     match spool.systems(alloc) {
-        Ok(systems) => print(status_report(alloc, &systems, settings.offset), 0, out),
+        Ok(systems) => print(report_status(alloc, &systems, settings), 0, out),
         Err(fault) => Err(Fault::Store(fault)),
     }
 }
@@ -138,7 +139,7 @@ fn neighbours<S: Alter, W: Write>(
 {
     match spool.entry(alloc, host) {
         Ok(Some(text)) => match read_entry(alloc, &text) {
-            Ok(entry) => print(links_report(alloc, &entry), 0, out),
+            Ok(entry) => print(report_links(alloc, &entry), 0, out),
             Err(fault) => match fault {
                 MapFault::Memory => Err(Fault::Memory),
                 _ => Err(Fault::Store(StoreFault::Store(StoreKind::Database))),

@@ -13,9 +13,9 @@ returns-in-Ok g c =
     question_served c.args.settings.now (question.Due c.args.at.now) c.args.spool.now c.due.new.self written c.print.result c.in-Ok.ensures.ran c.in-Ok.ensures.marked c.print.ensures.fault
     (λ clean s shown. let found = c.in-Ok.ensures.answer clean s shown in (
       found.1,
-      printed c.print.result c.due_report.result 0 written (λ output. output ≡ flat_map due_text c.deref.result.now) (IsAnswer c.args.settings.now s (question.Due c.args.at.now))
+      printed c.print.result c.report_due.result 0 written (λ output. output ≡ flat_map due_text c.deref.result.now) (IsAnswer c.args.settings.now s (question.Due c.args.at.now))
           (λ output is. (c.in-Ok.dues.items, found.0, is ∙ ap (flat_map due_text) c.deref.ensures.value, refl))
-          c.print.ensures.printed c.print.ensures.status c.due_report.ensures,
+          c.print.ensures.printed c.print.ensures.status c.report_due.ensures.lines,
     ))
 
 pub returns-in-Err : goal.returns-in-Err

@@ -1,6 +1,4 @@
-use Rattle.std.proofs.Common.{List, ℕ, FitsSigned, w32, arith, refl, subst, ◌∙◌}
-use Rattle.std.proofs.Math.Facts.{to_z-of_z}
-use Rattle.jiff_core.proofs.SignedLemmas.{signed_arith}
+use Rattle.std.proofs.Common.{List, ℕ, refl, subst, ◌∙◌}
 use Rattle.std.specs.Io.KnownBytes.{Appends}
 use Rattle.uu_request.specs.declared.request.Question.TheVariants as question
 use Rattle.uuspool.specs.Answers.{IsAnswer}
@@ -10,14 +8,13 @@ use Rattle.uuspool.proofs.answer.list.Goals as goal
 
 pub returns-in-Ok : goal.returns-in-Ok
 returns-in-Ok g c =
-    let offset : FitsSigned w32 c.args.settings.now.offset = omega (arith, signed_arith, c.args.settings.now.offset_in_range) in
     let written : List ℕ → Type 0 = λ output. Appends (g.W.Write.contents c.args.out.now) (g.W.Write.contents c.print.new.out) output in
     question_served c.args.settings.now (question.Jobs c.args.filter.now) c.args.spool.now c.jobs.new.self written c.print.result c.in-Ok.ensures.ran c.in-Ok.ensures.marked c.print.ensures.fault
     (λ clean s shown. let found = c.in-Ok.ensures.answer clean s shown in (
       found.1,
-      printed c.print.result c.jobs_report.result 0 written (IsJobsReport c.args.settings.now.offset c.deref.result.now) (IsAnswer c.args.settings.now s (question.Jobs c.args.filter.now))
+      printed c.print.result c.report_jobs.result 0 written (IsJobsReport c.args.settings.now.offset c.deref.result.now) (IsAnswer c.args.settings.now s (question.Jobs c.args.filter.now))
           (λ output is. (subst (λ jobs. IsJobsReport c.args.settings.now.offset jobs output) (c.deref.ensures.value ∙ found.0) is, refl))
-          c.print.ensures.printed c.print.ensures.status (simp to_z-of_z at c.jobs_report.ensures),
+          c.print.ensures.printed c.print.ensures.status c.report_jobs.ensures.lines,
     ))
 
 pub returns-in-Err : goal.returns-in-Err

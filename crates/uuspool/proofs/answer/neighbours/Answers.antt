@@ -22,11 +22,11 @@ returns-in-Ok g c =
     let found = c.in-Ok-Some.ensures.answer clean s shown in
     let is : IsEntry c.in-Ok-Some.text.items c.in-Ok.entry = subst (λ text. IsEntry text c.in-Ok.entry) c.deref.ensures.value c.in-Ok.ensures.answer in (
       found.1,
-      printed c.print.result c.links_report.result 0 written (λ output. output ≡ links_text c.in-Ok.entry)
+      printed c.print.result c.report_links.result 0 written (λ output. output ≡ links_text c.in-Ok.entry)
           (IsAnswer c.args.settings.now s (question.Entry c.args.host.now))
           (λ output same. entry_shown (entry_at s c.args.host.now) c.in-Ok-Some.text.items c.in-Ok.entry output
           (sym (ap (option_map (λ (text : Vec ℕ Global). text.items)) c.in-Ok-Some.field-0-is) ∙ found.0) is same)
-          c.print.ensures.printed c.print.ensures.status c.links_report.ensures,
+          c.print.ensures.printed c.print.ensures.status c.report_links.ensures.lines,
     ))
 
 pub returns-in-Memory : goal.returns-in-Memory
