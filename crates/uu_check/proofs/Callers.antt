@@ -78,7 +78,7 @@ system_of_rows s ps own test =
     let o = shown s.call.why s.call.outcome s.call.last s.call.failures s.call.wait z.1 in
     let few : length (map line_columns ps) ≤ 32 = le_from _ _ c.1 in
     record {
-      item = record { def = record { name = s.name; lines = map line_in ps; max_retries = s.max_retries }; call = record { last = s.call.last; failures = s.call.failures; wait = s.call.wait; outcome = o.it } };
+      item = record { def = record { name = s.name; lines = map line_in ps; max_retries = s.max_retries; success_wait = 0 }; call = record { last = s.call.last; failures = s.call.failures; wait = s.call.wait; outcome = o.it } };
       good = record {
         name = a.0;
         most = le_from _ _ a.1;

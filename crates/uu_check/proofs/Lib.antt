@@ -5,6 +5,7 @@ pub mod Cuts
 pub mod Heads
 pub mod Lines
 pub mod Callers
+pub mod Waits
 pub mod Verdict
 pub mod Rising
 pub mod Search

@@ -7,9 +7,11 @@ use Rattle.uu_core.specs.declared.system.Outcome.{Outcome}
 use Rattle.uu_core.specs.declared.system.Outcome.TheVariants.{Never, Failed, Done}
 use Rattle.uu_core.specs.declared.system.SystemRow.{SystemRow}
 use Rattle.uu_core.specs.State.{State, Job, MapEntry, IsJob, IsWellFormed, ComesBefore, head_of}
-use Rattle.uu_tables.specs.Tables.{Tables, PlacedLine, tables_of, system_columns, line_columns, range_columns, entry_columns, placed, placed_from, ranges_of, pieces_of, piece_count, outcome_number, reason_of}
+use Rattle.uu_tables.specs.Tables.{Tables, PlacedLine, tables_of, system_columns, line_columns, range_columns, entry_columns, placed, placed_from, ranges_of, waits_from, waits_of, pieces_of, piece_count, outcome_number, reason_of}
 use Rattle.uu_tables.specs.declared.rows.EntryColumns.{EntryColumns}
-use Rattle.uu_check.specs.Tests.{owns_range, fits_line}
+use Rattle.uu_tables.specs.declared.rows.WaitColumns.{WaitColumns}
+use Rattle.uu_tables.specs.declared.rows.SystemColumns.{SystemColumns}
+use Rattle.uu_check.specs.Tests.{owns_range, fits_line, owns_wait, fits_wait}
 use Rattle.uu_check.proofs.Walks.{AllPairsByRecursion, Apart, own_front, all_flat, take_front, drop_front, take_drop}
 use Rattle.uu_check.proofs.Lists.{pairs_by_recursion, weaker_pairs, flat_pairs}
 use Rattle.uu_check.proofs.Meanings.{eq_not, eq_to, text_to, text_not}
@@ -17,6 +19,7 @@ use Rattle.uu_check.proofs.Cuts.{pieces_from, as_from, bytes_of}
 use Rattle.uu_check.proofs.Heads as job
 use Rattle.uu_check.proofs.Lines as line
 use Rattle.uu_check.proofs.Callers as system
+use Rattle.uu_check.proofs.Waits as wait
 
 -- Items with the same rows, each told by its own row and by those that belong to it.
 module _ {X P C : Type 0} (owns : P → C → Bool) (fits : P → List C → Bool) (head : X → P) (kids : X → List C) (Good : X → Type 0) where
@@ -46,6 +49,22 @@ module _ {X P C : Type 0} (owns : P → C → Bool) (fits : P → List C → Boo
         let more = same_items xs ys up.1 vp.1 rows others in
         λ i. same i ∷ more i
 
+-- the same, where only the rows that belong to each are told
+module _ {X P C : Type 0} (owns : P → C → Bool) (fits : P → List C → Bool) (head : X → P) (kids : X → List C) (Good : X → Type 0) (own : (x : X) → AllByRecursion (λ c. owns (head x) c ≡ true) (kids x)) where
+  pub waits_in : (xs ys : List X) → AllPairsByRecursion (Apart owns fits head kids Good) xs → AllPairsByRecursion (Apart owns fits head kids Good) ys → map head xs ≡ map head ys → flat_map kids xs ≡ flat_map kids ys → map kids xs ≡ map kids ys
+  waits_in [] [] up vp heads children = refl
+  waits_in [] (y ∷ ys) up vp heads children = absurd (cc)
+  waits_in (x ∷ xs) [] up vp heads children = absurd (cc)
+  waits_in (x ∷ xs) (y ∷ ys) up vp heads children =
+      let row : head x ≡ head y = cc in
+      let rows : map head xs ≡ map head ys = cc in
+      let n = own_front (owns (head x)) (kids x) (flat_map kids xs) (own x) (all_flat _ kids xs up.0) in
+      let m = own_front (owns (head y)) (kids y) (flat_map kids ys) (own y) (all_flat _ kids ys vp.0) in
+      let mine : kids x ≡ kids y = sym (ap (λ k. take k (kids x ++ flat_map kids xs)) n ∙ take_front (kids x) (flat_map kids xs)) ∙ (λ i. take (prefix_len (owns (row i)) (children i)) (children i)) ∙ (ap (λ k. take k (kids y ++ flat_map kids ys)) m ∙ take_front (kids y) (flat_map kids ys)) in
+      let others : flat_map kids xs ≡ flat_map kids ys = sym (ap (λ k. drop k (kids x ++ flat_map kids xs)) n ∙ drop_front (kids x) (flat_map kids xs)) ∙ (λ i. drop (prefix_len (owns (row i)) (children i)) (children i)) ∙ (ap (λ k. drop k (kids y ++ flat_map kids ys)) m ∙ drop_front (kids y) (flat_map kids ys)) in
+      let more = waits_in xs ys up.1 vp.1 rows others in
+      λ i. mine i ∷ more i
+
 mapped_back : {X Y : Type 0} (f : X → Y) (back : Y → X) → ((x : X) → back (f x) ≡ x) → (xs : List X) → map back (map f xs) ≡ xs
 mapped_back f back h [] = refl
 mapped_back f back h (x ∷ xs) = λ i. h x i ∷ mapped_back f back h xs i
@@ -74,12 +93,13 @@ lines_back : (name : List ℕ) (place : ℕ) (lines : List Line) → map system.
 lines_back name place [] = refl
 lines_back name place (line ∷ lines) = ap (λ l. line ∷ l) (lines_back name (place + 1) lines)
 
-same_system : (x y : SystemRow) → system_columns x ≡ system_columns y → placed x ≡ placed y → x ≡ y
-same_system x y row lines =
+same_system : (x y : SystemRow) → (system_columns x ≡ system_columns y) × (x.def.success_wait ≡ y.def.success_wait) → placed x ≡ placed y → x ≡ y
+same_system x y both lines =
+    let row = both.0 in
     let all : x.def.lines ≡ y.def.lines = sym (lines_back x.def.name 0 x.def.lines) ∙ ap (map system.line_in) lines ∙ lines_back y.def.name 0 y.def.lines in
     let outcome : x.call.outcome ≡ y.call.outcome = sym (outcome_back x.call.outcome) ∙ (λ i. outcome_from (row i).call.outcome (row i).call.why) ∙ outcome_back y.call.outcome in
     λ i. record {
-      def = record { name = (row i).name; lines = all i; max_retries = (row i).max_retries };
+      def = record { name = (row i).name; lines = all i; max_retries = (row i).max_retries; success_wait = both.1 i };
       call = record { last = (row i).call.last; failures = (row i).call.failures; wait = (row i).call.wait; outcome = outcome i };
     }
 
@@ -101,11 +121,51 @@ systems_apart : (rows : List SystemRow) → AllPairsByRecursion NameBefore rows 
 systems_apart rows rise =
     weaker_pairs NameBefore (Apart system.owns system.fits system_columns placed system.IsGoodSystem) (λ x y before. system.lines_owned x.def.name y.def.name false (text_not x.def.name y.def.name before) 0 y.def.lines) rows rise
 
+-- no system has the success wait of another
+waits_apart : (rows : List SystemRow) → AllPairsByRecursion NameBefore rows → AllPairsByRecursion (Apart owns_wait fits_wait system_columns waits_of (λ _. Unit {0})) rows
+waits_apart rows rise =
+    weaker_pairs NameBefore (Apart owns_wait fits_wait system_columns waits_of (λ _. Unit {0})) (λ x y before. wait.wait_owned (system_columns x) y.def.name y.def.success_wait false (text_not x.def.name y.def.name before)) rows rise
+
+seconds_of : List WaitColumns → ℕ
+seconds_of [] = 0
+seconds_of (w ∷ more) = w.wait
+
+seconds_back : (name : List ℕ) (n : ℕ) → seconds_of (waits_from name n) ≡ n
+unfolding seconds_of
+seconds_back name zero = refl
+seconds_back name (suc n) = refl
+
+abbrev owns_of : SystemColumns × ℕ → PlacedLine → Bool
+owns_of h p = system.owns h.0 p
+
+abbrev fits_of : SystemColumns × ℕ → List PlacedLine → Bool
+fits_of h ps = system.fits h.0 ps
+
+abbrev waited_of : SystemRow → SystemColumns × ℕ
+waited_of row = (system_columns row, row.def.success_wait)
+
+each_same : (rows others : List SystemRow) → map system_columns rows ≡ map system_columns others → map waits_of rows ≡ map waits_of others → map waited_of rows ≡ map waited_of others
+each_same [] [] heads kids = refl
+each_same [] (y ∷ others) heads kids = absurd (cc)
+each_same (x ∷ rows) [] heads kids = absurd (cc)
+each_same (x ∷ rows) (y ∷ others) heads kids =
+    let row : system_columns x ≡ system_columns y = cc in
+    let own : waits_of x ≡ waits_of y = cc in
+    let more : map system_columns rows ≡ map system_columns others = cc in
+    let rest : map waits_of rows ≡ map waits_of others = cc in
+    let seconds : x.def.success_wait ≡ y.def.success_wait = sym (seconds_back x.def.name x.def.success_wait) ∙ ap seconds_of own ∙ seconds_back y.def.name y.def.success_wait in
+    λ i. (row i, seconds i) ∷ each_same rows others more rest i
+
 same_systems : (rows others : List SystemRow) → AllPairsByRecursion NameBefore rows → AllPairsByRecursion NameBefore others → map system_columns rows ≡ map system_columns others
-    → map line_columns (flat_map placed rows) ≡ map line_columns (flat_map placed others) → flat_map ranges_of (flat_map placed rows) ≡ flat_map ranges_of (flat_map placed others) → rows ≡ others
-same_systems rows others rise up systems lines ranges =
+    → map line_columns (flat_map placed rows) ≡ map line_columns (flat_map placed others) → flat_map ranges_of (flat_map placed rows) ≡ flat_map ranges_of (flat_map placed others) → flat_map waits_of rows ≡ flat_map waits_of others → rows ≡ others
+same_systems rows others rise up systems lines ranges waits =
     let placed_lines = same_items owns_range fits_line line_columns ranges_of line.IsGoodLine line.ranges_own same_line (flat_map placed rows) (flat_map placed others) (lines_apart rows rise) (lines_apart others up) lines ranges in
-    same_items system.owns system.fits system_columns placed system.IsGoodSystem (λ x. system.lines_owned x.def.name x.def.name true (text_to x.def.name) 0 x.def.lines) same_system rows others (systems_apart rows rise) (systems_apart others up) systems placed_lines
+    let seconds = same_waits rows others rise up systems waits in
+    same_items owns_of fits_of waited_of placed system.IsGoodSystem (λ x. system.lines_owned x.def.name x.def.name true (text_to x.def.name) 0 x.def.lines) (λ x y heads. same_system x y (ap (λ h. h.0) heads, ap (λ h. h.1) heads)) rows others (systems_apart rows rise) (systems_apart others up) seconds placed_lines
+  where
+    same_waits : (rows others : List SystemRow) → AllPairsByRecursion NameBefore rows → AllPairsByRecursion NameBefore others → map system_columns rows ≡ map system_columns others → flat_map waits_of rows ≡ flat_map waits_of others → map waited_of rows ≡ map waited_of others
+    same_waits rows others rise up heads kids =
+        each_same rows others heads (waits_in owns_wait fits_wait system_columns waits_of (λ _. Unit {0}) (λ x. wait.wait_owned (system_columns x) x.def.name x.def.success_wait true (text_to x.def.name)) rows others (waits_apart rows rise) (waits_apart others up) heads kids)
 
 -- ---- jobs
 
@@ -147,7 +207,7 @@ entry_from e = record { host = e.host; bytes = e.bytes }
 pub one_state : (s t : State) → IsWellFormed s → IsWellFormed t → tables_of s ≡ tables_of t → s ≡ t
 one_state s t good fine same =
     let systems = same_systems s.systems t.systems (pairs_by_recursion NameBefore s.systems good.by_name) (pairs_by_recursion NameBefore t.systems fine.by_name)
-    (ap (λ (r : Tables). r.systems) same) (ap (λ (r : Tables). r.lines) same) (ap (λ (r : Tables). r.ranges) same) in
+    (ap (λ (r : Tables). r.systems) same) (ap (λ (r : Tables). r.lines) same) (ap (λ (r : Tables). r.ranges) same) (ap (λ (r : Tables). r.success_waits) same) in
     let jobs = same_jobs s.jobs t.jobs (pairs_by_recursion NumberBefore s.jobs good.rising) (pairs_by_recursion NumberBefore t.jobs fine.rising) (ap (λ (r : Tables). r.jobs) same) (ap (λ (r : Tables). r.pieces) same) in
     let entries : s.entries ≡ t.entries = sym (mapped_back entry_columns entry_from (λ e. refl) s.entries) ∙ ap (λ (r : Tables). map entry_from r.entries) same ∙ mapped_back entry_columns entry_from (λ e. refl) t.entries in
     λ i. record { jobs = jobs i; systems = systems i; entries = entries i; next = (same i).next }

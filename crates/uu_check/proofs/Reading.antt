@@ -15,8 +15,8 @@ use Rattle.uu_core.specs.declared.system.Outcome.TheVariants.{Never, Failed, Don
 use Rattle.uu_core.specs.declared.system.CallState.{CallState}
 use Rattle.uu_core.specs.declared.system.SystemRow.{SystemRow}
 use Rattle.uu_core.specs.State.{State, Job, MapEntry, IsJob, IsCall, IsOutcome, IsDefinition, IsWellFormed, head_of, numbers_end}
-use Rattle.uu_tables.specs.Tables.{PlacedLine, tables_of, system_columns, line_columns, range_columns, entry_columns, placed, placed_from, ranges_of, pieces_of, piece_count, outcome_number, reason_of}
-use Rattle.uu_check.specs.Readable.{IsSystemRow, IsLineRow, IsRangeRow, IsJobRow, IsPieceRow, IsEntryRow, AreReadable}
+use Rattle.uu_tables.specs.Tables.{waits_from, waits_of, PlacedLine, tables_of, system_columns, line_columns, range_columns, entry_columns, placed, placed_from, ranges_of, pieces_of, piece_count, outcome_number, reason_of}
+use Rattle.uu_check.specs.Readable.{IsWaitRow, IsSystemRow, IsLineRow, IsRangeRow, IsJobRow, IsPieceRow, IsEntryRow, AreReadable}
 use Rattle.uu_check.proofs.Lists.{by_recursion, weaker, both, mapped_all}
 use Rattle.uu_check.proofs.Cuts.{pieces_from, as_from}
 use Rattle.uu_check.proofs.Heads.{job_to}
@@ -45,6 +45,13 @@ system_row row good = record {
   outcome = few_outcomes row.call.outcome;
   why = why_word row.call.outcome row.call good.1.outcome;
 }
+
+wait_rows : (row : SystemRow) → IsDefinition row.def × IsCall row.call → AllByRecursion IsWaitRow (waits_of row)
+wait_rows row good = go row.def.success_wait good.0.limits.3
+  where
+    go : (n : ℕ) → n ≤ 31536000 → AllByRecursion IsWaitRow (waits_from row.def.name n)
+    go zero few = tt
+    go (suc n) few = (record { system = good.0.name; wait = few }, tt)
 
 -- ---- lines and ranges
 
@@ -128,5 +135,6 @@ readable s good =
       ranges = all_flat IsRangeRow IsPlaced ranges_of line_ranges (flat_map placed s.systems) fine;
       jobs = mapped_all IsJobRow head_of s.jobs (weaker _ _ (λ j h. record { number = h.1; good = job_to j h.0 }) s.jobs jobs);
       pieces = all_flat IsPieceRow _ pieces_of job_pieces s.jobs jobs;
+      success_waits = all_flat IsWaitRow _ waits_of wait_rows s.systems rows;
       entries = mapped_all IsEntryRow entry_columns s.entries (weaker _ _ entry_row s.entries (by_recursion (λ (e : MapEntry). host_of e.bytes ≡ Ok e.host) s.entries good.hosts));
     }

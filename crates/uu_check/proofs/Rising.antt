@@ -12,7 +12,8 @@ use Rattle.uu_core.specs.declared.job.JobHead.{JobHead}
 use Rattle.uu_core.specs.declared.system.SystemRow.{SystemRow}
 use Rattle.uu_core.specs.State.{State, Job, MapEntry, IsCall, IsDefinition, IsWellFormed, ComesBefore, head_of}
 use Rattle.uu_tables.specs.declared.rows.RangeColumns.{RangeColumns}
-use Rattle.uu_tables.specs.Tables.{Piece, PlacedLine, tables_of, system_columns, line_columns, range_columns, placed, placed_from, ranges_of, pieces_of, piece_count, entry_columns}
+use Rattle.uu_tables.specs.declared.rows.WaitColumns.{WaitColumns}
+use Rattle.uu_tables.specs.Tables.{waits_from, waits_of, Piece, PlacedLine, tables_of, system_columns, line_columns, range_columns, placed, placed_from, ranges_of, pieces_of, piece_count, entry_columns}
 use Rattle.uu_tables.specs.Order.{line_cmp, range_cmp, piece_cmp}
 use Rattle.uu_check.specs.Order.{AreInOrder}
 use Rattle.uu_check.proofs.Walks.{AllPairsByRecursion}
@@ -123,6 +124,20 @@ as_pieces j = as_from j.number j.bytes 0 (piece_count (length j.bytes))
 across_pieces : (x y : Job) → x.number < y.number → Across PieceBefore (pieces_of x) (pieces_of y)
 across_pieces x y below = rw (as_pieces x, as_pieces y) (across_from x.number 0 (piece_count (length x.bytes)) x.bytes y.number (piece_count (length y.bytes)) y.bytes below)
 
+-- ---- success waits
+
+abbrev WaitBefore : WaitColumns → WaitColumns → Type 0
+WaitBefore a b = ComesBefore a.system b.system
+
+own_wait : (name : List ℕ) (n : ℕ) → AllPairsByRecursion WaitBefore (waits_from name n)
+own_wait name zero = tt
+own_wait name (suc n) = (tt, tt)
+
+across_waits : (a b : List ℕ) (n m : ℕ) → ComesBefore a b → Across WaitBefore (waits_from a n) (waits_from b m)
+across_waits a b zero m before = tt
+across_waits a b (suc n) zero before = (tt, tt)
+across_waits a b (suc n) (suc m) before = ((before, tt), tt)
+
 -- ---- all of them
 
 pub in_order : (s : State) → IsWellFormed s → AreInOrder (tables_of s)
@@ -138,5 +153,6 @@ in_order s good =
       ranges = pairs_by_place _ (flat_map ranges_of (flat_map placed s.systems)) (flat_pairs RangeBefore ranges_of IsGoodLine (λ p g. own_ranges p.system p.place 0 p.line.windows g.0.1) (flat_map placed s.systems) fine (weaker_pairs _ _ across_ranges (flat_map placed s.systems) lines));
       jobs = pairs_by_place _ (map head_of s.jobs) (mapped_pairs (λ (a b : JobHead). a.number < b.number) head_of s.jobs numbers);
       pieces = pairs_by_place _ (flat_map pieces_of s.jobs) (flat_pairs PieceBefore pieces_of (λ _. Unit {0}) (λ j g. subst (AllPairsByRecursion PieceBefore) (sym (as_pieces j)) (own_pieces j.number 0 _ j.bytes)) s.jobs (weaker _ _ (λ x h. tt) s.jobs (by_recursion (λ _. Unit {0}) s.jobs (λ k d inside. tt))) (weaker_pairs _ _ across_pieces s.jobs numbers));
+      success_waits = pairs_by_place _ (flat_map waits_of s.systems) (flat_pairs WaitBefore waits_of (λ _. Unit {0}) (λ x g. own_wait x.def.name x.def.success_wait) s.systems (weaker _ _ (λ x h. tt) s.systems rows) (weaker_pairs _ _ (λ x y before. across_waits x.def.name y.def.name x.def.success_wait y.def.success_wait before) s.systems names));
       entries = pairs_by_place _ (map entry_columns s.entries) (mapped_pairs (λ a b. ComesBefore a.host b.host) entry_columns s.entries (pairs_by_recursion (λ (a b : MapEntry). ComesBefore a.host b.host) s.entries good.by_host));
     }

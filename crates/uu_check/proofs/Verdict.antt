@@ -1,32 +1,34 @@
 -- Rows that pass are those of a state, and the rows of a state pass.
-use Rattle.std.proofs.Common.{◌≡◌, ℕ, ◌+◌, ◌<◌, Bool, true, false, List, [], ◌∷◌, map, IsTrue, Result, Ok, Err, refl, sym, ap, subst, ◌∙◌, arith}
+use Rattle.std.proofs.Common.{◌≡◌, ℕ, ◌+◌, ◌<◌, ◌≤◌, Bool, true, false, List, [], ◌∷◌, map, IsTrue, Result, Ok, Err, refl, sym, ap, subst, ◌∙◌, arith}
 use Rattle.std.specs.Prelude.{◌↔◌, IfOk}
 use Rattle.std.specs.List.{AllByRecursion, flat_map, list_all, list_any}
 use Rattle.std.specs.Ordering.{is_lt}
 use Rattle.std.proofs.lemmas.Bool.{and_parts}
 use Rattle.std.proofs.lemmas.Cmp.{nat_list_cmp_total}
-use Rattle.uu_times.specs.System.{HasRetry}
+use Rattle.uu_times.specs.System.{HasRetry, most_success_wait}
 use Rattle.uu_times.specs.declared.system.Line.{Line}
 use Rattle.uu_core.specs.declared.job.JobHead.{JobHead}
 use Rattle.uu_core.specs.declared.system.SystemRow.{SystemRow}
 use Rattle.uu_core.specs.State.{State, Job, MapEntry, IsJob, IsLine, IsCall, IsDefinition, IsWellFormed, ComesBefore, head_of, same_text, numbers_end}
 use Rattle.uu_tables.specs.declared.rows.SystemColumns.{SystemColumns}
 use Rattle.uu_tables.specs.declared.rows.EntryColumns.{EntryColumns}
+use Rattle.uu_tables.specs.declared.rows.WaitColumns.{WaitColumns}
 use Rattle.uu_map.specs.declared.fault.MapFault.{MapFault}
 use Rattle.uu_map.specs.Text.{host_of}
 use Rattle.uu_tables.specs.declared.rows.LineColumns.{LineColumns}
 use Rattle.uu_tables.specs.declared.rows.RangeColumns.{RangeColumns}
 use Rattle.uu_check.specs.Walk.{walk, rises}
 use Rattle.uu_check.specs.declared.spool.Rows.{Rows}
-use Rattle.uu_tables.specs.Tables.{Tables, Piece, PlacedLine, tables_of, size_of, system_columns, line_columns, entry_columns, placed, placed_from, ranges_of, pieces_of}
+use Rattle.uu_tables.specs.Tables.{Tables, Piece, PlacedLine, tables_of, size_of, system_columns, line_columns, entry_columns, placed, placed_from, ranges_of, waits_of, pieces_of}
 use Rattle.uu_check.specs.OfState.{AreTables, AreRowsOf}
-use Rattle.uu_check.specs.Tests.{is_spool, are_systems, are_jobs, is_below, is_known, job_before, system_before, owns_line, fits_system, owns_range, fits_line, owns_piece, fits_job, is_host, is_entry, entry_before, are_entries}
+use Rattle.uu_check.specs.Tests.{is_spool, are_systems, are_jobs, is_below, is_known, job_before, system_before, owns_line, fits_system, owns_wait, fits_wait, owns_range, fits_line, owns_piece, fits_job, is_host, is_entry, entry_before, are_entries}
 use Rattle.uu_check.proofs.Walks.{items_of, walked, walk_mapped, AllPairsByRecursion, Apart, all_append}
 use Rattle.uu_check.proofs.Lists.{by_place, by_recursion, pairs_by_place, pairs_by_recursion, weaker, weaker_pairs, both, unflat, flat_pairs, risen, does_rise}
 use Rattle.uu_check.proofs.Meanings.{le_from, le_to, lt_from, lt_to, less_is, eq_not, eq_to, text_to, text_from, text_not}
 use Rattle.uu_check.proofs.Heads as job
 use Rattle.uu_check.proofs.Lines as line
 use Rattle.uu_check.proofs.Callers as system
+use Rattle.uu_check.proofs.Waits as wait
 
 -- ---- tests of each
 
@@ -63,13 +65,14 @@ known_to rows (j ∷ jobs) h = rw (knows_mapped rows (head_of j) ∙ h.0, known_
 -- ---- systems
 
 -- the systems whose rows these are
-pub record Systems (systems : List SystemColumns) (lines : List LineColumns) (ranges : List RangeColumns) : Type 0 where
+pub record Systems (systems : List SystemColumns) (lines : List LineColumns) (ranges : List RangeColumns) (waits : List WaitColumns) : Type 0 where
   pub items : List SystemRow
   pub good : AllByRecursion (λ (row : SystemRow). IsDefinition row.def × IsCall row.call) items
   pub rise : AllPairsByRecursion Before items
   pub systems_are : map system_columns items ≡ systems
   pub lines_are : map line_columns (flat_map placed items) ≡ lines
   pub ranges_are : flat_map ranges_of (flat_map placed items) ≡ ranges
+  pub waits_are : flat_map waits_of items ≡ waits
 
 unplaced : (P : PlacedLine → Type 0) (Q : Line → Type 0) → ((p : PlacedLine) → P p → Q p.line) → (name : List ℕ) (place : ℕ) (lines : List Line) → AllByRecursion P (placed_from name place lines) → AllByRecursion Q lines
 unplaced P Q step name place [] h = tt
@@ -79,31 +82,42 @@ replaced : (P : PlacedLine → Type 0) (Q : Line → Type 0) → ((p : PlacedLin
 replaced P Q step name place [] h = tt
 replaced P Q step name place (l ∷ lines) h = (step _ h.0, replaced P Q step name (place + 1) lines h.1)
 
-whole : (row : SystemRow) → system.IsGoodSystem row → AllByRecursion line.IsGoodLine (placed row) → IsDefinition row.def × IsCall row.call
-whole row good lines = (
+-- what the rows of a system and of its lines say, whatever its success wait
+record IsAlmost (row : SystemRow) : Type 0 where
+  good : system.IsGoodSystem row
+  lines : AllByRecursion line.IsGoodLine (placed row)
+
+whole : (row : SystemRow) (seconds : ℕ) → seconds ≤ most_success_wait → IsAlmost row → IsDefinition (wait.with_seconds row seconds).def × IsCall row.call
+whole row seconds few it = (
   record {
-    name = good.name;
-    lines = by_place IsLine row.def.lines (unplaced line.IsGoodLine IsLine (λ p h. h.0) row.def.name 0 row.def.lines lines);
-    limits = (good.few, by_place HasRetry row.def.lines (unplaced line.IsGoodLine HasRetry (λ p h. h.1) row.def.name 0 row.def.lines lines), good.most);
+    name = it.good.name;
+    lines = by_place IsLine row.def.lines (unplaced line.IsGoodLine IsLine (λ p h. h.0) row.def.name 0 row.def.lines it.lines);
+    limits = (it.good.few, by_place HasRetry row.def.lines (unplaced line.IsGoodLine HasRetry (λ p h. h.1) row.def.name 0 row.def.lines it.lines), it.good.most, few);
   },
-  good.call,
+  it.good.call,
 )
 
-pub systems_from : (systems : List SystemColumns) (lines : List LineColumns) (ranges : List RangeColumns) → are_systems systems lines ranges ≡ true → Systems systems lines ranges
-systems_from systems lines ranges h =
-    let b = and_parts _ _ h in
+pub systems_from : (systems : List SystemColumns) (lines : List LineColumns) (ranges : List RangeColumns) (waits : List WaitColumns) → are_systems systems lines ranges waits ≡ true → Systems systems lines ranges waits
+systems_from systems lines ranges waits h =
+    let c = and_parts _ _ h in
+    let b = and_parts _ _ c.0 in
     let a = and_parts _ _ b.0 in
     let low = items_of owns_range fits_line line_columns ranges_of line.IsGoodLine line.line_of_rows lines ranges b.1 in
     let over : walk system.owns system.fits systems low.items ≡ true = sym (walk_mapped owns_line fits_system line_columns systems low.items) ∙ ap (walk owns_line fits_system systems) low.heads ∙ a.1 in
     let high = items_of system.owns system.fits system_columns placed system.IsGoodSystem system.system_of_rows systems low.items over in
     let good = unflat line.IsGoodLine placed high.items (subst (AllByRecursion line.IsGoodLine) (sym high.children) low.good) in
+    let waited = items_of owns_wait fits_wait wait.head wait.kids wait.IsGood wait.wait_of_rows systems waits c.1 in
+    let same = waited.heads ∙ sym high.heads in
+    let rise = risen system_columns system_before Before (λ x y. less_is _) (λ x y z. nat_list_cmp_total.trans x.def.name y.def.name z.def.name) high.items (ap (rises system_before) high.heads ∙ a.0) in
     record {
-      items = high.items;
-      good = both system.IsGoodSystem (λ row. AllByRecursion line.IsGoodLine (placed row)) _ whole high.items high.good good;
-      rise = risen system_columns system_before Before (λ x y. less_is _) (λ x y z. nat_list_cmp_total.trans x.def.name y.def.name z.def.name) high.items (ap (rises system_before) high.heads ∙ a.0);
-      systems_are = high.heads;
-      lines_are = ap (map line_columns) high.children ∙ low.heads;
-      ranges_are = ap (flat_map ranges_of) high.children ∙ low.children;
+      items = wait.waiting high.items waited.items;
+      good = wait.each_waiting IsAlmost (λ row. IsDefinition row.def × IsCall row.call) whole high.items waited.items same
+          (both system.IsGoodSystem (λ row. AllByRecursion line.IsGoodLine (placed row)) IsAlmost (λ row g l. record { good = g; lines = l }) high.items high.good good) waited.good;
+      rise = wait.still_apart high.items waited.items rise;
+      systems_are = wait.columns_stay high.items waited.items ∙ high.heads;
+      lines_are = ap (map line_columns) (wait.placed_stay high.items waited.items ∙ high.children) ∙ low.heads;
+      ranges_are = ap (flat_map ranges_of) (wait.placed_stay high.items waited.items ∙ high.children) ∙ low.children;
+      waits_are = wait.waits_are high.items waited.items same ∙ waited.children;
     }
 
 split : (row : SystemRow) → IsDefinition row.def × IsCall row.call → system.IsGoodSystem row
@@ -118,8 +132,11 @@ pub all_flat : {X C : Type 0} (P : C → Type 0) (Q : X → Type 0) (f : X → L
 all_flat P Q f step [] h = tt
 all_flat P Q f step (x ∷ xs) h = all_append P (f x) (flat_map f xs) (step x h.0) (all_flat P Q f step xs h.1)
 
+abbrev Few : SystemRow → Type 0
+Few row = row.def.success_wait ≤ most_success_wait
+
 pub systems_to : (rows : List SystemRow) → AllByRecursion (λ (row : SystemRow). IsDefinition row.def × IsCall row.call) rows → AllPairsByRecursion Before rows
-    → are_systems (map system_columns rows) (map line_columns (flat_map placed rows)) (flat_map ranges_of (flat_map placed rows)) ≡ true
+    → are_systems (map system_columns rows) (map line_columns (flat_map placed rows)) (flat_map ranges_of (flat_map placed rows)) (flat_map waits_of rows) ≡ true
 systems_to rows good rise =
     let lines = flat_map placed rows in
     let a : rises system_before (map system_columns rows) ≡ true = does_rise system_columns system_before Before (λ x y. ap is_lt) rows rise in
@@ -130,7 +147,10 @@ systems_to rows good rise =
     let differ : AllPairsByRecursion system.Differ lines = flat_pairs system.Differ placed _ (λ row g. system.lines_differ row) rows good (weaker_pairs Before _ system.systems_differ rows rise) in
     let apart_lines = weaker_pairs system.Differ (Apart owns_range fits_line line_columns ranges_of line.IsGoodLine) (λ p q differs. line.ranges_owned (line_columns p) q false differs) lines differ in
     let c : walk owns_range fits_line (map line_columns lines) (flat_map ranges_of lines) ≡ true = walked owns_range fits_line line_columns ranges_of line.IsGoodLine line.line_fits line.ranges_own lines (all_flat line.IsGoodLine _ placed good_lines rows good) apart_lines in
-    rw (a, b, c) refl
+    let waits_apart = weaker_pairs Before (Apart owns_wait fits_wait system_columns waits_of Few) (λ x y before. wait.wait_owned (system_columns x) y.def.name y.def.success_wait false (text_not x.def.name y.def.name before)) rows rise in
+    let d : walk owns_wait fits_wait (map system_columns rows) (flat_map waits_of rows) ≡ true = walked owns_wait fits_wait system_columns waits_of Few (λ x few. wait.wait_fits x.def.name (system_columns x) x.def.success_wait few)
+        (λ x. wait.wait_owned (system_columns x) x.def.name x.def.success_wait true (text_to x.def.name)) rows (weaker _ Few (λ row g. g.0.limits.3) rows good) waits_apart in
+    rw (a, b, c, d) refl
 
 -- ---- jobs
 
@@ -219,7 +239,7 @@ entries_to entries hosts rise = rw (does_rise entry_columns entry_before HostBef
 -- ---- the whole
 
 abbrev pub passes : Tables → Bool
-passes t = is_spool t.next t.systems t.lines t.ranges t.jobs (map size_of t.pieces) t.entries
+passes t = is_spool t.next t.systems t.lines t.ranges t.success_waits t.jobs (map size_of t.pieces) t.entries
 
 pub tables_from : (t : Tables) → passes t ≡ true → AreTables t
 tables_from t h =
@@ -227,7 +247,7 @@ tables_from t h =
     let c = and_parts _ _ d.0 in
     let b = and_parts _ _ c.0 in
     let a = and_parts _ _ b.0 in
-    let s = systems_from t.systems t.lines t.ranges b.1 in
+    let s = systems_from t.systems t.lines t.ranges t.success_waits b.1 in
     let j = jobs_from t.next s.items t.jobs t.pieces (ap (λ l. are_jobs t.next l t.jobs (map size_of t.pieces)) s.systems_are ∙ c.1) in
     let e = entries_from t.entries d.1 in
     record {
@@ -245,7 +265,7 @@ tables_from t h =
         hosts = by_place Names e.items e.hosts;
         by_host = pairs_by_place HostBefore e.items e.rise;
       };
-      same = λ i. record { next = t.next; systems = s.systems_are i; lines = s.lines_are i; ranges = s.ranges_are i; jobs = j.heads_are i; pieces = j.pieces_are i; entries = e.rows_are i };
+      same = λ i. record { next = t.next; systems = s.systems_are i; lines = s.lines_are i; ranges = s.ranges_are i; jobs = j.heads_are i; pieces = j.pieces_are i; entries = e.rows_are i; success_waits = s.waits_are i };
     }
 
 pub tables_to : (s : State) → IsWellFormed s → passes (tables_of s) ≡ true
@@ -259,10 +279,10 @@ tables_to s good =
 pub passes_to : (t : Tables) → AreTables t → passes t ≡ true
 passes_to t it = ap passes (sym it.same) ∙ tables_to it.state it.good
 
-pub same_test : (rows : Rows) (t : Tables) → AreRowsOf rows t → is_spool rows.next rows.systems.now rows.lines.now rows.ranges.now rows.jobs.now rows.pieces.now rows.entries.now ≡ passes t
-same_test rows t h = λ i. is_spool (h.next i) (h.systems i) (h.lines i) (h.ranges i) (h.jobs i) (h.pieces i) (h.entries i)
+pub same_test : (rows : Rows) (t : Tables) → AreRowsOf rows t → is_spool rows.next rows.systems.now rows.lines.now rows.ranges.now rows.success_waits.now rows.jobs.now rows.pieces.now rows.entries.now ≡ passes t
+same_test rows t h = λ i. is_spool (h.next i) (h.systems i) (h.lines i) (h.ranges i) (h.success_waits i) (h.jobs i) (h.pieces i) (h.entries i)
 
 pub told : {E : Type 0} (r : Result Bool E) (rows : Rows) (t : Tables) → AreRowsOf rows t
-    → IfOk r (λ good. good ≡ is_spool rows.next rows.systems.now rows.lines.now rows.ranges.now rows.jobs.now rows.pieces.now rows.entries.now) → IfOk r (λ good. (good ≡ true) ↔ AreTables t)
+    → IfOk r (λ good. good ≡ is_spool rows.next rows.systems.now rows.lines.now rows.ranges.now rows.success_waits.now rows.jobs.now rows.pieces.now rows.entries.now) → IfOk r (λ good. (good ≡ true) ↔ AreTables t)
 told (Ok good) rows t are h = let same = h ∙ same_test rows t are in (λ yes. tables_from t (sym same ∙ yes), λ it. same ∙ passes_to t it)
 told (Err fault) rows t are h = tt

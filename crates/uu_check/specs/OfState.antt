@@ -19,3 +19,4 @@ pub record AreRowsOf (rows : Rows) (t : Tables) : Type 0 where
   pub jobs : rows.jobs.now ≡ t.jobs
   pub pieces : rows.pieces.now ≡ map size_of t.pieces
   pub entries : rows.entries.now ≡ t.entries
+  pub success_waits : rows.success_waits.now ≡ t.success_waits

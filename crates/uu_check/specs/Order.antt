@@ -13,3 +13,4 @@ pub record AreInOrder (t : Tables) : Type 0 where
   pub jobs : AllPairs (λ (a b : JobHead). a.number < b.number) t.jobs
   pub pieces : AllPairs (λ a b. piece_cmp a b ≡ Less) t.pieces
   pub entries : AllPairs (λ a b. ComesBefore a.host b.host) t.entries
+  pub success_waits : AllPairs (λ a b. ComesBefore a.system b.system) t.success_waits

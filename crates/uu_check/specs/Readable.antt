@@ -4,7 +4,7 @@ use Rattle.std.specs.List.{AllByRecursion}
 use Rattle.uu_names.specs.Grade.{grade_count}
 use Rattle.uu_names.specs.Name.{is_site_name, is_word}
 use Rattle.uu_times.specs.Ranges.{week_minutes}
-use Rattle.uu_times.specs.System.{IsRetry, most_lines, most_retries}
+use Rattle.uu_times.specs.System.{IsRetry, most_lines, most_retries, most_success_wait}
 use Rattle.uu_map.specs.Text.{most_entry}
 use Rattle.uu_core.specs.declared.job.JobHead.{JobHead}
 use Rattle.uu_core.specs.State.{last_second, most_failures, most_wait, numbers_end}
@@ -12,6 +12,7 @@ use Rattle.uu_tables.specs.declared.rows.SystemColumns.{SystemColumns}
 use Rattle.uu_tables.specs.declared.rows.LineColumns.{LineColumns}
 use Rattle.uu_tables.specs.declared.rows.RangeColumns.{RangeColumns}
 use Rattle.uu_tables.specs.declared.rows.EntryColumns.{EntryColumns}
+use Rattle.uu_tables.specs.declared.rows.WaitColumns.{WaitColumns}
 use Rattle.uu_tables.specs.Tables.{Tables, Piece, piece_bytes, most_pieces}
 use Rattle.uu_check.specs.Tests.{is_head}
 
@@ -49,6 +50,10 @@ pub record IsEntryRow (e : EntryColumns) : Type 0 where
   pub host : IsTrue (is_site_name e.host)
   pub size : length e.bytes ≤ most_entry
 
+pub record IsWaitRow (w : WaitColumns) : Type 0 where
+  pub system : IsTrue (is_site_name w.system)
+  pub wait : w.wait ≤ most_success_wait
+
 pub record AreReadable (t : Tables) : Type 0 where
   pub next : t.next ≤ numbers_end
   pub systems : AllByRecursion IsSystemRow t.systems
@@ -57,3 +62,4 @@ pub record AreReadable (t : Tables) : Type 0 where
   pub jobs : AllByRecursion IsJobRow t.jobs
   pub pieces : AllByRecursion IsPieceRow t.pieces
   pub entries : AllByRecursion IsEntryRow t.entries
+  pub success_waits : AllByRecursion IsWaitRow t.success_waits

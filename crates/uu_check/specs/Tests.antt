@@ -6,7 +6,7 @@ use Rattle.std.specs.Cmp.Lexicographic.{slice_cmp}
 use Rattle.uu_names.specs.Grade.{grade_count}
 use Rattle.uu_names.specs.Name.{is_site_name, is_word}
 use Rattle.uu_times.specs.Ranges.{week_minutes}
-use Rattle.uu_times.specs.System.{most_lines, most_retry_minutes, most_retries}
+use Rattle.uu_times.specs.System.{most_lines, most_retry_minutes, most_retries, most_success_wait}
 use Rattle.uu_core.specs.declared.job.Kind.{Kind}
 use Rattle.uu_core.specs.declared.job.Kind.TheVariants.{Send, Request, Execute}
 use Rattle.uu_core.specs.declared.job.JobHead.{JobHead}
@@ -16,6 +16,7 @@ use Rattle.uu_tables.specs.declared.rows.LineColumns.{LineColumns}
 use Rattle.uu_tables.specs.declared.rows.RangeColumns.{RangeColumns}
 use Rattle.uu_tables.specs.declared.rows.PieceSize.{PieceSize}
 use Rattle.uu_tables.specs.declared.rows.EntryColumns.{EntryColumns}
+use Rattle.uu_tables.specs.declared.rows.WaitColumns.{WaitColumns}
 use Rattle.uu_map.specs.declared.fault.MapFault.{MapFault}
 use Rattle.uu_map.specs.Text.{host_of}
 use Rattle.uu_tables.specs.Tables.{piece_bytes}
@@ -85,6 +86,17 @@ owns_line s l = same_text s.name l.system
 abbrev pub fits_system : SystemColumns → List LineColumns → Bool
 fits_system s ls = is_site_name s.name && nat_le s.max_retries most_retries && is_call s && nat_le (length ls) most_lines && are_placed 0 ls
 
+-- ---- systems and their success waits
+
+abbrev pub owns_wait : SystemColumns → WaitColumns → Bool
+owns_wait s w = same_text s.name w.system
+
+-- at most one, and none of 0 seconds
+abbrev pub fits_wait : SystemColumns → List WaitColumns → Bool
+fits_wait s [] = true
+fits_wait s (w ∷ []) = nat_le 1 w.wait && nat_le w.wait most_success_wait
+fits_wait s (w ∷ other ∷ more) = false
+
 abbrev pub system_before : SystemColumns → SystemColumns → Bool
 system_before a b = is_lt (slice_cmp nat_cmp a.name b.name)
 
@@ -109,11 +121,11 @@ are_entries entries = rises entry_before entries && list_all is_entry entries
 abbrev pub is_known : List SystemColumns → JobHead → Bool
 is_known systems h = list_any (λ (s : SystemColumns). same_text s.name h.system) systems
 
-abbrev pub are_systems : List SystemColumns → List LineColumns → List RangeColumns → Bool
-are_systems systems lines ranges = rises system_before systems && walk owns_line fits_system systems lines && walk owns_range fits_line lines ranges
+abbrev pub are_systems : List SystemColumns → List LineColumns → List RangeColumns → List WaitColumns → Bool
+are_systems systems lines ranges waits = rises system_before systems && walk owns_line fits_system systems lines && walk owns_range fits_line lines ranges && walk owns_wait fits_wait systems waits
 
 abbrev pub are_jobs : ℕ → List SystemColumns → List JobHead → List PieceSize → Bool
 are_jobs next systems jobs pieces = rises job_before jobs && list_all (is_below next) jobs && list_all (is_known systems) jobs && walk owns_piece fits_job jobs pieces
 
-abbrev pub is_spool : ℕ → List SystemColumns → List LineColumns → List RangeColumns → List JobHead → List PieceSize → List EntryColumns → Bool
-is_spool next systems lines ranges jobs pieces entries = nat_le 1 next && nat_le next numbers_end && are_systems systems lines ranges && are_jobs next systems jobs pieces && are_entries entries
+abbrev pub is_spool : ℕ → List SystemColumns → List LineColumns → List RangeColumns → List WaitColumns → List JobHead → List PieceSize → List EntryColumns → Bool
+is_spool next systems lines ranges waits jobs pieces entries = nat_le 1 next && nat_le next numbers_end && are_systems systems lines ranges waits && are_jobs next systems jobs pieces && are_entries entries

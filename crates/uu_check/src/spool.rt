@@ -12,7 +12,7 @@ use crate::walk::{rise, walk_owners};
 use std::alloc::{AllocError, Global};
 use uu_core::JobHead;
 use uu_core::limits::NUMBERS_END;
-use uu_tables::{EntryColumns, LineColumns, PieceSize, RangeColumns, SystemColumns};
+use uu_tables::{EntryColumns, LineColumns, PieceSize, RangeColumns, SystemColumns, WaitColumns};
 
 fn are_below(next: u32, jobs: &[JobHead]) -> bool
     ensures { result ≡ list_all (is_below next) jobs.now }
@@ -42,10 +42,18 @@ fn are_known(systems: &[SystemColumns], jobs: &[JobHead]) -> bool
     true
 }
 
-fn are_systems(systems: &[SystemColumns], lines: &[LineColumns], ranges: &[RangeColumns]) -> bool
-    ensures { result ≡ are_systems systems.now lines.now ranges.now }
+fn are_systems(
+    systems: &[SystemColumns],
+    lines: &[LineColumns],
+    ranges: &[RangeColumns],
+    waits: &[WaitColumns],
+) -> bool
+    ensures { result ≡ are_systems systems.now lines.now ranges.now waits.now }
 {
-    rise(systems) && walk_owners(systems, lines) && walk_owners(lines, ranges)
+    rise(systems)
+        && walk_owners(systems, lines)
+        && walk_owners(lines, ranges)
+        && walk_owners(systems, waits)
 }
 
 fn are_jobs(next: u32, systems: &[SystemColumns], jobs: &[JobHead], pieces: &[PieceSize]) -> bool
@@ -72,19 +80,21 @@ pub struct Rows<'a> {
     pub pieces: &'a [PieceSize],
     /// The map entries.
     pub entries: &'a [EntryColumns],
+    /// The success waits of the systems.
+    pub success_waits: &'a [WaitColumns],
 }
 
 fn tested(rows: &Rows<'_>) -> bool
-    ensures { result ≡ (nat_le 1 rows.now.next && nat_le rows.now.next numbers_end && are_systems rows.now.systems.now rows.now.lines.now rows.now.ranges.now && are_jobs rows.now.next rows.now.systems.now rows.now.jobs.now rows.now.pieces.now) }
+    ensures { result ≡ (nat_le 1 rows.now.next && nat_le rows.now.next numbers_end && are_systems rows.now.systems.now rows.now.lines.now rows.now.ranges.now rows.now.success_waits.now && are_jobs rows.now.next rows.now.systems.now rows.now.jobs.now rows.now.pieces.now) }
 {
     rows.next >= 1
         && rows.next <= NUMBERS_END
-        && are_systems(rows.systems, rows.lines, rows.ranges)
+        && are_systems(rows.systems, rows.lines, rows.ranges, rows.success_waits)
         && are_jobs(rows.next, rows.systems, rows.jobs, rows.pieces)
 }
 
 fn pass(alloc: Global, rows: &Rows<'_>) -> Result<bool, AllocError>
-    ensures { IfOk result (λ good. good ≡ is_spool rows.now.next rows.now.systems.now rows.now.lines.now rows.now.ranges.now rows.now.jobs.now rows.now.pieces.now rows.now.entries.now) }
+    ensures { IfOk result (λ good. good ≡ is_spool rows.now.next rows.now.systems.now rows.now.lines.now rows.now.ranges.now rows.now.success_waits.now rows.now.jobs.now rows.now.pieces.now rows.now.entries.now) }
 {
     if tested(rows) {
         are_entries(alloc, rows.entries)

@@ -1,12 +1,12 @@
 // Systems, their lines, and the ranges of these.
 ghost use Rattle.std.specs.Prelude.{◌≡◌};
-ghost use Rattle.uu_check.specs.Tests.{are_ranges, is_retry, owns_range, fits_line, is_outcome, is_call, are_placed, owns_line, fits_system, system_before};
+ghost use Rattle.uu_check.specs.Tests.{are_ranges, is_retry, owns_range, fits_line, is_outcome, is_call, are_placed, owns_line, fits_system, owns_wait, fits_wait, system_before};
 
 use crate::walk::{Owner, Ranked};
 use uu_core::limits::{MAX_FAILURES, MAX_WAIT};
-use uu_tables::{LineColumns, RangeColumns, SystemColumns};
+use uu_tables::{LineColumns, RangeColumns, SystemColumns, WaitColumns};
 use uu_times::moment::LAST_SECOND;
-use uu_times::system::{LINE_LIMIT, MAX_RETRIES_LIMIT, RETRY_LIMIT};
+use uu_times::system::{LINE_LIMIT, MAX_RETRIES_LIMIT, RETRY_LIMIT, SUCCESS_WAIT_LIMIT};
 use uu_times::windows::WEEK;
 
 fn are_ranges(ranges: &[RangeColumns]) -> bool
@@ -101,6 +101,24 @@ impl Owner<LineColumns> for SystemColumns {
             && is_call(self)
             && children.len() <= LINE_LIMIT
             && are_placed(children)
+    }
+}
+
+impl Owner<WaitColumns> for SystemColumns {
+    ghost owns = { owns_wait };
+
+    ghost fits = { fits_wait };
+
+    fn owns(&self, child: &WaitColumns) -> bool {
+        self.name == child.system
+    }
+
+    fn fits(&self, children: &[WaitColumns]) -> bool {
+        match children {
+            [] => true,
+            [one] => 1 <= one.wait && one.wait <= SUCCESS_WAIT_LIMIT,
+            _ => false,
+        }
     }
 }
 

@@ -1,5 +1,5 @@
 -- What the plain machine does to its lists.
-use Rattle.std.proofs.Common.{◌≡◌, ℕ, zero, suc, ◌+◌, ◌-◌, ◌<◌, ◌≤◌, Bool, true, false, not, cond, ◌==◌, ◌||◌, List, [], ◌∷◌, ◌++◌, map, filter, find, length, take, drop, set, All, AllPairs, Option, Some, None, Result, Ok, Err, get_or, nat_cmp, nat_eq, is_err, OnErr, refl, ap, sym, ◌∙◌, subst, arith}
+use Rattle.std.proofs.Common.{◌≡◌, ℕ, zero, suc, ◌+◌, ◌-◌, ◌<◌, ◌≤◌, Bool, true, false, not, cond, ◌==◌, ◌||◌, List, [], ◌∷◌, ◌++◌, map, filter, find, length, take, drop, set, All, AllPairs, Option, Some, None, Result, Ok, Err, get_or, nat_cmp, nat_eq, is_err, OnErr, refl, ap, sym, ◌∙◌, subst, arith, is_some}
 use Rattle.std.specs.declared.cmp.Ordering.TheVariants.{Less, Equal, Greater}
 use Rattle.std.specs.declared.cmp.Ordering.{Ordering}
 use Rattle.std.specs.Ordering.{is_lt, ordering_reverse}
@@ -29,7 +29,7 @@ use Rattle.uu_core.specs.declared.system.SystemRow.{SystemRow}
 use Rattle.uu_core.specs.Refusal.{decided}
 use Rattle.uu_core.specs.State.{State, Job, MapEntry, ComesBefore, is_job, is_system, system_at, has_system, head_of, numbers_end, most_bytes}
 use Rattle.uu_core.specs.Verdict.{verdict, queue_refusal, done_refusal, is_too_large, has_many_arguments}
-use Rattle.uu_core.specs.After.{after, after_verdict, accept, reply_to, is_before, put_by, change_job, change_call, keep_entry, job_of, is_among, failed_call, failed_decision, done_call, call_of}
+use Rattle.uu_core.specs.After.{after, after_verdict, accept, reply_to, is_before, put_by, change_job, change_call, keep_entry, job_of, is_among, failed_call, failed_decision, done_call, done_call_of, call_of}
 use Rattle.uu_core.specs.Due.{HaveNumbers}
 use Rattle.uu_core.specs.Run.{state_after, replies_to}
 use Rattle.uu_core.specs.Plain.{AreByName, IsInOrder, IsGiven}
@@ -101,7 +101,7 @@ module _ (state : State) (h : IsInOrder state) where
   order-accept (Done system at jobs) = record {
     rising = AllPairs-filter (λ (a b : Job). a.number < b.number) (λ (job : Job). not (is_among jobs job)) state.jobs h.rising;
     below_next = All-filter (λ (job : Job). not (is_among jobs job)) (λ (j : Job). j.number < state.next) state.jobs h.below_next;
-    by_name = calls-in_order system (λ row. done_call at) state.systems h.by_name;
+    by_name = calls-in_order system (λ row. done_call row at) state.systems h.by_name;
     by_host = h.by_host;
   }
   order-accept (Entry bytes) = record { rising = h.rising; below_next = h.below_next; by_name = h.by_name; by_host = entries-in_order (host_of bytes) bytes state.entries h.by_host }
@@ -343,16 +343,28 @@ failed_refused state name at why (Some row) refusal f e = absurd apart
     apart : ⊥
     apart = cc
 
-pub done_accepted : (state : State) (name : List ℕ) (at : Moment) (numbers : List ℕ) (known : Bool) (heads : List JobHead) (call : CallState) (jobs : List Job) (rows : List SystemRow) → IsInOrder state → known ≡ has_system state name → heads ≡ map head_of state.jobs → Ok call ≡ decided (done_refusal known name numbers heads) (done_call at) → jobs ≡ filter (λ (job : Job). not (is_among numbers job)) state.jobs → rows ≡ change_call name (λ _. call) state.systems → (record state { jobs = jobs; systems = rows }, Carried) ≡ after state (Done name at numbers)
-done_accepted state name at numbers known heads call jobs rows h k hs e j r =
-    let d = none_decided (done_refusal known name numbers heads) (done_call at) call (sym e) in
+-- a system is found exactly where it is known
+found-known : (state : State) (name : List ℕ) (found : Option SystemRow) → found ≡ system_at state name → is_some found ≡ has_system state name
+found-known state name None f = sym (find-none (is_system name) state.systems (sym f))
+found-known state name (Some row) f = sym (find-any (is_system name) state.systems row (sym f))
+
+done_once : (found : Option SystemRow) (row : SystemRow) (at : Moment) → found ≡ Some row → done_call row at ≡ done_call_of found at
+done_once found row at is = ap (λ o. done_call_of o at) (sym is)
+
+pub done_accepted : (state : State) (name : List ℕ) (at : Moment) (numbers : List ℕ) (found : Option SystemRow) (heads : List JobHead) (call : CallState) (jobs : List Job) (rows : List SystemRow) → IsInOrder state → found ≡ system_at state name → heads ≡ map head_of state.jobs → Ok call ≡ decided (done_refusal (is_some found) name numbers heads) (done_call_of found at) → jobs ≡ filter (λ (job : Job). not (is_among numbers job)) state.jobs → rows ≡ change_call name (λ _. call) state.systems → (record state { jobs = jobs; systems = rows }, Carried) ≡ after state (Done name at numbers)
+done_accepted state name at numbers found heads call jobs rows h f hs e j r =
+    let known = is_some found in
+    let k = found-known state name found f in
+    let d = none_decided (done_refusal known name numbers heads) (done_call_of found at) call (sym e) in
     ap (λ js. (record state { jobs = js; systems = rows }, Carried)) j
-    ∙ ap (λ systems. (record state { jobs = filter (λ (job : Job). not (is_among numbers job)) state.jobs; systems = systems }, Carried)) (r ∙ called_once name (λ other. done_call at) call state.systems h.by_name (λ other q. d.1))
+    ∙ ap (λ systems. (record state { jobs = filter (λ (job : Job). not (is_among numbers job)) state.jobs; systems = systems }, Carried)) (r ∙ called_once name (λ other. done_call other at) call state.systems h.by_name (λ other q. done_once found other at (f ∙ q) ∙ d.1))
     ∙ sym (carried state (Done name at numbers) (ap (λ b. done_refusal b name numbers (map head_of state.jobs)) (sym k) ∙ ap (λ l. done_refusal known name numbers l) (sym hs) ∙ d.0))
 
-pub done_refused : (state : State) (name : List ℕ) (at : Moment) (numbers : List ℕ) (known : Bool) (heads : List JobHead) (refusal : Refusal) → known ≡ has_system state name → heads ≡ map head_of state.jobs → Err refusal ≡ decided (done_refusal known name numbers heads) (done_call at) → (state, Refused refusal) ≡ after state (Done name at numbers)
-done_refused state name at numbers known heads refusal k hs e =
-    sym (turned_down state (Done name at numbers) refusal (ap (λ b. done_refusal b name numbers (map head_of state.jobs)) (sym k) ∙ ap (λ l. done_refusal known name numbers l) (sym hs) ∙ some_decided (done_refusal known name numbers heads) (done_call at) refusal (sym e)))
+pub done_refused : (state : State) (name : List ℕ) (at : Moment) (numbers : List ℕ) (found : Option SystemRow) (heads : List JobHead) (refusal : Refusal) → found ≡ system_at state name → heads ≡ map head_of state.jobs → Err refusal ≡ decided (done_refusal (is_some found) name numbers heads) (done_call_of found at) → (state, Refused refusal) ≡ after state (Done name at numbers)
+done_refused state name at numbers found heads refusal f hs e =
+    let known = is_some found in
+    let k = found-known state name found f in
+    sym (turned_down state (Done name at numbers) refusal (ap (λ b. done_refusal b name numbers (map head_of state.jobs)) (sym k) ∙ ap (λ l. done_refusal known name numbers l) (sym hs) ∙ some_decided (done_refusal known name numbers heads) (done_call_of found at) refusal (sym e)))
 
 -- ---- map entries
 

@@ -378,8 +378,8 @@ failed-call : (row : SystemRow) (at : Moment) (why : List ℕ) → IsCommand (Fa
 failed-call row at why good def call =
     record { last = good.0; failures = omega arith; wait = wait-within row.def at.week (one_more row.call.failures) def; outcome = good.1 }
 
-done-call : (at : Moment) → at.second ≤ 4102444800 → IsCall (done_call at)
-done-call at good = record { last = good; failures = omega arith; wait = omega arith; outcome = tt }
+done-call : (row : SystemRow) (at : Moment) → at.second ≤ 4102444800 → IsDefinition row.def → IsCall (done_call row at)
+done-call row at good def = record { last = good; failures = omega arith; wait = def.limits.3; outcome = tt }
 
 still-accepted : (state : State) (command : Command) → IsWellFormed state → IsCommand command → verdict state command ≡ None → IsWellFormed (accept state command)
 still-accepted state (Define def) h good e = still-define state h def good
@@ -395,7 +395,7 @@ still-accepted state (Rejuvenate job at by) h good e =
     still-changed state h job (λ other. record other { queued = at.second }) (λ j p. record { number = p.number; system = p.system; grade = p.grade; user = p.user; kind = p.kind; queued = good; bytes = p.bytes }) (λ j. refl) (λ j. refl)
 still-accepted state (Failed system at why) h good e = still-called state h system (λ row. failed_call row at why) (λ row def call. failed-call row at why good def call)
 still-accepted state (Done system at jobs) h good e =
-    still-called (record state { jobs = filter (λ (job : Job). not (is_among jobs job)) state.jobs }) (still-filtered state h (λ (job : Job). not (is_among jobs job))) system (λ row. done_call at) (λ row def call. done-call at good)
+    still-called (record state { jobs = filter (λ (job : Job). not (is_among jobs job)) state.jobs }) (still-filtered state h (λ (job : Job). not (is_among jobs job))) system (λ row. done_call row at) (λ row def call. done-call row at good def)
 still-accepted state (Entry bytes) h good e = still-entry state h bytes
 
 pub still : (state : State) (command : Command) → IsCommand command → IsWellFormed state → IsWellFormed (after state command).0

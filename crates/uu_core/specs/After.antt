@@ -36,9 +36,14 @@ abbrev pub failed_decision : Option SystemRow → Moment → List ℕ → Result
 failed_decision None at why = Err NoSystem
 failed_decision (Some row) at why = Ok (failed_call row at why)
 
--- the call state after a call
-abbrev pub done_call : Moment → CallState
-done_call at = record { last = at.second; failures = 0; wait = 0; outcome = WasDone }
+-- the call state after a call that went well (the success wait: Taylor UUCP 1.07 manual, on the time commands)
+abbrev pub done_call : SystemRow → Moment → CallState
+done_call row at = record { last = at.second; failures = 0; wait = row.def.success_wait; outcome = WasDone }
+
+-- that of a system, if it is known
+abbrev pub done_call_of : Option SystemRow → Moment → CallState
+done_call_of None at = never_called
+done_call_of (Some row) at = done_call row at
 
 -- ---- lists that are kept in the order of a name
 
@@ -94,7 +99,7 @@ accept state (Regrade job grade by) = record state { jobs = change_job job (λ o
 accept state (Rejuvenate job at by) = record state { jobs = change_job job (λ other. record other { queued = at.second }) state.jobs }
 accept state (Failed system at why) = record state { systems = change_call system (λ row. failed_call row at why) state.systems }
 accept state (Done system at jobs) =
-    record state { jobs = filter (λ job. not (is_among jobs job)) state.jobs; systems = change_call system (λ row. done_call at) state.systems }
+    record state { jobs = filter (λ job. not (is_among jobs job)) state.jobs; systems = change_call system (λ row. done_call row at) state.systems }
 accept state (Entry bytes) = record state { entries = keep_entry (host_of bytes) bytes state.entries }
 
 -- the answer to an accepted command: the number of a job that was added

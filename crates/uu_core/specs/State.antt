@@ -142,7 +142,7 @@ IsLine line = (line.grade < grade_count) × AreRuns line.windows
 pub record IsDefinition (def : System) : Type 0 where
   pub name : IsTrue (is_site_name def.name)
   pub lines : All IsLine def.lines
-  pub limits : AreWithinLimits def.lines def.max_retries
+  pub limits : AreWithinLimits def.lines def.max_retries def.success_wait
 
 -- one text comes before another in the order of their bytes
 abbrev pub ComesBefore : List ℕ → List ℕ → Type 0

@@ -1,9 +1,9 @@
 // Whether a command is accepted, decided on the rows concerned.
-ghost use Rattle.std.specs.Prelude.{◌≡◌, ◌==◌, option_copied};
+ghost use Rattle.std.specs.Prelude.{◌≡◌, ◌==◌, is_some, option_copied};
 ghost use Rattle.std.specs.List.{list_any};
 ghost use Rattle.uu_core.specs.Refusal.{decided};
 ghost use Rattle.uu_core.specs.Verdict.{drop_refusal, queue_refusal, job_refusal, has_many_arguments, is_too_large, may_touch, has_repeat, has_number, is_missing_one, has_other, done_refusal};
-ghost use Rattle.uu_core.specs.After.{failed_decision, done_call};
+ghost use Rattle.uu_core.specs.After.{failed_decision, done_call_of};
 
 use crate::job::{By, JobHead, Kind, NewJob};
 use crate::limits::{MAX_ARGUMENTS, MAX_BYTES, MAX_DONE, NUMBERS_END};
@@ -141,7 +141,8 @@ fn has_other(system: &SiteName, numbers: &[u32], jobs: &[JobHead]) -> bool
     jobs.iter().any(|job| is_among(numbers, job.number) && job.system != *system)
 }
 
-/// The calls of a system, known or not, after one at this moment in which the jobs of these numbers went through.
+/// The calls of a system, if it is known, after one at this moment in which the jobs of these numbers went through: it is left alone for
+/// its success wait.
 /// `found` holds the jobs of the spool whose numbers are among them.
 ///
 /// # Errors
@@ -149,29 +150,31 @@ fn has_other(system: &SiteName, numbers: &[u32], jobs: &[JobHead]) -> bool
 /// [`Refusal::NoJob`] where a number has no job, [`Refusal::JobTwice`] where a number stands twice, and [`Refusal::OtherSystem`] where one of
 /// the jobs waits for another system.
 pub fn decide_done(
-    known: bool,
-    system: &SiteName,
+    system: Option<&SystemRow>,
+    name: &SiteName,
     numbers: &[u32],
     found: &[JobHead],
     at: &Moment,
 ) -> Result<CallState, Refusal>
-    ensures { result ≡ decided (done_refusal known system.now numbers.now found.now) (done_call at.now) }
+    ensures { result ≡ decided (done_refusal (is_some (option_copied system.entry)) name.now numbers.now found.now) (done_call_of (option_copied system.entry) at.now) }
 {
     if numbers.len() > MAX_DONE {
-        Err(Refusal::TooLarge)
-    } else if !known {
-        Err(Refusal::NoSystem)
-    } else if is_missing_one(numbers, found) {
+        return Err(Refusal::TooLarge);
+    }
+    let Some(row) = system else {
+        return Err(Refusal::NoSystem);
+    };
+    if is_missing_one(numbers, found) {
         Err(Refusal::NoJob)
     } else if has_repeat(numbers) {
         Err(Refusal::JobTwice)
-    } else if has_other(system, numbers, found) {
+    } else if has_other(name, numbers, found) {
         Err(Refusal::OtherSystem)
     } else {
         Ok(CallState {
             last: at.second,
             failures: 0,
-            wait: 0,
+            wait: u64::from(row.def.success_wait),
             outcome: Outcome::Done,
         })
     }

@@ -8,18 +8,24 @@ use Rattle.uu_sql.proofs.Questions.{spared_same}
 use Rattle.uu_schema.specs.declared.fault.StoreFault.{StoreFault}
 use Rattle.uu_schema.specs.declared.fault.StoreFault.TheVariants.{Memory, Store, Failed, Newer, Foreign as ForeignFault}
 use Rattle.sqlite.specs.Effect.{Database}
-use Rattle.uu_schema.specs.Schema.{site}
+use Rattle.uu_schema.specs.Schema.{site_of}
+use Rattle.uu_schema.specs.declared.version.Version.{Version}
+use Rattle.uu_schema.specs.declared.version.Version.TheVariants.{First, Second}
+use Rattle.uu_tables.specs.Tables.{tables_of}
+use Rattle.sqlite.specs.Tree.{Trees}
+use Rattle.sqlite.specs.Schema.{Schema}
 use Rattle.uu_core.specs.State.{State}
 use Rattle.uu_schema.specs.Faults.{IsFresh}
-use Rattle.uu_database.specs.Encoded.{HoldsState, Encodes}
-use Rattle.uu_database.specs.Calls.{CreatesTables}
-use Rattle.uu_database.specs.FoundTables.{HasNone}
+use Rattle.uu_database.specs.Encoded.{HoldsStateAs, Encodes, EncodesAs}
+use Rattle.uu_database.specs.Calls.{Becomes, CreatesTables, MigratesState}
+use Rattle.uu_database.specs.FoundTables.{HasNone, HasFirst}
 use Rattle.uu_taking.specs.Version.{IsLater}
-use Rattle.uu_database.specs.Adoption.{IsOfNone, IsInspected, IsSpared, UnlessStore, UnlessFailed, IsAsBefore, StopsAs}
+use Rattle.uu_database.specs.Adoption.{IsOfNone, IsInspected, IsRefused, IsSpared, LeavesNoMore, UnlessStore, UnlessFailed, IsAsBefore, StopsAs}
 use Rattle.uu_database.proofs.Resting.{moved}
-use Rattle.uu_database.proofs.Creating.{none_found, all_found}
+use Rattle.uu_database.proofs.Creating.{none_found, all_found, second_found}
+use Rattle.uu_database.proofs.Becoming.{unless_weaker}
 use Rattle.uu_database.proofs.Settling.{Settles, leaves}
-use Rattle.uu_database.proofs.Later.{not_later}
+use Rattle.uu_taking.proofs.Later.{not_later}
 
 -- nothing differs, so the connection is at rest and shows what it did
 rests_same : (a b d : db.State) → db.IsUnchanged b d → Rests b → b.now ≡ a.now → Rests d × (d.now ≡ a.now)
@@ -35,19 +41,19 @@ unless (Err Failed) P p = p
 unless (Err ForeignFault) P p = p
 unless (Err Newer) P p = p
 
-module _ (a b : db.State) where
-  -- ---- what is found
+-- ---- what is found
 
-  pub inspected_spool : (db.HasCleanDisk b → Stands site a.now → (s : State) × HoldsState a.now.trees s) → IsInspected a b (Ok tt)
+module _ (v : Version) (a b : db.State) where
+  pub inspected_spool : (db.HasCleanDisk b → Stands (site_of v) a.now → (s : State) × HoldsStateAs v a.now.trees s) → IsInspected v a b (Ok tt)
   inspected_spool finds = record { ok = finds; newer = λ clean stands is. absurd (cc); foreign = λ clean stands is. absurd (cc) }
 
-  pub inspected_foreign : (db.HasCleanDisk b → Stands site a.now → (IsLater a.now.trees → ⊥) × IsOfNone a.now.trees) → IsInspected a b (Err ForeignFault)
+  pub inspected_foreign : (db.HasCleanDisk b → Stands (site_of v) a.now → (IsLater a.now.trees → ⊥) × IsOfNone v a.now.trees) → IsInspected v a b (Err ForeignFault)
   inspected_foreign finds = record { ok = λ clean stands. tt; newer = λ clean stands is. absurd (cc); foreign = λ clean stands is. finds clean stands }
 
-  pub inspected_later : (db.HasCleanDisk b → Stands site a.now → IsLater a.now.trees) → IsInspected a b (Err Newer)
+  pub inspected_later : (db.HasCleanDisk b → Stands (site_of v) a.now → IsLater a.now.trees) → IsInspected v a b (Err Newer)
   inspected_later finds = record { ok = λ clean stands. tt; newer = λ clean stands is. finds clean stands; foreign = λ clean stands is. absurd (cc) }
 
-  pub inspected_err : (fault : StoreFault) → IsFresh fault → IsInspected a b (Err fault)
+  pub inspected_err : (fault : StoreFault) → IsFresh fault → IsInspected v a b (Err fault)
   inspected_err fault fresh = record {
     ok = λ clean stands. tt;
     newer = λ clean stands is. absurd (subst IsFresh (fault_is Newer is) fresh);
@@ -57,8 +63,9 @@ module _ (a b : db.State) where
       fault_is : (other : StoreFault) → ◌≡◌ {A = Result (Unit {0}) StoreFault} (Err fault) (Err other) → fault ≡ other
       fault_is other h = cc
 
-  -- ---- what is left
+-- ---- what is left
 
+module _ (a b : db.State) where
   pub spared_told : {T E : Type 0} (q : Result T E) (r : Result (Unit {0}) StoreFault) → IsOk q → Spares a b q → IsSpared a b r
   spared_told q r ok h = record {
     same = λ clean rests. unless r (Rests b × (b.now ≡ a.now)) (spared_same a b q ok h clean rests);
@@ -84,12 +91,19 @@ module _ (a b : db.State) where
       same Newer fresh memory clean rests = absurd fresh
 
 -- of a database without the spool's tables nothing is said
-pub inspected_never : (a b : db.State) (r : Result (Unit {0}) StoreFault) → (Stands site a.now → ⊥) → IsInspected a b r
-inspected_never a b r never = record {
+pub inspected_never : (v : Version) (a b : db.State) (r : Result (Unit {0}) StoreFault) → (Stands (site_of v) a.now → ⊥) → IsInspected v a b r
+inspected_never v a b r never = record {
   ok = λ clean stands. absurd (never stands);
   newer = λ clean stands. absurd (never stands);
   foreign = λ clean stands. absurd (never stands);
 }
+
+-- what is said of a database that stands so may be shown of one that does
+pub inspected_if : (v : Version) (a b : db.State) (r : Result (Unit {0}) StoreFault) → (Stands (site_of v) a.now → IsInspected v a b r) → IsInspected v a b r
+inspected_if v a b r h = record { ok = λ clean stands. (h stands).ok clean stands; newer = λ clean stands. (h stands).newer clean stands; foreign = λ clean stands. (h stands).foreign clean stands }
+
+pub becomes_if : (from to : Schema) (Step : Trees → Trees → Type 0) (a b : db.State) (r : Result (Unit {0}) StoreFault) → (Stands from a.now → Becomes from to Step a b r) → Becomes from to Step a b r
+becomes_if from to Step a b r h = record { ok = λ clean rests stands. (h stands).ok clean rests stands; memory = λ clean rests stands. (h stands).memory clean rests stands; stop = λ clean rests stands. (h stands).stop clean rests stands }
 
 -- nothing was asked
 pub spared_self : (a : db.State) (r : Result (Unit {0}) StoreFault) → IsSpared a a r
@@ -98,36 +112,56 @@ spared_self a r = record { same = λ clean rests. unless r (Rests a × (a.now �
 -- ---- taking a database
 
 module _ (a b : db.State) where
-  pub kept_as : (¬ HasNone a.now.schema → IsSpared a b (Ok tt)) → db.HasCleanDisk b → (s : State) → Rests a → Encodes a.now s → Rests b × Encodes b.now s
-  kept_as spared clean s rests enc = let it = (spared (all_found a.now enc.stands)).same clean rests in (it.0, moved s a.now b.now it.1 enc)
+  pub kept_as : (¬ HasNone a.now.schema → (HasFirst a.now.schema → IsRefused (Ok tt)) → IsSpared a b (Ok tt)) → MigratesState a b (Ok tt) → db.HasCleanDisk b → (v : Version) (s : State) → Rests a → EncodesAs v a.now s → Rests b × Encodes b.now s
+  kept_as spared migrates clean First s rests enc = let it = migrates.ok clean rests enc.stands in (it.0, record { stands = it.1; holds = it.2.again s enc.holds })
+  kept_as spared migrates clean Second s rests enc =
+      let it = (spared (all_found Second a.now enc.stands) (λ first. absurd (second_found a.now enc.stands first))).same clean rests in (it.0, moved s a.now b.now it.1 enc)
 
-  pub read_as : IsInspected a b (Ok tt) → db.HasCleanDisk b → Stands site a.now → (s : State) × Encodes a.now s
-  read_as inspected clean stands = let it = inspected.ok clean stands in (it.0, record { stands = stands; holds = it.1 })
+  pub read_as : (v : Version) → IsInspected v a b (Ok tt) → db.HasCleanDisk b → Stands (site_of v) a.now → (s : State) × EncodesAs v a.now s
+  read_as v inspected clean stands = let it = inspected.ok clean stands in (it.0, record { stands = stands; holds = it.1 })
 
-  pub taken_as : (fault : StoreFault) → IsInspected a b (Err fault) → db.HasCleanDisk b → (s : State) → Encodes a.now s → (fault ≢ ForeignFault) × (fault ≢ Newer)
-  taken_as fault inspected clean s enc =
-      (λ is. (inspected.foreign clean enc.stands (ap Err is)).1 s enc.holds, λ is. not_later a.now.trees s enc.holds (inspected.newer clean enc.stands (ap Err is)))
+  pub taken_as : (v : Version) (fault : StoreFault) → IsInspected v a b (Err fault) → db.HasCleanDisk b → (s : State) → EncodesAs v a.now s → (fault ≢ ForeignFault) × (fault ≢ Newer)
+  taken_as v fault inspected clean s enc =
+      (λ is. (inspected.foreign clean enc.stands (ap Err is)).1 s enc.holds, λ is. not_later v a.now.trees (tables_of s) enc.holds.tables (inspected.newer clean enc.stands (ap Err is)))
 
-  pub refused_as : (fault : StoreFault) → IsInspected a b (Err fault) → db.HasCleanDisk b → Stands site a.now → fault ≡ ForeignFault → (IsLater a.now.trees → ⊥) × ((s : State) → Encodes a.now s → ⊥)
-  refused_as fault inspected clean stands is = let it = inspected.foreign clean stands (ap Err is) in (it.0, λ s enc. it.1 s enc.holds)
+  pub refused_as : (v : Version) (fault : StoreFault) → IsInspected v a b (Err fault) → db.HasCleanDisk b → Stands (site_of v) a.now → fault ≡ ForeignFault → (IsLater a.now.trees → ⊥) × ((s : State) → EncodesAs v a.now s → ⊥)
+  refused_as v fault inspected clean stands is = let it = inspected.foreign clean stands (ap Err is) in (it.0, λ s enc. it.1 s enc.holds)
 
-  pub same_as : (fault : StoreFault) → (¬ HasNone a.now.schema → IsSpared a b (Err fault)) → CreatesTables a b (Err fault) → (HasNone a.now.schema → (fault ≢ ForeignFault) × (fault ≢ Newer)) → fault ≢ Failed → db.HasCleanDisk b → Rests a
-      → UnlessFailed fault (IsAsBefore a b)
-  same_as Memory spared creates welcome not_failed clean rests = record { some = λ some. (spared some).same clean rests; none = λ stands. creates.memory clean rests stands refl }
-  same_as (Store kind) spared creates welcome not_failed clean rests = tt
-  same_as Failed spared creates welcome not_failed clean rests = absurd (not_failed refl)
-  same_as ForeignFault spared creates welcome not_failed clean rests = record { some = λ some. (spared some).same clean rests; none = λ stands. absurd ((welcome (none_found a.now stands)).0 refl) }
-  same_as Newer spared creates welcome not_failed clean rests = record { some = λ some. (spared some).same clean rests; none = λ stands. absurd ((welcome (none_found a.now stands)).1 refl) }
-
-  pub stops_as : (r : Result (Unit {0}) StoreFault) → Settles a → db.HasCleanDisk b → Rests a → (¬ HasNone a.now.schema → IsSpared a b r) → CreatesTables a b r → StopsAs a b
-  stops_as r settles clean rests spared creates = record {
-    some = λ some trees may. settles trees rests.is_open ((spared some).stop clean trees may) ∙ sym (ap (λ (d : Database). d.trees) rests.settled);
-    state = λ s enc trees may. leaves s a settles rests enc trees ((spared (all_found a.now enc.stands)).stop clean trees may);
-    none = λ stands trees may. elim (creates.stop clean rests stands trees may) [
-      | inl was ↦ inl (settles trees rests.is_open was ∙ sym (ap (λ (d : Database). d.trees) rests.settled))
-      | inr made ↦ inr made
-    ];
+  pub same_as : (fault : StoreFault) → (¬ HasNone a.now.schema → (HasFirst a.now.schema → IsRefused (Err fault)) → IsSpared a b (Err fault)) → MigratesState a b (Err fault) → CreatesTables a b (Err fault) → (HasNone a.now.schema → (fault ≢ ForeignFault) × (fault ≢ Newer)) → fault ≢ Failed
+      → db.HasCleanDisk b → Rests a → UnlessFailed fault (IsAsBefore fault a b)
+  same_as Memory spared migrates creates welcome not_failed clean rests = record {
+    some = λ some more. (spared some (λ first. absurd (more first refl))).same clean rests;
+    first = λ stands. migrates.memory clean rests stands refl;
+    none = λ stands. creates.memory clean rests stands refl;
   }
+  same_as (Store kind) spared migrates creates welcome not_failed clean rests = tt
+  same_as Failed spared migrates creates welcome not_failed clean rests = absurd (not_failed refl)
+  same_as ForeignFault spared migrates creates welcome not_failed clean rests = record {
+    some = λ some more. (spared some (λ first. inl refl)).same clean rests;
+    first = λ stands. (spared (all_found First a.now stands) (λ first. inl refl)).same clean rests;
+    none = λ stands. absurd ((welcome (none_found a.now stands)).0 refl);
+  }
+  same_as Newer spared migrates creates welcome not_failed clean rests = record {
+    some = λ some more. (spared some (λ first. inr refl)).same clean rests;
+    first = λ stands. (spared (all_found First a.now stands) (λ first. inr refl)).same clean rests;
+    none = λ stands. absurd ((welcome (none_found a.now stands)).1 refl);
+  }
+
+  pub stops_as : (r : Result (Unit {0}) StoreFault) → Settles a → db.HasCleanDisk b → Rests a → (¬ HasNone a.now.schema → (HasFirst a.now.schema → IsRefused r) → IsSpared a b r) → MigratesState a b r → CreatesTables a b r → StopsAs a b
+  stops_as r settles clean rests spared migrates creates = record {
+    some = λ some other trees may. stays trees ((spared some (λ first. absurd (other first))).stop clean trees may);
+    state = λ s enc trees may. leaves s a settles rests enc trees ((spared (all_found Second a.now enc.stands) (λ first. absurd (second_found a.now enc.stands first))).stop clean trees may);
+    first = λ stands trees may. elim (migrates.stop clean rests stands trees may) [ inl was ↦ inl (stays trees was) | inr made ↦ inr made ];
+    none = λ stands trees may. elim (creates.stop clean rests stands trees may) [ inl was ↦ inl (stays trees was) | inr made ↦ inr made ];
+  }
+    where
+      stays : (trees : Trees) → a.may_leave trees → trees ≡ a.now.trees
+      stays trees was = settles trees rests.is_open was ∙ sym (ap (λ (d : Database). d.trees) rests.settled)
+
+  -- where nothing was made a stop leaves what was there
+  pub unmade_as : (fault : StoreFault) → Settles a → UnlessFailed fault (db.HasCleanDisk b → LeavesNoMore a b) → db.HasCleanDisk b → Rests a → UnlessFailed fault ((trees : Trees) → b.may_leave trees → trees ≡ a.now.trees)
+  unmade_as fault settles unmade clean rests =
+      unless_weaker fault (λ less trees may. settles trees rests.is_open (less clean trees may) ∙ sym (ap (λ (d : Database). d.trees) rests.settled)) unmade
 
 pub not_ok : {T : Type 0} (r : Result T StoreFault) (x : T) → r ≡ Err ForeignFault → r ≡ Ok x → ⊥
 not_ok r x refused is = cc

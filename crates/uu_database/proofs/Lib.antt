@@ -1,8 +1,8 @@
 pub mod Settling
 pub mod Resting
 pub mod Answering
-pub mod Later
 pub mod Inspecting
+pub mod Becoming
 pub mod Creating
 pub mod Stepping
 pub mod Composing

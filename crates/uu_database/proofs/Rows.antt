@@ -11,15 +11,16 @@ use Rattle.uu_tables.specs.declared.rows.SystemColumns.{SystemColumns}
 use Rattle.uu_tables.specs.declared.rows.LineColumns.{LineColumns}
 use Rattle.uu_tables.specs.declared.rows.RangeColumns.{RangeColumns}
 use Rattle.uu_tables.specs.declared.rows.EntryColumns.{EntryColumns}
+use Rattle.uu_tables.specs.declared.rows.WaitColumns.{WaitColumns}
 use Rattle.uu_tables.specs.Tables.{Piece, tables_of, size_of}
 use Rattle.uu_check.specs.Order.{AreInOrder as AreTablesInOrder}
-use Rattle.uu_check.specs.Readable.{AreReadable, IsSystemRow, IsLineRow, IsRangeRow, IsPieceRow, IsEntryRow}
+use Rattle.uu_check.specs.Readable.{AreReadable, IsSystemRow, IsLineRow, IsRangeRow, IsPieceRow, IsEntryRow, IsWaitRow}
 use Rattle.uu_check.proofs.Rising.{in_order}
 use Rattle.uu_check.proofs.Reading.{readable}
 use Rattle.uu_schema.specs.Keyed.{Keyed}
-use Rattle.uu_schema.specs.Held.{system_key, line_key, range_key, job_key, piece_key, entry_key}
-use Rattle.uu_rows.specs.Readable.{IsSmall, IsSystem, IsLine, IsRange, IsHead, IsSize, IsEntry}
-use Rattle.uu_rows.specs.Order.{system_cmp, line_cmp, range_cmp, head_cmp, piece_cmp, entry_cmp}
+use Rattle.uu_schema.specs.Held.{system_key, line_key, range_key, job_key, piece_key, entry_key, wait_key}
+use Rattle.uu_rows.specs.Readable.{IsSmall, IsSystem, IsLine, IsRange, IsHead, IsSize, IsEntry, IsWait}
+use Rattle.uu_rows.specs.Order.{system_cmp, line_cmp, range_cmp, head_cmp, piece_cmp, entry_cmp, wait_cmp}
 use Rattle.uu_taking.specs.Taking.{AreInOrder, AreRows}
 use Rattle.uu_questions.proofs.InOrder.{ascending_pairs}
 use Rattle.uu_questions.proofs.OfState.{heads_good}
@@ -54,6 +55,9 @@ size_read p h = record { job = (let k = h.job in omega (arith, k)); place = (let
 entry_read : (e : EntryColumns) → IsEntryRow e → IsEntry e
 entry_read e h = record { host = h.host }
 
+wait_read : (w : WaitColumns) → IsWaitRow w → IsWait w
+wait_read w h = record { system = h.system; wait = (let k = h.wait in omega (arith, k)) }
+
 -- ---- keys in strict order differ
 
 less_not_equal : (r : Ordering) → r ≡ Less → r ≡ Equal → ⊥
@@ -86,6 +90,9 @@ pieces_apart a b h e =
 
 pub entries_apart : (a b : EntryColumns) → entry_cmp a b ≡ Less → entry_key a ≡ entry_key b → ⊥
 entries_apart a b h e = less_not_equal _ h (rw e (same_name b.host))
+
+pub waits_apart : (a b : WaitColumns) → wait_cmp a b ≡ Less → wait_key a ≡ wait_key b → ⊥
+waits_apart a b h e = less_not_equal _ h (rw e (same_name b.system))
 
 -- rows of a list in strict order show it by its key
 pub keyed : {K X : Type 0} (key : X → K) (cells : X → Row) (places : List ℕ) (cmp : X → X → Ordering) (xs : List X) (rows : List Row) → ((a b : X) → cmp a b ≡ Less → key a ≡ key b → ⊥)
@@ -127,3 +134,6 @@ module _ (s : State) (good : IsWellFormed s) where
 
   pub entries_in_order : AreInOrder IsEntry entry_cmp (tables_of s).entries
   entries_in_order = record { readable = all_weaker _ _ entry_read _ fits.entries; rise = ascending_pairs _ _ order.entries }
+
+  pub waits_in_order : AreInOrder IsWait wait_cmp (tables_of s).success_waits
+  waits_in_order = record { readable = all_weaker _ _ wait_read _ fits.success_waits; rise = ascending_pairs _ _ order.success_waits }

@@ -11,8 +11,9 @@ use Rattle.uu_core.specs.State.{State, empty}
 use Rattle.uu_core.specs.After.{after}
 use Rattle.uu_schema.specs.declared.fault.StoreFault.{StoreFault}
 use Rattle.uu_schema.specs.declared.fault.StoreFault.TheVariants.{Memory}
-use Rattle.uu_schema.specs.Schema.{site, no_schema}
-use Rattle.uu_database.specs.Encoded.{Encodes, HoldsState}
+use Rattle.sqlite.specs.Schema.{Schema}
+use Rattle.uu_schema.specs.Schema.{site, first_site, no_schema}
+use Rattle.uu_database.specs.Encoded.{Encodes, HoldsState, Migrated}
 
 -- a store that was found unclean stays so
 abbrev pub StaysUnclean : db.State → db.State → Type 0
@@ -33,8 +34,16 @@ pub record IsAnswered {T : Type 0} (IsAnswer : State → T → Type 0) (old new 
   pub stop : db.HasCleanDisk new → (s : State) → Rests old → Encodes old.now s → (trees : Trees) → new.may_leave trees → old.may_leave trees
   pub clean : StaysUnclean old new
 
--- The tables are made, or nothing is: an empty spool is there, and a stop may leave that or what it could leave before.
-pub record CreatesTables (old new : db.State) (r : Result (Unit {0}) StoreFault) : Type 0 where
-  pub ok : db.HasCleanDisk new → Rests old → Stands no_schema old.now → OnOk r (Rests new × Encodes new.now empty)
-  pub memory : db.HasCleanDisk new → Rests old → Stands no_schema old.now → r ≡ Err Memory → Rests new × (new.now ≡ old.now)
-  pub stop : db.HasCleanDisk new → Rests old → Stands no_schema old.now → (trees : Trees) → new.may_leave trees → old.may_leave trees ⊎ (IsSound site trees × HoldsState trees empty)
+-- A database becomes one of another schema by a step of its trees, whole or not at all, and a stop may leave that or what it could leave before.
+pub record Becomes (from to : Schema) (Step : Trees → Trees → Type 0) (old new : db.State) (r : Result (Unit {0}) StoreFault) : Type 0 where
+  pub ok : db.HasCleanDisk new → Rests old → Stands from old.now → OnOk r (Rests new × Stands to new.now × Step old.now.trees new.now.trees)
+  pub memory : db.HasCleanDisk new → Rests old → Stands from old.now → r ≡ Err Memory → Rests new × (new.now ≡ old.now)
+  pub stop : db.HasCleanDisk new → Rests old → Stands from old.now → (trees : Trees) → new.may_leave trees → old.may_leave trees ⊎ (IsSound to trees × Step old.now.trees trees)
+
+-- the tables of an empty spool are made
+abbrev pub CreatesTables : db.State → db.State → Result (Unit {0}) StoreFault → Type 0
+CreatesTables = Becomes no_schema site (λ old new. HoldsState new empty)
+
+-- the tables of version 1 become those of version 2, where they held a state
+abbrev pub MigratesState : db.State → db.State → Result (Unit {0}) StoreFault → Type 0
+MigratesState = Becomes first_site site Migrated

@@ -7,18 +7,38 @@ use Rattle.sqlite_catalog.specs.Listing.{IsSound}
 use Rattle.uu_sql.specs.Steps.{Stands}
 use Rattle.uu_core.specs.State.{State, IsWellFormed}
 use Rattle.uu_tables.specs.Tables.{tables_of}
-use Rattle.uu_schema.specs.Schema.{site}
-use Rattle.uu_schema.specs.Held.{Holds}
+use Rattle.uu_schema.specs.declared.version.Version.{Version}
+use Rattle.uu_schema.specs.declared.version.Version.TheVariants.{First, Second}
+use Rattle.uu_schema.specs.Schema.{site, site_of}
+use Rattle.uu_schema.specs.Held.{HoldsAs}
 
--- the tables' rows are those of the state, in any order
-pub record HoldsState (trees : Trees) (s : State) : Type 0 where
-  pub tables : Holds trees (tables_of s)
+-- the rows of a version's tables are those of the state, in any order
+pub record HoldsStateAs (v : Version) (trees : Trees) (s : State) : Type 0 where
+  pub tables : HoldsAs v trees (tables_of s)
   pub good : IsWellFormed s
 
--- the database has the spool's tables, and their rows are those of the state
-pub record Encodes (database : Database) (s : State) : Type 0 where
-  pub stands : Stands site database
-  pub holds : HoldsState database.trees s
+-- the same of the version that is written
+abbrev pub HoldsState : Trees → State → Type 0
+HoldsState = HoldsStateAs Second
+
+-- the database has the tables of a version, and their rows are those of the state
+pub record EncodesAs (v : Version) (database : Database) (s : State) : Type 0 where
+  pub stands : Stands (site_of v) database
+  pub holds : HoldsStateAs v database.trees s
+
+-- the same of the version that is written
+abbrev pub Encodes : Database → State → Type 0
+Encodes = EncodesAs Second
+
+-- what version 1 held of a state, version 2 holds of it
+abbrev pub HoldsAgain : Trees → Trees → Type 0
+HoldsAgain old new = (s : State) → HoldsStateAs First old s → HoldsState new s
+
+-- version 1 held a state, and version 2 holds the same
+pub record Migrated (old new : Trees) : Type 0 where
+  pub state : State
+  pub held : HoldsStateAs First old state
+  pub again : HoldsAgain old new
 
 -- a stop may leave only what encodes the state
 abbrev pub Leaves : db.State → State → Type 0

@@ -1,10 +1,12 @@
 -- Which of the spool's tables a database has, by their names and those of their columns, compared without regard to ASCII case as SQLite does.
-use Rattle.std.specs.Prelude.{◌≡◌, ℕ, Bool, true, false, ◌&&◌, ◌||◌, if◌then◌else◌, List, [], ◌∷◌, codes, find, Option, Some, None, is_some}
+use Rattle.std.specs.Prelude.{◌≡◌, ◌⊎◌, ℕ, Bool, false, ◌&&◌, ◌||◌, if◌then◌else◌, List, [], ◌∷◌, codes, find, Option, Some, None, is_some}
 use Rattle.std.specs.List.{list_any, list_all}
 use Rattle.std.specs.Option.{option_map_or}
 use Rattle.sqlite.specs.Schema.{Schema}
 use Rattle.sqlite.specs.Table.{Table}
 use Rattle.sqlite_schema.specs.Names.{same_name}
+use Rattle.uu_schema.specs.declared.version.Version.{Version}
+use Rattle.uu_schema.specs.declared.version.Version.TheVariants.{First, Second}
 use Rattle.uu_database.specs.declared.tables.Found.{Found}
 use Rattle.uu_database.specs.declared.tables.Found.TheVariants.{Nothing, Spool, Other}
 
@@ -38,6 +40,9 @@ piece_columns = codes "job" ∷ codes "place" ∷ codes "bytes" ∷ []
 abbrev pub entry_columns : List (List ℕ)
 entry_columns = codes "host" ∷ codes "bytes" ∷ []
 
+abbrev pub wait_columns : List (List ℕ)
+wait_columns = codes "system" ∷ codes "wait" ∷ []
+
 -- ---- what is there
 
 -- the tables of the systems with all their columns
@@ -48,7 +53,11 @@ has_systems schema = has_table schema (codes "systems") system_columns && has_ta
 abbrev pub has_jobs : Schema → Bool
 has_jobs schema = has_table schema (codes "jobs") job_columns && has_table schema (codes "pieces") piece_columns && has_table schema (codes "entries") entry_columns
 
--- the rest of the columns and tables is there
+-- that of the success waits
+abbrev pub has_waits : Schema → Bool
+has_waits schema = has_table schema (codes "success_waits") wait_columns
+
+-- the rest of the columns and tables of version 1 is there
 abbrev pub is_whole : Schema → Table → Bool
 is_whole schema spool = has_column spool (codes "next") && has_systems schema && has_jobs schema
 
@@ -58,14 +67,21 @@ is_taken schema name = is_some (table_of schema name)
 
 -- a table under one of the names but `spool`
 abbrev pub is_any_taken : Schema → Bool
-is_any_taken schema = is_taken schema (codes "systems") || is_taken schema (codes "lines") || is_taken schema (codes "ranges") || is_taken schema (codes "jobs") || is_taken schema (codes "pieces") || is_taken schema (codes "entries")
+is_any_taken schema = is_taken schema (codes "systems") || is_taken schema (codes "lines") || is_taken schema (codes "ranges") || is_taken schema (codes "jobs") || is_taken schema (codes "pieces") || is_taken schema (codes "entries") || is_taken schema (codes "success_waits")
+
+-- the version whose tables are there with all their columns: version 1 has no table of the success waits
+abbrev pub tables_with : Schema → Table → Option Version
+tables_with schema spool =
+    if is_whole schema spool
+    then (if has_waits schema then Some Second else (if is_taken schema (codes "success_waits") then None else Some First))
+    else None
 
 -- what is found of a table `spool`, and beside it
 abbrev pub found_beside : Schema → Option Table → Found
 found_beside schema None = if is_any_taken schema then Other else Nothing
 found_beside schema (Some spool) =
     if has_column spool (codes "id") && has_column spool (codes "version")
-    then Spool (is_whole schema spool)
+    then Spool (tables_with schema spool)
     else Other
 
 abbrev pub found_of : Schema → Found
@@ -77,9 +93,17 @@ found_of schema = found_beside schema (table_of schema (codes "spool"))
 abbrev pub HasNone : Schema → Type 0
 HasNone schema = found_of schema ≡ Nothing
 
--- all of them are, with all their columns
-abbrev pub HasAll : Schema → Type 0
-HasAll schema = found_of schema ≡ Spool true
+-- all of a version are, with all their columns
+abbrev pub HasAllOf : Version → Schema → Type 0
+HasAllOf v schema = found_of schema ≡ Spool (Some v)
+
+-- those of version 1, so that the rest is to be made
+abbrev pub HasFirst : Schema → Type 0
+HasFirst = HasAllOf First
+
+-- none is, or all of a version
+abbrev pub HasNoneOrAll : Schema → Type 0
+HasNoneOrAll schema = HasNone schema ⊎ ((v : Version) × HasAllOf v schema)
 
 -- one of their names is taken, and no table `spool` has the columns that tell a version
 abbrev pub HasOther : Schema → Type 0

@@ -1,4 +1,4 @@
--- What is read of a database's seven tables, when it is looked at as a spool.
+-- What is read of a database's tables, when it is looked at as a spool.
 use Rattle.std.specs.Prelude.{◌≡◌, ◌≢◌, ℕ, [], ◌∷◌, Vec, Option, Some, MatchOption}
 use Rattle.std.specs.declared.alloc.Global.{Global}
 use Rattle.sqlite.specs.Tree.{Trees}
@@ -8,13 +8,14 @@ use Rattle.uu_tables.specs.declared.rows.LineColumns.{LineColumns}
 use Rattle.uu_tables.specs.declared.rows.RangeColumns.{RangeColumns}
 use Rattle.uu_tables.specs.declared.rows.PieceSize.{PieceSize}
 use Rattle.uu_tables.specs.declared.rows.EntryColumns.{EntryColumns}
+use Rattle.uu_schema.specs.declared.version.Version.{Version}
 use Rattle.uu_schema.specs.Schema.{spool, systems, lines, ranges, jobs, pieces, entries}
-use Rattle.uu_schema.specs.Made.{spool_row}
+use Rattle.uu_schema.specs.Made.{spool_row_of}
 use Rattle.uu_schema.specs.Held.{system_key, line_key, range_key, job_key, entry_key, system_places, line_places, range_places, job_places, entry_places}
 use Rattle.uu_schema.specs.Cells.{system_cells, line_cells, range_cells, job_cells, entry_cells}
 use Rattle.uu_rows.specs.Readable.{IsSmall, IsSystem, IsLine, IsRange, IsHead, IsEntry}
 use Rattle.uu_rows.specs.Order.{system_cmp, line_cmp, range_cmp, head_cmp, entry_cmp}
-use Rattle.uu_taking.specs.Taking.{Finds, FindsSizes}
+use Rattle.uu_taking.specs.Taking.{Finds, FindsSizes, FindsWaits}
 use Rattle.uu_database.specs.Adoption.{IsOfNone}
 use Rattle.uu_database.specs.declared.reading.Callers.{Callers}
 use Rattle.uu_database.specs.declared.reading.Waiting.{Waiting}
@@ -41,9 +42,9 @@ FindsPieces trees found = FindsSizes (trees pieces.tree) found
 abbrev pub FindsEntries : Trees → Option (Vec EntryColumns Global) → Type 0
 FindsEntries trees found = Finds entry_key entry_cells entry_places IsEntry entry_cmp (trees entries.tree) found
 
--- the table `spool` has its one row, and this next number, or none of 32 bits
-abbrev pub FindsNext : Trees → Option ℕ → Type 0
-FindsNext trees found = MatchOption found ((next : ℕ) → IsSmall next → trees spool.tree ≢ spool_row next ∷ []) (λ next. trees spool.tree ≡ spool_row next ∷ [])
+-- the table `spool` has its one row, of this version, and this next number, or none of 32 bits
+abbrev pub FindsNext : Version → Trees → Option ℕ → Type 0
+FindsNext v trees found = MatchOption found ((next : ℕ) → IsSmall next → trees spool.tree ≢ spool_row_of v next ∷ []) (λ next. trees spool.tree ≡ spool_row_of v next ∷ [])
 
 -- ---- several tables
 
@@ -56,15 +57,17 @@ pub record AreWaiting (trees : Trees) (all : Waiting) : Type 0 where
   pub jobs : FindsJobs trees (Some all.jobs)
   pub pieces : FindsPieces trees (Some all.pieces)
 
-pub record AreTheRest (trees : Trees) (all : Rest) : Type 0 where
-  pub next : FindsNext trees (Some all.next)
+-- those that a version tells by
+pub record AreTheRest (v : Version) (trees : Trees) (all : Rest) : Type 0 where
+  pub next : FindsNext v trees (Some all.next)
   pub entries : FindsEntries trees (Some all.entries)
+  pub success_waits : FindsWaits v trees (Some all.success_waits)
 
-pub record AreAllRows (trees : Trees) (all : AllRows) : Type 0 where
+pub record AreAllRows (v : Version) (trees : Trees) (all : AllRows) : Type 0 where
   pub callers : AreCallers trees all.callers
   pub waiting : AreWaiting trees all.waiting
-  pub rest : AreTheRest trees all.rest
+  pub rest : AreTheRest v trees all.rest
 
--- the rows, or that no state has those of the database
-abbrev pub OrNone : {X : Type 0} → (Trees → X → Type 0) → Trees → Option X → Type 0
-OrNone AreRows trees found = MatchOption found (IsOfNone trees) (AreRows trees)
+-- the rows, or that no state has those of the database in the tables of this version
+abbrev pub OrNone : {X : Type 0} → Version → (Trees → X → Type 0) → Trees → Option X → Type 0
+OrNone v AreRows trees found = MatchOption found (IsOfNone v trees) (AreRows trees)

@@ -6,7 +6,9 @@ ghost use Rattle.sqlite.specs.Tree.{Trees};
 ghost use Rattle.sqlite.specs.Held.{state};
 ghost use Rattle.uu_core.specs.State.{State};
 ghost use Rattle.uu_taking.specs.Taking.{Takes, Tells};
-ghost use Rattle.uu_database.specs.Encoded.{HoldsState};
+ghost use Rattle.uu_schema.specs.declared.version.Version.{Version};
+ghost use Rattle.uu_taking.specs.Taking.{FindsWaits};
+ghost use Rattle.uu_database.specs.Encoded.{HoldsStateAs};
 ghost use Rattle.uu_database.specs.Adoption.{IsOfNone};
 ghost use Rattle.uu_database.specs.Reading.{FindsSystems, FindsLines, FindsRanges, FindsJobs, FindsPieces, FindsEntries, FindsNext, AreCallers, AreWaiting, AreTheRest, AreAllRows, OrNone};
 
@@ -14,9 +16,11 @@ use sqlite::{Alter, Connection, Error, ErrorCode};
 use std::alloc::{AllocError, Global};
 use uu_check::{Rows, are_tables};
 use uu_core::JobHead;
-use uu_tables::{EntryColumns, LineColumns, PieceSize, RangeColumns, SystemColumns};
+use uu_schema::Version;
+use uu_tables::{EntryColumns, LineColumns, PieceSize, RangeColumns, SystemColumns, WaitColumns};
 use uu_taking::{
     take_entries, take_heads, take_lines, take_next, take_ranges, take_sizes, take_systems,
+    take_waits,
 };
 
 /// The rows that say who is called, and when.
@@ -34,11 +38,12 @@ struct Waiting {
     pieces: Vec<PieceSize>,
 }
 
-/// The next number, and the map entries.
+/// The next number, the map entries, and the success waits.
 #[derive(Drop)]
 struct Rest {
     next: u32,
     entries: Vec<EntryColumns>,
+    success_waits: Vec<WaitColumns>,
 }
 
 /// The rows of all tables, each table in the order of its key.
@@ -54,7 +59,7 @@ fn callers_of(
     lines: Option<Vec<LineColumns>>,
     ranges: Option<Vec<RangeColumns>>,
 ) -> Option<Callers>
-    ensures { (trees : Trees) → FindsSystems trees systems → FindsLines trees lines → FindsRanges trees ranges → OrNone AreCallers trees result }
+    ensures { (v : Version) (trees : Trees) → FindsSystems trees systems → FindsLines trees lines → FindsRanges trees ranges → OrNone v AreCallers trees result }
 {
     let systems = systems?;
     let lines = lines?;
@@ -68,7 +73,7 @@ fn callers_of(
 
 fn take_callers<S: Alter>(alloc: Global, conn: &mut Connection<S>) -> Result<Option<Callers>, Error>
     ensures idle { conn.old.in_transaction ≡ false → conn.new.in_transaction ≡ false }
-    ensures takes { Takes (OrNone AreCallers) (state S.Store conn.old) (state S.Store conn.new) result }
+    ensures takes { (v : Version) → Takes v (OrNone v AreCallers) (state S.Store conn.old) (state S.Store conn.new) result }
 {
     let systems = take_systems(alloc, conn)?;
     let lines = take_lines(alloc, conn)?;
@@ -77,7 +82,7 @@ fn take_callers<S: Alter>(alloc: Global, conn: &mut Connection<S>) -> Result<Opt
 }
 
 fn waiting_of(jobs: Option<Vec<JobHead>>, pieces: Option<Vec<PieceSize>>) -> Option<Waiting>
-    ensures { (trees : Trees) → FindsJobs trees jobs → FindsPieces trees pieces → OrNone AreWaiting trees result }
+    ensures { (v : Version) (trees : Trees) → FindsJobs trees jobs → FindsPieces trees pieces → OrNone v AreWaiting trees result }
 {
     let jobs = jobs?;
     let pieces = pieces?;
@@ -86,32 +91,46 @@ fn waiting_of(jobs: Option<Vec<JobHead>>, pieces: Option<Vec<PieceSize>>) -> Opt
 
 fn take_waiting<S: Alter>(alloc: Global, conn: &mut Connection<S>) -> Result<Option<Waiting>, Error>
     ensures idle { conn.old.in_transaction ≡ false → conn.new.in_transaction ≡ false }
-    ensures takes { Takes (OrNone AreWaiting) (state S.Store conn.old) (state S.Store conn.new) result }
+    ensures takes { (v : Version) → Takes v (OrNone v AreWaiting) (state S.Store conn.old) (state S.Store conn.new) result }
 {
     let jobs = take_heads(alloc, conn)?;
     let pieces = take_sizes(alloc, conn)?;
     Ok(waiting_of(jobs, pieces))
 }
 
-fn rest_of(next: Option<u32>, entries: Option<Vec<EntryColumns>>) -> Option<Rest>
-    ensures { (trees : Trees) → FindsNext trees next → FindsEntries trees entries → OrNone AreTheRest trees result }
+fn rest_of(
+    next: Option<u32>,
+    entries: Option<Vec<EntryColumns>>,
+    success_waits: Option<Vec<WaitColumns>>,
+) -> Option<Rest>
+    ensures { (v : Version) (trees : Trees) → FindsNext v trees next → FindsEntries trees entries → FindsWaits v trees success_waits → OrNone v (AreTheRest v) trees result }
 {
     let next = next?;
     let entries = entries?;
-    Some(Rest { next, entries })
+    let success_waits = success_waits?;
+    Some(Rest {
+        next,
+        entries,
+        success_waits,
+    })
 }
 
-fn take_rest<S: Alter>(alloc: Global, conn: &mut Connection<S>) -> Result<Option<Rest>, Error>
+fn take_rest<S: Alter>(
+    alloc: Global,
+    conn: &mut Connection<S>,
+    version: Version,
+) -> Result<Option<Rest>, Error>
     ensures idle { conn.old.in_transaction ≡ false → conn.new.in_transaction ≡ false }
-    ensures takes { Takes (OrNone AreTheRest) (state S.Store conn.old) (state S.Store conn.new) result }
+    ensures takes { Takes version (OrNone version (AreTheRest version)) (state S.Store conn.old) (state S.Store conn.new) result }
 {
-    let next = take_next(conn)?;
+    let next = take_next(conn, version)?;
     let entries = take_entries(alloc, conn)?;
-    Ok(rest_of(next, entries))
+    let success_waits = take_waits(alloc, conn, version)?;
+    Ok(rest_of(next, entries, success_waits))
 }
 
 fn all_of(callers: Option<Callers>, waiting: Option<Waiting>, rest: Option<Rest>) -> Option<AllRows>
-    ensures { (trees : Trees) → OrNone AreCallers trees callers → OrNone AreWaiting trees waiting → OrNone AreTheRest trees rest → OrNone AreAllRows trees result }
+    ensures { (v : Version) (trees : Trees) → OrNone v AreCallers trees callers → OrNone v AreWaiting trees waiting → OrNone v (AreTheRest v) trees rest → OrNone v (AreAllRows v) trees result }
 {
     let callers = callers?;
     let waiting = waiting?;
@@ -123,19 +142,23 @@ fn all_of(callers: Option<Callers>, waiting: Option<Waiting>, rest: Option<Rest>
     })
 }
 
-fn take_all<S: Alter>(alloc: Global, conn: &mut Connection<S>) -> Result<Option<AllRows>, Error>
+fn take_all<S: Alter>(
+    alloc: Global,
+    conn: &mut Connection<S>,
+    version: Version,
+) -> Result<Option<AllRows>, Error>
     ensures idle { conn.old.in_transaction ≡ false → conn.new.in_transaction ≡ false }
-    ensures takes { Takes (OrNone AreAllRows) (state S.Store conn.old) (state S.Store conn.new) result }
+    ensures takes { Takes version (OrNone version (AreAllRows version)) (state S.Store conn.old) (state S.Store conn.new) result }
 {
     let callers = take_callers(alloc, conn)?;
     let waiting = take_waiting(alloc, conn)?;
-    let rest = take_rest(alloc, conn)?;
+    let rest = take_rest(alloc, conn, version)?;
     Ok(all_of(callers, waiting, rest))
 }
 
 // Whether the rows are those of a state.
 fn make_a_state(alloc: Global, all: &AllRows) -> Result<bool, AllocError>
-    ensures { (trees : Trees) → AreAllRows trees all.now → IfOk result (λ good. Tells good ((s : State) × HoldsState trees s) (IsOfNone trees)) }
+    ensures { (v : Version) (trees : Trees) → AreAllRows v trees all.now → IfOk result (λ good. Tells good ((s : State) × HoldsStateAs v trees s) (IsOfNone v trees)) }
 {
     are_tables(
         alloc,
@@ -147,13 +170,14 @@ fn make_a_state(alloc: Global, all: &AllRows) -> Result<bool, AllocError>
             jobs: &all.waiting.jobs,
             pieces: &all.waiting.pieces,
             entries: &all.rest.entries,
+            success_waits: &all.rest.success_waits,
         },
     )
 }
 
 // The same of rows that were read, or are none of a state's; want of memory is an error.
 fn verdict_on(alloc: Global, all: Option<AllRows>) -> Result<bool, Error>
-    ensures verdict { (trees : Trees) → OrNone AreAllRows trees all → IfOk result (λ good. Tells good ((s : State) × HoldsState trees s) (IsOfNone trees)) }
+    ensures verdict { (v : Version) (trees : Trees) → OrNone v (AreAllRows v) trees all → IfOk result (λ good. Tells good ((s : State) × HoldsStateAs v trees s) (IsOfNone v trees)) }
     ensures memory { IfErr result (λ error. error ≡ SqliteFailure OutOfMemory) }
 {
     let Some(all) = all else {
@@ -165,14 +189,15 @@ fn verdict_on(alloc: Global, all: Option<AllRows>) -> Result<bool, Error>
     }
 }
 
-/// Whether the rows of all tables are those of a state.
+/// Whether the rows of all tables of a version are those of a state.
 pub(crate) fn are_of_a_state<S: Alter>(
     alloc: Global,
     conn: &mut Connection<S>,
+    version: Version,
 ) -> Result<bool, Error>
     ensures idle { conn.old.in_transaction ≡ false → conn.new.in_transaction ≡ false }
-    ensures takes { Takes (λ trees good. Tells good ((s : State) × HoldsState trees s) (IsOfNone trees)) (state S.Store conn.old) (state S.Store conn.new) result }
+    ensures takes { Takes version (λ trees good. Tells good ((s : State) × HoldsStateAs version trees s) (IsOfNone version trees)) (state S.Store conn.old) (state S.Store conn.new) result }
 {
-    let all = take_all(alloc, conn)?;
+    let all = take_all(alloc, conn, version)?;
     verdict_on(alloc, all)
 }

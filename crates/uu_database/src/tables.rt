@@ -2,18 +2,19 @@
 ghost use Rattle.std.specs.Prelude.{◌≡◌, map};
 ghost use Rattle.std.specs.Option.{option_copied};
 ghost use Rattle.std.specs.List.{list_all};
-ghost use Rattle.uu_database.specs.FoundTables.{table_of, has_column, has_table, has_systems, has_jobs, is_whole, is_taken, is_any_taken, found_of};
+ghost use Rattle.uu_database.specs.FoundTables.{table_of, has_column, has_table, has_systems, has_jobs, has_waits, is_whole, is_taken, is_any_taken, tables_with, found_of};
 
 use sqlite_schema::names::same_name;
 use sqlite_schema::schema::{Schema, Table};
+use uu_schema::Version;
 
 /// Which tables a database has.
 #[derive(Clone, Copy)]
 pub(crate) enum Found {
     /// None of the spool's tables.
     Nothing,
-    /// The table `spool` with the columns that tell its version, and whether the rest is there too.
-    Spool { whole: bool },
+    /// The table `spool` with the columns that tell its version, and the version whose tables are all there.
+    Spool { tables: Option<Version> },
     /// One of the names is taken, and there is no table `spool` with the columns that tell its version.
     Other,
 }
@@ -47,6 +48,8 @@ const JOBS: [&str; 9] = [
 const PIECES: [&str; 3] = ["job", "place", "bytes"];
 
 const ENTRIES: [&str; 2] = ["host", "bytes"];
+
+const SUCCESS_WAITS: [&str; 2] = ["system", "wait"];
 
 fn table_of<'a>(schema: &'a Schema, name: &str) -> Option<&'a Table>
     ensures { option_copied result ≡ table_of schema.now name.now }
@@ -95,7 +98,13 @@ fn has_jobs(schema: &Schema) -> bool
         && has_table(schema, "entries", &ENTRIES)
 }
 
-// Whether the rest of the columns and tables is there.
+fn has_waits(schema: &Schema) -> bool
+    ensures { result ≡ has_waits schema.now }
+{
+    has_table(schema, "success_waits", &SUCCESS_WAITS)
+}
+
+// Whether the rest of the columns and tables of version 1 is there.
 fn is_whole(schema: &Schema, spool: &Table) -> bool
     ensures { result ≡ is_whole schema.now spool.now }
 {
@@ -118,6 +127,24 @@ fn is_any_taken(schema: &Schema) -> bool
         || is_taken(schema, "jobs")
         || is_taken(schema, "pieces")
         || is_taken(schema, "entries")
+        || is_taken(schema, "success_waits")
+}
+
+// The version whose tables are there with all their columns. Version 1 has no table of the success waits.
+fn tables_with(schema: &Schema, spool: &Table) -> Option<Version>
+    ensures { result ≡ tables_with schema.now spool.now }
+{
+    if !is_whole(schema, spool) {
+        return None;
+    }
+    if has_waits(schema) {
+        return Some(Version::Second);
+    }
+    if is_taken(schema, "success_waits") {
+        None
+    } else {
+        Some(Version::First)
+    }
 }
 
 /// Which of the spool's tables there are, by their names and those of their columns.
@@ -135,6 +162,6 @@ pub(crate) fn found_in(schema: &Schema) -> Found
         return Found::Other;
     }
     Found::Spool {
-        whole: is_whole(schema, spool),
+        tables: tables_with(schema, spool),
     }
 }

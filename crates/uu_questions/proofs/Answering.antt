@@ -11,6 +11,8 @@ use Rattle.uu_core.specs.State.{State, IsWellFormed}
 use Rattle.uu_schema.specs.Schema.{site}
 use Rattle.uu_questions.specs.Answers.{IsAt, IsOf, Answers}
 use Rattle.uu_rows.specs.Shows.{Shows}
+use Rattle.uu_rows.proofs.Showing.{answered}
+use Rattle.std.proofs.lemmas.Result.{IfOk-weaker}
 
 pub from_ok : {T E P : Type 0} (r : Result T E) → IsOk r → OnOk r P → P
 from_ok (Ok x) ok p = p
@@ -35,7 +37,7 @@ module _ {T : Type 0} (IsAnswer : State → T → Type 0) (text : List ℕ) (par
 
   -- it was answered, and its rows are read
   pub then_read : IsOk r → (HasCleanDisk b → (s : State) → IsOf s a → IfOk q (IsAnswer s)) → Answers IsAnswer a b q
-  then_read ok exact = record { told = told_also site a b r q ok h.told; same = λ clean stands. to_any q (from_ok r ok (h.same clean stands)); exact = exact }
+  then_read ok exact = record { told = told_also site a b r q ok h.told; same = λ clean stands. to_any q (from_ok r ok (h.same clean)); exact = exact }
 
 -- ---- what answered, and what did not
 
@@ -76,6 +78,14 @@ module _ {T : Type 0} (P : State → T → Type 0) (a b : DbState) (p : Result T
         go (Ok x) ok clean stands = let early = before c q second.told clean in from_ok q (ok refl) (second.same clean (subst (Stands site) (sym (stays early stands)) stands)) ∙ stays early stands
         go (Err e) ok clean stands = tt
 
+pub answer_in : {T E : Type 0} (P : T → Type 0) (r : Result T E) (x : T) → r ≡ Ok x → IfOk r P → P x
+answer_in P r x is h = subst (λ q. IfOk q P) is h
+
+-- the answer of the second question, beside what the first answered
+pub beside_first : {T V : Type 0} (P : State → T → Type 0) (a b : DbState) (p : Result T Error) → Answers P a b p → (x : T) → p ≡ Ok x → (Q : State → V → Type 0) (c : DbState) (q : Result V Error) → Answers Q b c q → Answers (λ s v. P s x × Q s v) a c q
+beside_first P a b p first x is Q c q second =
+    then_answers P a b p first (answered p x is) Q c q second (λ s v. P s x × Q s v) q (λ ok. ok) (λ s good h k. IfOk-weaker q (Q s) (λ v. P s x × Q s v) (λ v it. (answer_in (P s) p x is h, it)) k)
+
 -- the same question, answered otherwise
 pub answers_as : {T U : Type 0} (P : State → T → Type 0) (R : State → U → Type 0) (a b : DbState) (p : Result T Error) (r : Result U Error) → Answers P a b p → (IsOk r → IsOk p)
     → ((s : State) → IsWellFormed s → IfOk p (P s) → IfOk r (R s)) → Answers R a b r
@@ -92,9 +102,6 @@ answers_as {T} {U} P R a b p r h ok step = record {
 pub none_ok : {T U : Type 0} (r : Result T Error) (q : Result U Error) → IsErr r → IsOk r → IsOk q
 none_ok (Ok x) q fails ok = absurd (cc)
 none_ok (Err e) q fails ok = absurd (cc)
-
-pub answer_in : {T E : Type 0} (P : T → Type 0) (r : Result T E) (x : T) → r ≡ Ok x → IfOk r P → P x
-answer_in P r x is h = subst (λ q. IfOk q P) is h
 
 pub none_known : {T E : Type 0} (P : T → Type 0) (r : Result T E) → IsErr r → IfOk r P
 none_known P r fails = none_answered P r fails

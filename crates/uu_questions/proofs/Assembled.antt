@@ -21,8 +21,9 @@ use Rattle.uu_core.specs.State.{ComesBefore, IsLine, IsDefinition, same_text, is
 use Rattle.uu_tables.specs.declared.rows.SystemColumns.{SystemColumns}
 use Rattle.uu_tables.specs.declared.rows.LineColumns.{LineColumns}
 use Rattle.uu_tables.specs.declared.rows.RangeColumns.{RangeColumns}
-use Rattle.uu_tables.specs.Tables.{PlacedLine, system_columns, call_columns, placed, placed_from, line_columns, range_columns, ranges_of, outcome_number, reason_of}
-use Rattle.uu_questions.specs.Assembly.{is_line_of, is_range_of, is_range_of_line, own, others, range_of, lines_from, lines_in, lines_of_each, HaveWindows, MakeSystems}
+use Rattle.uu_tables.specs.declared.rows.WaitColumns.{WaitColumns}
+use Rattle.uu_tables.specs.Tables.{PlacedLine, system_columns, call_columns, placed, placed_from, line_columns, range_columns, ranges_of, waits_from, waits_of, outcome_number, reason_of}
+use Rattle.uu_questions.specs.Assembly.{is_line_of, is_range_of, is_wait_of, is_range_of_line, own, others, range_of, lines_from, wait_from, lines_and_wait, lines_and_wait_of_each, HaveWindows, MakeSystems}
 use Rattle.uu_questions.proofs.InOrder.{by_recursion}
 
 -- ---- texts
@@ -119,6 +120,17 @@ lines_back name place (line ∷ lines) =
     ap (lines_from (map line_columns (placed_from name (place + 1) lines))) (others_are is_range_of_line l (ranges_of p) rest mine none) ∙ lines_back name (place + 1) lines in
     λ i. record line { windows = windows i } ∷ more i
 
+-- ---- the success wait of a system
+
+wait_back : (name : List ℕ) (seconds : ℕ) → wait_from (waits_from name seconds) ≡ seconds
+wait_back name zero = refl
+wait_back name (suc n) = refl
+
+-- the row of a system's wait, if there is one, passes a test that its name does
+wait_passes : (p : WaitColumns → Bool) (t : Bool) (name : List ℕ) (seconds : ℕ) → ((w : WaitColumns) → w.system ≡ name → p w ≡ t) → AllByRecursion (λ w. p w ≡ t) (waits_from name seconds)
+wait_passes p t name zero h = tt
+wait_passes p t name (suc n) h = (h _ refl, tt)
+
 -- ---- systems
 
 abbrev outcome_from : ℕ → Option (List ℕ) → Outcome
@@ -140,17 +152,17 @@ abbrev first_or : {X : Type 0} → X → List X → X
 first_or d [] = d
 first_or d (x ∷ xs) = x
 
--- systems with the same columns and the same lines are the same
-pub same_rows : (xs ys : List SystemRow) → map system_columns xs ≡ map system_columns ys → map lines_in xs ≡ map lines_in ys → xs ≡ ys
+-- systems with the same columns, the same lines and the same success waits are the same
+pub same_rows : (xs ys : List SystemRow) → map system_columns xs ≡ map system_columns ys → map lines_and_wait xs ≡ map lines_and_wait ys → xs ≡ ys
 same_rows [] [] columns lines = refl
 same_rows [] (y ∷ ys) columns lines = absurd (let long = ap length columns in omega (arith, long))
 same_rows (x ∷ xs) [] columns lines = absurd (let long = ap length columns in omega (arith, long))
 same_rows (x ∷ xs) (y ∷ ys) columns lines =
     let row : system_columns x ≡ system_columns y = ap (first_or (system_columns x)) columns in
-    let own : x.def.lines ≡ y.def.lines = ap (first_or x.def.lines) lines in
+    let own : lines_and_wait x ≡ lines_and_wait y = ap (first_or (lines_and_wait x)) lines in
     let call : x.call ≡ y.call = same_call x.call y.call (ap (λ (s : SystemColumns). s.call) row) in
     let rest : xs ≡ ys = same_rows xs ys (ap (drop 1) columns) (ap (drop 1) lines) in
-    λ i. record { def = record { name = (row i).name; lines = own i; max_retries = (row i).max_retries }; call = call i } ∷ rest i
+    λ i. record { def = record { name = (row i).name; lines = (own i).0; max_retries = (row i).max_retries; success_wait = (own i).1 }; call = call i } ∷ rest i
 
 -- each line, and each of its ranges, is of the system whose it is
 lines_pass : (p : LineColumns → Bool) (t : Bool) (name : List ℕ) (place : ℕ) (lines : List Line) → ((l : LineColumns) → l.system ≡ name → p l ≡ t) → AllByRecursion (λ l. p l ≡ t) (map line_columns (placed_from name place lines))
@@ -167,6 +179,9 @@ lines_table rows = map line_columns (flat_map placed rows)
 
 abbrev ranges_table : List SystemRow → List RangeColumns
 ranges_table rows = flat_map ranges_of (flat_map placed rows)
+
+abbrev waits_table : List SystemRow → List WaitColumns
+waits_table rows = flat_map waits_of rows
 
 lines_split : (row : SystemRow) (rows : List SystemRow) → lines_table (row ∷ rows) ≡ map line_columns (placed row) ++ lines_table rows
 lines_split row rows = map-append line_columns (placed row) (flat_map placed rows)
@@ -186,6 +201,11 @@ other_ranges row (r ∷ rows) h =
     subst (AllByRecursion (λ l. is_range_of (system_columns row) l ≡ false)) (sym (ranges_split r rows))
     (all_append _ (flat_map ranges_of (placed r)) (ranges_table rows) (all_ranges_pass (is_range_of (system_columns row)) false r.def.name 0 r.def.lines (λ l e. ap (λ n. same_text n row.def.name) e ∙ later_other row.def.name r.def.name h.0)) (other_ranges row rows h.1))
 
+other_waits : (row : SystemRow) (rows : List SystemRow) → AllByRecursion (λ (r : SystemRow). ComesBefore row.def.name r.def.name) rows → AllByRecursion (λ w. is_wait_of (system_columns row) w ≡ false) (waits_table rows)
+other_waits row [] h = tt
+other_waits row (r ∷ rows) h =
+    all_append _ (waits_of r) (waits_table rows) (wait_passes (is_wait_of (system_columns row)) false r.def.name r.def.success_wait (λ w e. ap (λ n. same_text n row.def.name) e ∙ later_other row.def.name r.def.name h.0)) (other_waits row rows h.1)
+
 abbrev Rises : List SystemRow → Type 0
 Rises rows = IsAscending (λ (a b : SystemRow). ComesBefore a.def.name b.def.name) rows
 
@@ -204,6 +224,15 @@ module _ (row : SystemRow) (rows : List SystemRow) (up : AllByRecursion (λ (r :
   first_lines : lines_from (own is_line_of (system_columns row) (lines_table (row ∷ rows))) (own is_range_of (system_columns row) (ranges_table (row ∷ rows))) ≡ row.def.lines
   first_lines = (λ i. lines_from (own_lines i) (own_ranges i)) ∙ lines_back row.def.name 0 row.def.lines
 
+  own_wait : AllByRecursion (λ w. is_wait_of (system_columns row) w ≡ true) (waits_of row)
+  own_wait = wait_passes (is_wait_of (system_columns row)) true row.def.name row.def.success_wait (λ w e. ap (λ n. same_text n row.def.name) e ∙ text_to row.def.name)
+
+  first_wait : wait_from (own is_wait_of (system_columns row) (waits_table (row ∷ rows))) ≡ row.def.success_wait
+  first_wait = ap wait_from (own_is is_wait_of (system_columns row) (waits_of row) (waits_table rows) own_wait (other_waits row rows up)) ∙ wait_back row.def.name row.def.success_wait
+
+  first_of_each : (lines_from (own is_line_of (system_columns row) (lines_table (row ∷ rows))) (own is_range_of (system_columns row) (ranges_table (row ∷ rows))), wait_from (own is_wait_of (system_columns row) (waits_table (row ∷ rows)))) ≡ lines_and_wait row
+  first_of_each = λ i. (first_lines i, first_wait i)
+
   lines_behind : others is_line_of (system_columns row) (lines_table (row ∷ rows)) ≡ lines_table rows
   lines_behind =
       ap (others is_line_of (system_columns row)) (lines_split row rows)
@@ -214,29 +243,33 @@ module _ (row : SystemRow) (rows : List SystemRow) (up : AllByRecursion (λ (r :
       ap (others is_range_of (system_columns row)) (ranges_split row rows)
       ∙ others_are is_range_of (system_columns row) (flat_map ranges_of (placed row)) (ranges_table rows) (all_ranges_pass (is_range_of (system_columns row)) true row.def.name 0 row.def.lines (λ r e. ap (λ n. same_text n row.def.name) e ∙ text_to row.def.name)) (other_ranges row rows up)
 
-pub assembled : (rows : List SystemRow) → Rises rows → lines_of_each (map system_columns rows) (lines_table rows) (ranges_table rows) ≡ map lines_in rows
+  waits_behind : others is_wait_of (system_columns row) (waits_table (row ∷ rows)) ≡ waits_table rows
+  waits_behind = others_are is_wait_of (system_columns row) (waits_of row) (waits_table rows) own_wait (other_waits row rows up)
+
+pub assembled : (rows : List SystemRow) → Rises rows → lines_and_wait_of_each (map system_columns rows) (lines_table rows) (ranges_table rows) (waits_table rows) ≡ map lines_and_wait rows
 assembled [] up = refl
 assembled (row ∷ rows) up =
-    let rest = (λ i. lines_of_each (map system_columns rows) (lines_behind row rows up.0 i) (ranges_behind row rows up.0 i)) ∙ assembled rows up.1 in
-    λ i. first_lines row rows up.0 i ∷ rest i
+    let rest = (λ i. lines_and_wait_of_each (map system_columns rows) (lines_behind row rows up.0 i) (ranges_behind row rows up.0 i) (waits_behind row rows up.0 i)) ∙ assembled rows up.1 in
+    λ i. first_of_each row rows up.0 i ∷ rest i
 
 have_windows : (lines : List Line) → AllByRecursion IsLine lines → HaveWindows lines
 have_windows [] each = tt
 have_windows (line ∷ lines) each = (each.0.1, have_windows lines each.1)
 
 -- the rows of systems make them
-pub rows_make : (rows : List SystemRow) → AllByRecursion (λ (row : SystemRow). IsDefinition row.def) rows → Rises rows → MakeSystems (map system_columns rows) (lines_table rows) (ranges_table rows)
+pub rows_make : (rows : List SystemRow) → AllByRecursion (λ (row : SystemRow). IsDefinition row.def) rows → Rises rows → MakeSystems (map system_columns rows) (lines_table rows) (ranges_table rows) (waits_table rows)
 rows_make [] good up = tt
 rows_make (row ∷ rows) good up =
-    let lines = sym (first_lines row rows up.0) in (
+    let theirs = sym (first_of_each row rows up.0) in (
       record {
-        windows = subst HaveWindows lines (have_windows row.def.lines (by_recursion IsLine row.def.lines good.0.lines));
-        limits = subst (λ l. AreWithinLimits l row.def.max_retries) lines good.0.limits;
+        windows = subst (λ l. HaveWindows l.0) theirs (have_windows row.def.lines (by_recursion IsLine row.def.lines good.0.lines));
+        limits = subst (λ l. AreWithinLimits l.0 row.def.max_retries l.1) theirs good.0.limits;
         outcome = row.call.outcome;
         call = record { number = refl; why = refl };
       },
-      subst (λ l. MakeSystems (map system_columns rows) l (others is_range_of (system_columns row) (ranges_table (row ∷ rows)))) (sym (lines_behind row rows up.0))
-          (subst (λ r. MakeSystems (map system_columns rows) (lines_table rows) r) (sym (ranges_behind row rows up.0)) (rows_make rows good.1 up.1)),
+      subst (λ l. MakeSystems (map system_columns rows) l (others is_range_of (system_columns row) (ranges_table (row ∷ rows))) (others is_wait_of (system_columns row) (waits_table (row ∷ rows)))) (sym (lines_behind row rows up.0))
+          (subst (λ r. MakeSystems (map system_columns rows) (lines_table rows) r (others is_wait_of (system_columns row) (waits_table (row ∷ rows)))) (sym (ranges_behind row rows up.0))
+          (subst (λ w. MakeSystems (map system_columns rows) (lines_table rows) (ranges_table rows) w) (sym (waits_behind row rows up.0)) (rows_make rows good.1 up.1))),
     )
 
 -- ---- one system
@@ -267,3 +300,11 @@ ranges_filtered name (row ∷ rows) =
     let here = filter_all_or_none p (is_system name row) (flat_map ranges_of (placed row)) (all_ranges_pass p (is_system name row) row.def.name 0 row.def.lines (λ l e. ap (λ n. same_text n name) e)) in
     ap (filter p) (ranges_split row rows) ∙ filter_append p (flat_map ranges_of (placed row)) (ranges_table rows) ∙ (λ i. here i ++ ranges_filtered name rows i)
     ∙ elim (is_system name row) as (λ b. cond b (flat_map ranges_of (placed row)) [] ++ ranges_table (filter (is_system name) rows) ≡ ranges_table (cond b (row ∷ filter (is_system name) rows) (filter (is_system name) rows))) [ true ↦ sym (ranges_split row (filter (is_system name) rows)) | false ↦ refl ]
+
+pub waits_filtered : (name : List ℕ) (rows : List SystemRow) → filter (λ (w : WaitColumns). same_text w.system name) (waits_table rows) ≡ waits_table (filter (is_system name) rows)
+waits_filtered name [] = refl
+waits_filtered name (row ∷ rows) =
+    let p = λ (w : WaitColumns). same_text w.system name in
+    let here = filter_all_or_none p (is_system name row) (waits_of row) (wait_passes p (is_system name row) row.def.name row.def.success_wait (λ w e. ap (λ n. same_text n name) e)) in
+    filter_append p (waits_of row) (waits_table rows) ∙ (λ i. here i ++ waits_filtered name rows i)
+    ∙ elim (is_system name row) as (λ b. cond b (waits_of row) [] ++ waits_table (filter (is_system name) rows) ≡ waits_table (cond b (row ∷ filter (is_system name) rows) (filter (is_system name) rows))) [ true ↦ refl | false ↦ refl ]

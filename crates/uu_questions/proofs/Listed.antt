@@ -126,7 +126,7 @@ entry_found old new s host rows of h found read =
     let es = map entry_columns s.entries in
     let p : EntryColumns → Bool = λ e. same_text e.host host in
     let rise : IsAscending (λ x y. entry_cmp x y ≡ Less) es = ascending-map (λ x y. entry_cmp x y ≡ Less) entry_columns s.entries (ascending_pairs _ s.entries of.good.by_host) in
-    let is = entries_are old new rows of.stands.schema entry_text _ (Text host ∷ []) (where_is 1 0 ∷ []) h entry_means (λ r. refl) es of.holds.entries.same rise p (λ e. last_term (at_texts false Eq e.host host ∙ is_eq-slice_cmp e.host host)) in
+    let is = entries_are site old new rows of.stands.schema entry_text _ (Text host ∷ []) (where_is 1 0 ∷ []) h entry_means (λ r. refl) es of.holds.entries.same rise p (λ e. last_term (at_texts false Eq e.host host ∙ is_eq-slice_cmp e.host host)) in
     same_one entry_cells entry_back (λ _. ⊤) (λ e _. entry_returns e) found (find p es) (any_some found) (any_some (find p es))
     (read ∙ ap (λ rs. slice_get rs 0) is ∙ slice_get-map entry_cells (filter p es) 0 ∙ ap (option_map entry_cells) (slice_get-filter p es))
     ∙ found_mapped p entry_columns s.entries

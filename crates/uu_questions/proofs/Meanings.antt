@@ -11,15 +11,20 @@ use Rattle.sqlite_sql.specs.declared.ops.CompareOp.TheVariants.{Le, Lt}
 use Rattle.sqlite_sql.specs.declared.ops.ArithOp.TheVariants.{Add}
 use Rattle.uu_sql.specs.Layout.{over, where_is, equal_terms}
 use Rattle.uu_sql.proofs.Asks.{Means, ordered}
-use Rattle.uu_schema.specs.Schema.{site, spool, systems, lines, ranges, jobs, pieces, entries}
-use Rattle.uu_questions.specs.Texts.{next_text, known_text, waiting_text, head_text, system_text, lines_of_text, ranges_of_text, all_jobs_text, jobs_text, pieces_text, entry_text, held_text, open_text, due_jobs_text}
-use Rattle.uu_rows.proofs.Meanings.{at_places, by_places, is_first, head_names, system_names, line_names, range_names}
+use Rattle.uu_sql.proofs.Questions.{IsQuestion}
+use Rattle.uu_schema.specs.Schema.{site, spool, systems, lines, ranges, jobs, pieces, entries, success_waits}
+use Rattle.uu_questions.specs.Texts.{next_text, known_text, waiting_text, head_text, system_text, lines_of_text, ranges_of_text, waits_of_text, all_jobs_text, jobs_text, pieces_text, entry_text, held_text, open_text, due_jobs_text}
+use Rattle.uu_rows.proofs.Meanings.{at_places, by_places, is_first, head_names, system_names, line_names, range_names, wait_names}
 
 -- ---- before a command
 
 pub next_means : Means site next_text (ordered spool.tree (is_first ∷ []) (at_places (3 ∷ [])) []) (codes "next" ∷ [])
 unfolding understood everything
 next_means = record { command = refl; plain = (refl, refl); listing = refl }
+
+pub next_ask : IsQuestion next_text
+unfolding everything
+next_ask = refl
 
 pub known_means : Means site known_text (ordered systems.tree (where_is 1 0 ∷ []) (at_places (1 ∷ [])) []) (codes "name" ∷ [])
 unfolding understood everything
@@ -48,6 +53,10 @@ lines_of_means = record { command = refl; plain = (refl, refl); listing = refl }
 pub ranges_of_means : Means site ranges_of_text (ordered ranges.tree (where_is 1 0 ∷ []) (at_places (1 ∷ 2 ∷ 3 ∷ 4 ∷ [])) (by_places (1 ∷ 2 ∷ 3 ∷ []))) range_names
 unfolding understood everything
 ranges_of_means = record { command = refl; plain = (refl, refl); listing = refl }
+
+pub waits_of_means : Means site waits_of_text (ordered success_waits.tree (where_is 1 0 ∷ []) (at_places (1 ∷ 2 ∷ [])) (by_places (1 ∷ []))) wait_names
+unfolding understood everything
+waits_of_means = record { command = refl; plain = (refl, refl); listing = refl }
 
 -- ---- what users ask
 

@@ -75,7 +75,7 @@ held_found old new s second rows of h found read =
     let passes : SystemColumns → Bool = λ x. list_all (holds (params ∷ beside (system_cells x) ∷ [])) held_terms in
     let calls = by_recursion (λ (row : SystemRow). IsCall row.call) s.systems of.good.calls in
     same_cells system_cells system_back system_returns found _ (sym read
-    ∙ systems_are old new rows of.stands.schema held_text _ params held_terms h held_means (λ r. refl) (map system_columns s.systems) of.holds.systems.same (systems_rise s of.good) passes (λ x. refl))
+    ∙ systems_are site old new rows of.stands.schema held_text _ params held_terms h held_means (λ r. refl) (map system_columns s.systems) of.holds.systems.same (systems_rise s of.good) passes (λ x. refl))
     ∙ filter-map passes system_columns s.systems
     ∙ ap (map system_columns) (keep_same (λ row. passes (system_columns row)) (λ row. is_held row.call second) s.systems (all_weaker (λ (row : SystemRow). IsCall row.call) (λ row. passes (system_columns row) ≡ is_held row.call second) (held_test second) s.systems calls))
 

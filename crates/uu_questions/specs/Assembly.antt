@@ -1,4 +1,4 @@
--- Systems put together from the rows of three tables, each in the order of its key.
+-- Systems put together from the rows of four tables, each in the order of its key.
 use Rattle.std.specs.Prelude.{◌≡◌, ⊤, ℕ, Bool, ◌==◌, ◌&&◌, List, [], ◌∷◌, map, take, drop}
 use Rattle.std.specs.List.{prefix_len, flat_map, AllByRecursion}
 use Rattle.uu_times.specs.declared.system.Line.{Line}
@@ -7,11 +7,12 @@ use Rattle.uu_times.specs.System.{AreWithinLimits}
 use Rattle.uu_core.specs.declared.system.Outcome.{Outcome}
 use Rattle.uu_core.specs.declared.system.SystemRow.{SystemRow}
 use Rattle.uu_core.specs.State.{State, IsWellFormed, same_text}
-use Rattle.uu_tables.specs.Tables.{outcome_number, reason_of, system_columns, line_columns, placed, ranges_of}
+use Rattle.uu_tables.specs.Tables.{outcome_number, reason_of, system_columns, line_columns, placed, ranges_of, waits_of}
 use Rattle.uu_tables.specs.declared.rows.CallColumns.{CallColumns}
 use Rattle.uu_tables.specs.declared.rows.SystemColumns.{SystemColumns}
 use Rattle.uu_tables.specs.declared.rows.LineColumns.{LineColumns}
 use Rattle.uu_tables.specs.declared.rows.RangeColumns.{RangeColumns}
+use Rattle.uu_tables.specs.declared.rows.WaitColumns.{WaitColumns}
 
 -- ---- rows of systems
 
@@ -20,11 +21,12 @@ abbrev pub holding : List SystemRow → State
 holding systems = record { jobs = []; systems = systems; entries = []; next = 1 }
 
 -- The rows are those of these systems, all of them, and a spool may hold these.
-pub record AreRowsOfSystems (made : List SystemRow) (systems : List SystemColumns) (lines : List LineColumns) (ranges : List RangeColumns) : Type 0 where
+pub record AreRowsOfSystems (made : List SystemRow) (systems : List SystemColumns) (lines : List LineColumns) (ranges : List RangeColumns) (waits : List WaitColumns) : Type 0 where
   pub good : IsWellFormed (holding made)
   pub systems_are : map system_columns made ≡ systems
   pub lines_are : map line_columns (flat_map placed made) ≡ lines
   pub ranges_are : flat_map ranges_of (flat_map placed made) ≡ ranges
+  pub waits_are : flat_map waits_of made ≡ waits
 
 -- the columns have the number of the outcome, and its reason where it has one
 pub record HasOutcome (call : CallColumns) (outcome : Outcome) : Type 0 where
@@ -38,6 +40,9 @@ is_line_of system line = same_text line.system system.name
 
 abbrev pub is_range_of : SystemColumns → RangeColumns → Bool
 is_range_of system range = same_text range.system system.name
+
+abbrev pub is_wait_of : SystemColumns → WaitColumns → Bool
+is_wait_of system wait = same_text wait.system system.name
 
 abbrev pub is_range_of_line : LineColumns → RangeColumns → Bool
 is_range_of_line line range = same_text range.system line.system && (range.place == line.place)
@@ -61,14 +66,21 @@ abbrev pub lines_from : List LineColumns → List RangeColumns → List Line
 lines_from [] ranges = []
 lines_from (line ∷ lines) ranges = line_from line (own is_range_of_line line ranges) ∷ lines_from lines (others is_range_of_line line ranges)
 
-abbrev pub lines_in : SystemRow → List Line
-lines_in row = row.def.lines
+-- the seconds of the first row, and 0 where there is none
+abbrev pub wait_from : List WaitColumns → ℕ
+wait_from [] = 0
+wait_from (wait ∷ waits) = wait.wait
 
--- the lines of each system, one system after the other
-abbrev pub lines_of_each : List SystemColumns → List LineColumns → List RangeColumns → List (List Line)
-lines_of_each [] lines ranges = []
-lines_of_each (s ∷ systems) lines ranges =
-    lines_from (own is_line_of s lines) (own is_range_of s ranges) ∷ lines_of_each systems (others is_line_of s lines) (others is_range_of s ranges)
+-- what the other tables have of a system
+abbrev pub lines_and_wait : SystemRow → List Line × ℕ
+lines_and_wait row = (row.def.lines, row.def.success_wait)
+
+-- the same of each system, one system after the other
+abbrev pub lines_and_wait_of_each : List SystemColumns → List LineColumns → List RangeColumns → List WaitColumns → List (List Line × ℕ)
+lines_and_wait_of_each [] lines ranges waits = []
+lines_and_wait_of_each (s ∷ systems) lines ranges waits =
+    (lines_from (own is_line_of s lines) (own is_range_of s ranges), wait_from (own is_wait_of s waits))
+    ∷ lines_and_wait_of_each systems (others is_line_of s lines) (others is_range_of s ranges) (others is_wait_of s waits)
 
 -- ---- which rows make a system
 
@@ -76,15 +88,16 @@ lines_of_each (s ∷ systems) lines ranges =
 abbrev pub HaveWindows : List Line → Type 0
 HaveWindows lines = AllByRecursion (λ (line : Line). AreRuns line.windows) lines
 
--- the rows are those of the system that they make, and it is within its limits
-pub record MakeSystem (s : SystemColumns) (lines : List LineColumns) (ranges : List RangeColumns) : Type 0 where
+-- the rows are those of the system that they make, with this success wait, and it is within its limits
+pub record MakeSystem (s : SystemColumns) (lines : List LineColumns) (ranges : List RangeColumns) (wait : ℕ) : Type 0 where
   pub windows : HaveWindows (lines_from lines ranges)
-  pub limits : AreWithinLimits (lines_from lines ranges) s.max_retries
+  pub limits : AreWithinLimits (lines_from lines ranges) s.max_retries wait
   pub outcome : Outcome
   pub call : HasOutcome s.call outcome
 
 -- those of each system make it
-abbrev pub MakeSystems : List SystemColumns → List LineColumns → List RangeColumns → Type 0
-MakeSystems [] lines ranges = ⊤
-MakeSystems (s ∷ systems) lines ranges =
-    MakeSystem s (own is_line_of s lines) (own is_range_of s ranges) × MakeSystems systems (others is_line_of s lines) (others is_range_of s ranges)
+abbrev pub MakeSystems : List SystemColumns → List LineColumns → List RangeColumns → List WaitColumns → Type 0
+MakeSystems [] lines ranges waits = ⊤
+MakeSystems (s ∷ systems) lines ranges waits =
+    MakeSystem s (own is_line_of s lines) (own is_range_of s ranges) (wait_from (own is_wait_of s waits))
+    × MakeSystems systems (others is_line_of s lines) (others is_range_of s ranges) (others is_wait_of s waits)

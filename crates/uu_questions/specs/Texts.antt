@@ -24,6 +24,9 @@ lines_of_text = codes "SELECT system, place, rank, retry FROM lines WHERE system
 abbrev pub ranges_of_text : List ℕ
 ranges_of_text = codes "SELECT system, place, low, high FROM ranges WHERE system = ?1 ORDER BY system, place, low"
 
+abbrev pub waits_of_text : List ℕ
+waits_of_text = codes "SELECT system, wait FROM success_waits WHERE system = ?1 ORDER BY system"
+
 -- ---- what users ask
 
 abbrev pub all_jobs_text : List ℕ

@@ -1,7 +1,7 @@
-// Systems put together from the rows of three tables.
+// Systems put together from the rows of four tables.
 ghost use Rattle.std.specs.Prelude.{◌≡◌, ◌≤◌, ◌<◌, ◌^◌, true, false, List, Bool, map, Ok, IfOk, length};
 ghost use Rattle.std.specs.List.{prefix_len};
-ghost use Rattle.uu_questions.specs.Assembly.{is_line_of, is_range_of, is_range_of_line, own, others, range_of, line_from, lines_from, lines_in, lines_of_each, AreRowsOfSystems, HasOutcome, HaveWindows, MakeSystem, MakeSystems};
+ghost use Rattle.uu_questions.specs.Assembly.{is_line_of, is_range_of, is_wait_of, is_range_of_line, own, others, range_of, line_from, lines_from, wait_from, lines_and_wait, lines_and_wait_of_each, AreRowsOfSystems, HasOutcome, HaveWindows, MakeSystem, MakeSystems};
 ghost use Rattle.uu_core.specs.declared.system.Outcome.{Outcome};
 ghost use Rattle.uu_core.specs.declared.system.SystemRow.{SystemRow};
 ghost use Rattle.uu_rows.specs.Values.{NotIf};
@@ -13,7 +13,7 @@ use uu_check::{Rows, are_tables};
 use uu_core::{CallState, Outcome, SystemRow};
 use uu_names::{Listed, Word};
 use uu_rows::RowFault;
-use uu_tables::{CallColumns, LineColumns, RangeColumns, SystemColumns};
+use uu_tables::{CallColumns, LineColumns, RangeColumns, SystemColumns, WaitColumns};
 use uu_times::{Line, SystemDef, Windows};
 
 /// A row to which rows of another table belong.
@@ -37,6 +37,14 @@ impl Owner<RangeColumns> for SystemColumns {
     ghost owns = { is_range_of };
 
     fn owns(&self, child: &RangeColumns) -> bool {
+        child.system == self.name
+    }
+}
+
+impl Owner<WaitColumns> for SystemColumns {
+    ghost owns = { is_wait_of };
+
+    fn owns(&self, child: &WaitColumns) -> bool {
         child.system == self.name
     }
 }
@@ -113,6 +121,16 @@ fn lines_of(
     Ok(Listed::from_vec(made))
 }
 
+// The seconds of the first row, and 0 where there is none.
+fn wait_of(waits: &[WaitColumns]) -> u32
+    ensures { result ≡ wait_from waits.now }
+{
+    match waits.first() {
+        Some(wait) => wait.wait,
+        None => 0,
+    }
+}
+
 fn outcome_of(call: &CallColumns) -> Result<Outcome, RowFault>
     ensures outcome { IfOk result (HasOutcome call.now) }
     ensures bad { (outcome : Outcome) → NotIf result (HasOutcome call.now outcome) }
@@ -130,13 +148,15 @@ fn system_of(
     system: &SystemColumns,
     lines: &[LineColumns],
     ranges: &[RangeColumns],
+    wait: u32,
 ) -> Result<SystemRow, RowFault>
     ensures columns { IfOk result (λ row. system_columns row ≡ system.now) }
-    ensures lines { IfOk result (λ row. lines_in row ≡ lines_from lines.now ranges.now) }
-    ensures bad { NotIf result (MakeSystem system.now lines.now ranges.now) }
+    ensures lines { IfOk result (λ row. lines_and_wait row ≡ (lines_from lines.now ranges.now, wait)) }
+    ensures bad { NotIf result (MakeSystem system.now lines.now ranges.now wait) }
 {
     let lines = lines_of(alloc, lines, ranges)?;
-    let def = SystemDef::new(system.name.clone()?, lines, system.max_retries).ok_or(RowFault::Bad)?;
+    let name = system.name.clone()?;
+    let def = SystemDef::new(name, lines, system.max_retries, wait).ok_or(RowFault::Bad)?;
     Ok(SystemRow {
         def,
         call: CallState {
@@ -148,26 +168,31 @@ fn system_of(
     })
 }
 
-// The systems whose rows, with those of their lines and of the ranges of these, stand at the front one after the other.
+// The systems whose rows, with those of their lines, of the ranges of these and of their success waits, stand at the front one after the other.
 fn put_in_turn(
     alloc: Global,
     systems: &[SystemColumns],
     lines: &[LineColumns],
     ranges: &[RangeColumns],
+    waits: &[WaitColumns],
 ) -> Result<Vec<SystemRow>, RowFault>
     ensures columns { IfOk result (λ made. map system_columns made.items ≡ systems.now) }
-    ensures lines { IfOk result (λ made. map lines_in made.items ≡ lines_of_each systems.now lines.now ranges.now) }
-    ensures bad { NotIf result (MakeSystems systems.now lines.now ranges.now) }
+    ensures lines { IfOk result (λ made. map lines_and_wait made.items ≡ lines_and_wait_of_each systems.now lines.now ranges.now waits.now) }
+    ensures bad { NotIf result (MakeSystems systems.now lines.now ranges.now waits.now) }
 {
     let mut made = Vec::new(alloc);
     let mut lines = lines;
     let mut ranges = ranges;
+    let mut waits = waits;
     for system in systems {
         let (own_lines, other_lines) = split_own(system, lines);
         let (own_ranges, other_ranges) = split_own(system, ranges);
-        made.push(system_of(alloc, system, own_lines, own_ranges)?)?;
+        let (own_waits, other_waits) = split_own(system, waits);
+        let wait = wait_of(own_waits);
+        made.push(system_of(alloc, system, own_lines, own_ranges, wait)?)?;
         lines = other_lines;
         ranges = other_ranges;
+        waits = other_waits;
     }
     Ok(made)
 }
@@ -178,9 +203,10 @@ fn are_of_systems(
     systems: &[SystemColumns],
     lines: &[LineColumns],
     ranges: &[RangeColumns],
+    waits: &[WaitColumns],
 ) -> Result<bool, AllocError>
-    ensures yes { result ≡ Ok true → (made : List SystemRow) × AreRowsOfSystems made systems.now lines.now ranges.now }
-    ensures no { result ≡ Ok false → (made : List SystemRow) → ¬ AreRowsOfSystems made systems.now lines.now ranges.now }
+    ensures yes { result ≡ Ok true → (made : List SystemRow) × AreRowsOfSystems made systems.now lines.now ranges.now waits.now }
+    ensures no { result ≡ Ok false → (made : List SystemRow) → ¬ AreRowsOfSystems made systems.now lines.now ranges.now waits.now }
 {
     are_tables(
         alloc,
@@ -192,22 +218,25 @@ fn are_of_systems(
             jobs: &[],
             pieces: &[],
             entries: &[],
+            success_waits: waits,
         },
     )
 }
 
-/// The systems whose rows, with those of their lines and of the ranges of these, are given, each list in the order of its key.
+/// The systems whose rows, with those of their lines, of the ranges of these and of their success waits, are given, each list in the order of
+/// its key.
 pub(crate) fn systems_of(
     alloc: Global,
     systems: &[SystemColumns],
     lines: &[LineColumns],
     ranges: &[RangeColumns],
+    waits: &[WaitColumns],
 ) -> Result<Vec<SystemRow>, RowFault>
-    ensures systems { IfOk result (λ made. AreRowsOfSystems made.items systems.now lines.now ranges.now) }
-    ensures bad { (made : List SystemRow) → NotIf result (AreRowsOfSystems made systems.now lines.now ranges.now) }
+    ensures systems { IfOk result (λ made. AreRowsOfSystems made.items systems.now lines.now ranges.now waits.now) }
+    ensures bad { (made : List SystemRow) → NotIf result (AreRowsOfSystems made systems.now lines.now ranges.now waits.now) }
 {
-    if !are_of_systems(alloc, systems, lines, ranges)? {
+    if !are_of_systems(alloc, systems, lines, ranges, waits)? {
         return Err(RowFault::Bad);
     }
-    put_in_turn(alloc, systems, lines, ranges)
+    put_in_turn(alloc, systems, lines, ranges, waits)
 }

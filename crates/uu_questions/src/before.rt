@@ -55,12 +55,12 @@ fn facts_of_head(alloc: Global, head: Option<JobHead>) -> Facts
     facts
 }
 
-fn facts_of_jobs(alloc: Global, is_known: bool, found: Vec<JobHead>) -> Facts
-    ensures known { result.is_known ≡ is_known }
+fn facts_of_row_and_jobs(alloc: Global, system: Option<SystemRow>, found: Vec<JobHead>) -> Facts
+    ensures system { result.system ≡ system }
     ensures found { result.found ≡ found }
 {
     let mut facts = unasked(alloc);
-    facts.is_known = is_known;
+    facts.system = system;
     facts.found = found;
     facts
 }
@@ -119,18 +119,18 @@ fn row<S: Alter>(alloc: Global, conn: &mut Connection<S>, system: &SiteName) -> 
     Ok(facts_of_row(alloc, row))
 }
 
-fn known_and_found<S: Alter>(
+fn row_and_found<S: Alter>(
     alloc: Global,
     conn: &mut Connection<S>,
     system: &SiteName,
     numbers: &[u32],
 ) -> Result<Facts, Error>
     ensures idle { conn.old.in_transaction ≡ false → conn.new.in_transaction ≡ false }
-    ensures answers { Answers (λ s facts. (facts.is_known ≡ has_system s system.now) × AreFound numbers.now (map head_of s.jobs) facts.found.items) (state S.Store conn.old) (state S.Store conn.new) result }
+    ensures answers { Answers (λ s facts. (facts.system ≡ system_at s system.now) × AreFound numbers.now (map head_of s.jobs) facts.found.items) (state S.Store conn.old) (state S.Store conn.new) result }
 {
-    let is_known = is_known(conn, system)?;
+    let row = system_of_name(alloc, conn, system)?;
     let found = heads_of_jobs(alloc, conn, numbers)?;
-    Ok(facts_of_jobs(alloc, is_known, found))
+    Ok(facts_of_row_and_jobs(alloc, row, found))
 }
 
 /// What is to be known before the command is planned, as far as the command names it.
@@ -151,7 +151,7 @@ pub fn facts_for<S: Alter>(
         | Command::Rejuvenate { job, .. } => head(alloc, conn, *job),
         Command::Failed { system, .. } => row(alloc, conn, system),
         Command::Done { system, jobs, .. } => {
-            known_and_found(alloc, conn, system, jobs.as_slice())
+            row_and_found(alloc, conn, system, jobs.as_slice())
         }
         Command::Entry(_) => Ok(unasked(alloc)),
     }

@@ -1,4 +1,4 @@
-// Systems with their lines, the ranges of these, and their calls.
+// Systems with their lines, the ranges of these, their success waits, and their calls.
 ghost use Rattle.std.specs.Prelude.{◌≡◌, ◌≢◌, false, ℕ, List, Vec, map, filter, IfOk, IfErr, slice_get};
 ghost use Rattle.sqlite.specs.Held.{state};
 ghost use Rattle.uu_core.specs.State.{IsWellFormed, system_at, is_system, same_text};
@@ -15,8 +15,8 @@ use sqlite::{Alter, Connection, Error, params};
 use std::alloc::Global;
 use uu_core::SystemRow;
 use uu_names::SiteName;
-use uu_rows::{ask_lines, ask_ranges, ask_systems, or_error, read_rows};
-use uu_tables::{LineColumns, RangeColumns, SystemColumns};
+use uu_rows::{ask_lines, ask_ranges, ask_systems, ask_waits, or_error, read_rows};
+use uu_tables::{LineColumns, RangeColumns, SystemColumns, WaitColumns};
 
 // The row of the system of this name, if it is there.
 fn columns_of<S: Alter>(
@@ -69,6 +69,23 @@ fn ranges_of<S: Alter>(
     )
 }
 
+// The row of the success wait of the system of this name, if it is not 0.
+fn waits_of<S: Alter>(
+    alloc: Global,
+    conn: &mut Connection<S>,
+    name: &str,
+) -> Result<Vec<WaitColumns>, Error>
+    ensures idle { conn.old.in_transaction ≡ false → conn.new.in_transaction ≡ false }
+    ensures answers { Answers (λ s waits. waits.items ≡ filter (λ wait. same_text wait.system name.now) (tables_of s).success_waits) (state S.Store conn.old) (state S.Store conn.new) result }
+{
+    typed_rows(
+        alloc,
+        conn,
+        "SELECT system, wait FROM success_waits WHERE system = ?1 ORDER BY system",
+        params![name],
+    )
+}
+
 // The rows of all systems.
 fn all_columns<S: Alter>(
     alloc: Global,
@@ -99,35 +116,57 @@ fn all_ranges<S: Alter>(alloc: Global, conn: &mut Connection<S>) -> Result<Vec<R
     read_rows(alloc, &rows)
 }
 
-// Lines with their ranges, as they are put together with their systems.
+// The rows of all success waits.
+fn all_waits<S: Alter>(alloc: Global, conn: &mut Connection<S>) -> Result<Vec<WaitColumns>, Error>
+    ensures idle { conn.old.in_transaction ≡ false → conn.new.in_transaction ≡ false }
+    ensures answers { Answers (λ s waits. waits.items ≡ (tables_of s).success_waits) (state S.Store conn.old) (state S.Store conn.new) result }
+{
+    let rows = ask_waits(conn)?;
+    read_rows(alloc, &rows)
+}
+
+// Lines with their ranges, and success waits, as they are put together with their systems.
 #[derive(Drop)]
 struct LineRows {
     lines: Vec<LineColumns>,
     ranges: Vec<RangeColumns>,
+    waits: Vec<WaitColumns>,
 }
 
-// The rows of the lines of the system of this name, and of their ranges.
+// The rows of the lines of the system of this name, of their ranges and of its success wait.
 fn line_rows_of<S: Alter>(
     alloc: Global,
     conn: &mut Connection<S>,
     name: &str,
 ) -> Result<LineRows, Error>
     ensures idle { conn.old.in_transaction ≡ false → conn.new.in_transaction ≡ false }
-    ensures answers { Answers (λ s rows. (rows.lines.items ≡ filter (λ line. same_text line.system name.now) (tables_of s).lines) × (rows.ranges.items ≡ filter (λ range. same_text range.system name.now) (tables_of s).ranges)) (state S.Store conn.old) (state S.Store conn.new) result }
+    ensures answers { Answers (λ s rows. (rows.lines.items ≡ filter (λ line. same_text line.system name.now) (tables_of s).lines)
+        × (rows.ranges.items ≡ filter (λ range. same_text range.system name.now) (tables_of s).ranges)
+        × (rows.waits.items ≡ filter (λ wait. same_text wait.system name.now) (tables_of s).success_waits)) (state S.Store conn.old) (state S.Store conn.new) result }
 {
     let lines = lines_of(alloc, conn, name)?;
     let ranges = ranges_of(alloc, conn, name)?;
-    Ok(LineRows { lines, ranges })
+    let waits = waits_of(alloc, conn, name)?;
+    Ok(LineRows {
+        lines,
+        ranges,
+        waits,
+    })
 }
 
-// The rows of all lines, and of their ranges.
+// The rows of all lines, of their ranges and of all success waits.
 fn all_line_rows<S: Alter>(alloc: Global, conn: &mut Connection<S>) -> Result<LineRows, Error>
     ensures idle { conn.old.in_transaction ≡ false → conn.new.in_transaction ≡ false }
-    ensures answers { Answers (λ s rows. (rows.lines.items ≡ (tables_of s).lines) × (rows.ranges.items ≡ (tables_of s).ranges)) (state S.Store conn.old) (state S.Store conn.new) result }
+    ensures answers { Answers (λ s rows. (rows.lines.items ≡ (tables_of s).lines) × (rows.ranges.items ≡ (tables_of s).ranges) × (rows.waits.items ≡ (tables_of s).success_waits)) (state S.Store conn.old) (state S.Store conn.new) result }
 {
     let lines = all_lines(alloc, conn)?;
     let ranges = all_ranges(alloc, conn)?;
-    Ok(LineRows { lines, ranges })
+    let waits = all_waits(alloc, conn)?;
+    Ok(LineRows {
+        lines,
+        ranges,
+        waits,
+    })
 }
 
 // The systems that the rows make.
@@ -136,15 +175,15 @@ fn put_together(
     systems: &[SystemColumns],
     rows: &LineRows,
 ) -> Result<Vec<SystemRow>, Error>
-    ensures systems { IfOk result (λ made. AreRowsOfSystems made.items systems.now rows.now.lines.items rows.now.ranges.items) }
+    ensures systems { IfOk result (λ made. AreRowsOfSystems made.items systems.now rows.now.lines.items rows.now.ranges.items rows.now.waits.items) }
 
     // Of rows of systems that a spool may hold, want of memory is the only error.
-    ensures memory { (made : List SystemRow) → AreRowsOfSystems made systems.now rows.now.lines.items rows.now.ranges.items → IfErr result (λ error. error ≡ SqliteFailure OutOfMemory) }
+    ensures memory { (made : List SystemRow) → AreRowsOfSystems made systems.now rows.now.lines.items rows.now.ranges.items rows.now.waits.items → IfErr result (λ error. error ≡ SqliteFailure OutOfMemory) }
 
     // Of any rows, any other error is that of rows that the format does not allow.
     ensures bad { IfErr result (λ error. error ≢ SqliteFailure OutOfMemory → error ≡ QueryReturnedNoRows) }
 {
-    or_error(systems_of(alloc, systems, &rows.lines, &rows.ranges))
+    or_error(systems_of(alloc, systems, &rows.lines, &rows.ranges, &rows.waits))
 }
 
 // The first of some systems.

@@ -14,7 +14,8 @@ use Rattle.uu_tables.specs.declared.rows.LineColumns.{LineColumns}
 use Rattle.uu_tables.specs.declared.rows.RangeColumns.{RangeColumns}
 use Rattle.uu_tables.specs.declared.rows.PieceSize.{PieceSize}
 use Rattle.uu_tables.specs.declared.rows.EntryColumns.{EntryColumns}
-use Rattle.uu_schema.specs.Cells.{system_cells, line_cells, range_cells, job_cells, entry_cells}
+use Rattle.uu_tables.specs.declared.rows.WaitColumns.{WaitColumns}
+use Rattle.uu_schema.specs.Cells.{system_cells, line_cells, range_cells, job_cells, entry_cells, wait_cells}
 use Rattle.uu_rows.specs.Values.{number_cell}
 use Rattle.uu_core.specs.WellFormed.{HasWords}
 use Rattle.uu_rows.specs.Readable.{IsHead, size_cells}
@@ -94,6 +95,12 @@ range_back r = record { system = text_back (column r 0); place = number_back (co
 
 pub range_returns : (r : RangeColumns) → range_back (range_cells r) ≡ r
 range_returns r = refl
+
+abbrev pub wait_back : Row → WaitColumns
+wait_back r = record { system = text_back (column r 0); wait = number_back (column r 1) }
+
+pub wait_returns : (w : WaitColumns) → wait_back (wait_cells w) ≡ w
+wait_returns w = refl
 
 abbrev pub size_back : Row → PieceSize
 size_back r = record { job = number_back (column r 0); place = number_back (column r 1); length = number_back (column r 2) }

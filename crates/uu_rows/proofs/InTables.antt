@@ -7,6 +7,7 @@ use Rattle.sqlite.specs.Tree.{IsAscending}
 use Rattle.sqlite.specs.Term.{Term, holds}
 use Rattle.sqlite.specs.Query.{Query, Output, output, output_cmp}
 use Rattle.sqlite.specs.State as db
+use Rattle.sqlite.specs.Schema.{Schema}
 use Rattle.sqlite_keyed.proofs.ListLemmas.{ascending_weaker, ascending-filter}
 use Rattle.sqlite_typed.proofs.TestLemmas.{then_key, last_key}
 use Rattle.sqlite_value.proofs.OrderLemmas.{value_cmp-Int, value_cmp-Text}
@@ -17,11 +18,12 @@ use Rattle.uu_tables.specs.declared.rows.SystemColumns.{SystemColumns}
 use Rattle.uu_tables.specs.declared.rows.LineColumns.{LineColumns}
 use Rattle.uu_tables.specs.declared.rows.RangeColumns.{RangeColumns}
 use Rattle.uu_tables.specs.declared.rows.EntryColumns.{EntryColumns}
-use Rattle.uu_schema.specs.Schema.{site, systems, lines, ranges, jobs, entries}
+use Rattle.uu_tables.specs.declared.rows.WaitColumns.{WaitColumns}
+use Rattle.uu_schema.specs.Schema.{systems, lines, ranges, jobs, entries, success_waits}
 use Rattle.uu_schema.specs.Keyed.{columns}
-use Rattle.uu_schema.specs.Held.{system_places, line_places, range_places, job_places, entry_places}
-use Rattle.uu_schema.specs.Cells.{system_cells, line_cells, range_cells, job_cells, entry_cells}
-use Rattle.uu_tables.specs.Order.{system_cmp, line_cmp, range_cmp, head_cmp, entry_cmp}
+use Rattle.uu_schema.specs.Held.{system_places, line_places, range_places, job_places, entry_places, wait_places}
+use Rattle.uu_schema.specs.Cells.{system_cells, line_cells, range_cells, job_cells, entry_cells, wait_cells}
+use Rattle.uu_tables.specs.Order.{system_cmp, line_cmp, range_cmp, head_cmp, entry_cmp, wait_cmp}
 use Rattle.uu_rows.proofs.Meanings.{at_places, by_places}
 use Rattle.uu_rows.proofs.Typed.{typed_only}
 use Rattle.uu_rows.proofs.Comparing.{beside, numbered, int_cmp-nat}
@@ -30,7 +32,7 @@ pub all_pass : {X : Type 0} (xs : List X) → filter (λ x. true) xs ≡ xs
 all_pass [] = refl
 all_pass (x ∷ xs) = ap (λ l. x ∷ l) (all_pass xs)
 
-module _ (old new : db.State) (rows : List Row) (has : old.now.schema ≡ site) (text : List ℕ) (names : List (List ℕ)) (params : Row) (tests : List Term) (h : db.Shown text params old new rows) where
+module _ (site : Schema) (old new : db.State) (rows : List Row) (has : old.now.schema ≡ site) (text : List ℕ) (names : List (List ℕ)) (params : Row) (tests : List Term) (h : db.Shown text params old new rows) where
   abbrev passes : Row → Bool
   passes r = list_all (holds (params ∷ r ∷ [])) tests
 
@@ -89,3 +91,13 @@ module _ (old new : db.State) (rows : List Row) (has : old.now.schema ≡ site) 
       let less : (x y : EntryColumns) → entry_cmp x y ≡ Less → output_cmp q (out x) (out y) ≡ Less = λ x y k. last_key (value_cmp-Text x.host y.host) ∙ k in
       typed_only entries.tree tests (at_places entry_places) (by_places (1 ∷ [])) old.now.trees params rows refl (answer_of site text q names params old new means has rows h) (columns entry_places) beside sees (λ r. refl)
       entry_cells xs held p picks (ascending-filter _ p xs (ascending_weaker _ (λ x y. output_cmp q (out x) (out y) ≡ Less) less xs rise))
+
+  pub waits_are : Means site text (ordered success_waits.tree tests (at_places wait_places) (by_places (1 ∷ []))) names → Sees wait_places beside → (xs : List WaitColumns)
+      → IsPermutation (map wait_cells xs) (map (columns wait_places) (old.now.trees success_waits.tree)) → IsAscending (λ x y. wait_cmp x y ≡ Less) xs
+      → (p : WaitColumns → Bool) → ((x : WaitColumns) → passes (beside (wait_cells x)) ≡ p x) → rows ≡ map wait_cells (filter p xs)
+  waits_are means sees xs held rise p picks =
+      let q : Query = ordered success_waits.tree tests (at_places wait_places) (by_places (1 ∷ [])) in
+      let out : WaitColumns → Output = λ x. output q (params ∷ beside (wait_cells x) ∷ []) in
+      let less : (x y : WaitColumns) → wait_cmp x y ≡ Less → output_cmp q (out x) (out y) ≡ Less = λ x y k. last_key (value_cmp-Text x.system y.system) ∙ k in
+      typed_only success_waits.tree tests (at_places wait_places) (by_places (1 ∷ [])) old.now.trees params rows refl (answer_of site text q names params old new means has rows h) (columns wait_places) beside sees (λ r. refl)
+      wait_cells xs held p picks (ascending-filter _ p xs (ascending_weaker _ (λ x y. output_cmp q (out x) (out y) ≡ Less) less xs rise))

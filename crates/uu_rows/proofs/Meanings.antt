@@ -8,8 +8,10 @@ use Rattle.sqlite_value.specs.declared.keys.Key.{Key}
 use Rattle.uu_sql.specs.Layout.{equal_terms}
 use Rattle.uu_sql.proofs.Asks.{Means, ordered, up}
 use Rattle.uu_sql.proofs.Questions.{IsQuestion}
-use Rattle.uu_schema.specs.Schema.{site, systems, lines, ranges}
-use Rattle.uu_rows.specs.Texts.{systems_text, lines_text, ranges_text}
+use Rattle.uu_schema.specs.Schema.{site, site_of, systems, lines, ranges, success_waits}
+use Rattle.uu_schema.specs.declared.version.Version.{Version}
+use Rattle.uu_schema.specs.declared.version.Version.TheVariants.{First, Second}
+use Rattle.uu_rows.specs.Texts.{systems_text, lines_text, ranges_text, waits_text}
 
 -- the columns at these places, and an order by them
 abbrev pub at_places : List ℕ → List Term
@@ -40,19 +42,33 @@ range_names = codes "system" ∷ codes "place" ∷ codes "low" ∷ codes "high" 
 
 -- ---- every row of a table
 
-pub systems_means : Means site systems_text (ordered systems.tree [] (at_places (1 ∷ 2 ∷ 3 ∷ 4 ∷ 5 ∷ 6 ∷ 7 ∷ [])) (by_places (1 ∷ []))) system_names
+pub systems_means : (v : Version) → Means (site_of v) systems_text (ordered systems.tree [] (at_places (1 ∷ 2 ∷ 3 ∷ 4 ∷ 5 ∷ 6 ∷ 7 ∷ [])) (by_places (1 ∷ []))) system_names
 unfolding understood everything
-systems_means = record { command = refl; plain = (refl, refl); listing = refl }
+systems_means First = record { command = refl; plain = (refl, refl); listing = refl }
+systems_means Second = record { command = refl; plain = (refl, refl); listing = refl }
 
-pub lines_means : Means site lines_text (ordered lines.tree [] (at_places (1 ∷ 2 ∷ 3 ∷ 4 ∷ [])) (by_places (1 ∷ 2 ∷ []))) line_names
+pub lines_means : (v : Version) → Means (site_of v) lines_text (ordered lines.tree [] (at_places (1 ∷ 2 ∷ 3 ∷ 4 ∷ [])) (by_places (1 ∷ 2 ∷ []))) line_names
 unfolding understood everything
-lines_means = record { command = refl; plain = (refl, refl); listing = refl }
+lines_means First = record { command = refl; plain = (refl, refl); listing = refl }
+lines_means Second = record { command = refl; plain = (refl, refl); listing = refl }
 
-pub ranges_means : Means site ranges_text (ordered ranges.tree [] (at_places (1 ∷ 2 ∷ 3 ∷ 4 ∷ [])) (by_places (1 ∷ 2 ∷ 3 ∷ []))) range_names
+pub ranges_means : (v : Version) → Means (site_of v) ranges_text (ordered ranges.tree [] (at_places (1 ∷ 2 ∷ 3 ∷ 4 ∷ [])) (by_places (1 ∷ 2 ∷ 3 ∷ []))) range_names
 unfolding understood everything
-ranges_means = record { command = refl; plain = (refl, refl); listing = refl }
+ranges_means First = record { command = refl; plain = (refl, refl); listing = refl }
+ranges_means Second = record { command = refl; plain = (refl, refl); listing = refl }
+
+abbrev pub wait_names : List (List ℕ)
+wait_names = codes "system" ∷ codes "wait" ∷ []
+
+pub waits_means : Means site waits_text (ordered success_waits.tree [] (at_places (1 ∷ 2 ∷ [])) (by_places (1 ∷ []))) wait_names
+unfolding understood everything
+waits_means = record { command = refl; plain = (refl, refl); listing = refl }
 
 -- ---- each is a query
+
+pub waits_ask : IsQuestion waits_text
+unfolding everything
+waits_ask = refl
 
 pub systems_ask : IsQuestion systems_text
 unfolding everything

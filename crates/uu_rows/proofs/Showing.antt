@@ -1,25 +1,30 @@
 -- What a question in SQL does, from the clauses of its call.
-use Rattle.std.proofs.Common.{◌≡◌, Ok, ap, is_ok}
-use Rattle.std.specs.Prelude.{ℕ, List, Vec, IfOk, IsOk, IfErr, Result}
+use Rattle.std.proofs.Common.{◌≡◌, Ok, Err, ap, is_ok}
+use Rattle.std.specs.Prelude.{ℕ, List, Vec, IfOk, IsOk, IfErr, OnOk, Result}
 use Rattle.std.specs.declared.alloc.Global.{Global}
 use Rattle.sqlite.specs.declared.error.Error.{Error}
 use Rattle.sqlite.specs.Order.{Row}
 use Rattle.sqlite.specs.Query.{Query}
 use Rattle.sqlite.specs.State.{State, HasCleanDisk, Shown, FailsToQuery, Survives, CommitsShowing}
 use Rattle.uu_sql.proofs.Asks.{Means}
-use Rattle.uu_sql.proofs.Answers.{told, same_shown}
+use Rattle.uu_sql.proofs.Answers.{told}
+use Rattle.uu_sql.proofs.Questions.{IsQuestion, same_read}
 use Rattle.uu_schema.specs.Schema.{site}
 use Rattle.uu_rows.specs.Shows.{Shows}
 
-pub shows : (text : List ℕ) (q : Query) (names : List (List ℕ)) (params : Row) (old new : State) → Means site text q names
+pub shows : (text : List ℕ) (q : Query) (names : List (List ℕ)) (params : Row) (old new : State) → Means site text q names → IsQuestion text
     → (r : Result (Vec Row Global) Error) → (HasCleanDisk new → IfOk r (λ rows. Shown text params old new rows.items)) → (HasCleanDisk new → IfErr r (FailsToQuery text params old new))
     → Survives old new (CommitsShowing text params old) → Shows text params old new r
-shows text q names params old new means r ok err survives = record {
+shows text q names params old new means is r ok err survives = record {
   told = told site text q names params old new means r ok err survives;
-  same = λ clean stands. same_shown site text q names params old new means r stands (ok clean);
+  same = λ clean. go r (ok clean);
   rows = ok;
   refused = err;
 }
+  where
+    go : (r : Result (Vec Row Global) Error) → IfOk r (λ rows. Shown text params old new rows.items) → OnOk r (new.now ≡ old.now)
+    go (Ok rows) shown = (same_read text is params old new rows.items shown).0.now_is
+    go (Err e) shown = tt
 
 pub answered : {T E : Type 0} (r : Result T E) (x : T) → r ≡ Ok x → IsOk r
 answered r x is = ap is_ok is

@@ -12,6 +12,7 @@ use Rattle.uu_tables.specs.declared.rows.LineColumns.{LineColumns}
 use Rattle.uu_tables.specs.declared.rows.RangeColumns.{RangeColumns}
 use Rattle.uu_tables.specs.declared.rows.PieceSize.{PieceSize}
 use Rattle.uu_tables.specs.declared.rows.EntryColumns.{EntryColumns}
+use Rattle.uu_tables.specs.declared.rows.WaitColumns.{WaitColumns}
 
 -- a number of 32 bits
 abbrev pub IsSmall : ℕ → Type 0
@@ -53,6 +54,10 @@ pub record IsSize (p : PieceSize) : Type 0 where
 
 pub record IsEntry (e : EntryColumns) : Type 0 where
   pub host : IsTrue (is_site_name e.host)
+
+pub record IsWait (w : WaitColumns) : Type 0 where
+  pub system : IsTrue (is_site_name w.system)
+  pub wait : IsSmall w.wait
 
 -- what is asked of a piece: its bytes stay where they are
 abbrev pub size_cells : PieceSize → Row

@@ -6,13 +6,13 @@ use Rattle.sqlite.specs.declared.error.Error.{Error}
 use Rattle.sqlite.specs.declared.error.Error.TheVariants.{SqliteFailure}
 use Rattle.sqlite.specs.declared.error.ErrorCode.TheVariants.{OutOfMemory}
 use Rattle.sqlite.specs.State as db
-use Rattle.uu_sql.specs.Steps.{Stands, Told}
+use Rattle.uu_sql.specs.Steps.{Told}
 use Rattle.uu_schema.specs.Schema.{site}
 
--- What a question in SQL shows are the rows that its text means, and it changes nothing. An error is the database's, of this text.
+-- What a question in SQL shows are the rows that its text means, and it changes nothing, whatever tables there are. An error is the database's, of this text.
 pub record Shows (text : List ℕ) (params : Row) (old new : db.State) (r : Result (Vec Row Global) Error) : Type 0 where
   pub told : Told site old new r
-  pub same : db.HasCleanDisk new → Stands site old.now → OnOk r (new.now ≡ old.now)
+  pub same : db.HasCleanDisk new → OnOk r (new.now ≡ old.now)
   pub rows : db.HasCleanDisk new → IfOk r (λ rows. db.Shown text params old new rows.items)
   pub refused : db.HasCleanDisk new → IfErr r (db.FailsToQuery text params old new)
 

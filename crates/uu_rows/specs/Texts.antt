@@ -1,4 +1,4 @@
--- The texts of the questions on every row of the systems, of their lines and of the ranges of these, in the order of their keys. (This project's choice.)
+-- The texts of the questions on every row of the systems, of their lines, of the ranges of these and of their success waits, in the order of their keys. (This project's choice.)
 use Rattle.std.specs.Prelude.{List, ℕ, codes}
 
 abbrev pub systems_text : List ℕ
@@ -9,3 +9,6 @@ lines_text = codes "SELECT system, place, rank, retry FROM lines ORDER BY system
 
 abbrev pub ranges_text : List ℕ
 ranges_text = codes "SELECT system, place, low, high FROM ranges ORDER BY system, place, low"
+
+abbrev pub waits_text : List ℕ
+waits_text = codes "SELECT system, wait FROM success_waits ORDER BY system"

@@ -1,7 +1,7 @@
-// The rows of the systems, of their lines and of the ranges of these, in the order of their keys.
+// The rows of the systems, of their lines, of the ranges of these and of their success waits, in the order of their keys.
 ghost use Rattle.std.specs.Prelude.{◌≡◌, false, []};
 ghost use Rattle.sqlite.specs.Held.{state};
-ghost use Rattle.uu_rows.specs.Texts.{systems_text, lines_text, ranges_text};
+ghost use Rattle.uu_rows.specs.Texts.{systems_text, lines_text, ranges_text, waits_text};
 ghost use Rattle.uu_sql.specs.Spares.{Spares};
 ghost use Rattle.uu_rows.specs.Shows.{Shows};
 
@@ -41,4 +41,13 @@ pub fn ask_ranges<S: Alter>(conn: &mut Connection<S>) -> Result<Vec<Row>, Error>
         "SELECT system, place, low, high FROM ranges ORDER BY system, place, low",
         &[],
     )
+}
+
+/// All success waits, by system.
+pub fn ask_waits<S: Alter>(conn: &mut Connection<S>) -> Result<Vec<Row>, Error>
+    ensures idle { conn.old.in_transaction ≡ false → conn.new.in_transaction ≡ false }
+    ensures shows { Shows waits_text [] (state S.Store conn.old) (state S.Store conn.new) result }
+    ensures spares { Spares (state S.Store conn.old) (state S.Store conn.new) result }
+{
+    conn.query_all("SELECT system, wait FROM success_waits ORDER BY system", &[])
 }

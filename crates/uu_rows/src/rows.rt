@@ -2,10 +2,10 @@
 ghost use Rattle.std.specs.Prelude.{◌≡◌, ◌≢◌, ℕ, pos, [], ◌∷◌, length, IfOk, Err};
 ghost use Rattle.sqlite.specs.declared.types.Value.TheVariants.{Int, Text};
 ghost use Rattle.sqlite.specs.Order.{column};
-ghost use Rattle.uu_schema.specs.Cells.{system_cells, line_cells, range_cells, job_cells, entry_cells, kind_number, first_word, second_word};
+ghost use Rattle.uu_schema.specs.Cells.{system_cells, line_cells, range_cells, job_cells, entry_cells, wait_cells, kind_number, first_word, second_word};
 ghost use Rattle.uu_rows.specs.Values.{NotIf, number_cell};
 ghost use Rattle.uu_core.specs.WellFormed.{HasWords};
-ghost use Rattle.uu_rows.specs.Readable.{IsSystem, IsLine, IsRange, IsHead, IsSize, IsEntry, size_cells};
+ghost use Rattle.uu_rows.specs.Readable.{IsSystem, IsLine, IsRange, IsHead, IsSize, IsEntry, IsWait, size_cells};
 
 use crate::fault::RowFault;
 use crate::reading::TypedRow;
@@ -17,7 +17,9 @@ use sqlite::Row;
 use std::alloc::Global;
 use uu_core::{JobHead, Kind};
 use uu_names::Listed;
-use uu_tables::{CallColumns, EntryColumns, LineColumns, PieceSize, RangeColumns, SystemColumns};
+use uu_tables::{
+    CallColumns, EntryColumns, LineColumns, PieceSize, RangeColumns, SystemColumns, WaitColumns,
+};
 
 /// The row, if it has this many columns.
 pub fn has_width(row: &Row, width: usize) -> Result<(), RowFault>
@@ -110,6 +112,20 @@ impl TypedRow for EntryColumns {
         Ok(EntryColumns {
             host: name_in(alloc, row, 0)?,
             bytes: Listed::from_vec(bytes_in(row, 1)?),
+        })
+    }
+}
+
+impl TypedRow for WaitColumns {
+    ghost cells = { wait_cells };
+
+    ghost IsReadable = { IsWait };
+
+    fn read(alloc: Global, row: &Row) -> Result<WaitColumns, RowFault> {
+        has_width(row, 2)?;
+        Ok(WaitColumns {
+            system: name_in(alloc, row, 0)?,
+            wait: number_in(row, 1)?,
         })
     }
 }

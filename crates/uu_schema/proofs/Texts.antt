@@ -1,15 +1,16 @@
 -- What each text that makes a table means under the schema so far.
 use Rattle.std.proofs.Common.{◌≡◌, ◌∷◌, [], refl, List, pos, Ok}
 use Rattle.sqlite.specs.declared.types.Value.TheVariants.{Null, Int}
-use Rattle.sqlite.specs.Term.{Term, lit}
+use Rattle.sqlite.specs.Term.{Term, lit, col}
 use Rattle.sqlite.specs.Source.TheVariants.{Values}
-use Rattle.sqlite.specs.Command.TheVariants.{Insert, CreateTable}
+use Rattle.sqlite.specs.Command.TheVariants.{Insert, CreateTable, Update}
 use Rattle.sqlite.specs.Compile.{table_defined_by}
 use Rattle.sqlite.specs.Change.{created}
 use Rattle.sqlite_tied.specs.Compute.{everything}
 use Rattle.sqlite.specs.Listing.{understood}
 use Rattle.sqlite.proofs.Callers.{IsPlain, command_of, statement_of}
-use Rattle.uu_schema.specs.Schema.{site, no_schema, with_spool, with_systems, with_lines, with_ranges, with_jobs, with_pieces, spool, systems, lines, ranges, jobs, pieces, entries, create_spool, create_systems, create_lines, create_ranges, create_jobs, create_pieces, create_entries, insert_spool}
+use Rattle.uu_sql.specs.Layout.{over}
+use Rattle.uu_schema.specs.Schema.{first_site, success_waits, create_success_waits, raise_version, site, no_schema, with_spool, with_systems, with_lines, with_ranges, with_jobs, with_pieces, spool, systems, lines, ranges, jobs, pieces, entries, create_spool, create_systems, create_lines, create_ranges, create_jobs, create_pieces, create_entries, insert_spool}
 
 pub create_spool_is : (command_of (understood no_schema create_spool) ≡ CreateTable) × (statement_of create_spool (understood no_schema create_spool) ≡ create_spool) × (table_defined_by create_spool ≡ Ok spool)
 unfolding understood everything
@@ -85,11 +86,11 @@ pub create_entries_plain : IsPlain (understood with_pieces create_entries)
 unfolding understood everything
 create_entries_plain = (refl, refl)
 
-pub created_entries : created with_pieces (record entries { tree = 0 }) ≡ site
+pub created_entries : created with_pieces (record entries { tree = 0 }) ≡ first_site
 created_entries = refl
 
 abbrev pub spool_terms : List Term
-spool_terms = lit (Int (pos 1)) ∷ lit Null ∷ lit (Int (pos 1)) ∷ lit (Int (pos 1)) ∷ []
+spool_terms = lit (Int (pos 1)) ∷ lit Null ∷ lit (Int (pos 2)) ∷ lit (Int (pos 1)) ∷ []
 
 pub insert_spool_is : command_of (understood site insert_spool) ≡ Insert 0 (Values spool_terms 4)
 unfolding understood everything
@@ -98,3 +99,26 @@ insert_spool_is = refl
 pub insert_spool_plain : IsPlain (understood site insert_spool)
 unfolding understood everything
 insert_spool_plain = (refl, refl)
+
+pub create_success_waits_is : (command_of (understood first_site create_success_waits) ≡ CreateTable) × (statement_of create_success_waits (understood first_site create_success_waits) ≡ create_success_waits)
+    × (table_defined_by create_success_waits ≡ Ok (record success_waits { tree = 0 }))
+unfolding understood everything
+create_success_waits_is = (refl, refl, refl)
+
+pub create_success_waits_plain : IsPlain (understood first_site create_success_waits)
+unfolding understood everything
+create_success_waits_plain = (refl, refl)
+
+pub created_success_waits : created first_site (record success_waits { tree = 0 }) ≡ site
+created_success_waits = refl
+
+abbrev pub raise_terms : List Term
+raise_terms = col 1 0 ∷ col 1 0 ∷ lit Null ∷ lit (Int (pos 2)) ∷ col 1 3 ∷ []
+
+pub raise_version_is : command_of (understood site raise_version) ≡ Update 0 (record { lets = []; body = over 0 [] raise_terms })
+unfolding understood everything
+raise_version_is = refl
+
+pub raise_version_plain : IsPlain (understood site raise_version)
+unfolding understood everything
+raise_version_plain = (refl, refl)

@@ -12,6 +12,7 @@ use Rattle.uu_tables.specs.declared.rows.SystemColumns.{SystemColumns}
 use Rattle.uu_tables.specs.declared.rows.LineColumns.{LineColumns}
 use Rattle.uu_tables.specs.declared.rows.RangeColumns.{RangeColumns}
 use Rattle.uu_tables.specs.declared.rows.EntryColumns.{EntryColumns}
+use Rattle.uu_tables.specs.declared.rows.WaitColumns.{WaitColumns}
 use Rattle.uu_tables.specs.Tables.{Piece}
 
 abbrev pub system_cells : SystemColumns → Row
@@ -23,6 +24,9 @@ line_cells l = Text l.system ∷ Int (pos l.place) ∷ Int (pos l.grade) ∷ or_
 
 abbrev pub range_cells : RangeColumns → Row
 range_cells r = Text r.system ∷ Int (pos r.place) ∷ Int (pos r.low) ∷ Int (pos r.high) ∷ []
+
+abbrev pub wait_cells : WaitColumns → Row
+wait_cells w = Text w.system ∷ Int (pos w.wait) ∷ []
 
 -- ---- a job: of a command its arguments stand in one text, with one space between two
 

@@ -7,12 +7,15 @@ use Rattle.uu_tables.specs.declared.rows.SystemColumns.{SystemColumns}
 use Rattle.uu_tables.specs.declared.rows.LineColumns.{LineColumns}
 use Rattle.uu_tables.specs.declared.rows.RangeColumns.{RangeColumns}
 use Rattle.uu_tables.specs.declared.rows.EntryColumns.{EntryColumns}
+use Rattle.uu_tables.specs.declared.rows.WaitColumns.{WaitColumns}
 use Rattle.uu_core.specs.State.{empty}
 use Rattle.uu_tables.specs.Tables.{Tables, Piece, tables_of}
-use Rattle.uu_schema.specs.Schema.{spool, systems, lines, ranges, jobs, pieces, entries}
+use Rattle.uu_schema.specs.Schema.{spool, systems, lines, ranges, jobs, pieces, entries, success_waits}
+use Rattle.uu_schema.specs.declared.version.Version.{Version}
+use Rattle.uu_schema.specs.declared.version.Version.TheVariants.{First, Second}
 use Rattle.uu_schema.specs.Keyed.{Keyed}
-use Rattle.uu_schema.specs.Made.{spool_row}
-use Rattle.uu_schema.specs.Cells.{system_cells, line_cells, range_cells, job_cells, piece_cells, entry_cells}
+use Rattle.uu_schema.specs.Made.{spool_row_of}
+use Rattle.uu_schema.specs.Cells.{system_cells, line_cells, range_cells, job_cells, piece_cells, entry_cells, wait_cells}
 
 -- ---- the key of each table, and where its columns stand in a row
 
@@ -34,6 +37,9 @@ piece_key p = (p.job, p.place)
 abbrev pub entry_key : EntryColumns → List ℕ
 entry_key e = e.host
 
+abbrev pub wait_key : WaitColumns → List ℕ
+wait_key w = w.system
+
 abbrev pub system_places : List ℕ
 system_places = 1 ∷ 2 ∷ 3 ∷ 4 ∷ 5 ∷ 6 ∷ 7 ∷ []
 
@@ -52,6 +58,9 @@ piece_places = 1 ∷ 2 ∷ 3 ∷ []
 
 abbrev pub entry_places : List ℕ
 entry_places = 1 ∷ 2 ∷ []
+
+abbrev pub wait_places : List ℕ
+wait_places = 1 ∷ 2 ∷ []
 
 -- ---- tables
 
@@ -73,15 +82,32 @@ ArePieces = Keyed piece_key piece_cells piece_places
 abbrev pub AreEntries : List EntryColumns → List Row → Type 0
 AreEntries = Keyed entry_key entry_cells entry_places
 
+abbrev pub AreWaits : List WaitColumns → List Row → Type 0
+AreWaits = Keyed wait_key wait_cells wait_places
+
+-- the success waits of a version: version 1 has no table of them, and each is 0
+abbrev pub AreWaitsOf : Version → List WaitColumns → Trees → Type 0
+AreWaitsOf First waits db = waits ≡ []
+AreWaitsOf Second waits db = AreWaits waits (db success_waits.tree)
+
 -- each table's rows are those of its list, in any order, and `spool` has its one row
-pub record Holds (db : Trees) (t : Tables) : Type 0 where
-  pub spool : db spool.tree ≡ spool_row t.next ∷ []
+pub record HoldsAs (v : Version) (db : Trees) (t : Tables) : Type 0 where
+  pub spool : db spool.tree ≡ spool_row_of v t.next ∷ []
   pub systems : AreSystems t.systems (db systems.tree)
   pub lines : AreLines t.lines (db lines.tree)
   pub ranges : AreRanges t.ranges (db ranges.tree)
   pub jobs : AreJobs t.jobs (db jobs.tree)
   pub pieces : ArePieces t.pieces (db pieces.tree)
   pub entries : AreEntries t.entries (db entries.tree)
+  pub success_waits : AreWaitsOf v t.success_waits db
+
+-- the same of the version that is written
+abbrev pub Holds : Trees → Tables → Type 0
+Holds = HoldsAs Second
+
+-- what the tables of version 1 held, those of version 2 hold
+abbrev pub Migrates : Trees → Trees → Type 0
+Migrates old new = (t : Tables) → HoldsAs First old t → Holds new t
 
 -- the trees are those of a spool that holds nothing
 abbrev pub MakesEmpty : Trees → Trees → Type 0

@@ -7,19 +7,29 @@ use Rattle.sqlite.specs.Schema.{Schema}
 use Rattle.sqlite.specs.Table.{Table}
 use Rattle.sqlite.specs.Tree.{Trees}
 use Rattle.uu_sql.specs.Steps.{Both}
-use Rattle.uu_schema.specs.Schema.{site, no_schema, with_spool, with_systems, with_lines, with_ranges, with_jobs, with_pieces, spool, systems, lines, ranges, jobs, pieces, entries}
+use Rattle.uu_schema.specs.Schema.{site, no_schema, with_spool, with_systems, with_lines, with_ranges, with_jobs, with_pieces, first_site, spool, systems, lines, ranges, jobs, pieces, entries, success_waits}
+use Rattle.uu_schema.specs.declared.version.Version.{Version}
+use Rattle.uu_schema.specs.declared.version.Version.TheVariants.{First, Second}
 
 -- the tables but those at these trees have the rows that they had
 abbrev pub Keeps : List ℕ → Trees → Trees → Type 0
 Keeps written old new = AllByRecursion (λ (t : Table). list_any (λ n. n == t.tree) written ≡ false → new t.tree ≡ old t.tree) site.tables
 
--- the version of these tables
+-- the number of a version
+abbrev pub number_of : Version → ℕ
+number_of First = 1
+number_of Second = 2
+
+-- the version of the tables that are made and written
 abbrev pub version : ℕ
-version = 1
+version = number_of Second
 
 -- The row of `spool` as the port keeps it: the rowid, then the columns, where an INTEGER PRIMARY KEY is kept as Null.
+abbrev pub spool_row_of : Version → ℕ → Row
+spool_row_of v next = Int (pos 1) ∷ Null ∷ Int (pos (number_of v)) ∷ Int (pos next) ∷ []
+
 abbrev pub spool_row : ℕ → Row
-spool_row next = Int (pos 1) ∷ Null ∷ Int (pos version) ∷ Int (pos next) ∷ []
+spool_row = spool_row_of Second
 
 -- the table at this tree is there without rows, and the others keep theirs
 pub record IsMade (from : Schema) (tree : ℕ) (old new : Trees) : Type 0 where
@@ -31,9 +41,20 @@ pub record IsBegun (old new : Trees) : Type 0 where
   pub row : old spool.tree ≡ [] → new spool.tree ≡ spool_row 1 ∷ []
   pub others : Keeps (spool.tree ∷ []) old new
 
+-- the one row of `spool` of version 1 has version 2 then, and nothing else differs
+pub record HasRaised (next : ℕ) (old new : Trees) : Type 0 where
+  pub row : new spool.tree ≡ spool_row next ∷ []
+  pub others : Keeps (spool.tree ∷ []) old new
+
+abbrev pub IsRaised : Trees → Trees → Type 0
+IsRaised old new = (next : ℕ) → old spool.tree ≡ spool_row_of First next ∷ [] → HasRaised next old new
+
 -- the tables from one of them on, and the row of `spool`
+abbrev pub FromWaits : Trees → Trees → Type 0
+FromWaits = Both (IsMade first_site success_waits.tree) IsBegun
+
 abbrev pub FromEntries : Trees → Trees → Type 0
-FromEntries = Both (IsMade with_pieces entries.tree) IsBegun
+FromEntries = Both (IsMade with_pieces entries.tree) FromWaits
 
 abbrev pub FromPieces : Trees → Trees → Type 0
 FromPieces = Both (IsMade with_jobs pieces.tree) FromEntries
@@ -62,3 +83,4 @@ pub record IsEmpty (db : Trees) : Type 0 where
   pub jobs : db jobs.tree ≡ []
   pub pieces : db pieces.tree ≡ []
   pub entries : db entries.tree ≡ []
+  pub success_waits : db success_waits.tree ≡ []

@@ -1,4 +1,4 @@
--- The seven tables of the spool, version 1, and the texts that make them. (This project's choice.)
+-- The eight tables of the spool, version 2, those of version 1, and the texts that make them. (This project's choice.)
 use Rattle.std.specs.Prelude.{[], ◌∷◌, codes, List, ℕ}
 use Rattle.sqlite.specs.Table.{Table}
 use Rattle.sqlite.specs.Schema.{Schema}
@@ -7,6 +7,8 @@ use Rattle.sqlite_schema.specs.declared.schema.Action.TheVariants.{NoAction, Cas
 use Rattle.sqlite_schema.specs.declared.schema.Reference.{Reference}
 use Rattle.sqlite_catalog.specs.Listing.{automatic}
 use Rattle.uu_sql.specs.Layout.{may, must, refers, by_number, by_key}
+use Rattle.uu_schema.specs.declared.version.Version.{Version}
+use Rattle.uu_schema.specs.declared.version.Version.TheVariants.{First, Second}
 
 -- ---- tables; trees are numbered in order of creation, each table first and then its index
 
@@ -60,6 +62,10 @@ pieces = by_key (codes "pieces") 8 (must (codes "job") Integer ∷ must (codes "
 abbrev pub entries : Table
 entries = by_key (codes "entries") 10 (must (codes "host") Text ∷ must (codes "bytes") Blob ∷ []) (1 ∷ []) []
 
+-- the success waits of the systems, but for those that are 0
+abbrev pub success_waits : Table
+success_waits = by_key (codes "success_waits") 12 (must (codes "system") Text ∷ must (codes "wait") Integer ∷ []) (1 ∷ []) (to_system ∷ [])
+
 -- ---- schemas, from none to all
 
 abbrev pub no_schema : Schema
@@ -95,15 +101,30 @@ with_pieces = record {
   views = [];
 }
 
--- the whole
-abbrev pub site : Schema
-site = record {
+-- version 1, which is made into the whole
+abbrev pub first_site : Schema
+first_site = record {
   tables = spool ∷ systems ∷ lines ∷ ranges ∷ jobs ∷ pieces ∷ entries ∷ [];
   indexes =
       automatic systems 0 (1 ∷ []) 2 ∷ automatic lines 0 (1 ∷ 2 ∷ []) 4 ∷ automatic ranges 0 (1 ∷ 2 ∷ 3 ∷ []) 6 ∷ automatic pieces 0 (1 ∷ 2 ∷ []) 9
       ∷ automatic entries 0 (1 ∷ []) 11 ∷ [];
   views = [];
 }
+
+-- the whole, version 2
+abbrev pub site : Schema
+site = record {
+  tables = spool ∷ systems ∷ lines ∷ ranges ∷ jobs ∷ pieces ∷ entries ∷ success_waits ∷ [];
+  indexes =
+      automatic systems 0 (1 ∷ []) 2 ∷ automatic lines 0 (1 ∷ 2 ∷ []) 4 ∷ automatic ranges 0 (1 ∷ 2 ∷ 3 ∷ []) 6 ∷ automatic pieces 0 (1 ∷ 2 ∷ []) 9
+      ∷ automatic entries 0 (1 ∷ []) 11 ∷ automatic success_waits 0 (1 ∷ []) 13 ∷ [];
+  views = [];
+}
+
+-- that of a version
+abbrev pub site_of : Version → Schema
+site_of First = first_site
+site_of Second = site
 
 -- ---- statements that make the tables
 
@@ -129,4 +150,12 @@ abbrev pub create_entries : List ℕ
 create_entries = codes "CREATE TABLE entries (host TEXT NOT NULL PRIMARY KEY, bytes BLOB NOT NULL) STRICT"
 
 abbrev pub insert_spool : List ℕ
-insert_spool = codes "INSERT INTO spool (id, version, next) VALUES (1, 1, 1)"
+insert_spool = codes "INSERT INTO spool (id, version, next) VALUES (1, 2, 1)"
+
+abbrev pub create_success_waits : List ℕ
+create_success_waits = codes "CREATE TABLE success_waits (system TEXT NOT NULL PRIMARY KEY REFERENCES systems (name) ON DELETE CASCADE, wait INTEGER NOT NULL) STRICT"
+
+-- ---- the statement that makes version 1 version 2, behind the one that makes the new table
+
+abbrev pub raise_version : List ℕ
+raise_version = codes "UPDATE spool SET version = 2"

@@ -1,9 +1,11 @@
-//! The seven tables of the spool in a database: their schema, the rows that hold the typed ones, an empty spool, and
+//! The eight tables of the spool in a database: their schema, the rows that hold the typed ones, an empty spool, and
 //! why the store gives no answer.
 #![tactic(auto)]
 
 mod fault;
 mod tables;
+mod version;
 
 pub use fault::{Halt, StoreFault, StoreKind, halt_fault, kind_of, store_fault};
-pub use tables::create;
+pub use tables::{create, migrate};
+pub use version::Version;

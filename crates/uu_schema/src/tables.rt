@@ -3,10 +3,10 @@ ghost use Rattle.std.specs.Prelude.{◌≡◌, Err, false};
 ghost use Rattle.sqlite.specs.Held.{state};
 ghost use Rattle.sqlite.specs.State.{Survives};
 ghost use Rattle.sqlite.specs.declared.error.Error.{Error};
-ghost use Rattle.uu_sql.specs.Steps.{Outcome, Whole};
-ghost use Rattle.uu_schema.specs.Schema.{no_schema, with_spool, with_systems, with_lines, with_ranges, with_jobs, with_pieces, site, spool, systems, lines, ranges, jobs, pieces, entries};
-ghost use Rattle.uu_schema.specs.Made.{IsMade, IsBegun, FromEntries, FromPieces, FromJobs, FromRanges, FromLines, FromSystems, AllMade};
-ghost use Rattle.uu_schema.specs.Held.{MakesEmpty};
+ghost use Rattle.uu_sql.specs.Steps.{Both, Outcome, Whole};
+ghost use Rattle.uu_schema.specs.Schema.{no_schema, with_spool, with_systems, with_lines, with_ranges, with_jobs, with_pieces, first_site, site, spool, systems, lines, ranges, jobs, pieces, entries, success_waits};
+ghost use Rattle.uu_schema.specs.Made.{IsMade, IsBegun, IsRaised, FromWaits, FromEntries, FromPieces, FromJobs, FromRanges, FromLines, FromSystems, AllMade};
+ghost use Rattle.uu_schema.specs.Held.{MakesEmpty, Migrates};
 ghost use Rattle.uu_schema.specs.declared.fault.Halt.TheVariants.{Before};
 
 use crate::fault::Halt;
@@ -74,10 +74,20 @@ fn create_pieces<S: Alter>(tx: &mut Transaction<'_, S>) -> Result<usize, Error>
 
 fn create_entries<S: Alter>(tx: &mut Transaction<'_, S>) -> Result<usize, Error>
     ensures same_reference { tx.new.conn.ghost_name ≡ tx.old.conn.ghost_name }
-    ensures outcome { Outcome with_pieces site (IsMade with_pieces entries.tree) (state S.Store tx.old.conn.now) (state S.Store tx.new.conn.now) result }
+    ensures outcome { Outcome with_pieces first_site (IsMade with_pieces entries.tree) (state S.Store tx.old.conn.now) (state S.Store tx.new.conn.now) result }
 {
     tx.execute(
         "CREATE TABLE entries (host TEXT NOT NULL PRIMARY KEY, bytes BLOB NOT NULL) STRICT",
+        &[],
+    )
+}
+
+fn create_success_waits<S: Alter>(tx: &mut Transaction<'_, S>) -> Result<usize, Error>
+    ensures same_reference { tx.new.conn.ghost_name ≡ tx.old.conn.ghost_name }
+    ensures outcome { Outcome first_site site (IsMade first_site success_waits.tree) (state S.Store tx.old.conn.now) (state S.Store tx.new.conn.now) result }
+{
+    tx.execute(
+        "CREATE TABLE success_waits (system TEXT NOT NULL PRIMARY KEY REFERENCES systems (name) ON DELETE CASCADE, wait INTEGER NOT NULL) STRICT",
         &[],
     )
 }
@@ -87,18 +97,26 @@ fn insert_spool<S: Alter>(tx: &mut Transaction<'_, S>) -> Result<usize, Error>
     ensures outcome { Outcome site site IsBegun (state S.Store tx.old.conn.now) (state S.Store tx.new.conn.now) result }
 {
     tx.execute(
-        "INSERT INTO spool (id, version, next) VALUES (1, 1, 1)",
+        "INSERT INTO spool (id, version, next) VALUES (1, 2, 1)",
         &[],
     )
 }
 
 // The last table, and the row of `spool`.
+fn create_from_waits<S: Alter>(tx: &mut Transaction<'_, S>) -> Result<usize, Error>
+    ensures same_reference { tx.new.conn.ghost_name ≡ tx.old.conn.ghost_name }
+    ensures outcome { Outcome first_site site FromWaits (state S.Store tx.old.conn.now) (state S.Store tx.new.conn.now) result }
+{
+    create_success_waits(tx)?;
+    insert_spool(tx)
+}
+
 fn create_from_entries<S: Alter>(tx: &mut Transaction<'_, S>) -> Result<usize, Error>
     ensures same_reference { tx.new.conn.ghost_name ≡ tx.old.conn.ghost_name }
     ensures outcome { Outcome with_pieces site FromEntries (state S.Store tx.old.conn.now) (state S.Store tx.new.conn.now) result }
 {
     create_entries(tx)?;
-    insert_spool(tx)
+    create_from_waits(tx)
 }
 
 fn create_from_pieces<S: Alter>(tx: &mut Transaction<'_, S>) -> Result<usize, Error>
@@ -160,5 +178,35 @@ pub fn create<S: Alter>(conn: &mut Connection<S>) -> Result<(), Halt>
 {
     let mut tx = conn.transaction();
     create_tables(&mut tx)?;
+    tx.commit().map_err(Halt::Commit)
+}
+
+fn raise_version<S: Alter>(tx: &mut Transaction<'_, S>) -> Result<usize, Error>
+    ensures same_reference { tx.new.conn.ghost_name ≡ tx.old.conn.ghost_name }
+    ensures outcome { Outcome site site IsRaised (state S.Store tx.old.conn.now) (state S.Store tx.new.conn.now) result }
+{
+    tx.execute("UPDATE spool SET version = 2", &[])
+}
+
+// The new table, and then the version.
+fn migrate_tables<S: Alter>(tx: &mut Transaction<'_, S>) -> Result<usize, Error>
+    ensures same_reference { tx.new.conn.ghost_name ≡ tx.old.conn.ghost_name }
+    ensures outcome { Outcome first_site site (Both (IsMade first_site success_waits.tree) IsRaised) (state S.Store tx.old.conn.now) (state S.Store tx.new.conn.now) result }
+{
+    create_success_waits(tx)?;
+    raise_version(tx)
+}
+
+/// Makes the tables of version 2 of those of version 1, whole or not at all, in one transaction.
+pub fn migrate<S: Alter>(conn: &mut Connection<S>) -> Result<(), Halt>
+    requires { conn.old.in_transaction ≡ false }
+    ensures idle { conn.new.in_transaction ≡ false }
+    ensures whole { Whole first_site site Migrates (state S.Store conn.old) (state S.Store conn.new) result }
+
+    // Nothing of a transaction that stopped before its commit can be kept, whatever the database. A commit that was refused is not such a one.
+    ensures before { (error : Error) → result ≡ Err (Before error) → Survives (state S.Store conn.old) (state S.Store conn.new) (λ _. ⊥) }
+{
+    let mut tx = conn.transaction();
+    migrate_tables(&mut tx)?;
     tx.commit().map_err(Halt::Commit)
 }

@@ -17,17 +17,18 @@ use Rattle.uu_core.specs.declared.job.JobHead.{JobHead}
 use Rattle.uu_tables.specs.declared.rows.LineColumns.{LineColumns}
 use Rattle.uu_tables.specs.declared.rows.RangeColumns.{RangeColumns}
 use Rattle.uu_tables.specs.declared.rows.EntryColumns.{EntryColumns}
+use Rattle.uu_tables.specs.declared.rows.WaitColumns.{WaitColumns}
 use Rattle.uu_tables.specs.Tables.{Tables, Piece}
 use Rattle.uu_tables.specs.Changes.{insert_by, append, new_system}
-use Rattle.uu_schema.specs.Schema.{site, systems, lines, ranges, jobs, pieces, entries}
-use Rattle.uu_schema.specs.Cells.{system_cells, line_cells, range_cells, job_cells, piece_cells, entry_cells, kind_number, first_word, second_word}
-use Rattle.uu_schema.specs.Held.{Holds, system_key, line_key, range_key, job_key, piece_key, entry_key, system_places, line_places, range_places, job_places, piece_places, entry_places}
-use Rattle.uu_statements.specs.Texts.{insert_system, insert_line, insert_range, insert_job, insert_piece, insert_entry}
-use Rattle.uu_statements.proofs.Texts.{insert_system_is, insert_system_plain, insert_system_terms, insert_line_is, insert_line_plain, insert_line_terms, insert_range_is, insert_range_plain, insert_range_terms, insert_job_is, insert_job_plain, insert_job_terms, insert_piece_is, insert_piece_plain, insert_piece_terms, insert_entry_is, insert_entry_plain, insert_entry_terms}
+use Rattle.uu_schema.specs.Schema.{site, systems, lines, ranges, jobs, pieces, entries, success_waits}
+use Rattle.uu_schema.specs.Cells.{system_cells, line_cells, range_cells, job_cells, piece_cells, entry_cells, wait_cells, kind_number, first_word, second_word}
+use Rattle.uu_schema.specs.Held.{Holds, system_key, line_key, range_key, job_key, piece_key, entry_key, wait_key, system_places, line_places, range_places, job_places, piece_places, entry_places, wait_places}
+use Rattle.uu_statements.specs.Texts.{insert_system, insert_line, insert_range, insert_job, insert_piece, insert_entry, insert_wait}
+use Rattle.uu_statements.proofs.Texts.{insert_system_is, insert_system_plain, insert_system_terms, insert_line_is, insert_line_plain, insert_line_terms, insert_range_is, insert_range_plain, insert_range_terms, insert_job_is, insert_job_plain, insert_job_terms, insert_piece_is, insert_piece_plain, insert_piece_terms, insert_entry_is, insert_entry_plain, insert_entry_terms, insert_wait_is, insert_wait_plain, insert_wait_terms}
 use Rattle.uu_statements.proofs.Keyed.{put_by_name, put_last}
-use Rattle.uu_statements.proofs.Unique.{unique_systems, unique_lines, unique_ranges, unique_pieces, unique_entries, agree_text, agree_text_number, agree_text_numbers, agree_numbers}
+use Rattle.uu_statements.proofs.Unique.{unique_systems, unique_lines, unique_ranges, unique_pieces, unique_entries, unique_waits, agree_text, agree_text_number, agree_text_numbers, agree_numbers}
 use Rattle.uu_statements.proofs.Statements.{row_added, adds, fresh_by_index, fresh_by_number, cast_number}
-use Rattle.uu_statements.proofs.Holding.{holds_systems, holds_lines, holds_ranges, holds_jobs, holds_pieces, holds_entries}
+use Rattle.uu_statements.proofs.Holding.{holds_systems, holds_lines, holds_ranges, holds_jobs, holds_pieces, holds_entries, holds_waits}
 
 pub system_added : (old new : State) (x : System) (count : ℕ) → Stands site old.now → Executes insert_system (Text x.name ∷ Int (pos x.max_retries) ∷ []) old new (Ok count)
     → Stands site new.now × ((t : Tables) → Holds old.now.trees t → Holds new.now.trees (record t { systems = insert_by (λ row. row.name) (new_system x) t.systems }))
@@ -104,3 +105,16 @@ entry_added old new x count stands h =
     (λ s there. subst (λ rs. clashes plain (1 ∷ []) rs s ≡ false) made (unique_entries new.now.trees fits s (subst (λ rs. Has rs s) (sym made) there)))
     (λ y s shows same. agree_text row s x.host refl (ap (λ cs. column cs 0) shows ∙ ap Text same))) in
     (it.0, λ t held. holds_entries t old.now.trees new.now.trees _ it.2 held (it.1 t.entries _ (put_by_name (λ row. row.host) x t.entries) held.entries))
+
+pub wait_added : (old new : State) (x : WaitColumns) (count : ℕ) → Stands site old.now → Executes insert_wait (wait_cells x) old new (Ok count)
+    → Stands site new.now × ((t : Tables) → Holds old.now.trees t → Holds new.now.trees (record t { success_waits = insert_by (λ row. row.system) x t.success_waits }))
+wait_added old new x count stands h =
+    let params : Row = wait_cells x in
+    let row : Row = Int (next_rowid (old.now.trees success_waits.tree)) ∷ wait_cells x in
+    let is : inserted old new site stands.schema 7 success_waits refl (statement_of insert_wait (understood site insert_wait)) params count insert_wait_terms 3 ≡ adds old new stands insert_wait params count 7 success_waits refl row =
+    rw (cast_null, cast_int (pos x.wait)) refl in
+    let it = row_added old new stands insert_wait params count 7 success_waits refl wait_key wait_cells wait_places insert_wait_terms 3 insert_wait_is insert_wait_plain h x row is refl refl
+    (λ fits made free numbered. fresh_by_index wait_key wait_cells wait_places (1 ∷ []) x row (old.now.trees success_waits.tree) refl numbered free
+    (λ s there. subst (λ rs. clashes plain (1 ∷ []) rs s ≡ false) made (unique_waits new.now.trees fits s (subst (λ rs. Has rs s) (sym made) there)))
+    (λ y s shows same. agree_text row s x.system refl (ap (λ cs. column cs 0) shows ∙ ap Text same))) in
+    (it.0, λ t held. holds_waits t old.now.trees new.now.trees _ it.2 held (it.1 t.success_waits _ (put_by_name (λ row. row.system) x t.success_waits) held.success_waits))

@@ -186,7 +186,7 @@ next_set old new next count stands h =
           let rows : wrote.0 ≡ row ∷ [] = one_permutation row wrote.0 (subst (λ rs. IsPermutation (shown rs) wrote.0) held.spool order) in
           let did = subst (λ all. WritesTrees site Enforced db (edit_of db spool (ids_of all) Given 1 all) (Ok new.now.trees)) rows wrote.2 in
           let edit : Edit = record { table = spool; gone = pos 1 ∷ []; news = spool_row next ∷ [] } in
-          let is : edit_of db spool (pos 1 ∷ []) Given 1 (row ∷ []) ≡ edit = rw (cast_int (pos 1), cast_null, cast_int (pos next)) in
+          let is : edit_of db spool (pos 1 ∷ []) Given 1 (row ∷ []) ≡ edit = rw (cast_int (pos 1), cast_null, cast_int (pos 2), cast_int (pos next)) in
           let a = one_step site Enforced db new.now.trees edit refl (subst (λ (e : Edit). WritesTrees site Enforced db e (Ok new.now.trees)) is did) in
           holds_next t db new.now.trees next (keeps_one edit db new.now.trees a) held (rw (held.spool, value_cmp-Int (pos 1) (pos 1)) at a.rows),
     )

@@ -6,10 +6,11 @@ use Rattle.uu_tables.specs.declared.rows.SystemColumns.{SystemColumns}
 use Rattle.uu_tables.specs.declared.rows.LineColumns.{LineColumns}
 use Rattle.uu_tables.specs.declared.rows.RangeColumns.{RangeColumns}
 use Rattle.uu_tables.specs.declared.rows.EntryColumns.{EntryColumns}
+use Rattle.uu_tables.specs.declared.rows.WaitColumns.{WaitColumns}
 use Rattle.uu_tables.specs.Tables.{Tables, Piece}
-use Rattle.uu_schema.specs.Schema.{spool, systems, lines, ranges, jobs, pieces, entries}
+use Rattle.uu_schema.specs.Schema.{spool, systems, lines, ranges, jobs, pieces, entries, success_waits}
 use Rattle.uu_schema.specs.Made.{Keeps, spool_row}
-use Rattle.uu_schema.specs.Held.{Holds, AreSystems, AreLines, AreRanges, AreJobs, ArePieces, AreEntries}
+use Rattle.uu_schema.specs.Held.{Holds, AreSystems, AreLines, AreRanges, AreJobs, ArePieces, AreEntries, AreWaits}
 
 -- only `systems` changed
 pub holds_systems : (t : Tables) (old new : Trees) (new_systems : List SystemColumns) → Keeps (systems.tree ∷ []) old new → Holds old t → AreSystems new_systems (new systems.tree) → Holds new (record t { systems = new_systems })
@@ -21,6 +22,7 @@ holds_systems t old new new_systems kept holds are_systems = record {
   jobs = subst (AreJobs t.jobs) (sym (kept.1.1.1.1.0 refl)) holds.jobs;
   pieces = subst (ArePieces t.pieces) (sym (kept.1.1.1.1.1.0 refl)) holds.pieces;
   entries = subst (AreEntries t.entries) (sym (kept.1.1.1.1.1.1.0 refl)) holds.entries;
+  success_waits = subst (AreWaits t.success_waits) (sym (kept.1.1.1.1.1.1.1.0 refl)) holds.success_waits;
 }
 
 -- only `lines` changed
@@ -33,6 +35,7 @@ holds_lines t old new new_lines kept holds are_lines = record {
   jobs = subst (AreJobs t.jobs) (sym (kept.1.1.1.1.0 refl)) holds.jobs;
   pieces = subst (ArePieces t.pieces) (sym (kept.1.1.1.1.1.0 refl)) holds.pieces;
   entries = subst (AreEntries t.entries) (sym (kept.1.1.1.1.1.1.0 refl)) holds.entries;
+  success_waits = subst (AreWaits t.success_waits) (sym (kept.1.1.1.1.1.1.1.0 refl)) holds.success_waits;
 }
 
 -- only `ranges` changed
@@ -45,6 +48,7 @@ holds_ranges t old new new_ranges kept holds are_ranges = record {
   jobs = subst (AreJobs t.jobs) (sym (kept.1.1.1.1.0 refl)) holds.jobs;
   pieces = subst (ArePieces t.pieces) (sym (kept.1.1.1.1.1.0 refl)) holds.pieces;
   entries = subst (AreEntries t.entries) (sym (kept.1.1.1.1.1.1.0 refl)) holds.entries;
+  success_waits = subst (AreWaits t.success_waits) (sym (kept.1.1.1.1.1.1.1.0 refl)) holds.success_waits;
 }
 
 -- only `jobs` changed
@@ -57,6 +61,7 @@ holds_jobs t old new new_jobs kept holds are_jobs = record {
   jobs = are_jobs;
   pieces = subst (ArePieces t.pieces) (sym (kept.1.1.1.1.1.0 refl)) holds.pieces;
   entries = subst (AreEntries t.entries) (sym (kept.1.1.1.1.1.1.0 refl)) holds.entries;
+  success_waits = subst (AreWaits t.success_waits) (sym (kept.1.1.1.1.1.1.1.0 refl)) holds.success_waits;
 }
 
 -- only `pieces` changed
@@ -69,6 +74,7 @@ holds_pieces t old new new_pieces kept holds are_pieces = record {
   jobs = subst (AreJobs t.jobs) (sym (kept.1.1.1.1.0 refl)) holds.jobs;
   pieces = are_pieces;
   entries = subst (AreEntries t.entries) (sym (kept.1.1.1.1.1.1.0 refl)) holds.entries;
+  success_waits = subst (AreWaits t.success_waits) (sym (kept.1.1.1.1.1.1.1.0 refl)) holds.success_waits;
 }
 
 -- only `entries` changed
@@ -81,11 +87,25 @@ holds_entries t old new new_entries kept holds are_entries = record {
   jobs = subst (AreJobs t.jobs) (sym (kept.1.1.1.1.0 refl)) holds.jobs;
   pieces = subst (ArePieces t.pieces) (sym (kept.1.1.1.1.1.0 refl)) holds.pieces;
   entries = are_entries;
+  success_waits = subst (AreWaits t.success_waits) (sym (kept.1.1.1.1.1.1.1.0 refl)) holds.success_waits;
 }
 
--- a system changed with its lines and their ranges
-pub holds_after_system : (t : Tables) (old new : Trees) (new_systems : List SystemColumns) (new_lines : List LineColumns) (new_ranges : List RangeColumns) → Keeps (systems.tree ∷ lines.tree ∷ ranges.tree ∷ []) old new → Holds old t → AreSystems new_systems (new systems.tree) → AreLines new_lines (new lines.tree) → AreRanges new_ranges (new ranges.tree) → Holds new (record t { systems = new_systems; lines = new_lines; ranges = new_ranges })
-holds_after_system t old new new_systems new_lines new_ranges kept holds are_systems are_lines are_ranges = record {
+-- only `success_waits` changed
+pub holds_waits : (t : Tables) (old new : Trees) (new_waits : List WaitColumns) → Keeps (success_waits.tree ∷ []) old new → Holds old t → AreWaits new_waits (new success_waits.tree) → Holds new (record t { success_waits = new_waits })
+holds_waits t old new new_waits kept holds are_waits = record {
+  spool = kept.0 refl ∙ holds.spool;
+  systems = subst (AreSystems t.systems) (sym (kept.1.0 refl)) holds.systems;
+  lines = subst (AreLines t.lines) (sym (kept.1.1.0 refl)) holds.lines;
+  ranges = subst (AreRanges t.ranges) (sym (kept.1.1.1.0 refl)) holds.ranges;
+  jobs = subst (AreJobs t.jobs) (sym (kept.1.1.1.1.0 refl)) holds.jobs;
+  pieces = subst (ArePieces t.pieces) (sym (kept.1.1.1.1.1.0 refl)) holds.pieces;
+  entries = subst (AreEntries t.entries) (sym (kept.1.1.1.1.1.1.0 refl)) holds.entries;
+  success_waits = are_waits;
+}
+
+-- a system changed with its success wait, its lines and their ranges
+pub holds_after_system : (t : Tables) (old new : Trees) (new_systems : List SystemColumns) (new_lines : List LineColumns) (new_ranges : List RangeColumns) (new_waits : List WaitColumns) → Keeps (systems.tree ∷ success_waits.tree ∷ lines.tree ∷ ranges.tree ∷ []) old new → Holds old t → AreSystems new_systems (new systems.tree) → AreLines new_lines (new lines.tree) → AreRanges new_ranges (new ranges.tree) → AreWaits new_waits (new success_waits.tree) → Holds new (record t { systems = new_systems; lines = new_lines; ranges = new_ranges; success_waits = new_waits })
+holds_after_system t old new new_systems new_lines new_ranges new_waits kept holds are_systems are_lines are_ranges are_waits = record {
   spool = kept.0 refl ∙ holds.spool;
   systems = are_systems;
   lines = are_lines;
@@ -93,6 +113,7 @@ holds_after_system t old new new_systems new_lines new_ranges kept holds are_sys
   jobs = subst (AreJobs t.jobs) (sym (kept.1.1.1.1.0 refl)) holds.jobs;
   pieces = subst (ArePieces t.pieces) (sym (kept.1.1.1.1.1.0 refl)) holds.pieces;
   entries = subst (AreEntries t.entries) (sym (kept.1.1.1.1.1.1.0 refl)) holds.entries;
+  success_waits = are_waits;
 }
 
 -- lines changed with their ranges
@@ -105,6 +126,7 @@ holds_after_lines t old new new_lines new_ranges kept holds are_lines are_ranges
   jobs = subst (AreJobs t.jobs) (sym (kept.1.1.1.1.0 refl)) holds.jobs;
   pieces = subst (ArePieces t.pieces) (sym (kept.1.1.1.1.1.0 refl)) holds.pieces;
   entries = subst (AreEntries t.entries) (sym (kept.1.1.1.1.1.1.0 refl)) holds.entries;
+  success_waits = subst (AreWaits t.success_waits) (sym (kept.1.1.1.1.1.1.1.0 refl)) holds.success_waits;
 }
 
 -- a job changed with its pieces
@@ -117,6 +139,7 @@ holds_after_job t old new new_jobs new_pieces kept holds are_jobs are_pieces = r
   jobs = are_jobs;
   pieces = are_pieces;
   entries = subst (AreEntries t.entries) (sym (kept.1.1.1.1.1.1.0 refl)) holds.entries;
+  success_waits = subst (AreWaits t.success_waits) (sym (kept.1.1.1.1.1.1.1.0 refl)) holds.success_waits;
 }
 
 -- only the next number changed
@@ -129,4 +152,5 @@ holds_next t old new next kept holds is = record {
   jobs = subst (AreJobs t.jobs) (sym (kept.1.1.1.1.0 refl)) holds.jobs;
   pieces = subst (ArePieces t.pieces) (sym (kept.1.1.1.1.1.0 refl)) holds.pieces;
   entries = subst (AreEntries t.entries) (sym (kept.1.1.1.1.1.1.0 refl)) holds.entries;
+  success_waits = subst (AreWaits t.success_waits) (sym (kept.1.1.1.1.1.1.1.0 refl)) holds.success_waits;
 }

@@ -38,19 +38,19 @@ use Rattle.uu_sql.specs.Layout.{where_is}
 use Rattle.uu_sql.proofs.Rows.{at_text, at_key}
 use Rattle.uu_sql.proofs.Rowids.{picked_gone}
 use Rattle.uu_tables.specs.Tables.{Tables}
-use Rattle.uu_tables.specs.Changes.{without, has_name, is_line_of, is_range_of, has_number, is_piece_of, is_about}
-use Rattle.uu_schema.specs.Schema.{site, systems, lines, ranges, jobs, pieces, entries, to_system, to_line, to_job}
+use Rattle.uu_tables.specs.Changes.{without, has_name, is_line_of, is_range_of, is_wait_of, has_number, is_piece_of, is_about}
+use Rattle.uu_schema.specs.Schema.{site, systems, lines, ranges, jobs, pieces, entries, success_waits, to_system, to_line, to_job}
 use Rattle.uu_schema.specs.Made.{Keeps}
-use Rattle.uu_schema.specs.Cells.{system_cells, line_cells, range_cells, job_cells, piece_cells, entry_cells}
-use Rattle.uu_schema.specs.Held.{Holds, AreSystems, AreLines, AreRanges, AreJobs, ArePieces, AreEntries, system_key, line_key, range_key, job_key, piece_key, entry_key, system_places, line_places, range_places, job_places, piece_places, entry_places}
+use Rattle.uu_schema.specs.Cells.{system_cells, line_cells, range_cells, job_cells, piece_cells, entry_cells, wait_cells}
+use Rattle.uu_schema.specs.Held.{Holds, AreSystems, AreLines, AreRanges, AreJobs, ArePieces, AreEntries, AreWaits, system_key, line_key, range_key, job_key, piece_key, entry_key, wait_key, system_places, line_places, range_places, job_places, piece_places, entry_places, wait_places}
 use Rattle.uu_schema.proofs.Keeps.{keeps_one, keeps_more, keeps_all}
-use Rattle.uu_statements.specs.Texts.{delete_system, delete_lines, delete_job, delete_entry}
-use Rattle.uu_statements.proofs.Texts.{delete_system_is, delete_system_plain, delete_lines_is, delete_lines_plain, delete_job_is, delete_job_plain, delete_entry_is, delete_entry_plain}
+use Rattle.uu_statements.specs.Texts.{delete_system, delete_lines, delete_job, delete_entry, delete_wait}
+use Rattle.uu_statements.proofs.Texts.{delete_system_is, delete_system_plain, delete_lines_is, delete_lines_plain, delete_job_is, delete_job_plain, delete_entry_is, delete_entry_plain, delete_wait_is, delete_wait_plain}
 use Rattle.uu_statements.proofs.Keyed.{all_cells, fewer}
 use Rattle.uu_statements.proofs.Statements.{took, Took, takes}
 use Rattle.uu_statements.proofs.Altered.{is_text, text_test, is_number, number_test}
-use Rattle.uu_statements.proofs.Holding.{holds_entries, holds_after_system, holds_after_lines, holds_after_job}
-use Rattle.uu_statements.proofs.Deeds.{one_deed, nothing_due, removes, After}
+use Rattle.uu_statements.proofs.Holding.{holds_entries, holds_waits, holds_after_system, holds_after_lines, holds_after_job}
+use Rattle.uu_statements.proofs.Deeds.{one_deed, last_deed, nothing_due, removes, After, AfterLast}
 use Rattle.uu_statements.proofs.Lost.{AreApart, apart_of, Loses, loses_none, exactly, taken_as, of_taken, shown_of, children_lost}
 
 -- ---- what the keys set off
@@ -58,13 +58,16 @@ use Rattle.uu_statements.proofs.Lost.{AreApart, apart_of, Loses, loses_none, exa
 abbrev due_lines : List Row → Work
 due_lines olds = record { depth = 0; child = lines; ref = to_system; places = 1 ∷ []; order = plain; deed = deed.Delete; moves = pairs olds [] }
 
+abbrev due_waits : List Row → Work
+due_waits olds = record { depth = 0; child = success_waits; ref = to_system; places = 1 ∷ []; order = plain; deed = deed.Delete; moves = pairs olds [] }
+
 abbrev due_ranges : ℕ → List Row → Work
 due_ranges depth olds = record { depth = depth; child = ranges; ref = to_line; places = 1 ∷ 2 ∷ []; order = plain; deed = deed.Delete; moves = pairs olds [] }
 
 abbrev due_pieces : List Row → Work
 due_pieces olds = record { depth = 0; child = pieces; ref = to_job; places = 0 ∷ []; order = plain; deed = deed.Delete; moves = pairs olds [] }
 
-of_systems : (olds : List Row) → works site Enforced 0 systems.tree olds [] ≡ cond (list_any (loses plain (1 ∷ [])) (pairs olds [])) (due_lines olds ∷ []) []
+of_systems : (olds : List Row) → works site Enforced 0 systems.tree olds [] ≡ cond (list_any (loses plain (1 ∷ [])) (pairs olds [])) (due_lines olds ∷ due_waits olds ∷ []) []
 unfolding same_name joined
 of_systems olds = elim (cases_Bool (list_any (loses plain (1 ∷ [])) (pairs olds []))) [ inl some ↦ rw some refl | inr none ↦ rw none refl ]
 
@@ -75,6 +78,10 @@ of_lines depth olds = elim (cases_Bool (list_any (loses plain (1 ∷ 2 ∷ [])) 
 of_ranges : (depth : ℕ) (olds : List Row) → works site Enforced depth ranges.tree olds [] ≡ []
 unfolding same_name joined
 of_ranges depth olds = refl
+
+of_waits : (depth : ℕ) (olds : List Row) → works site Enforced depth success_waits.tree olds [] ≡ []
+unfolding same_name joined
+of_waits depth olds = refl
 
 of_jobs : (olds : List Row) → works site Enforced 0 jobs.tree olds [] ≡ cond (list_any (loses plain (0 ∷ [])) (pairs olds [])) (due_pieces olds ∷ []) []
 unfolding same_name joined
@@ -230,6 +237,28 @@ line_left name db left r h = elim (or_cases _ _ (and_parts _ true h).0) [
       unpassed (is_text name 1 r) (λ named. true≢false (sym (named_by name it.0 r (agree_first 1 1 [] [] it.0 r it.2) named) ∙ left it.0 it.1))
 ]
 
+-- ---- success waits go with their systems, before the lines do
+
+-- the success waits went, and the lines are still to go, where the systems lost their key
+record WaitsFall (name : List ℕ) (some : Bool) (olds : List Row) (old new : Trees) : Type 0 where
+  mid : Trees
+  fall : Falls (is_text name 1) success_waits.tree old mid
+  rest : Settles site Enforced mid (cond some (due_lines olds ∷ []) []) (Ok new)
+
+waits_fall : (name : List ℕ) (old new : Trees) (olds : List Row) → AreApart (old success_waits.tree) → ((x : Row) → Has olds x → is_text name 1 x ≡ true) → (some : Bool) → Settles site Enforced old (cond some (due_lines olds ∷ due_waits olds ∷ []) []) (Ok new) → WaitsFall name some olds old new
+waits_fall name old new olds apart named false s = record { mid = old; fall = none_falls (is_text name 1) success_waits.tree old old refl; rest = s }
+waits_fall name old new olds apart named true s = let it = last_deed site Enforced old new (due_lines olds ∷ []) (due_waits olds) refl s in after it.0 it.1 it.2
+  where
+    after : (ids : List ℤ) → AreChildren old (due_waits olds) ids → AfterLast site Enforced old new (due_lines olds ∷ []) (due_waits olds) ids → WaitsFall name true olds old new
+    after ids children (inl none) = record { mid = old; fall = none_falls (is_text name 1) success_waits.tree old old refl; rest = none.1 }
+    after ids children (inr some) =
+        let edit = removes site Enforced (due_waits olds) ids in
+        record {
+          mid = some.0;
+          fall = record { lost = subst (Loses (is_text name 1) (old success_waits.tree)) (sym some.1.rows) (children_lost old (due_waits olds) ids (is_text name 1) apart children (line_named name olds named)); others = keeps_one edit old some.0 some.1 };
+          rest = subst (λ more. Settles site Enforced some.0 (due_lines olds ∷ more) (Ok new)) (of_waits 1 (taken_by old edit)) some.2;
+        }
+
 record LinesFall (name : List ℕ) (old new : Trees) : Type 0 where
   others : Keeps (lines.tree ∷ ranges.tree ∷ []) old new
   lines : Loses (is_text name 1) (old lines.tree) (new lines.tree)
@@ -238,8 +267,8 @@ record LinesFall (name : List ℕ) (old new : Trees) : Type 0 where
 no_line_falls : (name : List ℕ) (old new : Trees) → new ≡ old → LinesFall name old new
 no_line_falls name old new same = subst (LinesFall name old) (sym same) (record { lines = loses_none (is_text name 1) (old lines.tree); ranges = loses_none (is_text name 1) (old ranges.tree); others = keeps_all (lines.tree ∷ ranges.tree ∷ []) old })
 
-lines_fall : (name : List ℕ) (old new : Trees) (olds : List Row) → AreApart (old lines.tree) → AreApart (old ranges.tree) → ((x : Row) → Has olds x → is_text name 1 x ≡ true) → Settles site Enforced old (works site Enforced 0 systems.tree olds []) (Ok new) → LinesFall name old new
-lines_fall name old new olds apart below named settles = go (list_any (loses plain (1 ∷ [])) (pairs olds [])) (subst (λ stack. Settles site Enforced old stack (Ok new)) (of_systems olds) settles)
+lines_fall : (name : List ℕ) (old new : Trees) (olds : List Row) → AreApart (old lines.tree) → AreApart (old ranges.tree) → ((x : Row) → Has olds x → is_text name 1 x ≡ true) → (some : Bool) → Settles site Enforced old (cond some (due_lines olds ∷ []) []) (Ok new) → LinesFall name old new
+lines_fall name old new olds apart below named = go
   where
     after : (ids : List ℤ) → AreChildren old (due_lines olds) ids → After site Enforced old new (due_lines olds) ids → LinesFall name old new
     after ids children (inl none) = no_line_falls name old new none.1
@@ -331,6 +360,9 @@ module _ (name : List ℕ) (t : Tables) (old new : Trees) (held : Holds old t) w
   entries_left : new entries.tree ≡ filter (λ r. not (is_text name 1 r)) (old entries.tree) → AreEntries (without (is_about name) t.entries) (new entries.tree)
   entries_left is = subst (AreEntries _) (sym is) (fewer entry_key entry_cells entry_places (is_about name) (is_text name 1) (is_text name 0) (λ x. text_test name x.host) (λ r. refl) t.entries (old entries.tree) held.entries)
 
+  waits_left : new success_waits.tree ≡ filter (λ r. not (is_text name 1 r)) (old success_waits.tree) → AreWaits (without (is_wait_of name) t.success_waits) (new success_waits.tree)
+  waits_left is = subst (AreWaits _) (sym is) (fewer wait_key wait_cells wait_places (is_wait_of name) (is_text name 1) (is_text name 0) (λ x. text_test name x.system) (λ r. refl) t.success_waits (old success_waits.tree) held.success_waits)
+
   -- each range has a place
   range_placed : AllByRecursion (λ r. is_null (column r 2) ≡ false) (old ranges.tree)
   range_placed = all_cells range_key range_cells range_places (λ cs. is_null (column cs 1) ≡ false) (λ x. refl) t.ranges (old ranges.tree) held.ranges
@@ -355,6 +387,19 @@ entry_gone old new host count stands h =
           subst (λ trees. Holds trees (record t { entries = without (is_about host) t.entries })) (sym same) (holds_entries t db out.mid _ out.kept held (entries_left host t db out.mid held out.rows)),
     )
 
+pub wait_gone : (old new : State) (name : List ℕ) (count : ℕ) → Stands site old.now → Executes delete_wait (Text name ∷ []) old new (Ok count)
+    → Stands site new.now × ((t : Tables) → Holds old.now.trees t → Holds new.now.trees (record t { success_waits = without (is_wait_of name) t.success_waits }))
+wait_gone old new name count stands h =
+    let db = old.now.trees in
+    let next = new.now.trees in
+    let it = took old new stands delete_wait (Text name ∷ []) count 7 success_waits refl (where_is 1 0 ∷ []) delete_wait_is delete_wait_plain h refl in (
+      it.now_stands,
+      λ t held.
+          let out = gone old new stands delete_wait (Text name ∷ []) count 7 success_waits refl (where_is 1 0 ∷ []) (is_text name 1) it (apart_of wait_key wait_cells wait_places t.success_waits (db success_waits.tree) held.success_waits) (filter_same _ (is_text name 1) (at_text 1 name []) (db success_waits.tree)) in
+          let same : next ≡ out.mid = nothing_due site Enforced out.settles.0 out.mid next (subst (λ stack. Leads site Enforced out.settles.0 out.mid stack (Ok next)) (of_waits 0 out.olds) out.settles.1) in
+          subst (λ trees. Holds trees (record t { success_waits = without (is_wait_of name) t.success_waits })) (sym same) (holds_waits t db out.mid _ out.kept held (waits_left name t db out.mid held out.rows)),
+    )
+
 pub lines_gone : (old new : State) (name : List ℕ) (count : ℕ) → Stands site old.now → Executes delete_lines (Text name ∷ []) old new (Ok count)
     → Stands site new.now × ((t : Tables) → Holds old.now.trees t → Holds new.now.trees (record t { lines = without (is_line_of name) t.lines; ranges = without (is_range_of name) t.ranges }))
 lines_gone old new name count stands h =
@@ -373,7 +418,7 @@ lines_gone old new name count stands h =
 
 pub system_gone : (old new : State) (name : List ℕ) (count : ℕ) → Stands site old.now → Executes delete_system (Text name ∷ []) old new (Ok count)
     → Stands site new.now × ((t : Tables) → Holds old.now.trees t
-    → Holds new.now.trees (record t { systems = without (has_name name) t.systems; lines = without (is_line_of name) t.lines; ranges = without (is_range_of name) t.ranges }))
+    → Holds new.now.trees (record t { systems = without (has_name name) t.systems; lines = without (is_line_of name) t.lines; ranges = without (is_range_of name) t.ranges; success_waits = without (is_wait_of name) t.success_waits }))
 system_gone old new name count stands h =
     let db = old.now.trees in
     let next = new.now.trees in
@@ -383,14 +428,25 @@ system_gone old new name count stands h =
           let out = gone old new stands delete_system (Text name ∷ []) count 1 systems refl (where_is 1 0 ∷ []) (is_text name 1) it (apart_of system_key system_cells system_places t.systems (db systems.tree) held.systems) (filter_same _ (is_text name 1) (at_text 1 name []) (db systems.tree)) in
           let lines_same : out.mid lines.tree ≡ db lines.tree = out.kept.1.1.0 refl in
           let ranges_same : out.mid ranges.tree ≡ db ranges.tree = out.kept.1.1.1.0 refl in
-          let fall = lines_fall name out.mid next out.olds (subst AreApart (sym lines_same) (apart_of line_key line_cells line_places t.lines (db lines.tree) held.lines)) (subst AreApart (sym ranges_same) (apart_of range_key range_cells range_places t.ranges (db ranges.tree) held.ranges))
-          (λ x there. (out.each x there).1) out.settles in
-          let own : next systems.tree ≡ filter (λ r. not (is_text name 1 r)) (db systems.tree) = fall.others.1.0 refl ∙ out.rows in
-          let lost : Loses (is_text name 1) (db lines.tree) (next lines.tree) = subst (λ rows. Loses (is_text name 1) rows (next lines.tree)) lines_same fall.lines in
+          let waits_same : out.mid success_waits.tree ≡ db success_waits.tree = out.kept.1.1.1.1.1.1.1.0 refl in
+          let named = λ (x : Row) (there : Has out.olds x). (out.each x there).1 in
+          let some = list_any (loses plain (1 ∷ [])) (pairs out.olds []) in
+          let first = waits_fall name out.mid next out.olds (subst AreApart (sym waits_same) (apart_of wait_key wait_cells wait_places t.success_waits (db success_waits.tree) held.success_waits)) named some
+          (subst (λ stack. Settles site Enforced out.mid stack (Ok next)) (of_systems out.olds) out.settles) in
+          let kept = first.fall.others in
+          let lines_still : first.mid lines.tree ≡ db lines.tree = kept.1.1.0 refl ∙ lines_same in
+          let ranges_still : first.mid ranges.tree ≡ db ranges.tree = kept.1.1.1.0 refl ∙ ranges_same in
+          let fall = lines_fall name first.mid next out.olds (subst AreApart (sym lines_still) (apart_of line_key line_cells line_places t.lines (db lines.tree) held.lines)) (subst AreApart (sym ranges_still) (apart_of range_key range_cells range_places t.ranges (db ranges.tree) held.ranges)) named some first.rest in
+          let waits_are : next success_waits.tree ≡ first.mid success_waits.tree = fall.others.1.1.1.1.1.1.1.0 refl in
+          let lost_waits : Loses (is_text name 1) (db success_waits.tree) (next success_waits.tree) = subst (Loses (is_text name 1) (db success_waits.tree)) (sym waits_are) (subst (λ rows. Loses (is_text name 1) rows (first.mid success_waits.tree)) waits_same first.fall.lost) in
+          let own : next systems.tree ≡ filter (λ r. not (is_text name 1 r)) (db systems.tree) = fall.others.1.0 refl ∙ kept.1.0 refl ∙ out.rows in
+          let lost : Loses (is_text name 1) (db lines.tree) (next lines.tree) = subst (λ rows. Loses (is_text name 1) rows (next lines.tree)) lines_still fall.lines in
           let no_system = none_left (is_text name 1) (db systems.tree) (next systems.tree) own in
           let children : next lines.tree ≡ filter (λ r. not (is_text name 1 r)) (db lines.tree) = exactly (is_text name 1) (db lines.tree) (next lines.tree) lost (λ x there. line_left name next no_system x (all_has _ (next lines.tree) x it.refers.1.1.0 there)) in
-          let grandchildren = all_ranges name t db next held it.refers (subst (λ rows. Loses (is_text name 1) rows (next ranges.tree)) ranges_same fall.ranges) (none_left (is_text name 1) (db lines.tree) (next lines.tree) children) in
-          holds_after_system t db next _ _ _ (keeps_more systems.tree (lines.tree ∷ ranges.tree ∷ []) db out.mid next out.kept fall.others) held (systems_left name t db next held own) (lines_left name t db next held children) (ranges_left name t db next held grandchildren),
+          let grandchildren = all_ranges name t db next held it.refers (subst (λ rows. Loses (is_text name 1) rows (next ranges.tree)) ranges_still fall.ranges) (none_left (is_text name 1) (db lines.tree) (next lines.tree) children) in
+          let waits : next success_waits.tree ≡ filter (λ r. not (is_text name 1 r)) (db success_waits.tree) = exactly (is_text name 1) (db success_waits.tree) (next success_waits.tree) lost_waits (λ x there. line_left name next no_system x (all_has _ (next success_waits.tree) x it.refers.1.1.1.1.1.1.1.0 there)) in
+          holds_after_system t db next _ _ _ _ (keeps_more systems.tree (success_waits.tree ∷ lines.tree ∷ ranges.tree ∷ []) db out.mid next out.kept (keeps_more success_waits.tree (lines.tree ∷ ranges.tree ∷ []) out.mid first.mid next kept fall.others)) held
+          (systems_left name t db next held own) (lines_left name t db next held children) (ranges_left name t db next held grandchildren) (waits_left name t db next held waits),
     )
 
 pub job_gone : (old new : State) (number count : ℕ) → Stands site old.now → Executes delete_job (Int (pos number) ∷ []) old new (Ok count)

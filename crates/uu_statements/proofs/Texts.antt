@@ -9,7 +9,7 @@ use Rattle.sqlite.specs.Listing.{understood}
 use Rattle.sqlite.proofs.Callers.{IsPlain, command_of}
 use Rattle.uu_sql.specs.Layout.{over, where_is}
 use Rattle.uu_schema.specs.Schema.{site}
-use Rattle.uu_statements.specs.Texts.{insert_system, set_retries, set_calls, delete_system, insert_line, delete_lines, insert_range, insert_job, set_rank, set_second, delete_job, insert_piece, insert_entry, delete_entry, set_number}
+use Rattle.uu_statements.specs.Texts.{insert_system, set_retries, set_calls, delete_system, insert_line, delete_lines, insert_range, insert_job, set_rank, set_second, delete_job, insert_piece, insert_entry, delete_entry, insert_wait, delete_wait, set_number}
 
 abbrev pub insert_system_terms : List Term
 insert_system_terms = lit Null ∷ col 0 0 ∷ col 0 1 ∷ lit (Int (pos 0)) ∷ lit (Int (pos 0)) ∷ lit (Int (pos 0)) ∷ lit (Int (pos 0)) ∷ lit Null ∷ []
@@ -152,6 +152,25 @@ delete_entry_is = refl
 pub delete_entry_plain : IsPlain (understood site delete_entry)
 unfolding understood everything
 delete_entry_plain = (refl, refl)
+
+abbrev pub insert_wait_terms : List Term
+insert_wait_terms = lit Null ∷ col 0 0 ∷ col 0 1 ∷ []
+
+pub insert_wait_is : command_of (understood site insert_wait) ≡ Insert 7 (Values insert_wait_terms 3)
+unfolding understood everything
+insert_wait_is = refl
+
+pub insert_wait_plain : IsPlain (understood site insert_wait)
+unfolding understood everything
+insert_wait_plain = (refl, refl)
+
+pub delete_wait_is : command_of (understood site delete_wait) ≡ Delete 7 (record { lets = []; body = over 12 (where_is 1 0 ∷ []) (col 1 0 ∷ []) })
+unfolding understood everything
+delete_wait_is = refl
+
+pub delete_wait_plain : IsPlain (understood site delete_wait)
+unfolding understood everything
+delete_wait_plain = (refl, refl)
 
 abbrev pub set_number_terms : List Term
 set_number_terms = col 1 0 ∷ col 1 0 ∷ lit Null ∷ col 1 2 ∷ col 0 0 ∷ []

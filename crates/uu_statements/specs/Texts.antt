@@ -43,5 +43,11 @@ insert_entry = codes "INSERT INTO entries (host, bytes) VALUES (?1, ?2)"
 abbrev pub delete_entry : List ℕ
 delete_entry = codes "DELETE FROM entries WHERE host = ?1"
 
+abbrev pub insert_wait : List ℕ
+insert_wait = codes "INSERT INTO success_waits (system, wait) VALUES (?1, ?2)"
+
+abbrev pub delete_wait : List ℕ
+delete_wait = codes "DELETE FROM success_waits WHERE system = ?1"
+
 abbrev pub set_number : List ℕ
 set_number = codes "UPDATE spool SET next = ?1"

@@ -11,7 +11,9 @@ ghost use Rattle.uu_statements.specs.Makes.{Makes, MakesAll};
 use crate::entries::{add_entry, remove_entry};
 use crate::jobs::{add_job, add_piece, remove_job, set_grade, set_next, set_queued};
 use crate::lines::{add_line, add_range, remove_lines};
-use crate::systems::{add_system, remove_system, set_call, set_max_retries};
+use crate::systems::{
+    add_success_wait, add_system, remove_success_wait, remove_system, set_call, set_max_retries,
+};
 use sqlite::{Alter, Connection, Error, Transaction};
 use std::alloc::Global;
 use uu_schema::Halt;
@@ -35,6 +37,8 @@ fn write<S: Alter>(
         Change::SetCall { system, call } => set_call(tx, system, call),
         Change::RemoveSystem { system } => remove_system(tx, system),
         Change::RemoveLines { system } => remove_lines(tx, system),
+        Change::AddSuccessWait { system, wait } => add_success_wait(tx, system, *wait),
+        Change::RemoveSuccessWait { system } => remove_success_wait(tx, system),
         Change::AddLine {
             system,
             place,

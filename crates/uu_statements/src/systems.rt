@@ -70,6 +70,33 @@ pub(crate) fn set_call<S: Alter>(
     )
 }
 
+pub(crate) fn add_success_wait<S: Alter>(
+    tx: &mut Transaction<'_, S>,
+    system: &SiteName,
+    wait: u32,
+) -> Result<usize, Error>
+    ensures same_reference { tx.new.conn.ghost_name ≡ tx.old.conn.ghost_name }
+    ensures outcome { Outcome site site (Makes (Change.AddSuccessWait system.entry wait)) (state S.Store tx.old.conn.now) (state S.Store tx.new.conn.now) result }
+{
+    tx.execute(
+        "INSERT INTO success_waits (system, wait) VALUES (?1, ?2)",
+        params![system.as_str(), wait],
+    )
+}
+
+pub(crate) fn remove_success_wait<S: Alter>(
+    tx: &mut Transaction<'_, S>,
+    system: &SiteName,
+) -> Result<usize, Error>
+    ensures same_reference { tx.new.conn.ghost_name ≡ tx.old.conn.ghost_name }
+    ensures outcome { Outcome site site (Makes (Change.RemoveSuccessWait system.entry)) (state S.Store tx.old.conn.now) (state S.Store tx.new.conn.now) result }
+{
+    tx.execute(
+        "DELETE FROM success_waits WHERE system = ?1",
+        params![system.as_str()],
+    )
+}
+
 pub(crate) fn remove_system<S: Alter>(
     tx: &mut Transaction<'_, S>,
     system: &SiteName,

@@ -14,7 +14,7 @@ use Rattle.uu_store.proofs.Reopening.{Outcome}
 
 -- what is kept is well-formed
 pub good_of : IsWellFormed empty → (trees : Trees) (s : State) → Keeps trees s → IsWellFormed s
-good_of none trees s (inl it) = it.1.good
+good_of none trees s (inl it) = it.2.good
 good_of none trees s (inr it) = subst IsWellFormed (sym it.1) none
 
 module _ (none : IsWellFormed empty)

@@ -10,10 +10,11 @@ use Rattle.uu_tables.specs.declared.rows.SystemColumns.{SystemColumns}
 use Rattle.uu_tables.specs.declared.rows.LineColumns.{LineColumns}
 use Rattle.uu_tables.specs.declared.rows.RangeColumns.{RangeColumns}
 use Rattle.uu_tables.specs.declared.rows.EntryColumns.{EntryColumns}
+use Rattle.uu_tables.specs.declared.rows.WaitColumns.{WaitColumns}
 use Rattle.uu_tables.specs.Tables.{Piece}
 use Rattle.uu_check.specs.Readable.{IsJobRow}
 use Rattle.uu_check.specs.Tests.{is_kind, is_head}
-use Rattle.uu_schema.specs.Cells.{system_cells, line_cells, range_cells, job_cells, piece_cells, entry_cells, kind_number, first_word, second_word}
+use Rattle.uu_schema.specs.Cells.{system_cells, line_cells, range_cells, job_cells, piece_cells, entry_cells, wait_cells, kind_number, first_word, second_word}
 use Rattle.uu_store.proofs.Words.{same_words}
 
 same_text : (o p : Option (List ℕ)) → or_null Text o ≡ or_null Text p → o ≡ p
@@ -69,6 +70,12 @@ same_entry a b h =
     let host : a.host ≡ b.host = cc in
     let bytes : a.bytes ≡ b.bytes = cc in
     λ i. record { host = host i; bytes = bytes i }
+
+pub same_wait : (a b : WaitColumns) → wait_cells a ≡ wait_cells b → a ≡ b
+same_wait a b h =
+    let system : a.system ≡ b.system = cc in
+    let wait : a.wait ≡ b.wait = cc in
+    λ i. record { system = system i; wait = wait i }
 
 -- ---- jobs
 

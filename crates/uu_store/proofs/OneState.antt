@@ -1,5 +1,5 @@
 -- A database holds at most one state's tables.
-use Rattle.std.proofs.Common.{◌≡◌, inl, inr, suc, ◌<◌, List, [], ◌∷◌, map, All, AllPairs, Ordering, Less, refl, sym, ap, subst, ◌∙◌, arith}
+use Rattle.std.proofs.Common.{◌≡◌, inl, inr, ℕ, suc, ◌<◌, List, [], ◌∷◌, map, All, AllPairs, Ordering, Less, refl, sym, ap, subst, ◌∙◌, arith}
 use Rattle.std.specs.List.{AllByRecursion}
 use Rattle.std.specs.List.Sorted.{IsPermutation}
 use Rattle.std.specs.Cmp.{IsTotalOrder}
@@ -19,14 +19,18 @@ use Rattle.uu_tables.specs.declared.rows.SystemColumns.{SystemColumns}
 use Rattle.uu_tables.specs.declared.rows.LineColumns.{LineColumns}
 use Rattle.uu_tables.specs.declared.rows.RangeColumns.{RangeColumns}
 use Rattle.uu_tables.specs.declared.rows.EntryColumns.{EntryColumns}
+use Rattle.uu_tables.specs.declared.rows.WaitColumns.{WaitColumns}
 use Rattle.uu_tables.specs.Tables.{Tables, Piece, tables_of}
 use Rattle.uu_tables.specs.Order.{line_cmp, range_cmp, piece_cmp}
 use Rattle.uu_check.specs.Order.{AreInOrder}
 use Rattle.uu_check.specs.Readable.{IsJobRow, AreReadable}
-use Rattle.uu_schema.specs.Held.{Holds}
-use Rattle.uu_schema.specs.Cells.{system_cells, line_cells, range_cells, job_cells, piece_cells, entry_cells}
-use Rattle.uu_database.specs.Encoded.{HoldsState}
-use Rattle.uu_store.proofs.CellsTell.{same_system, same_line, same_range, same_job, same_piece, same_entry}
+use Rattle.uu_schema.specs.declared.version.Version.{Version}
+use Rattle.uu_schema.specs.declared.version.Version.TheVariants.{First, Second}
+use Rattle.uu_schema.specs.Made.{spool_row_of}
+use Rattle.uu_schema.specs.Held.{HoldsAs, AreWaitsOf}
+use Rattle.uu_schema.specs.Cells.{system_cells, line_cells, range_cells, job_cells, piece_cells, entry_cells, wait_cells}
+use Rattle.uu_database.specs.Encoded.{HoldsStateAs}
+use Rattle.uu_store.proofs.CellsTell.{same_system, same_line, same_range, same_job, same_piece, same_entry, same_wait}
 
 -- ---- lists in one strict order with the same members
 
@@ -96,7 +100,14 @@ pieces_total = then_total (on_total (λ (p : Piece). p.job) nat_cmp_total) (on_t
 
 -- ---- tables
 
-module _ (trees : Trees) (t u : Tables) (order : AreInOrder t) (other_order : AreInOrder u) (readable : AreReadable t) (other_readable : AreReadable u) (holds : Holds trees t) (other_holds : Holds trees u) where
+-- the one row of `spool` tells the version
+same_version : (v w : Version) (n m : ℕ) → ◌≡◌ {A = List Row} (spool_row_of v n ∷ []) (spool_row_of w m ∷ []) → v ≡ w
+same_version First First n m h = refl
+same_version First Second n m h = absurd (let e : ◌≡◌ {A = ℕ} 1 2 = cc in omega (arith, e))
+same_version Second First n m h = absurd (let e : ◌≡◌ {A = ℕ} 2 1 = cc in omega (arith, e))
+same_version Second Second n m h = refl
+
+module _ (v : Version) (trees : Trees) (t u : Tables) (order : AreInOrder t) (other_order : AreInOrder u) (readable : AreReadable t) (other_readable : AreReadable u) (holds : HoldsAs v trees t) (other_holds : HoldsAs v trees u) where
   next_is : t.next ≡ u.next
   next_is = let same = sym holds.spool ∙ other_holds.spool in cc
 
@@ -129,13 +140,26 @@ module _ (trees : Trees) (t u : Tables) (order : AreInOrder t) (other_order : Ar
   entries_are = same_rows (λ (a b : EntryColumns). ComesBefore a.host b.host) (λ a b. never_both nat_list_cmp_total a.host b.host) entry_cells (λ _. Unit {0}) (λ a b g f. same_entry a b) t.entries u.entries _
       order.entries other_order.entries (each_fine t.entries) (each_fine u.entries) holds.entries.same other_holds.entries.same
 
+  waits_of : (v : Version) → AreWaitsOf v t.success_waits trees → AreWaitsOf v u.success_waits trees → t.success_waits ≡ u.success_waits
+  waits_of First h k = h ∙ sym k
+  waits_of Second h k = same_rows (λ (a b : WaitColumns). ComesBefore a.system b.system) (λ a b. never_both nat_list_cmp_total a.system b.system) wait_cells (λ _. Unit {0}) (λ a b g f. same_wait a b) t.success_waits u.success_waits _
+      order.success_waits other_order.success_waits (each_fine t.success_waits) (each_fine u.success_waits) h.same k.same
+
+  waits_are : t.success_waits ≡ u.success_waits
+  waits_are = waits_of v holds.success_waits other_holds.success_waits
+
   same_tables : t ≡ u
-  same_tables = λ i. record { next = next_is i; systems = systems_are i; lines = lines_are i; ranges = ranges_are i; jobs = jobs_are i; pieces = pieces_are i; entries = entries_are i }
+  same_tables = λ i. record { next = next_is i; systems = systems_are i; lines = lines_are i; ranges = ranges_are i; jobs = jobs_are i; pieces = pieces_are i; entries = entries_are i; success_waits = waits_are i }
 
 -- ---- states, by what the laws of the tables say
 
 module _ (in_order : (s : State) → IsWellFormed s → AreInOrder (tables_of s)) (readable : (s : State) → IsWellFormed s → AreReadable (tables_of s)) (told : (s t : State) → IsWellFormed s → IsWellFormed t → tables_of s ≡ tables_of t → s ≡ t) where
-  pub one_state : (trees : Trees) (one other : State) → HoldsState trees one → HoldsState trees other → one ≡ other
-  one_state trees one other h k =
+  of_version : (v : Version) (trees : Trees) (one other : State) → HoldsStateAs v trees one → HoldsStateAs v trees other → one ≡ other
+  of_version v trees one other h k =
       told one other h.good k.good
-      (same_tables trees (tables_of one) (tables_of other) (in_order one h.good) (in_order other k.good) (readable one h.good) (readable other k.good) h.tables k.tables)
+      (same_tables v trees (tables_of one) (tables_of other) (in_order one h.good) (in_order other k.good) (readable one h.good) (readable other k.good) h.tables k.tables)
+
+  pub one_state : (v w : Version) (trees : Trees) (one other : State) → HoldsStateAs v trees one → HoldsStateAs w trees other → one ≡ other
+  one_state v w trees one other h k =
+      let same : w ≡ v = same_version w v other.next one.next (sym k.tables.spool ∙ h.tables.spool) in
+      of_version v trees one other h (subst (λ x. HoldsStateAs x trees other) same k)

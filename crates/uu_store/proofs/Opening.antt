@@ -1,5 +1,5 @@
 -- From what the files of a spool hold to what it shows.
-use Rattle.std.proofs.Common.{◌≡◌, ◌≢◌, ◌⊎◌, inl, inr, true, [], Option, Some, None, refl, sym, ap, subst, ◌∙◌, arith}
+use Rattle.std.proofs.Common.{◌≡◌, ◌≢◌, ◌⊎◌, inl, inr, [], Option, Some, None, refl, sym, ap, subst, ◌∙◌, arith}
 use Rattle.std.specs.Prelude.{IsTrue, IfSome}
 use Rattle.std.proofs.Math.Logic.{∥∥₁_map}
 use Rattle.sqlite.specs.Tree.{Trees}
@@ -27,13 +27,14 @@ use Rattle.sqlite_store.specs.FileStore.{view}
 use Rattle.sqlite_store.specs.FileStore as store
 use Rattle.uu_sql.specs.Steps.{Rests, Stands}
 use Rattle.uu_core.specs.State.{State, empty}
-use Rattle.uu_schema.specs.Schema.{site, no_schema}
+use Rattle.uu_schema.specs.declared.version.Version.{Version}
+use Rattle.uu_schema.specs.Schema.{site_of, no_schema}
 use Rattle.uu_store.specs.declared.remains.OpenFault.{OpenFault}
 use Rattle.uu_store.specs.declared.remains.Remains.{Remains}
 use Rattle.uu_store.specs.declared.remains.Remains.TheVariants as remains
 use Rattle.uu_store.specs.declared.spool.Spool.{Spool}
-use Rattle.uu_database.specs.Encoded.{Encodes}
-use Rattle.uu_database.specs.Adoption.{StopsAs}
+use Rattle.uu_database.specs.Encoded.{EncodesAs}
+use Rattle.uu_database.specs.Adoption.{StopsAs, UnlessFailed}
 use Rattle.uu_taking.specs.Version.{IsLater}
 use Rattle.uu_store.specs.Kept.{Keeps, Stores}
 use Rattle.uu_store.specs.Spool.{disk, Shows}
@@ -43,17 +44,17 @@ use Rattle.uu_schema.specs.declared.fault.StoreFault.TheVariants.{Memory, Store,
 use Rattle.uu_schema.specs.declared.fault.StoreKind.{StoreKind}
 use Rattle.uu_schema.specs.declared.fault.StoreKind.TheVariants as part
 use Rattle.uu_schema.specs.Faults.{kind_of_error}
-use Rattle.uu_database.specs.FoundTables.{HasNone, HasAll, HasOther}
-use Rattle.uu_store.specs.Openings.{ImageHasOther, ImageHasSome, ImageKeeps, IsFound, IsFoundIfClean, IsNamed, IsNotTaken, IsOfNoContents, IsToldRightly, LeavesAlone, LeavesAsKept, LeavesSame, remains_of, remains_of_opening}
+use Rattle.uu_database.specs.FoundTables.{HasNoneOrAll, HasOther}
+use Rattle.uu_store.specs.Openings.{HasSome, ImageHasOther, StaysAfter, ImageKeeps, IsFound, IsFoundIfClean, IsNamed, IsNotTaken, IsOfNoContents, IsToldRightly, LeavesAlone, LeavesAsKept, LeavesSame, remains_of, remains_of_opening}
 use Rattle.uu_database.proofs.Creating.{none_or_other, some_or_other}
 use Rattle.uu_store.proofs.Images.{unfound, stop_has}
-use Rattle.uu_store.proofs.Reopening.{simple_site, stands_again, stores_of}
+use Rattle.uu_store.proofs.Reopening.{simple_of, stands_again, stores_of}
 
 pub none_fits : (s : State) → s ≡ empty → (trees : Trees) → trees catalog_tree ≡ [] → Keeps trees s
 none_fits s is trees none = inr (empty_is_sound trees none, is)
 
 pub keeps_sound : (s : State) (trees : Trees) → Keeps trees s → (schema : Schema) × IsSound schema trees
-keeps_sound s trees (inl it) = (site, it.0)
+keeps_sound s trees (inl it) = (site_of it.0, it.1)
 keeps_sound s trees (inr it) = (no_schema, it.0)
 
 rests_found : (image : Image) (opened : db.State) → IsFound image opened → Rests opened
@@ -62,10 +63,10 @@ rests_found image opened found = record { is_open = found.opens.is_open; idle = 
 trees_found : (image : Image) (opened : db.State) → IsFound image opened → (trees : Trees) → HoldsDatabase image trees → opened.now.trees ≡ trees
 trees_found image opened found trees held = ap (λ (d : Database). d.trees) found.opens.clean ∙ found.finds.holds trees held
 
--- what is opened has some of the spool's tables, where the files' database has
-some_found : (image : Image) (opened : db.State) → IsFound image opened → (trees : Trees) → ImageHasSome image trees → ¬ HasNone opened.now.schema
-some_found image opened found trees has =
-    has.1 opened.now.schema (subst (IsSound opened.now.schema) (trees_found image opened found trees has.0) (found.live found.opens.is_open).0)
+-- what is said of each schema that fits the files' database is so of that of what is opened
+schema_found : (P : Schema → Type 0) (image : Image) (opened : db.State) → IsFound image opened → (trees : Trees) → HoldsDatabase image trees → ((schema : Schema) → IsSound schema trees → P schema) → P opened.now.schema
+schema_found P image opened found trees held each =
+    each opened.now.schema (subst (IsSound opened.now.schema) (trees_found image opened found trees held) (found.live found.opens.is_open).0)
 
 -- what is opened is at rest, and stores the state that the files kept
 pub found_stores : (image : Image) (s : State) (opened : db.State) → IsFound image opened → ImageKeeps image s → Rests opened × Stores opened.now s
@@ -96,35 +97,45 @@ module _ {S : Type 0} (g : Ghosts S) (image : Image) (opened : Held S) (found : 
       let it = found_stores image s (state g opened) (found (omega (arith, adopted.clean, clean))) keeps in
       adopted.shows clean s it.0 it.1
 
-  pub started_never_other : (spool : Spool S g) → Adopted opened spool → HasNone (state g opened).now.schema ⊎ HasAll (state g opened).now.schema → db.HasCleanDisk (disk spool) → ImageHasOther image → ⊥
+  pub started_never_other : (spool : Spool S g) → Adopted opened spool → HasNoneOrAll (state g opened).now.schema → db.HasCleanDisk (disk spool) → ImageHasOther image → ⊥
   started_never_other spool adopted taken clean it =
       let schema = (state g opened).now.schema in
       let other = other_found image (state g opened) (found (omega (arith, adopted.clean, clean))) it in
-      elim taken [ inl none ↦ none_or_other schema none other | inr all ↦ some_or_other schema true all other ]
+      elim taken [ inl none ↦ none_or_other schema none other | inr all ↦ some_or_other schema (Some all.0) all.1 other ]
 
   pub started_same : (spool : Spool S g) → Adopted opened spool → (db.HasCleanDisk (disk spool) → Rests (state g opened) → StopsAs (state g opened) (disk spool)) → db.HasCleanDisk (disk spool) → LeavesSame image (disk spool).may_leave
   started_same spool adopted stops clean trees has left may =
       let it = found (omega (arith, adopted.clean, clean)) in
-      (stops clean (rests_found image (state g opened) it)).some (some_found image (state g opened) it trees has) left may ∙ trees_found image (state g opened) it trees has.0
+      let some = schema_found HasSome image (state g opened) it trees has.0 has.1 in
+      (stops clean (rests_found image (state g opened) it)).some some.0 some.1 left may ∙ trees_found image (state g opened) it trees has.0
 
 -- ---- where the database was not taken
 
 pub not_taken : {S : Type 0} (g : Ghosts S) (was last : Held S) (stopped : S) (fault : StoreFault) → TurnedAway g was last → IsQuiet g.view g.faults g.recovers g.is_shielded last.store stopped
-    → (IsClean (g.view stopped) → IsTrue (g.view stopped).is_numbered) → (db.HasCleanDisk (state g last) → (s : State) → Encodes (state g was).now s → (fault ≢ Foreign) × (fault ≢ Newer))
+    → (IsClean (g.view stopped) → IsTrue (g.view stopped).is_numbered) → (db.HasCleanDisk (state g last) → (v : Version) (s : State) → EncodesAs v (state g was).now s → (fault ≢ Foreign) × (fault ≢ Newer))
     → (Stands no_schema (state g was).now → (fault ≢ Foreign) × (fault ≢ Newer)) → (HasOther (state g was).now.schema → fault ≡ Foreign)
     → (db.HasCleanDisk (state g last) → Rests (state g was) → StopsAs (state g was) (state g last))
-    → (db.HasCleanDisk (state g last) → Stands site (state g was).now → fault ≡ Newer → IsLater (state g was).now.trees)
-    → (db.HasCleanDisk (state g last) → Stands site (state g was).now → fault ≡ Foreign → (¬ IsLater (state g was).now.trees) × ((s : State) → ¬ Encodes (state g was).now s)) → IsNotTaken g was stopped fault
-not_taken g was last stopped fault away quiet numbered ours of_empty other stops newer foreign = record {
+    → (db.HasCleanDisk (state g last) → Rests (state g was) → UnlessFailed fault ((trees : Trees) → (state g last).may_leave trees → trees ≡ (state g was).now.trees))
+    → (db.HasCleanDisk (state g last) → (v : Version) → Stands (site_of v) (state g was).now → fault ≡ Newer → IsLater (state g was).now.trees)
+    → (db.HasCleanDisk (state g last) → (v : Version) → Stands (site_of v) (state g was).now → fault ≡ Foreign → (¬ IsLater (state g was).now.trees) × ((s : State) → ¬ EncodesAs v (state g was).now s)) → IsNotTaken g was stopped fault
+not_taken g was last stopped fault away quiet numbered ours of_empty other stops unmade newer foreign = record {
   last = last;
   turned_away = away;
   let_go = record { left = quiet.outcomes; clean = quiet.clean };
   numbered = numbered;
-  ours = λ clean s stores. elim stores [ inl enc ↦ ours (omega (arith, quiet.clean, clean)) s enc | inr none ↦ of_empty none.0 ];
+  ours = λ clean s stores. elim stores [ inl enc ↦ ours (omega (arith, quiet.clean, clean)) enc.0 s enc.1 | inr none ↦ of_empty none.0 ];
   other = other;
-  whole = λ clean stands. (newer (omega (arith, quiet.clean, clean)) stands, λ is. let it = foreign (omega (arith, quiet.clean, clean)) stands is in (it.0, λ s holds. it.1 s (record { stands = stands; holds = holds })));
-  some = λ clean rests some trees may. (stops (omega (arith, quiet.clean, clean)) rests).some some trees (quiet.outcomes trees may);
+  whole = λ v clean stands. (newer (omega (arith, quiet.clean, clean)) v stands, λ is. let it = foreign (omega (arith, quiet.clean, clean)) v stands is in (it.0, λ s holds. it.1 s (record { stands = stands; holds = holds })));
+  some = λ clean rests some trees may. stays fault (stops (omega (arith, quiet.clean, clean)) rests) (unmade (omega (arith, quiet.clean, clean)) rests) some trees (quiet.outcomes trees may);
 }
+  where
+    stays : (fault : StoreFault) → StopsAs (state g was) (state g last) → UnlessFailed fault ((trees : Trees) → (state g last).may_leave trees → trees ≡ (state g was).now.trees) → StaysAfter fault (state g was).now.schema
+        → (trees : Trees) → (state g last).may_leave trees → trees ≡ (state g was).now.trees
+    stays (Store kind) stop less some = stop.some some.0 some.1
+    stays Memory stop less some = less
+    stays Failed stop less some = less
+    stays Foreign stop less some = less
+    stays Newer stop less some = less
 
 module _ {D : Type 0} {g : disk.Ghosts D} (image : Image) (opened : Held (FileStore D g)) (found : IsFoundIfClean over_files image opened) (stopped : FileStore D g) (fault : StoreFault)
     (away : IsNotTaken over_files opened stopped fault) (clean : IsTrue (view stopped).is_clean) where
@@ -143,24 +154,24 @@ module _ {D : Type 0} {g : disk.Ghosts D} (image : Image) (opened : Held (FileSt
   found_trees : (trees : Trees) → HoldsDatabase image trees → (file_state opened).now.trees ≡ trees
   found_trees = trees_found image (file_state opened) found_away
 
-  away_told : (trees : Trees) → HoldsDatabase image trees → IsSound site trees → IsToldRightly trees fault
-  away_told trees held sound =
+  away_told : (v : Version) (trees : Trees) → HoldsDatabase image trees → IsSound (site_of v) trees → IsToldRightly v trees fault
+  away_told v trees held sound =
       let same = found_trees trees held in
-      let stands = stands_again site simple_site (file_state opened) found_away.live found_rests (subst (IsSound site) (sym same) sound) in
-      subst (λ trees. IsToldRightly trees fault) same (away.whole (no_doubt (view stopped).is_clean clean) stands)
+      let stands = stands_again (site_of v) (simple_of v) (file_state opened) found_away.live found_rests (subst (IsSound (site_of v)) (sym same) sound) in
+      subst (λ trees. IsToldRightly v trees fault) same (away.whole v (no_doubt (view stopped).is_clean clean) stands)
 
   pub away_rightly : ((s : State) → ImageKeeps image s → (fault ≢ Foreign) × (fault ≢ Newer)) × (ImageHasOther image → fault ≡ Foreign)
-      × ((trees : Trees) → HoldsDatabase image trees → IsSound site trees → IsToldRightly trees fault)
+      × ((v : Version) (trees : Trees) → HoldsDatabase image trees → IsSound (site_of v) trees → IsToldRightly v trees fault)
   away_rightly = (away_ours, away_other, away_told)
 
   -- what is left of another database is that database
-  pub away_same : (trees : Trees) → ImageHasSome image trees → (left : Trees) → store.recovers stopped left → left ≡ trees
-  away_same trees has left may =
-      away.some (no_doubt (view stopped).is_clean clean) found_rests (some_found image (file_state opened) found_away trees has) left may ∙ found_trees trees has.0
+  pub away_same : (trees : Trees) → HoldsDatabase image trees → ((schema : Schema) → IsSound schema trees → StaysAfter fault schema) → (left : Trees) → store.recovers stopped left → left ≡ trees
+  away_same trees held each left may =
+      away.some (no_doubt (view stopped).is_clean clean) found_rests (schema_found (StaysAfter fault) image (file_state opened) found_away trees held each) left may ∙ found_trees trees held
 
-  pub away_sound : (trees : Trees) → ImageHasSome image trees → (left : Trees) → left ≡ trees → (schema : Schema) × IsSound schema left
-  away_sound trees has left is =
-      let same = found_trees trees has.0 in
+  pub away_sound : (trees : Trees) → HoldsDatabase image trees → (left : Trees) → left ≡ trees → (schema : Schema) × IsSound schema left
+  away_sound trees held left is =
+      let same = found_trees trees held in
       ((file_state opened).now.schema, subst (IsSound (file_state opened).now.schema) (same ∙ sym is) (found_away.live found_away.opens.is_open).0)
 
   pub away_keeps : (s : State) → ImageKeeps image s → (trees : Trees) → store.recovers stopped trees → Keeps trees s
@@ -179,10 +190,10 @@ is_left trees left (inl it) = subst (HoldsDatabase left) it.2 it.1
 is_left trees left (inr none) = absurd none.1
 
 pub away_alone : {D : Type 0} {g : disk.Ghosts D} (image : Image) (opened : Held (FileStore D g)) → IsFoundIfClean over_files image opened → (stopped : FileStore D g) (fault : StoreFault)
-    → IsNotTaken over_files opened stopped fault → LeavesAlone image (remains.Store stopped)
-away_alone image opened found stopped fault away clean trees has left may =
-    ∥∥₁_map (stop_has (λ found. found ≡ trees) ⊥ (away_sound image opened found stopped fault away clean trees has) (λ none. absurd none) stopped (away.numbered (no_doubt (view stopped).is_clean clean))
-    (away_same image opened found stopped fault away clean trees has) left may) (is_left trees left)
+    → IsNotTaken over_files opened stopped fault → LeavesAlone image fault (remains.Store stopped)
+away_alone image opened found stopped fault away clean trees held each left may =
+    ∥∥₁_map (stop_has (λ found. found ≡ trees) ⊥ (away_sound image opened found stopped fault away clean trees held) (λ none. absurd none) stopped (away.numbered (no_doubt (view stopped).is_clean clean))
+    (away_same image opened found stopped fault away clean trees held each) left may) (is_left trees left)
 
 pub away_named : {D : Type 0} {g : disk.Ghosts D} (image : Image) (opened : Held (FileStore D g)) → IsFoundIfClean over_files image opened → (stopped : FileStore D g) (fault : StoreFault)
     → IsNotTaken over_files opened stopped fault → IsNamed image fault (remains.Store stopped)
@@ -208,9 +219,9 @@ module _ {D : Type 0} {g : disk.Ghosts D} (image : Image) where
   left_of_opening None from = tt
   left_of_opening (Some it) from = from
 
-  pub alone_of_opening : (o : Option (Leftover D g)) → LeavesAlone image (remains_of_opening o)
-  alone_of_opening None = tt
-  alone_of_opening (Some it) = tt
+  pub alone_of_opening : (fault : StoreFault) (o : Option (Leftover D g)) → LeavesAlone image fault (remains_of_opening o)
+  alone_of_opening fault None = tt
+  alone_of_opening fault (Some it) = tt
 
   pub named_of_opening : (o : Option (Leftover D g)) (error : Error) (fault : StoreFault) → (fault ≢ Failed) × IsOfNoContents fault → ((kind : StoreKind) → fault ≡ Store kind → kind ≡ kind_of_error error)
       → (o ≡ None → (error ≡ SqliteFailure CannotOpen) ⊎ ((error ≡ SqliteFailure OutOfMemory) ⊎ (error ≡ SqliteFailure DatabaseBusy))) → IsNamed image fault (remains_of_opening o)
@@ -219,6 +230,9 @@ module _ {D : Type 0} {g : disk.Ghosts D} (image : Image) where
 
 pub named_as : {D : Type 0} {g : disk.Ghosts D} (image : Image) (it : OpenFault D g) (fault : StoreFault) (left : Remains D g) → it.fault ≡ fault → remains_of it ≡ left → IsNamed image fault left → IsNamed image it.fault (remains_of it)
 named_as image it fault left same there named = subst (λ fault. IsNamed image fault (remains_of it)) (sym same) (subst (IsNamed image fault) (sym there) named)
+
+pub alone_as : {D : Type 0} {g : disk.Ghosts D} (image : Image) (it : OpenFault D g) (fault : StoreFault) (left : Remains D g) → it.fault ≡ fault → remains_of it ≡ left → LeavesAlone image fault left → LeavesAlone image it.fault (remains_of it)
+alone_as image it fault left same there alone = subst (λ fault. LeavesAlone image fault (remains_of it)) (sym same) (subst (LeavesAlone image fault) (sym there) alone)
 
 pub some_weaker : {T : Type 0} {A B : T → Type 0} (o : Option T) → ((x : T) → A x → B x) → IfSome o A → IfSome o B
 some_weaker None from h = tt

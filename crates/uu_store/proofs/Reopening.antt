@@ -14,7 +14,9 @@ use Rattle.uu_core.specs.declared.command.Command.{Command}
 use Rattle.uu_core.specs.State.{State}
 use Rattle.uu_core.specs.After.{after}
 use Rattle.uu_core.specs.Run.{state_after, replies_to}
-use Rattle.uu_schema.specs.Schema.{site, no_schema}
+use Rattle.uu_schema.specs.declared.version.Version.{Version}
+use Rattle.uu_schema.specs.declared.version.Version.TheVariants.{First, Second}
+use Rattle.uu_schema.specs.Schema.{site_of, no_schema}
 use Rattle.uu_schema.specs.declared.fault.StoreFault.{StoreFault}
 use Rattle.uu_schema.specs.declared.fault.StoreFault.TheVariants.{Memory, Store, Failed, Foreign, Newer}
 use Rattle.uu_store.specs.Kept.{Stores, Keeps, KeepsOnly, KeepsEither}
@@ -24,8 +26,9 @@ use Rattle.uu_store.specs.Exchanges.{Exchange, IsSettled, Counts}
 use Rattle.uu_store.specs.Stretches.{Stretch, opened_as, left_by, Worked, Unworked, Passed, Reopens, LeadTo, exchanges, StoresAfter}
 use Rattle.uu_store.proofs.Running.{StatesFollow, RepliesFollow, take_next}
 
-pub simple_site : IsSimple site
-simple_site = record { views = refl; keys = (omega arith, (omega arith, (omega arith, (omega arith, (omega arith, (omega arith, (omega arith, tt))))))) }
+pub simple_of : (v : Version) → IsSimple (site_of v)
+simple_of First = record { views = refl; keys = (omega arith, (omega arith, (omega arith, (omega arith, (omega arith, (omega arith, (omega arith, tt))))))) }
+simple_of Second = record { views = refl; keys = (omega arith, (omega arith, (omega arith, (omega arith, (omega arith, (omega arith, (omega arith, (omega arith, tt)))))))) }
 
 pub simple_none : IsSimple no_schema
 simple_none = record { views = refl; keys = tt }
@@ -35,7 +38,7 @@ pub stands_again : (known : Schema) → IsSimple known → (found : db.State) �
 stands_again known simple found live rests sound = record { schema = one_schema found.now.trees known found.now.schema simple sound (live rests.is_open).0; sound = sound }
 
 pub stores_of : (found : db.State) (s : State) → db.IsLive found → Rests found → Keeps found.now.trees s → Stores found.now s
-stores_of found s live rests (inl it) = inl (record { stands = stands_again site simple_site found live rests it.0; holds = it.1 })
+stores_of found s live rests (inl it) = inl (it.0, record { stands = stands_again (site_of it.0) (simple_of it.0) found live rests it.1; holds = it.2 })
 stores_of found s live rests (inr it) = inr (stands_again no_schema simple_none found live rests it.0, it.1)
 
 pub stores_either : (could_leave : Trees → Type 0) (found : db.State) → Reopens could_leave found → (s t : State) → KeepsEither could_leave s t → ∥ Stores found.now s ⊎ Stores found.now t ∥₁
@@ -109,14 +112,14 @@ module _ (answers_follow : RepliesFollow) (it : Stretch) (s : State) (passed : P
         | inl on ↦ (record {
           one = take k it.exchange.commands;
           other = take k it.exchange.commands;
-          keeps = λ trees may. inl (inl (from.stop on trees (w.let_go.left trees may)));
+          keeps = λ trees may. (let left = from.stop on trees (w.let_go.left trees may) in inl (inl (Second, left.0, left.1)));
           counts_one = first;
           counts_other = first;
         })
         | inr loose ↦ (record {
           one = take k it.exchange.commands;
           other = take (k + 1) it.exchange.commands;
-          keeps = λ trees may. (let left = from.stop_store trees (w.let_go.left trees may) in elim left.1 [ inl h ↦ inl (inl (left.0, h)) | inr h ↦ inr (inl (left.0, h)) ]);
+          keeps = λ trees may. (let left = from.stop_store trees (w.let_go.left trees may) in elim left.1 [ inl h ↦ inl (inl (Second, left.0, h)) | inr h ↦ inr (inl (Second, left.0, h)) ]);
           counts_one = first;
           counts_other = counts_next answers_follow s it.exchange k refl w.ran.within from.answers (λ h. loose (subst IsSettled w.ending h)) (drop k it.exchange.commands) refl;
         })

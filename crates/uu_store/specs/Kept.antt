@@ -1,20 +1,21 @@
--- What is kept of a state: its tables, or no tables at all where the state is that of an empty spool.
+-- What is kept of a state: its tables, of either version, or no tables at all where the state is that of an empty spool.
 use Rattle.std.specs.Prelude.{◌≡◌, ◌⊎◌}
 use Rattle.sqlite.specs.Tree.{Trees}
 use Rattle.sqlite.specs.Effect.{Database}
 use Rattle.sqlite_catalog.specs.Listing.{IsSound}
 use Rattle.uu_sql.specs.Steps.{Stands}
 use Rattle.uu_core.specs.State.{State, empty}
-use Rattle.uu_schema.specs.Schema.{site, no_schema}
-use Rattle.uu_database.specs.Encoded.{Encodes, HoldsState}
+use Rattle.uu_schema.specs.declared.version.Version.{Version}
+use Rattle.uu_schema.specs.Schema.{site_of, no_schema}
+use Rattle.uu_database.specs.Encoded.{EncodesAs, HoldsStateAs}
 
 -- the database encodes the state, or has no tables and the state is an empty spool's
 abbrev pub Stores : Database → State → Type 0
-Stores database s = Encodes database s ⊎ (Stands no_schema database × (s ≡ empty))
+Stores database s = ((v : Version) × EncodesAs v database s) ⊎ (Stands no_schema database × (s ≡ empty))
 
 -- the same of its trees alone, which are all that a stop leaves
 abbrev pub Keeps : Trees → State → Type 0
-Keeps trees s = (IsSound site trees × HoldsState trees s) ⊎ (IsSound no_schema trees × (s ≡ empty))
+Keeps trees s = ((v : Version) × IsSound (site_of v) trees × HoldsStateAs v trees s) ⊎ (IsSound no_schema trees × (s ≡ empty))
 
 -- each outcome keeps the state
 abbrev pub KeepsOnly : (Trees → Type 0) → State → Type 0

@@ -26,11 +26,12 @@ use Rattle.uu_store.specs.declared.spool.Spool.{Spool}
 use Rattle.uu_schema.specs.declared.fault.StoreFault.{StoreFault}
 use Rattle.uu_schema.specs.declared.fault.StoreFault.TheVariants.{Memory, Store, Foreign, Newer}
 use Rattle.uu_schema.specs.declared.fault.StoreKind.TheVariants.{Database}
-use Rattle.uu_database.specs.FoundTables.{HasNone, HasAll, HasOther}
+use Rattle.uu_database.specs.FoundTables.{HasNone, HasFirst, HasNoneOrAll, HasOther}
 use Rattle.uu_database.specs.Adoption.{IsOfNone}
-use Rattle.uu_database.specs.Encoded.{Encodes}
+use Rattle.uu_database.specs.Encoded.{EncodesAs}
 use Rattle.uu_sql.specs.Steps.{Stands, Rests}
-use Rattle.uu_schema.specs.Schema.{site}
+use Rattle.uu_schema.specs.declared.version.Version.{Version}
+use Rattle.uu_schema.specs.Schema.{site_of}
 use Rattle.uu_taking.specs.Version.{IsLater}
 use Rattle.uu_store.specs.Spool.{connection_of}
 use Rattle.uu_store.specs.Kept.{Keeps, Stores}
@@ -40,15 +41,19 @@ use Rattle.uu_store.specs.Stretches.{Adopted, TurnedAway, IsLetGo}
 abbrev pub ImageKeeps : Image → State → Type 0
 ImageKeeps image s = ((trees : Trees) × HoldsDatabase image trees × Keeps trees s) ⊎ (IsNothing image × (s ≡ empty))
 
--- the files hold this database, and it has some of the spool's tables, by their names: so says each schema that fits it
+-- it has some of the spool's tables, and not those of version 1
+abbrev pub HasSome : Schema → Type 0
+HasSome schema = (¬ HasNone schema) × (¬ HasFirst schema)
+
+-- the files hold this database, and it has some of the spool's tables, by their names, and not those of version 1: so says each schema that fits it
 abbrev pub ImageHasSome : Image → Trees → Type 0
-ImageHasSome image trees = HoldsDatabase image trees × ((schema : Schema) → IsSound schema trees → ¬ HasNone schema)
+ImageHasSome image trees = HoldsDatabase image trees × ((schema : Schema) → IsSound schema trees → HasSome schema)
 
 -- the files hold a database in which a name of the spool's tables is taken, and no table tells a version: so says each schema that fits it
 abbrev pub ImageHasOther : Image → Type 0
 ImageHasOther image = (trees : Trees) × HoldsDatabase image trees × ((schema : Schema) → IsSound schema trees → HasOther schema)
 
--- where the files' database has any of the spool's tables, whatever stands beside them, only this database may be left
+-- where the files' database has any of the spool's tables, and not those of version 1, whatever stands beside them, only this database may be left
 abbrev pub LeavesSame : Image → (Trees → Type 0) → Type 0
 LeavesSame before could_leave = (trees : Trees) → ImageHasSome before trees → (left : Trees) → could_leave left → left ≡ trees
 
@@ -62,14 +67,14 @@ pub record IsFound (image : Image) (opened : db.State) : Type 0 where
 abbrev pub IsFoundIfClean : {S : Type 0} → Ghosts S → Image → Held S → Type 0
 IsFoundIfClean g image opened = db.HasCleanDisk (state g opened) → IsFound image (state g opened)
 
--- A spool over what an opening of these files found: a database with none of the spool's tables or with all, and of one with exactly these, the
--- rows of a state.
+-- A spool over what an opening of these files found: a database with none of the spool's tables or with all of a version, and of one with exactly
+-- these, the rows of a state.
 pub record Started {S : Type 0} {g : Ghosts S} (image : Image) (spool : Spool S g) : Type 0 where
   pub opened : Held S
   pub found : IsFoundIfClean g image opened
   pub adopted : Adopted opened spool
-  pub taken : HasNone (state g opened).now.schema ⊎ HasAll (state g opened).now.schema
-  pub encoded : db.HasCleanDisk (state g (connection_of spool)) → Stands site (state g opened).now → (s : State) × Encodes (state g opened).now s
+  pub taken : HasNoneOrAll (state g opened).now.schema
+  pub encoded : (v : Version) → db.HasCleanDisk (state g (connection_of spool)) → Stands (site_of v) (state g opened).now → (s : State) × EncodesAs v (state g opened).now s
 
 -- an opening of these files, on a clean disk, took what it found as a spool
 abbrev pub WasStarted : {D : Type 0} → disk.Ghosts D → Image → Type 0
@@ -83,13 +88,20 @@ IsOfNoContents fault = (fault ≢ Foreign) × (fault ≢ Newer)
 abbrev pub StaysKept : Image → (Image → Type 0) → Type 0
 StaysKept before may_hold = (s : State) → ImageKeeps before s → (image : Image) → may_hold image → ∥ ImageKeeps image s ∥₁
 
--- Of a database with exactly the spool's tables: it is called newer only where a row names a later version, and foreign only where none does
+-- Of a database with exactly the tables of a version: it is called newer only where a row names a later version, and foreign only where none does
 -- and no state has its rows.
-abbrev pub IsToldRightly : Trees → StoreFault → Type 0
-IsToldRightly trees fault = (fault ≡ Newer → IsLater trees) × (fault ≡ Foreign → (¬ IsLater trees) × IsOfNone trees)
+abbrev pub IsToldRightly : Version → Trees → StoreFault → Type 0
+IsToldRightly v trees fault = (fault ≡ Newer → IsLater trees) × (fault ≡ Foreign → (¬ IsLater trees) × IsOfNone v trees)
+
+-- It has some of the spool's tables, and so an opening that ends with this fault leaves it as it was. (Where the store failed, those of version 1 may
+-- have become those of version 2.)
+abbrev pub StaysAfter : StoreFault → Schema → Type 0
+StaysAfter (Store kind) schema = HasSome schema
+StaysAfter fault schema = ¬ HasNone schema
 
 -- A database was opened and not taken as a spool, and its store was let go. One that stores a state is not called foreign or newer, and one
--- where a name of the spool's tables is taken and no table tells a version is called foreign. A stop leaves one with any of the tables as it was.
+-- where a name of the spool's tables is taken and no table tells a version is called foreign. A stop leaves one with any of the tables as it was,
+-- unless the store failed as those of version 1 were to become those of version 2.
 pub record IsNotTaken {S : Type 0} (g : Ghosts S) (was : Held S) (stopped : S) (fault : StoreFault) : Type 0 where
   pub last : Held S
   pub turned_away : TurnedAway g was last
@@ -97,8 +109,8 @@ pub record IsNotTaken {S : Type 0} (g : Ghosts S) (was : Held S) (stopped : S) (
   pub numbered : IsClean (g.view stopped) → IsTrue (g.view stopped).is_numbered
   pub ours : IsClean (g.view stopped) → (s : State) → Stores (state g was).now s → IsOfNoContents fault
   pub other : HasOther (state g was).now.schema → fault ≡ Foreign
-  pub whole : IsClean (g.view stopped) → Stands site (state g was).now → IsToldRightly (state g was).now.trees fault
-  pub some : IsClean (g.view stopped) → Rests (state g was) → ¬ HasNone (state g was).now.schema → (trees : Trees) → g.recovers stopped trees → trees ≡ (state g was).now.trees
+  pub whole : (v : Version) → IsClean (g.view stopped) → Stands (site_of v) (state g was).now → IsToldRightly v (state g was).now.trees fault
+  pub some : IsClean (g.view stopped) → Rests (state g was) → StaysAfter fault (state g was).now.schema → (trees : Trees) → g.recovers stopped trees → trees ≡ (state g was).now.trees
 
 -- ---- an opening that failed, by what is left of the files
 
@@ -133,11 +145,12 @@ module _ {D : Type 0} {g : disk.Ghosts D} where
   LeavesAsKept before (remains.Store it) = IsTrue (store.view it).is_clean → StaysKept before (store.state it).may_leave
 
   -- A database that was opened and not taken, and has any of the spool's tables, stays what it was: so of another program's, or a later version's.
-  abbrev pub LeavesAlone : Image → Remains D g → Type 0
-  LeavesAlone before remains.Unopened = ⊤
-  LeavesAlone before (remains.Files it) = ⊤
-  LeavesAlone before (remains.Store it) =
-      IsTrue (store.view it).is_clean → (trees : Trees) → ImageHasSome before trees → (image : Image) → (store.state it).may_leave image → ∥ HoldsDatabase image trees ∥₁
+  -- (Where the store failed, one that has those of version 1 is left out.)
+  abbrev pub LeavesAlone : Image → StoreFault → Remains D g → Type 0
+  LeavesAlone before fault remains.Unopened = ⊤
+  LeavesAlone before fault (remains.Files it) = ⊤
+  LeavesAlone before fault (remains.Store it) =
+      IsTrue (store.view it).is_clean → (trees : Trees) → HoldsDatabase before trees → ((schema : Schema) → IsSound schema trees → StaysAfter fault schema) → (image : Image) → (store.state it).may_leave image → ∥ HoldsDatabase image trees ∥₁
 
   -- The fault names the contents rightly: only a database that was opened is called foreign or newer, and none that keeps a state, nor files
   -- that held nothing; one where a name of the spool's tables is taken and no table tells a version is called foreign, and one with exactly the
@@ -147,4 +160,4 @@ module _ {D : Type 0} {g : disk.Ghosts D} where
   IsNamed before fault (remains.Files it) = IsOfNoContents fault
   IsNamed before fault (remains.Store it) =
       IsTrue (store.view it).is_clean → ((s : State) → ImageKeeps before s → IsOfNoContents fault) × (ImageHasOther before → fault ≡ Foreign)
-      × ((trees : Trees) → HoldsDatabase before trees → IsSound site trees → IsToldRightly trees fault)
+      × ((v : Version) (trees : Trees) → HoldsDatabase before trees → IsSound (site_of v) trees → IsToldRightly v trees fault)

@@ -20,7 +20,12 @@ ghost use Rattle.uu_core.specs.declared.job.NewJob.{NewJob};
 ghost use Rattle.uu_core.specs.State.{State, IsWellFormed};
 ghost use Rattle.uu_schema.specs.declared.fault.StoreFault.{StoreFault};
 ghost use Rattle.uu_store.specs.declared.spool.Spool.{Spool};
-ghost use Rattle.uu_database.specs.Encoded.{HoldsState};
+ghost use Rattle.uu_schema.specs.declared.version.Version.{Version};
+ghost use Rattle.uu_schema.specs.declared.version.Version.TheVariants.{First};
+ghost use Rattle.sqlite.specs.Effect.{Database};
+ghost use Rattle.std.specs.List.{AllByRecursion};
+ghost use Rattle.uu_core.specs.declared.system.SystemRow.{SystemRow};
+ghost use Rattle.uu_database.specs.Encoded.{EncodesAs, HoldsStateAs};
 ghost use Rattle.uu_store.specs.Closing.{IsClosed};
 ghost use Rattle.uu_store.specs.Spool.{connection_of};
 ghost use Rattle.uu_store.specs.Kept.{Stores, KeepsOnly};
@@ -41,14 +46,19 @@ use uu_core::laws::{
     runs_follow_one_another, states_stay_well_formed,
 };
 
-/// A database encodes at most one state: whatever a call says of the state that is shown, it says of one alone.
+/// A database encodes at most one state, by the tables of at most one version: whatever a call says of the state that is shown, it says of one alone.
 pub fn one_database_has_one_state()
-    ensures { (trees : Trees) (one other : State) → HoldsState trees one → HoldsState trees other → one ≡ other }
+    ensures { (v w : Version) (trees : Trees) (one other : State) → HoldsStateAs v trees one → HoldsStateAs w trees other → one ≡ other }
 {
     tables_are_in_order();
     tables_are_readable();
     tables_tell_the_state();
 }
+
+/// A database of version 1 has no success waits: each of the state that it encodes is 0.
+pub fn version_one_has_no_success_waits()
+    ensures { (database : Database) (s : State) → EncodesAs First database s → AllByRecursion (λ (row : SystemRow). row.def.success_wait ≡ 0) s.systems }
+{}
 
 /// Where every command of a run was answered, it and the next run are one run of all the commands. (A question is a run of none.) A run that
 /// ended for want of memory is one of the commands that were answered.

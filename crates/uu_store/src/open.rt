@@ -1,5 +1,5 @@
 // Opening the spool's files.
-ghost use Rattle.std.specs.Prelude.{◌≡◌, ◌≢◌, ◌⊎◌, false, IfOk, IfErr};
+ghost use Rattle.std.specs.Prelude.{◌≡◌, ◌≢◌, false, IfOk, IfErr};
 ghost use Rattle.sqlite.specs.Files.{over_files};
 ghost use Rattle.sqlite.specs.Held.{state};
 ghost use Rattle.sqlite.specs.State.{HasCleanDisk};
@@ -7,10 +7,11 @@ ghost use Rattle.sqlite_wal.specs.Files.{image_at};
 ghost use Rattle.sqlite_wal.specs.Recovery.{Image};
 ghost use Rattle.uu_core.specs.State.{State};
 ghost use Rattle.uu_sql.specs.Steps.{Rests, Stands};
-ghost use Rattle.uu_schema.specs.Schema.{site};
+ghost use Rattle.uu_schema.specs.declared.version.Version.{Version};
+ghost use Rattle.uu_schema.specs.Schema.{site_of};
 ghost use Rattle.uu_database.specs.Adoption.{StopsAs};
-ghost use Rattle.uu_database.specs.Encoded.{Encodes};
-ghost use Rattle.uu_database.specs.FoundTables.{HasAll, HasNone};
+ghost use Rattle.uu_database.specs.Encoded.{EncodesAs};
+ghost use Rattle.uu_database.specs.FoundTables.{HasNoneOrAll};
 ghost use Rattle.uu_store.specs.Openings.{ImageHasOther, ImageKeeps, IsFoundIfClean, IsNamed, IsNotTaken, LeavesAlone, LeavesAsKept, LeavesSame, Started, remains_of};
 ghost use Rattle.uu_store.specs.Spool.{disk, has_failed, Shows};
 ghost use Rattle.uu_store.specs.Stretches.{Adopted};
@@ -32,10 +33,10 @@ pub type FileSpool<T> = Spool<FileStore<FileFrom<T>>>;
 ///
 /// # Errors
 /// With what is left of the two files. While the disk returned what was written, a stop then leaves files that keep what was kept (`left`), and of
-/// a database that was opened and has any of the spool's tables what it was (`left_alone`). Files that keep the state of a spool, or hold nothing
-/// yet, are never answered `Foreign` or `Newer`. Once a database was opened, one that has exactly the tables is answered `Newer` only where a row
-/// names a later version, and `Foreign` only where none does and no state has its rows; one in which a name of theirs is taken and no table tells a
-/// version is `Foreign` (`named`).
+/// a database that was opened and has any of the spool's tables what it was (`left_alone`), unless the store failed as those of version 1 were to
+/// become those of version 2. Files that keep the state of a spool, or hold nothing yet, are never answered `Foreign` or `Newer`. Once a database
+/// was opened, one that has exactly the tables of a version is answered `Newer` only where a row names a later version, and `Foreign` only where
+/// none does and no state has its rows; one in which a name of theirs is taken and no table tells a version is `Foreign` (`named`).
 pub fn open_spool<T: Start>(
     rt: &HostRuntime,
     path: &str,
@@ -51,13 +52,13 @@ pub fn open_spool<T: Start>(
     // A database in which one of the names is taken and no table tells a version is never taken.
     ensures never_other { IfOk result (λ spool. HasCleanDisk (disk spool) → ¬ ImageHasOther (image_at T.Start)) }
 
-    // One that has any of the spool's tables is left as it was, whatever stands beside them.
+    // One that has any of the spool's tables, and not those of version 1, is left as it was, whatever stands beside them.
     ensures left_same { IfOk result (λ spool. HasCleanDisk (disk spool) → LeavesSame (image_at T.Start) (disk spool).may_leave) }
 
     // What is left of files that were opened keeps what they kept, and the fault names it rightly.
     ensures named { IfErr result (λ e. IsNamed (image_at T.Start) e.fault (remains_of e)) }
     ensures left { IfErr result (λ e. LeavesAsKept (image_at T.Start) (remains_of e)) }
-    ensures left_alone { IfErr result (λ e. LeavesAlone (image_at T.Start) (remains_of e)) }
+    ensures left_alone { IfErr result (λ e. LeavesAlone (image_at T.Start) e.fault (remains_of e)) }
 {
     match open_files(rt, path, start) {
         Ok(conn) => adopted_in_files(rt.alloc(), conn),
@@ -79,7 +80,7 @@ fn adopted_in_files<D: Disk + Drop>(
     ensures left_same { (before : Image) → IsFoundIfClean over_files before conn → IfOk result (λ spool. HasCleanDisk (disk spool) → LeavesSame before (disk spool).may_leave) }
     ensures named { (before : Image) → IsFoundIfClean over_files before conn → IfErr result (λ e. IsNamed before e.fault (remains_of e)) }
     ensures left { (before : Image) → IsFoundIfClean over_files before conn → IfErr result (λ e. LeavesAsKept before (remains_of e)) }
-    ensures left_alone { (before : Image) → IsFoundIfClean over_files before conn → IfErr result (λ e. LeavesAlone before (remains_of e)) }
+    ensures left_alone { (before : Image) → IsFoundIfClean over_files before conn → IfErr result (λ e. LeavesAlone before e.fault (remains_of e)) }
 {
     match adopted(alloc, conn) {
         Ok(spool) => Ok(spool),
@@ -96,8 +97,8 @@ pub(crate) fn adopted<S: Alter + Drop>(
     ensures usable { IfOk result (λ spool. has_failed spool ≡ false) }
     ensures never_failed { IfErr result (λ e. e.0 ≢ StoreFault.Failed) }
     ensures adopted { IfOk result (Adopted conn) }
-    ensures taken { IfOk result (λ spool. HasNone (state S.Store conn).now.schema ⊎ HasAll (state S.Store conn).now.schema) }
-    ensures encoded { IfOk result (λ spool. HasCleanDisk (disk spool) → Stands site (state S.Store conn).now → (s : State) × Encodes (state S.Store conn).now s) }
+    ensures taken { IfOk result (λ spool. HasNoneOrAll (state S.Store conn).now.schema) }
+    ensures encoded { IfOk result (λ spool. (v : Version) → HasCleanDisk (disk spool) → Stands (site_of v) (state S.Store conn).now → (s : State) × EncodesAs v (state S.Store conn).now s) }
     ensures stop { IfOk result (λ spool. HasCleanDisk (disk spool) → Rests (state S.Store conn) → StopsAs (state S.Store conn) (disk spool)) }
     ensures away { IfErr result (λ e. IsNotTaken S.Store conn e.1 e.0) }
 {

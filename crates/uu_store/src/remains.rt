@@ -87,7 +87,7 @@ pub(crate) fn open_files<T: Start>(
     ensures never_failed { IfErr result (λ e. e.fault ≢ StoreFault.Failed) }
     ensures named { IfErr result (λ e. IsNamed (image_at T.Start) e.fault (remains_of e)) }
     ensures left { IfErr result (λ e. LeavesAsKept (image_at T.Start) (remains_of e)) }
-    ensures left_alone { IfErr result (λ e. LeavesAlone (image_at T.Start) (remains_of e)) }
+    ensures left_alone { IfErr result (λ e. LeavesAlone (image_at T.Start) e.fault (remains_of e)) }
 {
     match Connection::open_from(rt, path, true, start) {
         Ok(conn) => Ok(conn),

@@ -50,7 +50,7 @@ pub fn work<T: Start>(
     ensures never_failed { IfErr result (λ e. e.fault ≢ StoreFault.Failed) }
     ensures named { IfErr result (λ e. IsNamed (image_at T.Start) e.fault (remains_of e)) }
     ensures left { IfErr result (λ e. LeavesAsKept (image_at T.Start) (remains_of e)) }
-    ensures left_alone { IfErr result (λ e. LeavesAlone (image_at T.Start) (remains_of e)) }
+    ensures left_alone { IfErr result (λ e. LeavesAlone (image_at T.Start) e.fault (remains_of e)) }
 {
     match open_spool(rt, path, start) {
         Ok(spool) => Ok(run_and_let_go(rt.alloc(), spool, commands)),
@@ -90,7 +90,7 @@ pub fn work_and_close<T: Start>(
     ensures never_failed { IfErr result (λ e. e.fault ≢ StoreFault.Failed) }
     ensures named { IfErr result (λ e. IsNamed (image_at T.Start) e.fault (remains_of e)) }
     ensures left { IfErr result (λ e. LeavesAsKept (image_at T.Start) (remains_of e)) }
-    ensures left_alone { IfErr result (λ e. LeavesAlone (image_at T.Start) (remains_of e)) }
+    ensures left_alone { IfErr result (λ e. LeavesAlone (image_at T.Start) e.fault (remains_of e)) }
 {
     match open_spool(rt, path, start) {
         Ok(spool) => Ok(run_and_close(rt.alloc(), spool, commands)),
@@ -141,7 +141,7 @@ pub fn start_again<H: FileHistory, T: Start>(
     ensures never_failed { IfErr result (λ e. e.fault ≢ StoreFault.Failed) }
     ensures named { IfErr result (λ e. IsNamed (image_at T.Start) e.fault (remains_of e)) }
     ensures left { IfErr result (λ e. LeavesAsKept (image_at T.Start) (remains_of e)) }
-    ensures left_alone { IfErr result (λ e. LeavesAlone (image_at T.Start) (remains_of e)) }
+    ensures left_alone { IfErr result (λ e. LeavesAlone (image_at T.Start) e.fault (remains_of e)) }
 {
     no_answered_command_is_lost_in_files::<H>();
     open_spool(rt, path, start)

@@ -12,12 +12,13 @@ use Rattle.uu_core.specs.State.{State, is_system, has_system}
 use Rattle.uu_core.specs.After.{accept, call_of, never_called}
 use Rattle.uu_tables.specs.declared.rows.LineColumns.{LineColumns}
 use Rattle.uu_tables.specs.declared.rows.RangeColumns.{RangeColumns}
-use Rattle.uu_tables.specs.Tables.{PlacedLine, tables_of, system_columns, line_columns, range_columns, placed, placed_from, ranges_of}
+use Rattle.uu_tables.specs.declared.rows.WaitColumns.{WaitColumns}
+use Rattle.uu_tables.specs.Tables.{PlacedLine, tables_of, system_columns, line_columns, range_columns, placed, placed_from, ranges_of, waits_from, waits_of}
 use Rattle.uu_tables.specs.Changes.{without, has_name, insert_by}
-use Rattle.uu_tables.specs.Parts.{insert_each, with_lines, with_definition}
+use Rattle.uu_tables.specs.Parts.{insert_each, with_lines, with_waits, with_definition}
 use Rattle.uu_tables.proofs.RowLemmas.{altered, each_made, none_go}
 use Rattle.uu_tables.proofs.OrderLemmas.{AllPairsByRecursion, before, weaker, found, none_passes}
-use Rattle.uu_tables.proofs.SystemLemmas.{each_placed, lines_without, ranges_without}
+use Rattle.uu_tables.proofs.SystemLemmas.{each_placed, each_wait, lines_without, ranges_without, waits_without}
 use Rattle.uu_tables.proofs.InsertLemmas.{ahead, behind, own, is_behind_key, each_between, inserted_mapped, replaced_is_put, others_are, changed_is, found_none, kept_ahead, kept_behind}
 
 -- ---- what is true of each row of several items
@@ -53,6 +54,9 @@ module _ (P : List ℕ → Type 0) where
   of_ranges : (ps : List PlacedLine) → AllByRecursion (λ p. P p.system) ps → AllByRecursion (λ r. P r.system) (flat_map ranges_of ps)
   of_ranges ps h = all_flat (λ r. P r.system) ranges_of ps (weaker (λ p. P p.system) (λ p. AllByRecursion (λ r. P r.system) (ranges_of p)) (λ p e. each_made (λ r. P r.system) (range_columns p.system p.place) (λ range. e) p.line.windows) ps h)
 
+  of_waits : (rows : List SystemRow) → AllByRecursion (λ row. P row.def.name) rows → AllByRecursion (λ w. P w.system) (flat_map waits_of rows)
+  of_waits rows h = all_flat (λ w. P w.system) waits_of rows (weaker (λ row. P row.def.name) (λ row. AllByRecursion (λ w. P w.system) (waits_of row)) (λ row e. each_wait (λ w. P w.system) row.def.name (λ wait. e) row.def.success_wait) rows h)
+
 lines_append : (xs ys : List SystemRow) → lines_of_all (xs ++ ys) ≡ lines_of_all xs ++ lines_of_all ys
 lines_append xs ys = ap (map line_columns) (flat_map-append placed xs ys) ∙ map-append line_columns (flat_map placed xs) (flat_map placed ys)
 
@@ -85,6 +89,14 @@ module _ (item : SystemRow) (front back : List SystemRow) (low : AllByRecursion 
       ∙ ap (λ l. ranges_of_all front ++ l) (sym (flat_map-append ranges_of (placed item) (flat_map placed back)))
       ∙ sym (ranges_append front (item ∷ back))
 
+  waits_put : insert_each (λ row. row.system) (waits_of item) (flat_map waits_of (front ++ back)) ≡ flat_map waits_of (front ++ item ∷ back)
+  waits_put =
+      ap (insert_each (λ row. row.system) (waits_of item)) (flat_map-append waits_of front back)
+      ∙ each_between (λ row. row.system) key (waits_of item) (flat_map waits_of front) (flat_map waits_of back) (each_wait (λ w. w.system ≡ key) key (λ wait. refl) item.def.success_wait)
+      (of_waits (λ n. is_behind_key key n ≡ false) front low)
+      (of_waits (λ n. is_behind_key key n ≡ true) back high)
+      ∙ sym (flat_map-append waits_of front (item ∷ back))
+
 -- ---- the definition
 
 module _ (s : State) (def : System) (ordered : AllPairsByRecursion (before (λ (row : SystemRow). row.def.name)) s.systems) where
@@ -97,8 +109,8 @@ module _ (s : State) (def : System) (ordered : AllPairsByRecursion (before (λ (
   abbrev back : List SystemRow
   back = filter (behind (λ row. row.def.name) (with_calls never_called)) s.systems
 
-  -- the lines are put where the others are
-  all_put : (call : CallState) → with_lines (placed (with_calls call)) (record (tables_of s) { systems = map system_columns (front ++ with_calls call ∷ back); lines = lines_of_all (front ++ back); ranges = ranges_of_all (front ++ back) }) ≡ tables_of (record s { systems = front ++ with_calls call ∷ back })
+  -- the lines are put where the others are, and so is the success wait
+  all_put : (call : CallState) → with_lines (placed (with_calls call)) (with_waits (waits_of (with_calls call)) (record (tables_of s) { systems = map system_columns (front ++ with_calls call ∷ back); lines = lines_of_all (front ++ back); ranges = ranges_of_all (front ++ back); success_waits = flat_map waits_of (front ++ back) })) ≡ tables_of (record s { systems = front ++ with_calls call ∷ back })
   all_put call =
       let low = kept_ahead (λ row. row.def.name) (with_calls never_called) s.systems in
       let high = kept_behind (λ row. row.def.name) (with_calls never_called) s.systems in
@@ -106,6 +118,7 @@ module _ (s : State) (def : System) (ordered : AllPairsByRecursion (before (λ (
         systems = map system_columns (front ++ with_calls call ∷ back);
         lines = lines_put (with_calls call) front back low high i;
         ranges = ranges_put (with_calls call) front back low high i;
+        success_waits = waits_put (with_calls call) front back low high i;
       }
 
   -- the state with these calls of the system
@@ -123,7 +136,7 @@ module _ (s : State) (def : System) (ordered : AllPairsByRecursion (before (λ (
   unfolding redefined
   same_columns row own = ap (λ n. record (system_columns (with_calls row.call)) { name = n }) ((bytes_decides row.def.name def.name).0 own)
 
-  known : has_system s def.name ≡ true → with_lines (placed_from def.name 0 def.lines) (with_definition true def (tables_of s)) ≡ tables_of (accept s (Define def))
+  known : has_system s def.name ≡ true → with_lines (placed_from def.name 0 def.lines) (with_waits (waits_from def.name def.success_wait) (with_definition true def (tables_of s))) ≡ tables_of (accept s (Define def))
   unfolding redefined
   known here =
       let it = found (is_system def.name) s.systems here in
@@ -134,15 +147,16 @@ module _ (s : State) (def : System) (ordered : AllPairsByRecursion (before (λ (
       ∙ map-append system_columns front (redefined row ∷ back)
       ∙ ap (λ r. map system_columns front ++ r ∷ map system_columns back) (same_columns row it.2)
       ∙ sym (map-append system_columns front (with_calls row.call ∷ back)) in
-      (λ i. with_lines (placed_from def.name 0 def.lines) (record (tables_of s) {
+      (λ i. with_lines (placed_from def.name 0 def.lines) (with_waits (waits_from def.name def.success_wait) (record (tables_of s) {
         systems = systems i;
         lines = (lines_without def.name s.systems ∙ ap lines_of_all others) i;
         ranges = (ranges_without def.name s.systems ∙ ap ranges_of_all others) i;
-      }))
+        success_waits = (waits_without def.name s.systems ∙ ap (flat_map waits_of) others) i;
+      })))
       ∙ all_put row.call
       ∙ ap (λ o. tables_of (with_system (call_of o))) (sym it.1)
 
-  unknown : has_system s def.name ≡ false → with_lines (placed_from def.name 0 def.lines) (with_definition false def (tables_of s)) ≡ tables_of (accept s (Define def))
+  unknown : has_system s def.name ≡ false → with_lines (placed_from def.name 0 def.lines) (with_waits (waits_from def.name def.success_wait) (with_definition false def (tables_of s))) ≡ tables_of (accept s (Define def))
   unknown missing =
       let none = none_passes (is_system def.name) s.systems missing in
       let same = none_go (is_system def.name) s.systems none in
@@ -150,14 +164,15 @@ module _ (s : State) (def : System) (ordered : AllPairsByRecursion (before (λ (
       inserted_mapped system_columns (λ r. r.name) (with_calls never_called) s.systems
       ∙ ap (λ rows. map system_columns (insert_by (λ (r : SystemRow). r.def.name) (with_calls never_called) rows)) (sym same)
       ∙ ap (map system_columns) (replaced_is_put (λ (r : SystemRow). r.def.name) (with_calls never_called) s.systems) in
-      (λ i. with_lines (placed_from def.name 0 def.lines) (record (tables_of s) {
+      (λ i. with_lines (placed_from def.name 0 def.lines) (with_waits (waits_from def.name def.success_wait) (record (tables_of s) {
         systems = systems i;
         lines = ap lines_of_all (sym same ∙ others) i;
         ranges = ap ranges_of_all (sym same ∙ others) i;
-      }))
+        success_waits = ap (flat_map waits_of) (sym same ∙ others) i;
+      })))
       ∙ all_put never_called
       ∙ ap (λ o. tables_of (with_system (call_of o))) (sym (found_none (is_system def.name) s.systems none))
 
-  pub defined : (is_known : Bool) → is_known ≡ has_system s def.name → with_lines (placed_from def.name 0 def.lines) (with_definition is_known def (tables_of s)) ≡ tables_of (accept s (Define def))
+  pub defined : (is_known : Bool) → is_known ≡ has_system s def.name → with_lines (placed_from def.name 0 def.lines) (with_waits (waits_from def.name def.success_wait) (with_definition is_known def (tables_of s))) ≡ tables_of (accept s (Define def))
   defined true e = known (sym e)
   defined false e = unknown (sym e)

@@ -1,5 +1,5 @@
 -- Calls that are reported, and jobs that go with them.
-use Rattle.std.proofs.Common.{◌≡◌, ◌≤◌, ℕ, ◌==◌, ◌||◌, true, not, List, [], ◌∷◌, ◌++◌, map, find, Option, Some, None, Result, Ok, Err, IfOk, refl, sym, ap, ◌∙◌, arith}
+use Rattle.std.proofs.Common.{◌≡◌, ◌≤◌, ℕ, ◌==◌, ◌||◌, Bool, true, false, not, length, nat_lt, is_some, IfSome, List, [], ◌∷◌, ◌++◌, map, find, Option, Some, None, Result, Ok, Err, IfOk, refl, sym, ap, ◌∙◌, arith}
 use Rattle.std.specs.List.{AllByRecursion, flat_map, list_any}
 use Rattle.std.proofs.lemmas.Bool.Decides.{nat_tests}
 use Rattle.std.proofs.lemmas.List.Folds.{list_any-append}
@@ -9,15 +9,16 @@ use Rattle.uu_core.specs.declared.command.Command.TheVariants.{Failed, Done}
 use Rattle.uu_core.specs.declared.refusal.Refusal.{Refusal}
 use Rattle.uu_core.specs.declared.system.CallState.{CallState}
 use Rattle.uu_core.specs.declared.system.SystemRow.{SystemRow}
-use Rattle.uu_core.specs.declared.refusal.Refusal.TheVariants.{NoSystem}
-use Rattle.uu_core.specs.Refusal.{first_reason}
-use Rattle.uu_core.specs.Verdict.{verdict}
-use Rattle.uu_core.specs.State.{State, Job, head_of, is_system, system_at, most_wait}
+use Rattle.uu_core.specs.declared.refusal.Refusal.TheVariants.{NoSystem, TooLarge, NoJob, JobTwice, OtherSystem}
+use Rattle.uu_core.specs.declared.job.JobHead.{JobHead}
+use Rattle.uu_core.specs.Refusal.{first_reason, decided}
+use Rattle.uu_core.specs.Verdict.{verdict, done_refusal, is_missing_one, has_repeat, has_other}
+use Rattle.uu_core.specs.State.{State, Job, head_of, is_system, system_at, has_system, most_wait}
 use Rattle.uu_core.specs.Waiting.{one_more}
-use Rattle.uu_core.specs.After.{accept, failed_call, failed_decision, done_call, is_among}
+use Rattle.uu_core.specs.After.{accept, failed_call, failed_decision, done_call, done_call_of, is_among}
 use Rattle.uu_tables.specs.declared.change.Change.TheVariants.{RemoveJob}
 use Rattle.uu_tables.specs.declared.rows.CallColumns.{CallColumns}
-use Rattle.uu_tables.specs.Tables.{Tables, tables_of, call_columns, system_columns, line_columns, placed, ranges_of, piece, pieces_of}
+use Rattle.uu_tables.specs.Tables.{Tables, tables_of, call_columns, system_columns, line_columns, placed, ranges_of, waits_of, piece, pieces_of}
 use Rattle.uu_tables.specs.Changes.{alter, apply, without, has_name}
 use Rattle.uu_tables.specs.Parts.{without_jobs, is_one_of}
 use Rattle.uu_tables.proofs.RowLemmas.{altered, dropped, dropped_with, same_rows, each_made, gone_twice, none_gone}
@@ -60,6 +61,7 @@ call_is_set s name call = λ i. record (tables_of s) {
   systems = altered system_columns (is_system name) (has_name name) (λ row. record row { call = call }) (λ row. record row { call = call_columns call }) (λ row. refl) (λ row. refl) s.systems i;
   lines = map line_columns (same_rows placed (is_system name) (λ row. record row { call = call }) (λ row. refl) s.systems i);
   ranges = flat_map ranges_of (same_rows placed (is_system name) (λ row. record row { call = call }) (λ row. refl) s.systems i);
+  success_waits = same_rows waits_of (is_system name) (λ row. record row { call = call }) (λ row. refl) s.systems i;
 }
 
 pieces_go : (numbers : List ℕ) (job : Job) → AllByRecursion (λ p. is_one_of numbers p.job ≡ is_among numbers job) (pieces_of job)
@@ -71,19 +73,25 @@ jobs_are_gone s numbers = λ i. record (tables_of s) {
   pieces = dropped_with pieces_of (is_among numbers) (λ p. is_one_of numbers p.job) (pieces_go numbers) s.jobs i;
 }
 
-pub done : (s : State) (name : List ℕ) (at : Moment) (numbers : List ℕ) → without_jobs numbers (with_call name (done_call at) (tables_of s)) ≡ tables_of (accept s (Done name at numbers))
-done s name at numbers = ap (without_jobs numbers) (call_is_set s name (done_call at)) ∙ jobs_are_gone (record s { systems = called name (done_call at) s.systems }) numbers
+-- the calls of one system, which is found, change as those of each of its name would
+one_called : (s : State) (name : List ℕ) (change : SystemRow → CallState) (row : SystemRow) → AllPairsByRecursion (before (λ r. r.def.name)) s.systems → find (is_system name) s.systems ≡ Some row
+    → with_call name (change row) (tables_of s) ≡ tables_of (record s { systems = alter (is_system name) (λ r. record r { call = change r }) s.systems })
+one_called s name change row ordered found =
+    call_is_set s name (change row) ∙ ap (λ rows. tables_of (record s { systems = rows })) (agree (is_system name) (λ r. record r { call = change row }) (λ r. record r { call = change r }) s.systems each)
+  where
+    each : AllByRecursion (λ r. is_system name r ≡ true → record r { call = change row } ≡ record r { call = change r }) s.systems
+    each = weaker (λ r. is_system name r ≡ true → r ≡ row) (λ r. is_system name r ≡ true → record r { call = change row } ≡ record r { call = change r }) (λ r one own. ap (λ x. record r { call = change x }) (sym (one own))) s.systems (only_one (λ r. r.def.name) name s.systems ordered row found)
+
+pub done : (s : State) (name : List ℕ) (at : Moment) (numbers : List ℕ) (row : SystemRow) → AllPairsByRecursion (before (λ r. r.def.name)) s.systems → find (is_system name) s.systems ≡ Some row → without_jobs numbers (with_call name (done_call row at) (tables_of s)) ≡ tables_of (accept s (Done name at numbers))
+done s name at numbers row ordered found =
+    ap (without_jobs numbers) (one_called s name (λ r. done_call r at) row ordered found) ∙ jobs_are_gone (record s { systems = alter (is_system name) (λ r. record r { call = done_call r at }) s.systems }) numbers
 
 failed : (s : State) (name : List ℕ) (at : Moment) (why : List ℕ) (row : SystemRow) → AllPairsByRecursion (before (λ r. r.def.name)) s.systems → find (is_system name) s.systems ≡ Some row → with_call name (failed_call row at why) (tables_of s) ≡ tables_of (accept s (Failed name at why))
-failed s name at why row ordered found =
-    call_is_set s name (failed_call row at why) ∙ ap (λ rows. tables_of (record s { systems = rows })) (agree (is_system name) (λ r. record r { call = failed_call row at why }) (λ r. record r { call = failed_call r at why }) s.systems each)
-  where
-    each : AllByRecursion (λ r. is_system name r ≡ true → record r { call = failed_call row at why } ≡ record r { call = failed_call r at why }) s.systems
-    each = weaker (λ r. is_system name r ≡ true → r ≡ row) (λ r. is_system name r ≡ true → record r { call = failed_call row at why } ≡ record r { call = failed_call r at why }) (λ r one own. ap (λ x. record r { call = failed_call x at why }) (sym (one own))) s.systems (only_one (λ r. r.def.name) name s.systems ordered row found)
+failed s name at why row ordered found = one_called s name (λ r. failed_call r at why) row ordered found
 
 -- ---- the wait after a call that failed
 
-pub wait_is_within : (row : SystemRow) (at : Moment) (why : List ℕ) (result : Result CallState Refusal) → result ≡ Ok (failed_call row at why) → AreWithinLimits row.def.lines row.def.max_retries → IfOk result (λ call. call.wait ≤ most_wait)
+pub wait_is_within : (row : SystemRow) (at : Moment) (why : List ℕ) (result : Result CallState Refusal) → result ≡ Ok (failed_call row at why) → AreWithinLimits row.def.lines row.def.max_retries row.def.success_wait → IfOk result (λ call. call.wait ≤ most_wait)
 wait_is_within row at why result is limits = rw is (wait_within row.def at.week (one_more row.call.failures) limits)
 
 -- ---- what is decided on a call that failed
@@ -115,3 +123,24 @@ pub failed_is_refused : (s : State) (name : List ℕ) (at : Moment) (why : List 
 failed_is_refused s name at why o refusal facts decided =
     let unknown = failure_refused o at why refusal decided in
     unknown_system s name at why (sym facts ∙ unknown.0) ∙ ap Some unknown.1
+
+-- ---- what is decided on a call that went well
+
+-- its wait is a year at most
+pub success_wait_is_within : (o : Option SystemRow) (at : Moment) (result : Result CallState Refusal) (refusal : Option Refusal) → result ≡ decided refusal (done_call_of o at) → IfSome o (λ row. row.def.success_wait ≤ most_wait) → IfOk result (λ call. call.wait ≤ most_wait)
+success_wait_is_within None at result None is within = rw is (omega arith)
+success_wait_is_within (Some row) at result None is within = rw is within
+success_wait_is_within o at result (Some refusal) is within = rw is tt
+
+-- where it is accepted, the system is known, and its calls are those
+pub done_is_found : (o : Option SystemRow) (at : Moment) (call : CallState) (name : List ℕ) (numbers : List ℕ) (heads : List JobHead) → done_refusal (is_some o) name numbers heads ≡ None → done_call_of o at ≡ call → (row : SystemRow) × (o ≡ Some row) × (done_call row at ≡ call)
+done_is_found None at call name numbers heads none is = absurd (no_none (nat_lt 256 (length numbers)) none)
+  where
+    no_none : (many : Bool) → first_reason ((many, TooLarge) ∷ (true, NoSystem) ∷ (is_missing_one numbers heads, NoJob) ∷ (has_repeat numbers, JobTwice) ∷ (has_other name numbers heads, OtherSystem) ∷ []) ≡ None → ⊥
+    no_none true h = cc
+    no_none false h = cc
+done_is_found (Some row) at call name numbers heads none is = (row, refl, is)
+
+pub is_known : (s : State) (name : List ℕ) (o : Option SystemRow) → o ≡ system_at s name → is_some o ≡ has_system s name
+is_known s name None is = sym (is_missing (is_system name) s.systems (sym is))
+is_known s name (Some row) is = sym (is_there (is_system name) s.systems row (sym is))

@@ -1,13 +1,15 @@
 -- Systems that go, with their lines and ranges.
-use Rattle.std.proofs.Common.{◌≡◌, ℕ, ◌+◌, List, [], ◌∷◌, Bool, map, refl, ap, ◌∙◌}
+use Rattle.std.proofs.Common.{◌≡◌, ◌≤◌, arith, ℕ, zero, suc, ◌+◌, List, [], ◌∷◌, Bool, map, refl, ap, ◌∙◌}
 use Rattle.std.specs.List.{AllByRecursion, flat_map}
 use Rattle.uu_times.specs.declared.system.Line.{Line}
 use Rattle.uu_core.specs.declared.command.Command.TheVariants.{Remove}
 use Rattle.uu_core.specs.declared.system.SystemRow.{SystemRow}
 use Rattle.uu_core.specs.State.{State, is_system, same_text}
 use Rattle.uu_core.specs.After.{accept}
-use Rattle.uu_tables.specs.Tables.{PlacedLine, tables_of, system_columns, line_columns, range_columns, placed, placed_from, ranges_of}
-use Rattle.uu_tables.specs.Changes.{without, has_name, is_line_of, is_range_of}
+use Rattle.uu_tables.specs.declared.rows.WaitColumns.{WaitColumns}
+use Rattle.uu_tables.specs.Tables.{Tables, PlacedLine, waits_from, waits_of, tables_of, system_columns, line_columns, range_columns, placed, placed_from, ranges_of}
+use Rattle.uu_tables.specs.Changes.{without, insert_by, new_wait, has_name, is_line_of, is_range_of, is_wait_of}
+use Rattle.uu_tables.specs.Parts.{with_waits}
 use Rattle.uu_tables.proofs.RowLemmas.{dropped, dropped_with, each_made}
 
 -- what each numbered line of a system has
@@ -31,9 +33,24 @@ lines_without name rows = dropped line_columns (is_of name) (is_line_of name) (�
 pub ranges_without : (name : List ℕ) (rows : List SystemRow) → without (is_range_of name) (flat_map ranges_of (flat_map placed rows)) ≡ flat_map ranges_of (flat_map placed (without (is_system name) rows))
 ranges_without name rows = dropped_with ranges_of (is_of name) (is_range_of name) (ranges_go name) (flat_map placed rows) ∙ ap (flat_map ranges_of) (dropped_with placed (is_system name) (is_of name) (lines_go name) rows)
 
-pub removed : (s : State) (name : List ℕ) → record (tables_of s) { systems = without (has_name name) (map system_columns s.systems); lines = without (is_line_of name) (map line_columns (flat_map placed s.systems)); ranges = without (is_range_of name) (flat_map ranges_of (flat_map placed s.systems)) } ≡ tables_of (accept s (Remove name))
+-- what the success wait of a system has, where there is one
+pub each_wait : (P : WaitColumns → Type 0) (name : List ℕ) → ((wait : ℕ) → P (record { system = name; wait = wait })) → (n : ℕ) → AllByRecursion P (waits_from name n)
+each_wait P name h zero = tt
+each_wait P name h (suc n) = (h (suc n), tt)
+
+-- and its success wait
+pub waits_without : (name : List ℕ) (rows : List SystemRow) → without (is_wait_of name) (flat_map waits_of rows) ≡ flat_map waits_of (without (is_system name) rows)
+waits_without name rows = dropped_with waits_of (is_system name) (is_wait_of name) (λ row. each_wait (λ w. is_wait_of name w ≡ is_system name row) row.def.name (λ wait. refl) row.def.success_wait) rows
+
+pub removed : (s : State) (name : List ℕ) → record (tables_of s) { systems = without (has_name name) (map system_columns s.systems); lines = without (is_line_of name) (map line_columns (flat_map placed s.systems)); ranges = without (is_range_of name) (flat_map ranges_of (flat_map placed s.systems)); success_waits = without (is_wait_of name) (flat_map waits_of s.systems) } ≡ tables_of (accept s (Remove name))
 removed s name = λ i. record (tables_of s) {
   systems = dropped system_columns (is_system name) (has_name name) (λ row. refl) s.systems i;
   lines = lines_without name s.systems i;
   ranges = ranges_without name s.systems i;
+  success_waits = waits_without name s.systems i;
 }
+
+-- one success wait that is not 0 is one row
+pub one_wait : (name : List ℕ) (n : ℕ) (t : Tables) → 1 ≤ n → record t { success_waits = insert_by (λ row. row.system) (new_wait name n) t.success_waits } ≡ with_waits (waits_from name n) t
+one_wait name zero t some = absurd (omega (arith, some))
+one_wait name (suc n) t some = refl

@@ -34,7 +34,7 @@ minutes_within : (test : Bool) (minutes : ℕ) → minutes ≤ most_retry_minute
 minutes_within true minutes h = omega (arith, h)
 minutes_within false minutes h = omega (arith, h)
 
-pub wait_within : (def : System) (week failures : ℕ) → AreWithinLimits def.lines def.max_retries → wait_after def week failures ≤ most_wait
+pub wait_within : (def : System) (week failures : ℕ) → AreWithinLimits def.lines def.max_retries def.success_wait → wait_after def week failures ≤ most_wait
 wait_within def week failures h =
     minutes_within (leb def.max_retries failures) (retry_minutes def.lines week failures)
     (retry_within (line_at def.lines week) (growing_minutes failures) (line_has def.lines week (limit_at def.lines week) h.1) (growing_within failures))

@@ -9,9 +9,10 @@ use Rattle.uu_tables.specs.declared.rows.SystemColumns.{SystemColumns}
 use Rattle.uu_tables.specs.declared.rows.LineColumns.{LineColumns}
 use Rattle.uu_tables.specs.declared.rows.RangeColumns.{RangeColumns}
 use Rattle.uu_tables.specs.declared.rows.EntryColumns.{EntryColumns}
+use Rattle.uu_tables.specs.declared.rows.WaitColumns.{WaitColumns}
 use Rattle.uu_tables.specs.declared.change.JobColumns.{JobColumns}
 use Rattle.uu_tables.specs.declared.change.Change.{Change}
-use Rattle.uu_tables.specs.declared.change.Change.TheVariants.{AddSystem, SetMaxRetries, SetCall, RemoveSystem, RemoveLines, AddLine, AddRange, AddJob, SetGrade, SetQueued, RemoveJob, AddPiece, RemoveEntry, AddEntry, SetNext}
+use Rattle.uu_tables.specs.declared.change.Change.TheVariants.{AddSystem, SetMaxRetries, SetCall, RemoveSystem, RemoveLines, AddSuccessWait, RemoveSuccessWait, AddLine, AddRange, AddJob, SetGrade, SetQueued, RemoveJob, AddPiece, RemoveEntry, AddEntry, SetNext}
 use Rattle.uu_tables.specs.Tables.{Tables, Piece, system_columns, line_columns, range_columns}
 
 -- ---- changes of a list of rows
@@ -43,6 +44,9 @@ is_line_of name row = same_text row.system name
 abbrev pub is_range_of : List ℕ → RangeColumns → Bool
 is_range_of name row = same_text row.system name
 
+abbrev pub is_wait_of : List ℕ → WaitColumns → Bool
+is_wait_of name row = same_text row.system name
+
 abbrev pub has_number : ℕ → JobHead → Bool
 has_number number row = row.number == number
 
@@ -60,6 +64,9 @@ new_system def = system_columns (record { def = def; call = never_called })
 
 abbrev pub new_line : List ℕ → ℕ → Line → LineColumns
 new_line name place line = line_columns (record { system = name; place = place; line = line })
+
+abbrev pub new_wait : List ℕ → ℕ → WaitColumns
+new_wait name wait = record { system = name; wait = wait }
 
 abbrev pub new_job : ℕ → JobColumns → JobHead
 new_job number columns = record {
@@ -85,8 +92,15 @@ apply (AddSystem def) t = record t { systems = insert_by (λ row. row.name) (new
 apply (SetMaxRetries system max_retries) t = record t { systems = alter (has_name system.now) (λ row. record row { max_retries = max_retries }) t.systems }
 apply (SetCall system call) t = record t { systems = alter (has_name system.now) (λ row. record row { call = call }) t.systems }
 apply (RemoveSystem system) t =
-    record t { systems = without (has_name system.now) t.systems; lines = without (is_line_of system.now) t.lines; ranges = without (is_range_of system.now) t.ranges }
+    record t {
+      systems = without (has_name system.now) t.systems;
+      lines = without (is_line_of system.now) t.lines;
+      ranges = without (is_range_of system.now) t.ranges;
+      success_waits = without (is_wait_of system.now) t.success_waits;
+    }
 apply (RemoveLines system) t = record t { lines = without (is_line_of system.now) t.lines; ranges = without (is_range_of system.now) t.ranges }
+apply (AddSuccessWait system wait) t = record t { success_waits = insert_by (λ row. row.system) (new_wait system.now wait) t.success_waits }
+apply (RemoveSuccessWait system) t = record t { success_waits = without (is_wait_of system.now) t.success_waits }
 apply (AddLine system place line) t = record t { lines = insert_by (λ row. row.system) (new_line system.now place line.now) t.lines }
 apply (AddRange system place low high) t = record t { ranges = insert_by (λ row. row.system) (range_columns system.now place (low, high)) t.ranges }
 apply (AddJob number columns) t = record t { jobs = append (new_job number columns) t.jobs }

@@ -6,6 +6,7 @@ use Rattle.uu_core.specs.declared.job.JobHead.{JobHead}
 use Rattle.uu_tables.specs.declared.rows.SystemColumns.{SystemColumns}
 use Rattle.uu_tables.specs.declared.rows.LineColumns.{LineColumns}
 use Rattle.uu_tables.specs.declared.rows.RangeColumns.{RangeColumns}
+use Rattle.uu_tables.specs.declared.rows.WaitColumns.{WaitColumns}
 use Rattle.uu_tables.specs.declared.rows.PieceSize.{PieceSize}
 use Rattle.uu_tables.specs.declared.rows.EntryColumns.{EntryColumns}
 use Rattle.uu_tables.specs.Tables.{Piece}
@@ -21,6 +22,10 @@ line_cmp a b = ordering_then (slice_cmp nat_cmp a.system b.system) (nat_cmp a.pl
 -- by system, place, and first minute
 abbrev pub range_cmp : RangeColumns → RangeColumns → Ordering
 range_cmp a b = ordering_then (slice_cmp nat_cmp a.system b.system) (ordering_then (nat_cmp a.place b.place) (nat_cmp a.low b.low))
+
+-- by system
+abbrev pub wait_cmp : WaitColumns → WaitColumns → Ordering
+wait_cmp a b = slice_cmp nat_cmp a.system b.system
 
 -- by number
 abbrev pub head_cmp : JobHead → JobHead → Ordering

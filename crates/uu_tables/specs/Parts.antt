@@ -3,8 +3,9 @@ use Rattle.std.specs.Prelude.{ℕ, Bool, true, false, ◌==◌, List, [], ◌∷
 use Rattle.std.specs.List.{flat_map, list_any}
 use Rattle.uu_times.specs.System.{System}
 use Rattle.uu_tables.specs.declared.rows.RangeColumns.{RangeColumns}
+use Rattle.uu_tables.specs.declared.rows.WaitColumns.{WaitColumns}
 use Rattle.uu_tables.specs.Tables.{Tables, PlacedLine, line_columns, ranges_of, cut}
-use Rattle.uu_tables.specs.Changes.{insert_by, alter, without, has_name, is_line_of, is_range_of, new_system}
+use Rattle.uu_tables.specs.Changes.{insert_by, alter, without, has_name, is_line_of, is_range_of, is_wait_of, new_system}
 
 -- the tables with the pieces of a job behind all others
 abbrev pub with_pieces : ℕ → List ℕ → Tables → Tables
@@ -34,11 +35,16 @@ with_lines lines t = record t {
   ranges = insert_each (λ row. row.system) (flat_map ranges_of lines) t.ranges;
 }
 
--- The tables with a definition but its lines: a known system loses those that it had, and keeps its calls.
+-- the tables with these success waits
+abbrev pub with_waits : List WaitColumns → Tables → Tables
+with_waits waits t = record t { success_waits = insert_each (λ row. row.system) waits t.success_waits }
+
+-- The tables with a definition but its lines and its success wait: a known system loses those that it had, and keeps its calls.
 abbrev pub with_definition : Bool → System → Tables → Tables
 with_definition true def t = record t {
   systems = alter (has_name def.name) (λ row. record row { max_retries = def.max_retries }) t.systems;
   lines = without (is_line_of def.name) t.lines;
   ranges = without (is_range_of def.name) t.ranges;
+  success_waits = without (is_wait_of def.name) t.success_waits;
 }
 with_definition false def t = record t { systems = insert_by (λ row. row.name) (new_system def) t.systems }

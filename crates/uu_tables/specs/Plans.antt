@@ -21,7 +21,7 @@ AreFacts facts s (Kill job by) = facts.head ≡ option_map head_of (job_at s job
 AreFacts facts s (Regrade job grade by) = facts.head ≡ option_map head_of (job_at s job)
 AreFacts facts s (Rejuvenate job at by) = facts.head ≡ option_map head_of (job_at s job)
 AreFacts facts s (Failed system at why) = facts.system ≡ system_at s system
-AreFacts facts s (Done system at jobs) = (facts.is_known ≡ has_system s system) × AreFound jobs (map head_of s.jobs) facts.found.items
+AreFacts facts s (Done system at jobs) = (facts.system ≡ system_at s system) × AreFound jobs (map head_of s.jobs) facts.found.items
 AreFacts facts s (Entry bytes) = ⊤
 
 -- the answer is the machine's, the changes make the tables of the state after the command, and a refused command makes none

@@ -1,6 +1,6 @@
 -- The tables of a state as plain lists of rows, in the machine's own order. (The tables, their keys and the size of a piece are this
 -- project's choice.)
-use Rattle.std.specs.Prelude.{ℕ, ◌+◌, ◌*◌, ◌/◌, List, [], ◌∷◌, length, map, take, drop, Option, None, Some}
+use Rattle.std.specs.Prelude.{ℕ, zero, suc, ◌+◌, ◌*◌, ◌/◌, List, [], ◌∷◌, length, map, take, drop, Option, None, Some}
 use Rattle.std.specs.List.{flat_map, range_with_len}
 use Rattle.uu_times.specs.declared.system.Line.{Line}
 use Rattle.uu_core.specs.declared.job.JobHead.{JobHead}
@@ -13,6 +13,7 @@ use Rattle.uu_tables.specs.declared.rows.CallColumns.{CallColumns}
 use Rattle.uu_tables.specs.declared.rows.SystemColumns.{SystemColumns}
 use Rattle.uu_tables.specs.declared.rows.LineColumns.{LineColumns}
 use Rattle.uu_tables.specs.declared.rows.RangeColumns.{RangeColumns}
+use Rattle.uu_tables.specs.declared.rows.WaitColumns.{WaitColumns}
 use Rattle.uu_tables.specs.declared.rows.PieceSize.{PieceSize}
 use Rattle.uu_tables.specs.declared.rows.EntryColumns.{EntryColumns}
 
@@ -28,7 +29,7 @@ pub record PlacedLine : Type 0 where
   pub place : ℕ
   pub line : Line
 
--- The number of the next job, and the rows of the other six tables.
+-- The number of the next job, and the rows of the other seven tables.
 pub record Tables : Type 0 where
   pub next : ℕ
   pub systems : List SystemColumns
@@ -37,6 +38,7 @@ pub record Tables : Type 0 where
   pub jobs : List JobHead
   pub pieces : List Piece
   pub entries : List EntryColumns
+  pub success_waits : List WaitColumns
 
 -- ---- systems, lines, ranges
 
@@ -80,6 +82,14 @@ range_columns name place range = record { system = name; place = place; low = ra
 -- the ranges of a line
 abbrev pub ranges_of : PlacedLine → List RangeColumns
 ranges_of p = map (range_columns p.system p.place) p.line.windows
+
+-- the success wait of a system, unless it is 0
+abbrev pub waits_from : List ℕ → ℕ → List WaitColumns
+waits_from name zero = []
+waits_from name (suc n) = record { system = name; wait = suc n } ∷ []
+
+abbrev pub waits_of : SystemRow → List WaitColumns
+waits_of row = waits_from row.def.name row.def.success_wait
 
 -- ---- jobs, pieces
 
@@ -126,4 +136,5 @@ tables_of s = record {
   jobs = map head_of s.jobs;
   pieces = flat_map pieces_of s.jobs;
   entries = map entry_columns s.entries;
+  success_waits = flat_map waits_of s.systems;
 }

@@ -40,13 +40,25 @@ pub enum Change<'a> {
         /// How they went.
         call: CallColumns,
     },
-    /// The system goes, and its lines and their ranges with it.
+    /// The system goes, and its lines, their ranges and its success wait with it.
     RemoveSystem {
         /// The system.
         system: &'a SiteName,
     },
     /// The lines of a system go, and their ranges with them.
     RemoveLines {
+        /// The system.
+        system: &'a SiteName,
+    },
+    /// The success wait of a system, which has none.
+    AddSuccessWait {
+        /// The system.
+        system: &'a SiteName,
+        /// The seconds.
+        wait: u32,
+    },
+    /// The success wait of a system goes.
+    RemoveSuccessWait {
         /// The system.
         system: &'a SiteName,
     },

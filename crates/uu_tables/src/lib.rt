@@ -1,4 +1,4 @@
-//! The seven tables of the spool as plain lists of typed rows, and what each command changes in them, decided without a
+//! The eight tables of the spool as plain lists of typed rows, and what each command changes in them, decided without a
 //! database: a list of changes, each of which is one statement.
 #![tactic(auto)]
 
@@ -12,5 +12,5 @@ pub use facts::Facts;
 pub use plan::{PIECE_BYTES, Plan, make_plan};
 pub use rows::{
     CALL_FAILED, CALL_MADE, CallColumns, EntryColumns, LineColumns, NEVER_CALLED, PieceSize,
-    RangeColumns, SystemColumns,
+    RangeColumns, SystemColumns, WaitColumns,
 };

@@ -62,6 +62,15 @@ pub struct RangeColumns {
     pub high: u32,
 }
 
+/// A row of the table `success_waits`, which has none for a system whose success wait is 0.
+#[derive(Drop)]
+pub struct WaitColumns {
+    /// The system.
+    pub system: SiteName,
+    /// How many seconds it is left alone after a call that went well, 1 to 31,536,000.
+    pub wait: u32,
+}
+
 /// A row of the table `pieces` without its bytes.
 #[derive(Drop)]
 pub struct PieceSize {

@@ -1,12 +1,12 @@
 -- Whether a database names a later version.
-use Rattle.std.proofs.Common.{◌≡◌, ◌⊎◌, inl, inr, pos, List, [], ◌∷◌, ◌++◌, true, map, filter, refl, sym, ap, subst, ◌∙◌, arith}
+use Rattle.std.proofs.Common.{◌≡◌, ◌⊎◌, ◌≤◌, ℕ, ℤ, inl, inr, pos, List, [], ◌∷◌, ◌++◌, true, map, filter, refl, sym, ap, subst, ◌∙◌, arith}
 use Rattle.std.specs.Prelude.{◌&&◌, ◌<ℤ◌}
 use Rattle.std.specs.List.{list_all}
 use Rattle.std.specs.List.Sorted.{IsPermutation}
 use Rattle.std.proofs.lemmas.Bool.{and_parts}
 use Rattle.std.proofs.lemmas.Int.{ints}
 use Rattle.std.proofs.lemmas.List.Sorted.{IsPermutation-sym}
-use Rattle.sqlite.specs.declared.types.Value.TheVariants.{Int}
+use Rattle.sqlite.specs.declared.types.Value.TheVariants.{Null, Int}
 use Rattle.sqlite.specs.Order.{Row, column}
 use Rattle.sqlite.specs.Tree.{Trees}
 use Rattle.sqlite.specs.Term.{holds}
@@ -19,9 +19,11 @@ use Rattle.sqlite_rules.proofs.ProbeLemmas.{has_mapped, mapped_has}
 use Rattle.uu_sql.specs.Steps.{Stands}
 use Rattle.uu_sql.proofs.Rowids.{has_moved}
 use Rattle.uu_sql.proofs.Answers.{answer_of, answer_moved}
-use Rattle.uu_schema.specs.Schema.{site, spool}
-use Rattle.uu_schema.specs.Made.{spool_row, version as ours}
-use Rattle.uu_schema.specs.Held.{Holds}
+use Rattle.uu_schema.specs.declared.version.Version.{Version}
+use Rattle.uu_schema.specs.Schema.{site_of, spool}
+use Rattle.uu_schema.specs.declared.version.Version.TheVariants.{First, Second}
+use Rattle.uu_schema.specs.Made.{version as ours}
+use Rattle.uu_schema.specs.Held.{HoldsAs}
 use Rattle.uu_tables.specs.Tables.{Tables}
 use Rattle.uu_taking.specs.Texts.{version_text}
 use Rattle.uu_taking.specs.Version.{HasLater, ShowsLater, IsLater}
@@ -40,19 +42,19 @@ later_more rows row none fresh it = elim (one_of rows row it.row it.there) [
   | inr same ↦ fresh (subst ShowsLater same it.shows)
 ]
 
-module _ (old new : db.State) (rows : List Row) where
+module _ (v : Version) (old new : db.State) (rows : List Row) where
   abbrev shown : Row → Row
   shown r = column r 2 ∷ []
 
   abbrev firsts : List Row
   firsts = filter (λ r. list_all (holds ([] ∷ r ∷ [])) (is_first ∷ [])) (old.now.trees spool.tree)
 
-  version_moved : Stands site old.now → db.Shown version_text [] old new rows → IsPermutation (map shown firsts) rows
+  version_moved : Stands (site_of v) old.now → db.Shown version_text [] old new rows → IsPermutation (map shown firsts) rows
   version_moved stands h =
-      let a = answer_of site version_text _ _ [] old new version_means stands.schema rows h in
+      let a = answer_of (site_of v) version_text _ _ [] old new (version_means v) stands.schema rows h in
       answer_moved spool.tree (is_first ∷ []) (at_places (2 ∷ [])) [] old.now.trees [] rows refl a
 
-  pub later_found : Stands site old.now → db.Shown version_text [] old new rows → HasLater rows → IsLater old.now.trees
+  pub later_found : Stands (site_of v) old.now → db.Shown version_text [] old new rows → HasLater rows → IsLater old.now.trees
   later_found stands h later =
       let there = has_moved rows (map shown firsts) later.row (IsPermutation-sym _ _ (version_moved stands h)) later.there in
       let from = has_mapped shown firsts later.row there in
@@ -67,15 +69,20 @@ module _ (old new : db.State) (rows : List Row) where
         later = later.shows.later;
       }
 
-  pub later_not : Stands site old.now → db.Shown version_text [] old new rows → (HasLater rows → ⊥) → IsLater old.now.trees → ⊥
+  pub later_not : Stands (site_of v) old.now → db.Shown version_text [] old new rows → (HasLater rows → ⊥) → IsLater old.now.trees → ⊥
   later_not stands h none it =
       let kept = has_kept (λ r. list_all (holds ([] ∷ r ∷ [])) (is_first ∷ [])) (old.now.trees spool.tree) it.row it.there (ap (λ b. b && true) it.first) in
       none (record { row = shown it.row; there = has_moved (map shown firsts) rows (shown it.row) (version_moved stands h) (mapped_has shown firsts it.row kept); shows = record { version = it.version; is = it.is; later = it.later } })
 
+-- a row of one of our versions names no later one
+never_later : (n next : ℕ) (it : Row) (version : ℤ) → n ≤ 2 → column it 2 ≡ Int version → pos ours <ℤ version → Has ((Int (pos 1) ∷ Null ∷ Int (pos n) ∷ Int (pos next) ∷ []) ∷ []) it → ⊥
+never_later n next it version few is later (inl same) =
+    let mine : Int version ≡ Int (pos n) = sym is ∙ ap (λ (r : Row). column r 2) same in
+    let v : version ≡ pos n = cc in
+    let late = subst (λ m. pos ours <ℤ m) v later in omega (arith, ints, late, few)
+never_later n next it version few is later (inr none) = none
+
 -- tables that are held have no such row
-pub not_later : (db : Trees) (t : Tables) → Holds db t → IsLater db → ⊥
-not_later db t holds it = go (subst (λ rows. Has rows it.row) holds.spool it.there)
-  where
-    go : Has (spool_row t.next ∷ []) it.row → ⊥
-    go (inl same) = let mine : Int it.version ≡ Int (pos ours) = sym it.is ∙ ap (λ (r : Row). column r 2) same in let v : it.version ≡ pos ours = cc in let late = subst (λ n. pos ours <ℤ n) v it.later in omega (arith, ints, late)
-    go (inr none) = none
+pub not_later : (v : Version) (db : Trees) (t : Tables) → HoldsAs v db t → IsLater db → ⊥
+not_later First db t holds it = never_later 1 t.next it.row it.version (omega arith) it.is it.later (subst (λ rows. Has rows it.row) holds.spool it.there)
+not_later Second db t holds it = never_later 2 t.next it.row it.version (omega arith) it.is it.later (subst (λ rows. Has rows it.row) holds.spool it.there)

@@ -23,7 +23,8 @@ use Rattle.uu_sql.proofs.Rows.{all_stay}
 use Rattle.uu_sql.proofs.Answers.{answer_of, answer_moved}
 use Rattle.uu_tables.specs.declared.rows.PieceSize.{PieceSize}
 use Rattle.uu_tables.specs.Tables.{Piece, size_of}
-use Rattle.uu_schema.specs.Schema.{site, pieces}
+use Rattle.uu_schema.specs.declared.version.Version.{Version}
+use Rattle.uu_schema.specs.Schema.{site_of, pieces}
 use Rattle.uu_schema.specs.Keyed.{Keyed, columns}
 use Rattle.uu_schema.specs.Held.{piece_key, piece_places}
 use Rattle.uu_schema.specs.Cells.{piece_cells}
@@ -79,15 +80,15 @@ built (r ∷ rs) (x ∷ all) typed h =
     let more = built rs all typed.1 tail in
     record { rows = λ i. sym one.0 i ∷ more.rows i; sizes = λ i. one.1 i ∷ more.sizes i }
 
-module _ (a b c : db.State) (rows ids : List Row) (stands : Stands site a.now) (same : b.now ≡ a.now) (h : db.Shown sizes_text [] a b rows) (k : db.Shown piece_rowids_text [] b c ids) where
+module _ (v : Version) (a b c : db.State) (rows ids : List Row) (stands : Stands (site_of v) a.now) (same : b.now ≡ a.now) (h : db.Shown sizes_text [] a b rows) (k : db.Shown piece_rowids_text [] b c ids) where
   abbrev table : List Row
   table = a.now.trees pieces.tree
 
   answer : IsAnswer (ordered pieces.tree [] size_terms (by_places (1 ∷ 2 ∷ []))) (overlay a.now.trees []) [] rows
-  answer = answer_of site sizes_text _ _ [] a b sizes_means stands.schema rows h
+  answer = answer_of (site_of v) sizes_text _ _ [] a b (sizes_means v) stands.schema rows h
 
   id_rows : IsAnswer (rowids_of pieces.tree) (overlay a.now.trees []) [] ids
-  id_rows = ids_answer a b c rows ids stands same pieces.tree piece_rowids_text _ piece_rowids_means k
+  id_rows = ids_answer v a b c rows ids stands same pieces.tree piece_rowids_text _ (piece_rowids_means v) k
 
   moved : IsPermutation (map size_shown table) rows
   moved =
@@ -123,7 +124,7 @@ module _ (a b c : db.State) (rows ids : List Row) (stands : Stands site a.now) (
   sizes_taken (Some all) read = record {
     all = (
         let back = pull_back size_shown _ _ (subst (IsPermutation (map size_shown table)) read.rows_are moved) table refl in
-        let it = built back.0 all.items (all-permutation HasBytes table back.0 back.1 (piece_rows_are a.now.trees stands.sound)) (sym back.2) in
+        let it = built back.0 all.items (all-permutation HasBytes table back.0 back.1 (piece_rows_are v a.now.trees stands.sound)) (sym back.2) in
         let apart = ids_found pieces.tree a.now.trees ids refl id_rows read.rowids in
         (map piece_of back.0, record { same = subst (λ l. IsPermutation l (map (columns piece_places) table)) (sym it.rows) (IsPermutation-map (columns piece_places) _ _ (IsPermutation-sym table back.0 back.1)); numbered = apart.0; once = apart.1 }, it.sizes, read.readable));
     only = λ ps good rise keyed. same_all size_cells size_back IsSize (λ x g. size_returns x) all.items (map size_of ps) read.readable (all_map IsSize size_of ps good) (sym read.rows_are ∙ only ps keyed.same rise);

@@ -14,7 +14,10 @@ use Rattle.sqlite.specs.Kind.TheVariants.{Integer, Blob as Bytes}
 use Rattle.sqlite_schema.specs.declared.schema.Constraint.TheVariants.{Datatype, NotNull}
 use Rattle.sqlite_sql.specs.Ops.{is_null}
 use Rattle.sqlite_keyed.proofs.ListLemmas.{all_both}
-use Rattle.uu_schema.specs.Schema.{site, spool, pieces}
+use Rattle.sqlite.specs.Schema.{Schema}
+use Rattle.uu_schema.specs.declared.version.Version.{Version}
+use Rattle.uu_schema.specs.declared.version.Version.TheVariants.{First, Second}
+use Rattle.uu_schema.specs.Schema.{site, first_site, site_of, spool, pieces}
 
 -- ---- rows of so many values
 
@@ -57,8 +60,8 @@ wide key at (c ∷ cs) (v ∷ vs) h = let it : length vs ≤ length cs = wide ke
 
 -- ---- the table `spool`
 
-pub spool_four : (r : Row) (db : Trees) → passes NotNull site db spool r ≡ true → passes Datatype site db spool r ≡ true → (length r ≡ 4) × (column r 1 ≡ Null)
-spool_four r db present typed = go r (there r 3 (full _ (and_parts (not (is_null (column r 3))) true (last (not (is_null (column r 2))) _ present)).0)) (and_parts (are_typed (Some 0) 0 spool.columns (drop 1 r)) _ typed).0
+pub spool_four : (schema : Schema) (r : Row) (db : Trees) → passes NotNull schema db spool r ≡ true → passes Datatype schema db spool r ≡ true → (length r ≡ 4) × (column r 1 ≡ Null)
+spool_four schema r db present typed = go r (there r 3 (full _ (and_parts (not (is_null (column r 3))) true (last (not (is_null (column r 2))) _ present)).0)) (and_parts (are_typed (Some 0) 0 spool.columns (drop 1 r)) _ typed).0
   where
     go : (r : Row) → 3 < length r → are_typed (Some 0) 0 spool.columns (drop 1 r) ≡ true → (length r ≡ 4) × (column r 1 ≡ Null)
     go [] long h = absurd (omega (arith, long))
@@ -68,13 +71,14 @@ spool_four r db present typed = go r (there r 3 (full _ (and_parts (not (is_null
 abbrev pub IsSpoolRow : Row → Type 0
 IsSpoolRow r = r ≡ column r 0 ∷ Null ∷ column r 2 ∷ column r 3 ∷ []
 
-spool_row_is : (r : Row) (db : Trees) → passes NotNull site db spool r ≡ true → passes Datatype site db spool r ≡ true → IsSpoolRow r
-spool_row_is r db present typed =
-    let it = spool_four r db present typed in
+spool_row_is : (schema : Schema) (r : Row) (db : Trees) → passes NotNull schema db spool r ≡ true → passes Datatype schema db spool r ≡ true → IsSpoolRow r
+spool_row_is schema r db present typed =
+    let it = spool_four schema r db present typed in
     four r it.0 ∙ (λ i. column r 0 ∷ it.1 i ∷ column r 2 ∷ column r 3 ∷ [])
 
-pub spool_rows_are : (db : Trees) → IsSound site db → AllByRecursion IsSpoolRow (db spool.tree)
-spool_rows_are db sound = all_both _ _ IsSpoolRow (λ r. spool_row_is r db) (db spool.tree) (sound.obeys.rules NotNull).0 (sound.obeys.rules Datatype).0
+pub spool_rows_are : (v : Version) (db : Trees) → IsSound (site_of v) db → AllByRecursion IsSpoolRow (db spool.tree)
+spool_rows_are First db sound = all_both _ _ IsSpoolRow (λ r. spool_row_is first_site r db) (db spool.tree) (sound.obeys.rules NotNull).0 (sound.obeys.rules Datatype).0
+spool_rows_are Second db sound = all_both _ _ IsSpoolRow (λ r. spool_row_is site r db) (db spool.tree) (sound.obeys.rules NotNull).0 (sound.obeys.rules Datatype).0
 
 -- ---- the table `pieces`
 
@@ -90,8 +94,8 @@ pub record HasBytes (r : Row) : Type 0 where
   pub bytes : List ℕ
   pub is : column r 3 ≡ Blob bytes
 
-piece_row_is : (r : Row) (db : Trees) → passes NotNull site db pieces r ≡ true → passes Datatype site db pieces r ≡ true → HasBytes r
-piece_row_is r db present typed =
+piece_row_is : (schema : Schema) (r : Row) (db : Trees) → passes NotNull schema db pieces r ≡ true → passes Datatype schema db pieces r ≡ true → HasBytes r
+piece_row_is schema r db present typed =
     let h1 = last (not (is_null (column r 1))) _ present in
     let h2 = last (not (is_null (column r 2))) _ h1 in
     let some = full _ (and_parts (not (is_null (column r 3))) true h2).0 in
@@ -105,5 +109,6 @@ piece_row_is r db present typed =
         record { bytes = it.0; is = it.1 }
     go r long some h = absurd (omega (arith, long))
 
-pub piece_rows_are : (db : Trees) → IsSound site db → AllByRecursion HasBytes (db pieces.tree)
-piece_rows_are db sound = all_both _ _ HasBytes (λ r. piece_row_is r db) (db pieces.tree) (sound.obeys.rules NotNull).1.1.1.1.1.0 (sound.obeys.rules Datatype).1.1.1.1.1.0
+pub piece_rows_are : (v : Version) (db : Trees) → IsSound (site_of v) db → AllByRecursion HasBytes (db pieces.tree)
+piece_rows_are First db sound = all_both _ _ HasBytes (λ r. piece_row_is first_site r db) (db pieces.tree) (sound.obeys.rules NotNull).1.1.1.1.1.0 (sound.obeys.rules Datatype).1.1.1.1.1.0
+piece_rows_are Second db sound = all_both _ _ HasBytes (λ r. piece_row_is site r db) (db pieces.tree) (sound.obeys.rules NotNull).1.1.1.1.1.0 (sound.obeys.rules Datatype).1.1.1.1.1.0

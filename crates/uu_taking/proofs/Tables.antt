@@ -10,6 +10,7 @@ use Rattle.sqlite.specs.Tree.{Trees, IsAscending}
 use Rattle.sqlite.specs.Term.{eval_all}
 use Rattle.sqlite.specs.Query.{IsAnswer}
 use Rattle.sqlite.specs.Program.{overlay}
+use Rattle.sqlite.specs.Effect.{Database}
 use Rattle.sqlite.specs.State as db
 use Rattle.sqlite.specs.State.{HasCleanDisk}
 use Rattle.sqlite_value.specs.declared.keys.Key.{Key}
@@ -22,7 +23,8 @@ use Rattle.uu_sql.proofs.Questions.{spared_as, spared_then}
 use Rattle.uu_sql.proofs.Asks.{ordered}
 use Rattle.uu_sql.proofs.Rows.{all_stay}
 use Rattle.uu_sql.proofs.Answers.{answer_moved}
-use Rattle.uu_schema.specs.Schema.{site}
+use Rattle.uu_schema.specs.Schema.{site_of}
+use Rattle.uu_schema.specs.declared.version.Version.{Version}
 use Rattle.uu_schema.specs.Keyed.{Keyed, columns}
 use Rattle.uu_rows.specs.Shows.{Shows}
 use Rattle.uu_taking.specs.Taking.{Finds, Takes, IsRead}
@@ -78,26 +80,40 @@ of_ok : {T E P : Type 0} (r : Result T E) → IsOk r → OnOk r P → P
 of_ok (Ok x) ok p = p
 of_ok (Err e) ok p = absurd (cc)
 
-pub took : {T : Type 0} (P : (ℕ → List Row) → T → Type 0) (text more : List ℕ) (a b c : db.State) (p q : Result (Vec Row Global) Error) (r : Result T Error) → IsOk p → IsOk q → Shows text [] a b p → Shows more [] b c q → Spares a b p → Spares b c q
-    → (HasCleanDisk b → HasCleanDisk c → Stands site a.now → b.now ≡ a.now → IfOk r (P a.now.trees)) → Takes P a c r
-took P text more a b c p q r ok fine first second spared also_spared step =
+pub took : (v : Version) {T : Type 0} (P : (ℕ → List Row) → T → Type 0) (text more : List ℕ) (a b c : db.State) (p q : Result (Vec Row Global) Error) (r : Result T Error) → IsOk p → IsOk q → Shows text [] a b p → Shows more [] b c q → Spares a b p → Spares b c q
+    → (HasCleanDisk b → HasCleanDisk c → Stands (site_of v) a.now → b.now ≡ a.now → IfOk r (P a.now.trees)) → Takes v P a c r
+took v P text more a b c p q r ok fine first second spared also_spared step =
     let early : HasCleanDisk c → HasCleanDisk b = λ clean. omega (arith, clean, also_spared.survives.clean) in
-    let stays : HasCleanDisk c → Stands site a.now → b.now ≡ a.now = λ clean stands. of_ok p ok (first.same (early clean) stands) in
+    let stays : HasCleanDisk c → b.now ≡ a.now = λ clean. of_ok p ok (first.same (early clean)) in
     record {
       spares = spared_as a c q r (λ _. fine) (spared_then a b p c q ok spared also_spared);
-      same = λ clean stands. any_told _ r (of_ok q fine (second.same clean (subst (Stands site) (sym (stays clean stands)) stands)) ∙ stays clean stands);
-      found = λ clean stands. step (early clean) clean stands (stays clean stands);
+      same = λ clean. any_told _ r (of_ok q fine (second.same clean) ∙ stays clean);
+      found = λ clean stands. step (early clean) clean stands (stays clean);
     }
 
 -- the second was refused
-pub took_none : {T : Type 0} (P : (ℕ → List Row) → T → Type 0) (a b c : db.State) (p q : Result (Vec Row Global) Error) (r : Result T Error) → IsOk p → Spares a b p → Spares b c q → IsErr r → Takes P a c r
-took_none P a b c p q (Ok x) ok spared also_spared fails = absurd (cc)
-took_none P a b c p q (Err e) ok spared also_spared fails = record { spares = spared_as a c q (Err e) (λ is. absurd (cc)) (spared_then a b p c q ok spared also_spared); same = λ clean stands. tt; found = λ clean stands. tt }
+pub took_none : (v : Version) {T : Type 0} (P : (ℕ → List Row) → T → Type 0) (a b c : db.State) (p q : Result (Vec Row Global) Error) (r : Result T Error) → IsOk p → Spares a b p → Spares b c q → IsErr r → Takes v P a c r
+took_none v P a b c p q (Ok x) ok spared also_spared fails = absurd (cc)
+took_none v P a b c p q (Err e) ok spared also_spared fails = record { spares = spared_as a c q (Err e) (λ is. absurd (cc)) (spared_then a b p c q ok spared also_spared); same = λ clean. tt; found = λ clean stands. tt }
 
-pub took_one : {T : Type 0} (P : (ℕ → List Row) → T → Type 0) (text : List ℕ) (a b : db.State) (p : Result (Vec Row Global) Error) (r : Result T Error) → IsOk p → Shows text [] a b p → Spares a b p
-    → (HasCleanDisk b → Stands site a.now → IfOk r (P a.now.trees)) → Takes P a b r
-took_one P text a b p r ok first spared step = record {
+pub took_one : (v : Version) {T : Type 0} (P : (ℕ → List Row) → T → Type 0) (text : List ℕ) (a b : db.State) (p : Result (Vec Row Global) Error) (r : Result T Error) → IsOk p → Shows text [] a b p → Spares a b p
+    → (HasCleanDisk b → Stands (site_of v) a.now → IfOk r (P a.now.trees)) → Takes v P a b r
+took_one v P text a b p r ok first spared step = record {
   spares = spared_as a b p r (λ _. ok) spared;
-  same = λ clean stands. any_told _ r (of_ok p ok (first.same clean stands));
+  same = λ clean. any_told _ r (of_ok p ok (first.same clean));
   found = step;
 }
+
+-- the same tables, asked after a question
+pub took_then : (v : Version) {T : Type 0} (P : (ℕ → List Row) → T → Type 0) (text : List ℕ) (a b c : db.State) (p : Result (Vec Row Global) Error) (r : Result T Error) → IsOk p → Shows text [] a b p → Spares a b p → Takes v P b c r → Takes v P a c r
+took_then v {T} P text a b c p r ok first spared h =
+    let stays : HasCleanDisk c → b.now ≡ a.now = λ clean. of_ok p ok (first.same (omega (arith, clean, h.spares.survives.clean))) in
+    record {
+      spares = spared_then a b p c r ok spared h.spares;
+      same = λ clean. go r (stays clean) (h.same clean);
+      found = λ clean stands. subst (λ (d : Database). IfOk r (P d.trees)) (stays clean) (h.found clean (subst (Stands (site_of v)) (sym (stays clean)) stands));
+    }
+  where
+    go : (q : Result T Error) → b.now ≡ a.now → OnOk q (c.now ≡ b.now) → OnOk q (c.now ≡ a.now)
+    go (Ok x) same h = h ∙ same
+    go (Err e) same h = tt

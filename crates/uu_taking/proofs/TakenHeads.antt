@@ -17,7 +17,8 @@ use Rattle.uu_sql.specs.Steps.{Stands}
 use Rattle.uu_sql.proofs.Rows.{all_stay}
 use Rattle.uu_sql.proofs.Answers.{answer_of, answer_moved}
 use Rattle.uu_core.specs.declared.job.JobHead.{JobHead}
-use Rattle.uu_schema.specs.Schema.{site, jobs}
+use Rattle.uu_schema.specs.declared.version.Version.{Version}
+use Rattle.uu_schema.specs.Schema.{site_of, jobs}
 use Rattle.uu_schema.specs.Keyed.{columns}
 use Rattle.uu_schema.specs.Held.{job_key, job_places}
 use Rattle.uu_schema.specs.Cells.{job_cells}
@@ -97,7 +98,7 @@ ids_of rows all it = record {
   rising = ascending-map (λ (a b : Integer). a.value <ℤ b.value) id_of all (ascending_weaker _ (λ (x y : JobHead). pos x.number <ℤ pos y.number) (λ x y h. omega (arith, ints, h)) all it.rising);
 }
 
-module _ (a b : db.State) (rows : List Row) (stands : Stands site a.now) (h : db.Shown heads_text [] a b rows) where
+module _ (v : Version) (a b : db.State) (rows : List Row) (stands : Stands (site_of v) a.now) (h : db.Shown heads_text [] a b rows) where
   abbrev table : List Row
   table = a.now.trees jobs.tree
 
@@ -105,13 +106,13 @@ module _ (a b : db.State) (rows : List Row) (stands : Stands site a.now) (h : db
   moved =
       subst (λ l. IsPermutation l rows) (map_same _ (columns job_places) (at_columns job_places []) table)
       (subst (λ l. IsPermutation (map (λ r. eval_all (at_places job_places) ([] ∷ r ∷ [])) l) rows) (sym (all_stay table))
-      (answer_moved jobs.tree [] (at_places job_places) (by_places (0 ∷ [])) a.now.trees [] rows refl (answer_of site heads_text _ _ [] a b heads_means stands.schema rows h)))
+      (answer_moved jobs.tree [] (at_places job_places) (by_places (0 ∷ [])) a.now.trees [] rows refl (answer_of (site_of v) heads_text _ _ [] a b (heads_means v) stands.schema rows h)))
 
   ids_moved : IsPermutation (map id_shown table) (map id_shown rows)
   ids_moved = subst (λ l. IsPermutation l (map id_shown rows)) (map-map id_shown (columns job_places) table) (IsPermutation-map id_shown _ _ moved)
 
   rows_only : (xs : List JobHead) → IsPermutation (map job_cells xs) (map (columns job_places) table) → IsAscending (λ x y. head_cmp x y ≡ Less) xs → rows ≡ map job_cells xs
-  rows_only xs held rise = heads_are a b rows stands.schema heads_text _ [] [] h heads_means (λ r. refl) xs held rise (λ x. true) (λ x. refl) ∙ ap (map job_cells) (all_pass xs)
+  rows_only xs held rise = heads_are (site_of v) a b rows stands.schema heads_text _ [] [] h (heads_means v) (λ r. refl) xs held rise (λ x. true) (λ x. refl) ∙ ap (map job_cells) (all_pass xs)
 
   number_less : (x y : JobHead) → head_cmp x y ≡ Less → x.number < y.number
   number_less x y h = grind (arith)

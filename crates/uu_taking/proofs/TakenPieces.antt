@@ -27,7 +27,8 @@ use Rattle.uu_sql.proofs.Rows.{all_stay}
 use Rattle.uu_sql.proofs.Answers.{answer_of, answer_moved}
 use Rattle.uu_tables.specs.declared.rows.PieceSize.{PieceSize}
 use Rattle.uu_tables.specs.Tables.{Piece, size_of}
-use Rattle.uu_schema.specs.Schema.{site, pieces}
+use Rattle.uu_schema.specs.declared.version.Version.{Version}
+use Rattle.uu_schema.specs.Schema.{site_of, pieces}
 use Rattle.uu_schema.specs.Keyed.{columns}
 use Rattle.uu_schema.specs.Held.{piece_places}
 use Rattle.uu_schema.specs.Cells.{piece_cells}
@@ -121,12 +122,12 @@ ids_of rows all it = record {
   rising = ascending-map (λ (a b : Integer). a.value <ℤ b.value) (λ n. n.rowid) it.numbered (ascending_weaker _ (λ (x y : NumberedSize). x.rowid.value <ℤ y.rowid.value) (λ x y h. h.higher) it.numbered it.rising);
 }
 
-module _ (a b : db.State) (rows : List Row) (stands : Stands site a.now) (h : db.Shown numbered_sizes_text [] a b rows) where
+module _ (v : Version) (a b : db.State) (rows : List Row) (stands : Stands (site_of v) a.now) (h : db.Shown numbered_sizes_text [] a b rows) where
   abbrev table : List Row
   table = a.now.trees pieces.tree
 
   answer : IsAnswer (ordered pieces.tree [] numbered_terms (by_places (0 ∷ []))) (overlay a.now.trees []) [] rows
-  answer = answer_of site numbered_sizes_text _ _ [] a b numbered_sizes_means stands.schema rows h
+  answer = answer_of (site_of v) numbered_sizes_text _ _ [] a b (numbered_sizes_means v) stands.schema rows h
 
   moved : IsPermutation (map shown table) rows
   moved =
@@ -149,7 +150,7 @@ module _ (a b : db.State) (rows : List Row) (stands : Stands site a.now) (h : db
       let rs = back.0 in
       let shows : map size_shown rs ≡ map size_cells (map (λ n. n.size) ns) =
       sym (map-map rest shown rs) ∙ ap (map rest) (sym back.2) ∙ map-map rest numbered_cells ns ∙ sym (map-map size_cells (λ n. n.size) ns) in
-      let made = built rs (map (λ n. n.size) ns) (all-permutation HasBytes table rs back.1 (piece_rows_are a.now.trees stands.sound)) shows in
+      let made = built rs (map (λ n. n.size) ns) (all-permutation HasBytes table rs back.1 (piece_rows_are v a.now.trees stands.sound)) shows in
       record {
         ps = map piece_of rs;
         same = subst (λ l. IsPermutation l (map (columns piece_places) table)) (sym made.rows) (IsPermutation-map (columns piece_places) _ _ (IsPermutation-sym table rs back.1));

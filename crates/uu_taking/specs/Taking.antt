@@ -15,13 +15,16 @@ use Rattle.uu_sql.specs.Spares.{Spares}
 use Rattle.uu_sql.specs.Rowids.{AreNumbered, OnceEach}
 use Rattle.uu_tables.specs.declared.rows.PieceSize.{PieceSize}
 use Rattle.uu_tables.specs.Tables.{Piece, size_of}
-use Rattle.uu_schema.specs.Schema.{site}
-use Rattle.uu_schema.specs.Made.{version}
-use Rattle.uu_schema.specs.Held.{piece_key, piece_places}
+use Rattle.uu_schema.specs.Schema.{site_of, success_waits}
+use Rattle.uu_schema.specs.declared.version.Version.{Version}
+use Rattle.uu_schema.specs.declared.version.Version.TheVariants.{First, Second}
+use Rattle.uu_tables.specs.declared.rows.WaitColumns.{WaitColumns}
+use Rattle.uu_schema.specs.Made.{number_of}
+use Rattle.uu_schema.specs.Held.{piece_key, piece_places, wait_key, wait_places}
 use Rattle.uu_core.specs.declared.job.JobHead.{JobHead}
-use Rattle.uu_schema.specs.Cells.{job_cells, piece_cells}
-use Rattle.uu_rows.specs.Readable.{IsHead, IsSize, size_cells}
-use Rattle.uu_rows.specs.Order.{piece_cmp, size_cmp}
+use Rattle.uu_schema.specs.Cells.{job_cells, piece_cells, wait_cells}
+use Rattle.uu_rows.specs.Readable.{IsHead, IsSize, IsWait, size_cells}
+use Rattle.uu_rows.specs.Order.{piece_cmp, size_cmp, wait_cmp}
 use Rattle.uu_schema.specs.Keyed.{Keyed, columns}
 use Rattle.uu_taking.specs.declared.integer.Integer.{Integer}
 use Rattle.uu_taking.specs.declared.pieces.NumberedSize.{NumberedSize}
@@ -63,11 +66,12 @@ pub record Finds {K X : Type 0} (key : X → K) (cells : X → Row) (places : Li
 abbrev pub Tells : Bool → Type 0 → Type 0 → Type 0
 Tells good Yes No = (good ≡ true → Yes) × (good ≡ false → No)
 
--- The question commits nothing and changes nothing, whatever it answers and whatever tables there are, and what it answers is so.
-pub record Takes {T : Type 0} (IsAnswer : (ℕ → List Row) → T → Type 0) (old new : db.State) (r : Result T Error) : Type 0 where
+-- The question commits nothing and changes nothing, whatever it answers and whatever tables there are, and what it answers of the tables of a
+-- version is so.
+pub record Takes (v : Version) {T : Type 0} (IsAnswer : (ℕ → List Row) → T → Type 0) (old new : db.State) (r : Result T Error) : Type 0 where
   pub spares : Spares old new r
-  pub same : db.HasCleanDisk new → Stands site old.now → OnOk r (new.now ≡ old.now)
-  pub found : db.HasCleanDisk new → Stands site old.now → IfOk r (IsAnswer old.now.trees)
+  pub same : db.HasCleanDisk new → OnOk r (new.now ≡ old.now)
+  pub found : db.HasCleanDisk new → Stands (site_of v) old.now → IfOk r (IsAnswer old.now.trees)
 
 -- what is read of the rows of two questions: all typed rows, and rowids that rise
 pub record AreRead {X : Type 0} (cells : X → Row) (IsReadable : X → Type 0) (rows ids : List Row) (all : List X) : Type 0 where
@@ -89,8 +93,8 @@ pub record AreHeads (rows : List Row) (all : List JobHead) : Type 0 where
   pub rising : AreNumbersRising all
 
 -- what the question on the table `spool` shows of its one row
-abbrev pub spool_cells : ℕ → Row
-spool_cells next = Int (pos 1) ∷ Int (pos version) ∷ Int (pos next) ∷ []
+abbrev pub spool_cells : Version → ℕ → Row
+spool_cells v next = Int (pos 1) ∷ Int (pos (number_of v)) ∷ Int (pos next) ∷ []
 
 -- ---- pieces: of each the number of its bytes is asked, and its bytes stay where they are
 
@@ -118,3 +122,9 @@ pub record AreNumberedSizes (rows : List Row) (all : List PieceSize) : Type 0 wh
 pub record FindsSizes (rows : List Row) (found : Option (Vec PieceSize Global)) : Type 0 where
   pub all : IfSome found (λ all. (ps : List Piece) × AreRows piece_cells piece_places ps rows × (map size_of ps ≡ all.items) × AllByRecursion IsSize all.items)
   pub only : (ps : List Piece) → AllByRecursion (λ p. IsSize (size_of p)) ps → IsAscending (λ a b. piece_cmp a b ≡ Less) ps → Keyed piece_key piece_cells piece_places ps rows → MatchOption found ⊥ (λ all. all.items ≡ map size_of ps)
+
+-- ---- success waits: version 1 has no table of them, and none
+
+abbrev pub FindsWaits : Version → (ℕ → List Row) → Option (Vec WaitColumns Global) → Type 0
+FindsWaits First trees found = MatchOption found ⊥ (λ all. all.items ≡ [])
+FindsWaits Second trees found = Finds wait_key wait_cells wait_places IsWait wait_cmp (trees success_waits.tree) found

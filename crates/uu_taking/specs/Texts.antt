@@ -41,3 +41,6 @@ piece_rowids_text = codes "SELECT rowid FROM pieces ORDER BY rowid"
 
 abbrev pub entry_rowids_text : List ℕ
 entry_rowids_text = codes "SELECT rowid FROM entries ORDER BY rowid"
+
+abbrev pub wait_rowids_text : List ℕ
+wait_rowids_text = codes "SELECT rowid FROM success_waits ORDER BY rowid"

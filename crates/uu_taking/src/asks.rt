@@ -1,7 +1,7 @@
 // The questions in SQL on every row of a table, one a function.
 ghost use Rattle.std.specs.Prelude.{◌≡◌, false, []};
 ghost use Rattle.sqlite.specs.Held.{state};
-ghost use Rattle.uu_taking.specs.Texts.{version_text, spool_text, heads_text, sizes_text, numbered_sizes_text, entries_text, system_rowids_text, line_rowids_text, range_rowids_text, piece_rowids_text, entry_rowids_text};
+ghost use Rattle.uu_taking.specs.Texts.{version_text, spool_text, heads_text, sizes_text, numbered_sizes_text, entries_text, system_rowids_text, line_rowids_text, range_rowids_text, piece_rowids_text, entry_rowids_text, wait_rowids_text};
 ghost use Rattle.uu_sql.specs.Spares.{Spares};
 ghost use Rattle.uu_rows.specs.Shows.{Shows};
 
@@ -113,4 +113,13 @@ pub(crate) fn ask_entry_rowids<S: Alter>(conn: &mut Connection<S>) -> Result<Vec
     ensures spares { Spares (state S.Store conn.old) (state S.Store conn.new) result }
 {
     conn.query_all("SELECT rowid FROM entries ORDER BY rowid", &[])
+}
+
+/// The rowids of the success waits, from the least on.
+pub(crate) fn ask_wait_rowids<S: Alter>(conn: &mut Connection<S>) -> Result<Vec<Row>, Error>
+    ensures idle { conn.old.in_transaction ≡ false → conn.new.in_transaction ≡ false }
+    ensures shows { Shows wait_rowids_text [] (state S.Store conn.old) (state S.Store conn.new) result }
+    ensures spares { Spares (state S.Store conn.old) (state S.Store conn.new) result }
+{
+    conn.query_all("SELECT rowid FROM success_waits ORDER BY rowid", &[])
 }

@@ -4,6 +4,7 @@ ghost use Rattle.std.specs.List.{AllByRecursion};
 ghost use Rattle.sqlite.specs.declared.error.Error.TheVariants.{SqliteFailure};
 ghost use Rattle.sqlite.specs.declared.error.ErrorCode.TheVariants.{OutOfMemory};
 ghost use Rattle.sqlite.specs.Held.{state};
+ghost use Rattle.uu_schema.specs.declared.version.Version.{Version};
 ghost use Rattle.uu_schema.specs.Schema.{jobs};
 ghost use Rattle.uu_schema.specs.Held.{job_key, job_places};
 ghost use Rattle.uu_schema.specs.Cells.{job_cells};
@@ -61,7 +62,7 @@ pub fn take_heads<S: Alter>(
     conn: &mut Connection<S>,
 ) -> Result<Option<Vec<JobHead>>, Error>
     ensures idle { conn.old.in_transaction ≡ false → conn.new.in_transaction ≡ false }
-    ensures takes { Takes (λ trees found. Finds job_key job_cells job_places IsHead head_cmp (trees jobs.tree) found) (state S.Store conn.old) (state S.Store conn.new) result }
+    ensures takes { (v : Version) → Takes v (λ trees found. Finds job_key job_cells job_places IsHead head_cmp (trees jobs.tree) found) (state S.Store conn.old) (state S.Store conn.new) result }
 {
     let rows = ask_heads(conn)?;
     found(alloc, &rows)

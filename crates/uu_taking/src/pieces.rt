@@ -3,6 +3,7 @@
 ghost use Rattle.std.specs.Prelude.{◌≡◌, true, false, map, IfOk};
 ghost use Rattle.sqlite.specs.Tree.{IsAscending};
 ghost use Rattle.sqlite.specs.Held.{state};
+ghost use Rattle.uu_schema.specs.declared.version.Version.{Version};
 ghost use Rattle.uu_schema.specs.Schema.{pieces};
 ghost use Rattle.uu_rows.specs.Readable.{IsSize};
 ghost use Rattle.uu_taking.specs.Taking.{numbered_cells, comes_before, IsBefore, AreNumberedSizes, FindsSizes, Takes};
@@ -91,7 +92,7 @@ pub fn take_sizes<S: Alter>(
     conn: &mut Connection<S>,
 ) -> Result<Option<Vec<PieceSize>>, Error>
     ensures idle { conn.old.in_transaction ≡ false → conn.new.in_transaction ≡ false }
-    ensures takes { Takes (λ trees found. FindsSizes (trees pieces.tree) found) (state S.Store conn.old) (state S.Store conn.new) result }
+    ensures takes { (v : Version) → Takes v (λ trees found. FindsSizes (trees pieces.tree) found) (state S.Store conn.old) (state S.Store conn.new) result }
 {
     let rows = ask_numbered_sizes(conn)?;
     match typed(alloc, &rows) {

@@ -9,17 +9,20 @@ ghost use Rattle.uu_schema.specs.Held.{system_key, line_key, range_key, entry_ke
 ghost use Rattle.uu_schema.specs.Cells.{system_cells, line_cells, range_cells, entry_cells};
 ghost use Rattle.uu_rows.specs.Readable.{IsSystem, IsLine, IsRange, IsEntry};
 ghost use Rattle.uu_rows.specs.Order.{system_cmp, line_cmp, range_cmp, entry_cmp};
-ghost use Rattle.uu_taking.specs.Taking.{Rise, AreRowids, IsRead, Finds, FindsSizes, Takes};
+ghost use Rattle.uu_taking.specs.Taking.{Rise, AreRowids, IsRead, Finds, FindsSizes, FindsWaits, Takes};
 
 use crate::asks::{
     ask_entries, ask_entry_rowids, ask_line_rowids, ask_piece_rowids, ask_range_rowids, ask_sizes,
-    ask_system_rowids,
+    ask_system_rowids, ask_wait_rowids,
 };
 use crate::integer::Integer;
 use sqlite::{Alter, Connection, Error, Row};
 use std::alloc::Global;
-use uu_rows::{RowFault, TypedRow, ask_lines, ask_ranges, ask_systems, or_none, read_all};
-use uu_tables::{EntryColumns, LineColumns, PieceSize, RangeColumns, SystemColumns};
+use uu_rows::{RowFault, TypedRow, ask_lines, ask_ranges, ask_systems, ask_waits, or_none, read_all};
+use uu_schema::Version;
+use uu_tables::{
+    EntryColumns, LineColumns, PieceSize, RangeColumns, SystemColumns, WaitColumns,
+};
 
 // Whether each rowid is below the next.
 fn rises(ids: &[Integer]) -> bool
@@ -75,7 +78,7 @@ pub fn take_systems<S: Alter>(
     conn: &mut Connection<S>,
 ) -> Result<Option<Vec<SystemColumns>>, Error>
     ensures idle { conn.old.in_transaction ≡ false → conn.new.in_transaction ≡ false }
-    ensures takes { Takes (λ trees found. Finds system_key system_cells system_places IsSystem system_cmp (trees systems.tree) found) (state S.Store conn.old) (state S.Store conn.new) result }
+    ensures takes { (v : Version) → Takes v (λ trees found. Finds system_key system_cells system_places IsSystem system_cmp (trees systems.tree) found) (state S.Store conn.old) (state S.Store conn.new) result }
 {
     let rows = ask_systems(conn)?;
     let ids = ask_system_rowids(conn)?;
@@ -88,7 +91,7 @@ pub fn take_lines<S: Alter>(
     conn: &mut Connection<S>,
 ) -> Result<Option<Vec<LineColumns>>, Error>
     ensures idle { conn.old.in_transaction ≡ false → conn.new.in_transaction ≡ false }
-    ensures takes { Takes (λ trees found. Finds line_key line_cells line_places IsLine line_cmp (trees lines.tree) found) (state S.Store conn.old) (state S.Store conn.new) result }
+    ensures takes { (v : Version) → Takes v (λ trees found. Finds line_key line_cells line_places IsLine line_cmp (trees lines.tree) found) (state S.Store conn.old) (state S.Store conn.new) result }
 {
     let rows = ask_lines(conn)?;
     let ids = ask_line_rowids(conn)?;
@@ -101,7 +104,7 @@ pub fn take_ranges<S: Alter>(
     conn: &mut Connection<S>,
 ) -> Result<Option<Vec<RangeColumns>>, Error>
     ensures idle { conn.old.in_transaction ≡ false → conn.new.in_transaction ≡ false }
-    ensures takes { Takes (λ trees found. Finds range_key range_cells range_places IsRange range_cmp (trees ranges.tree) found) (state S.Store conn.old) (state S.Store conn.new) result }
+    ensures takes { (v : Version) → Takes v (λ trees found. Finds range_key range_cells range_places IsRange range_cmp (trees ranges.tree) found) (state S.Store conn.old) (state S.Store conn.new) result }
 {
     let rows = ask_ranges(conn)?;
     let ids = ask_range_rowids(conn)?;
@@ -114,7 +117,7 @@ pub fn take_entries<S: Alter>(
     conn: &mut Connection<S>,
 ) -> Result<Option<Vec<EntryColumns>>, Error>
     ensures idle { conn.old.in_transaction ≡ false → conn.new.in_transaction ≡ false }
-    ensures takes { Takes (λ trees found. Finds entry_key entry_cells entry_places IsEntry entry_cmp (trees entries.tree) found) (state S.Store conn.old) (state S.Store conn.new) result }
+    ensures takes { (v : Version) → Takes v (λ trees found. Finds entry_key entry_cells entry_places IsEntry entry_cmp (trees entries.tree) found) (state S.Store conn.old) (state S.Store conn.new) result }
 {
     let rows = ask_entries(conn)?;
     let ids = ask_entry_rowids(conn)?;
@@ -128,9 +131,38 @@ pub(crate) fn take_sizes_in_any_order<S: Alter>(
     conn: &mut Connection<S>,
 ) -> Result<Option<Vec<PieceSize>>, Error>
     ensures idle { conn.old.in_transaction ≡ false → conn.new.in_transaction ≡ false }
-    ensures takes { Takes (λ trees found. FindsSizes (trees pieces.tree) found) (state S.Store conn.old) (state S.Store conn.new) result }
+    ensures takes { (v : Version) → Takes v (λ trees found. FindsSizes (trees pieces.tree) found) (state S.Store conn.old) (state S.Store conn.new) result }
 {
     let rows = ask_sizes(conn)?;
     let ids = ask_piece_rowids(conn)?;
     found(alloc, &rows, &ids)
+}
+
+// The success waits, by system, of tables that have them.
+fn take_waits_of_table<S: Alter>(
+    alloc: Global,
+    conn: &mut Connection<S>,
+) -> Result<Option<Vec<WaitColumns>>, Error>
+    ensures idle { conn.old.in_transaction ≡ false → conn.new.in_transaction ≡ false }
+    ensures takes { Takes Version.Second (FindsWaits Version.Second) (state S.Store conn.old) (state S.Store conn.new) result }
+{
+    let rows = ask_waits(conn)?;
+    let ids = ask_wait_rowids(conn)?;
+    found(alloc, &rows, &ids)
+}
+
+/// The success waits, by system; none of the first version, of which nothing is asked. None, where the rows of the table are not such rows, or
+/// have rowids that do not tell them apart.
+pub fn take_waits<S: Alter>(
+    alloc: Global,
+    conn: &mut Connection<S>,
+    version: Version,
+) -> Result<Option<Vec<WaitColumns>>, Error>
+    ensures idle { conn.old.in_transaction ≡ false → conn.new.in_transaction ≡ false }
+    ensures takes { Takes version (FindsWaits version) (state S.Store conn.old) (state S.Store conn.new) result }
+{
+    match version {
+        Version::First => Ok(Some(Vec::new(alloc))),
+        Version::Second => take_waits_of_table(alloc, conn),
+    }
 }

@@ -3,6 +3,7 @@ ghost use Rattle.std.specs.Prelude.{◌≡◌, true, false, [], Ok, IfOk, IfErr}
 ghost use Rattle.sqlite.specs.declared.error.Error.TheVariants.{SqliteFailure};
 ghost use Rattle.sqlite.specs.declared.error.ErrorCode.TheVariants.{OutOfMemory};
 ghost use Rattle.sqlite.specs.Held.{state};
+ghost use Rattle.uu_schema.specs.declared.version.Version.{Version};
 ghost use Rattle.sqlite.specs.State.{HasCleanDisk};
 ghost use Rattle.uu_rows.specs.Shows.{IsRefused};
 ghost use Rattle.uu_taking.specs.Texts.{version_text};
@@ -15,7 +16,7 @@ use sqlite::{Alter, Connection, Error, Row};
 use uu_rows::{RowFault, or_error};
 
 /// The version of the tables that this program makes and reads.
-const VERSION: i64 = 1;
+const VERSION: i64 = 2;
 
 // Whether the row shows a later version than ours.
 fn is_later(row: &Row) -> Result<bool, RowFault>
@@ -56,7 +57,7 @@ fn found_later(rows: &[Row]) -> Result<bool, Error>
 /// version may differ.
 pub fn names_later<S: Alter>(conn: &mut Connection<S>) -> Result<bool, Error>
     ensures idle { conn.old.in_transaction ≡ false → conn.new.in_transaction ≡ false }
-    ensures takes { Takes (λ trees later. Tells later (IsLater trees) (¬ IsLater trees)) (state S.Store conn.old) (state S.Store conn.new) result }
+    ensures takes { (v : Version) → Takes v (λ trees later. Tells later (IsLater trees) (¬ IsLater trees)) (state S.Store conn.old) (state S.Store conn.new) result }
     ensures refused { HasCleanDisk (state S.Store conn.new) → IfErr result (IsRefused version_text [] (state S.Store conn.old) (state S.Store conn.new)) }
 {
     let rows = ask_version(conn)?;

@@ -13,7 +13,7 @@ use Rattle.std.specs.Str.Lines.{lines}
 use Rattle.std.specs.declared.cmp.Ordering.{Ordering}
 use Rattle.std.specs.declared.cmp.Ordering.TheVariants.{Less, Equal, Greater}
 use Rattle.uu_times.specs.declared.directive.Directive.{Directive}
-use Rattle.uu_times.specs.declared.directive.Directive.TheVariants.{Begin, Time, Retries, Table, Skip}
+use Rattle.uu_times.specs.declared.directive.Directive.TheVariants.{Begin, Time, Retries, SuccessWait, Table, Skip}
 use Rattle.uu_times.specs.declared.fault.TimeFault.{TimeFault}
 use Rattle.uu_times.specs.declared.fault.TimeFault.TheVariants.{SystemTwice, TableTwice, TooManyLines}
 use Rattle.uu_times.specs.declared.system.Line.{Line}
@@ -21,8 +21,8 @@ use Rattle.uu_times.specs.declared.system.SysFile.{SysFile}
 use Rattle.uu_times.specs.Directives.{◌>>=◌, line_says}
 use Rattle.uu_times.specs.Lines.{Numbered, joined}
 use Rattle.uu_times.specs.Internal.Reading.{Reading, Seen, has_seen, with_seen, no_reading, absorbed, absorbed_if, line_read, lines_read, file_of, file_read}
-use Rattle.uu_times.specs.Internal.Section.{Parts, no_part, no_parts, all_systems, begin_part, with_line, with_retries}
-use Rattle.uu_times.specs.SysFile.{Part, system_of, time_in, number_in, name_in, table_in, skip_in, known, section, present, part_of, systems_of, checked, checked_if, directives_of, file_with, sys_file_of}
+use Rattle.uu_times.specs.Internal.Section.{Parts, no_part, no_parts, all_systems, begin_part, with_line, with_retries, with_success_wait}
+use Rattle.uu_times.specs.SysFile.{Part, system_of, time_in, number_in, success_wait_in, name_in, table_in, skip_in, known, section, present, part_of, systems_of, checked, checked_if, directives_of, file_with, sys_file_of}
 use Rattle.uu_times.specs.System.{System}
 use Rattle.uu_times.specs.Tables.{Tables, predefined_tables}
 
@@ -73,6 +73,7 @@ known-more tables (Table name windows ∷ directives) directive = known-more (in
 known-more tables (Begin name ∷ directives) directive = known-more tables directives directive
 known-more tables (Time line ∷ directives) directive = known-more tables directives directive
 known-more tables (Retries number ∷ directives) directive = known-more tables directives directive
+known-more tables (SuccessWait seconds ∷ directives) directive = known-more tables directives directive
 known-more tables (Skip line ∷ directives) directive = known-more tables directives directive
 
 -- a test that one more element may pass
@@ -87,6 +88,7 @@ run parts [] = parts
 run parts (Begin name ∷ directives) = run (begin_part parts name) directives
 run parts (Time line ∷ directives) = run (with_line parts line) directives
 run parts (Retries number ∷ directives) = run (with_retries parts number) directives
+run parts (SuccessWait seconds ∷ directives) = run (with_success_wait parts seconds) directives
 run parts (Table name windows ∷ directives) = run parts directives
 run parts (Skip line ∷ directives) = run parts directives
 
@@ -95,6 +97,7 @@ run-more parts [] directive = refl
 run-more parts (Begin name ∷ directives) directive = run-more (begin_part parts name) directives directive
 run-more parts (Time line ∷ directives) directive = run-more (with_line parts line) directives directive
 run-more parts (Retries number ∷ directives) directive = run-more (with_retries parts number) directives directive
+run-more parts (SuccessWait seconds ∷ directives) directive = run-more (with_success_wait parts seconds) directives directive
 run-more parts (Table name windows ∷ directives) directive = run-more parts directives directive
 run-more parts (Skip line ∷ directives) directive = run-more parts directives directive
 
@@ -109,6 +112,8 @@ run-present parts before (Time line ∷ directives) same =
     run-present (with_line parts line) (before ++ Time line ∷ []) directives (ap (λ lines. lines ++ line ∷ []) same ∙ sym (times-more before (Time line)))
 run-present parts before (Retries number ∷ directives) same =
     run-present (with_retries parts number) (before ++ Retries number ∷ []) directives (same ∙ sym (append-nil (filter_map time_in before)) ∙ sym (times-more before (Retries number)))
+run-present parts before (SuccessWait seconds ∷ directives) same =
+    run-present (with_success_wait parts seconds) (before ++ SuccessWait seconds ∷ []) directives (same ∙ sym (append-nil (filter_map time_in before)) ∙ sym (times-more before (SuccessWait seconds)))
 run-present parts before (Table name windows ∷ directives) same =
     run-present parts (before ++ Table name windows ∷ []) directives (same ∙ sym (append-nil (filter_map time_in before)) ∙ sym (times-more before (Table name windows)))
 run-present parts before (Skip line ∷ directives) same =
@@ -116,29 +121,30 @@ run-present parts before (Skip line ∷ directives) same =
 
 -- a section that goes on
 abbrev pub going_on : Part → List Directive → Part
-going_on part directives = record { lines = part.lines ++ filter_map time_in directives; max_retries = last_or part.max_retries (filter_map number_in directives) }
+going_on part directives = record {
+  lines = part.lines ++ filter_map time_in directives;
+  max_retries = last_or part.max_retries (filter_map number_in directives);
+  success_wait = last_or part.success_wait (filter_map success_wait_in directives);
+}
 
--- two sections with the same lines and numbers
-part-same : (lines others : List Line) (number other : Option ℕ) → lines ≡ others → number ≡ other
-    → let one : Part = record { lines = lines; max_retries = number } in let two : Part = record { lines = others; max_retries = other } in one ≡ two
-part-same lines others number other same equal =
-    ap (λ (ls : List Line). let p : Part = record { lines = ls; max_retries = number } in p) same ∙ ap (λ (n : Option ℕ). let p : Part = record { lines = others; max_retries = n } in p) equal
+-- a section with other lines
+abbrev with-lines : Part → List Line → Part
+with-lines part lines = record part { lines = lines }
 
 going-nothing : (part : Part) → going_on part [] ≡ part
-going-nothing part = part-same (part.lines ++ []) part.lines part.max_retries part.max_retries (append-nil part.lines) refl
+going-nothing part = ap (with-lines part) (append-nil part.lines)
 
 going-first : (directives : List Directive) → going_on no_part directives ≡ part_of directives
-going-first directives =
-    part-same (filter_map time_in directives) (filter_map time_in directives) (last_or None (filter_map number_in directives)) (last_or None (filter_map number_in directives)) refl refl
+going-first directives = refl
 
-going-time : (part : Part) (line : Line) (directives : List Directive) → going_on (record { lines = part.lines ++ line ∷ []; max_retries = part.max_retries }) directives ≡ going_on part (Time line ∷ directives)
-going-time part line directives =
-    part-same ((part.lines ++ line ∷ []) ++ filter_map time_in directives) (part.lines ++ line ∷ filter_map time_in directives) (last_or part.max_retries (filter_map number_in directives)) (last_or part.max_retries (filter_map number_in directives))
-    (append_assoc part.lines (line ∷ []) (filter_map time_in directives)) refl
+going-time : (part : Part) (line : Line) (directives : List Directive) → going_on (record part { lines = part.lines ++ line ∷ [] }) directives ≡ going_on part (Time line ∷ directives)
+going-time part line directives = ap (with-lines (going_on part directives)) (append_assoc part.lines (line ∷ []) (filter_map time_in directives))
 
-going-retries : (part : Part) (number : ℕ) (directives : List Directive) → going_on (record { lines = part.lines; max_retries = Some number }) directives ≡ going_on part (Retries number ∷ directives)
-going-retries part number directives =
-    part-same (part.lines ++ filter_map time_in directives) (part.lines ++ filter_map time_in directives) (last_or (Some number) (filter_map number_in directives)) (last_or (Some number) (filter_map number_in directives)) refl refl
+going-retries : (part : Part) (number : ℕ) (directives : List Directive) → going_on (record part { max_retries = Some number }) directives ≡ going_on part (Retries number ∷ directives)
+going-retries part number directives = refl
+
+going-waits : (part : Part) (seconds : ℕ) (directives : List Directive) → going_on (record part { success_wait = Some seconds }) directives ≡ going_on part (SuccessWait seconds ∷ directives)
+going-waits part seconds directives = refl
 
 -- the systems of a run
 abbrev pub systems_in : Parts → List System
@@ -156,11 +162,14 @@ run-named done name part defaults (Begin next ∷ directives) =
     ∙ append_assoc done (system_of name part defaults ∷ []) (system_of next (part_of (section directives)) defaults ∷ systems_of defaults directives)
     ∙ ap (λ (p : Part). done ++ system_of name p defaults ∷ system_of next (part_of (section directives)) defaults ∷ systems_of defaults directives) (sym (going-nothing part))
 run-named done name part defaults (Time line ∷ directives) =
-    run-named done name (record { lines = part.lines ++ line ∷ []; max_retries = part.max_retries }) defaults directives
+    run-named done name (record part { lines = part.lines ++ line ∷ [] }) defaults directives
     ∙ ap (λ (p : Part). done ++ system_of name p defaults ∷ systems_of defaults directives) (going-time part line (section directives))
 run-named done name part defaults (Retries number ∷ directives) =
-    run-named done name (record { lines = part.lines; max_retries = Some number }) defaults directives
+    run-named done name (record part { max_retries = Some number }) defaults directives
     ∙ ap (λ (p : Part). done ++ system_of name p defaults ∷ systems_of defaults directives) (going-retries part number (section directives))
+run-named done name part defaults (SuccessWait seconds ∷ directives) =
+    run-named done name (record part { success_wait = Some seconds }) defaults directives
+    ∙ ap (λ (p : Part). done ++ system_of name p defaults ∷ systems_of defaults directives) (going-waits part seconds (section directives))
 run-named done name part defaults (Table table windows ∷ directives) = run-named done name part defaults directives
 run-named done name part defaults (Skip line ∷ directives) = run-named done name part defaults directives
 
@@ -172,11 +181,14 @@ run-unnamed part defaults (Begin next ∷ directives) =
     ∙ ap (λ (p : Part). system_of next p part ∷ systems_of part directives) (going-first (section directives))
     ∙ ap (λ (d : Part). system_of next (part_of (section directives)) d ∷ systems_of d directives) (sym (going-nothing part))
 run-unnamed part defaults (Time line ∷ directives) =
-    run-unnamed (record { lines = part.lines ++ line ∷ []; max_retries = part.max_retries }) defaults directives
+    run-unnamed (record part { lines = part.lines ++ line ∷ [] }) defaults directives
     ∙ ap (λ (p : Part). systems_of p directives) (going-time part line (section directives))
 run-unnamed part defaults (Retries number ∷ directives) =
-    run-unnamed (record { lines = part.lines; max_retries = Some number }) defaults directives
+    run-unnamed (record part { max_retries = Some number }) defaults directives
     ∙ ap (λ (p : Part). systems_of p directives) (going-retries part number (section directives))
+run-unnamed part defaults (SuccessWait seconds ∷ directives) =
+    run-unnamed (record part { success_wait = Some seconds }) defaults directives
+    ∙ ap (λ (p : Part). systems_of p directives) (going-waits part seconds (section directives))
 run-unnamed part defaults (Table table windows ∷ directives) = run-unnamed part defaults directives
 run-unnamed part defaults (Skip line ∷ directives) = run-unnamed part defaults directives
 
@@ -271,6 +283,15 @@ outcome reading before line (Retries number) holds =
       named = λ other. holds.named other ∙ ap (list_any (bytes_eq other)) (sym (same-names name_in before (Retries number) refl));
       parts = run-step reading before (Retries number) (with_retries reading.parts number) holds.parts refl;
       skipped = holds.skipped ∙ sym (same-skips before (Retries number) refl);
+    })
+outcome reading before line (SuccessWait seconds) holds =
+    let next : Reading = record { tables = reading.tables; tabled = reading.tabled; named = reading.named; parts = with_success_wait reading.parts seconds; skipped = reading.skipped } in
+    taken next refl refl (record {
+      tables = known-step reading before (SuccessWait seconds) reading.tables holds.tables refl;
+      tabled = λ other. holds.tabled other ∙ ap (list_any (bytes_eq other)) (sym (same-names table_in before (SuccessWait seconds) refl));
+      named = λ other. holds.named other ∙ ap (list_any (bytes_eq other)) (sym (same-names name_in before (SuccessWait seconds) refl));
+      parts = run-step reading before (SuccessWait seconds) (with_success_wait reading.parts seconds) holds.parts refl;
+      skipped = holds.skipped ∙ sym (same-skips before (SuccessWait seconds) refl);
     })
 outcome reading before line (Table name windows) holds =
     let tables = insert_entry (slice_cmp nat_cmp) reading.tables name windows in

@@ -12,7 +12,7 @@ use Rattle.std.specs.Str.{bytes_eq}
 use Rattle.std.specs.declared.cmp.Ordering.{Ordering}
 use Rattle.std.specs.declared.cmp.Ordering.TheVariants.{Less, Equal, Greater}
 use Rattle.uu_times.specs.declared.directive.Directive.{Directive}
-use Rattle.uu_times.specs.declared.directive.Directive.TheVariants.{Begin, Time, Retries, Table, Skip}
+use Rattle.uu_times.specs.declared.directive.Directive.TheVariants.{Begin, Time, Retries, SuccessWait, Table, Skip}
 use Rattle.uu_times.specs.Grammar.{lower}
 use Rattle.uu_times.specs.SysFile.{known, windows_named}
 use Rattle.uu_times.specs.Tables.{Tables, is_table_name, table_at}
@@ -85,6 +85,7 @@ found-known tables (Table other windows ∷ directives) name =
 found-known tables (Begin system ∷ directives) name = found-known tables directives name
 found-known tables (Time line ∷ directives) name = found-known tables directives name
 found-known tables (Retries number ∷ directives) name = found-known tables directives name
+found-known tables (SuccessWait seconds ∷ directives) name = found-known tables directives name
 found-known tables (Skip line ∷ directives) name = found-known tables directives name
 
 pub table-known : (tables : Tables) (directives : List Directive) (name : List ℕ) → IsTrue (is_table_name name)

@@ -8,12 +8,12 @@ use Rattle.uu_names.specs.Grade.{rank_of, lowest_grade}
 use Rattle.uu_names.specs.Name.{site_name_of}
 use Rattle.uu_names.specs.declared.fault.NameFault.{NameFault}
 use Rattle.uu_times.specs.declared.directive.Directive.{Directive}
-use Rattle.uu_times.specs.declared.directive.Directive.TheVariants.{Begin, Time, Retries, Table, Skip}
+use Rattle.uu_times.specs.declared.directive.Directive.TheVariants.{Begin, Time, Retries, SuccessWait, Table, Skip}
 use Rattle.uu_times.specs.declared.fault.TimeFault.{TimeFault}
 use Rattle.uu_times.specs.declared.fault.TimeFault.TheVariants.{BadNumber, BadSystem, BadWords}
 use Rattle.uu_times.specs.Lines.{one_word, one_or_two, words_of, uncommented}
 use Rattle.uu_times.specs.Grammar.{lower}
-use Rattle.uu_times.specs.System.{most_retry_minutes, most_retries, HasRetry}
+use Rattle.uu_times.specs.System.{most_retry_minutes, most_retries, most_success_wait, HasRetry}
 use Rattle.uu_times.specs.Tables.{Tables, is_table_name, time_of}
 
 -- what follows where there was no fault
@@ -89,6 +89,14 @@ retried line (Some number) = Ok (Retries number)
 abbrev pub retries_directive : ℕ → List (List ℕ) → Result Directive TimeFault
 retries_directive line arguments = elim (one_word arguments) [ None ↦ Err (BadWords line) | Some text ↦ retried line (number_of most_retries text) ]
 
+-- `success-wait SECONDS`
+abbrev pub waited : ℕ → Option ℕ → Result Directive TimeFault
+waited line None = Err (BadNumber line)
+waited line (Some seconds) = Ok (SuccessWait seconds)
+
+abbrev pub success_wait_directive : ℕ → List (List ℕ) → Result Directive TimeFault
+success_wait_directive line arguments = elim (one_word arguments) [ None ↦ Err (BadWords line) | Some text ↦ waited line (number_of most_success_wait text) ]
+
 -- `timetable NAME STRING`; the name counts in lower case
 abbrev pub tabled : Tables → ℕ → List ℕ → Option (List ℕ) → Result Directive TimeFault
 tabled tables line name None = Err (BadWords line)
@@ -106,8 +114,9 @@ directive_of tables line keyword arguments =
     else (if bytes_eq (lower keyword) (codes "time") then time_directive tables line arguments
     else (if bytes_eq (lower keyword) (codes "timegrade") then timegrade_directive tables line arguments
     else (if bytes_eq (lower keyword) (codes "max-retries") then retries_directive line arguments
+    else (if bytes_eq (lower keyword) (codes "success-wait") then success_wait_directive line arguments
     else (if bytes_eq (lower keyword) (codes "timetable") then timetable_directive tables line arguments
-    else Ok (Skip line)))))
+    else Ok (Skip line))))))
 
 -- a line without words says nothing
 abbrev pub said : Tables → ℕ → List (List ℕ) → Result (Option Directive) TimeFault
@@ -123,5 +132,6 @@ abbrev pub IsValid : Directive → Type 0
 IsValid (Begin name) = ⊤
 IsValid (Time line) = HasRetry line
 IsValid (Retries number) = number ≤ most_retries
+IsValid (SuccessWait seconds) = seconds ≤ most_success_wait
 IsValid (Table name windows) = ⊤
 IsValid (Skip line) = ⊤

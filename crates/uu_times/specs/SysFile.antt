@@ -9,17 +9,17 @@ use Rattle.std.specs.List.{list_any, filter_map, last_or}
 use Rattle.std.specs.Str.{bytes_eq}
 use Rattle.std.specs.Str.Lines.{lines}
 use Rattle.uu_times.specs.declared.directive.Directive.{Directive}
-use Rattle.uu_times.specs.declared.directive.Directive.TheVariants.{Begin, Time, Retries, Table, Skip}
+use Rattle.uu_times.specs.declared.directive.Directive.TheVariants.{Begin, Time, Retries, SuccessWait, Table, Skip}
 use Rattle.uu_times.specs.declared.fault.TimeFault.{TimeFault}
 use Rattle.uu_times.specs.declared.fault.TimeFault.TheVariants.{SystemTwice, TableTwice, TooManyLines}
 use Rattle.uu_times.specs.declared.system.Line.{Line}
 use Rattle.uu_times.specs.declared.system.SysFile.{SysFile}
 use Rattle.uu_times.specs.Directives.{◌>>=◌, line_says}
 use Rattle.uu_times.specs.Lines.{Numbered, joined}
-use Rattle.uu_times.specs.System.{System, most_lines, default_retries}
+use Rattle.uu_times.specs.System.{System, most_lines, default_retries, default_success_wait}
 use Rattle.uu_times.specs.Tables.{Tables, predefined_tables}
 
--- the time line that a line is, the number of failures, the name of a system or of a timetable, the number of a skipped line
+-- the time line that a line is, the number of failures, the wait after a call that went well, the name of a system or of a timetable, the number of a skipped line
 abbrev pub time_in : Directive → Option Line
 time_in (Time line) = Some line
 time_in _ = None
@@ -27,6 +27,10 @@ time_in _ = None
 abbrev pub number_in : Directive → Option ℕ
 number_in (Retries number) = Some number
 number_in _ = None
+
+abbrev pub success_wait_in : Directive → Option ℕ
+success_wait_in (SuccessWait seconds) = Some seconds
+success_wait_in _ = None
 
 abbrev pub name_in : Directive → Option (List ℕ)
 name_in (Begin name) = Some name
@@ -69,10 +73,11 @@ abbrev pub lines_or : List Line → List Line → List Line
 lines_or [] others = others
 lines_or (line ∷ lines) others = line ∷ lines
 
--- the time lines of a section, and its last number of failures
+-- the time lines of a section, its last number of failures, and its last wait after a call that went well
 pub record Part : Type 0 where
   pub lines : List Line
   pub max_retries : Option ℕ
+  pub success_wait : Option ℕ
 
 -- the system of a section: what the section doesn't say is taken from the defaults
 abbrev pub system_of : List ℕ → Part → Part → System
@@ -80,11 +85,16 @@ system_of name part defaults = record {
   name = name;
   lines = lines_or part.lines defaults.lines;
   max_retries = unwrap_or (option_or part.max_retries defaults.max_retries) default_retries;
+  success_wait = unwrap_or (option_or part.success_wait defaults.success_wait) default_success_wait;
 }
 
--- what the lines of a section say of a system: its time lines, and the last of its numbers of failures
+-- what the lines of a section say of a system: its time lines, and the last of its numbers of failures and of its waits
 abbrev pub part_of : List Directive → Part
-part_of directives = record { lines = filter_map time_in directives; max_retries = last_or None (filter_map number_in directives) }
+part_of directives = record {
+  lines = filter_map time_in directives;
+  max_retries = last_or None (filter_map number_in directives);
+  success_wait = last_or None (filter_map success_wait_in directives);
+}
 
 -- the systems: for each `system` line its section, and the defaults where that says nothing
 abbrev pub systems_of : Part → List Directive → List System
@@ -98,6 +108,7 @@ abbrev pub checked : List Directive → ℕ → Directive → Result Directive T
 checked before line (Begin name) = if list_any (bytes_eq name) (filter_map name_in before) then Err (SystemTwice line) else Ok (Begin name)
 checked before line (Time time) = if nat_le most_lines (length (filter_map time_in (present [] before))) then Err (TooManyLines line) else Ok (Time time)
 checked before line (Retries number) = Ok (Retries number)
+checked before line (SuccessWait seconds) = Ok (SuccessWait seconds)
 checked before line (Table name windows) = if list_any (bytes_eq name) (filter_map table_in before) then Err (TableTwice line) else Ok (Table name windows)
 checked before line (Skip number) = Ok (Skip number)
 

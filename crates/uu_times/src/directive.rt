@@ -1,14 +1,14 @@
 // What a line of a sys file says.
 ghost use Rattle.std.specs.Prelude.{◌≡◌, ◌≤◌, ◌∷◌, Ok, Err, IfOk, IfSome};
-ghost use Rattle.uu_times.specs.Directives.{value_behind, number_of, retry_of, system_directive, timed, time_directive, grade_of, timegrade_directive, retries_directive, timetable_directive, directive_of, line_says, IsValid};
+ghost use Rattle.uu_times.specs.Directives.{value_behind, number_of, retry_of, system_directive, timed, time_directive, grade_of, timegrade_directive, retries_directive, success_wait_directive, timetable_directive, directive_of, line_says, IsValid};
 ghost use Rattle.uu_names.specs.Grade.{lowest_grade};
-ghost use Rattle.uu_times.specs.System.{IsRetry, most_retries};
+ghost use Rattle.uu_times.specs.System.{IsRetry, most_success_wait};
 ghost use Rattle.uu_times.specs.Fault.{AnswersUnlessMemory};
 ghost use Rattle.uu_times.specs.Lines.{words_of};
 ghost use Rattle.std.specs.Option.{option_copied};
 
 use crate::lines::{next_word, one_or_two, one_word, uncommented};
-use crate::system::{MAX_RETRIES_LIMIT, RETRY_LIMIT};
+use crate::system::{MAX_RETRIES_LIMIT, RETRY_LIMIT, SUCCESS_WAIT_LIMIT};
 use crate::timetable::{Timetables, equals_in_any_case, is_table_name, key_of, time_of};
 use crate::{Line, TimeFault, Windows};
 use std::alloc::Global;
@@ -23,6 +23,8 @@ pub enum Directive {
     Time(Line),
     /// So many failures in a row make calls rare.
     Retries(u32),
+    /// A system is left alone for so many seconds after a call that went well.
+    SuccessWait(u32),
     /// A timetable is defined; its name is in lower case.
     Table(SiteName, Windows),
     /// The line of this number has another keyword.
@@ -37,7 +39,7 @@ const MAX_DIGITS: usize = 9;
 
 // The number of a word, where it is one within the limit.
 fn number_of(limit: u32, text: &[u8]) -> Option<u32>
-    requires { limit ≤ most_retries }
+    requires { limit ≤ most_success_wait }
     ensures value { result ≡ number_of limit text.now }
     ensures bound { IfSome result (λ number. number ≤ limit) }
 {
@@ -173,6 +175,19 @@ fn retries_directive(line: u32, arguments: &[u8]) -> Result<Directive, TimeFault
     }
 }
 
+fn success_wait_directive(line: u32, arguments: &[u8]) -> Result<Directive, TimeFault>
+    ensures value { result ≡ success_wait_directive line (words_of arguments.now) }
+    ensures valid { IfOk result IsValid }
+{
+    let Some(text) = one_word(arguments) else {
+        return Err(TimeFault::BadWords(line));
+    };
+    match number_of(SUCCESS_WAIT_LIMIT, text) {
+        None => Err(TimeFault::BadNumber(line)),
+        Some(seconds) => Ok(Directive::SuccessWait(seconds)),
+    }
+}
+
 fn timetable_directive(
     alloc: Global,
     tables: &Timetables,
@@ -216,6 +231,8 @@ fn directive_of(
         timegrade_directive(alloc, tables, line, arguments)
     } else if equals_in_any_case(keyword, b"max-retries") {
         retries_directive(line, arguments)
+    } else if equals_in_any_case(keyword, b"success-wait") {
+        success_wait_directive(line, arguments)
     } else if equals_in_any_case(keyword, b"timetable") {
         timetable_directive(alloc, tables, line, arguments)
     } else {

@@ -1,21 +1,22 @@
 // The sections of a sys file, as they are read.
 ghost use Rattle.std.specs.Prelude.{◌≡◌, ◌≤◌, ◌<◌, ◌++◌, ◌∷◌, [], Some, OnOk, IfOk, length, nat_le, option_map};
-ghost use Rattle.uu_times.specs.Internal.Section.{no_part, no_parts, begin_part, with_line, with_retries, all_systems};
+ghost use Rattle.uu_times.specs.Internal.Section.{no_part, no_parts, begin_part, with_line, with_retries, with_success_wait, all_systems};
 ghost use Rattle.uu_times.specs.SysFile.{lines_or, system_of};
-ghost use Rattle.uu_times.specs.System.{HasRetry, most_lines, most_retries};
+ghost use Rattle.uu_times.specs.System.{HasRetry, most_lines, most_retries, most_success_wait};
 
-use crate::system::{DEFAULT_MAX_RETRIES, LINE_LIMIT};
+use crate::system::{DEFAULT_MAX_RETRIES, DEFAULT_SUCCESS_WAIT, LINE_LIMIT};
 use crate::{Line, SystemDef};
 use std::alloc::{AllocError, Global};
 use std::marker::Model;
 use std::mem;
 use uu_names::{Listed, SiteName};
 
-/// The time lines of a section, and its last number of failures.
+/// The time lines of a section, its last number of failures, and its last wait after a call that went well.
 #[derive(Drop)]
 pub struct Section {
     lines: Vec<Line>,
     max_retries: Option<u32>,
+    success_wait: Option<u32>,
 }
 
 impl Model for Section {
@@ -24,9 +25,9 @@ impl Model for Section {
 
     ghost Value = { Part };
 
-    ghost view = { λ s. record { lines = s.lines.items; max_retries = s.max_retries } };
+    ghost view = { λ s. record { lines = s.lines.items; max_retries = s.max_retries; success_wait = s.success_wait } };
 
-    ghost invariant = { λ s. IsWithin s.lines.items s.max_retries };
+    ghost invariant = { λ s. IsWithin s.lines.items s.max_retries s.success_wait };
 }
 
 // Copies of time lines, which share their runs.
@@ -58,6 +59,7 @@ impl Section {
         Section {
             lines: Vec::new(alloc),
             max_retries: None,
+            success_wait: None,
         }
     }
 
@@ -71,7 +73,7 @@ impl Section {
     fn push(&mut self, line: Line) -> Result<(), AllocError>
         requires room { length self.old.lines < most_lines }
         requires line { HasRetry line }
-        ensures { OnOk result (self.new ≡ record { lines = self.old.lines ++ line ∷ []; max_retries = self.old.max_retries }) }
+        ensures { OnOk result (self.new ≡ record self.old { lines = self.old.lines ++ line ∷ [] }) }
     {
         self.lines.push(line)?;
         Ok(())
@@ -79,9 +81,16 @@ impl Section {
 
     fn set_retries(&mut self, number: u32)
         requires { number ≤ most_retries }
-        ensures { self.new ≡ record { lines = self.old.lines; max_retries = Some number } }
+        ensures { self.new ≡ record self.old { max_retries = Some number } }
     {
         self.max_retries = Some(number);
+    }
+
+    fn set_success_wait(&mut self, seconds: u32)
+        requires { seconds ≤ most_success_wait }
+        ensures { self.new ≡ record self.old { success_wait = Some seconds } }
+    {
+        self.success_wait = Some(seconds);
     }
 
     // The system of the section.
@@ -93,15 +102,23 @@ impl Section {
     ) -> Result<SystemDef, AllocError>
         ensures { IfOk result (λ system. system ≡ system_of name self defaults.now) }
     {
-        let Section { lines, max_retries } = self;
+        let Section {
+            lines,
+            max_retries,
+            success_wait,
+        } = self;
         let lines = lines_or(alloc, lines, &defaults.lines)?;
         let max_retries = max_retries
             .or(defaults.max_retries)
             .unwrap_or(DEFAULT_MAX_RETRIES);
+        let success_wait = success_wait
+            .or(defaults.success_wait)
+            .unwrap_or(DEFAULT_SUCCESS_WAIT);
         Ok(SystemDef {
             name,
             lines: Listed::from_vec(lines),
             max_retries,
+            success_wait,
         })
     }
 }
@@ -172,6 +189,14 @@ impl Sections {
         ensures { self.new ≡ with_retries self.old number }
     {
         self.section.set_retries(number);
+    }
+
+    /// Sets the wait after a call that went well of the present section.
+    pub fn set_success_wait(&mut self, seconds: u32)
+        requires { seconds ≤ most_success_wait }
+        ensures { self.new ≡ with_success_wait self.old seconds }
+    {
+        self.section.set_success_wait(seconds);
     }
 
     /// Begins the section of a system.

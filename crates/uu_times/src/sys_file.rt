@@ -125,6 +125,10 @@ impl Reader {
                 self.sections.set_retries(number);
                 Ok(())
             }
+            Directive::SuccessWait(seconds) => {
+                self.sections.set_success_wait(seconds);
+                Ok(())
+            }
             Directive::Table(name, windows) => self.define(line, name, windows),
             Directive::Skip(number) => {
                 self.skipped.push(number)?;

@@ -19,6 +19,12 @@ pub const MAX_RETRIES_LIMIT: u32 = 1_000_000;
 /// The failures in a row after which calls become rare, where a sys file doesn't say.
 pub const DEFAULT_MAX_RETRIES: u32 = 26;
 
+/// The most seconds that a system may be left alone after a call that went well: 365 days.
+pub const SUCCESS_WAIT_LIMIT: u32 = 31_536_000;
+
+/// The seconds that a system is left alone after a call that went well, where a sys file doesn't say.
+pub const DEFAULT_SUCCESS_WAIT: u32 = 0;
+
 /// When jobs of a grade and above may be sent.
 #[derive(Debug, Drop)]
 pub struct Line {
@@ -45,7 +51,7 @@ impl Clone for Line {
     }
 }
 
-/// A system that may be called, seen as its three parts, which are within their limits.
+/// A system that may be called, seen as its four parts, which are within their limits.
 #[derive(Debug, Drop)]
 pub struct SystemDef {
     /// The system's name.
@@ -54,6 +60,8 @@ pub struct SystemDef {
     pub lines: Listed<Line>,
     /// After how many failures in a row calls become rare, at most 1,000,000.
     pub max_retries: u32,
+    /// How many seconds it is left alone after a call that went well, at most 31,536,000.
+    pub success_wait: u32,
 }
 
 impl Model for SystemDef {
@@ -61,25 +69,32 @@ impl Model for SystemDef {
 
     ghost Value = { System };
 
-    ghost view = { λ d. record { name = d.name; lines = d.lines; max_retries = d.max_retries } };
+    ghost view = { λ d. record { name = d.name; lines = d.lines; max_retries = d.max_retries; success_wait = d.success_wait } };
 
-    ghost invariant = { λ d. AreWithinLimits d.lines d.max_retries };
+    ghost invariant = { λ d. AreWithinLimits d.lines d.max_retries d.success_wait };
 }
 
 impl SystemDef {
     /// A system of these parts, and `None` where there are more than 32 lines, a retry number isn't 1 to
-    /// 525,600, or `max_retries` is over 1,000,000.
-    pub fn new(name: SiteName, lines: Listed<Line>, max_retries: u32) -> Option<SystemDef>
-        ensures within { IsSome result ↔ AreWithinLimits lines max_retries }
+    /// 525,600, `max_retries` is over 1,000,000, or `success_wait` is over 31,536,000.
+    pub fn new(
+        name: SiteName,
+        lines: Listed<Line>,
+        max_retries: u32,
+        success_wait: u32,
+    ) -> Option<SystemDef>
+        ensures within { IsSome result ↔ AreWithinLimits lines max_retries success_wait }
         ensures name { IfSome result (λ system. system.name ≡ name) }
         ensures lines { IfSome result (λ system. system.lines ≡ lines) }
         ensures max_retries { IfSome result (λ system. system.max_retries ≡ max_retries) }
+        ensures success_wait { IfSome result (λ system. system.success_wait ≡ success_wait) }
     {
-        if are_within_limits(lines.as_slice(), max_retries) {
+        if are_within_limits(lines.as_slice(), max_retries, success_wait) {
             Some(SystemDef {
                 name,
                 lines,
                 max_retries,
+                success_wait,
             })
         } else {
             None
@@ -89,18 +104,19 @@ impl SystemDef {
     /// When the system may be called.
     pub fn lines(&self) -> &[Line]
         ensures value { result.now ≡ self.now.lines }
-        ensures within { AreWithinLimits self.now.lines self.now.max_retries }
+        ensures within { AreWithinLimits self.now.lines self.now.max_retries self.now.success_wait }
     {
         self.lines.as_slice()
     }
 }
 
-// Whether the lines and the number of failures are within their limits.
-fn are_within_limits(lines: &[Line], max_retries: u32) -> bool
-    ensures { IsTrue result ↔ AreWithinLimits lines.now max_retries }
+// Whether the lines, the number of failures and the wait are within their limits.
+fn are_within_limits(lines: &[Line], max_retries: u32, success_wait: u32) -> bool
+    ensures { IsTrue result ↔ AreWithinLimits lines.now max_retries success_wait }
 {
     lines.len() <= LINE_LIMIT
         && max_retries <= MAX_RETRIES_LIMIT
+        && success_wait <= SUCCESS_WAIT_LIMIT
         && lines.iter().all(|line| has_retry(line))
 }
 

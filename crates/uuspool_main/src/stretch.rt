@@ -54,7 +54,7 @@ pub(crate) fn work_on_file<T: Start>(
     ensures named { IfErr result (λ e. IsNamed (image_at T.Start) e.fault (remains_of e)) }
     ensures never_failed { IfErr result (λ e. e.fault ≢ StoreFault.Failed) }
     ensures left { IfErr result (λ e. LeavesAsKept (image_at T.Start) (remains_of e)) }
-    ensures left_alone { IfErr result (λ e. LeavesAlone (image_at T.Start) (remains_of e)) }
+    ensures left_alone { IfErr result (λ e. LeavesAlone (image_at T.Start) e.fault (remains_of e)) }
 {
     match open_spool(rt, settings.spool.as_str(), start) {
         Ok(spool) => Ok(work_on(rt, settings, work, spool)),

@@ -143,8 +143,8 @@ impl Lists {
         ensures { IsGiven (state_of self.old) (Command.Done system.now at.now jobs.now) result (state_of self.new) }
     {
         let heads = heads_of(alloc, self.jobs.as_slice())?;
-        let known = has_system(self.systems.as_slice(), system);
-        match decide_done(known, system, jobs, heads.as_slice(), at) {
+        let row = system_at(self.systems.as_slice(), system);
+        match decide_done(row, system, jobs, heads.as_slice(), at) {
             Ok(call) => {
                 drop_jobs(&mut self.jobs, jobs);
                 set_call(self.systems.as_mut_slice(), system, call);

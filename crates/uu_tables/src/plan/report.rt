@@ -1,12 +1,12 @@
 // Reports of calls.
-ghost use Rattle.std.specs.Prelude.{◌≡◌, ◌≤◌, List, IfOk, option_copied};
+ghost use Rattle.std.specs.Prelude.{◌≡◌, ◌≤◌, List, IfOk, is_some, option_copied};
 ghost use Rattle.uu_core.specs.declared.command.Command.TheVariants.{Failed, Done};
 ghost use Rattle.uu_core.specs.State.{State, IsWellFormed, last_second, most_wait};
 ghost use Rattle.uu_core.specs.declared.job.JobHead.{JobHead};
 ghost use Rattle.uu_core.specs.Refusal.{decided};
 ghost use Rattle.uu_core.specs.Verdict.{done_refusal};
 ghost use Rattle.uu_core.specs.Laws.{AreFound};
-ghost use Rattle.uu_core.specs.After.{failed_decision, done_call};
+ghost use Rattle.uu_core.specs.After.{failed_decision, done_call_of};
 ghost use Rattle.uu_tables.specs.Tables.{Tables, call_columns, outcome_number, reason_of};
 ghost use Rattle.uu_tables.specs.Changes.{applied};
 ghost use Rattle.uu_tables.specs.Parts.{without_jobs};
@@ -18,7 +18,9 @@ use crate::facts::Facts;
 use crate::rows::{CALL_FAILED, CALL_MADE, CallColumns, NEVER_CALLED};
 use std::alloc::{AllocError, Global};
 use uu_core::laws::named_jobs_decide;
-use uu_core::{CallState, Outcome, Refusal, Reply, SystemRow, decide_done, decide_failed};
+use uu_core::{
+    CallState, JobHead, Outcome, Refusal, Reply, SystemRow, decide_done, decide_failed,
+};
 use uu_names::{SiteName, Word};
 use uu_times::Moment;
 
@@ -90,19 +92,24 @@ fn remove_jobs<'a>(changes: &mut Vec<Change<'a>>, numbers: &[u32]) -> Result<(),
     Ok(())
 }
 
-// The calls of a system after one in which jobs went through: the jobs that were found decide as all jobs do.
+// The calls of a system, if it is known, after one in which jobs went through: the jobs that were found decide as all jobs do, and its wait is a
+// year at most.
 fn done_call(
-    facts: &Facts,
+    row: Option<&SystemRow>,
+    found: &[JobHead],
     system: &SiteName,
     at: &Moment,
     jobs: &[u32],
 ) -> Result<CallState, Refusal>
     ensures last { IfOk result (λ call. call.last ≤ last_second) }
     ensures wait { IfOk result (λ call. call.wait ≤ most_wait) }
-    ensures call { (all : List JobHead) → AreFound jobs.now all facts.now.found.items → result ≡ decided (done_refusal facts.now.is_known system.now jobs.now all) (done_call at.now) }
+    ensures call { (all : List JobHead) → AreFound jobs.now all found.now → result ≡ decided (done_refusal (is_some (option_copied row.entry)) system.now jobs.now all) (done_call_of (option_copied row.entry) at.now) }
 {
     named_jobs_decide();
-    decide_done(facts.is_known, system, jobs, facts.found.as_slice(), at)
+    if let Some(row) = row {
+        let _ = row.def.lines();
+    }
+    decide_done(row, system, jobs, found, at)
 }
 
 /// A call in which jobs went through: the system's calls change, and the jobs go.
@@ -113,9 +120,9 @@ pub(crate) fn plan_done<'a>(
     at: &Moment,
     jobs: &[u32],
 ) -> Result<Plan<'a>, AllocError>
-    ensures { (s : State) → AreFacts facts.now s (Done system.now at.now jobs.now) → IfOk result (IsPlan s (Done system.now at.now jobs.now)) }
+    ensures { (s : State) → IsWellFormed s → AreFacts facts.now s (Done system.now at.now jobs.now) → IfOk result (IsPlan s (Done system.now at.now jobs.now)) }
 {
-    match done_call(facts, system, at, jobs) {
+    match done_call(facts.system.as_ref(), facts.found.as_slice(), system, at, jobs) {
         Ok(call) => {
             let call = call_columns(call);
             let mut changes = vec![in alloc; Change::SetCall { system, call }]?;

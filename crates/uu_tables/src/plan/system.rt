@@ -2,9 +2,9 @@
 ghost use Rattle.std.specs.Prelude.{◌≡◌, IfOk, map};
 ghost use Rattle.uu_core.specs.declared.command.Command.TheVariants.{Define, Remove};
 ghost use Rattle.uu_core.specs.State.{State, IsWellFormed};
-ghost use Rattle.uu_tables.specs.Tables.{Tables, placed_from, range_columns};
+ghost use Rattle.uu_tables.specs.Tables.{Tables, placed_from, range_columns, waits_from};
 ghost use Rattle.uu_tables.specs.Changes.{applied};
-ghost use Rattle.uu_tables.specs.Parts.{with_ranges, with_lines, with_definition};
+ghost use Rattle.uu_tables.specs.Parts.{with_ranges, with_lines, with_waits, with_definition};
 ghost use Rattle.uu_tables.specs.Plans.{AreFacts, IsPlan};
 
 use super::{Plan, one_change, refused};
@@ -53,7 +53,7 @@ fn add_lines<'a>(changes: &mut Vec<Change<'a>>, def: &'a SystemDef) -> Result<()
     Ok(())
 }
 
-// The changes that define a system, all but its lines.
+// The changes that define a system, all but its lines and its success wait.
 fn definition<'a>(
     alloc: Global,
     is_known: bool,
@@ -70,10 +70,24 @@ fn definition<'a>(
                 max_retries
             },
             Change::RemoveLines { system },
+            Change::RemoveSuccessWait { system },
         ]?)
     } else {
         Ok(vec![in alloc; Change::AddSystem(def)]?)
     }
+}
+
+// Adds the change that adds the success wait of a system, unless that is 0.
+fn add_success_wait<'a>(changes: &mut Vec<Change<'a>>, def: &'a SystemDef) -> Result<(), AllocError>
+    ensures { IfOk result (λ _. (t : Tables) → applied changes.new.items t ≡ with_waits (waits_from def.now.name def.now.success_wait) (applied changes.old.items t)) }
+{
+    if def.success_wait > 0 {
+        changes.push(Change::AddSuccessWait {
+            system: &def.name,
+            wait: def.success_wait,
+        })?;
+    }
+    Ok(())
 }
 
 /// A system that is defined: a new one was never called, a known one keeps its calls, and its lines are those of the
@@ -86,6 +100,7 @@ pub(crate) fn plan_define<'a>(
     ensures { (s : State) → IsWellFormed s → AreFacts facts.now s (Define def.now) → IfOk result (IsPlan s (Define def.now)) }
 {
     let mut changes = definition(alloc, facts.is_known, def)?;
+    add_success_wait(&mut changes, def)?;
     add_lines(&mut changes, def)?;
     Ok(Plan {
         reply: Reply::Done,
@@ -93,7 +108,7 @@ pub(crate) fn plan_define<'a>(
     })
 }
 
-/// A system that goes, with its calls, its lines and their ranges.
+/// A system that goes, with its calls, its lines, their ranges and its success wait.
 pub(crate) fn plan_remove<'a>(
     alloc: Global,
     facts: &Facts,

@@ -7,13 +7,13 @@ use Rattle.std.specs.List.{list_any}
 use Rattle.std.specs.Ordering.{nat_cmp}
 use Rattle.std.specs.Str.Lines.{lines}
 use Rattle.uu_times.specs.declared.directive.Directive.{Directive}
-use Rattle.uu_times.specs.declared.directive.Directive.TheVariants.{Begin, Time, Retries, Table, Skip}
+use Rattle.uu_times.specs.declared.directive.Directive.TheVariants.{Begin, Time, Retries, SuccessWait, Table, Skip}
 use Rattle.uu_times.specs.declared.fault.TimeFault.{TimeFault}
 use Rattle.uu_times.specs.declared.fault.TimeFault.TheVariants.{SystemTwice, TableTwice, TooManyLines, Memory}
 use Rattle.uu_times.specs.declared.system.SysFile.{SysFile}
 use Rattle.uu_times.specs.Directives.{◌>>=◌, line_says}
 use Rattle.uu_times.specs.Lines.{Numbered, joined}
-use Rattle.uu_times.specs.Internal.Section.{Parts, no_parts, begin_part, with_line, with_retries, all_systems}
+use Rattle.uu_times.specs.Internal.Section.{Parts, no_parts, begin_part, with_line, with_retries, with_success_wait, all_systems}
 use Rattle.uu_times.specs.System.{most_lines}
 use Rattle.uu_times.specs.Tables.{Tables, predefined_tables}
 
@@ -63,6 +63,13 @@ absorbed reading line (Retries number) = Ok (record {
   tabled = reading.tabled;
   named = reading.named;
   parts = with_retries reading.parts number;
+  skipped = reading.skipped;
+})
+absorbed reading line (SuccessWait seconds) = Ok (record {
+  tables = reading.tables;
+  tabled = reading.tabled;
+  named = reading.named;
+  parts = with_success_wait reading.parts seconds;
   skipped = reading.skipped;
 })
 absorbed reading line (Table name windows) =

@@ -1,16 +1,17 @@
 -- The sections of a sys file, as they are read.
 use Rattle.std.specs.Prelude.{ℕ, ◌≤◌, Option, None, Some, IfSome, List, [], ◌∷◌, ◌++◌, length, All}
 use Rattle.uu_times.specs.declared.system.Line.{Line}
-use Rattle.uu_times.specs.System.{System, HasRetry, most_lines, most_retries}
+use Rattle.uu_times.specs.System.{System, HasRetry, most_lines, most_retries, most_success_wait}
 use Rattle.uu_times.specs.SysFile.{Part, system_of}
 
 -- a section without lines
 abbrev pub no_part : Part
-no_part = record { lines = []; max_retries = None }
+no_part = record { lines = []; max_retries = None; success_wait = None }
 
 -- within the limits of a system
-abbrev pub IsWithin : List Line → Option ℕ → Type 0
-IsWithin lines max_retries = (length lines ≤ most_lines) × All HasRetry lines × IfSome max_retries (λ n. n ≤ most_retries)
+abbrev pub IsWithin : List Line → Option ℕ → Option ℕ → Type 0
+IsWithin lines max_retries success_wait =
+    (length lines ≤ most_lines) × All HasRetry lines × IfSome max_retries (λ n. n ≤ most_retries) × IfSome success_wait (λ n. n ≤ most_success_wait)
 
 -- the sections so far: the systems that are complete, the name of the present one, its section, and the defaults
 pub record Parts : Type 0 where
@@ -43,8 +44,12 @@ begin_part parts name = record {
 
 -- a time line
 abbrev pub with_line : Parts → Line → Parts
-with_line parts line = record parts { part = record { lines = parts.part.lines ++ line ∷ []; max_retries = parts.part.max_retries } }
+with_line parts line = record parts { part = record parts.part { lines = parts.part.lines ++ line ∷ [] } }
 
 -- a number of failures
 abbrev pub with_retries : Parts → ℕ → Parts
-with_retries parts number = record parts { part = record { lines = parts.part.lines; max_retries = Some number } }
+with_retries parts number = record parts { part = record parts.part { max_retries = Some number } }
+
+-- a wait after a call that went well
+abbrev pub with_success_wait : Parts → ℕ → Parts
+with_success_wait parts seconds = record parts { part = record parts.part { success_wait = Some seconds } }

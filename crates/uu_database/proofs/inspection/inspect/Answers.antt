@@ -7,22 +7,22 @@ use Rattle.uu_database.proofs.Inspecting.{inspected_spool, inspected_foreign, in
 use Rattle.uu_database.proofs.inspection.inspect.Goals as goal
 
 pub returns-in-Ok-Spool-clause-inspected : goal.returns-in-Ok-Spool-clause-inspected
-returns-in-Ok-Spool-clause-inspected g c whole =
-    inspected_spool (state g.S.Store c.args.conn.now) (state g.S.Store c.find_out.new.conn)
-    (λ clean stands. subst (λ finding. Finds finding (state g.S.Store c.args.conn.now).now.trees) c.in-Ok-Spool.field-0-is (c.in-Ok-Spool.ensures.finding clean stands whole))
+returns-in-Ok-Spool-clause-inspected g c v tables =
+    inspected_spool v (state g.S.Store c.args.conn.now) (state g.S.Store c.find_out.new.conn)
+    (λ clean stands. subst (λ finding. Finds v finding (state g.S.Store c.args.conn.now).now.trees) c.in-Ok-Spool.field-0-is (c.in-Ok-Spool.ensures.finding clean v tables stands))
 
 pub returns-in-Ok-Foreign-clause-inspected : goal.returns-in-Ok-Foreign-clause-inspected
-returns-in-Ok-Foreign-clause-inspected g c whole =
-    inspected_foreign (state g.S.Store c.args.conn.now) (state g.S.Store c.find_out.new.conn)
-    (λ clean stands. subst (λ finding. Finds finding (state g.S.Store c.args.conn.now).now.trees) c.in-Ok-Foreign.field-0-is (c.in-Ok-Foreign.ensures.finding clean stands whole))
+returns-in-Ok-Foreign-clause-inspected g c v tables =
+    inspected_foreign v (state g.S.Store c.args.conn.now) (state g.S.Store c.find_out.new.conn)
+    (λ clean stands. subst (λ finding. Finds v finding (state g.S.Store c.args.conn.now).now.trees) c.in-Ok-Foreign.field-0-is (c.in-Ok-Foreign.ensures.finding clean v tables stands))
 
 pub returns-in-Ok-Later-clause-inspected : goal.returns-in-Ok-Later-clause-inspected
-returns-in-Ok-Later-clause-inspected g c whole =
-    inspected_later (state g.S.Store c.args.conn.now) (state g.S.Store c.find_out.new.conn)
-    (λ clean stands. subst (λ finding. Finds finding (state g.S.Store c.args.conn.now).now.trees) c.in-Ok-Later.field-0-is (c.in-Ok-Later.ensures.finding clean stands whole))
+returns-in-Ok-Later-clause-inspected g c v tables =
+    inspected_later v (state g.S.Store c.args.conn.now) (state g.S.Store c.find_out.new.conn)
+    (λ clean stands. subst (λ finding. Finds v finding (state g.S.Store c.args.conn.now).now.trees) c.in-Ok-Later.field-0-is (c.in-Ok-Later.ensures.finding clean v tables stands))
 
 pub returns-in-Err-clause-inspected : goal.returns-in-Err-clause-inspected
-returns-in-Err-clause-inspected g c whole = inspected_err (state g.S.Store c.args.conn.now) (state g.S.Store c.store_fault.new.conn) c.store_fault.result c.store_fault.ensures.fresh
+returns-in-Err-clause-inspected g c v tables = inspected_err v (state g.S.Store c.args.conn.now) (state g.S.Store c.store_fault.new.conn) c.store_fault.result c.store_fault.ensures.fresh
 
 pub returns-in-Ok-Spool-clause-half : goal.returns-in-Ok-Spool-clause-half
 returns-in-Ok-Spool-clause-half g c half = absurd (c.in-Ok-Spool.ensures.half half c.in-Ok-Spool.field-0-is)

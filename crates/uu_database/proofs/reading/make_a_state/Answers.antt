@@ -4,7 +4,7 @@ use Rattle.uu_database.proofs.Verdict.{tells}
 use Rattle.uu_database.proofs.reading.make_a_state.Goals as goal
 
 pub returns : goal.returns
-returns c trees found =
+returns c v trees found =
     let rows : Rows = record {
       next = c.args.all.now.rest.next;
       systems = c.deref.result;
@@ -13,8 +13,9 @@ returns c trees found =
       jobs = c.deref-4.result;
       pieces = c.deref-5.result;
       entries = c.deref-6.result;
+      success_waits = c.deref-7.result;
     } in
-    tells trees c.args.all.now found rows (record {
+    tells v trees c.args.all.now found rows (record {
       next = refl;
       systems = c.deref.ensures.value;
       lines = c.deref-2.ensures.value;
@@ -22,4 +23,5 @@ returns c trees found =
       jobs = c.deref-4.ensures.value;
       pieces = c.deref-5.ensures.value;
       entries = c.deref-6.ensures.value;
+      success_waits = c.deref-7.ensures.value;
     }) c.are_tables.result c.are_tables.ensures

@@ -6,15 +6,29 @@ use Rattle.uu_database.proofs.reading.take_rest.Goals as goal
 
 pub returns-in_err-entries-clause-takes : goal.returns-in_err-entries-clause-takes
 returns-in_err-entries-clause-takes g c =
+    let v = c.args.version in
     let a = state g.S.Store c.args.conn.now in
     let b = state g.S.Store c.take_next.new.conn in
     let d = state g.S.Store c.take_entries.new.conn in
-    takes_none _ (OrNone AreTheRest) a d c.take_entries.result _ c.from_residual-in_err-entries.ensures.0 (then_takes _ _ a b d c.in_ok-next.next c.take_entries.result c.in_ok-next.ensures.takes c.take_entries.ensures.takes)
+    takes_none v _ (OrNone v (AreTheRest v)) a d c.take_entries.result _ c.from_residual-in_err-entries.ensures.0 (then_takes v _ _ a b d c.in_ok-next.next c.take_entries.result c.in_ok-next.ensures.takes (c.take_entries.ensures.takes v))
+
+pub returns-in_err-success_waits-clause-takes : goal.returns-in_err-success_waits-clause-takes
+returns-in_err-success_waits-clause-takes g c =
+    let v = c.args.version in
+    let a = state g.S.Store c.args.conn.now in
+    let b = state g.S.Store c.take_next.new.conn in
+    let d = state g.S.Store c.take_entries.new.conn in
+    let e = state g.S.Store c.take_waits.new.conn in
+    let two = then_takes v _ _ a b d c.in_ok-next.next (Ok c.in_ok-entries.entries) c.in_ok-next.ensures.takes (c.in_ok-entries.ensures.takes v) in
+    takes_none v _ (OrNone v (AreTheRest v)) a e c.take_waits.result _ c.from_residual-in_err-success_waits.ensures.0 (then_takes v _ _ a d e c.in_ok-entries.entries c.take_waits.result two c.take_waits.ensures.takes)
 
 pub returns-clause-takes : goal.returns-clause-takes
 returns-clause-takes g c =
+    let v = c.args.version in
     let a = state g.S.Store c.args.conn.now in
     let b = state g.S.Store c.take_next.new.conn in
     let d = state g.S.Store c.take_entries.new.conn in
-    takes_as _ (OrNone AreTheRest) a d (Ok c.in_ok-entries.entries) (Ok c.rest_of.result) (then_takes _ _ a b d c.in_ok-next.next (Ok c.in_ok-entries.entries) c.in_ok-next.ensures.takes c.in_ok-entries.ensures.takes) (λ ok. refl)
-    (λ trees found. c.rest_of.ensures trees found.0 found.1)
+    let e = state g.S.Store c.take_waits.new.conn in
+    let two = then_takes v _ _ a b d c.in_ok-next.next (Ok c.in_ok-entries.entries) c.in_ok-next.ensures.takes (c.in_ok-entries.ensures.takes v) in
+    takes_as v _ (OrNone v (AreTheRest v)) a e (Ok c.in_ok-success_waits.success_waits) (Ok c.rest_of.result) (then_takes v _ _ a d e c.in_ok-entries.entries (Ok c.in_ok-success_waits.success_waits) two c.in_ok-success_waits.ensures.takes) (λ ok. refl)
+    (λ trees found. c.rest_of.ensures v trees found.0.0 found.0.1 found.1)

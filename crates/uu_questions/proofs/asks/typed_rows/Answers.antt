@@ -1,4 +1,3 @@
-use Rattle.std.proofs.Common.{ap, ◌∙◌}
 use Rattle.sqlite.specs.Held.{state}
 use Rattle.sqlite.specs.Values.{bound}
 use Rattle.uu_questions.specs.Reading.{AreTyped}

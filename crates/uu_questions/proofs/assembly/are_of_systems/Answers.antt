@@ -7,11 +7,13 @@ returns-clause-yes c is =
     let systems = c.args.systems.now in
     let lines = c.args.lines.now in
     let ranges = c.args.ranges.now in
-    are_theirs systems lines ranges c.are_tables.result (c.are_tables.ensures (alone systems lines ranges) (record { next = refl; systems = refl; lines = refl; ranges = refl; jobs = refl; pieces = refl; entries = refl })) is
+    let waits = c.args.waits.now in
+    are_theirs systems lines ranges waits c.are_tables.result (c.are_tables.ensures (alone systems lines ranges waits) (record { next = refl; systems = refl; lines = refl; ranges = refl; jobs = refl; pieces = refl; entries = refl; success_waits = refl })) is
 
 pub returns-clause-no : goal.returns-clause-no
 returns-clause-no c is =
     let systems = c.args.systems.now in
     let lines = c.args.lines.now in
     let ranges = c.args.ranges.now in
-    are_of_none systems lines ranges c.are_tables.result (c.are_tables.ensures (alone systems lines ranges) (record { next = refl; systems = refl; lines = refl; ranges = refl; jobs = refl; pieces = refl; entries = refl })) is
+    let waits = c.args.waits.now in
+    are_of_none systems lines ranges waits c.are_tables.result (c.are_tables.ensures (alone systems lines ranges waits) (record { next = refl; systems = refl; lines = refl; ranges = refl; jobs = refl; pieces = refl; entries = refl; success_waits = refl })) is

@@ -1,4 +1,4 @@
-use Rattle.std.proofs.Common.{◌≡◌, Ok, Some, None, IfSome, length, option_map, sym, subst, ◌∙◌}
+use Rattle.std.proofs.Common.{◌≡◌, Ok, None, IfSome, length, option_map, sym, subst, ◌∙◌}
 use Rattle.std.proofs.lemmas.Result.{IfOk-weaker}
 use Rattle.sqlite.specs.Held.{state}
 use Rattle.uu_core.specs.State.{job_at}

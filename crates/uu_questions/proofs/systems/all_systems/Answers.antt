@@ -15,7 +15,7 @@ returns-clause-answers g c =
     (λ s good h k.
     let columns = answer_in _ c.all_columns.result _ c.in_ok-columns.was h in
     let rows = answer_in _ c.all_line_rows.result _ c.in_ok-rows.was k in
-    IfOk-weaker c.put_together.result _ _ (λ made theirs. all_together s _ _ _ good (c.deref.ensures.value ∙ columns) rows.0 rows.1 made.items theirs) c.put_together.ensures.systems)
+    IfOk-weaker c.put_together.result _ _ (λ made theirs. all_together s _ _ _ _ good (c.deref.ensures.value ∙ columns) rows.0 rows.1 rows.2 made.items theirs) c.put_together.ensures.systems)
 
 pub returns-clause-formed : goal.returns-clause-formed
 returns-clause-formed g c = IfOk-weaker c.put_together.result _ _ (λ made theirs. theirs.good) c.put_together.ensures.systems

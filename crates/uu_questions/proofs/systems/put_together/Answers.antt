@@ -2,10 +2,10 @@ use Rattle.uu_rows.proofs.Told.{told_ok, told_memory, told_bad}
 use Rattle.uu_questions.proofs.systems.put_together.Goals as goal
 
 pub returns-clause-systems : goal.returns-clause-systems
-returns-clause-systems c = told_ok c.systems_of.result c.or_error.result c.or_error.ensures _ (rw (c.deref.ensures.value, c.deref-2.ensures.value) at c.systems_of.ensures.systems)
+returns-clause-systems c = told_ok c.systems_of.result c.or_error.result c.or_error.ensures _ (rw (c.deref.ensures.value, c.deref-2.ensures.value, c.deref-3.ensures.value) at c.systems_of.ensures.systems)
 
 pub returns-clause-memory : goal.returns-clause-memory
-returns-clause-memory c made theirs = told_memory c.systems_of.result c.or_error.result c.or_error.ensures (λ bad. (rw (c.deref.ensures.value, c.deref-2.ensures.value) at c.systems_of.ensures.bad) made bad theirs)
+returns-clause-memory c made theirs = told_memory c.systems_of.result c.or_error.result c.or_error.ensures (λ bad. (rw (c.deref.ensures.value, c.deref-2.ensures.value, c.deref-3.ensures.value) at c.systems_of.ensures.bad) made bad theirs)
 
 pub returns-clause-bad : goal.returns-clause-bad
 returns-clause-bad c = told_bad c.systems_of.result c.or_error.result c.or_error.ensures

@@ -14,7 +14,7 @@ returns-clause-answers g c =
     (λ s good h k.
     let columns = rw (c.as_str.ensures.text) at (answer_in _ c.columns_of.result _ c.in_ok-columns.was h) in
     let rows = rw (c.as_str-2.ensures.text) at (answer_in _ c.line_rows_of.result _ c.in_ok-rows.was k) in
-    one_together s c.args.name.now _ _ _ good (c.deref.ensures.value ∙ columns) rows.0 rows.1 _ c.in_ok-put_together.ensures.systems _ c.first_of.ensures)
+    one_together s c.args.name.now _ _ _ _ good (c.deref.ensures.value ∙ columns) rows.0 rows.1 rows.2 _ c.in_ok-put_together.ensures.systems _ c.first_of.ensures)
 
 pub returns-in_err-put_together-clause-answers : goal.returns-in_err-put_together-clause-answers
 returns-in_err-put_together-clause-answers g c =

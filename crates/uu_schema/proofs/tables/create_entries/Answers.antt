@@ -1,6 +1,6 @@
 use Rattle.sqlite.specs.Held.{state}
 use Rattle.uu_sql.proofs.Steps.{statement}
-use Rattle.uu_schema.specs.Schema.{create_entries, entries, with_pieces, site}
+use Rattle.uu_schema.specs.Schema.{create_entries, entries, with_pieces, first_site}
 use Rattle.uu_schema.specs.Made.{IsMade}
 use Rattle.uu_schema.proofs.Made.{entries_made}
 use Rattle.uu_schema.proofs.tables.create_entries.Goals as goal
@@ -9,4 +9,4 @@ pub returns-clause-outcome : goal.returns-clause-outcome
 returns-clause-outcome g c =
     let old = state g.S.Store c.args.tx.now.conn.now in
     let new = state g.S.Store c.execute.new.self.conn.now in
-    statement with_pieces site (IsMade with_pieces entries.tree) create_entries _ old new c.execute.result c.execute.ensures.survives c.execute.ensures.runs (λ count stands ran. entries_made old new count stands ran)
+    statement with_pieces first_site (IsMade with_pieces entries.tree) create_entries _ old new c.execute.result c.execute.ensures.survives c.execute.ensures.runs (λ count stands ran. entries_made old new count stands ran)

@@ -44,3 +44,9 @@ returns-in-AddEntry-clause-outcome g c = rw c.in-AddEntry.is c.add_entry.ensures
 
 pub returns-in-SetNext-clause-outcome : goal.returns-in-SetNext-clause-outcome
 returns-in-SetNext-clause-outcome g c = rw c.in-SetNext.is c.set_next.ensures.outcome
+
+pub returns-in-AddSuccessWait-clause-outcome : goal.returns-in-AddSuccessWait-clause-outcome
+returns-in-AddSuccessWait-clause-outcome g c = rw c.in-AddSuccessWait.is c.add_success_wait.ensures.outcome
+
+pub returns-in-RemoveSuccessWait-clause-outcome : goal.returns-in-RemoveSuccessWait-clause-outcome
+returns-in-RemoveSuccessWait-clause-outcome g c = rw c.in-RemoveSuccessWait.is c.remove_success_wait.ensures.outcome

@@ -1,7 +1,7 @@
 use Rattle.std.proofs.Common.{sym, subst}
 use Rattle.sqlite.specs.Files.{over_files}
-use Rattle.uu_store.specs.Openings.{LeavesAlone, LeavesAsKept}
-use Rattle.uu_store.proofs.Opening.{started_shows, started_never_other, started_same, named_as, away_named, away_leaves, away_alone}
+use Rattle.uu_store.specs.Openings.{LeavesAsKept}
+use Rattle.uu_store.proofs.Opening.{started_shows, started_never_other, started_same, named_as, alone_as, away_named, away_leaves, away_alone}
 use Rattle.uu_store.proofs.open.adopted_in_files.Goals as goal
 
 pub returns-in-Ok-clause-started : goal.returns-in-Ok-clause-started
@@ -27,4 +27,4 @@ returns-in-Err-clause-left g c before found =
 
 pub returns-in-Err-clause-left_alone : goal.returns-in-Err-clause-left_alone
 returns-in-Err-clause-left_alone g c before found =
-    subst (LeavesAlone before) (sym c.not_taken.ensures.remains) (away_alone before c.args.conn found c.in-Err.store c.in-Err.fault c.in-Err.ensures.away)
+    alone_as before c.not_taken.result c.in-Err.fault _ c.not_taken.ensures.fault c.not_taken.ensures.remains (away_alone before c.args.conn found c.in-Err.store c.in-Err.fault c.in-Err.ensures.away)

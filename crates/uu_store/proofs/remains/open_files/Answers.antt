@@ -19,4 +19,4 @@ returns-in-Err-clause-left g c = subst (LeavesAsKept (image_at g.T.Start)) (sym 
     failed_has (λ trees. Keeps trees s) (s ≡ empty) (keeps_sound s) (none_fits s) _ files a b (fresh_log a b log) (fresh_db a b db) (fresh_log_stays a b log _) (fresh_db_stays a b db _) it (leaves clean).1 taken keeps) c.in-Err.ensures.cause))
 
 pub returns-in-Err-clause-left_alone : goal.returns-in-Err-clause-left_alone
-returns-in-Err-clause-left_alone g c = subst (LeavesAlone (image_at g.T.Start)) (sym c.of_opening.ensures) (alone_of_opening (image_at g.T.Start) c.in-Err.left)
+returns-in-Err-clause-left_alone g c = subst (LeavesAlone (image_at g.T.Start) c.opening_fault.result) (sym c.of_opening.ensures) (alone_of_opening (image_at g.T.Start) c.opening_fault.result c.in-Err.left)

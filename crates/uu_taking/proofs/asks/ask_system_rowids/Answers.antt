@@ -1,5 +1,6 @@
 use Rattle.std.proofs.Common.{[]}
 use Rattle.sqlite.specs.Held.{state}
+use Rattle.uu_schema.specs.declared.version.Version.TheVariants.{Second}
 use Rattle.uu_taking.specs.Texts.{system_rowids_text}
 use Rattle.uu_taking.proofs.Meanings.{system_rowids_means, system_rowids_ask}
 use Rattle.uu_sql.proofs.Questions.{spares}
@@ -8,7 +9,7 @@ use Rattle.uu_taking.proofs.asks.ask_system_rowids.Goals as goal
 
 pub returns-clause-shows : goal.returns-clause-shows
 returns-clause-shows g c =
-    shows system_rowids_text _ _ [] (state g.S.Store c.args.conn.now) (state g.S.Store c.query_all.new.self) system_rowids_means c.query_all.result c.query_all.ensures.ok c.query_all.ensures.err c.query_all.ensures.survives
+    shows system_rowids_text _ _ [] (state g.S.Store c.args.conn.now) (state g.S.Store c.query_all.new.self) (system_rowids_means Second) system_rowids_ask c.query_all.result c.query_all.ensures.ok c.query_all.ensures.err c.query_all.ensures.survives
 
 pub returns-clause-spares : goal.returns-clause-spares
 returns-clause-spares g c =

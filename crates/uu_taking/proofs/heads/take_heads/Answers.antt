@@ -7,8 +7,8 @@ use Rattle.uu_taking.proofs.TakenHeads.{heads_taken}
 use Rattle.uu_taking.proofs.heads.take_heads.Goals as goal
 
 pub returns-clause-takes : goal.returns-clause-takes
-returns-clause-takes g c =
+returns-clause-takes g c v =
     let a = state g.S.Store c.args.conn.now in
     let b = state g.S.Store c.ask_heads.new.conn in
-    took_one _ heads_text a b c.ask_heads.result c.found.result (answered _ _ c.in_ok-rows.was) c.ask_heads.ensures.shows c.ask_heads.ensures.spares
-    (λ clean stands. IfOk-weaker c.found.result _ _ (λ found read. heads_taken a b c.in_ok-rows.rows.items stands (c.in_ok-rows.ensures.shows.rows clean) found (rw c.deref.ensures.value at read)) c.found.ensures.read)
+    took_one v _ heads_text a b c.ask_heads.result c.found.result (answered _ _ c.in_ok-rows.was) c.ask_heads.ensures.shows c.ask_heads.ensures.spares
+    (λ clean stands. IfOk-weaker c.found.result _ _ (λ found read. heads_taken v a b c.in_ok-rows.rows.items stands (c.in_ok-rows.ensures.shows.rows clean) found (rw c.deref.ensures.value at read)) c.found.ensures.read)

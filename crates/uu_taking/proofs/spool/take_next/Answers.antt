@@ -10,6 +10,6 @@ pub returns-clause-takes : goal.returns-clause-takes
 returns-clause-takes g c =
     let a = state g.S.Store c.args.conn.now in
     let b = state g.S.Store c.ask_spool.new.conn in
-    took_one _ spool_text a b c.ask_spool.result _ (answered _ _ c.in_ok-rows.was) c.ask_spool.ensures.shows c.ask_spool.ensures.spares
+    took_one c.args.version _ spool_text a b c.ask_spool.result _ (answered _ _ c.in_ok-rows.was) c.ask_spool.ensures.shows c.ask_spool.ensures.spares
     (λ clean stands. IfOk-weaker c.found_next.result _ _
-    (λ found seen. next_seen a b c.in_ok-rows.rows.items stands (c.in_ok-rows.ensures.shows.rows clean) found (rw c.deref.ensures.value at seen)) c.found_next.ensures.found)
+    (λ found seen. next_seen c.args.version a b c.in_ok-rows.rows.items stands (c.in_ok-rows.ensures.shows.rows clean) found (rw c.deref.ensures.value at seen)) c.found_next.ensures.found)

@@ -1,0 +1,22 @@
+use Rattle.std.proofs.Common.{◌≡◌, Some, sym, ap, ◌∙◌, subst, arith}
+use Rattle.sqlite.specs.Held.{state}
+use Rattle.uu_schema.specs.declared.version.Version.TheVariants.{First}
+use Rattle.uu_database.specs.Adoption.{IsInspected}
+use Rattle.uu_database.proofs.Becoming.{migrated_then, inspected_then}
+use Rattle.uu_database.proofs.preparing.take_up.Goals as goal
+
+pub returns-in-Some-First-clause-inspected : goal.returns-in-Some-First-clause-inspected
+returns-in-Some-First-clause-inspected g c v tables =
+    let a = state g.S.Store c.args.conn.now in
+    let b = state g.S.Store c.inspect.new.conn in
+    let d = state g.S.Store c.migrate_tables.new.conn in
+    let first : v ≡ First = rw tables at c.in-Some-First.field-0-is in
+    subst (λ v. IsInspected v a d c.migrate_tables.result) (sym first)
+    (inspected_then a b d (rw c.in-Ok.is at (c.inspect.ensures.inspected First (tables ∙ ap Some first))) (rw c.in-Ok.is at (c.inspect.ensures.spared)) (λ clean. omega (arith, clean, c.migrate_tables.ensures.clean)) c.migrate_tables.result c.migrate_tables.ensures.fresh)
+
+pub returns-in-Some-First-clause-migrates : goal.returns-in-Some-First-clause-migrates
+returns-in-Some-First-clause-migrates g c tables =
+    let a = state g.S.Store c.args.conn.now in
+    let b = state g.S.Store c.inspect.new.conn in
+    let d = state g.S.Store c.migrate_tables.new.conn in
+    migrated_then a b d (rw c.in-Ok.is at (c.inspect.ensures.inspected First tables)) (rw c.in-Ok.is at (c.inspect.ensures.spared)) (λ clean. omega (arith, clean, c.migrate_tables.ensures.clean)) c.migrate_tables.result c.migrate_tables.ensures.migrates
