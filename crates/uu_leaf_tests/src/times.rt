@@ -7,7 +7,7 @@ use std::alloc::{AllocError, Global};
 use std::fmt::Write;
 use std::process::Abort;
 use uu_names::Listed;
-use uu_times::{Moment, SystemDef, TimeFault, Timetables, Windows, read_time};
+use uu_times::{Moment, SystemDef, TimeFault, Timetables, Windows, Zone, read_time};
 
 // The set of a time string that may name a predefined timetable.
 fn windows(alloc: Global, text: &str) -> Result<Windows, TimeFault> {
@@ -24,14 +24,19 @@ const MOMENTS: [(u64, i32, Result<(u16, Civil), TimeFault>); 8] = [
     (1_000_000_000, 0, Ok((106, ((2001, 9, 9), (1, 46, 40))))),
     (4_102_444_800, 0, Ok((7200, ((2100, 1, 1), (0, 0, 0))))),
     (4_102_444_801, 0, Err(TimeFault::MomentRange)),
-    (4_102_444_801, 1440, Err(TimeFault::MomentRange)),
+    (4_102_444_801, 1440, Err(TimeFault::OffsetRange)),
     (0, 1440, Err(TimeFault::OffsetRange)),
     (0, -1440, Err(TimeFault::OffsetRange)),
 ];
 
 // The second of a moment, and what the row of a moment has.
 fn moment(second: u64, offset: i32) -> Result<(u64, (u16, Civil)), TimeFault> {
-    let moment = Moment::new(second, offset)?;
+    shown(&Zone::fixed(offset)?, second)
+}
+
+// The same on a zone's clock.
+fn shown(zone: &Zone, second: u64) -> Result<(u64, (u16, Civil)), TimeFault> {
+    let moment = Moment::new(second, zone)?;
     let DateTime { date, time } = moment.local;
     let civil = (
         (date.year, date.month, date.day),
@@ -49,6 +54,25 @@ fn moments(rt: HostRuntime) {
         };
         expect_same(&rt, &moment(*second, *offset), &want);
     }
+}
+
+/// Seconds on a clock with daylight saving time, and the same.
+const NEW_YORK: [(u64, (u16, Civil)); 6] = [
+    (1_710_053_999, (119, ((2024, 3, 10), (1, 59, 59)))),
+    (1_710_054_000, (180, ((2024, 3, 10), (3, 0, 0)))),
+    (1_730_610_000, (60, ((2024, 11, 3), (1, 0, 0)))),
+    (1_730_613_599, (119, ((2024, 11, 3), (1, 59, 59)))),
+    (1_730_613_600, (60, ((2024, 11, 3), (1, 0, 0)))),
+    (1_730_617_200, (120, ((2024, 11, 3), (2, 0, 0)))),
+];
+
+#[test]
+fn daylight_saving_time(rt: HostRuntime) {
+    let zone = Zone::posix("EST5EDT,M3.2.0,M11.1.0").expect(&rt, "a zone");
+    for (second, want) in NEW_YORK.as_slice() {
+        expect_same(&rt, &shown(&zone, *second), &Ok((*second, *want)));
+    }
+    expect_same(&rt, &Zone::posix("").err(), &Some(TimeFault::BadZone));
 }
 
 /// Time strings, a minute of the week, and whether it is in the set.

@@ -3,7 +3,7 @@ use std::alloc::Global;
 use std::process::Abort;
 use uu_core::{By, Kind, NewJob};
 use uu_names::{Grade, Listed, SiteName, Word};
-use uu_times::{Line, Moment, SystemDef, Windows};
+use uu_times::{Line, Moment, SystemDef, Windows, Zone};
 
 /// 2001-09-09 01:46:40, a Sunday.
 pub const SUNDAY: u64 = 1_000_000_000;
@@ -33,7 +33,8 @@ pub fn grade(rt: &impl Abort, byte: u8) -> Grade {
 }
 
 pub fn moment(rt: &impl Abort, second: u64) -> Moment {
-    Moment::new(second, 0).expect(rt, "a moment")
+    let zone = Zone::fixed(0).expect(rt, "a zone");
+    Moment::new(second, &zone).expect(rt, "a moment")
 }
 
 /// A time line for this grade with these ranges of the week.

@@ -1,6 +1,6 @@
 -- The reports of jobs, of what is due, of systems and of links. Their forms are this project's choice; the civil
 -- calendar is that of `jiff_core`.
-use Rattle.std.specs.Prelude.{◌≡◌, ℕ, ℤ, pos, ◌+ℤ◌, ◌*ℤ◌, List, [], ◌∷◌, ◌++◌, None, codes, slice_get, option_to_list}
+use Rattle.std.specs.Prelude.{◌≡◌, ℕ, List, [], ◌∷◌, ◌++◌, None, codes, slice_get, option_to_list}
 use Rattle.std.specs.Fmt.{decimal}
 use Rattle.std.specs.List.{flat_map}
 use Rattle.jiff_core.specs.DateTime.{civil_nanos}
@@ -8,6 +8,8 @@ use Rattle.jiff_core.specs.Timestamp.{nanos_of_seconds}
 use Rattle.jiff_core.specs.declared.civil.datetime.DateTime.{DateTime}
 use Rattle.jiff_fmt.specs.Text.{date_text, time_text}
 use Rattle.uu_names.specs.Grade.{grade_bytes}
+use Rattle.uu_times.specs.Moment.{local_second}
+use Rattle.uu_times.specs.declared.zone.Zone.{Zone}
 use Rattle.uu_map.specs.declared.entry.Cost.{Cost}
 use Rattle.uu_map.specs.declared.entry.Cost.TheVariants.{Value, Dead}
 use Rattle.uu_map.specs.declared.entry.Link.{Link}
@@ -23,19 +25,18 @@ use Rattle.uu_core.specs.declared.system.SystemRow.{SystemRow}
 
 -- ---- moments
 
--- what a clock that is `offset` minutes ahead of UTC shows at a second
-abbrev pub IsLocalTime : ℤ → ℕ → DateTime → Type 0
-IsLocalTime offset second local =
-    civil_nanos local ≡ nanos_of_seconds (pos second +ℤ offset *ℤ pos 60)
+-- what a site's clock shows at a second
+abbrev pub IsLocalTime : Zone → ℕ → DateTime → Type 0
+IsLocalTime zone second local = civil_nanos local ≡ nanos_of_seconds (local_second zone second)
 
 -- `2001-09-09 01:46:40`
 unfoldable pub clock_text : DateTime → List ℕ
 clock_text local = date_text local.date ++ 32 ∷ time_text None local.time
 
 -- what such a clock shows at a second, as a text
-abbrev pub IsMoment : ℤ → ℕ → List ℕ → Type 0
-IsMoment offset second text =
-    (local : DateTime) × IsLocalTime offset second local × (text ≡ clock_text local)
+abbrev pub IsMoment : Zone → ℕ → List ℕ → Type 0
+IsMoment zone second text =
+    (local : DateTime) × IsLocalTime zone second local × (text ≡ clock_text local)
 
 -- ---- lines
 
@@ -73,13 +74,13 @@ job_text moment job =
     line_of (decimal job.number ∷ job.system ∷ job.user ∷ grade_text job.grade ∷ moment ∷ decimal job.size ∷ work_text job.kind ∷ [])
 
 -- the line of a job
-abbrev pub IsJobLine : ℤ → JobHead → List ℕ → Type 0
-IsJobLine offset job line =
-    (moment : List ℕ) × IsMoment offset job.queued moment × (line ≡ job_text moment job)
+abbrev pub IsJobLine : Zone → JobHead → List ℕ → Type 0
+IsJobLine zone job line =
+    (moment : List ℕ) × IsMoment zone job.queued moment × (line ≡ job_text moment job)
 
 -- the report of jobs
-abbrev pub IsJobsReport : ℤ → List JobHead → List ℕ → Type 0
-IsJobsReport offset = AreLines (IsJobLine offset)
+abbrev pub IsJobsReport : Zone → List JobHead → List ℕ → Type 0
+IsJobsReport zone = AreLines (IsJobLine zone)
 
 -- ---- what is due
 
@@ -96,19 +97,19 @@ call_text moment Done = spaced (codes "done" ∷ moment ∷ [])
 call_text moment (Failed why) = spaced (codes "failed" ∷ moment ∷ why ∷ [])
 
 -- how the last call of a system went, and when
-abbrev pub IsCallText : ℤ → CallState → List ℕ → Type 0
-IsCallText offset call text =
-    (moment : List ℕ) × IsMoment offset call.last moment × (text ≡ call_text moment call.outcome)
+abbrev pub IsCallText : Zone → CallState → List ℕ → Type 0
+IsCallText zone call text =
+    (moment : List ℕ) × IsMoment zone call.last moment × (text ≡ call_text moment call.outcome)
 
 -- the line of a system
-abbrev pub IsSystemLine : ℤ → SystemRow → List ℕ → Type 0
-IsSystemLine offset row line =
-    (state : List ℕ) × IsCallText offset row.call state
+abbrev pub IsSystemLine : Zone → SystemRow → List ℕ → Type 0
+IsSystemLine zone row line =
+    (state : List ℕ) × IsCallText zone row.call state
     × (line ≡ line_of (row.def.name ∷ decimal row.call.failures ∷ decimal row.call.wait ∷ state ∷ []))
 
 -- the report of systems
-abbrev pub IsStatusReport : ℤ → List SystemRow → List ℕ → Type 0
-IsStatusReport offset = AreLines (IsSystemLine offset)
+abbrev pub IsStatusReport : Zone → List SystemRow → List ℕ → Type 0
+IsStatusReport zone = AreLines (IsSystemLine zone)
 
 -- ---- links
 

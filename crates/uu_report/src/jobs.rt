@@ -2,38 +2,35 @@
 
 ghost use Rattle.std.specs.Prelude.{◌≡◌, ◌≤◌, ℕ, List, ◌∷◌, ◌++◌, IfOk, OnOk, All, codes, encode_utf8};
 ghost use Rattle.std.specs.String.{string_bytes};
-ghost use Rattle.uu_settings.specs.Offsets.{IsOffset};
 ghost use Rattle.uu_report.specs.Reports.{IsJobLine, IsJobsReport, grade_text, spaced, work_text};
 
 use crate::clock::moment_text;
 use std::alloc::{AllocError, Global};
 use uu_core::{JobHead, Kind};
 use uu_names::{Grade, Word};
+use uu_times::Zone;
 use uu_times::moment::LAST_SECOND;
 
 /// The report of these jobs, in their order, a line for each:
-/// `NUMBER SYSTEM USER GRADE MOMENT SIZE KIND WORDS`, the moment as `yyyy-mm-dd hh:mm:ss` on a clock that is `offset`
-/// minutes ahead of UTC.
-pub fn jobs_report(alloc: Global, jobs: &[JobHead], offset: i32) -> Result<Vec<u8>, AllocError>
+/// `NUMBER SYSTEM USER GRADE MOMENT SIZE KIND WORDS`, the moment as `yyyy-mm-dd hh:mm:ss` on the site's clock.
+pub fn jobs_report(alloc: Global, jobs: &[JobHead], zone: &Zone) -> Result<Vec<u8>, AllocError>
     requires seconds { All (λ job. job.queued ≤ LAST_SECOND) jobs.now }
-    requires offset { IsOffset offset }
-    ensures { IfOk result (λ report. IsJobsReport offset jobs.now report.items) }
+    ensures { IfOk result (λ report. IsJobsReport zone.now jobs.now report.items) }
 {
     let mut report = String::new(alloc);
     for job in jobs {
-        append_job(alloc, &mut report, job, offset)?;
+        append_job(alloc, &mut report, job, zone)?;
     }
     Ok(report.into_bytes())
 }
 
 /// The line of one job.
-pub fn job_line(alloc: Global, job: &JobHead, offset: i32) -> Result<String, AllocError>
+pub fn job_line(alloc: Global, job: &JobHead, zone: &Zone) -> Result<String, AllocError>
     requires second { job.now.queued ≤ LAST_SECOND }
-    requires offset { IsOffset offset }
-    ensures { IfOk result (λ line. IsJobLine offset job.now (string_bytes line)) }
+    ensures { IfOk result (λ line. IsJobLine zone.now job.now (string_bytes line)) }
 {
     let mut line = String::new(alloc);
-    append_job(alloc, &mut line, job, offset)?;
+    append_job(alloc, &mut line, job, zone)?;
     Ok(line)
 }
 
@@ -42,17 +39,16 @@ fn append_job(
     alloc: Global,
     text: &mut String,
     job: &JobHead,
-    offset: i32,
+    zone: &Zone,
 ) -> Result<(), AllocError>
     requires second { job.now.queued ≤ LAST_SECOND }
-    requires offset { IsOffset offset }
-    ensures { OnOk result ((line : List ℕ) × IsJobLine offset job.now line × (string_bytes text.new ≡ string_bytes text.old ++ line)) }
+    ensures { OnOk result ((line : List ℕ) × IsJobLine zone.now job.now line × (string_bytes text.new ≡ string_bytes text.old ++ line)) }
 {
     let number = job.number;
     let system = job.system.as_str();
     let user = job.user.as_str();
     let grade = letter(job.grade);
-    let moment = moment_text(alloc, job.queued, offset)?;
+    let moment = moment_text(alloc, job.queued, zone)?;
     let size = job.size;
     write!(text, "{number} {system} {user} {grade} {moment} {size} ")?;
     append_work(text, &job.kind)?;

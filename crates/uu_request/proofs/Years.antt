@@ -7,12 +7,13 @@ use Rattle.jiff_core.specs.declared.civil.date.Date.{Date}
 use Rattle.jiff_core.specs.declared.civil.datetime.DateTime.{DateTime}
 use Rattle.jiff_core.proofs.SignedLemmas.{signed_arith}
 use Rattle.jiff_core.proofs.CalendarLemmas.{days_from_civil-day_count, day_count-epoch, day_count-lt_year}
-use Rattle.jiff_core.proofs.DateLemmas.{civil, days_from_civil-next_year}
+use Rattle.jiff_core.proofs.DateLemmas.{civil, days_from_civil-day, days_from_civil-next_year}
 use Rattle.uu_times.specs.Moment.{Shows, local_second}
-use Rattle.uu_settings.specs.Offsets.{IsOffset}
+use Rattle.uu_times.specs.declared.zone.Zone.{Zone}
+use Rattle.uu_times.proofs.ZoneLemmas.{offset-within}
 
--- a date of 1969-12-31 or later
-year_from : (d : Date) → neg_ℤ (pos 1) ≤ℤ epoch_day d → pos 1000 ≤ℤ d.year
+-- a date of 1969-12-30 or later
+year_from : (d : Date) → neg_ℤ (pos 2) ≤ℤ epoch_day d → pos 1000 ≤ℤ d.year
 year_from d late =
     by_lt_z d.year (pos 1969)
     (λ before. absurd (omega (
@@ -21,20 +22,22 @@ year_from d late =
       late,
       day_count-epoch,
       days_from_civil-day_count d.year d.month d.day,
-      days_from_civil-day_count (pos 1969) 12 31,
+      days_from_civil-day_count (pos 1969) 12 30,
+      days_from_civil-day (pos 1969) 12 30 31 (omega arith) (omega arith),
       days_from_civil-day_count (pos 1970) 1 1,
       days_from_civil-next_year (pos 1969) (pos 1970) (omega (arith, signed_arith)) refl,
-      day_count-lt_year d.year d.month d.day (pos 1969) 12 31 (civil d) (omega arith) before,
+      day_count-lt_year d.year d.month d.day (pos 1969) 12 30 (civil d) (omega arith) before,
     )))
     (λ after. omega (arith, signed_arith))
 
--- the day of a second that is at most a day before the first
-day_from : (shown day : ℤ) → neg_ℤ (pos 86400) ≤ℤ shown → day ≡ int_div_euclid shown (pos 86400) → neg_ℤ (pos 1) ≤ℤ day
+-- the day of a second that is at most two days before the first
+day_from : (shown day : ℤ) → neg_ℤ (pos 172800) ≤ℤ shown → day ≡ int_div_euclid shown (pos 86400) → neg_ℤ (pos 2) ≤ℤ day
 day_from (pos s) day from is = omega (arith, ints)
 day_from (negsuc s) day from is = omega (arith, ints)
 
-pub shown_year : (local : DateTime) (second : ℕ) (offset : ℤ) → IsOffset offset → Shows local (local_second second offset)
+pub shown_year : (local : DateTime) (second : ℕ) (zone : Zone) → Shows local (local_second zone second)
     → (pos 1000 ≤ℤ local.date.year) × (local.date.year ≤ℤ pos 9999)
-shown_year local second offset within shown =
-    let from : neg_ℤ (pos 86400) ≤ℤ local_second second offset = omega (arith, signed_arith) in
-    (year_from local.date (day_from (local_second second offset) (epoch_day local.date) from shown.day), omega (arith, signed_arith, civil local.date))
+shown_year local second zone shown =
+    let within = (offset-within zone second).0 in
+    let from : neg_ℤ (pos 172800) ≤ℤ local_second zone second = omega (arith, signed_arith, within) in
+    (year_from local.date (day_from (local_second zone second) (epoch_day local.date) from shown.day), omega (arith, signed_arith, civil local.date))

@@ -26,7 +26,7 @@ pub(crate) fn mail(
     at: Moment,
     settings: &Settings,
 ) -> Result<Request, RequestFault>
-    requires { Shows at.local (local_second at.second settings.now.offset) }
+    requires { Shows at.local (local_second settings.now.zone at.second) }
     ensures { AnswersUnlessMemory result (Ok (spec.mail settings.now user at system grade rests message.now)) }
 {
     let envelope = with_envelope(alloc, &user, &at, settings, message);
@@ -67,7 +67,7 @@ fn with_envelope(
     settings: &Settings,
     message: &[u8],
 ) -> Result<Vec<u8>, NameFault>
-    requires { Shows at.now.local (local_second at.now.second settings.now.offset) }
+    requires { Shows at.now.local (local_second settings.now.zone at.now.second) }
     ensures { IfOk result (λ bytes. bytes.items ≡ envelope_of user.now at.now.local settings.now.name message.now) }
 {
     envelope(alloc, user, &at.local, &settings.name, message)

@@ -69,7 +69,7 @@ pub fn request_of(
     at: Moment,
     input: &[u8],
 ) -> Result<Request, RequestFault>
-    requires { Shows at.local (local_second at.second settings.now.offset) }
+    requires { Shows at.local (local_second settings.now.zone at.second) }
     ensures { AnswersUnlessMemory result (spec.request_of settings.now at input.now line) }
 {
     if line.task.has_input() && input.len() > MAX_TEXT {
@@ -94,7 +94,7 @@ fn task_request(
     at: Moment,
     input: &[u8],
 ) -> Result<Request, RequestFault>
-    requires clock { Shows at.local (local_second at.second settings.now.offset) }
+    requires clock { Shows at.local (local_second settings.now.zone at.second) }
     requires fits { IsTrue (takes_input task) → length input.now ≤ most_text }
     ensures { AnswersUnlessMemory result (spec.task_request settings.now at input.now user task) }
 {

@@ -18,6 +18,7 @@ fault_code Memory = 4
 abbrev pub key_name : Key → List ℕ
 key_name key.Name = codes "name"
 key_name key.Offset = codes "offset"
+key_name key.Zone = codes "zone"
 key_name key.Spool = codes "spool"
 key_name key.Admins = codes "admins"
 

@@ -1,6 +1,6 @@
 -- The minutes that a site's clock may be ahead of UTC: less than a day, either way. The limit is this project's choice.
 use Rattle.std.specs.Prelude.{ℤ, pos, neg_ℤ, ◌≤ℤ◌, Bool, ◌&&◌, int_le}
-use Rattle.uu_times.specs.Moment.{most_offset}
+use Rattle.uu_times.specs.Zone.{most_offset}
 
 abbrev pub IsOffset : ℤ → Type 0
 IsOffset offset = (neg_ℤ (pos most_offset) ≤ℤ offset) × (offset ≤ℤ pos most_offset)

@@ -1,9 +1,11 @@
 -- What a TOML document (TOML 1.1) sets for a site. The keys, their order and their limits are this project's choice.
-use Rattle.std.specs.Prelude.{◌≡◌, ℕ, ℤ, pos, not, ◌==◌, length, Bool, List, [], ◌∷◌, Option, Some, None, Result, Ok, Err, ⊤, if◌then◌else◌, ok_or, option_map, option_and_then, string_bytes}
+use Rattle.std.specs.Prelude.{◌≡◌, ℕ, pos, not, ◌==◌, length, Bool, List, [], ◌∷◌, Option, Some, None, Result, Ok, Err, ⊤, if◌then◌else◌, ok_or, option_map, option_and_then, string_bytes}
 use Rattle.std.specs.Result.{result_ok}
 use Rattle.toml.specs.Data.{Data, Items, Members, no_items, item, as_str, as_integer, as_array, get_member}
 use Rattle.toml.specs.Parse.{parse_document}
 use Rattle.uu_names.specs.Name.{site_name_of, word_of}
+use Rattle.uu_times.specs.Zone.{TzText, always, zone_of}
+use Rattle.uu_times.specs.Zone as clocks
 use Rattle.uu_settings.specs.Fault.{key_name}
 use Rattle.uu_settings.specs.Offsets.{is_offset}
 use Rattle.uu_settings.specs.declared.fault.Key.{Key}
@@ -15,8 +17,8 @@ use Rattle.uu_settings.specs.declared.settings.Settings.{Settings}
 -- what is set for a site
 pub record Site : Type 0 where
   pub name : List ℕ
-  -- minutes that local time is ahead of UTC
-  pub offset : ℤ
+  -- the rule of its clock
+  pub zone : TzText
   -- the path of the spool's file
   pub spool : List ℕ
   -- the users who may change jobs of others
@@ -32,9 +34,13 @@ where_it passes value = if passes value then Some value else None
 abbrev pub name_in : Data → Option (List ℕ)
 name_in value = option_and_then (λ text. result_ok (site_name_of text)) (as_str value)
 
--- a whole number of minutes
-abbrev pub offset_in : Data → Option ℤ
-offset_in value = option_and_then (where_it is_offset) (as_integer value)
+-- a whole number of minutes that a clock is always ahead of UTC
+abbrev pub offset_in : Data → Option TzText
+offset_in value = option_map always (option_and_then (where_it is_offset) (as_integer value))
+
+-- a text that is the rule of a clock
+abbrev pub zone_in : Data → Option TzText
+zone_in value = option_and_then zone_of (as_str value)
 
 -- a text of one byte or more
 abbrev pub spool_in : Data → Option (List ℕ)
@@ -76,16 +82,31 @@ abbrev pub and_then : {V W : Type 0} → Result V SettingsFault → (V → Resul
 and_then (Ok value) next = next value
 and_then (Err fault) next = Err fault
 
+-- the clock by its minutes, where these are said
+abbrev pub offset : Members → Result (Option TzText) SettingsFault
+offset document = optional key.Offset (λ value. option_map Some (offset_in value)) None document
+
+-- the clock: by its minutes or by a rule and not by both, and UTC where neither is said
+abbrev pub clock_as : Option TzText → Option Data → Result TzText SettingsFault
+clock_as None None = Ok (always (pos 0))
+clock_as (Some minutes) None = Ok minutes
+clock_as None (Some value) = ok_or (zone_in value) (BadValue key.Zone)
+clock_as (Some minutes) (Some value) = Err (BadValue key.Zone)
+
+abbrev pub clock : Option TzText → Members → Result TzText SettingsFault
+clock minutes document = clock_as minutes (get_member (key_name key.Zone) document)
+
 -- ---- settings
 
 -- what a document sets; other keys are passed over
 abbrev pub site_in : Members → Result Site SettingsFault
 site_in document =
     and_then (required key.Name name_in document) (λ name.
-    and_then (optional key.Offset offset_in (pos 0) document) (λ offset.
+    and_then (offset document) (λ minutes.
+    and_then (clock minutes document) (λ zone.
     and_then (required key.Spool spool_in document) (λ spool.
     and_then (optional key.Admins admins_in [] document) (λ admins.
-    Ok (record { name = name; offset = offset; spool = spool; admins = admins })))))
+    Ok (record { name = name; zone = zone; spool = spool; admins = admins }))))))
 
 -- what a text sets
 abbrev pub site_of : List ℕ → Result Site SettingsFault
@@ -95,7 +116,7 @@ site_of text = and_then (ok_or (parse_document text) NotToml) site_in
 abbrev pub said : Settings → Site
 said settings = record {
   name = settings.name;
-  offset = settings.offset;
+  zone = clocks.said settings.zone;
   spool = string_bytes settings.spool;
   admins = settings.admins.items;
 }

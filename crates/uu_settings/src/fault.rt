@@ -13,6 +13,8 @@ pub enum Key {
     Name,
     /// `offset`: the minutes that local time is ahead of UTC, a whole number from -1439 to 1439.
     Offset,
+    /// `zone`: the POSIX rule of the site's clock, a text, in place of `offset`.
+    Zone,
     /// `spool`: the path of the spool's file, a text of one byte or more.
     Spool,
     /// `admins`: the users who may change jobs of others, an array of words.
@@ -27,6 +29,7 @@ impl Key {
         match self {
             Key::Name => "name",
             Key::Offset => "offset",
+            Key::Zone => "zone",
             Key::Spool => "spool",
             Key::Admins => "admins",
         }

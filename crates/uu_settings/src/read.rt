@@ -5,19 +5,20 @@ ghost use Rattle.uu_settings.specs.Settings as spec;
 
 use crate::fault::SettingsFault;
 use crate::settings::Settings;
-use crate::values::{admins_of, name_of, offset_of, spool_of};
+use crate::values::{admins_of, name_of, offset_of, spool_of, zone_of};
 use std::alloc::Global;
 use toml::Table;
 
 impl Settings {
     /// Reads settings from a TOML document (TOML 1.1). The keys `name`, a site name, and `spool`, a text of one byte or
-    /// more, have to be there. `offset`, a whole number of minutes from -1439 to 1439, is 0 where it is absent, and
-    /// `admins`, an array of words, is empty. Other keys are passed over.
+    /// more, have to be there. `offset`, a whole number of minutes from -1439 to 1439, or `zone`, the text of a POSIX rule, says
+    /// the clock, which is UTC where both are absent; `admins`, an array of words, is empty where it is. Other keys are passed
+    /// over.
     ///
     /// # Errors
     /// `NotToml` where the text is no TOML document. Else the first fault of the keys in the order `name`, `offset`,
-    /// `spool`, `admins`: `Missing` where a key that has to be there isn't, `BadValue` where a key has another value. Else
-    /// `Memory`.
+    /// `zone`, `spool`, `admins`: `Missing` where a key that has to be there isn't, `BadValue` where a key has another value,
+    /// and of `zone` where `offset` is there too. Else `Memory`.
     pub fn read(alloc: Global, text: &str) -> Result<Settings, SettingsFault>
         ensures { IsAnswerTo text.now result }
     {
@@ -35,12 +36,13 @@ fn settings_in(alloc: Global, document: &Table) -> Result<Settings, SettingsFaul
     ensures { AnswersAs said result (spec.site_in (table_view document.now)) }
 {
     let name = name_of(alloc, document)?;
-    let offset = offset_of(document)?;
+    let minutes = offset_of(document)?;
+    let zone = zone_of(document, minutes)?;
     let spool = spool_of(alloc, document)?;
     let admins = admins_of(alloc, document)?;
     Ok(Settings {
         name,
-        offset,
+        zone,
         spool,
         admins,
     })

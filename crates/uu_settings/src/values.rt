@@ -1,7 +1,8 @@
 //! The values of the keys of a document.
-ghost use Rattle.std.specs.Prelude.{◌≡◌, IfOk, pos, [], option_map, ok_or, string_bytes};
+ghost use Rattle.std.specs.Prelude.{◌≡◌, [], option_map, ok_or, string_bytes};
 ghost use Rattle.toml.specs.Data.{get_member};
 ghost use Rattle.toml.specs.View.{view, table_view, items_view};
+ghost use Rattle.uu_times.specs.Zone.{always, said};
 ghost use Rattle.uu_settings.specs.Fault.{key_name, value_fault};
 ghost use Rattle.uu_settings.specs.Settings.{AnswersAs};
 ghost use Rattle.uu_settings.specs.Offsets.{IsOffset};
@@ -11,7 +12,8 @@ use crate::fault::{Key, SettingsFault};
 use std::alloc::Global;
 use toml::{Table, Value};
 use uu_names::{NameFault, SiteName, Word};
-use uu_times::moment::OFFSET_LIMIT;
+use uu_times::Zone;
+use uu_times::zone::OFFSET_LIMIT;
 
 const MOST_MINUTES: i64 = OFFSET_LIMIT as i64;
 
@@ -25,14 +27,28 @@ pub(crate) fn name_of(alloc: Global, document: &Table) -> Result<SiteName, Setti
     }
 }
 
-/// The minutes that local time is ahead of UTC.
-pub(crate) fn offset_of(document: &Table) -> Result<i32, SettingsFault>
-    ensures offset { AnswersAs (λ offset. offset) result (spec.optional Key.Offset spec.offset_in (pos 0) (table_view document.now)) }
-    ensures in_range { IfOk result (λ offset. IsOffset offset) }
+/// The clock by the minutes that it is ahead of UTC, where these are said.
+pub(crate) fn offset_of(document: &Table) -> Result<Option<Zone>, SettingsFault>
+    ensures { AnswersAs (λ minutes. option_map said minutes) result (spec.offset (table_view document.now)) }
 {
     match value_of(document, Key::Offset) {
-        Some(value) => offset_in(value),
-        None => Ok(0),
+        Some(value) => match offset_in(value) {
+            Ok(zone) => Ok(Some(zone)),
+            Err(fault) => Err(fault),
+        },
+        None => Ok(None),
+    }
+}
+
+/// The clock: by its minutes or by a rule, and UTC where neither is said.
+pub(crate) fn zone_of(document: &Table, minutes: Option<Zone>) -> Result<Zone, SettingsFault>
+    ensures { AnswersAs said result (spec.clock (option_map said minutes) (table_view document.now)) }
+{
+    match (minutes, value_of(document, Key::Zone)) {
+        (None, None) => Ok(fixed(0)),
+        (Some(zone), None) => Ok(zone),
+        (None, Some(value)) => zone_in(value),
+        (Some(_), Some(_)) => Err(SettingsFault::BadValue(Key::Zone)),
     }
 }
 
@@ -77,13 +93,35 @@ fn name_in(alloc: Global, value: &Value) -> Result<SiteName, SettingsFault>
 }
 
 // The value as minutes.
-fn offset_in(value: &Value) -> Result<i32, SettingsFault>
-    ensures offset { AnswersAs (λ offset. offset) result (ok_or (spec.offset_in (view value.now)) (SettingsFault.BadValue Key.Offset)) }
-    ensures in_range { IfOk result (λ offset. IsOffset offset) }
+fn offset_in(value: &Value) -> Result<Zone, SettingsFault>
+    ensures { AnswersAs said result (ok_or (spec.offset_in (view value.now)) (SettingsFault.BadValue Key.Offset)) }
 {
     match value.as_integer() {
-        Some(minutes) if -MOST_MINUTES <= minutes && minutes <= MOST_MINUTES => Ok(minutes as i32),
+        Some(minutes) if -MOST_MINUTES <= minutes && minutes <= MOST_MINUTES => Ok(fixed(
+            minutes as i32,
+        )),
         _ => Err(SettingsFault::BadValue(Key::Offset)),
+    }
+}
+
+// The clock that is always so many minutes ahead of UTC.
+fn fixed(minutes: i32) -> Zone
+    requires { IsOffset minutes }
+    ensures { said result ≡ always minutes }
+{
+    Zone::fixed(minutes).unwrap()
+}
+
+// The value as a rule.
+fn zone_in(value: &Value) -> Result<Zone, SettingsFault>
+    ensures { AnswersAs said result (ok_or (spec.zone_in (view value.now)) (SettingsFault.BadValue Key.Zone)) }
+{
+    let Some(text) = value.as_str() else {
+        return Err(SettingsFault::BadValue(Key::Zone));
+    };
+    match Zone::posix(text) {
+        Ok(zone) => Ok(zone),
+        Err(_) => Err(SettingsFault::BadValue(Key::Zone)),
     }
 }
 

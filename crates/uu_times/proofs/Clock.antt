@@ -13,9 +13,9 @@ day_time (pos d) (negsuc s) nanos below same = absurd (omega (arith, ints))
 day_time (negsuc d) (pos s) nanos below same = absurd (omega (arith, ints))
 day_time (negsuc d) (negsuc s) nanos below same = (omega (arith, ints), omega (arith, ints))
 
--- the minute of the week, where seconds are counted from a day sooner on
-pub week_later : (shown : ℤ) (later : ℕ) → shown +ℤ pos 86400 ≡ pos later → pos ((later / 60 + 4320) % 10080) ≡ week_minute shown
+-- the minute of the week, where seconds are counted from two days sooner on
+pub week_later : (shown : ℤ) (later : ℕ) → shown +ℤ pos 172800 ≡ pos later → pos ((later / 60 + 2880) % 10080) ≡ week_minute shown
 week_later (pos s) later same =
-    sym (int_rem_euclid_is (int_div_euclid (pos s) (pos 60) +ℤ pos 5760) (pos 10080) 10080 0 (later / 60 + 4320) (lit< tt) refl (omega (arith, ints)))
+    sym (int_rem_euclid_is (int_div_euclid (pos s) (pos 60) +ℤ pos 5760) (pos 10080) 10080 0 (later / 60 + 2880) (lit< tt) refl (omega (arith, ints)))
 week_later (negsuc s) later same =
-    sym (int_rem_euclid_is (int_div_euclid (negsuc s) (pos 60) +ℤ pos 5760) (pos 10080) 10080 0 (later / 60 + 4320) (lit< tt) refl (omega (arith, ints)))
+    sym (int_rem_euclid_is (int_div_euclid (negsuc s) (pos 60) +ℤ pos 5760) (pos 10080) 10080 0 (later / 60 + 2880) (lit< tt) refl (omega (arith, ints)))

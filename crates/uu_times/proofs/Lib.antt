@@ -15,3 +15,4 @@ pub mod TableLemmas
 pub mod TimeFronts
 pub mod UnionLemmas
 pub mod WordLemmas
+pub mod ZoneLemmas

@@ -6,7 +6,7 @@ use Rattle.std.specs.List.{list_any}
 use Rattle.std.specs.Str.{bytes_eq}
 use Rattle.uu_times.specs.declared.days.Simple.{Simple}
 use Rattle.uu_times.specs.declared.fault.TimeFault.{TimeFault}
-use Rattle.uu_times.specs.declared.fault.TimeFault.TheVariants.{MomentRange, OffsetRange, BadTime, UnknownTable, TableTwice, BadNumber, BadSystem, TooManyLines, SystemTwice, BadWords, Memory}
+use Rattle.uu_times.specs.declared.fault.TimeFault.TheVariants.{MomentRange, OffsetRange, BadTime, UnknownTable, TableTwice, BadNumber, BadSystem, TooManyLines, SystemTwice, BadWords, Memory, BadZone}
 use Rattle.uu_times.specs.Days.{any_has}
 use Rattle.uu_times.specs.Fault.{AnswersUnlessMemory, UnlessMemory}
 use Rattle.uu_times.specs.Grammar.{Spelling, simple_of, has_spelled, lower}
@@ -101,6 +101,7 @@ answer-means tables text (Err (TooManyLines line)) expected means same = subst (
 answer-means tables text (Err (SystemTwice line)) expected means same = subst (Means tables text) (sym same) means
 answer-means tables text (Err (BadWords line)) expected means same = subst (Means tables text) (sym same) means
 answer-means tables text (Err Memory) expected means same = tt
+answer-means tables text (Err BadZone) expected means same = subst (Means tables text) (sym same) means
 
 pub string-of : (tables : Tables) (text : List ℕ) (answer : Result (List (ℕ × ℕ)) TimeFault) → MeansUnlessMemory tables text answer → IfOk answer (IsTimeString tables text)
 string-of tables text (Ok windows) means = means

@@ -2,7 +2,7 @@
 use Rattle.std.proofs.Common.{◌≡◌, ℕ, Bool, true, false, cond, Option, None, Some, Result, Ok, Err, IfErr, List, [], refl, sym, subst}
 use Rattle.uu_times.specs.declared.days.Simple.{Simple}
 use Rattle.uu_times.specs.declared.fault.TimeFault.{TimeFault}
-use Rattle.uu_times.specs.declared.fault.TimeFault.TheVariants.{MomentRange, OffsetRange, BadTime, UnknownTable, TableTwice, BadNumber, BadSystem, TooManyLines, SystemTwice, BadWords, Memory}
+use Rattle.uu_times.specs.declared.fault.TimeFault.TheVariants.{MomentRange, OffsetRange, BadTime, UnknownTable, TableTwice, BadNumber, BadSystem, TooManyLines, SystemTwice, BadWords, Memory, BadZone}
 use Rattle.uu_times.specs.Days.{any_has}
 use Rattle.uu_times.specs.Fault.{AnswersUnlessMemory}
 use Rattle.uu_times.specs.Grammar.{IsLongestFront}
@@ -48,3 +48,4 @@ answer-tells tables line text (Err (TooManyLines number)) same = tt
 answer-tells tables line text (Err (SystemTwice number)) same = tt
 answer-tells tables line text (Err (BadWords number)) same = tt
 answer-tells tables line text (Err Memory) same = tt
+answer-tells tables line text (Err BadZone) same = tt

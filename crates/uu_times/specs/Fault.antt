@@ -1,7 +1,7 @@
 -- The numbers of the faults (this project's choice).
 use Rattle.std.specs.Prelude.{◌≡◌, ℕ, Result, Err, ⊤}
 use Rattle.uu_times.specs.declared.fault.TimeFault.{TimeFault}
-use Rattle.uu_times.specs.declared.fault.TimeFault.TheVariants.{MomentRange, OffsetRange, BadTime, UnknownTable, TableTwice, BadNumber, BadSystem, TooManyLines, SystemTwice, BadWords, Memory}
+use Rattle.uu_times.specs.declared.fault.TimeFault.TheVariants.{MomentRange, OffsetRange, BadTime, UnknownTable, TableTwice, BadNumber, BadSystem, TooManyLines, SystemTwice, BadWords, Memory, BadZone}
 
 abbrev pub code_of : TimeFault → ℕ
 code_of MomentRange = 1
@@ -15,6 +15,7 @@ code_of (TooManyLines line) = 8
 code_of (SystemTwice line) = 9
 code_of (BadWords line) = 10
 code_of Memory = 11
+code_of BadZone = 12
 
 -- the answer is the expected one, or want of memory took its place
 abbrev pub AnswersUnlessMemory : {V : Type 0} → Result V TimeFault → Result V TimeFault → Type 0

@@ -10,3 +10,4 @@ pub mod Ranges
 pub mod SysFile
 pub mod System
 pub mod Tables
+pub mod Zone

@@ -1,28 +1,22 @@
 -- Local time and the minute of the local week. Division goes towards minus infinity.
-use Rattle.std.specs.Prelude.{◌≡◌, ◌⊎◌, ℕ, ◌<◌, ℤ, pos, neg_ℤ, ◌+ℤ◌, ◌*ℤ◌, ◌<ℤ◌}
+use Rattle.std.specs.Prelude.{◌≡◌, ℕ, ◌<◌, ℤ, pos, ◌+ℤ◌, ◌*ℤ◌}
 use Rattle.std.specs.Int.{int_div_euclid, int_rem_euclid}
 use Rattle.jiff_core.specs.Date.{epoch_day}
 use Rattle.jiff_core.specs.Time.{time_nanos}
 use Rattle.jiff_core.specs.declared.civil.datetime.DateTime.{DateTime}
+use Rattle.uu_times.specs.Zone.{offset_at}
+use Rattle.uu_times.specs.declared.zone.Zone.{Zone}
 
 -- the last second of a moment: the first one of the year 2100 (this project's choice)
 abbrev pub last_second : ℕ
 last_second = 4102444800
 
--- the most minutes between a clock and UTC: a day less a minute
-abbrev pub most_offset : ℕ
-most_offset = 1439
-
 abbrev pub IsPast : ℕ → Type 0
 IsPast second = last_second < second
 
--- a day or more from UTC, in minutes
-abbrev pub IsFarOff : ℤ → Type 0
-IsFarOff offset = (offset <ℤ neg_ℤ (pos most_offset)) ⊎ (pos most_offset <ℤ offset)
-
--- the second that a clock shows which is so many minutes ahead of UTC
-abbrev pub local_second : ℕ → ℤ → ℤ
-local_second second offset = pos second +ℤ (pos 60 *ℤ offset)
+-- the second that a zone's clock shows at a UTC second
+abbrev pub local_second : Zone → ℕ → ℤ
+local_second zone second = pos second +ℤ offset_at zone second
 
 -- the minute of the week, from Sunday 00:00 on: 1970-01-01 was a Thursday, the fifth day
 abbrev pub week_minute : ℤ → ℤ

@@ -1,11 +1,11 @@
-//! What can be wrong with a moment, a time string or a sys file.
+//! What can be wrong with a zone, a moment, a time string or a sys file.
 ghost use Rattle.std.specs.Prelude.{◌≡◌};
 ghost use Rattle.uu_times.specs.Fault.{code_of};
 
 use std::alloc::{AllocError, AllocFailed};
 use thiserror::Error;
 
-/// A fault of a moment, of a time string or of a sys file.
+/// A fault of a zone, of a moment, of a time string or of a sys file.
 ///
 /// Lines count physical lines from 1, and are 0 where a time string was read by itself. An
 /// offset counts bytes of the time string from 0.
@@ -44,6 +44,9 @@ pub enum TimeFault {
     /// Memory ran out.
     #[error("out of memory")]
     Memory,
+    /// A text that is no POSIX rule of a zone.
+    #[error("bad zone")]
+    BadZone,
 }
 
 impl TimeFault {
@@ -63,6 +66,7 @@ impl TimeFault {
             TimeFault::SystemTwice(_) => 9,
             TimeFault::BadWords(_) => 10,
             TimeFault::Memory => 11,
+            TimeFault::BadZone => 12,
         }
     }
 }

@@ -7,7 +7,10 @@ ghost use Rattle.uu_times.specs.Ranges.{holds, AreRuns, maximal_runs};
 ghost use Rattle.uu_times.specs.Internal.Scan.{list_of};
 ghost use Rattle.uu_times.specs.SysFile.{known, windows_named};
 ghost use Rattle.uu_times.specs.Tables.{Tables, is_table_name, table_at, predefined_strings, predefined_tables, time_of, IsReadAs, IsTimeString};
+ghost use Rattle.jiff_core.specs.Timestamp.{IsOffsetSeconds};
+ghost use Rattle.uu_times.specs.Zone.{offset_at, said};
 ghost use Rattle.uu_times.specs.declared.days.Simple.{Simple};
+ghost use Rattle.uu_times.specs.declared.zone.Zone.{Zone};
 ghost use Rattle.uu_times.specs.declared.directive.Directive.{Directive};
 
 /// A set of week minutes is the union of its maximal runs, which are in order and apart; and a list that
@@ -44,4 +47,10 @@ pub fn the_last_timetable_counts()
 /// The string of each timetable that is there from the start is a list of simple strings, and its name stands for their minutes.
 pub fn predefined_tables_are_read()
     ensures { All (IsReadAs predefined_tables) predefined_strings }
+{}
+
+/// What a zone says tells its clock, and no clock is 26 hours or more from UTC.
+pub fn zones_are_what_they_say()
+    ensures same { (a b : Zone) → said a ≡ said b → (second : ℕ) → offset_at a second ≡ offset_at b second }
+    ensures within { (zone : Zone) (second : ℕ) → IsOffsetSeconds (offset_at zone second) }
 {}

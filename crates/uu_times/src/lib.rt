@@ -1,4 +1,4 @@
-//! Moments, time strings, timetables and sys files of a UUCP site.
+//! Zones, moments, time strings, timetables and sys files of a UUCP site.
 #![tactic(auto)]
 
 mod days;
@@ -14,6 +14,7 @@ pub mod system;
 pub mod timetable;
 mod union;
 pub mod windows;
+pub mod zone;
 
 pub use fault::TimeFault;
 pub use moment::Moment;
@@ -21,3 +22,4 @@ pub use sys_file::read_sys;
 pub use system::{Line, SysFile, SystemDef};
 pub use timetable::{Timetables, read_time};
 pub use windows::Windows;
+pub use zone::Zone;

@@ -51,6 +51,9 @@ no_memory_for_a_name = (refl, refl, refl)
 pub offset_range : IsTold (fault.Time time.OffsetRange) (codes "uuspool: time: OffsetRange") 2 4
 offset_range = (refl, refl, refl)
 
+pub bad_zone : IsTold (fault.Time time.BadZone) (codes "uuspool: time: BadZone") 2 4
+bad_zone = (refl, refl, refl)
+
 pub bad_time_in_no_line : IsTold (fault.Time (time.BadTime 0 3)) (codes "uuspool: time: BadTime") 2 4
 bad_time_in_no_line = (refl, refl, refl)
 

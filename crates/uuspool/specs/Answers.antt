@@ -1,6 +1,7 @@
 -- What is printed of the answer to a question on a state, and the status. All of it is this project's choice.
-use Rattle.std.specs.Prelude.{◌≡◌, ℕ, ℤ, Option, Some, None, List, [], ◌∷◌, ◌++◌, codes, map}
+use Rattle.std.specs.Prelude.{◌≡◌, ℕ, Option, Some, None, List, [], ◌∷◌, ◌++◌, codes, map}
 use Rattle.std.specs.List.{flat_map}
+use Rattle.uu_times.specs.declared.zone.Zone.{Zone}
 use Rattle.uu_map.specs.Entry.{IsEntry}
 use Rattle.uu_map.specs.declared.entry.Entry.{Entry}
 use Rattle.uu_core.specs.State.{State, Job, MapEntry, head_of, job_at, entry_at}
@@ -19,10 +20,10 @@ abbrev pub no_entry : List ℕ
 no_entry = codes "no entry" ++ 10 ∷ []
 
 -- a job is shown by its line and then its bytes as they are, where there is one
-abbrev pub IsShown : ℤ → Option Job → List ℕ → ℕ → Type 0
-IsShown offset None output status = (output ≡ no_job) × (status ≡ 1)
-IsShown offset (Some job) output status =
-    (line : List ℕ) × IsJobLine offset (head_of job) line × (output ≡ line ++ job.bytes) × (status ≡ 0)
+abbrev pub IsShown : Zone → Option Job → List ℕ → ℕ → Type 0
+IsShown zone None output status = (output ≡ no_job) × (status ≡ 1)
+IsShown zone (Some job) output status =
+    (line : List ℕ) × IsJobLine zone (head_of job) line × (output ≡ line ++ job.bytes) × (status ≡ 0)
 
 -- a map entry is shown by its links, where there is one
 abbrev pub IsEntryShown : Option MapEntry → List ℕ → ℕ → Type 0
@@ -31,9 +32,9 @@ IsEntryShown (Some kept) output status = (entry : Entry) × IsEntry kept.bytes e
 
 -- what is printed of the answer, and the status
 abbrev pub IsAnswer : Settings → State → Question → List ℕ → ℕ → Type 0
-IsAnswer settings s (question.Jobs filter) output status = IsJobsReport settings.offset (listed filter s) output × (status ≡ 0)
-IsAnswer settings s (question.Job number) output status = IsShown settings.offset (job_at s number) output status
+IsAnswer settings s (question.Jobs filter) output status = IsJobsReport settings.zone (listed filter s) output × (status ≡ 0)
+IsAnswer settings s (question.Job number) output status = IsShown settings.zone (job_at s number) output status
 IsAnswer settings s (question.Due at) output status =
     (dues : List Due) × AreDue s.systems (map head_of s.jobs) at dues × (output ≡ flat_map due_text dues) × (status ≡ 0)
-IsAnswer settings s question.Systems output status = IsStatusReport settings.offset s.systems output × (status ≡ 0)
+IsAnswer settings s question.Systems output status = IsStatusReport settings.zone s.systems output × (status ≡ 0)
 IsAnswer settings s (question.Entry host) output status = IsEntryShown (entry_at s host) output status

@@ -97,6 +97,7 @@ fault_place (time.TooManyLines line) = line
 fault_place (time.SystemTwice line) = line
 fault_place (time.BadWords line) = line
 fault_place time.Memory = 0
+fault_place time.BadZone = 0
 
 abbrev pub time_name : TimeFault → List ℕ
 time_name time.MomentRange = codes "MomentRange"
@@ -110,6 +111,7 @@ time_name (time.TooManyLines line) = codes "TooManyLines"
 time_name (time.SystemTwice line) = codes "SystemTwice"
 time_name (time.BadWords line) = codes "BadWords"
 time_name time.Memory = codes "Memory"
+time_name time.BadZone = codes "BadZone"
 
 -- a name of a fault with the line of the text where it stands, if it stands in one
 abbrev pub placed : ℕ → List ℕ → List ℕ

@@ -41,8 +41,8 @@ second_of line now = unwrap_or line.at now
 -- the moment of a second on the site's clock
 pub record IsMomentOf (settings : Settings) (instant : ℕ) (at : Moment) : Type 0 where
   pub second : at.second ≡ instant
-  pub week : pos at.week ≡ week_minute (local_second instant settings.offset)
-  pub local : Shows at.local (local_second instant settings.offset)
+  pub week : pos at.week ≡ week_minute (local_second settings.zone instant)
+  pub local : Shows at.local (local_second settings.zone instant)
 
 -- what the words ask, with this input, at the second `now` where they give none, or why they ask nothing
 pub record Ask (settings : Settings) (words : List (List ℕ)) (now : ℕ) (input : List ℕ) (asked : Result Request RequestFault) : Type 0 where

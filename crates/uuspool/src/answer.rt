@@ -88,9 +88,9 @@ fn job_text(
     settings: &Settings,
 ) -> Result<Vec<u8>, AllocError>
     requires { head.now.queued ≤ LAST_SECOND }
-    ensures { IfOk result (λ text. (line : _) × IsJobLine settings.now.offset head.now line × (text.items ≡ line ++ bytes.now)) }
+    ensures { IfOk result (λ text. (line : _) × IsJobLine settings.now.zone head.now line × (text.items ≡ line ++ bytes.now)) }
 {
-    let line = job_line(alloc, head, settings.offset)?;
+    let line = job_line(alloc, head, &settings.zone)?;
     let mut text = line.into_bytes();
     text.extend_from_slice(bytes)?;
     Ok(text)

@@ -274,7 +274,8 @@ fn place_of(fault: TimeFault) -> u32
     ensures { result ≡ fault_place fault }
 {
     match fault {
-        TimeFault::MomentRange | TimeFault::OffsetRange | TimeFault::Memory => 0,
+        TimeFault::MomentRange | TimeFault::OffsetRange | TimeFault::Memory | TimeFault::BadZone =>
+            0,
         TimeFault::BadTime(line, _)
         | TimeFault::UnknownTable(line)
         | TimeFault::TableTwice(line)
@@ -301,5 +302,6 @@ fn time_name(fault: TimeFault) -> &'static str
         TimeFault::SystemTwice(_) => "SystemTwice",
         TimeFault::BadWords(_) => "BadWords",
         TimeFault::Memory => "Memory",
+        TimeFault::BadZone => "BadZone",
     }
 }

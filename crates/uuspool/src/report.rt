@@ -14,13 +14,13 @@ use uu_times::moment::LAST_SECOND;
 
 /// The report of these jobs, in their order, a line for each:
 /// `NUMBER SYSTEM USER GRADE MOMENT SIZE KIND WORDS`, the moment as `yyyy-mm-dd hh:mm:ss` at the
-/// settings' offset. The only error is `Memory`.
+/// settings' zone. The only error is `Memory`.
 pub fn report_jobs(alloc: Global, jobs: &[JobHead], settings: &Settings) -> Result<Vec<u8>, Fault>
     requires { All (λ job. job.queued ≤ LAST_SECOND) jobs.now }
-    ensures lines { IfOk result (λ report. IsJobsReport settings.now.offset jobs.now report.items) }
+    ensures lines { IfOk result (λ report. IsJobsReport settings.now.zone jobs.now report.items) }
     ensures memory { IfErr result (λ fault. fault ≡ Fault.Memory) }
 {
-    Ok(jobs_report(alloc, jobs, settings.offset)?)
+    Ok(jobs_report(alloc, jobs, &settings.zone)?)
 }
 
 /// The report of what is due, in the order handed in, a line for each system: `SYSTEM GRADE NUMBER`. The only error is
@@ -40,10 +40,10 @@ pub fn report_status(
     settings: &Settings,
 ) -> Result<Vec<u8>, Fault>
     requires { All (λ row. row.call.last ≤ LAST_SECOND) systems.now }
-    ensures lines { IfOk result (λ report. IsStatusReport settings.now.offset systems.now report.items) }
+    ensures lines { IfOk result (λ report. IsStatusReport settings.now.zone systems.now report.items) }
     ensures memory { IfErr result (λ fault. fault ≡ Fault.Memory) }
 {
-    Ok(status_report(alloc, systems, settings.offset)?)
+    Ok(status_report(alloc, systems, &settings.zone)?)
 }
 
 /// The report of a map entry: `NAME COST` or `NAME dead` for each link, then `= ALIAS` for each alias, then

@@ -1,5 +1,4 @@
-use Rattle.std.proofs.Common.{FitsSigned, w32, ◌≡◌, ◌++◌, ◌∷◌, [], ◌∙◌, ap, refl}
-use Rattle.std.proofs.Math.Facts.{to_z-of_z}
+use Rattle.std.proofs.Common.{◌≡◌, ◌++◌, ◌∷◌, [], ◌∙◌, ap, refl}
 use Rattle.std.specs.Fmt.{decimal}
 use Rattle.std.specs.String.{string_bytes}
 use Rattle.uu_report.specs.Reports.{grade_text, work_text, job_text}
@@ -8,8 +7,7 @@ use Rattle.uu_report.proofs.jobs.append_job.Goals as goal
 
 pub returns : goal.returns
 returns c =
-    let offset : FitsSigned w32 c.args.offset = c.ranges.offset in
-    let told = simp to_z-of_z at c.in_ok-moment.ensures in
+    let told = c.in_ok-moment.ensures in
     let moment = string_bytes c.in_ok-moment.moment in
     let job = c.args.job.now in
     let start = string_bytes c.args.text.now in

@@ -1,9 +1,7 @@
-use Rattle.std.proofs.Common.{FitsSigned, w32, ◌++◌, ◌∙◌, ap}
-use Rattle.std.proofs.Math.Facts.{to_z-of_z}
+use Rattle.std.proofs.Common.{◌++◌, ◌∙◌, ap}
 use Rattle.uu_report.proofs.jobs.job_line.Goals as goal
 
 pub returns : goal.returns
 returns c =
-    let offset : FitsSigned w32 c.args.offset = c.ranges.offset in
-    let it = simp to_z-of_z at c.in_ok-append_job.ensures in
+    let it = c.in_ok-append_job.ensures in
     (it.1.0, it.1.1, it.2 ∙ ap (λ t. t ++ it.0) c.new-line.ensures.bytes ∙ it.1.2)

@@ -17,12 +17,12 @@ returns-in-Ok-Some g c =
     let size : c.in-Ok-Some.head.size ≡ length c.in-Ok-Some.bytes.items = rw c.in-Ok-Some.field-0-is at c.in-Ok-Some.ensures.size in (
       found.1,
       printed c.print.result c.job_text-text.result 0 written
-          (λ output. (line : List ℕ) × IsJobLine c.args.settings.now.offset c.in-Ok-Some.head line × (output ≡ line ++ c.deref.result.now))
+          (λ output. (line : List ℕ) × IsJobLine c.args.settings.now.zone c.in-Ok-Some.head line × (output ≡ line ++ c.deref.result.now))
           (IsAnswer c.args.settings.now s (question.Job c.args.number))
-          (λ output is. subst (λ job. IsShown c.args.settings.now.offset job output 0)
+          (λ output is. subst (λ job. IsShown c.args.settings.now.zone job output 0)
           (ap (λ bytes. Some (job_with c.in-Ok-Some.head bytes)) c.deref.ensures.value ∙ sym (ap (option_map job_shown) c.in-Ok-Some.field-0-is) ∙ found.0) (
             is.0,
-            subst (λ head. IsJobLine c.args.settings.now.offset head is.0)
+            subst (λ head. IsJobLine c.args.settings.now.zone head is.0)
                 (shown_head c.in-Ok-Some.head c.deref.result.now (size ∙ ap length (sym c.deref.ensures.value))) is.1,
             is.2,
             refl,
@@ -37,7 +37,7 @@ returns-in-Ok-None g c =
     (λ clean s shown. let found = c.in-Ok-None.ensures.answer clean s shown in (
       found.1,
       printed c.print-in-Ok-None.result c.from_slice.result 1 written (λ output. output ≡ no_job) (IsAnswer c.args.settings.now s (question.Job c.args.number))
-          (λ output is. subst (λ job. IsShown c.args.settings.now.offset job output 1) (sym (ap (option_map job_shown) c.in-Ok-None.field-0-is) ∙ found.0) (is, refl))
+          (λ output is. subst (λ job. IsShown c.args.settings.now.zone job output 1) (sym (ap (option_map job_shown) c.in-Ok-None.field-0-is) ∙ found.0) (is, refl))
           c.print-in-Ok-None.ensures.printed c.print-in-Ok-None.ensures.status c.from_slice.ensures.items,
     ))
 

@@ -12,8 +12,8 @@ returns-in-Ok g c =
     question_served c.args.settings.now question.Systems c.args.spool.now c.systems.new.self written c.print.result c.in-Ok.ensures.ran c.in-Ok.ensures.marked c.print.ensures.fault
     (λ clean s shown. let found = c.in-Ok.ensures.answer clean s shown in (
       found.1,
-      printed c.print.result c.report_status.result 0 written (IsStatusReport c.args.settings.now.offset c.deref.result.now) (IsAnswer c.args.settings.now s question.Systems)
-          (λ output is. (subst (λ rows. IsStatusReport c.args.settings.now.offset rows output) (c.deref.ensures.value ∙ found.0) is, refl))
+      printed c.print.result c.report_status.result 0 written (IsStatusReport c.args.settings.now.zone c.deref.result.now) (IsAnswer c.args.settings.now s question.Systems)
+          (λ output is. (subst (λ rows. IsStatusReport c.args.settings.now.zone rows output) (c.deref.ensures.value ∙ found.0) is, refl))
           c.print.ensures.printed c.print.ensures.status c.report_status.ensures.lines,
     ))
 

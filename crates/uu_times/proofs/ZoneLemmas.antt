@@ -1,0 +1,58 @@
+-- What a zone says, and its offsets.
+use Rattle.std.proofs.Common.{◌≡◌, ap, refl, ℕ, ℤ, pos, Bool, true, false, Option, Some, None}
+use Rattle.std.specs.Prelude.{option_map, if◌then◌else◌}
+use Rattle.jiff_core.specs.Timestamp.{IsOffsetSeconds, nanos_of_seconds}
+use Rattle.jiff_core.specs.declared.Offset.{Offset}
+use Rattle.jiff_tz.specs.PosixRule as rule
+use Rattle.jiff_tz.specs.PosixText.{dst_view}
+use Rattle.jiff_tz.specs.Year.{year_of_nanos}
+use Rattle.jiff_tz.specs.declared.posix.Dst.{Dst}
+use Rattle.jiff_tz.specs.declared.posix.DayTime.{DayTime}
+use Rattle.uu_times.specs.Zone.{offset_at, said}
+use Rattle.uu_times.specs.declared.zone.Zone.{Zone}
+
+-- no clock is 26 hours or more from UTC
+pub offset-within : (zone : Zone) (second : ℕ) → IsOffsetSeconds (offset_at zone second)
+unfolding offset_at
+offset-within zone second = (rule.offset_at zone.rule (nanos_of_seconds (pos second))).in_range
+
+-- a clock without daylight saving time is always as far ahead
+pub offset-fixed : (zone : Zone) (second : ℕ) → zone.rule.dst ≡ None → offset_at zone second ≡ zone.rule.std_offset.seconds
+unfolding offset_at
+offset-fixed zone second none = rw none refl
+
+-- rules of one day and time have their moments together
+moment-same : (a b : DayTime) (y seconds : ℤ) → a.date ≡ b.date → a.time ≡ b.time → rule.rule_nanos y a seconds ≡ rule.rule_nanos y b seconds
+unfolding rule.rule_nanos
+moment-same a b y seconds date time = rw (date, time) refl
+
+-- what daylight saving time says tells when it is
+window-same : (a b : Dst) (y : ℤ) (s t : Offset) → dst_view a ≡ dst_view b → s.seconds ≡ t.seconds → rule.utc_window a y s ≡ rule.utc_window b y t
+unfolding rule.utc_window
+window-same a b y s t says std =
+    let start = moment-same a.rule.start b.rule.start y t.seconds (ap (λ d. d.start.0) says) (ap (λ d. d.start.1) says) in
+    let end = moment-same a.rule.end b.rule.end y b.offset.seconds (ap (λ d. d.finish.0) says) (ap (λ d. d.finish.1) says) in
+    let offset : a.offset.seconds ≡ b.offset.seconds = ap (λ d. d.seconds) says in
+    rw (std, offset, start, end) refl
+
+-- the seconds of the one offset or of the other
+one_of : (is : Bool) (s t : Offset) (a b : Dst) → s.seconds ≡ t.seconds → a.offset.seconds ≡ b.offset.seconds
+    → (rule.match_some (if is then Some a else None) s (λ d. d.offset)).seconds ≡ (rule.match_some (if is then Some b else None) t (λ d. d.offset)).seconds
+one_of true s t a b std dst = dst
+one_of false s t a b std dst = std
+
+offset-same : (s t : Offset) (a b : Option Dst) (n : ℤ) → s.seconds ≡ t.seconds → option_map dst_view a ≡ option_map dst_view b
+    → (rule.match_some (rule.dst_at_by s a n) s (λ d. d.offset)).seconds ≡ (rule.match_some (rule.dst_at_by t b n) t (λ d. d.offset)).seconds
+offset-same s t None None n std says = std
+offset-same s t None (Some b) n std says = absurd cc
+offset-same s t (Some a) None n std says = absurd cc
+offset-same s t (Some a) (Some b) n std says =
+    let view : dst_view a ≡ dst_view b = cc in
+    let window = window-same a b (year_of_nanos n) s t view std in
+    rw window (one_of (rule.in_window (rule.utc_window b (year_of_nanos n) t) n) s t a b std (ap (λ d. d.seconds) view))
+
+-- what a zone says tells its clock
+pub offset-said : (a b : Zone) → said a ≡ said b → (second : ℕ) → offset_at a second ≡ offset_at b second
+unfolding offset_at
+offset-said a b says second =
+    offset-same a.rule.std_offset b.rule.std_offset a.rule.dst b.rule.dst (nanos_of_seconds (pos second)) (ap (λ t. t.std_seconds) says) (ap (λ t. t.dst) says)
