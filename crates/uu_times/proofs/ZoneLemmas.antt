@@ -21,6 +21,15 @@ pub offset-fixed : (zone : Zone) (second : ℕ) → zone.rule.dst ≡ None → o
 unfolding offset_at
 offset-fixed zone second none = rw none refl
 
+-- a zone that says no daylight saving time has none
+none_said : (dst : Option Dst) → option_map dst_view dst ≡ None → dst ≡ None
+none_said None says = refl
+none_said (Some d) says = absurd cc
+
+-- and is always as far ahead as it says
+pub offset-standard : (zone : Zone) → (said zone).dst ≡ None → (second : ℕ) → offset_at zone second ≡ (said zone).std_seconds
+offset-standard zone says second = offset-fixed zone second (none_said zone.rule.dst says)
+
 -- rules of one day and time have their moments together
 moment-same : (a b : DayTime) (y seconds : ℤ) → a.date ≡ b.date → a.time ≡ b.time → rule.rule_nanos y a seconds ≡ rule.rule_nanos y b seconds
 unfolding rule.rule_nanos

@@ -1,5 +1,5 @@
 //! Laws of the definitions that the contracts cite.
-ghost use Rattle.std.specs.Prelude.{◌≡◌, ◌<◌, ℕ, Bool, List, Ok, Err, All, IsTrue, IfOk, IfErr, map};
+ghost use Rattle.std.specs.Prelude.{◌≡◌, ◌<◌, ℕ, Bool, List, None, Ok, Err, All, IsTrue, IfOk, IfErr, map};
 ghost use Rattle.std.specs.List.{filter_map, last_or};
 ghost use Rattle.uu_times.specs.Days.{has_minute};
 ghost use Rattle.uu_times.specs.Grammar.{Spelling, Spells, simple_of, has_spelled, IsLongestFront, lower};
@@ -49,8 +49,10 @@ pub fn predefined_tables_are_read()
     ensures { All (IsReadAs predefined_tables) predefined_strings }
 {}
 
-/// What a zone says tells its clock, and no clock is 26 hours or more from UTC.
+/// What a zone says tells its clock, which is always as far from UTC as its standard time where it says no daylight saving time; and
+/// no clock is 26 hours or more from UTC.
 pub fn zones_are_what_they_say()
     ensures same { (a b : Zone) → said a ≡ said b → (second : ℕ) → offset_at a second ≡ offset_at b second }
+    ensures standard { (zone : Zone) → (said zone).dst ≡ None → (second : ℕ) → offset_at zone second ≡ (said zone).std_seconds }
     ensures within { (zone : Zone) (second : ℕ) → IsOffsetSeconds (offset_at zone second) }
 {}
