@@ -72,7 +72,124 @@ fn daylight_saving_time(rt: HostRuntime) {
     for (second, want) in NEW_YORK.as_slice() {
         expect_same(&rt, &shown(&zone, *second), &Ok((*second, *want)));
     }
-    expect_same(&rt, &Zone::posix("").err(), &Some(TimeFault::BadZone));
+}
+
+/// Rules, seconds on both sides of their changes, and the same. The C library shows these.
+const CLOCKS: [(&str, u64, (u16, Civil)); 33] = [
+    // in the south, where daylight saving time runs over the new year
+    ("AEST-10AEDT,M10.1.0,M4.1.0/3", 1_704_067_200, (2100, ((2024, 1, 1), (11, 0, 0)))),
+    ("AEST-10AEDT,M10.1.0,M4.1.0/3", 1_712_419_199, (179, ((2024, 4, 7), (2, 59, 59)))),
+    ("AEST-10AEDT,M10.1.0,M4.1.0/3", 1_712_419_200, (120, ((2024, 4, 7), (2, 0, 0)))),
+    ("AEST-10AEDT,M10.1.0,M4.1.0/3", 1_728_143_999, (119, ((2024, 10, 6), (1, 59, 59)))),
+    ("AEST-10AEDT,M10.1.0,M4.1.0/3", 1_728_144_000, (180, ((2024, 10, 6), (3, 0, 0)))),
+    // a quarter of an hour from whole hours
+    ("<+0545>-5:45", 0, (6105, ((1970, 1, 1), (5, 45, 0)))),
+    ("<+1245>-12:45<+1345>,M9.5.0/2:45,M4.1.0/3:45", 1_712_411_999, (224, ((2024, 4, 7), (3, 44, 59)))),
+    ("<+1245>-12:45<+1345>,M9.5.0/2:45,M4.1.0/3:45", 1_712_412_000, (165, ((2024, 4, 7), (2, 45, 0)))),
+    // a change before midnight of its day, and changes after it
+    ("<-02>2<-01>,M3.5.0/-1,M10.5.0/0", 1_711_846_799, (10_019, ((2024, 3, 30), (22, 59, 59)))),
+    ("<-02>2<-01>,M3.5.0/-1,M10.5.0/0", 1_711_846_800, (0, ((2024, 3, 31), (0, 0, 0)))),
+    ("IST-2IDT,M3.4.4/26,M10.5.0", 1_711_670_399, (7319, ((2024, 3, 29), (1, 59, 59)))),
+    ("IST-2IDT,M3.4.4/26,M10.5.0", 1_711_670_400, (7380, ((2024, 3, 29), (3, 0, 0)))),
+    ("EET-2EEST,M3.4.4/50,M10.4.4/50", 1_729_897_199, (8759, ((2024, 10, 26), (1, 59, 59)))),
+    ("EET-2EEST,M3.4.4/50,M10.4.4/50", 1_729_897_200, (8700, ((2024, 10, 26), (1, 0, 0)))),
+    // daylight saving time that is behind standard time
+    ("IST-1GMT0,M10.5.0,M3.5.0/1", 1_711_846_799, (59, ((2024, 3, 31), (0, 59, 59)))),
+    ("IST-1GMT0,M10.5.0,M3.5.0/1", 1_711_846_800, (120, ((2024, 3, 31), (2, 0, 0)))),
+    ("IST-1GMT0,M10.5.0,M3.5.0/1", 1_729_990_799, (119, ((2024, 10, 27), (1, 59, 59)))),
+    ("IST-1GMT0,M10.5.0,M3.5.0/1", 1_729_990_800, (60, ((2024, 10, 27), (1, 0, 0)))),
+    // days of the year without 29 February, and with it
+    ("<+0330>-3:30<+0430>,J79/24,J263/24", 1_679_344_199, (2879, ((2023, 3, 20), (23, 59, 59)))),
+    ("<+0330>-3:30<+0430>,J79/24,J263/24", 1_679_344_200, (2940, ((2023, 3, 21), (1, 0, 0)))),
+    ("<+0330>-3:30<+0430>,J79/24,J263/24", 1_710_966_599, (5759, ((2024, 3, 20), (23, 59, 59)))),
+    ("<+0330>-3:30<+0430>,J79/24,J263/24", 1_710_966_600, (5820, ((2024, 3, 21), (1, 0, 0)))),
+    ("XXX3YYY,59,300/1", 1_677_646_799, (4439, ((2023, 3, 1), (1, 59, 59)))),
+    ("XXX3YYY,59,300/1", 1_677_646_800, (4500, ((2023, 3, 1), (3, 0, 0)))),
+    ("XXX3YYY,59,300/1", 1_709_182_799, (5879, ((2024, 2, 29), (1, 59, 59)))),
+    ("XXX3YYY,59,300/1", 1_709_182_800, (5940, ((2024, 2, 29), (3, 0, 0)))),
+    // offsets with seconds
+    ("AAA-1:02:03BBB-1:32:03,M5.1.1,M9.2.6", 1_682_902_676, (1559, ((2023, 5, 1), (1, 59, 59)))),
+    ("AAA-1:02:03BBB-1:32:03,M5.1.1,M9.2.6", 1_682_902_677, (1590, ((2023, 5, 1), (2, 30, 0)))),
+    // more than a day from UTC, at the first moment and the last
+    ("<+25>-24:59:59", 0, (7259, ((1970, 1, 2), (0, 59, 59)))),
+    ("<+25>-24:59:59", 4_102_444_800, (8699, ((2100, 1, 2), (0, 59, 59)))),
+    ("<-25>24:59:59", 0, (4260, ((1969, 12, 30), (23, 0, 1)))),
+    ("<-25>24:59:59", 4_102_444_800, (5700, ((2099, 12, 30), (23, 0, 1)))),
+    ("XXX-24:59:59YYY,0/0,J365/25", 4_102_444_800, (8759, ((2100, 1, 2), (1, 59, 59)))),
+];
+
+#[test]
+fn clocks_of_rules(rt: HostRuntime) {
+    for (rule, second, want) in CLOCKS.as_slice() {
+        let zone = Zone::posix(rule).expect(&rt, "a zone");
+        expect_same(&rt, &shown(&zone, *second), &Ok((*second, *want)));
+    }
+}
+
+/// Texts at the limits of a rule, the last four past those that POSIX has for the times of a rule.
+const RULES: [&str; 12] = [
+    "UTC0",
+    "utc+0",
+    "ABCDEFGHIJKLMNO24:59:59",
+    "<-1Z>-24:59:59",
+    "<123456789012345>0",
+    "XXX3YYY4,J1/0,J365/24",
+    "XXX3YYY-3:30,0/0:00:00,365/24:59:59",
+    "XXX3YYY,M1.1.0,M12.5.6",
+    "XXX3YYY,M01.1.0/25,M12.5.6",
+    "XXX3YYY,M3.2.0/167:59:59,M11.1.0",
+    "XXX3YYY,M3.2.0/+2,M11.1.0",
+    "XXX3YYY,M3.2.0,M11.1.0/-167:59:59",
+];
+
+/// Texts that are no rule: parts that are missing or too much, names, offsets, days and times past their limits.
+const NO_RULES: [&str; 36] = [
+    "",
+    "5",
+    "UTC",
+    "EST5EDT",
+    "EST5EDT,M3.2.0",
+    "EST5EDT,M3.2.0,",
+    "EST5,M3.2.0,M11.1.0",
+    "EST5EDT,M3.2.0,M11.1.0,M12.1.0",
+    "EST5EDT,M3.2.0,M11.1.0 ",
+    " UTC0",
+    ":UTC0",
+    "Europe/Berlin",
+    "UT0",
+    "ABCDEFGHIJKLMNOP0",
+    "<+1>-1",
+    "<1234567890123456>0",
+    "<+01-1",
+    "<A_B>0",
+    "\u{c4}\u{d6}\u{dc}0",
+    "UTC25",
+    "UTC-25",
+    "UTC5:60",
+    "UTC5:5",
+    "UTC5:30:60",
+    "EST5EDT25,M3.2.0,M11.1.0",
+    "EST5EDT,m3.2.0,M11.1.0",
+    "EST5EDT,M0.2.0,M11.1.0",
+    "EST5EDT,M13.2.0,M11.1.0",
+    "EST5EDT,M3.0.0,M11.1.0",
+    "EST5EDT,M3.6.0,M11.1.0",
+    "EST5EDT,M3.2.7,M11.1.0",
+    "EST5EDT,J0,M11.1.0",
+    "EST5EDT,J366,M11.1.0",
+    "EST5EDT,366,M11.1.0",
+    "EST5EDT,M3.2.0/168,M11.1.0",
+    "EST5EDT,M3.2.0/2:60,M11.1.0",
+];
+
+#[test]
+fn texts_and_rules(rt: HostRuntime) {
+    for text in RULES.as_slice() {
+        expect_same(&rt, &Zone::posix(text).err(), &None);
+    }
+    for text in NO_RULES.as_slice() {
+        expect_same(&rt, &Zone::posix(text).err(), &Some(TimeFault::BadZone));
+    }
 }
 
 /// Time strings, a minute of the week, and whether it is in the set.
