@@ -8,9 +8,10 @@ use Rattle.jiff_core.specs.declared.civil.datetime.DateTime.{DateTime}
 use Rattle.jiff_core.proofs.SignedLemmas.{signed_arith}
 use Rattle.jiff_core.proofs.CalendarLemmas.{days_from_civil-day_count, day_count-epoch, day_count-lt_year}
 use Rattle.jiff_core.proofs.DateLemmas.{civil, days_from_civil-day, days_from_civil-next_year}
+use Rattle.jiff_core.specs.Timestamp.{IsOffsetSeconds}
 use Rattle.uu_times.specs.Moment.{Shows, local_second}
+use Rattle.uu_times.specs.Zone.{offset_at}
 use Rattle.uu_times.specs.declared.zone.Zone.{Zone}
-use Rattle.uu_times.proofs.ZoneLemmas.{offset-within}
 
 -- a date of 1969-12-30 or later
 year_from : (d : Date) → neg_ℤ (pos 2) ≤ℤ epoch_day d → pos 1000 ≤ℤ d.year
@@ -35,9 +36,8 @@ day_from : (shown day : ℤ) → neg_ℤ (pos 172800) ≤ℤ shown → day ≡ i
 day_from (pos s) day from is = omega (arith, ints)
 day_from (negsuc s) day from is = omega (arith, ints)
 
-pub shown_year : (local : DateTime) (second : ℕ) (zone : Zone) → Shows local (local_second zone second)
+pub shown_year : (local : DateTime) (second : ℕ) (zone : Zone) → IsOffsetSeconds (offset_at zone second) → Shows local (local_second zone second)
     → (pos 1000 ≤ℤ local.date.year) × (local.date.year ≤ℤ pos 9999)
-shown_year local second zone shown =
-    let within = (offset-within zone second).0 in
-    let from : neg_ℤ (pos 172800) ≤ℤ local_second zone second = omega (arith, signed_arith, within) in
+shown_year local second zone within shown =
+    let from : neg_ℤ (pos 172800) ≤ℤ local_second zone second = omega (arith, signed_arith, within.0) in
     (year_from local.date (day_from (local_second zone second) (epoch_day local.date) from shown.day), omega (arith, signed_arith, civil local.date))

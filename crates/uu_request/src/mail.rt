@@ -14,6 +14,7 @@ use uu_core::Kind;
 use uu_names::{Grade, Listed, NameFault, SiteName, Word, envelope};
 use uu_settings::Settings;
 use uu_times::Moment;
+use uu_times::laws::zones_are_what_they_say;
 
 /// A message to a system, which is to run `rmail` with these arguments: its envelope is handed in now.
 pub(crate) fn mail(
@@ -70,5 +71,6 @@ fn with_envelope(
     requires { Shows at.now.local (local_second settings.now.zone at.now.second) }
     ensures { IfOk result (λ bytes. bytes.items ≡ envelope_of user.now at.now.local settings.now.name message.now) }
 {
+    zones_are_what_they_say();
     envelope(alloc, user, &at.local, &settings.name, message)
 }
