@@ -18,7 +18,6 @@ use Rattle.uu_core.specs.declared.command.Command.TheVariants as command
 use Rattle.uu_core.specs.declared.job.By.{By}
 use Rattle.uu_core.specs.declared.job.Kind.{Kind}
 use Rattle.uu_core.specs.declared.job.Kind.TheVariants as kind
-use Rattle.uu_core.specs.declared.job.NewJob.{NewJob}
 use Rattle.uu_line.specs.Lines.{same_text, takes_input}
 use Rattle.uu_line.specs.declared.line.CallLine.{CallLine}
 use Rattle.uu_line.specs.declared.task.Task.{Task}
@@ -26,7 +25,6 @@ use Rattle.uu_line.specs.declared.task.Task.TheVariants as task
 use Rattle.uu_settings.specs.declared.settings.Settings.{Settings}
 use Rattle.uu_request.specs.declared.fault.RequestFault.{RequestFault}
 use Rattle.uu_request.specs.declared.fault.RequestFault.TheVariants.{Input, Time, Memory}
-use Rattle.uu_request.specs.declared.request.Question.{Question}
 use Rattle.uu_request.specs.declared.request.Question.TheVariants as question
 use Rattle.uu_request.specs.declared.request.Request.{Request}
 use Rattle.uu_request.specs.declared.request.Request.TheVariants as request

@@ -1,4 +1,4 @@
-use Rattle.std.proofs.Common.{◌≤◌, ◌∙◌, IsTrue, arith, length, subst, sym}
+use Rattle.std.proofs.Common.{◌∙◌, IsTrue, subst, sym}
 use Rattle.std.proofs.lemmas.Bool.{false≢true}
 use Rattle.uu_request.proofs.request.request_of.Goals as goal
 use Rattle.uu_request.proofs.request.request_of.Goals.{else-has_input-via-then-has_input+else-input-gt-MAX_TEXT, else-has_input-via-else-has_input}
