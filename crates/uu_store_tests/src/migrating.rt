@@ -27,10 +27,7 @@ impl Visitor for Fill {
 }
 
 /// What version 1 has not, and its number.
-const INTO_THE_FIRST: &[&str] = &[
-    "DROP TABLE success_waits",
-    "UPDATE spool SET version = 1",
-];
+const INTO_THE_FIRST: &[&str] = &["DROP TABLE success_waits", "UPDATE spool SET version = 1"];
 
 const VERSION: &str = "SELECT version FROM spool";
 
@@ -71,12 +68,7 @@ fn stop_at(
 
 /// Stops at each call of one file, counting up until the files are taken: how many left version 1, and how many left version 2 where all that was
 /// written was kept.
-fn stop_at_each_call(
-    rt: &impl Abort,
-    alloc: Global,
-    place: Place,
-    options: Options,
-) -> (u32, u32) {
+fn stop_at_each_call(rt: &impl Abort, alloc: Global, place: Place, options: Options) -> (u32, u32) {
     let contents = first_version(rt, alloc);
     assert_eq!(rt; version_in(rt, alloc, &contents), 1);
     let machine = machine_after(rt, alloc, TWO_SYSTEMS, COUNT);
