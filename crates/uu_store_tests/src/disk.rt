@@ -192,7 +192,7 @@ fn changed<D: Disk + Drop>(
 }
 
 /// The same of a database over any store.
-fn changed_in<S: Alter>(
+fn changed_in<S: Alter + Drop>(
     rt: &impl Abort,
     conn: Connection<S>,
     statements: &[&'static str],

@@ -16,6 +16,7 @@ use uu_store::Spool;
 const COUNT: usize = 8;
 
 /// Gives a spool the commands.
+#[derive(Drop)]
 struct Fill;
 
 impl Visitor for Fill {
