@@ -1,11 +1,11 @@
 -- How a database becomes one of another schema: that of an empty spool is made, and that of version 1 made one of version 2.
-use Rattle.std.proofs.Common.{◌≡◌, inl, inr, Result, Ok, Err, refl, sym, subst, ◌∙◌, arith}
+use Rattle.std.proofs.Common.{◌≡◌, inl, inr, false, Result, Ok, Err, refl, sym, subst, ◌∙◌, arith}
 use Rattle.std.specs.Prelude.{IsTrue, IsOk, IsErr, OnOk, IfErr}
 use Rattle.sqlite.specs.Schema.{Schema}
 use Rattle.sqlite.specs.Effect.{Database}
 use Rattle.sqlite.specs.Tree.{Trees}
 use Rattle.sqlite.specs.State as db
-use Rattle.uu_sql.specs.Steps.{Stands, Rests, Whole, Did, Ends}
+use Rattle.uu_sql.specs.Steps.{Stands, Rests, Whole, Did, Undid, Ends}
 use Rattle.uu_core.specs.State.{State, IsWellFormed, empty}
 use Rattle.uu_tables.specs.Tables.{tables_of}
 use Rattle.uu_schema.specs.Held.{MakesEmpty, Migrates}
@@ -19,7 +19,7 @@ use Rattle.uu_schema.specs.declared.fault.StoreFault.{StoreFault}
 use Rattle.uu_schema.specs.declared.fault.StoreFault.TheVariants.{Memory, Store, Failed, Newer, Foreign as ForeignFault}
 use Rattle.uu_database.specs.Encoded.{HoldsState, HoldsStateAs, HoldsAgain, Migrated}
 use Rattle.uu_database.specs.Calls.{Becomes, MigratesState}
-use Rattle.uu_database.specs.Adoption.{IsInspected, IsRefused, IsSpared, LeavesNoMore, UnlessFailed}
+use Rattle.uu_database.specs.Adoption.{IsInspected, IsRefused, IsSpared, LeavesNoMore, UnlessFailed, UnlessStore}
 use Rattle.uu_database.proofs.Resting.{is_memory}
 
 module _ (from to : Schema) (Step Wanted : Trees → Trees → Type 0) (means : (old new : Trees) → Step old new → Wanted old new) (a b : db.State) where
@@ -123,10 +123,38 @@ module _ (a b d : db.State) (first : IsInspected First a b (Ok tt)) (spared : Is
   unmade_then (Ok x) h = tt
   unmade_then (Err fault) h = unless_weaker fault (λ k clean trees may. spared.stop (early clean) trees (k clean trees may)) h
 
--- what was made is not refused by what it holds
-pub never_refused : (r : Result (Unit {0}) StoreFault) → IfErr r IsFresh → IsRefused r → ⊥
-never_refused r fresh (inl is) = subst (λ r. IfErr r IsFresh) is fresh
-never_refused r fresh (inr is) = subst (λ r. IfErr r IsFresh) is fresh
+-- ---- where memory was wanted before the commit, the database is as it was, whatever it holds
+
+pub halted_spared : (a b d : db.State) (halt : Halt) (w : Result (Unit {0}) Halt) (fault : StoreFault) → w ≡ Err halt → IsFresh fault → b.in_transaction ≡ false → ((error : Error) → w ≡ Err (Before error) → db.HasCleanDisk b → Undid a b)
+    → ((error : Error) → halt ≡ Commit error → fault ≡ Store (kind_of_error error)) → (db.HasCleanDisk d → fault ≡ Memory → IsTrue b.is_open × db.IsUnchanged b d) → db.Survives b d (λ _. ⊥)
+    → UnlessFailed fault (db.HasCleanDisk d → LeavesNoMore a d) → IsRefused (Err fault) → IsSpared a d (Err fault)
+halted_spared a b d halt w (Store kind) is fresh idle undone commit memory over less refused = absurd refused
+halted_spared a b d halt w Failed is fresh idle undone commit memory over less refused = absurd fresh
+halted_spared a b d halt w ForeignFault is fresh idle undone commit memory over less refused = absurd fresh
+halted_spared a b d halt w Newer is fresh idle undone commit memory over less refused = absurd fresh
+halted_spared a b d (Commit error) w Memory is fresh idle undone commit memory over less refused = absurd (let never = commit error refl in cc)
+halted_spared a b d (Before error) w Memory is fresh idle undone commit memory over less refused = record {
+  same = λ clean rests.
+      let m = memory clean refl in
+      let u = (undone error is (omega (arith, clean, over.clean))).undone m.0 in
+      (record { is_open = m.1.0.is_open; idle = m.1.0.mode ∙ idle; settled = m.1.0.now_is ∙ u.0 ∙ sym (m.1.0.committed_is ∙ u.1) }, m.1.0.now_is ∙ u.0 ∙ sym rests.settled);
+  stop = less;
+}
+
+-- a database that was looked at, and then not changed
+pub spared_then : (a b d : db.State) (r : Result (Unit {0}) StoreFault) → IsSpared a b (Ok tt) → (db.HasCleanDisk d → db.HasCleanDisk b) → IsSpared b d r → IsSpared a d r
+spared_then a b d r first early then = record {
+  same = λ clean rests. let it = first.same (early clean) rests in after r it.1 (then.same clean it.0);
+  stop = λ clean trees may. first.stop (early clean) trees (then.stop clean trees may);
+}
+  where
+    after : (r : Result (Unit {0}) StoreFault) → b.now ≡ a.now → UnlessStore r (Rests d × (d.now ≡ b.now)) → UnlessStore r (Rests d × (d.now ≡ a.now))
+    after (Ok x) same it = (it.0, it.1 ∙ same)
+    after (Err Memory) same it = (it.0, it.1 ∙ same)
+    after (Err (Store kind)) same it = tt
+    after (Err Failed) same it = (it.0, it.1 ∙ same)
+    after (Err ForeignFault) same it = (it.0, it.1 ∙ same)
+    after (Err Newer) same it = (it.0, it.1 ∙ same)
 
 -- an error of a database that was only looked at
 pub spared_migrates : (a b : db.State) (fault : StoreFault) → IsSpared a b (Err fault) → MigratesState a b (Err fault)

@@ -127,25 +127,13 @@ module _ (a b : db.State) where
   pub refused_as : (v : Version) (fault : StoreFault) → IsInspected v a b (Err fault) → db.HasCleanDisk b → Stands (site_of v) a.now → fault ≡ ForeignFault → (IsLater a.now.trees → ⊥) × ((s : State) → EncodesAs v a.now s → ⊥)
   refused_as v fault inspected clean stands is = let it = inspected.foreign clean stands (ap Err is) in (it.0, λ s enc. it.1 s enc.holds)
 
-  pub same_as : (fault : StoreFault) → (¬ HasNone a.now.schema → (HasFirst a.now.schema → IsRefused (Err fault)) → IsSpared a b (Err fault)) → MigratesState a b (Err fault) → CreatesTables a b (Err fault) → (HasNone a.now.schema → (fault ≢ ForeignFault) × (fault ≢ Newer)) → fault ≢ Failed
-      → db.HasCleanDisk b → Rests a → UnlessFailed fault (IsAsBefore fault a b)
-  same_as Memory spared migrates creates welcome not_failed clean rests = record {
-    some = λ some more. (spared some (λ first. absurd (more first refl))).same clean rests;
-    first = λ stands. migrates.memory clean rests stands refl;
-    none = λ stands. creates.memory clean rests stands refl;
-  }
-  same_as (Store kind) spared migrates creates welcome not_failed clean rests = tt
-  same_as Failed spared migrates creates welcome not_failed clean rests = absurd (not_failed refl)
-  same_as ForeignFault spared migrates creates welcome not_failed clean rests = record {
-    some = λ some more. (spared some (λ first. inl refl)).same clean rests;
-    first = λ stands. (spared (all_found First a.now stands) (λ first. inl refl)).same clean rests;
-    none = λ stands. absurd ((welcome (none_found a.now stands)).0 refl);
-  }
-  same_as Newer spared migrates creates welcome not_failed clean rests = record {
-    some = λ some more. (spared some (λ first. inr refl)).same clean rests;
-    first = λ stands. (spared (all_found First a.now stands) (λ first. inr refl)).same clean rests;
-    none = λ stands. absurd ((welcome (none_found a.now stands)).1 refl);
-  }
+  pub same_as : (fault : StoreFault) → (¬ HasNone a.now.schema → (HasFirst a.now.schema → IsRefused (Err fault)) → IsSpared a b (Err fault)) → CreatesTables a b (Err fault) → (HasNone a.now.schema → (fault ≢ ForeignFault) × (fault ≢ Newer)) → fault ≢ Failed
+      → db.HasCleanDisk b → Rests a → UnlessFailed fault (IsAsBefore a b)
+  same_as Memory spared creates welcome not_failed clean rests = record { some = λ some. (spared some (λ first. tt)).same clean rests; none = λ stands. creates.memory clean rests stands refl }
+  same_as (Store kind) spared creates welcome not_failed clean rests = tt
+  same_as Failed spared creates welcome not_failed clean rests = absurd (not_failed refl)
+  same_as ForeignFault spared creates welcome not_failed clean rests = record { some = λ some. (spared some (λ first. tt)).same clean rests; none = λ stands. absurd ((welcome (none_found a.now stands)).0 refl) }
+  same_as Newer spared creates welcome not_failed clean rests = record { some = λ some. (spared some (λ first. tt)).same clean rests; none = λ stands. absurd ((welcome (none_found a.now stands)).1 refl) }
 
   pub stops_as : (r : Result (Unit {0}) StoreFault) → Settles a → db.HasCleanDisk b → Rests a → (¬ HasNone a.now.schema → (HasFirst a.now.schema → IsRefused r) → IsSpared a b r) → MigratesState a b r → CreatesTables a b r → StopsAs a b
   stops_as r settles clean rests spared migrates creates = record {

@@ -1,5 +1,5 @@
 -- What a database is found to be when it is taken as a spool, and what that leaves.
-use Rattle.std.specs.Prelude.{◌≡◌, ◌≢◌, ◌⊎◌, Result, Ok, Err, OnOk, ⊤}
+use Rattle.std.specs.Prelude.{◌≡◌, ◌⊎◌, Result, Ok, Err, OnOk, ⊤}
 use Rattle.sqlite.specs.Tree.{Trees}
 use Rattle.sqlite.specs.State as db
 use Rattle.sqlite_catalog.specs.Listing.{IsSound}
@@ -8,7 +8,7 @@ use Rattle.uu_core.specs.State.{State, empty}
 use Rattle.uu_schema.specs.Schema.{site, first_site, no_schema, site_of}
 use Rattle.uu_schema.specs.declared.version.Version.{Version}
 use Rattle.uu_schema.specs.declared.fault.StoreFault.{StoreFault}
-use Rattle.uu_schema.specs.declared.fault.StoreFault.TheVariants.{Memory, Store, Newer, Foreign as ForeignFault}
+use Rattle.uu_schema.specs.declared.fault.StoreFault.TheVariants.{Store, Newer, Foreign as ForeignFault}
 use Rattle.uu_taking.specs.Version.{IsLater}
 use Rattle.uu_database.specs.declared.inspection.Finding.{Finding}
 use Rattle.uu_database.specs.declared.inspection.Finding.TheVariants.{Spool, Foreign, Later}
@@ -50,15 +50,15 @@ pub record IsSpared (old new : db.State) (r : Result (Unit {0}) StoreFault) : Ty
   pub same : db.HasCleanDisk new → Rests old → UnlessStore r (Rests new × (new.now ≡ old.now))
   pub stop : db.HasCleanDisk new → LeavesNoMore old new
 
--- refused by what it holds, and so before anything was made
+-- refused, by what it holds or for want of memory, and not because the store failed
 abbrev pub IsRefused : Result (Unit {0}) StoreFault → Type 0
-IsRefused r = (r ≡ Err ForeignFault) ⊎ (r ≡ Err Newer)
+IsRefused (Ok x) = ⊥
+IsRefused (Err (Store kind)) = ⊥
+IsRefused (Err fault) = ⊤
 
--- A database with any of the spool's tables, whatever their shape and whatever stands beside them, or with no tables, is as it was. (Where memory was
--- wanted as the tables of version 1 became those of version 2, that is said of one with exactly these.)
-pub record IsAsBefore (fault : StoreFault) (old new : db.State) : Type 0 where
-  pub some : ¬ HasNone old.now.schema → (HasFirst old.now.schema → fault ≢ Memory) → Rests new × (new.now ≡ old.now)
-  pub first : Stands first_site old.now → Rests new × (new.now ≡ old.now)
+-- a database with any of the spool's tables, whatever their shape and whatever stands beside them, or with no tables, is as it was
+pub record IsAsBefore (old new : db.State) : Type 0 where
+  pub some : ¬ HasNone old.now.schema → Rests new × (new.now ≡ old.now)
   pub none : Stands no_schema old.now → Rests new × (new.now ≡ old.now)
 
 -- A stop leaves the state that a database encodes, of one with any of the spool's tables but those of version 1 what it was, of version 1 that or

@@ -40,6 +40,7 @@ fn migrate_tables<S: Alter>(conn: &mut Connection<S>) -> Result<(), StoreFault>
     ensures fresh { IfErr result IsFresh }
     ensures idle { conn.new.in_transaction ≡ false }
     ensures migrates { Becomes first_site site HoldsAgain (state S.Store conn.old) (state S.Store conn.new) result }
+    ensures spared { IsRefused result → IsSpared (state S.Store conn.old) (state S.Store conn.new) result }
     ensures unmade { IfErr result (λ fault. UnlessFailed fault (HasCleanDisk (state S.Store conn.new) → LeavesNoMore (state S.Store conn.old) (state S.Store conn.new))) }
     ensures clean { StaysUnclean (state S.Store conn.old) (state S.Store conn.new) }
 {

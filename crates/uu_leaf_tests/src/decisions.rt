@@ -1,6 +1,8 @@
 // Worked answers of single decisions: what is refused, how long a system is left alone, and what is due.
 use crate::expecting::{expect_same, expect_text};
-use crate::values::{SUNDAY, all_week, by, file, grade, moment, new_job, office, site, word};
+use crate::values::{
+    SUNDAY, all_week, by, file, grade, moment, new_job, office, resting, site, word,
+};
 use std::alloc::{AllocError, Global};
 use std::fmt::Write;
 use std::process::Abort;
@@ -19,7 +21,10 @@ fn system(
     retry: Option<u32>,
     max_retries: u32,
 ) -> SystemRow {
-    let def = all_week(rt, alloc, name, grade, retry, max_retries);
+    never_called(all_week(rt, alloc, name, grade, retry, max_retries))
+}
+
+fn never_called(def: SystemDef) -> SystemRow {
     let call = CallState {
         last: 0,
         failures: 0,
@@ -72,13 +77,17 @@ fn jobs_handed_in(rt: HostRuntime) {
     }
 }
 
-/// The jobs that went through in a call of duke, and its second and wait, or what refuses it.
-const CALLS: [(&[u32], Result<(u64, u64), Refusal>); 5] = [
-    (&[1, 1], Err(Refusal::JobTwice)),
-    (&[1, 3], Err(Refusal::OtherSystem)),
-    (&[1, 4], Err(Refusal::NoJob)),
-    (&[1; 257], Err(Refusal::TooLarge)),
-    (&[1], Ok((SUNDAY, 0))),
+/// The success wait of duke, if it is known, the jobs that went through in a call of it, and its second and wait, or what refuses it.
+const CALLS: [(Option<u32>, &[u32], Result<(u64, u64), Refusal>); 9] = [
+    (Some(600), &[1, 1], Err(Refusal::JobTwice)),
+    (Some(600), &[1, 3], Err(Refusal::OtherSystem)),
+    (Some(600), &[1, 4], Err(Refusal::NoJob)),
+    (Some(600), &[1; 257], Err(Refusal::TooLarge)),
+    (None, &[1; 257], Err(Refusal::TooLarge)),
+    (None, &[1], Err(Refusal::NoSystem)),
+    (Some(0), &[1], Ok((SUNDAY, 0))),
+    (Some(600), &[1], Ok((SUNDAY, 600))),
+    (Some(600), &[], Ok((SUNDAY, 600))),
 ];
 
 fn second_and_wait(call: Result<CallState, Refusal>) -> Result<(u64, u64), Refusal> {
@@ -86,16 +95,30 @@ fn second_and_wait(call: Result<CallState, Refusal>) -> Result<(u64, u64), Refus
     Ok((call.last, call.wait))
 }
 
-fn done_decision(rt: &impl Abort, alloc: Global, numbers: &[u32]) -> Result<(u64, u64), Refusal> {
-    let duke = site(rt, alloc, "duke");
+fn done_decision(
+    rt: &impl Abort,
+    alloc: Global,
+    success_wait: Option<u32>,
+    numbers: &[u32],
+) -> Result<(u64, u64), Refusal> {
+    let name = site(rt, alloc, "duke");
     let jobs = jobs(rt, alloc, &[(1, "duke", b'N'), (3, "unc", b'N')]);
-    second_and_wait(decide_done(true, &duke, numbers, &jobs, &moment(rt, SUNDAY)))
+    let at = moment(rt, SUNDAY);
+    let call = match success_wait {
+        Some(seconds) => {
+            let duke = never_called(resting(rt, alloc, "duke", seconds));
+            decide_done(Some(&duke), &name, numbers, &jobs, &at)
+        }
+        None => decide_done(None, &name, numbers, &jobs, &at),
+    };
+    second_and_wait(call)
 }
 
 #[test]
 fn jobs_of_a_call(rt: HostRuntime) {
-    for (numbers, want) in CALLS.as_slice() {
-        expect_same(&rt, &done_decision(&rt, rt.alloc(), numbers), want);
+    for (success_wait, numbers, want) in CALLS.as_slice() {
+        let given = done_decision(&rt, rt.alloc(), *success_wait, numbers);
+        expect_same(&rt, &given, want);
     }
 }
 

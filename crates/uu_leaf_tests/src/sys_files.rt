@@ -30,7 +30,13 @@ fn show_line(shown: &mut String, line: &Line) -> Result<(), AllocError> {
 }
 
 fn show_system(shown: &mut String, system: &SystemDef) -> Result<(), AllocError> {
-    write!(shown, "{} {}:", system.name.as_str(), system.max_retries)?;
+    write!(
+        shown,
+        "{} {} {}:",
+        system.name.as_str(),
+        system.max_retries,
+        system.success_wait
+    )?;
     for line in system.lines() {
         show_line(shown, line)?;
     }
@@ -54,11 +60,11 @@ fn told(alloc: Global, text: &[u8]) -> Result<String, AllocError> {
     Ok(told)
 }
 
-const SHORT_FILES: [(&[u8], &str); 27] = [
+const SHORT_FILES: [(&[u8], &str); 35] = [
     // Defaults, a timetable on two lines, a comment, other keywords and two systems.
     (
         b"# defaults\ntime Wk2305-0755\ntimetable Lunch Wk1200-\\\n1300\nsystem duke\n  time Lunch 15\n  port ser\\#1\n  alternate backup\n  timegrade C Any\nsystem unc\n  max-retries 2\n",
-        "duke 26: z 15: 2160-2220 3600-3660 5040-5100 6480-6540 7920-7980 C 0: 0-10079/unc 2: z 0: 1440-1915 2825-3355 4265-4795 5705-6235 7145-7675 8585-8639/skipped 7/skipped 8/",
+        "duke 26 0: z 15: 2160-2220 3600-3660 5040-5100 6480-6540 7920-7980 C 0: 0-10079/unc 2 0: z 0: 1440-1915 2825-3355 4265-4795 5705-6235 7145-7675 8585-8639/skipped 7/skipped 8/",
     ),
     (b"time Any 30 \\# x", "line 1: bad words"),
     (b"time Any 30 # x", ""),
@@ -74,6 +80,19 @@ const SHORT_FILES: [(&[u8], &str); 27] = [
     (b"time Any 525601", "line 1: bad number"),
     (b"max-retries 1000001", "line 1: bad number"),
     (b"max-retries", "line 1: bad words"),
+    // A wait after a call that went well: at most 365 days, in at most nine digits.
+    (b"success-wait", "line 1: bad words"),
+    (b"success-wait 60 60", "line 1: bad words"),
+    (b"success-wait 31536000\nsystem a", "a 26 31536000:/"),
+    (b"success-wait 31536001", "line 1: bad number"),
+    (b"success-wait 0000000060", "line 1: bad number"),
+    (b"success-wait -1", "line 1: bad number"),
+    (b"success-wait 0", ""),
+    // The last one of the defaults, and that of a section before them.
+    (
+        b"success-wait 1\nsuccess-wait 600\nsystem a\nsystem b\nsuccess-wait 5\nsuccess-wait 0",
+        "a 26 600:/b 26 0:/",
+    ),
     (
         b"time Lunch\ntimetable Lunch Any",
         "line 1: unknown timetable",
@@ -92,10 +111,10 @@ const SHORT_FILES: [(&[u8], &str); 27] = [
     // Ends of files and of lines.
     (b"", ""),
     (b"\\", ""),
-    (b"system a\\", "a 26:/"),
+    (b"system a\\", "a 26 0:/"),
     (
         b"system a\r\ntime Any\r\nsystem b\r\n",
-        "a 26: z 0: 0-10079/b 26:/",
+        "a 26 0: z 0: 0-10079/b 26 0:/",
     ),
 ];
 

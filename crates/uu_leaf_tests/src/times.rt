@@ -323,20 +323,31 @@ fn sets_from_ranges(rt: HostRuntime) {
     }
 }
 
-// Whether a system may have so many lines.
-fn is_within_limits(rt: &impl Abort, alloc: Global, count: u32) -> bool {
+// Whether a system may have so many lines, and be left alone for so many seconds after a call that went well.
+fn is_within_limits(rt: &impl Abort, alloc: Global, count: u32, success_wait: u32) -> bool {
     let mut lines = Vec::new(alloc);
     for _ in 0..count {
         let line = line(rt, alloc, b'N', WEEK.as_slice(), None);
         lines.push(line).expect(rt, "memory");
     }
-    SystemDef::new(site(rt, alloc, "duke"), Listed::from_vec(lines), 26).is_some()
+    let lines = Listed::from_vec(lines);
+    SystemDef::new(site(rt, alloc, "duke"), lines, 26, success_wait).is_some()
 }
+
+/// Counts of lines, seconds, and whether a system may have both.
+const LIMITS: [(u32, u32, bool); 4] = [
+    (32, 0, true),
+    (33, 0, false),
+    (0, 31_536_000, true),
+    (0, 31_536_001, false),
+];
 
 #[test]
 fn systems_within_limits(rt: HostRuntime) {
-    expect_same(&rt, &is_within_limits(&rt, rt.alloc(), 32), &true);
-    expect_same(&rt, &is_within_limits(&rt, rt.alloc(), 33), &false);
+    for (count, success_wait, want) in LIMITS.as_slice() {
+        let given = is_within_limits(&rt, rt.alloc(), *count, *success_wait);
+        expect_same(&rt, &given, want);
+    }
 }
 
 fn expect_fronts(rt: &impl Abort, alloc: Global, fronts: &Fronts) {

@@ -59,9 +59,11 @@ fn system(
     name: &str,
     lines: Vec<Line>,
     max_retries: u32,
+    success_wait: u32,
 ) -> SystemDef {
     let name = site(rt, alloc, name);
-    SystemDef::new(name, Listed::from_vec(lines), max_retries).expect(rt, "a system")
+    let lines = Listed::from_vec(lines);
+    SystemDef::new(name, lines, max_retries, success_wait).expect(rt, "a system")
 }
 
 // A system that may be called all week for jobs of this grade and above.
@@ -76,7 +78,12 @@ pub fn all_week(
     let mut lines = Vec::new(alloc);
     let line = line(rt, alloc, grade, WEEK.as_slice(), retry);
     lines.push(line).expect(rt, "memory");
-    system(rt, alloc, name, lines, max_retries)
+    system(rt, alloc, name, lines, max_retries, 0)
+}
+
+// A system that is left alone for so many seconds after a call that went well.
+pub fn resting(rt: &impl Abort, alloc: Global, name: &str, success_wait: u32) -> SystemDef {
+    system(rt, alloc, name, Vec::new(alloc), 26, success_wait)
 }
 
 // A system that may be called all week for each grade, and on weekdays from 9:00 to 17:00 for grade C and above.
@@ -84,7 +91,7 @@ pub fn office(rt: &impl Abort, alloc: Global, name: &str) -> SystemDef {
     let all_week = line(rt, alloc, b'z', WEEK.as_slice(), Some(30));
     let often = line(rt, alloc, b'C', OFFICE.as_slice(), Some(5));
     let lines = (vec![in alloc; all_week, often]).expect(rt, "memory");
-    system(rt, alloc, name, lines, 26)
+    system(rt, alloc, name, lines, 26, 0)
 }
 
 pub fn by(rt: &impl Abort, alloc: Global, user: &str, admin: bool) -> By {

@@ -3,3 +3,4 @@ pub mod Keeps
 pub mod Made
 pub mod Begun
 pub mod Numbers
+pub mod Kept

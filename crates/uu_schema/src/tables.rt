@@ -1,9 +1,9 @@
 // The tables of an empty spool.
 ghost use Rattle.std.specs.Prelude.{◌≡◌, Err, false};
 ghost use Rattle.sqlite.specs.Held.{state};
-ghost use Rattle.sqlite.specs.State.{Survives};
+ghost use Rattle.sqlite.specs.State.{HasCleanDisk, KeepsCommit, Survives};
 ghost use Rattle.sqlite.specs.declared.error.Error.{Error};
-ghost use Rattle.uu_sql.specs.Steps.{Both, Outcome, Whole};
+ghost use Rattle.uu_sql.specs.Steps.{Both, Outcome, Undid, Whole};
 ghost use Rattle.uu_schema.specs.Schema.{no_schema, with_spool, with_systems, with_lines, with_ranges, with_jobs, with_pieces, first_site, site, spool, systems, lines, ranges, jobs, pieces, entries, success_waits};
 ghost use Rattle.uu_schema.specs.Made.{IsMade, IsBegun, IsRaised, FromWaits, FromEntries, FromPieces, FromJobs, FromRanges, FromLines, FromSystems, AllMade};
 ghost use Rattle.uu_schema.specs.Held.{MakesEmpty, Migrates};
@@ -85,6 +85,7 @@ fn create_entries<S: Alter>(tx: &mut Transaction<'_, S>) -> Result<usize, Error>
 fn create_success_waits<S: Alter>(tx: &mut Transaction<'_, S>) -> Result<usize, Error>
     ensures same_reference { tx.new.conn.ghost_name ≡ tx.old.conn.ghost_name }
     ensures outcome { Outcome first_site site (IsMade first_site success_waits.tree) (state S.Store tx.old.conn.now) (state S.Store tx.new.conn.now) result }
+    ensures kept { HasCleanDisk (state S.Store tx.new.conn.now) → KeepsCommit (state S.Store tx.old.conn.now) (state S.Store tx.new.conn.now) }
 {
     tx.execute(
         "CREATE TABLE success_waits (system TEXT NOT NULL PRIMARY KEY REFERENCES systems (name) ON DELETE CASCADE, wait INTEGER NOT NULL) STRICT",
@@ -184,6 +185,7 @@ pub fn create<S: Alter>(conn: &mut Connection<S>) -> Result<(), Halt>
 fn raise_version<S: Alter>(tx: &mut Transaction<'_, S>) -> Result<usize, Error>
     ensures same_reference { tx.new.conn.ghost_name ≡ tx.old.conn.ghost_name }
     ensures outcome { Outcome site site IsRaised (state S.Store tx.old.conn.now) (state S.Store tx.new.conn.now) result }
+    ensures kept { HasCleanDisk (state S.Store tx.new.conn.now) → KeepsCommit (state S.Store tx.old.conn.now) (state S.Store tx.new.conn.now) }
 {
     tx.execute("UPDATE spool SET version = 2", &[])
 }
@@ -192,6 +194,7 @@ fn raise_version<S: Alter>(tx: &mut Transaction<'_, S>) -> Result<usize, Error>
 fn migrate_tables<S: Alter>(tx: &mut Transaction<'_, S>) -> Result<usize, Error>
     ensures same_reference { tx.new.conn.ghost_name ≡ tx.old.conn.ghost_name }
     ensures outcome { Outcome first_site site (Both (IsMade first_site success_waits.tree) IsRaised) (state S.Store tx.old.conn.now) (state S.Store tx.new.conn.now) result }
+    ensures kept { HasCleanDisk (state S.Store tx.new.conn.now) → KeepsCommit (state S.Store tx.old.conn.now) (state S.Store tx.new.conn.now) }
 {
     create_success_waits(tx)?;
     raise_version(tx)
@@ -203,8 +206,10 @@ pub fn migrate<S: Alter>(conn: &mut Connection<S>) -> Result<(), Halt>
     ensures idle { conn.new.in_transaction ≡ false }
     ensures whole { Whole first_site site Migrates (state S.Store conn.old) (state S.Store conn.new) result }
 
-    // Nothing of a transaction that stopped before its commit can be kept, whatever the database. A commit that was refused is not such a one.
+    // Nothing of a transaction that stopped before its commit can be kept, and what was committed shows again, whatever the database. A commit that
+    // was refused is not such a one.
     ensures before { (error : Error) → result ≡ Err (Before error) → Survives (state S.Store conn.old) (state S.Store conn.new) (λ _. ⊥) }
+    ensures undone { (error : Error) → result ≡ Err (Before error) → HasCleanDisk (state S.Store conn.new) → Undid (state S.Store conn.old) (state S.Store conn.new) }
 {
     let mut tx = conn.transaction();
     migrate_tables(&mut tx)?;

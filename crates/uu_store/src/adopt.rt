@@ -74,7 +74,7 @@ impl<S: Alter> Spool<S> {
         ensures newer_names_a_later_version { IfErr result (λ e. HasCleanDisk (state S.Store e.conn) → (v : Version) → Stands (site_of v) (state S.Store conn).now → e.fault ≡ StoreFault.Newer → IsLater (state S.Store conn).now.trees) }
 
         // A refusal leaves it as it was, also where the tables are of another shape or others stand beside them.
-        ensures refusal_changes_nothing { IfErr result (λ e. HasCleanDisk (state S.Store e.conn) → Rests (state S.Store conn) → UnlessFailed e.fault (IsAsBefore e.fault (state S.Store conn) (state S.Store e.conn))) }
+        ensures refusal_changes_nothing { IfErr result (λ e. HasCleanDisk (state S.Store e.conn) → Rests (state S.Store conn) → UnlessFailed e.fault (IsAsBefore (state S.Store conn) (state S.Store e.conn))) }
 
         // What a stop at its end leaves: the state that was encoded, of version 1 in that or in version 2, and of an empty one nothing or an empty
         // spool. Once it was taken, version 2 alone is left, and after a refusal what was there, unless the store failed.

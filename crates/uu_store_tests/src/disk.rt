@@ -1,7 +1,8 @@
 // A spool over the two files of a disk, one of which refuses every call from some call on.
 ghost use Rattle.std.specs.Prelude.{◌≡◌, false};
 
-use sqlite::{Alter, Connection, FileStore, Options};
+use crate::rows::rows_of;
+use sqlite::{Alter, Connection, FileStore, Options, Row};
 use sqlite_disk::{Crash, Disk, Files, Fuse, Memory};
 use std::alloc::Global;
 use std::process::Abort;
@@ -156,6 +157,53 @@ pub(crate) fn visit_files<R: Abort, V: Visitor>(
     let files = fused_files(rt, alloc, contents, used.stop);
     let (files, end) = visited(rt, alloc, files, used, visitor);
     visit_of(rt, alloc, end, files)
+}
+
+/// What files with these contents hold once these statements have changed their database, and the rows of the answer to a question behind
+/// them. Nothing is taken as a spool.
+pub(crate) fn change_files(
+    rt: &impl Abort,
+    alloc: Global,
+    contents: &Contents,
+    statements: &[&'static str],
+    question: &'static str,
+) -> (Contents, Vec<Row>) {
+    let files = fused_files(rt, alloc, contents, Use::unstopped(LONG_LOG).stop);
+    let (files, rows) = changed(rt, alloc, files, statements, question);
+    (contents_of(rt, alloc, &files), rows)
+}
+
+/// The files after the statements, and the rows of the answer.
+fn changed<D: Disk + Drop>(
+    rt: &impl Abort,
+    alloc: Global,
+    files: Files<D>,
+    statements: &[&'static str],
+    question: &'static str,
+) -> (Files<D>, Vec<Row>) {
+    assert!(rt; files.may_be_used(), "a sync of these files has failed");
+    match Connection::open_files(alloc, files, LONG_LOG) {
+        Ok(conn) => {
+            let (store, rows) = changed_in(rt, conn, statements, question);
+            (store.close(), rows)
+        }
+        Err(_) => panic!(rt; "the files are not opened"),
+    }
+}
+
+/// The same of a database over any store.
+fn changed_in<S: Alter + Drop>(
+    rt: &impl Abort,
+    conn: Connection<S>,
+    statements: &[&'static str],
+    question: &'static str,
+) -> (S, Vec<Row>) {
+    let mut conn = conn;
+    for statement in statements {
+        let _rows = conn.execute(statement, &[]).expect(rt, statement);
+    }
+    let rows = rows_of(rt, &mut conn, question);
+    (conn.into_store(), rows)
 }
 
 type FusedFiles = Files<Fuse<Memory>>;

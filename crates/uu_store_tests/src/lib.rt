@@ -1,5 +1,5 @@
 //! Tests of the spool over disks and databases in memory: stops at each call of a disk, worked rows beside the plain machine, the
-//! pieces of jobs, what a listing costs, stretches of work over a file, and databases that are handed over.
+//! pieces of jobs, what a listing costs, stretches of work over a file, databases of an earlier version, and databases that are handed over.
 #![tactic(auto)]
 
 #[cfg(test)]
@@ -14,6 +14,8 @@ mod files;
 mod handing_over;
 #[cfg(test)]
 mod listing;
+#[cfg(test)]
+mod migrating;
 #[cfg(test)]
 mod order;
 #[cfg(test)]

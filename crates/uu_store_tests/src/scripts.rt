@@ -20,8 +20,8 @@ pub(crate) const EVERY_KIND: &[Step] = &[
         Number(3),
     ),
     Does(Order::Failed("duke", MONDAY), Done),
-    // A known system gets other lines.
-    Does(Order::Define("duke", NIGHT, 26), Done),
+    // A known system gets other lines, and a success wait.
+    Does(Order::Rests("duke", NIGHT, 600), Done),
     Does(Order::Regrade(1, b'A'), Done),
     Does(Order::Rejuvenate(1), Done),
     Does(Order::Entry("#N unc\nunc duke(5)\n"), Done),

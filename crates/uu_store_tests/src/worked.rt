@@ -185,6 +185,49 @@ const WAITS: &[Step] = &[
     Says(Systems, "duke 26 [C 0 0-10079] 0 0 1000116000 done/"),
 ];
 
+/// A system is left alone after a call that went well, with jobs and without. A new definition leaves a wait that runs, and counts from the
+/// next call on.
+const SUCCESS_WAITS: &[Step] = &[
+    Does(Order::Rests("duke", ANY, 600), Done),
+    Says(Systems, "duke 26 [z 0 0-10079] rests 600 0 0 0 never/"),
+    Does(Order::File("duke", b'N'), Number(1)),
+    Says(Due(MONDAY), "duke N 1/"),
+    Does(Order::Called("duke", &[]), Done),
+    Says(
+        Systems,
+        "duke 26 [z 0 0-10079] rests 600 0 600 1000116000 done/",
+    ),
+    Says(Due(MONDAY - 1), "duke N 1/"),
+    Says(Due(MONDAY), ""),
+    Says(Due(MONDAY + 599), ""),
+    Says(Chosen(MONDAY + 599), ""),
+    Says(Due(MONDAY + 600), "duke N 1/"),
+    Says(Chosen(MONDAY + 600), "duke N 1/"),
+    Does(Order::Rests("duke", ANY, 31_536_000), Done),
+    Says(
+        Systems,
+        "duke 26 [z 0 0-10079] rests 31536000 0 600 1000116000 done/",
+    ),
+    Does(Order::Define("duke", ANY, 26), Done),
+    Says(Systems, "duke 26 [z 0 0-10079] 0 600 1000116000 done/"),
+    Says(Due(MONDAY + 599), ""),
+    Does(Order::Rests("duke", ANY, 31_536_000), Done),
+    Does(Order::Failed("duke", SUNDAY), Done),
+    Says(
+        Systems,
+        "duke 26 [z 0 0-10079] rests 31536000 1 600 1000000000 busy/",
+    ),
+    Does(Order::Called("duke", &[1]), Done),
+    Says(
+        Systems,
+        "duke 26 [z 0 0-10079] rests 31536000 0 31536000 1000116000 done/",
+    ),
+    Does(Order::Called("duke", &[2]), Refused(Refusal::NoJob)),
+    Does(Order::Remove("duke"), Done),
+    DUKE,
+    Says(Systems, "duke 26 [z 0 0-10079] 0 0 0 never/"),
+];
+
 /// A day is waited after the most retries.
 const MOST_RETRIES: &[Step] = &[
     Does(Order::Define("duke", ANY_30, 2), Done),
@@ -342,6 +385,7 @@ fn systems_are_called_as_worked(rt: HostRuntime) {
         FIVE_SYSTEMS,
         TWO_LINES,
         WAITS,
+        SUCCESS_WAITS,
         MOST_RETRIES,
         HELD_AND_LOW,
         NIGHTS,

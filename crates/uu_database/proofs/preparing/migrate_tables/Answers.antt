@@ -2,7 +2,7 @@ use Rattle.std.proofs.Common.{refl, arith}
 use Rattle.sqlite.specs.Held.{state}
 use Rattle.uu_schema.specs.Held.{Migrates}
 use Rattle.uu_schema.specs.Schema.{first_site, site}
-use Rattle.uu_database.proofs.Becoming.{becomes_ok, becomes_err, migrates_states, halted_unmade}
+use Rattle.uu_database.proofs.Becoming.{becomes_ok, becomes_err, migrates_states, halted_unmade, halted_spared}
 use Rattle.uu_database.proofs.preparing.migrate_tables.Goals as goal
 
 pub returns-in-Ok-clause-migrates : goal.returns-in-Ok-clause-migrates
@@ -18,6 +18,11 @@ pub returns-in-Err-clause-unmade : goal.returns-in-Err-clause-unmade
 returns-in-Err-clause-unmade g c =
     halted_unmade (state g.S.Store c.args.conn.now) (state g.S.Store c.migrate.new.conn) (state g.S.Store c.halt_fault.new.conn) c.in-Err.halt c.migrate.result c.halt_fault.result c.in-Err.is c.halt_fault.ensures.fresh c.migrate.ensures.before
     c.halt_fault.ensures.commit c.halt_fault.ensures.survives
+
+pub returns-in-Err-clause-spared : goal.returns-in-Err-clause-spared
+returns-in-Err-clause-spared g c =
+    halted_spared (state g.S.Store c.args.conn.now) (state g.S.Store c.migrate.new.conn) (state g.S.Store c.halt_fault.new.conn) c.in-Err.halt c.migrate.result c.halt_fault.result c.in-Err.is c.halt_fault.ensures.fresh
+    c.migrate.ensures.idle c.migrate.ensures.undone c.halt_fault.ensures.commit c.halt_fault.ensures.memory c.halt_fault.ensures.survives (returns-in-Err-clause-unmade g c)
 
 pub returns-in-Ok-clause-clean : goal.returns-in-Ok-clause-clean
 returns-in-Ok-clause-clean g c = c.migrate.ensures.whole.survives.clean

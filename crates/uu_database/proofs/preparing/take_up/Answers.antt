@@ -2,7 +2,7 @@ use Rattle.std.proofs.Common.{◌≡◌, Some, sym, ap, ◌∙◌, subst, arith}
 use Rattle.sqlite.specs.Held.{state}
 use Rattle.uu_schema.specs.declared.version.Version.TheVariants.{First}
 use Rattle.uu_database.specs.Adoption.{IsInspected}
-use Rattle.uu_database.proofs.Becoming.{migrated_then, inspected_then}
+use Rattle.uu_database.proofs.Becoming.{migrated_then, inspected_then, spared_then}
 use Rattle.uu_database.proofs.preparing.take_up.Goals as goal
 
 pub returns-in-Some-First-clause-inspected : goal.returns-in-Some-First-clause-inspected
@@ -20,3 +20,10 @@ returns-in-Some-First-clause-migrates g c tables =
     let b = state g.S.Store c.inspect.new.conn in
     let d = state g.S.Store c.migrate_tables.new.conn in
     migrated_then a b d (rw c.in-Ok.is at (c.inspect.ensures.inspected First tables)) (rw c.in-Ok.is at (c.inspect.ensures.spared)) (λ clean. omega (arith, clean, c.migrate_tables.ensures.clean)) c.migrate_tables.result c.migrate_tables.ensures.migrates
+
+pub returns-in-Some-First-clause-spared : goal.returns-in-Some-First-clause-spared
+returns-in-Some-First-clause-spared g c refused =
+    let a = state g.S.Store c.args.conn.now in
+    let b = state g.S.Store c.inspect.new.conn in
+    let d = state g.S.Store c.migrate_tables.new.conn in
+    spared_then a b d c.migrate_tables.result (rw c.in-Ok.is at (c.inspect.ensures.spared)) (λ clean. omega (arith, clean, c.migrate_tables.ensures.clean)) (c.migrate_tables.ensures.spared (refused (search rules)))

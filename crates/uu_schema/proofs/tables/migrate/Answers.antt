@@ -1,13 +1,14 @@
 use Rattle.std.proofs.Common.{◌≡◌, false, subst, rules}
 use Rattle.sqlite.specs.Held.{state}
-use Rattle.sqlite.specs.State.{Survives}
+use Rattle.sqlite.specs.State.{HasCleanDisk, Survives}
 use Rattle.sqlite.proofs.StateLemmas.{survives_then}
 use Rattle.sqlite.proofs.Callers.{survives_begin}
-use Rattle.uu_sql.specs.Steps.{Whole}
+use Rattle.uu_sql.specs.Steps.{Undid, Whole}
 use Rattle.uu_sql.proofs.Steps.{abandoned, committed, whole_as, weaker}
 use Rattle.uu_schema.specs.Schema.{site, first_site}
 use Rattle.uu_schema.specs.Held.{Migrates}
 use Rattle.uu_schema.proofs.Begun.{migrates}
+use Rattle.uu_schema.proofs.Kept.{rolled_back}
 use Rattle.uu_schema.proofs.tables.migrate.Goals as goal
 
 pub returns : goal.returns
@@ -23,6 +24,7 @@ returns g c =
           (committed first_site site g.S.Store Step c.args.conn.now (state g.S.Store c.migrate_tables.new.tx.conn.now) (state g.S.Store end) c.commit.ensures.ended (g.met.S.Store.settled end.store) c.commit.result
           (rw c.transaction-tx.ensures.begun at made) c.commit.ensures.survives c.commit.ensures.ok c.commit.ensures.err));
       before = λ error is. absurd (search rules);
+      undone = λ error is. absurd (search rules);
     }
 
 pub returns-in_err-migrate_tables : goal.returns-in_err-migrate_tables
@@ -38,4 +40,7 @@ returns-in_err-migrate_tables g c =
       before = λ error is. subst (λ h. Survives (state g.S.Store c.args.conn.now) (state g.S.Store h) (λ _. ⊥)) same
           (survives_then (state g.S.Store c.args.conn.now) (state g.S.Store c.migrate_tables.new.tx.conn.now) (state g.S.Store end) (λ _. ⊥) (λ _. ⊥) (λ _. ⊥) (λ _ db none. none) (λ _ db none. none)
           (survives_begin g.S.Store c.args.conn.now (state g.S.Store c.migrate_tables.new.tx.conn.now) (λ _. ⊥) (rw c.transaction-tx.ensures.begun at c.in_err-migrate_tables.ensures.outcome).survives) c.drop-tx.ensures.survives);
+      undone = λ error is. subst (λ h. HasCleanDisk (state g.S.Store h) → Undid (state g.S.Store c.args.conn.now) (state g.S.Store h)) same
+          (rolled_back g.S.Store c.args.conn.now (state g.S.Store c.migrate_tables.new.tx.conn.now) (state g.S.Store end) (g.met.S.Store.settled end.store)
+          (rw c.transaction-tx.ensures.begun at c.migrate_tables.ensures.kept) c.drop-tx.ensures.undone c.drop-tx.ensures.survives);
     }

@@ -52,7 +52,7 @@ returns-in-Ok-clause-stop_when_migrated g c clean rests s enc =
 
 pub returns-in-Err-clause-refusal_changes_nothing : goal.returns-in-Err-clause-refusal_changes_nothing
 returns-in-Err-clause-refusal_changes_nothing g c clean rests =
-    same_as (state g.S.Store c.args.conn) (state g.S.Store c.prepare.new.conn) c.in-Err.fault (rw c.in-Err.is at c.prepare.ensures.spared) (rw c.in-Err.is at c.prepare.ensures.migrates) (rw c.in-Err.is at c.prepare.ensures.creates)
+    same_as (state g.S.Store c.args.conn) (state g.S.Store c.prepare.new.conn) c.in-Err.fault (rw c.in-Err.is at c.prepare.ensures.spared) (rw c.in-Err.is at c.prepare.ensures.creates)
     (rw c.in-Err.is at c.prepare.ensures.empty_never_refused) (rw c.in-Err.is at c.prepare.ensures.never_failed) clean rests
 
 pub returns-in-Err-clause-stop_when_turned_away : goal.returns-in-Err-clause-stop_when_turned_away
