@@ -2,6 +2,7 @@
 use Rattle.std.specs.Prelude.{◌≡◌, ◌≢◌, ◌⊎◌, ◌<◌, ◌≤◌, ◌^◌, ◌++◌, ◌∷◌, ℕ, List, All, Option, IfSome, length, ⊤}
 use Rattle.std.specs.List.{flat_map}
 use Rattle.std.specs.Fmt.{decimal}
+use Rattle.std.specs.Io.KnownBytes.{Consumes}
 use Rattle.std.specs.Str.{IsUtf8}
 use Rattle.uu_frame.specs.declared.fault.FrameFault.{FrameFault}
 use Rattle.uu_frame.specs.declared.fault.FrameFault.TheVariants as fault
@@ -62,10 +63,20 @@ abbrev pub BeginsWithTooMuch : ℕ → List ℕ → Type 0
 BeginsWithTooMuch limit bytes =
     (count : ℕ) × (words : List (List ℕ)) × IsHead count words × (limit < count) × (rest : List ℕ) × (bytes ≡ head_line count words ++ 10 ∷ rest)
 
--- The cause of a fault is in the bytes that the reader had, where they are known. A read may fail, and memory be short, at any time.
-abbrev pub IsCause : ℕ → Option (List ℕ) → FrameFault → Type 0
-IsCause limit had fault.NoRequest = IfSome had BeginsWithNoRequest
-IsCause limit had fault.TooLarge = IfSome had (BeginsWithTooMuch limit)
-IsCause limit had fault.Read = ⊤
-IsCause limit had fault.Write = ⊥
-IsCause limit had fault.Memory = ⊤
+-- the bytes begin with the line of a request whose input has no more bytes than the limit
+abbrev pub BeginsWithin : ℕ → List ℕ → Type 0
+BeginsWithin limit bytes =
+    (count : ℕ) × (words : List (List ℕ)) × IsHead count words × (count ≤ limit) × (rest : List ℕ) × (bytes ≡ head_line count words ++ 10 ∷ rest)
+
+-- of the next line not more was read than a request's has, and not its end
+abbrev pub IsWithinLine : Option (List ℕ) → Option (List ℕ) → Type 0
+IsWithinLine had left = (front : List ℕ) × All (λ byte. byte ≢ 10) front × (length front ≤ most_line) × Consumes had left front
+
+-- The cause of a fault is in the bytes that the reader had, and that it has left, where they are known. A read may fail at any time, within the
+-- next line or behind that of a request within the limit, and memory be short.
+abbrev pub IsCause : ℕ → Option (List ℕ) → Option (List ℕ) → FrameFault → Type 0
+IsCause limit had left fault.NoRequest = IfSome had BeginsWithNoRequest
+IsCause limit had left fault.TooLarge = IfSome had (BeginsWithTooMuch limit)
+IsCause limit had left fault.Read = IsWithinLine had left ⊎ IfSome had (BeginsWithin limit)
+IsCause limit had left fault.Write = ⊥
+IsCause limit had left fault.Memory = ⊤

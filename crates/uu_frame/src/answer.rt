@@ -5,14 +5,15 @@ ghost use Rattle.uu_frame.specs.Frames.{answer_frame};
 ghost use Rattle.uu_frame.specs.Writing.{IsBegun};
 
 use crate::fault::FrameFault;
-use crate::writing::write_whole;
+use crate::writing::{write_behind, write_whole};
 use std::alloc::Global;
 use std::io::Write;
 
 /// Writes an answer, and flushes it.
 ///
 /// # Errors
-/// `Write`, where a front of the answer was written, or all of it and it was not flushed; and `Memory`, where nothing was written.
+/// `Write`, where a front of the answer was written, or all of it and it was not flushed; and `Memory`, where nothing was written, also where
+/// it was the writer that found none.
 pub fn write_answer<W: Write>(
     alloc: Global,
     status: u8,
@@ -31,7 +32,7 @@ pub fn write_answer<W: Write>(
     if let Err(fault) = write_whole(line.as_bytes(), out) {
         return Err(fault);
     }
-    if let Err(fault) = write_whole(bytes, out) {
+    if let Err(fault) = write_behind(bytes, out) {
         return Err(fault);
     }
     match out.flush() {

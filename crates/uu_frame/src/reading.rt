@@ -1,5 +1,5 @@
 //! Bytes off a reader: a line within its limit, or so many.
-ghost use Rattle.std.specs.Prelude.{◌≡◌, ◌≢◌, ◌⊎◌, ◌≤◌, ◌++◌, ◌∷◌, ℕ, [], All, IfOk, IfErr, IfSome, Ok, None, length};
+ghost use Rattle.std.specs.Prelude.{◌≡◌, ◌≢◌, ◌⊎◌, ◌≤◌, ◌++◌, ◌∷◌, ℕ, [], All, IfOk, IfErr, IfSome, IsSome, MatchResult, Ok, None, length};
 ghost use Rattle.std.specs.Io.KnownBytes.{Consumes, IsAtEnd};
 ghost use Rattle.std.specs.IoError.{error_kind};
 ghost use Rattle.uu_frame.specs.Frames.{IsCause, most_line};
@@ -21,7 +21,7 @@ pub(crate) fn read_line<R: BufRead>(
     ensures bare { IfOk result (λ next. IfSome next (λ line. All (λ byte. byte ≢ 10) line.items)) }
     ensures short { IfOk result (λ next. IfSome next (λ line. length line.items ≤ most_line)) }
     ensures end { result ≡ Ok None → IsAtEnd (R.remaining reader.old) }
-    ensures cause { IfErr result (λ fault. (limit : ℕ) → IsCause limit (R.remaining reader.old) fault) }
+    ensures cause { IfErr result (λ fault. (limit : ℕ) → IsCause limit (R.remaining reader.old) (R.remaining reader.new) fault) }
 {
     let mut line = Vec::new(alloc);
     while line.len() <= MAX_LINE {
@@ -40,6 +40,7 @@ pub(crate) fn read_line<R: BufRead>(
 fn next_byte<R: BufRead>(reader: &mut R) -> Result<Option<u8>, FrameFault>
     ensures byte { IfOk result (λ next. IfSome next (λ byte. Consumes (R.remaining reader.old) (R.remaining reader.new) (byte ∷ []))) }
     ensures end { result ≡ Ok None → IsAtEnd (R.remaining reader.old) }
+    ensures kept { MatchResult result (λ next. IsSome next ⊎ Consumes (R.remaining reader.old) (R.remaining reader.new) []) (λ _. Consumes (R.remaining reader.old) (R.remaining reader.new) []) }
     ensures named { IfErr result (λ fault. (fault ≡ FrameFault.Read) ⊎ (fault ≡ FrameFault.Memory)) }
 {
     let mut byte = [0u8; 1];

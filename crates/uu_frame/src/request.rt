@@ -33,7 +33,7 @@ pub fn read_request<R: BufRead>(
     ensures head { IfOk result (λ next. IfSome next (λ request. IsHead (length request.input.items) (map string_bytes request.words.items))) }
     ensures limit { IfOk result (λ next. IfSome next (λ request. length request.input.items ≤ limit)) }
     ensures end { result ≡ Ok None → IsAtEnd (R.remaining reader.old) }
-    ensures cause { IfErr result (IsCause limit (R.remaining reader.old)) }
+    ensures cause { IfErr result (IsCause limit (R.remaining reader.old) (R.remaining reader.new)) }
 {
     let line = match read_line(alloc, reader) {
         Ok(Some(line)) => line,

@@ -1,5 +1,5 @@
 //! Bytes onto a writer.
-ghost use Rattle.std.specs.Prelude.{◌≡◌, IfErr, MatchResult};
+ghost use Rattle.std.specs.Prelude.{◌≡◌, ◌⊎◌, [], Err, IfErr, MatchResult};
 ghost use Rattle.std.specs.Io.KnownBytes.{Appends};
 ghost use Rattle.uu_frame.specs.Writing.{IsCut};
 
@@ -9,10 +9,11 @@ use std::io::{ErrorKind, Write};
 /// Writes all bytes, as `write_all` does, which says nothing of what it wrote where it fails.
 ///
 /// # Errors
-/// `Write`, where less than the bytes was written.
+/// `Write`, where less than the bytes was written; `Memory`, where the writer found none for the first of them, so that nothing was written.
 pub fn write_whole<W: Write>(bytes: &[u8], out: &mut W) -> Result<(), FrameFault>
-    ensures fault { IfErr result (λ fault. fault ≡ FrameFault.Write) }
+    ensures fault { IfErr result (λ fault. (fault ≡ FrameFault.Write) ⊎ (fault ≡ FrameFault.Memory)) }
     ensures bytes { MatchResult result (λ _. Appends (W.contents out.old) (W.contents out.new) bytes.now) (λ _. IsCut bytes.now (Appends (W.contents out.old) (W.contents out.new))) }
+    ensures nothing { result ≡ Err FrameFault.Memory → Appends (W.contents out.old) (W.contents out.new) [] }
 {
     let mut rest = bytes;
     for _ in 0..u64::MAX {
@@ -22,13 +23,32 @@ pub fn write_whole<W: Write>(bytes: &[u8], out: &mut W) -> Result<(), FrameFault
         match out.write(rest) {
             Ok(0) => return Err(FrameFault::Write),
             Ok(count) => rest = &rest[count..],
-            Err(error) if error.kind() == ErrorKind::Interrupted => {}
-            Err(_) => return Err(FrameFault::Write),
+            Err(error) => match error.kind() {
+                ErrorKind::Interrupted => {}
+                ErrorKind::OutOfMemory if rest.len() == bytes.len() => {
+                    return Err(FrameFault::Memory);
+                }
+                _ => return Err(FrameFault::Write),
+            },
         }
     }
     if rest.is_empty() {
         Ok(())
     } else {
         Err(FrameFault::Write)
+    }
+}
+
+/// Writes all bytes of a text behind its front, which was written: where the writer finds no memory for them, the text is cut, too.
+///
+/// # Errors
+/// `Write`, where less than the bytes was written.
+pub(crate) fn write_behind<W: Write>(bytes: &[u8], out: &mut W) -> Result<(), FrameFault>
+    ensures fault { IfErr result (λ fault. fault ≡ FrameFault.Write) }
+    ensures bytes { MatchResult result (λ _. Appends (W.contents out.old) (W.contents out.new) bytes.now) (λ _. IsCut bytes.now (Appends (W.contents out.old) (W.contents out.new))) }
+{
+    match write_whole(bytes, out) {
+        Ok(()) => Ok(()),
+        Err(_) => Err(FrameFault::Write),
     }
 }

@@ -26,7 +26,8 @@ use Rattle.clap.specs.declared.error.kind.ErrorKind.{ErrorKind}
 use Rattle.clap.specs.declared.error.kind.ErrorKind.TheVariants as kind
 use Rattle.clap.proofs.SimpleLemmas.{is_false, is_nil}
 use Rattle.clap.proofs.WalkLemmas.{both}
-use Rattle.uu_line.specs.Entries.{AreNumbersUpTo, AreTaken, HasSubcommand, HaveTexts, IsEntered, most_job, most_second, subcommand_named, texts_at, texts_of}
+use Rattle.uu_line.specs.Internal.Entries.{AreNumbersUpTo, AreTaken, HasSubcommand, HaveTexts, IsEntered, most_job, most_second, subcommand_named, texts_of}
+use Rattle.uu_line.specs.Lines.{texts_at}
 use Rattle.uu_line.proofs.StopLemmas.{long_steps, steps_so, step_stops, stops_so}
 use Rattle.uu_line.proofs.UseLemmas.{HoldsIfAny, RowsHold, RulesHold, UsesHold, all_pass, first_passes, is_counting, level_holds, then_passes}
 

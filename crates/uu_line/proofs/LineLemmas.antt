@@ -15,8 +15,9 @@ use Rattle.uu_names.specs.Name.{has_form, is_site_byte, is_site_name, is_word, i
 use Rattle.uu_names.specs.Fault.{UnlessMemory as UnlessMemoryOf}
 use Rattle.uu_names.specs.declared.fault.NameFault.TheVariants as name
 use Rattle.uu_names.specs.declared.fault.NameFault.TheVariants.{BadName, BadWord, TooLong}
-use Rattle.clap.specs.Words.{Row, Text, all_of, first_of, found_of, matches_of, rows_of, fault_of, subcommand_of, subcommand_rows_of}
+use Rattle.clap.specs.Words.{IsAmong, Row, Text, all_of, first_of, found_of, matches_of, rows_of, fault_of, subcommand_of, subcommand_rows_of}
 use Rattle.clap.specs.Simple.{subcommand_rows}
+use Rattle.clap.specs.declared.error.kind.ErrorKind.{ErrorKind}
 use Rattle.clap.specs.declared.parser.matches.ArgMatches.{ArgMatches}
 use Rattle.clap.specs.declared.parser.matches.ArgMatches.TheViews.{out-SubCommand}
 use Rattle.clap.specs.declared.parser.matches.SubCommand.{SubCommand}
@@ -31,18 +32,19 @@ use Rattle.clap.specs.ValueTests.{is_unsigned_in}
 use Rattle.clap.specs.declared.builder.value_parser.ValueParser.TheVariants as vp
 use Rattle.clap.proofs.ValueTestLemmas.{accepts-Accepts}
 use Rattle.clap.proofs.WalkLemmas.{both}
-use Rattle.uu_line.specs.Entries.{AreNumbersUpTo, AreTaken, HasSubcommand, texts_at}
-use Rattle.uu_line.specs.Lines.{Answers, AreNumbers, HasEntriesOf, IsAddressFault, IsAnswerTo, IsBadAddress, IsNumber, IsNumberOf, IsWordsWhere, Line, Means, MeansEntered, MeansEntries, MeansLineOf, UnlessMemory, and_then, answered, mail_by, named, optional, said, same_text, site_of, word_of, words_of}
+use Rattle.uu_line.specs.Internal.Entries.{AreNumbersUpTo, AreTaken, HasSubcommand}
+use Rattle.uu_line.specs.Lines.{texts_at}
+use Rattle.uu_line.specs.Lines.{Answers, AreNumbers, HasEntriesOf, IsAddressFault, IsAnswerTo, IsBadAddress, IsNumber, IsNumberOf, IsWordsOf, Line, Means, MeansEntered, MeansEntries, MeansLineOf, UnlessMemory, and_then, answered, mail_by, named, optional, said, same_text, site_of, word_of, words_of}
 use Rattle.uu_line.proofs.ProgramLemmas.{program_takes}
 use Rattle.uu_line.specs.declared.fault.LineFault.{LineFault}
 use Rattle.uu_line.specs.declared.fault.LineFault.TheVariants as fault
 
--- where P holds, Q does
-pub IsWordsWhere-weaker : (P Q : Type 0) (f : LineFault) → (P → Q) → IsWordsWhere P f → IsWordsWhere Q f
-IsWordsWhere-weaker P Q (fault.Words text help) weaker where_it = weaker where_it
-IsWordsWhere-weaker P Q (fault.Name why) weaker where_it = where_it
-IsWordsWhere-weaker P Q fault.TwoSystems weaker where_it = where_it
-IsWordsWhere-weaker P Q fault.Memory weaker where_it = tt
+-- a fault of words with a kind of which P holds is one with a kind of which Q does
+pub IsWordsOf-weaker : (P Q : ErrorKind → Type 0) (f : LineFault) → ((kind : ErrorKind) → P kind → Q kind) → IsWordsOf P f → IsWordsOf Q f
+IsWordsOf-weaker P Q (fault.Words text help) weaker it = (it.0, weaker it.0 it.1, it.2)
+IsWordsOf-weaker P Q (fault.Name why) weaker it = it
+IsWordsOf-weaker P Q fault.TwoSystems weaker it = it
+IsWordsOf-weaker P Q fault.Memory weaker it = tt
 
 -- of a fault that is no want of memory, what holds of it
 pub err_weaker : {V W : Type 0} (P : Result V LineFault → Type 0) (Q : Result W LineFault → Type 0) (f : LineFault)
@@ -259,7 +261,7 @@ answers_words words found (Err fault.TwoSystems) entries means = (entries.0, mea
 answers_words words found (Err fault.Memory) entries means = tt
 
 -- `clap` refuses the words
-pub refuses_words : (words : List Text) (why : LineFault) → IsWordsWhere (fault_of program words ≢ []) why
+pub refuses_words : (words : List Text) (why : LineFault) → IsWordsOf (λ kind. IsAmong kind (fault_of program words)) why
     → (let answer : Result CallLine LineFault = Err why in IsAnswerTo words answer)
 refuses_words words (fault.Words text help) refused = refused
 refuses_words words (fault.Name why) refused = absurd refused

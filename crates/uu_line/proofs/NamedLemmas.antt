@@ -11,7 +11,7 @@ use Rattle.clap.specs.Simple.{App, Shape, built_leaf, entered, help_shape, inher
 use Rattle.clap.specs.Kinds.{Kinds, or_else}
 use Rattle.clap.specs.Faults.{entered_fault, level_fault, other_fault, step_fault, turn_fault, walk_fault}
 use Rattle.clap.proofs.WalkLemmas.{both}
-use Rattle.uu_line.specs.Commands.{is_among, is_wanted}
+use Rattle.uu_line.specs.Internal.Wanted.{is_among, is_wanted}
 use Rattle.uu_line.proofs.EntryLemmas.{and_true, answered_by, found_passes, or_left, or_right}
 use Rattle.uu_line.proofs.StopLemmas.{long_steps, steps_so, step_stops, stops_so}
 

@@ -11,8 +11,9 @@ use Rattle.clap.specs.Faults.{check_fault, defaults_fault, entered_fault, has_fr
 use Rattle.clap.specs.declared.error.Error.{Error}
 use Rattle.clap.specs.declared.parser.matches.ArgMatches.{ArgMatches}
 use Rattle.clap.proofs.OnLiterals.{clap_on_literals}
-use Rattle.uu_line.specs.Commands.{is_among, is_wanted, program, program_for}
-use Rattle.uu_line.specs.Entries.{AreTaken}
+use Rattle.uu_line.specs.Commands.{program}
+use Rattle.uu_line.specs.Internal.Wanted.{is_among, is_wanted, program_for}
+use Rattle.uu_line.specs.Internal.Entries.{AreTaken}
 use Rattle.uu_line.specs.Lines.{HasEntriesOf}
 use Rattle.uu_line.proofs.NamedLemmas.{all_kept, below_kept, built_kept, entered_kept, faults_kept, stop_among, subs_of, walk_kept}
 use Rattle.uu_line.proofs.StopLemmas.{stops_so}

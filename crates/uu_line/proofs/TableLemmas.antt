@@ -7,8 +7,8 @@ use Rattle.clap.specs.Words.{App, Shape, Text, app_of, new_app, with_rule, with_
 use Rattle.clap.specs.Built.{AddsInTurn, AddsSubcommand}
 use Rattle.clap.specs.declared.builder.command.Command.{Command}
 use Rattle.clap.specs.declared.builder.command.Command.TheViews.{out-Command as fields_of}
-use Rattle.uu_line.specs.Commands.{is_wanted}
-use Rattle.uu_line.specs.Tables.{IsFirstWanted, app_for, is_row_wanted, rule_for, with_apps, with_rules, with_wanted}
+use Rattle.uu_line.specs.Internal.Wanted.{is_wanted}
+use Rattle.uu_line.specs.Internal.Tables.{IsFirstWanted, app_for, is_row_wanted, rule_for, with_apps, with_rules, with_wanted}
 use Rattle.uu_line.specs.declared.commands.Entry.{Entry}
 use Rattle.uu_line.specs.declared.commands.Subcommand.{Subcommand}
 

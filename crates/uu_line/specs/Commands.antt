@@ -1,10 +1,9 @@
 -- The program's command line, in the terms of `clap`. The subcommands and options are this project's
 -- choice.
-use Rattle.std.specs.Prelude.{ℕ, Bool, List, Option, None, Some, [], ◌∷◌, ◌||◌, true, codes}
-use Rattle.std.specs.List.{filter, list_any}
-use Rattle.std.specs.Str.{byte, bytes_eq}
+use Rattle.std.specs.Prelude.{ℕ, List, Some, [], ◌∷◌, true, codes}
+use Rattle.std.specs.Str.{byte}
 use Rattle.clap.specs.Lexer.{usize_max}
-use Rattle.clap.specs.Words.{App, Rule, Text, new_rule, new_app, with_rule, with_subcommand}
+use Rattle.clap.specs.Words.{App, Rule, new_rule, new_app, with_rule, with_subcommand}
 use Rattle.clap.specs.Simple.{on_top}
 use Rattle.clap.specs.declared.builder.value_parser.ValueParser.TheVariants.{Unsigned}
 
@@ -138,18 +137,3 @@ program =
     with_subcommand (with_subcommand (with_subcommand (with_subcommand (with_subcommand (with_subcommand with_jobs
     (new_app (codes "due")).top) (new_app (codes "status")).top) failed_command.top) done_command.top)
     (new_app (codes "map")).top) neighbours_command.top
-
--- ---- for words, those subcommands alone that they may enter
-
--- one of the words is the name
-abbrev pub is_among : List Text → Text → Bool
-is_among words name = list_any (bytes_eq name) words
-
--- the words name the subcommand, or it is the first; without words each is wanted
-abbrev pub is_wanted : Option (List Text) → Text → Bool
-is_wanted None name = true
-is_wanted (Some words) name = bytes_eq name (codes "load") || is_among words name
-
--- the program, for words with the subcommands that are wanted for them
-abbrev pub program_for : Option (List Text) → App
-program_for words = record program { subs = filter (λ s. is_wanted words s.name) program.subs }

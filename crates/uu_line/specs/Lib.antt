@@ -1,5 +1,4 @@
 pub mod Faults
 pub mod Commands
-pub mod Tables
-pub mod Entries
 pub mod Lines
+pub mod Internal

@@ -1,12 +1,14 @@
 -- What the words of a line mean. The forms of words are those of `clap`, which takes no line without a subcommand and its
 -- required entries; the lines themselves are this project's choice.
-use Rattle.std.specs.Prelude.{◌≡◌, ◌≢◌, ◌⊎◌, Bool, true, false, ℕ, ◌^◌, ◌<◌, List, [], ◌∷◌, Option, Some, None, Result, Ok, Err, All, ⊤, codes, if◌then◌else◌, map, take, slice_get, ok_or, string_bytes}
+use Rattle.std.specs.Prelude.{◌≡◌, ◌≢◌, ◌↔◌, ◌⊎◌, Bool, true, false, ℕ, ◌^◌, ◌<◌, List, [], ◌∷◌, Option, Some, None, Result, Ok, Err, All, ⊤, codes, if◌then◌else◌, map, take, slice_get, ok_or, string_bytes, unwrap_or}
 use Rattle.std.specs.List.{list_all}
 use Rattle.std.specs.Str.Parse.{IsNumeral, digits_value, without_leading_plus}
 use Rattle.std.specs.Cmp.Lexicographic.{pointwise}
 use Rattle.std.specs.Prelude.{nat_eq}
-use Rattle.clap.specs.Words.{Row, Text, all_of, first_of, matches_of, subcommand_of, fault_of}
+use Rattle.clap.specs.Words.{IsAmong, Row, Text, all_of, first_of, matches_of, subcommand_of, fault_of}
 use Rattle.clap.specs.Words.{found_of, rows_of, subcommand_rows_of}
+use Rattle.clap.specs.declared.error.kind.ErrorKind.{ErrorKind}
+use Rattle.clap.specs.declared.error.kind.ErrorKind.TheVariants.{DisplayHelp, DisplayVersion}
 use Rattle.clap.specs.declared.parser.matches.ArgMatches.{ArgMatches}
 use Rattle.uu_names.specs.Grade.{rank_of}
 use Rattle.uu_names.specs.Name.{site_name_of, word_of as as_word}
@@ -15,7 +17,6 @@ use Rattle.uu_names.specs.declared.fault.NameFault.{NameFault}
 use Rattle.uu_names.specs.declared.fault.NameFault.TheVariants.{BadGrade}
 use Rattle.uu_names.specs.declared.fault.NameFault.TheVariants.{Memory as NoMemory}
 use Rattle.uu_line.specs.Commands.{program}
-use Rattle.uu_line.specs.Entries.{texts_at}
 use Rattle.uu_line.specs.declared.fault.LineFault.{LineFault}
 use Rattle.uu_line.specs.declared.fault.LineFault.TheVariants.{Words, Name, TwoSystems, Memory}
 use Rattle.uu_line.specs.declared.line.CallLine.{CallLine}
@@ -31,6 +32,10 @@ WithText id rows P = (text : Text) × (Some text ≡ first_of id rows) × P text
 -- the entry has texts, one or more, of which P holds
 abbrev pub WithTexts : Text → List Row → (Text → List Text → Type 0) → Type 0
 WithTexts id rows P = (first : Text) × (others : List Text) × (Some (first ∷ others) ≡ all_of id rows) × P first others
+
+-- the texts of an entry that has any number of them
+abbrev pub texts_at : Text → List Row → List Text
+texts_at id rows = unwrap_or (all_of id rows) []
 
 -- the text is this number of so many bits, in decimal digits; a plus may stand before them
 abbrev pub IsNumber : ℕ → Text → ℕ → Type 0
@@ -301,9 +306,13 @@ HasEntriesOf words found =
     (fault_of program words ≡ []) × (rows_of (found_of found) ≡ matches_of program words)
     × (subcommand_rows_of found ≡ subcommand_of program words)
 
--- the words are no line, or ask for help
-abbrev pub AreRefused : List Text → Type 0
-AreRefused words = fault_of program words ≢ []
+-- a fault of this kind is told as help exactly where the kind is that of help or of a version
+abbrev pub IsToldAsHelp : ErrorKind → Bool → Type 0
+IsToldAsHelp kind help = (help ≡ false) ↔ ((kind ≢ DisplayHelp) × (kind ≢ DisplayVersion))
+
+-- the words are no line, or ask for help: `clap` refuses them with one of the kinds that it may, which says whether they ask for help
+abbrev pub AreRefused : List Text → Bool → Type 0
+AreRefused words help = (kind : ErrorKind) × IsAmong kind (fault_of program words) × IsToldAsHelp kind help
 
 -- the words mean this line
 abbrev pub MeansLine : List Text → CallLine → Type 0
@@ -314,10 +323,10 @@ abbrev pub MeansFault : List Text → LineFault → Type 0
 MeansFault words fault = (fault_of program words ≡ []) × Means words (Err fault)
 
 -- The answer to words is what they mean. A fault of words comes where `clap` refuses them or is asked for
--- help, and nowhere else; want of memory may take the place of any answer, and no other fault comes.
+-- help, which it then says, and nowhere else; want of memory may take the place of any answer, and no other fault comes.
 abbrev pub IsAnswerTo : List Text → Result CallLine LineFault → Type 0
 IsAnswerTo words (Ok line) = MeansLine words line
-IsAnswerTo words (Err (Words text help)) = AreRefused words
+IsAnswerTo words (Err (Words text help)) = AreRefused words help
 IsAnswerTo words (Err (Name why)) = MeansFault words (Name why)
 IsAnswerTo words (Err TwoSystems) = MeansFault words TwoSystems
 IsAnswerTo words (Err Memory) = ⊤
@@ -334,8 +343,8 @@ UnlessMemory P (Err Memory) = ⊤
 abbrev pub Answers : {V : Type 0} → Result V LineFault → Result V LineFault → Type 0
 Answers answer expected = UnlessMemory (λ a. a ≡ expected) answer
 
--- want of memory, or a fault of words, which comes only where P holds
-abbrev pub IsWordsWhere : Type 0 → LineFault → Type 0
-IsWordsWhere P (Words text help) = P
-IsWordsWhere P Memory = ⊤
-IsWordsWhere P _ = ⊥
+-- want of memory, or a fault of words with a kind of which P holds, which says whether they ask for help
+abbrev pub IsWordsOf : (ErrorKind → Type 0) → LineFault → Type 0
+IsWordsOf P (Words text help) = (kind : ErrorKind) × P kind × IsToldAsHelp kind help
+IsWordsOf P Memory = ⊤
+IsWordsOf P _ = ⊥

@@ -8,8 +8,9 @@ ghost use Rattle.clap.specs.Built.{AddsInTurn, AddsSubcommand};
 ghost use Rattle.clap.specs.declared.builder.command.Command.{Command as AnyCommand};
 ghost use Rattle.clap.specs.declared.builder.command.Command.TheViews.{out-Command as fields_of};
 ghost use Rattle.clap.specs.declared.builder.value_parser.ValueParser.TheVariants.{Unsigned};
-ghost use Rattle.uu_line.specs.Commands as spec;
-ghost use Rattle.uu_line.specs.Tables.{IsFirstWanted, app_for, rule_for, rule_formed, with_rules, with_wanted};
+ghost use Rattle.uu_line.specs.Commands.{without_subcommands};
+ghost use Rattle.uu_line.specs.Internal.Wanted as spec;
+ghost use Rattle.uu_line.specs.Internal.Tables.{IsFirstWanted, app_for, rule_for, rule_formed, with_rules, with_wanted};
 
 use clap::builder::ValueParser;
 use clap::{Arg, Command};
@@ -344,7 +345,7 @@ pub(crate) fn program_command<'a>(
 
 // The command with its options alone.
 fn with_options<'a>(alloc: Global) -> Result<Command<'a>, AllocError>
-    ensures { IfOk result (λ command. app_of command ≡ spec.without_subcommands) }
+    ensures { IfOk result (λ command. app_of command ≡ without_subcommands) }
 {
     let bare = Command::new(alloc, "uuspool")
         .about("The job spool of a UUCP site")

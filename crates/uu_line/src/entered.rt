@@ -3,7 +3,8 @@
 ghost use Rattle.std.specs.Prelude.{◌≡◌, ◌∷◌, [], IsSome, Ok, codes, drop, find};
 ghost use Rattle.std.specs.Str.{bytes_eq};
 ghost use Rattle.clap.specs.Words.{rows_of, found_of, first_of};
-ghost use Rattle.uu_line.specs.Entries.{AreNumbersUpTo, HaveTexts, IsEntered, most_job, subcommands, texts_at};
+ghost use Rattle.uu_line.specs.Internal.Entries.{AreNumbersUpTo, HaveTexts, IsEntered, most_job, subcommands};
+ghost use Rattle.uu_line.specs.Lines.{texts_at};
 ghost use Rattle.uu_line.specs.Lines.{Answers, UnlessMemory, MeansTask};
 ghost use Rattle.uu_line.specs.Lines as spec;
 

@@ -1,11 +1,11 @@
 //! From words to a line of typed values.
 
-ghost use Rattle.std.specs.Prelude.{◌≢◌, [], IfOk, IfErr, IfSome, map};
+ghost use Rattle.std.specs.Prelude.{◌≡◌, ◌≢◌, IfOk, IfErr, IfSome, map};
 ghost use Rattle.std.specs.String.{string_bytes};
-ghost use Rattle.clap.specs.Words.{rows_of, found_of, kind_of, fault_of, subcommand_rows_of};
+ghost use Rattle.clap.specs.Words.{IsAmong, rows_of, found_of, kind_of, fault_of, subcommand_rows_of};
 ghost use Rattle.uu_line.specs.Commands.{program};
-ghost use Rattle.uu_line.specs.Entries.{AreTaken, HasSubcommand};
-ghost use Rattle.uu_line.specs.Lines.{HasEntriesOf, UnlessMemory, IsAnswerTo, IsWordsWhere};
+ghost use Rattle.uu_line.specs.Internal.Entries.{AreTaken, HasSubcommand};
+ghost use Rattle.uu_line.specs.Lines.{HasEntriesOf, UnlessMemory, IsAnswerTo, IsWordsOf};
 ghost use Rattle.uu_line.specs.Lines as spec;
 
 use crate::commands::program_command;
@@ -72,7 +72,7 @@ fn line_in(alloc: Global, given: &ArgMatches<'_>) -> Result<CallLine, LineFault>
 // The entries that `clap` finds.
 fn entries_of<'a>(alloc: Global, words: &'a [String]) -> Result<ArgMatches<'a>, LineFault>
     ensures entries { IfOk result (λ found. HasEntriesOf (map string_bytes words.now) found) }
-    ensures refused { IfErr result (IsWordsWhere (fault_of program (map string_bytes words.now) ≢ [])) }
+    ensures refused { IfErr result (IsWordsOf (λ kind. IsAmong kind (fault_of program (map string_bytes words.now)))) }
 {
     if let Some(matches) = entries_by_named(alloc, words) {
         return Ok(matches);
@@ -96,7 +96,7 @@ fn entries_by_named<'a>(alloc: Global, words: &'a [String]) -> Option<ArgMatches
 
 // The fault of words that `clap` refuses.
 fn refused(alloc: Global, error: &clap::Error) -> LineFault
-    ensures { IsWordsWhere (kind_of error.now ≢ ErrorKind.OutOfMemory) result }
+    ensures { IsWordsOf (λ kind. (kind ≡ kind_of error.now) × (kind ≢ ErrorKind.OutOfMemory)) result }
 {
     if error.kind() == ErrorKind::OutOfMemory {
         return LineFault::Memory;

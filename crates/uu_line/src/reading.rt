@@ -4,7 +4,7 @@ ghost use Rattle.std.specs.Prelude.{◌≡◌, ℕ, List, Ok, Some, IfOk, IfErr,
 ghost use Rattle.std.specs.List.{list_all};
 ghost use Rattle.clap.specs.Words.{found_of, rows_of};
 ghost use Rattle.uu_names.specs.Path.{first_hop, rest_of};
-ghost use Rattle.uu_line.specs.Entries.{texts_at};
+ghost use Rattle.uu_line.specs.Lines.{texts_at};
 ghost use Rattle.uu_line.specs.Lines.{Answers, and_then};
 ghost use Rattle.uu_line.specs.declared.task.Task.{Task as AnyTask};
 ghost use Rattle.uu_line.specs.Lines as spec;

@@ -5,7 +5,8 @@ ghost use Rattle.std.specs.String.{string_bytes};
 ghost use Rattle.clap.specs.ValueTests.{is_unsigned_in};
 ghost use Rattle.clap.specs.Words.{first_of, rows_of, found_of};
 ghost use Rattle.uu_names.specs.Path.{IsPathText};
-ghost use Rattle.uu_line.specs.Entries.{AreNumbersUpTo, most_job, most_second, texts_at};
+ghost use Rattle.uu_line.specs.Internal.Entries.{AreNumbersUpTo, most_job, most_second};
+ghost use Rattle.uu_line.specs.Lines.{texts_at};
 ghost use Rattle.uu_line.specs.Lines.{Answers, AreNumbers, IsNumber, IsNumberOf, WithText, and_then};
 ghost use Rattle.uu_line.specs.Lines as spec;
 

@@ -15,21 +15,21 @@ returns-in-Err-clause-begun g c = λ same.
     subst (λ text. IsBegun text written) (line_and_bytes c.args.status c.as_bytes.result.now _ c.args.bytes.now c.as_bytes.ensures.value c.in-Ok.ensures.ok)
     (cut_is_begun c.as_bytes.result.now c.args.bytes.now written c.in-Err.ensures.bytes)
 
-pub returns-in-Err-write_whole-clause-begun : goal.returns-in-Err-write_whole-clause-begun
-returns-in-Err-write_whole-clause-begun g c = λ same.
+pub returns-in-Err-write_behind-clause-begun : goal.returns-in-Err-write_behind-clause-begun
+returns-in-Err-write_behind-clause-begun g c = λ same.
     let had = g.W.Write.contents c.args.out.now in
-    let has = g.W.Write.contents c.write_whole-2.new.out in
+    let has = g.W.Write.contents c.write_behind.new.out in
     subst (λ text. IsBegun text (Appends had has)) (line_and_bytes c.args.status c.as_bytes.result.now _ c.args.bytes.now c.as_bytes.ensures.value c.in-Ok.ensures.ok)
-    (cut_behind_is_begun had (g.W.Write.contents c.write_whole.new.out) has c.as_bytes.result.now c.args.bytes.now c.in_default-write_whole.ensures.bytes c.in-Err-write_whole.ensures.bytes)
+    (cut_behind_is_begun had (g.W.Write.contents c.write_whole.new.out) has c.as_bytes.result.now c.args.bytes.now c.in_default-write_whole.ensures.bytes c.in-Err-write_behind.ensures.bytes)
 
 pub returns-clause-begun : goal.returns-clause-begun
 returns-clause-begun g c = λ same.
     let had = g.W.Write.contents c.args.out.now in
     let mid = g.W.Write.contents c.write_whole.new.out in
-    let all = g.W.Write.contents c.write_whole-2.new.out in
+    let all = g.W.Write.contents c.write_behind.new.out in
     let has = g.W.Write.contents c.flush.new.self in
     let line = c.as_bytes.result.now in
     let wrote : Appends had has (line ++ c.args.bytes.now) = Appends-kept had all has (line ++ c.args.bytes.now)
-    (Appends-trans had mid all line c.args.bytes.now c.in_default-write_whole.ensures.bytes c.in_default-write_whole-2.ensures.bytes) c.flush.ensures.bytes in
+    (Appends-trans had mid all line c.args.bytes.now c.in_default-write_whole.ensures.bytes c.in_default-write_behind.ensures.bytes) c.flush.ensures.bytes in
     whole_is_begun (answer_frame c.args.status c.args.bytes.now) (Appends had has)
     (subst (Appends had has) (line_and_bytes c.args.status line _ c.args.bytes.now c.as_bytes.ensures.value c.in-Ok.ensures.ok) wrote)

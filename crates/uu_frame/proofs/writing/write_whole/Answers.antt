@@ -2,7 +2,7 @@ use Rattle.std.proofs.Common.{◌≡◌, ◌∙◌, ◌-◌, ◌++◌, ℕ, List
 use Rattle.std.proofs.lemmas.List.{take_rest}
 use Rattle.std.proofs.KnownBytes.{Appends-kept, Appends-trans}
 use Rattle.uu_frame.proofs.writing.write_whole.Goals as goal
-use Rattle.uu_frame.proofs.writing.write_whole.Goals.{in-Ok, in-Err}
+use Rattle.uu_frame.proofs.writing.write_whole.Goals.{in-Ok, in-Err+in-Interrupted}
 
 -- more of the front was written
 moved : (all front rest : List ℕ) (n : ℕ) → all ≡ front ++ rest → all ≡ (front ++ take n rest) ++ take (length rest - n) (drop n rest)
@@ -18,5 +18,5 @@ loop-preserved g c = let (front, is, wrote) = c.loop.invariant in
         rw w.rest-is (moved _ front c.loop.rest.now w.in-Ok.count is),
         Appends-trans _ _ _ front (take w.in-Ok.count c.loop.rest.now) wrote w.in-Ok.ensures.bytes,
       )
-      | in-Err w ↦ (front, rw w.rest-is is, Appends-kept _ _ _ front wrote w.in-Err.ensures.bytes)
+      | in-Err+in-Interrupted w ↦ (front, rw w.rest-is is, Appends-kept _ _ _ front wrote w.in-Err.ensures.bytes)
     ]

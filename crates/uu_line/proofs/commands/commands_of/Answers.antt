@@ -1,7 +1,7 @@
 use Rattle.std.proofs.Common.{◌≡◌, ◌∙◌, ◌<◌, subst, sym, suc, filter, map, option_map, take, length, add-one, arith}
 use Rattle.std.specs.String.{string_bytes}
 use Rattle.std.proofs.lemmas.List.{take_all}
-use Rattle.uu_line.specs.Tables.{is_row_wanted}
+use Rattle.uu_line.specs.Internal.Tables.{is_row_wanted}
 use Rattle.uu_line.proofs.TableLemmas.{AreApps, apps_added, apps_wanted, wanted_kept, wanted_skipped}
 use Rattle.uu_line.proofs.commands.commands_of.Goals as goal
 use Rattle.uu_line.proofs.commands.commands_of.Goals.{then-is_wanted+in-Ok+in_ok-push-in-Ok, else-is_wanted}

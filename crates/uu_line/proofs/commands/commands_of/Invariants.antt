@@ -1,7 +1,7 @@
 use Rattle.std.proofs.Common.{filter, map, take}
 use Rattle.std.specs.Prelude.{option_map}
 use Rattle.std.specs.String.{string_bytes}
-use Rattle.uu_line.specs.Tables.{is_row_wanted}
+use Rattle.uu_line.specs.Internal.Tables.{is_row_wanted}
 use Rattle.uu_line.proofs.TableLemmas.{AreApps}
 use Rattle.uu_line.proofs.commands.commands_of.Given as goal
 

@@ -2,7 +2,7 @@ use Rattle.std.proofs.Common.{◌∙◌, ◌||◌, ap, map, option_map, sym}
 use Rattle.std.specs.List.{list_any}
 use Rattle.std.specs.Str.{bytes_eq}
 use Rattle.std.specs.String.{string_bytes}
-use Rattle.uu_line.specs.Commands as spec
+use Rattle.uu_line.specs.Internal.Wanted as spec
 use Rattle.uu_line.proofs.TableLemmas.{any_mapped}
 use Rattle.uu_line.proofs.commands.is_wanted.Goals as goal
 

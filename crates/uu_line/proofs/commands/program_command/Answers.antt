@@ -2,7 +2,8 @@ use Rattle.std.proofs.Common.{◌≡◌, Option, Some, None, List, map, codes, o
 use Rattle.std.specs.String.{string_bytes}
 use Rattle.std.proofs.lemmas.Result.{IfOk-weaker}
 use Rattle.clap.specs.Words.{Text}
-use Rattle.uu_line.specs.Commands.{is_wanted, without_subcommands}
+use Rattle.uu_line.specs.Commands.{without_subcommands}
+use Rattle.uu_line.specs.Internal.Wanted.{is_wanted}
 use Rattle.uu_line.proofs.commands.program_command.Goals as goal
 
 -- the first subcommand is wanted for any words

@@ -1,6 +1,6 @@
 use Rattle.std.proofs.Common.{◌∙◌, ◌<◌, ap, length, add-one, arith}
 use Rattle.clap.specs.Words.{app_of, with_rule}
-use Rattle.uu_line.specs.Tables.{with_rules}
+use Rattle.uu_line.specs.Internal.Tables.{with_rules}
 use Rattle.uu_line.proofs.TableLemmas.{or_false, rules_done, rules_next}
 use Rattle.uu_line.proofs.commands.with_entries.Goals as goal
 

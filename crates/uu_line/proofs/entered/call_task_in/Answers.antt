@@ -1,6 +1,6 @@
 use Rattle.std.proofs.Common.{drop, inl, inr, refl, subst}
 use Rattle.clap.specs.Words.{found_of, rows_of}
-use Rattle.uu_line.specs.Entries.{HaveTexts, subcommands, texts_of}
+use Rattle.uu_line.specs.Internal.Entries.{HaveTexts, subcommands, texts_of}
 use Rattle.uu_line.specs.Lines.{MeansDone, MeansFailed, MeansNeighbours, MeansTask}
 use Rattle.uu_line.proofs.LineLemmas.{never_strange, task_meant}
 use Rattle.uu_line.proofs.entered.call_task_in.Goals as goal

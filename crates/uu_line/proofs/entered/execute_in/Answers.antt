@@ -1,6 +1,6 @@
 use Rattle.std.proofs.Common.{codes, refl}
 use Rattle.clap.specs.Words.{found_of, rows_of}
-use Rattle.uu_line.specs.Entries.{texts_at}
+use Rattle.uu_line.specs.Lines.{texts_at}
 use Rattle.uu_line.specs.Lines.{MeansExec, exec_task}
 use Rattle.uu_line.proofs.LineLemmas.{meaning}
 use Rattle.uu_line.proofs.entered.execute_in.Goals as goal

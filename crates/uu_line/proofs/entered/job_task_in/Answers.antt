@@ -1,6 +1,6 @@
 use Rattle.std.proofs.Common.{◌≡◌, drop, inl, inr, subst, codes}
 use Rattle.clap.specs.Words.{first_of, found_of, rows_of}
-use Rattle.uu_line.specs.Entries.{HaveTexts, subcommands, texts_of}
+use Rattle.uu_line.specs.Internal.Entries.{HaveTexts, subcommands, texts_of}
 use Rattle.uu_line.specs.Lines.{MeansRegrade, MeansTask, list_task}
 use Rattle.uu_line.proofs.LineLemmas.{found_later, task_meant}
 use Rattle.uu_line.proofs.entered.job_task_in.Goals as goal

@@ -3,7 +3,7 @@ use Rattle.std.specs.Prelude.{IsSome, slice_get}
 use Rattle.std.specs.List.{All}
 use Rattle.clap.specs.Words.{found_of, rows_of}
 use Rattle.uu_names.specs.Path.{IsPathText}
-use Rattle.uu_line.specs.Entries.{texts_at}
+use Rattle.uu_line.specs.Lines.{texts_at}
 use Rattle.uu_line.specs.Lines.{Answers, IsBadAddress, MeansGradedMail, MeansMailing, grade_of, mail_by}
 use Rattle.uu_line.specs.declared.fault.LineFault.TheVariants as fault
 use Rattle.uu_line.proofs.LineLemmas.{address_fault, err_weaker, meaning, texts_given}

@@ -1,6 +1,6 @@
 use Rattle.std.proofs.Common.{inl, inr, refl, subst}
 use Rattle.clap.specs.Words.{found_of, rows_of}
-use Rattle.uu_line.specs.Entries.{HaveTexts, subcommands, texts_of}
+use Rattle.uu_line.specs.Internal.Entries.{HaveTexts, subcommands, texts_of}
 use Rattle.uu_line.specs.Lines.{MeansDrop, MeansExec, MeansFile, MeansMailing, MeansTask}
 use Rattle.uu_line.specs.declared.task.Task.TheVariants as task
 use Rattle.uu_line.proofs.LineLemmas.{found_later, task_meant}

@@ -1,7 +1,7 @@
 use Rattle.std.proofs.Common.{subst, sym}
 use Rattle.clap.specs.Words.{found_of, rows_of, subcommand_rows_of}
 use Rattle.clap.specs.declared.parser.matches.ArgMatches.TheViews.{out-ArgMatches}
-use Rattle.uu_line.specs.Entries.{HasSubcommand}
+use Rattle.uu_line.specs.Internal.Entries.{HasSubcommand}
 use Rattle.uu_line.specs.Lines.{MeansEntered, UnlessMemory}
 use Rattle.uu_line.proofs.LineLemmas.{entered_is, no_subcommand}
 use Rattle.uu_line.proofs.line.entered_in.Goals as goal

@@ -1,6 +1,6 @@
 use Rattle.std.proofs.Common.{◌∙◌, ap₂, subst, sym, ℕ, List, Ok, codes}
 use Rattle.clap.specs.Words.{found_of, rows_of}
-use Rattle.uu_line.specs.Entries.{texts_at}
+use Rattle.uu_line.specs.Lines.{texts_at}
 use Rattle.uu_line.specs.Lines.{Answers, and_then, exec_task, grade_of, site_of, word_of, words_of}
 use Rattle.uu_line.specs.declared.task.Task.TheVariants as task
 use Rattle.uu_line.proofs.LineLemmas.{both_of, four_read}

@@ -1,6 +1,6 @@
 use Rattle.std.proofs.Common.{codes}
 use Rattle.clap.specs.Words.{found_of, rows_of}
-use Rattle.uu_line.specs.Entries.{most_job}
+use Rattle.uu_line.specs.Internal.Entries.{most_job}
 use Rattle.uu_line.proofs.LineLemmas.{first_number}
 use Rattle.uu_line.proofs.values.job_in.Goals as goal
 

@@ -1,5 +1,5 @@
 use Rattle.std.proofs.Common.{arith}
-use Rattle.uu_line.specs.Entries.{most_job}
+use Rattle.uu_line.specs.Internal.Entries.{most_job}
 use Rattle.uu_line.proofs.LineLemmas.{numeral_of}
 use Rattle.uu_line.proofs.values.job_of.Goals as goal
 

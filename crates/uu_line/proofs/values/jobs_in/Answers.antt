@@ -1,7 +1,8 @@
 use Rattle.std.proofs.Common.{◌≡◌, ◌∙◌, ap, subst, sym, [], IfOk, map, unwrap_or, codes}
 use Rattle.clap.specs.Words.{found_of, rows_of}
 use Rattle.clap.proofs.WalkLemmas.{raw_values-rows}
-use Rattle.uu_line.specs.Entries.{AreNumbersUpTo, most_job, texts_at}
+use Rattle.uu_line.specs.Internal.Entries.{AreNumbersUpTo, most_job}
+use Rattle.uu_line.specs.Lines.{texts_at}
 use Rattle.uu_line.specs.Lines.{AreNumbers}
 use Rattle.uu_line.proofs.values.jobs_in.Goals as goal
 

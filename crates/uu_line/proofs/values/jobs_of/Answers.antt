@@ -1,5 +1,5 @@
 use Rattle.std.proofs.Common.{ℕ, suc, ◌<◌, List, [], length, map, take, subst, sym, add-one, arith, Bor}
-use Rattle.uu_line.specs.Entries.{most_job}
+use Rattle.uu_line.specs.Internal.Entries.{most_job}
 use Rattle.uu_line.specs.Lines.{AreNumbers}
 use Rattle.uu_line.proofs.LineLemmas.{each_number, numbers_next}
 use Rattle.uu_line.proofs.values.jobs_of.Goals as goal

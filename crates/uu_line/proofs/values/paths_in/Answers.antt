@@ -3,7 +3,7 @@ use Rattle.std.specs.List.{All}
 use Rattle.clap.specs.Words.{found_of, rows_of}
 use Rattle.clap.proofs.WalkLemmas.{raw_values-rows}
 use Rattle.uu_names.specs.Path.{IsPathText}
-use Rattle.uu_line.specs.Entries.{texts_at}
+use Rattle.uu_line.specs.Lines.{texts_at}
 use Rattle.uu_line.specs.Lines.{IsAddressFault}
 use Rattle.uu_line.proofs.values.paths_in.Goals as goal
 

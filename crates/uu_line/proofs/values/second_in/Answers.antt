@@ -1,7 +1,7 @@
 use Rattle.std.proofs.Common.{◌∙◌, Some, None, codes, subst}
 use Rattle.clap.specs.Words.{found_of, rows_of}
 use Rattle.clap.proofs.WalkLemmas.{first_value-rows}
-use Rattle.uu_line.specs.Entries.{most_second}
+use Rattle.uu_line.specs.Internal.Entries.{most_second}
 use Rattle.uu_line.specs.Lines.{IsNumberOf}
 use Rattle.uu_line.proofs.LineLemmas.{first_number}
 use Rattle.uu_line.proofs.values.second_in.Goals as goal

@@ -1,7 +1,7 @@
 use Rattle.std.proofs.Common.{◌≡◌, ◌∙◌, ap, subst, ℕ, List, [], Result, Ok, map, unwrap_or}
 use Rattle.clap.specs.Words.{found_of, rows_of}
 use Rattle.clap.proofs.WalkLemmas.{raw_values-rows}
-use Rattle.uu_line.specs.Entries.{texts_at}
+use Rattle.uu_line.specs.Lines.{texts_at}
 use Rattle.uu_line.specs.Lines.{Answers, words_of}
 use Rattle.uu_line.specs.declared.fault.LineFault.{LineFault}
 use Rattle.uu_line.proofs.values.words_in.Goals as goal

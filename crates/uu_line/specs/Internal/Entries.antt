@@ -1,11 +1,12 @@
 -- What the entries of a line have that `clap` takes: a subcommand of the program, a text under each entry that has to be
 -- given or has a default, and numbers where numbers are asked for.
-use Rattle.std.specs.Prelude.{ℕ, List, [], ◌∷◌, Option, Some, None, IsSome, IsTrue, ⊤, codes, find, unwrap_or}
+use Rattle.std.specs.Prelude.{ℕ, List, [], ◌∷◌, Option, Some, None, IsSome, IsTrue, ⊤, codes, find}
 use Rattle.std.specs.List.{list_all}
 use Rattle.std.specs.Option.{option_map_or}
 use Rattle.std.specs.Str.{bytes_eq}
 use Rattle.clap.specs.ValueTests.{is_unsigned_in}
-use Rattle.clap.specs.Words.{Row, Text, all_of, first_of}
+use Rattle.clap.specs.Words.{Row, Text, first_of}
+use Rattle.uu_line.specs.Lines.{texts_at}
 
 -- the most that JOB and SECONDS may be
 abbrev pub most_job : ℕ
@@ -48,10 +49,6 @@ texts_of name = option_map_or (λ subcommand. subcommand.1) (subcommand_named na
 abbrev pub HaveTexts : List Text → List Row → Type 0
 HaveTexts [] rows = ⊤
 HaveTexts (id ∷ ids) rows = IsSome (first_of id rows) × HaveTexts ids rows
-
--- the texts of an entry that has any number of them
-abbrev pub texts_at : Text → List Row → List Text
-texts_at id rows = unwrap_or (all_of id rows) []
 
 -- each text of an entry is a whole number of at most this
 abbrev pub AreNumbersUpTo : ℕ → List Text → Type 0

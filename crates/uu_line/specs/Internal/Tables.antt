@@ -4,7 +4,7 @@ use Rattle.std.specs.List.{filter}
 use Rattle.clap.specs.Lexer.{usize_max}
 use Rattle.clap.specs.Words.{App, Rule, Text, new_rule, new_app, with_rule, with_subcommand}
 use Rattle.clap.specs.declared.builder.value_parser.ValueParser.TheVariants.{Unsigned}
-use Rattle.uu_line.specs.Commands.{is_wanted}
+use Rattle.uu_line.specs.Internal.Wanted.{is_wanted}
 use Rattle.uu_line.specs.declared.commands.Entry.{Entry}
 use Rattle.uu_line.specs.declared.commands.Form.{Form}
 use Rattle.uu_line.specs.declared.commands.Form.TheVariants as form

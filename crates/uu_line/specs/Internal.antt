@@ -1,0 +1,4 @@
+-- Mirrors of the code, which the clauses within the crate cite and no public clause does.
+pub mod Entries
+pub mod Tables
+pub mod Wanted
