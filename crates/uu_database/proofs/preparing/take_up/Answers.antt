@@ -1,4 +1,4 @@
-use Rattle.std.proofs.Common.{◌≡◌, Some, sym, ap, ◌∙◌, subst, arith}
+use Rattle.std.proofs.Common.{◌≡◌, Some, sym, ap, ◌∙◌, subst, arith, rules}
 use Rattle.sqlite.specs.Held.{state}
 use Rattle.uu_schema.specs.declared.version.Version.TheVariants.{First}
 use Rattle.uu_database.specs.Adoption.{IsInspected}
