@@ -8,4 +8,5 @@ pub mod Stepping
 pub mod Composing
 pub mod Rows
 pub mod Verdict
+pub mod Formats
 pub mod Handing

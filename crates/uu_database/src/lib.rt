@@ -4,6 +4,7 @@
 
 mod asked;
 mod inspection;
+pub mod laws;
 mod preparing;
 mod reading;
 mod tables;

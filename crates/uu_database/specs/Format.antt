@@ -1,0 +1,49 @@
+-- Which of the spool's tables a schema has, read off those that each version makes. Names are compared
+-- without regard to ASCII case, as SQLite does. `laws::tables_are_found_by_the_format` says that what is
+-- looked at in a database (`FoundTables`) finds just this.
+use Rattle.std.specs.Prelude.{◌≡◌, ℕ, true, false, List, [], ◌∷◌, codes, find, map, Some}
+use Rattle.std.specs.List.{AllByRecursion}
+use Rattle.sqlite.specs.Schema.{Schema}
+use Rattle.sqlite.specs.Table.{Table}
+use Rattle.sqlite_rules.specs.Lists.{Has}
+use Rattle.sqlite_schema.specs.Names.{same_name}
+use Rattle.sqlite_schema.specs.declared.schema.Column.{Column}
+use Rattle.uu_schema.specs.Schema.{site, site_of, spool, success_waits}
+use Rattle.uu_schema.specs.declared.version.Version.{Version}
+use Rattle.uu_schema.specs.declared.version.Version.TheVariants.{First, Second}
+
+-- no table has this name
+abbrev pub IsFree : Schema → List ℕ → Type 0
+IsFree schema name = AllByRecursion (λ (table : Table). same_name table.name name ≡ false) schema.tables
+
+-- a column of the table has this name
+abbrev pub HasColumn : Table → List ℕ → Type 0
+HasColumn table name = (column : Column) × Has table.columns column × (same_name column.name name ≡ true)
+
+-- the first table of this name has columns of these names
+pub record HasTable (schema : Schema) (name : List ℕ) (columns : List (List ℕ)) : Type 0 where
+  pub table : Table
+  pub is_first : find (λ (t : Table). same_name t.name name) schema.tables ≡ Some table
+  pub has_all : AllByRecursion (HasColumn table) columns
+
+-- a table of the format is there with its columns
+abbrev pub HasTableOf : Schema → Table → Type 0
+HasTableOf schema table = HasTable schema table.name (map (λ (column : Column). column.name) table.columns)
+
+-- none of the names of the spool's tables is taken
+abbrev pub HasNoName : Schema → Type 0
+HasNoName schema = AllByRecursion (λ (table : Table). IsFree schema table.name) site.tables
+
+-- the tables that were added after a version
+abbrev pub later_tables : Version → List Table
+later_tables First = success_waits ∷ []
+later_tables Second = []
+
+-- every table of a version is there with its columns, and none has the name of a table that was added later
+pub record HasTablesOf (v : Version) (schema : Schema) : Type 0 where
+  pub all : AllByRecursion (HasTableOf schema) (site_of v).tables
+  pub none_later : AllByRecursion (λ (table : Table). IsFree schema table.name) (later_tables v)
+
+-- the table `spool` has the columns that tell its version
+abbrev pub TellsVersion : Schema → Type 0
+TellsVersion schema = HasTable schema spool.name (codes "id" ∷ codes "version" ∷ [])
