@@ -1,15 +1,17 @@
 -- How a batch goes from request to request.
-use Rattle.std.proofs.Common.{◌≡◌, ◌∙◌, ◌+◌, ◌++◌, ◌∷◌, inl, inr, ℕ, Bool, true, false, true≢false, not, List, [], Option, Result, Ok, Err, IfErr, IfOk, length, length-append, ap, append-nil, refl, subst, sym}
+use Rattle.std.proofs.Common.{◌≡◌, ◌≤◌, ◌∙◌, ◌+◌, ◌++◌, ◌∷◌, inl, inr, ℕ, Bool, true, false, true≢false, not, List, [], Option, None, Some, Result, Ok, Err, IfErr, IfOk, IfSome, length, length-append, ap, append-nil, append_assoc, refl, subst, sym}
 use Rattle.std.specs.Prelude.{◌⊎◌, ⊤}
 use Rattle.std.specs.List.{AllByRecursion, FoldsTo, flat_map}
 use Rattle.std.specs.Io.KnownBytes.{Appends, Consumes}
 use Rattle.std.proofs.KnownBytes.{Appends-nil, Appends-trans, Consumes-nil, Consumes-trans}
 use Rattle.std.proofs.lemmas.List.Concat.{flat_map-append}
 use Rattle.sqlite.specs.Store.{Ghosts}
+use Rattle.uu_frame.specs.Frames.{BeginsWithin, IsHead, head_line, request_frame}
+use Rattle.uu_names.specs.Text.{most_text}
 use Rattle.uu_settings.specs.declared.settings.Settings.{Settings}
 use Rattle.uu_store.specs.declared.spool.Spool.{Spool}
 use Rattle.uuspool.specs.Batch.{BreaksOff, EndsWith, IsBatch, IsNext, IsOfStream, IsRequestLine, IsUntold, answer_of, fault_answer, frame_of, most_requests}
-use Rattle.uuspool.specs.BatchSteps.{IsBatchStep}
+use Rattle.uuspool.specs.Internal.BatchSteps.{IsBatchStep}
 use Rattle.uuspool.specs.Faults.{status_of}
 use Rattle.uuspool.specs.Sessions.{AreLeft, AreServed, Further, IsOneRun, LeadOn, Line, Serves, left_fault}
 use Rattle.uuspool.specs.declared.batching.Step.{Step}
@@ -118,6 +120,14 @@ module _ {S : Type 0} {g : Ghosts S} (settings : Settings) where
         (λ rest off. unserved_more lines line m mid new rest off nothing is still) (λ left t. (left_more lines line left.0 nothing is, still ∙ left.1)) rest off,
   )
 
+-- a request within the limit was read
+pub began_within : (had left : Option (List ℕ)) (words : List (List ℕ)) (input : List ℕ) → IsHead (length input) words → length input ≤ most_text
+    → Consumes had left (request_frame words input) → IfSome had (BeginsWithin most_text)
+began_within None left words input head fits read = tt
+began_within (Some bytes) None words input head fits read = absurd read
+began_within (Some bytes) (Some rest) words input head fits read =
+    (length input, words, head, fits, input ++ rest, read ∙ append_assoc (head_line (length input) words) (10 ∷ input) rest)
+
 -- what was written of an answer, behind those before it
 untold_behind : (held holds more : Option (List ℕ)) (before answer : List ℕ) (why : Fault) → Appends held holds before → IsUntold answer (Appends holds more) why
     → IsUntold answer (λ last. Appends held more (before ++ last)) why
@@ -198,10 +208,10 @@ module _ {S : Type 0} {g : Ghosts S} {C : Type 0} (settings : Settings) (Tells :
 
     module _ (law : (lines : List Line) (old new : Spool S g) → AreServed settings lines old new → IsOneRun settings lines old new) where
       -- the requests so far are all
-      ended_so : (r : Result ℕ Fault) → new ≡ mid → IfOk r (EndsWith left (λ last. Appends held more (flat_map answer_of so.lines ++ last)))
-          → IfErr r (λ why. BreaksOff so.lines left (λ front last. Appends held more (flat_map answer_of front ++ last)) why
+      ended_so : (r : Result ℕ Fault) → new ≡ mid → IfOk r (EndsWith left rest (λ last. Appends held more (flat_map answer_of so.lines ++ last)))
+          → IfErr r (λ why. BreaksOff so.lines left rest (λ front last. Appends held more (flat_map answer_of front ++ last)) why
           ⊎ ((why ≡ fault.Read) × (length so.lines ≡ most_requests) × Appends held more (flat_map answer_of so.lines)))
-          → IsBatch settings Tells clock old new had held more r
+          → IsBatch settings Tells clock old new had rest held more r
       ended_so r still ends breaks =
           let served = subst (λ (n : Spool S g). AreServed settings so.lines old n) (sym still) so.served in record {
             lines = so.lines;
@@ -216,18 +226,18 @@ module _ {S : Type 0} {g : Ghosts S} {C : Type 0} (settings : Settings) (Tells :
           }
 
       pub batch_ended : (status : ℕ) → (let r : Result Step Fault = Ok (step.Ended status) in IsBatchStep settings Tells failed now later mid new left rest holds more r)
-          → (let r : Result ℕ Fault = Ok status in IsBatch settings Tells clock old new had held more r)
+          → (let r : Result ℕ Fault = Ok status in IsBatch settings Tells clock old new had rest held more r)
       batch_ended status (still, ends) = ended_so (Ok status) still (ends_with ends) tt
         where
-          ends_with : EndsWith left (Appends holds more) status → EndsWith left (λ last. Appends held more (flat_map answer_of so.lines ++ last)) status
+          ends_with : EndsWith left rest (Appends holds more) status → EndsWith left rest (λ last. Appends held more (flat_map answer_of so.lines ++ last)) status
           ends_with (inl (zero, at_end, writes)) = inl (zero, at_end, Appends-trans held holds more (flat_map answer_of so.lines) [] so.answered writes)
           ends_with (inr (why, is, same, writes)) = inr (why, is, same, Appends-trans held holds more (flat_map answer_of so.lines) (fault_answer why) so.answered writes)
 
-      pub batch_full : new ≡ mid → holds ≡ more → count ≡ most_requests → (let r : Result ℕ Fault = Err fault.Read in IsBatch settings Tells clock old new had held more r)
+      pub batch_full : new ≡ mid → holds ≡ more → count ≡ most_requests → (let r : Result ℕ Fault = Err fault.Read in IsBatch settings Tells clock old new had rest held more r)
       batch_full still kept full = ended_so (Err fault.Read) still tt (inr (refl, so.counted ∙ full, subst (λ m. Appends held m (flat_map answer_of so.lines)) kept so.answered))
 
       pub batch_broken : (why : Fault) → (let r : Result Step Fault = Err why in IsBatchStep settings Tells failed now later mid new left rest holds more r)
-          → (let r : Result ℕ Fault = Err why in IsBatch settings Tells clock old new had held more r)
+          → (let r : Result ℕ Fault = Err why in IsBatch settings Tells clock old new had rest held more r)
       batch_broken why (inr (still, cause, is, untold)) =
           ended_so (Err why) still tt (inl (inr (cause, is, untold_behind held holds more (flat_map answer_of so.lines) (fault_answer cause) why so.answered untold)))
       batch_broken why (inl (line, next, consumes, untold)) =
@@ -247,7 +257,7 @@ module _ {S : Type 0} {g : Ghosts S} {C : Type 0} (settings : Settings) (Tells :
 
 module _ {S : Type 0} {g : Ghosts S} {C : Type 0} (settings : Settings) (Tells : C → ℕ → C → Type 0) (failed : Bool) (clock later : C) (old new : Spool S g) (had left held holds : Option (List ℕ)) where
   -- the stream ended with the answer to a fault of its own
-  pub step_of_end : (r : Result Step Fault) (why : Fault) → IsOfStream had why → new ≡ old
+  pub step_of_end : (r : Result Step Fault) (why : Fault) → IsOfStream had left why → new ≡ old
       → IfOk r (λ made. (made ≡ step.Ended (status_of why)) × Appends held holds (fault_answer why)) → IfErr r (IsUntold (fault_answer why) (Appends held holds))
       → IsBatchStep settings Tells failed clock later old new had left held holds r
   step_of_end (Ok (step.Ended status)) why is still (same, appends) named = let status_is : status ≡ status_of why = cc in (still, inr (why, is, status_is, appends))

@@ -1,13 +1,16 @@
 -- How the end of a run, and what is printed of it, make up the service of a line's commands.
-use Rattle.std.proofs.Common.{◌≡◌, ◌≢◌, ◌⊎◌, ◌∙◌, ◌≤◌, ◌++◌, ◌∷◌, inl, inr, ℕ, List, [], length, take, Vec, Option, Some, None, Result, Ok, Err, Bool, MatchOption, IfOk, IfErr, IfSome, OnOk, IsOkAnd, IsTrue, ap, arith, refl, subst, sym}
+use Rattle.std.proofs.Common.{◌≡◌, ◌≢◌, ◌∙◌, ◌≤◌, ◌++◌, ◌∷◌, inl, inr, ℕ, List, [], length, take, Vec, Option, Some, None, Result, Ok, Err, Bool, MatchOption, IfOk, IfErr, IfSome, OnOk, IsOkAnd, IsTrue, ap, arith, refl, subst, sym}
 use Rattle.std.proofs.lemmas.List.{take_all}
 use Rattle.std.specs.declared.alloc.AllocError.{AllocError}
 use Rattle.std.specs.declared.alloc.Global.{Global}
 use Rattle.sqlite.specs.Store.{Ghosts}
+use Rattle.sqlite.specs.State.{HasCleanDisk}
+use Rattle.uu_core.specs.State.{State}
 use Rattle.uu_core.specs.Run.{state_after, replies_to}
 use Rattle.uu_core.specs.declared.command.Reply.{Reply}
 use Rattle.uu_core.specs.declared.command.Reply.TheVariants.{Done, Number, Refused}
 use Rattle.uu_schema.specs.declared.fault.StoreFault.{StoreFault}
+use Rattle.uu_schema.specs.declared.fault.StoreFault.TheVariants as store
 use Rattle.uu_store.specs.Runs.{Ran, GoesOn}
 use Rattle.uu_store.specs.Spool as spool
 use Rattle.uu_store.specs.declared.run.RunEnd.{RunEnd}
@@ -19,30 +22,61 @@ use Rattle.uu_report.specs.Outputs.{answers_text, output_text, replies_status, s
 use Rattle.uu_report.specs.Replies.{reply_text}
 use Rattle.uu_request.specs.declared.request.Batch.{Batch}
 use Rattle.uu_request.specs.declared.request.Request.TheVariants as request
-use Rattle.uuspool.proofs.ServedLemmas.{IsOfPrinting, marked_is_of_call, store_is_printed}
-use Rattle.uuspool.specs.Served.{IsServed, IsNoted, IsOfCall, IsPrintedEnd, Marks}
+use Rattle.uuspool.proofs.ServedLemmas.{IsOfPrinting, broken_of_nothing, end_is_late, marked_is_of_call, printed, printed_as}
+use Rattle.uuspool.specs.Served.{IsBrokenOff, IsEvery, IsNoted, IsOfCall, IsOutput, IsPrinted, IsPrintedEnd, IsServed, Marks}
 use Rattle.uuspool.specs.declared.fault.Fault.{Fault}
 use Rattle.uuspool.specs.declared.fault.Fault.TheVariants as fault
 
 -- ---- printing
 
-printing_ends : (subjects : List Subject) (skipped : List ℕ) (end : RunEnd) (written : List ℕ → Type 0) (f : Fault)
-    → (end.stopped ≡ None) ⊎ IsCut (answers_text subjects end.replies.items) written → IsOfPrinting f
-    → (let r : Result ℕ Fault = Err f in IsPrintedEnd subjects skipped end written r)
-printing_ends subjects skipped end written f hides_none (inl is) =
-    subst (λ (other : Fault). let r : Result ℕ Fault = Err other in IsPrintedEnd subjects skipped end written r) (sym is) hides_none
-printing_ends subjects skipped end written f hides_none (inr is) =
-    subst (λ (other : Fault). let r : Result ℕ Fault = Err other in IsPrintedEnd subjects skipped end written r) (sym is) hides_none
+-- the output of a whole run, and its status
+abbrev IsWhole : List Subject → List ℕ → RunEnd → List ℕ → ℕ → Type 0
+IsWhole subjects skipped end output status = (output ≡ output_text subjects skipped end.replies.items) × (status ≡ replies_status end.replies.items)
+
+-- how a run that was stopped so, or by nothing, is printed
+abbrev Ends : List Subject → List ℕ → RunEnd → (List ℕ → Type 0) → Result ℕ Fault → Option StoreFault → Type 0
+Ends subjects skipped end written r stopped =
+    MatchOption stopped (IsPrinted (IsWhole subjects skipped end) written r) (λ why. IsBrokenOff why (answers_text subjects end.replies.items) written r)
 
 -- a whole run, whose output was printed
 pub whole_printed : (subjects : List Subject) (skipped : List ℕ) (end : RunEnd) (written : List ℕ → Type 0) (made : Result (Vec ℕ Global) AllocError) (status : ℕ) (r : Result ℕ Fault)
     → end.stopped ≡ None → status ≡ replies_status end.replies.items → IfOk made (λ output. output.items ≡ output_text subjects skipped end.replies.items)
     → OnOk r (IsOkAnd made (λ output. written output.items)) → IfOk r (λ answered. answered ≡ status) → IfErr r IsOfPrinting
+    → (r ≡ Err fault.Write → IsOkAnd made (λ output. IsCut output.items written)) → (r ≡ Err fault.Memory → written [])
     → IsPrintedEnd subjects skipped end written r
-whole_printed subjects skipped end written (Ok output) status (Ok answered) whole same is printed answers printing =
-    (whole, answers ∙ same, subst written is printed)
-whole_printed subjects skipped end written (Err none) status (Ok answered) whole same is printed answers printing = absurd printed
-whole_printed subjects skipped end written made status (Err f) whole same is printed answers printing = printing_ends subjects skipped end written f (inl whole) printing
+whole_printed subjects skipped end written made status r whole same is wrote answers printing cut nothing =
+    subst (Ends subjects skipped end written r) (sym whole)
+    (printed r made status written (λ output. output ≡ output_text subjects skipped end.replies.items) (IsWhole subjects skipped end) (λ output text. (text, same)) wrote answers printing cut nothing is)
+
+module _ (subjects : List Subject) (skipped : List ℕ) (end : RunEnd) (written : List ℕ → Type 0) (why : StoreFault) (stops : end.stopped ≡ Some why) where
+  -- a run that was broken off ended so
+  ended : (r : Result ℕ Fault) → IsBrokenOff why (answers_text subjects end.replies.items) written r → IsPrintedEnd subjects skipped end written r
+  ended r broken = subst (Ends subjects skipped end written r) (sym stops) broken
+
+  -- nothing was to be printed
+  pub none_printed : answers_text subjects end.replies.items ≡ [] → written [] → (let r : Result ℕ Fault = Err (fault.Store why) in IsPrintedEnd subjects skipped end written r)
+  none_printed none nothing = ended (Err (fault.Store why)) (refl, subst written (sym none) nothing)
+
+  module _ (made : Result (Vec ℕ Global) AllocError) (is : IfOk made (λ output. output.items ≡ answers_text subjects end.replies.items)) where
+    made_so : (P : List ℕ → Type 0) (made : Result (Vec ℕ Global) AllocError) → IfOk made (λ output. output.items ≡ answers_text subjects end.replies.items)
+        → IsOkAnd made (λ output. P output.items) → P (answers_text subjects end.replies.items)
+    made_so P (Ok output) text holds = subst P text holds
+    made_so P (Err none) text holds = absurd holds
+
+    -- the output of the commands that were answered was printed
+    pub answers_printed : IsOkAnd made (λ output. written output.items) → (let r : Result ℕ Fault = Err (fault.Store why) in IsPrintedEnd subjects skipped end written r)
+    answers_printed wrote = ended (Err (fault.Store why)) (refl, made_so written made is wrote)
+
+    -- it was not, or not all of it
+    pub answers_unprinted : (f : Fault) → answers_text subjects end.replies.items ≢ [] → IsOfPrinting f
+        → (f ≡ fault.Write → IsOkAnd made (λ output. IsCut output.items written)) → (f ≡ fault.Memory → written [])
+        → (let r : Result ℕ Fault = Err f in IsPrintedEnd subjects skipped end written r)
+    answers_unprinted f some (inl write) cut nothing =
+        subst (λ (g : Fault). let r : Result ℕ Fault = Err g in IsPrintedEnd subjects skipped end written r) (sym write)
+        (ended (Err fault.Write) (made_so (λ text. IsCut text written) made is (cut write)))
+    answers_unprinted f some (inr memory) cut nothing =
+        subst (λ (g : Fault). let r : Result ℕ Fault = Err g in IsPrintedEnd subjects skipped end written r) (sym memory)
+        (ended (Err fault.Memory) (some, nothing memory))
 
 -- ---- what is printed of answers
 
@@ -77,74 +111,37 @@ marked_stop None Whole before after marked = tt
 marked_stop (Some why) Whole before after marked = marked_is_of_call before after why marked
 
 pub run_served : {S : Type 0} {g : Ghosts S} (settings : Settings) (batch : Batch) (old new : Spool S g) (written : List ℕ → Type 0) (end : RunEnd) (r : Result ℕ Fault)
-    → Ran batch.commands old new end.replies.items end.stopped → (end.stopped ≡ None → length end.replies.items ≡ length batch.commands)
-    → Marks (spool.has_failed old) (spool.has_failed new) end.stopped → IsNoted old new end.stopped → (IsTrue (spool.has_failed old) → new ≡ old)
+    → Ran batch.commands old new end.replies.items end.stopped → IsEvery (spool.has_failed old) (request.Commands batch) end.replies.items end.stopped
+    → Marks (spool.has_failed old) (spool.has_failed new) end.stopped → IsNoted old new end.stopped
+    → (IsTrue (spool.has_failed old) → (end.stopped ≡ Some store.Failed) × (end.replies.items ≡ []) × (new ≡ old))
     → IfSome end.stopped IsOfCall → IsPrintedEnd batch.subjects batch.skipped end written r → IsServed settings (request.Commands batch) old new written r
-run_served settings batch old new written end (Ok status) ran every marked noted failed call printed = record {
+run_served settings batch old new written end r ran every marked noted failed call ends = record {
   replies = end.replies.items;
   stopped = end.stopped;
   ran = ran;
-  whole = (printed.0, every printed.0);
-  output = λ clean s shown.
-      let from = ran.from clean s shown in
-      let enough : length batch.commands ≤ length end.replies.items = omega (arith, every printed.0) in
-      let all : take (length end.replies.items) batch.commands ≡ batch.commands = take_all (length end.replies.items) batch.commands enough in
-      let replied : end.replies.items ≡ replies_to s batch.commands = from.answers ∙ ap (replies_to s) all in (
-        output_text batch.subjects batch.skipped end.replies.items,
-        (ap (output_text batch.subjects batch.skipped) replied, printed.1 ∙ ap replies_status replied),
-        printed.2,
-        subst (λ commands. spool.Shows new (state_after s commands)) all (from.shows (subst GoesOn (sym printed.0) tt)),
-      );
-  broken_off = λ why same. absurd (cc);
-  hides_none = λ unprinted. inl printed.0;
-  late = tt;
+  every = every;
+  printed = λ none. printed_as (IsWhole batch.subjects batch.skipped end) _ written written r (λ output status is. (is, output_in none output status is)) (λ output wrote. wrote) (ends_by None none);
+  shows = λ none clean s shown. subst (λ commands. spool.Shows new (state_after s commands)) (all none) ((ran.from clean s shown).shows (subst GoesOn (sym none) tt));
+  broken_off = λ why same. ends_by (Some why) same;
+  late = end_is_late end.stopped (IsWhole batch.subjects batch.skipped end) (answers_text batch.subjects end.replies.items) written r call ends;
   marked = marked;
   noted = noted;
-  failed = failed;
+  failed = λ had.
+      let was = failed had in
+      let told = broken_of_nothing store.Failed (answers_text batch.subjects end.replies.items) written r (no_reply batch.subjects end.replies.items (ap length was.1)) (ends_by (Some store.Failed) was.0) in
+      (told.0, told.1, was.2);
 }
-run_served settings batch old new written end (Err (fault.Store why)) ran every marked noted failed call printed = record {
-  replies = end.replies.items;
-  stopped = end.stopped;
-  ran = ran;
-  whole = tt;
-  output = λ clean s shown. tt;
-  broken_off = λ other same. (let is : why ≡ other = cc in (printed.0 ∙ ap Some is, printed.1));
-  hides_none = store_is_printed why;
-  late = subst (λ stopped. IfSome stopped IsOfCall) printed.0 call;
-  marked = marked;
-  noted = noted;
-  failed = failed;
-}
-run_served settings batch old new written end (Err fault.Write) ran every marked noted failed call printed = record {
-  replies = end.replies.items;
-  stopped = end.stopped;
-  ran = ran;
-  whole = tt;
-  output = λ clean s shown. tt;
-  broken_off = λ other same. absurd (cc);
-  hides_none = λ unprinted. printed;
-  late = tt;
-  marked = marked;
-  noted = noted;
-  failed = failed;
-}
-run_served settings batch old new written end (Err fault.Memory) ran every marked noted failed call printed = record {
-  replies = end.replies.items;
-  stopped = end.stopped;
-  ran = ran;
-  whole = tt;
-  output = λ clean s shown. tt;
-  broken_off = λ other same. absurd (cc);
-  hides_none = λ unprinted. printed;
-  late = tt;
-  marked = marked;
-  noted = noted;
-  failed = failed;
-}
-run_served settings batch old new written end (Err (fault.Words text help)) ran every marked noted failed call printed = absurd printed
-run_served settings batch old new written end (Err (fault.Settings why)) ran every marked noted failed call printed = absurd printed
-run_served settings batch old new written end (Err (fault.Name why)) ran every marked noted failed call printed = absurd printed
-run_served settings batch old new written end (Err (fault.Time why)) ran every marked noted failed call printed = absurd printed
-run_served settings batch old new written end (Err fault.TwoSystems) ran every marked noted failed call printed = absurd printed
-run_served settings batch old new written end (Err fault.Input) ran every marked noted failed call printed = absurd printed
-run_served settings batch old new written end (Err fault.Read) ran every marked noted failed call printed = absurd printed
+  where
+    ends_by : (stopped : Option StoreFault) → end.stopped ≡ stopped → Ends batch.subjects batch.skipped end written r stopped
+    ends_by stopped same = subst (Ends batch.subjects batch.skipped end written r) same ends
+
+    all : end.stopped ≡ None → take (length end.replies.items) batch.commands ≡ batch.commands
+    all none =
+        let enough : length batch.commands ≤ length end.replies.items = omega (arith, (every.0 none).1) in
+        take_all (length end.replies.items) batch.commands enough
+
+    output_in : end.stopped ≡ None → (output : List ℕ) (status : ℕ) → IsWhole batch.subjects batch.skipped end output status
+        → HasCleanDisk (spool.disk new) → (s : State) → spool.Shows old s → IsOutput settings s (request.Commands batch) output status
+    output_in none output status is clean s shown =
+        let replied : end.replies.items ≡ replies_to s batch.commands = (ran.from clean s shown).answers ∙ ap (replies_to s) (all none) in
+        (is.0 ∙ ap (output_text batch.subjects batch.skipped) replied, is.1 ∙ ap replies_status replied)

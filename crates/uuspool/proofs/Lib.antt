@@ -4,7 +4,6 @@ pub mod BatchCallLemmas
 pub mod BatchLemmas
 pub mod EndLemmas
 pub mod FaultExamples
-pub mod FaultLemmas
 pub mod LineLemmas
 pub mod ServedLemmas
 pub mod ServesLemmas

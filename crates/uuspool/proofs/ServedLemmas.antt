@@ -1,21 +1,21 @@
 -- How the parts of a line's service make up the whole.
-use Rattle.std.proofs.Common.{◌≡◌, ◌⊎◌, inl, inr, ℕ, List, [], length, Vec, Option, Some, None, Result, Ok, Err, IfOk, IfErr, OnOk, IsOkAnd, append-nil, Bool, false, IsTrue, MatchOption, refl, subst, sym}
+use Rattle.std.proofs.Common.{◌≡◌, ◌⊎◌, ◌∙◌, ◌++◌, ◌∷◌, inl, inr, ℕ, List, [], Vec, Option, Some, None, Result, Ok, Err, IfOk, IfErr, IfSome, OnOk, IsOkAnd, ap, append-nil, Bool, false, IsTrue, MatchOption, refl, subst, sym}
 use Rattle.std.specs.declared.alloc.Global.{Global}
 use Rattle.std.specs.Io.KnownBytes.{Appends}
 use Rattle.sqlite.specs.Store.{Ghosts}
 use Rattle.sqlite.specs.State.{HasCleanDisk}
 use Rattle.uu_core.specs.State.{State}
-use Rattle.uu_core.specs.declared.command.Reply.{Reply}
 use Rattle.uu_schema.specs.declared.fault.StoreFault.{StoreFault}
 use Rattle.uu_schema.specs.declared.fault.StoreFault.TheVariants as store
 use Rattle.uu_store.specs.Runs.{Ran}
 use Rattle.uu_store.specs.Spool as spool
 use Rattle.uu_store.specs.declared.spool.Spool.{Spool}
+use Rattle.uu_frame.specs.Writing.{IsCut}
 use Rattle.uu_settings.specs.declared.settings.Settings.{Settings}
 use Rattle.uu_request.specs.declared.request.Question.{Question}
 use Rattle.uu_request.specs.declared.request.Request.TheVariants as request
 use Rattle.uuspool.specs.Answers.{IsAnswer}
-use Rattle.uuspool.specs.Served.{IsServed, IsLate, IsNoted, IsOfCall, IsUnprinted, Marks, commands_of}
+use Rattle.uuspool.specs.Served.{IsBrokenOff, IsLate, IsNoted, IsOfCall, IsPrinted, IsServed, Marks}
 use Rattle.uuspool.specs.declared.fault.Fault.{Fault}
 use Rattle.uuspool.specs.declared.fault.Fault.TheVariants as fault
 
@@ -28,26 +28,90 @@ Appends-nothing (Some bytes) = sym (append-nil bytes)
 abbrev pub IsOfPrinting : Fault → Type 0
 IsOfPrinting f = (f ≡ fault.Write) ⊎ (f ≡ fault.Memory)
 
-printing_is_late : (f : Fault) → IsOfPrinting f → IsLate f
-printing_is_late f (inl is) = subst IsLate (sym is) tt
-printing_is_late f (inr is) = subst IsLate (sym is) tt
+-- ---- how a request ends
 
-printing_is_no_store : (f : Fault) (why : StoreFault) → IsOfPrinting f → f ≡ fault.Store why → ⊥
-printing_is_no_store f why (inl is) store = cc
-printing_is_no_store f why (inr is) store = cc
+-- what is printed, and where, said in other words
+pub printed_as : (Is Other : List ℕ → ℕ → Type 0) (written other : List ℕ → Type 0) (r : Result ℕ Fault)
+    → ((output : List ℕ) (status : ℕ) → Is output status → Other output status) → ((output : List ℕ) → written output → other output)
+    → IsPrinted Is written r → IsPrinted Other other r
+printed_as Is Other written other (Ok status) into over (output, is, wrote) = (output, into output status is, over output wrote)
+printed_as Is Other written other (Err fault.Write) into over (output, status, is, (front, rest, whole, some, wrote)) =
+    (output, status, into output status is, (front, rest, whole, some, over front wrote))
+printed_as Is Other written other (Err fault.Memory) into over nothing = over [] nothing
+printed_as Is Other written other (Err (fault.Store why)) into over none = none
+printed_as Is Other written other (Err (fault.Words text help)) into over none = none
+printed_as Is Other written other (Err (fault.Settings why)) into over none = none
+printed_as Is Other written other (Err (fault.Name why)) into over none = none
+printed_as Is Other written other (Err (fault.Time why)) into over none = none
+printed_as Is Other written other (Err fault.TwoSystems) into over none = none
+printed_as Is Other written other (Err fault.Input) into over none = none
+printed_as Is Other written other (Err fault.Read) into over none = none
 
-late_of : (r : Result ℕ Fault) → IfErr r IsOfPrinting → IfErr r IsLate
-late_of (Ok status) is = tt
-late_of (Err f) is = printing_is_late f is
+pub broken_as : (why : StoreFault) (output : List ℕ) (written other : List ℕ → Type 0) (r : Result ℕ Fault)
+    → ((text : List ℕ) → written text → other text) → IsBrokenOff why output written r → IsBrokenOff why output other r
+broken_as why output written other (Ok status) over none = none
+broken_as why output written other (Err (fault.Store told)) over (same, wrote) = (same, over output wrote)
+broken_as why output written other (Err fault.Write) over (front, rest, whole, some, wrote) = (front, rest, whole, some, over front wrote)
+broken_as why output written other (Err fault.Memory) over (some, nothing) = (some, over [] nothing)
+broken_as why output written other (Err (fault.Words text help)) over none = none
+broken_as why output written other (Err (fault.Settings is)) over none = none
+broken_as why output written other (Err (fault.Name is)) over none = none
+broken_as why output written other (Err (fault.Time is)) over none = none
+broken_as why output written other (Err fault.TwoSystems) over none = none
+broken_as why output written other (Err fault.Input) over none = none
+broken_as why output written other (Err fault.Read) over none = none
 
-no_store : (r : Result ℕ Fault) (why : StoreFault) → IfErr r IsOfPrinting → r ≡ Err (fault.Store why) → ⊥
-no_store (Ok status) why is same = cc
-no_store (Err f) why is same = let inner : f ≡ fault.Store why = cc in printing_is_no_store f why is inner
+-- the fault is one that comes once the spool is asked
+printed_is_late : (Is : List ℕ → ℕ → Type 0) (written : List ℕ → Type 0) (r : Result ℕ Fault) → IsPrinted Is written r → IfErr r IsLate
+printed_is_late Is written (Ok status) it = tt
+printed_is_late Is written (Err fault.Write) it = tt
+printed_is_late Is written (Err fault.Memory) it = tt
+printed_is_late Is written (Err (fault.Store why)) none = absurd none
+printed_is_late Is written (Err (fault.Words text help)) none = none
+printed_is_late Is written (Err (fault.Settings why)) none = none
+printed_is_late Is written (Err (fault.Name why)) none = none
+printed_is_late Is written (Err (fault.Time why)) none = none
+printed_is_late Is written (Err fault.TwoSystems) none = none
+printed_is_late Is written (Err fault.Input) none = none
+printed_is_late Is written (Err fault.Read) none = none
 
-whole_of : (q : Question) (r : Result ℕ Fault) → OnOk r (let none : Option StoreFault = None in let replies : List Reply = [] in
-    (none ≡ None) × (length replies ≡ length (commands_of (request.Question q))))
-whole_of q (Ok status) = (refl, refl)
-whole_of q (Err f) = tt
+broken_is_late : (why : StoreFault) (output : List ℕ) (written : List ℕ → Type 0) (r : Result ℕ Fault) → IsOfCall why → IsBrokenOff why output written r → IfErr r IsLate
+broken_is_late why output written (Ok status) call none = tt
+broken_is_late why output written (Err (fault.Store told)) call (same, wrote) = subst IsOfCall (sym same) call
+broken_is_late why output written (Err fault.Write) call it = tt
+broken_is_late why output written (Err fault.Memory) call it = tt
+broken_is_late why output written (Err (fault.Words text help)) call none = none
+broken_is_late why output written (Err (fault.Settings is)) call none = none
+broken_is_late why output written (Err (fault.Name is)) call none = none
+broken_is_late why output written (Err (fault.Time is)) call none = none
+broken_is_late why output written (Err fault.TwoSystems) call none = none
+broken_is_late why output written (Err fault.Input) call none = none
+broken_is_late why output written (Err fault.Read) call none = none
+
+pub end_is_late : (stopped : Option StoreFault) (Is : List ℕ → ℕ → Type 0) (output : List ℕ) (written : List ℕ → Type 0) (r : Result ℕ Fault) → IfSome stopped IsOfCall
+    → MatchOption stopped (IsPrinted Is written r) (λ why. IsBrokenOff why output written r) → IfErr r IsLate
+end_is_late None Is output written r call printed = printed_is_late Is written r printed
+end_is_late (Some why) Is output written r call broken = broken_is_late why output written r call broken
+
+-- a text that has a front that is cut is none that is empty
+no_rest : (front rest : List ℕ) → front ++ rest ≡ [] → rest ≡ []
+no_rest [] rest is = is
+no_rest (x ∷ front) rest is = absurd (cc)
+
+-- where nothing was to be written, the store's fault is told, and nothing was written
+pub broken_of_nothing : (why : StoreFault) (output : List ℕ) (written : List ℕ → Type 0) (r : Result ℕ Fault) → output ≡ [] → IsBrokenOff why output written r
+    → (r ≡ Err (fault.Store why)) × written []
+broken_of_nothing why output written (Ok status) empty none = absurd none
+broken_of_nothing why output written (Err (fault.Store told)) empty (same, wrote) = (ap (λ w. Err (fault.Store w)) same, subst written empty wrote)
+broken_of_nothing why output written (Err fault.Write) empty (front, rest, whole, some, wrote) = absurd (some (no_rest front rest (sym whole ∙ empty)))
+broken_of_nothing why output written (Err fault.Memory) empty (some, nothing) = absurd (some empty)
+broken_of_nothing why output written (Err (fault.Words text help)) empty none = absurd none
+broken_of_nothing why output written (Err (fault.Settings is)) empty none = absurd none
+broken_of_nothing why output written (Err (fault.Name is)) empty none = absurd none
+broken_of_nothing why output written (Err (fault.Time is)) empty none = absurd none
+broken_of_nothing why output written (Err fault.TwoSystems) empty none = absurd none
+broken_of_nothing why output written (Err fault.Input) empty none = absurd none
+broken_of_nothing why output written (Err fault.Read) empty none = absurd none
 
 -- a fault of a call of a spool
 pub marked_is_of_call : (before after : Bool) (why : StoreFault) → spool.Marks before after why → IsOfCall why
@@ -83,47 +147,61 @@ pub noted_of_run : {S : Type 0} {g : Ghosts S} (old new : Spool S g) (stopped : 
 noted_of_run old new None marked = λ clean s shown kind same. absurd (cc)
 noted_of_run old new (Some why) marked = noted_of_call old new why marked
 
--- a fault of the store is none of the output, nor of memory
-pub store_is_printed : {X : Type 0} (why : StoreFault) → (let r : Result ℕ Fault = Err (fault.Store why) in IsUnprinted r) → X
-store_is_printed why (inl is) = absurd (cc)
-store_is_printed why (inr is) = absurd (cc)
+-- of a spool that had failed, that alone is told
+failed_alone : (before after : Bool) (why : StoreFault) → Marks before after (Some why) → IsTrue before → why ≡ store.Failed
+failed_alone before after store.Memory marked had = absurd (cc)
+failed_alone before after (store.Store kind) marked had = absurd (cc)
+failed_alone before after store.Failed marked had = refl
+failed_alone before after store.Foreign marked had = absurd marked
+failed_alone before after store.Newer marked had = absurd marked
 
 -- no spool had failed
 pub never_failed : {X : Type 0} (before : Bool) → before ≡ false → IsTrue before → X
 never_failed before is had = absurd (cc)
 
--- an output that was made and printed, with its status
+-- ---- an output that was made and printed, with its status
+
+made_is_cut : {E : Type 0} (made : Result (Vec ℕ Global) E) (status : ℕ) (written P : List ℕ → Type 0) (Q : List ℕ → ℕ → Type 0) → ((output : List ℕ) → P output → Q output status)
+    → IsOkAnd made (λ output. IsCut output.items written) → IfOk made (λ output. P output.items) → (output : List ℕ) × (status : ℕ) × Q output status × IsCut output written
+made_is_cut (Ok output) status written P Q into cut has = (output.items, status, into output.items has, cut)
+made_is_cut (Err none) status written P Q into cut has = absurd cut
+
 pub printed : {E : Type 0} (r : Result ℕ Fault) (made : Result (Vec ℕ Global) E) (status : ℕ) (written P : List ℕ → Type 0) (Q : List ℕ → ℕ → Type 0)
     → ((output : List ℕ) → P output → Q output status)
-    → OnOk r (IsOkAnd made (λ output. written output.items)) → IfOk r (λ answered. answered ≡ status) → IfOk made (λ output. P output.items)
-    → IfOk r (λ answered. (output : List ℕ) × Q output answered × written output)
-printed (Ok answered) (Ok output) status written P Q into is same has = (output.items, subst (Q output.items) (sym same) (into output.items has), is)
-printed (Ok answered) (Err none) status written P Q into is same has = absurd is
-printed (Err f) made status written P Q into is same has = tt
+    → OnOk r (IsOkAnd made (λ output. written output.items)) → IfOk r (λ answered. answered ≡ status) → IfErr r IsOfPrinting
+    → (r ≡ Err fault.Write → IsOkAnd made (λ output. IsCut output.items written)) → (r ≡ Err fault.Memory → written [])
+    → IfOk made (λ output. P output.items) → IsPrinted Q written r
+printed (Ok answered) (Ok output) status written P Q into is same printing cut nothing has = (output.items, subst (Q output.items) (sym same) (into output.items has), is)
+printed (Ok answered) (Err none) status written P Q into is same printing cut nothing has = absurd is
+printed (Err f) made status written P Q into is same (inl write) cut nothing has =
+    subst (λ (g : Fault). let r : Result ℕ Fault = Err g in IsPrinted Q written r) (sym write) (made_is_cut made status written P Q into (cut (ap Err write)) has)
+printed (Err f) made status written P Q into is same (inr memory) cut nothing has =
+    subst (λ (g : Fault). let r : Result ℕ Fault = Err g in IsPrinted Q written r) (sym memory) (nothing (ap Err memory))
+
+-- ---- questions
+
+-- what is printed of the answer, and the status, in each state that the spool showed
+abbrev pub Answers : {S : Type 0} {g : Ghosts S} → Settings → Question → Spool S g → Spool S g → List ℕ → ℕ → Type 0
+Answers settings q old new output status = HasCleanDisk (spool.disk new) → (s : State) → spool.Shows old s → IsAnswer settings s q output status
 
 module _ {S : Type 0} {g : Ghosts S} (settings : Settings) (q : Question) (old new : Spool S g) (written : List ℕ → Type 0) where
   -- the question was answered, and its answer printed
-  pub question_served : (r : Result ℕ Fault) → Ran [] old new [] None → (spool.has_failed old ≡ false) × (spool.has_failed new ≡ false) → IfErr r IsOfPrinting
-      → (HasCleanDisk (spool.disk new) → (s : State) → spool.Shows old s → spool.Shows new s × IfOk r (λ status. (output : List ℕ) × IsAnswer settings s q output status × written output))
+  pub question_served : (r : Result ℕ Fault) → Ran [] old new [] None → (spool.has_failed old ≡ false) × (spool.has_failed new ≡ false)
+      → (HasCleanDisk (spool.disk new) → (s : State) → spool.Shows old s → spool.Shows new s) → IsPrinted (Answers settings q old new) written r
       → IsServed settings (request.Question q) old new written r
-  question_served r ran marked printing answers = record {
+  question_served r ran marked shows answered = record {
     replies = [];
     stopped = None;
     ran = ran;
-    whole = whole_of q r;
-    output = λ clean s shown. shown_after r s (answers clean s shown).0 (answers clean s shown).1;
-    broken_off = λ why store. absurd (no_store r why printing store);
-    hides_none = λ unprinted. inl refl;
-    late = late_of r printing;
+    every = refl;
+    printed = λ none. printed_as (Answers settings q old new) _ written written r (λ output status is. (tt, is)) (λ output wrote. wrote) answered;
+    shows = λ none. shows;
+    broken_off = λ why same. absurd (cc);
+    late = printed_is_late (Answers settings q old new) written r answered;
     marked = marked;
     noted = λ clean s shown kind same. absurd (cc);
     failed = never_failed (spool.has_failed old) marked.0;
   }
-    where
-      shown_after : (r : Result ℕ Fault) (s : State) → spool.Shows new s → IfOk r (λ status. (output : List ℕ) × IsAnswer settings s q output status × written output)
-          → IfOk r (λ status. (output : List ℕ) × IsAnswer settings s q output status × written output × spool.Shows new s)
-      shown_after (Ok status) s shows (output, is, done) = (output, is, done, shows)
-      shown_after (Err f) s shows is = tt
 
   -- the store gave a fault, and nothing was printed
   pub question_unanswered : (why : StoreFault) → Ran [] old new [] (Some why) → Marks (spool.has_failed old) (spool.has_failed new) (Some why)
@@ -133,12 +211,12 @@ module _ {S : Type 0} {g : Ghosts S} (settings : Settings) (q : Question) (old n
     replies = [];
     stopped = Some why;
     ran = ran;
-    whole = tt;
-    output = λ clean s shown. tt;
-    broken_off = λ other same. (let is : why ≡ other = cc in subst (λ w. (let stopped : Option StoreFault = Some why in stopped ≡ Some w) × written []) is (refl, nothing));
-    hides_none = store_is_printed why;
+    every = refl;
+    printed = λ same. absurd (cc);
+    shows = λ same. absurd (cc);
+    broken_off = λ other same. (let is : why ≡ other = cc in (is, nothing));
     late = call;
     marked = marked;
     noted = noted;
-    failed = failed;
+    failed = λ had. (ap (λ w. Err (fault.Store w)) (failed_alone (spool.has_failed old) (spool.has_failed new) why marked had), nothing, failed had);
   }

@@ -1,17 +1,13 @@
 -- A line that was served to a writer whose bytes are known.
-use Rattle.std.proofs.Common.{◌≡◌, ◌⊎◌, ◌∙◌, inl, inr, ℕ, List, [], Option, Some, None, Result, Ok, Err, IfOk, IfErr, IsSome, refl, sym}
+use Rattle.std.proofs.Common.{◌≡◌, ◌∙◌, inl, inr, ℕ, List, [], Option, Some, None, Result, Ok, Err, IfErr, IsSome, refl, sym}
 use Rattle.std.proofs.lemmas.List.{append_cancel_left}
 use Rattle.std.specs.Io.KnownBytes.{Appends}
 use Rattle.sqlite.specs.Store.{Ghosts}
-use Rattle.uu_frame.specs.Writing.{IsCut}
 use Rattle.uu_settings.specs.declared.settings.Settings.{Settings}
 use Rattle.uu_request.specs.declared.request.Request.{Request}
-use Rattle.uu_core.specs.State.{State}
-use Rattle.uu_store.specs.Spool as spool
-use Rattle.uu_core.specs.Run.{state_after}
 use Rattle.uu_store.specs.declared.spool.Spool.{Spool}
-use Rattle.uuspool.proofs.ServedLemmas.{Appends-nothing}
-use Rattle.uuspool.specs.Served.{Ask, EndsAs, IsEarly, IsFaultOf, IsLate, IsOutput, IsServed, answered_text, commands_of}
+use Rattle.uuspool.proofs.ServedLemmas.{Appends-nothing, broken_as, printed_as}
+use Rattle.uuspool.specs.Served.{Ask, EndsAs, IsEarly, IsFaultOf, IsLate, IsServed, answered_text}
 use Rattle.uuspool.specs.Sessions.{Line, Serves}
 use Rattle.uuspool.specs.declared.fault.Fault.{Fault}
 use Rattle.uuspool.specs.declared.fault.Fault.TheVariants as fault
@@ -22,32 +18,21 @@ one_text None new one other known first second = cc
 one_text (Some bytes) None one other known first second = absurd first
 one_text (Some bytes) (Some more) one other known first second = append_cancel_left bytes one other (sym first ∙ second)
 
-output_as : {S : Type 0} {g : Ghosts S} (settings : Settings) (s : State) (request : Request) (new : Spool S g) (written other : List ℕ → Type 0) (r : Result ℕ Fault)
-    → ((output : List ℕ) → written output → other output)
-    → IfOk r (λ status. (output : List ℕ) × IsOutput settings s request output status × written output × spool.Shows new (state_after s (commands_of request)))
-    → IfOk r (λ status. (output : List ℕ) × IsOutput settings s request output status × other output × spool.Shows new (state_after s (commands_of request)))
-output_as settings s request new written other (Ok status) into (output, is, done, shows) = (output, is, into output done, shows)
-output_as settings s request new written other (Err why) into none = tt
-
-cut_as : (A : Type 0) (text : List ℕ) (written other : List ℕ → Type 0) → ((output : List ℕ) → written output → other output) → A ⊎ IsCut text written → A ⊎ IsCut text other
-cut_as A text written other into (inl a) = inl a
-cut_as A text written other into (inr (front, rest, is, some, done)) = inr (front, rest, is, some, into front done)
-
 -- what was written, said in other words
 served_as : {S : Type 0} {g : Ghosts S} (settings : Settings) (request : Request) (old new : Spool S g) (written other : List ℕ → Type 0) (r : Result ℕ Fault)
     → ((output : List ℕ) → written output → other output) → IsServed settings request old new written r → IsServed settings request old new other r
-served_as settings request old new written other r into it = record {
+served_as settings request old new written other r over it = record {
   replies = it.replies;
   stopped = it.stopped;
   ran = it.ran;
-  whole = it.whole;
-  output = λ clean s shown. output_as settings s request new written other r into (it.output clean s shown);
-  broken_off = λ why same. (let broken = it.broken_off why same in (broken.0, into _ broken.1));
-  hides_none = λ unprinted. cut_as _ (answered_text request it.replies) written other into (it.hides_none unprinted);
+  every = it.every;
+  printed = λ none. printed_as _ _ written other r (λ output status is. is) over (it.printed none);
+  shows = it.shows;
+  broken_off = λ why same. broken_as why (answered_text request it.replies) written other r over (it.broken_off why same);
   late = it.late;
   marked = it.marked;
   noted = it.noted;
-  failed = it.failed;
+  failed = λ had. (let was = it.failed had in (was.0, over [] was.1, was.2));
 }
 
 -- a request that was served ends a line, and its fault is one that comes once the spool is asked

@@ -1,5 +1,5 @@
 -- Lines that are served one after the other are one run of the commands of their requests.
-use Rattle.std.proofs.Common.{◌≡◌, ◌≤◌, ◌∙◌, ◌++◌, ◌∷◌, inl, inr, ℕ, List, [], length, drop, Option, Some, None, Result, Ok, Err, IfOk, IfErr, OnOk, ap, append-nil, arith, refl, subst, sym}
+use Rattle.std.proofs.Common.{◌≡◌, ◌≤◌, ◌∙◌, ◌++◌, ◌∷◌, inl, inr, ℕ, Bool, List, [], length, drop, take, Option, Some, None, Result, Ok, Err, IfErr, OnErr, ap, append-nil, arith, refl, subst, sym}
 use Rattle.std.specs.Prelude.{IsTrue}
 use Rattle.std.proofs.lemmas.List.{drop_all, length-append, take_all}
 use Rattle.std.proofs.Math.Seq.{drop-append_seam}
@@ -8,18 +8,20 @@ use Rattle.sqlite.specs.Effect.{Database}
 use Rattle.sqlite.specs.Store.{Ghosts}
 use Rattle.sqlite.specs.State as db
 use Rattle.uu_core.specs.State.{State}
-use Rattle.uu_core.specs.Run.{state_after}
+use Rattle.uu_core.specs.Run.{replies_to, state_after}
 use Rattle.uu_core.specs.declared.command.Command.{Command}
 use Rattle.uu_core.specs.declared.command.Reply.{Reply}
 use Rattle.uu_schema.specs.declared.fault.StoreFault.{StoreFault}
 use Rattle.uu_database.specs.Encoded.{Leaves}
 use Rattle.uu_store.specs.Runs.{Ran, GoesOn}
-use Rattle.uu_store.specs.Spool.{Shows, disk}
+use Rattle.uu_store.specs.Spool.{Shows, disk, has_failed}
 use Rattle.uu_store.specs.declared.spool.Spool.{Spool}
 use Rattle.uu_settings.specs.declared.settings.Settings.{Settings}
 use Rattle.uu_request.specs.declared.request.Request.{Request}
-use Rattle.uuspool.specs.Served.{Ask, EndsAs, IsOutput, IsServed, IsFaultOf, commands_of}
-use Rattle.uuspool.specs.Sessions.{Line, Further, AreLeft, AreServed, LeadOn, IsToldAs, IsUnasked, AreTold, IsOneRun, commands_in, left_fault}
+use Rattle.uu_request.specs.declared.request.Request.TheVariants.{Commands, Question}
+use Rattle.uuspool.proofs.ServedLemmas.{printed_as}
+use Rattle.uuspool.specs.Served.{Ask, EndsAs, IsBrokenOff, IsEvery, IsFaultOf, IsOutput, IsPrinted, IsServed, answered_text, commands_of}
+use Rattle.uuspool.specs.Sessions.{Line, Further, AreLeft, AreServed, LeadOn, IsTold, IsToldAs, IsUnasked, AreTold, IsOneRun, commands_in, left_fault}
 use Rattle.uuspool.specs.declared.fault.Fault.{Fault}
 use Rattle.uuspool.specs.declared.fault.Fault.TheVariants as fault
 
@@ -40,32 +42,77 @@ left_are_told settings s (line ∷ lines) (nothing, is, rest) =
 
 -- ---- one line
 
-whole_output : (settings : Settings) (s : State) (request : Request) (output : List ℕ) (After : Type 0) (r : Result ℕ Fault)
-    → IfOk r (λ status. (printed : List ℕ) × IsOutput settings s request printed status × (output ≡ printed) × After)
-    → IfOk r (IsOutput settings s request output)
-whole_output settings s request output After (Ok status) (printed, is, same, after) = subst (λ o. IsOutput settings s request o status) (sym same) is
-whole_output settings s request output After (Err f) none = tt
+-- nothing stopped a request that ended with a status
+not_stopped : (stopped : Option StoreFault) (output : List ℕ) (written : List ℕ → Type 0) (r : Result ℕ Fault) (status : ℕ) → r ≡ Ok status
+    → ((why : StoreFault) → stopped ≡ Some why → IsBrokenOff why output written r) → stopped ≡ None
+not_stopped None output written r status same broken = refl
+not_stopped (Some why) output written r status same broken = absurd (subst (IsBrokenOff why output written) same (broken why refl))
 
--- the line was done: its replies come first
-told_done : {S : Type 0} {g : Ghosts S} (settings : Settings) (s : State) (replies : List Reply) (line : Line) (request : Request) (status : ℕ) (old mid : Spool S g)
-    → line.result ≡ Ok status → Ask settings line.words line.now line.input (Ok request)
-    → IsServed settings request old mid (λ output. line.output ≡ output) line.result
-    → db.HasCleanDisk (disk mid) → Shows old s → IsToldAs settings s replies line request
-told_done settings s replies line request status old mid done asks it clean shown = record {
-  asks = asks;
-  output = whole_output settings s request line.output (Shows mid (state_after s (commands_of request))) line.result (it.output clean s shown);
-  broken_off = λ why same. absurd (cc);
-}
+-- where nothing stopped it, each of its commands was answered
+all_answered : (failed : Bool) (request : Request) (replies : List Reply) (stopped : Option StoreFault) → IsEvery failed request replies stopped → stopped ≡ None
+    → length replies ≡ length (commands_of request)
+all_answered failed (Commands batch) replies stopped every none = (every.0 none).1
+all_answered failed (Question question) replies stopped every none = ap length every
 
--- the line was the last that was served: all replies that are left are its own
-told_last : {S : Type 0} {g : Ghosts S} (settings : Settings) (s : State) (line : Line) (request : Request) (old mid : Spool S g)
-    → Ask settings line.words line.now line.input (Ok request) → (it : IsServed settings request old mid (λ output. line.output ≡ output) line.result)
-    → db.HasCleanDisk (disk mid) → Shows old s → IsToldAs settings s it.replies line request
-told_last settings s line request old mid asks it clean shown = record {
-  asks = asks;
-  output = whole_output settings s request line.output (Shows mid (state_after s (commands_of request))) line.result (it.output clean s shown);
-  broken_off = λ why same. ((it.broken_off why same).1, (it.ran.from clean s shown).answers);
-}
+module _ (settings : Settings) (s : State) (request : Request) (replies : List Reply) (output : List ℕ) where
+  -- of a request of which all was answered, and of one that was broken off
+  told_printed : (r : Result ℕ Fault) → IsPrinted (λ o status. IsOutput settings s request o status) (λ o. output ≡ o) r → IsTold settings s request replies output r
+  told_printed (Ok status) (o, is, same) = subst (λ o. IsOutput settings s request o status) (sym same) is
+  told_printed (Err fault.Write) (whole, status, is, cut) = inl (whole, status, is, cut)
+  told_printed (Err fault.Memory) nothing = nothing
+  told_printed (Err (fault.Store why)) none = absurd none
+  told_printed (Err (fault.Words text help)) none = none
+  told_printed (Err (fault.Settings why)) none = none
+  told_printed (Err (fault.Name why)) none = none
+  told_printed (Err (fault.Time why)) none = none
+  told_printed (Err fault.TwoSystems) none = none
+  told_printed (Err fault.Input) none = none
+  told_printed (Err fault.Read) none = none
+
+  told_broken : (why : StoreFault) (r : Result ℕ Fault) → IsBrokenOff why (answered_text request replies) (λ o. output ≡ o) r → IsTold settings s request replies output r
+  told_broken why (Ok status) none = absurd none
+  told_broken why (Err (fault.Store told)) (same, wrote) = wrote
+  told_broken why (Err fault.Write) cut = inr cut
+  told_broken why (Err fault.Memory) (some, nothing) = nothing
+  told_broken why (Err (fault.Words text help)) none = none
+  told_broken why (Err (fault.Settings is)) none = none
+  told_broken why (Err (fault.Name is)) none = none
+  told_broken why (Err (fault.Time is)) none = none
+  told_broken why (Err fault.TwoSystems) none = none
+  told_broken why (Err fault.Input) none = none
+  told_broken why (Err fault.Read) none = none
+
+  told_by : (stopped : Option StoreFault) (r : Result ℕ Fault)
+      → (stopped ≡ None → IsPrinted (λ o status. IsOutput settings s request o status) (λ o. output ≡ o) r)
+      → ((why : StoreFault) → stopped ≡ Some why → IsBrokenOff why (answered_text request replies) (λ o. output ≡ o) r)
+      → IsTold settings s request replies output r
+  told_by None r printed broken = told_printed r (printed refl)
+  told_by (Some why) r printed broken = told_broken why r (broken why refl)
+
+on_err : (r : Result ℕ Fault) (X : Type 0) → X → OnErr r X
+on_err (Ok status) X x = tt
+on_err (Err why) X x = x
+
+module _ {S : Type 0} {g : Ghosts S} (settings : Settings) (s : State) (line : Line) (request : Request) (old mid : Spool S g)
+    (asks : Ask settings line.words line.now line.input (Ok request)) (it : IsServed settings request old mid (λ output. line.output ≡ output) line.result)
+    (clean : db.HasCleanDisk (disk mid)) (shown : Shows old s) where
+  told_so : IsTold settings s request it.replies line.output line.result
+  told_so =
+      told_by settings s request it.replies line.output it.stopped line.result
+      (λ none. printed_as _ (λ output status. IsOutput settings s request output status) (λ output. line.output ≡ output) (λ output. line.output ≡ output) line.result (λ output status is. is.1 clean s shown) (λ output same. same) (it.printed none))
+      it.broken_off
+
+  -- the line was done: its replies come first
+  told_done : (replies : List Reply) (status : ℕ) → line.result ≡ Ok status → IsToldAs settings s replies line request
+  told_done replies status done = record {
+    asks = asks;
+    told = subst (IsTold settings s request replies line.output) (sym done) (subst (IsTold settings s request it.replies line.output) done told_so);
+    answers = subst (λ r. OnErr r (replies ≡ replies_to s (take (length replies) (commands_of request)))) (sym done) tt;
+  }
+
+  -- the line was the last that was served: all replies that are left are its own
+  told_last : IsToldAs settings s it.replies line request
+  told_last = record { asks = asks; told = told_so; answers = on_err line.result _ (it.ran.from clean s shown).answers }
 
 unasked : (settings : Settings) (line : Line) (why : Fault) → line.result ≡ Err why → line.output ≡ [] → IfErr line.result (IsFaultOf settings line.words line.now line.input)
     → IsUnasked settings line
@@ -122,20 +169,20 @@ module _ {S : Type 0} {g : Ghosts S} (joins : Joins S g) (settles : Settles S g)
   one_run_of : (lines : List Line) (old new : Spool S g) (asked : List (Option Request)) (replies : List Reply) (stopped : Option StoreFault)
       → Ran (commands_in asked) old new replies stopped
       → (db.HasCleanDisk (disk new) → (s : State) → Shows old s → AreTold settings s replies lines asked)
-      → (LeadOn lines → (stopped ≡ None) × (length replies ≡ length (commands_in asked)))
+      → (stopped ≡ None → length replies ≡ length (commands_in asked)) → (LeadOn lines → stopped ≡ None)
       → IsOneRun settings lines old new
-  one_run_of lines old new asked replies stopped ran told every = record {
+  one_run_of lines old new asked replies stopped ran told every led_on = record {
     asked = asked;
     replies = replies;
     stopped = stopped;
     ran = ran;
     told = told;
     every = every;
-    shows = λ clean s shown on.
-        let all = every on in
-        let enough : length (commands_in asked) ≤ length replies = omega (arith, all.1) in
+    shows = λ none clean s shown.
+        let enough : length (commands_in asked) ≤ length replies = omega (arith, every none) in
         subst (λ commands. Shows new (state_after s commands)) (take_all (length replies) (commands_in asked) enough)
-        ((ran.from clean s shown).shows (subst GoesOn (sym all.0) tt));
+        ((ran.from clean s shown).shows (subst GoesOn (sym none) tt));
+    led_on = led_on;
   }
 
   module _ (line : Line) (lines : List Line) (old mid new : Spool S g) where
@@ -144,28 +191,26 @@ module _ {S : Type 0} {g : Ghosts S} (joins : Joins S g) (settles : Settles S g)
         → IsServed settings request old mid (λ output. line.output ≡ output) line.result → IsOneRun settings lines mid new → IsOneRun settings (line ∷ lines) old new
     done_then request status same asks it rest =
         one_run_of (line ∷ lines) old new (Some request ∷ rest.asked) (it.replies ++ rest.replies) rest.stopped
-        (joins old mid new (commands_of request) (commands_in rest.asked) it.replies rest.replies it.stopped rest.stopped whole.1 (subst GoesOn (sym whole.0) tt) it.ran rest.ran)
-        told every
+        (joins old mid new (commands_of request) (commands_in rest.asked) it.replies rest.replies it.stopped rest.stopped answered (subst GoesOn (sym none) tt) it.ran rest.ran)
+        told every (λ on. rest.led_on (subst (λ r. Further r (LeadOn lines) ⊥) same on))
       where
-        whole : (it.stopped ≡ None) × (length it.replies ≡ length (commands_of request))
-        whole = subst (λ r. OnOk r ((it.stopped ≡ None) × (length it.replies ≡ length (commands_of request)))) same it.whole
+        none : it.stopped ≡ None
+        none = not_stopped it.stopped (answered_text request it.replies) (λ output. line.output ≡ output) line.result status same it.broken_off
+
+        answered : length it.replies ≡ length (commands_of request)
+        answered = all_answered (has_failed old) request it.replies it.stopped it.every none
 
         told : db.HasCleanDisk (disk new) → (s : State) → Shows old s → AreTold settings s (it.replies ++ rest.replies) (line ∷ lines) (Some request ∷ rest.asked)
         told clean s shown =
-            let early : db.HasCleanDisk (disk mid) = omega (arith, rest.ran.clean, clean) in
-            let enough : length (commands_of request) ≤ length it.replies = omega (arith, whole.1) in
-            let after : Shows mid (state_after s (commands_of request)) =
-            subst (λ commands. Shows mid (state_after s commands)) (take_all (length it.replies) (commands_of request) enough)
-            ((it.ran.from early s shown).shows (subst GoesOn (sym whole.0) tt)) in (
-              told_done settings s (it.replies ++ rest.replies) line request status old mid same asks it early shown,
-              subst (λ replies. AreTold settings (state_after s (commands_of request)) replies lines rest.asked) (sym (behind it.replies rest.replies (commands_of request) whole.1))
-                  (rest.told clean (state_after s (commands_of request)) after),
+            let early : db.HasCleanDisk (disk mid) = omega (arith, rest.ran.clean, clean) in (
+              told_done settings s line request old mid asks it early shown (it.replies ++ rest.replies) status same,
+              subst (λ replies. AreTold settings (state_after s (commands_of request)) replies lines rest.asked) (sym (behind it.replies rest.replies (commands_of request) answered))
+                  (rest.told clean (state_after s (commands_of request)) (it.shows none early s shown)),
             )
 
-        every : LeadOn (line ∷ lines) → (rest.stopped ≡ None) × (length (it.replies ++ rest.replies) ≡ length (commands_of request ++ commands_in rest.asked))
+        every : rest.stopped ≡ None → length (it.replies ++ rest.replies) ≡ length (commands_of request ++ commands_in rest.asked)
         every on =
-            let all = rest.every (subst (λ r. Further r (LeadOn lines) ⊥) same on) in
-            (all.0, omega (arith, whole.1, all.1, length-append it.replies rest.replies, length-append (commands_of request) (commands_in rest.asked)))
+            omega (arith, answered, rest.every on, length-append it.replies rest.replies, length-append (commands_of request) (commands_in rest.asked))
 
     -- the line came to no request, and others were served after it
     unasked_then : IsUnasked settings line → mid ≡ old → (LeadOn (line ∷ lines) → LeadOn lines) → IsOneRun settings lines mid new → IsOneRun settings (line ∷ lines) old new
@@ -173,7 +218,7 @@ module _ {S : Type 0} {g : Ghosts S} (joins : Joins S g) (settles : Settles S g)
         one_run_of (line ∷ lines) old new (None ∷ rest.asked) rest.replies rest.stopped
         (subst (λ (m : Spool S g). Ran (commands_in rest.asked) m new rest.replies rest.stopped) same rest.ran)
         (λ clean s shown. (none, rest.told clean s (subst (λ (m : Spool S g). Shows m s) (sym same) shown)))
-        (λ all. rest.every (on all))
+        rest.every (λ all. rest.led_on (on all))
 
     -- the line was the last that was served
     done_last : (request : Request) → (LeadOn (line ∷ lines) → ⊥) → Ask settings line.words line.now line.input (Ok request)
@@ -186,19 +231,20 @@ module _ {S : Type 0} {g : Ghosts S} (joins : Joins S g) (settles : Settles S g)
           subst (λ replies. AreTold settings (state_after s (commands_of request)) replies lines (nones lines)) (sym (drop_all (length (commands_of request)) it.replies it.ran.within))
               (left_are_told settings (state_after s (commands_of request)) lines left),
         ))
+        (λ none. all_answered (has_failed old) request it.replies it.stopped it.every none ∙ ap length (sym alone))
         (λ on. absurd (off on))
       where
         alone : commands_in (Some request ∷ nones lines) ≡ commands_of request
         alone = ap (λ rest. commands_of request ++ rest) (nones_ask_nothing lines) ∙ append-nil (commands_of request)
 
     -- the line came to no request, and the others were left
-    unasked_last : (LeadOn (line ∷ lines) → ⊥) → IsUnasked settings line → mid ≡ old → AreLeft lines → new ≡ mid → IsOneRun settings (line ∷ lines) old new
-    unasked_last off none same left still =
+    unasked_last : IsUnasked settings line → mid ≡ old → AreLeft lines → new ≡ mid → IsOneRun settings (line ∷ lines) old new
+    unasked_last none same left still =
         one_run_of (line ∷ lines) old new (None ∷ nones lines) [] None
         (subst (λ commands. Ran commands old new [] None) (sym (nones_ask_nothing lines))
         (subst (λ (n : Spool S g). Ran [] old n [] None) (sym (still ∙ same)) (ran_nothing settles old)))
         (λ clean s shown. (none, left_are_told settings s lines left))
-        (λ on. absurd (off on))
+        (λ all. ap length (sym (nones_ask_nothing lines))) (λ on. refl)
 
     -- the line has a fault that comes before the spool is asked
     early : (why : Fault) → line.result ≡ Err why → mid ≡ old → line.output ≡ [] → IfErr line.result (IsFaultOf settings line.words line.now line.input)
@@ -220,7 +266,7 @@ module _ {S : Type 0} {g : Ghosts S} (joins : Joins S g) (settles : Settles S g)
     one_more (Err fault.Memory) same (inl (request, asks, it)) told (left, still) =
         done_last request (λ on. subst (λ r. Further r (LeadOn lines) ⊥) same on) asks it left still
     one_more (Err fault.Memory) same (inr (kept, nothing)) told (left, still) =
-        unasked_last (λ on. subst (λ r. Further r (LeadOn lines) ⊥) same on) (unasked settings line fault.Memory same nothing told) kept left still
+        unasked_last (unasked settings line fault.Memory same nothing told) kept left still
     one_more (Err (fault.Words text help)) same (kept, nothing) told rest = early (fault.Words text help) same kept nothing told rest (λ on. on)
     one_more (Err (fault.Settings why)) same (kept, nothing) told rest = early (fault.Settings why) same kept nothing told rest (λ on. on)
     one_more (Err (fault.Name why)) same (kept, nothing) told rest = early (fault.Name why) same kept nothing told rest (λ on. on)
@@ -232,7 +278,7 @@ module _ {S : Type 0} {g : Ghosts S} (joins : Joins S g) (settles : Settles S g)
   -- lines that are served one after the other are one run
   pub one_run : (lines : List Line) (old new : Spool S g) → AreServed settings lines old new → IsOneRun settings lines old new
   one_run [] old new same =
-      one_run_of [] old new [] [] None (subst (λ (n : Spool S g). Ran [] old n [] None) (sym same) (ran_nothing settles old)) (λ clean s shown. refl) (λ on. (refl, refl))
+      one_run_of [] old new [] [] None (subst (λ (n : Spool S g). Ran [] old n [] None) (sym same) (ran_nothing settles old)) (λ clean s shown. refl) (λ all. refl) (λ on. refl)
   one_run (line ∷ lines) old new (mid, serves, rest) =
       one_more line lines old mid new line.result refl serves.ends serves.told
       (further_on line.result (AreServed settings lines mid new) (IsOneRun settings lines mid new) (AreLeft lines × (new ≡ mid)) (one_run lines mid new) rest)

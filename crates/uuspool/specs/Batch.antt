@@ -4,7 +4,7 @@ use Rattle.std.specs.List.{AllByRecursion, FoldsTo, flat_map}
 use Rattle.std.specs.String.{string_bytes}
 use Rattle.std.specs.Io.KnownBytes.{Appends, Consumes, IsAtEnd}
 use Rattle.sqlite.specs.Store.{Ghosts}
-use Rattle.uu_frame.specs.Frames.{BeginsWithNoRequest, BeginsWithTooMuch, IsHead, answer_frame, request_frame}
+use Rattle.uu_frame.specs.Frames.{BeginsWithNoRequest, BeginsWithTooMuch, BeginsWithin, IsHead, IsWithinLine, answer_frame, request_frame}
 use Rattle.uu_frame.specs.Writing.{IsBegun}
 use Rattle.uu_names.specs.Text.{most_text}
 use Rattle.uu_settings.specs.declared.settings.Settings.{Settings}
@@ -56,14 +56,15 @@ answer_of line = told_frame line.output line.result
 abbrev pub no_request : List ℕ
 no_request = named (codes "no request")
 
--- The faults of a stream that can't be followed, with their causes in the bytes that are left of it, where these are known: no request is next,
--- or the line of one whose input is too large. Bytes may be unreadable or end within a request, the clock be unreadable, and memory be short.
-abbrev pub IsOfStream : Option (List ℕ) → Fault → Type 0
-IsOfStream left (fault.Words text help) = (string_bytes text ≡ no_request) × (help ≡ false) × IfSome left BeginsWithNoRequest
-IsOfStream left fault.Input = IfSome left (BeginsWithTooMuch most_text)
-IsOfStream left fault.Read = ⊤
-IsOfStream left fault.Memory = ⊤
-IsOfStream left _ = ⊥
+-- The faults of a stream that can't be followed, with their causes in the bytes that were left of it, and that are at last, where these are known: no
+-- request is next, or the line of one whose input is too large. Bytes may be unreadable or end, within the next line or behind that of a request within
+-- the limit; there the clock may be unreadable, too. Memory may be short.
+abbrev pub IsOfStream : Option (List ℕ) → Option (List ℕ) → Fault → Type 0
+IsOfStream left rest (fault.Words text help) = (string_bytes text ≡ no_request) × (help ≡ false) × IfSome left BeginsWithNoRequest
+IsOfStream left rest fault.Input = IfSome left (BeginsWithTooMuch most_text)
+IsOfStream left rest fault.Read = IsWithinLine left rest ⊎ IfSome left (BeginsWithin most_text)
+IsOfStream left rest fault.Memory = ⊤
+IsOfStream left rest _ = ⊥
 
 -- the answer that tells of such a fault
 abbrev pub fault_answer : Fault → List ℕ
@@ -79,10 +80,10 @@ pub record IsNext {S : Type 0} {g : Ghosts S} {C : Type 0} (settings : Settings)
   pub left : failed ≡ true → (line.output ≡ []) × (line.result ≡ Err left_fault) × (new ≡ old)
 
 -- how a stream of which these bytes are left ends with a status: they are none, or have a fault, whose answer is written at last
-abbrev pub EndsWith : Option (List ℕ) → (Writes : List ℕ → Type 0) → ℕ → Type 0
-EndsWith left Writes status =
+abbrev pub EndsWith : Option (List ℕ) → Option (List ℕ) → (Writes : List ℕ → Type 0) → ℕ → Type 0
+EndsWith left rest Writes status =
     ((status ≡ 0) × IsAtEnd left × Writes [])
-    ⊎ ((why : Fault) × IsOfStream left why × (status ≡ status_of why) × Writes (fault_answer why))
+    ⊎ ((why : Fault) × IsOfStream left rest why × (status ≡ status_of why) × Writes (fault_answer why))
 
 -- The telling of an answer failed: a beginning of it was written, perhaps all of it, and where memory ran out nothing.
 abbrev pub IsUntold : List ℕ → (Writes : List ℕ → Type 0) → Fault → Type 0
@@ -98,16 +99,16 @@ most_requests = 2 ^ 64 - 1
 
 -- How a batch breaks off: all lines but the last were answered, and the telling of that one's answer failed, or all were, and the telling of the
 -- answer to a fault of the stream failed. What was written is the answers of lines and then a text.
-abbrev pub BreaksOff : List Line → Option (List ℕ) → (Writes : List Line → List ℕ → Type 0) → Fault → Type 0
-BreaksOff lines left Writes why =
+abbrev pub BreaksOff : List Line → Option (List ℕ) → Option (List ℕ) → (Writes : List Line → List ℕ → Type 0) → Fault → Type 0
+BreaksOff lines left rest Writes why =
     ((front : List Line) × (last : Line) × (lines ≡ front ++ last ∷ []) × IsUntold (answer_of last) (Writes front) why)
-    ⊎ ((cause : Fault) × IsOfStream left cause × IsUntold (fault_answer cause) (Writes lines) why)
+    ⊎ ((cause : Fault) × IsOfStream left rest cause × IsUntold (fault_answer cause) (Writes lines) why)
 
 -- The lines of the requests were served one after the other, the clock asked for each. Where the batch ends with a status, the answers are
 -- theirs, in their order, and what is left of the stream is nothing or has a fault, which is answered at last. Where an answer could not be made
 -- or written, the batch breaks off there: those before it were written, and a beginning of it. A batch has at most 2^64 - 1 lines, and ends with a
 -- fault once these are answered, too.
-pub record IsBatch {S : Type 0} {g : Ghosts S} {C : Type 0} (settings : Settings) (Tells : C → ℕ → C → Type 0) (clock : C) (old new : Spool S g) (had held holds : Option (List ℕ)) (result : Result ℕ Fault) : Type 0 where
+pub record IsBatch {S : Type 0} {g : Ghosts S} {C : Type 0} (settings : Settings) (Tells : C → ℕ → C → Type 0) (clock : C) (old new : Spool S g) (had rest held holds : Option (List ℕ)) (result : Result ℕ Fault) : Type 0 where
   pub lines : List Line
   pub served : AreServed settings lines old new
   pub run : IsOneRun settings lines old new
@@ -115,7 +116,7 @@ pub record IsBatch {S : Type 0} {g : Ghosts S} {C : Type 0} (settings : Settings
   pub clock_told : (last : C) × FoldsTo (λ earlier (line : Line) later. Tells earlier line.now later) clock lines last
   pub left : Option (List ℕ)
   pub read : Consumes had left (flat_map frame_of lines)
-  pub answered : IfOk result (EndsWith left (λ last. Appends held holds (flat_map answer_of lines ++ last)))
+  pub answered : IfOk result (EndsWith left rest (λ last. Appends held holds (flat_map answer_of lines ++ last)))
   pub broken_off : IfErr result (λ why.
-      BreaksOff lines left (λ front last. Appends held holds (flat_map answer_of front ++ last)) why
+      BreaksOff lines left rest (λ front last. Appends held holds (flat_map answer_of front ++ last)) why
       ⊎ ((why ≡ fault.Read) × (length lines ≡ most_requests) × Appends held holds (flat_map answer_of lines)))

@@ -5,5 +5,5 @@ pub mod Answers
 pub mod Served
 pub mod Sessions
 pub mod Batch
-pub mod BatchSteps
+pub mod Internal
 pub mod BatchCalls

@@ -7,10 +7,10 @@ use Rattle.uuspool.specs.declared.fault.Fault.{Fault}
 use Rattle.uuspool.specs.declared.fault.Fault.TheVariants.{Words, Name, TwoSystems, Memory}
 
 -- The answer to words is what they mean. A fault of words comes where `clap` refuses them or is asked for
--- help, and nowhere else; want of memory may take the place of any answer, and no other fault comes.
+-- help, which it then says, and nowhere else; want of memory may take the place of any answer, and no other fault comes.
 abbrev pub IsAnswerTo : List (List ℕ) → Result CallLine Fault → Type 0
 IsAnswerTo words (Ok line) = MeansLine words line
-IsAnswerTo words (Err (Words text help)) = AreRefused words
+IsAnswerTo words (Err (Words text help)) = AreRefused words help
 IsAnswerTo words (Err (Name why)) = MeansFault words (of_line.Name why)
 IsAnswerTo words (Err TwoSystems) = MeansFault words of_line.TwoSystems
 IsAnswerTo words (Err Memory) = ⊤

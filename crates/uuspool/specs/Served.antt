@@ -1,5 +1,5 @@
 -- What the words of a call ask of a spool, what the program prints, and its status. All of it is this project's choice.
-use Rattle.std.specs.Prelude.{◌≡◌, ◌⊎◌, ℕ, pos, Bool, true, false, IsTrue, Option, Some, None, List, [], Result, Ok, Err, IfOk, IfErr, OnOk, ⊤, unwrap_or, length}
+use Rattle.std.specs.Prelude.{◌≡◌, ◌≢◌, ◌↔◌, ◌⊎◌, ℕ, pos, Bool, true, false, IsTrue, Option, Some, None, MatchOption, List, [], Result, Ok, Err, IfErr, ⊤, unwrap_or, length}
 use Rattle.sqlite.specs.Store.{Ghosts}
 use Rattle.sqlite.specs.State.{HasCleanDisk}
 use Rattle.uu_times.specs.Moment.{IsPast, Shows, local_second, week_minute}
@@ -70,15 +70,34 @@ abbrev pub answered_text : Request → List Reply → List ℕ
 answered_text (Commands batch) replies = answers_text batch.subjects replies
 answered_text (Question question) replies = []
 
--- What a run's end is printed as: of a whole run the output and its status, of one that was broken off the output of the commands that
--- were answered, with its fault. Another fault hides that one only where less than that output was written.
+-- the output and the status of commands are those of the replies that came; an answer to a question is no reply
+abbrev pub IsOfReplies : Request → List Reply → List ℕ → ℕ → Type 0
+IsOfReplies (Commands batch) replies output status = (output ≡ output_text batch.subjects batch.skipped replies) × (status ≡ replies_status replies)
+IsOfReplies (Question question) replies output status = ⊤
+
+-- How a request ends of which all was answered: with the status of an output that was written; or that output could not be written, and less of it
+-- was; or memory ran out, and nothing was.
+abbrev pub IsPrinted : (List ℕ → ℕ → Type 0) → (List ℕ → Type 0) → Result ℕ Fault → Type 0
+IsPrinted Is written (Ok status) = (output : List ℕ) × Is output status × written output
+IsPrinted Is written (Err fault.Write) = (output : List ℕ) × (status : ℕ) × Is output status × IsCut output written
+IsPrinted Is written (Err fault.Memory) = written []
+IsPrinted Is written (Err _) = ⊥
+
+-- How a request ends that the store broke off: with the store's fault, once this output was written. Another fault hides that one only where less was
+-- written, and want of memory where nothing of it was.
+abbrev pub IsBrokenOff : StoreFault → List ℕ → (List ℕ → Type 0) → Result ℕ Fault → Type 0
+IsBrokenOff why output written (Ok status) = ⊥
+IsBrokenOff why output written (Err (fault.Store told)) = (told ≡ why) × written output
+IsBrokenOff why output written (Err fault.Write) = IsCut output written
+IsBrokenOff why output written (Err fault.Memory) = (output ≢ []) × written []
+IsBrokenOff why output written (Err _) = ⊥
+
+-- what a run's end is printed as
 abbrev pub IsPrintedEnd : List Subject → List ℕ → RunEnd → (List ℕ → Type 0) → Result ℕ Fault → Type 0
-IsPrintedEnd subjects skipped end written (Ok status) =
-    (end.stopped ≡ None) × (status ≡ replies_status end.replies.items) × written (output_text subjects skipped end.replies.items)
-IsPrintedEnd subjects skipped end written (Err (fault.Store why)) = (end.stopped ≡ Some why) × written (answers_text subjects end.replies.items)
-IsPrintedEnd subjects skipped end written (Err fault.Write) = (end.stopped ≡ None) ⊎ IsCut (answers_text subjects end.replies.items) written
-IsPrintedEnd subjects skipped end written (Err fault.Memory) = (end.stopped ≡ None) ⊎ IsCut (answers_text subjects end.replies.items) written
-IsPrintedEnd subjects skipped end written (Err _) = ⊥
+IsPrintedEnd subjects skipped end written result =
+    MatchOption end.stopped
+    (IsPrinted (λ output status. (output ≡ output_text subjects skipped end.replies.items) × (status ≡ replies_status end.replies.items)) written result)
+    (λ why. IsBrokenOff why (answers_text subjects end.replies.items) written result)
 
 -- the faults that come before the spool is asked
 abbrev pub IsEarly : Fault → Type 0
@@ -101,10 +120,6 @@ IsLate fault.Write = ⊤
 IsLate fault.Memory = ⊤
 IsLate _ = ⊥
 
--- the output could not be written, or memory ran out
-abbrev pub IsUnprinted : Result ℕ Fault → Type 0
-IsUnprinted result = (result ≡ Err fault.Write) ⊎ (result ≡ Err fault.Memory)
-
 -- How a request ends, by whether the spool had failed before and has afterwards: `Failed` is told of a spool that had failed, and of no other.
 abbrev pub Marks : Bool → Bool → Option StoreFault → Type 0
 Marks before afterwards None = (before ≡ false) × (afterwards ≡ false)
@@ -119,23 +134,29 @@ abbrev pub IsNoted : {S : Type 0} {g : Ghosts S} → Spool S g → Spool S g →
 IsNoted old new stopped =
     HasCleanDisk (spool.disk new) → (s : State) → spool.Shows old s → (kind : StoreKind) → stopped ≡ Some (store.Store kind) → spool.has_failed new ≡ true
 
+-- Nothing stopped commands exactly where each was answered, by a spool that had not failed. A question has no reply.
+abbrev pub IsEvery : Bool → Request → List Reply → Option StoreFault → Type 0
+IsEvery failed (Commands batch) replies stopped = (stopped ≡ None) ↔ ((failed ≡ false) × (length replies ≡ length batch.commands))
+IsEvery failed (Question question) replies stopped = replies ≡ []
+
 -- A request was served: it was a run of its commands, so that the replies are the machine's, the spool shows the machine's state after the
--- commands that were answered, and a stop leaves that. With a status, all were answered, and their output was `written`. Where the store
--- gave a fault, the output of the commands that were answered was, or less of it, and then alone another fault hides the store's. A spool
--- that had failed is left as it was.
+-- commands that were answered, and a stop leaves that. Where nothing stopped it, all were answered, and their output was `written`, or less of it
+-- where it could not be; where the store gave a fault, the output of the commands that were answered was, or less of it, and then alone another
+-- fault hides the store's. Of a spool that had failed it is told, nothing is printed, and it is left as it was.
 pub record IsServed {S : Type 0} {g : Ghosts S} (settings : Settings) (request : Request) (old new : Spool S g) (written : List ℕ → Type 0) (result : Result ℕ Fault) : Type 0 where
   pub replies : List Reply
   pub stopped : Option StoreFault
   pub ran : Ran (commands_of request) old new replies stopped
-  pub whole : OnOk result ((stopped ≡ None) × (length replies ≡ length (commands_of request)))
-  pub output : HasCleanDisk (spool.disk new) → (s : State) → spool.Shows old s → IfOk result (λ status.
-      (output : List ℕ) × IsOutput settings s request output status × written output × spool.Shows new (state_after s (commands_of request)))
-  pub broken_off : (why : StoreFault) → result ≡ Err (fault.Store why) → (stopped ≡ Some why) × written (answered_text request replies)
-  pub hides_none : IsUnprinted result → (stopped ≡ None) ⊎ IsCut (answered_text request replies) written
+  pub every : IsEvery (spool.has_failed old) request replies stopped
+  pub printed : stopped ≡ None → IsPrinted (λ output status.
+      IsOfReplies request replies output status
+      × (HasCleanDisk (spool.disk new) → (s : State) → spool.Shows old s → IsOutput settings s request output status)) written result
+  pub shows : stopped ≡ None → HasCleanDisk (spool.disk new) → (s : State) → spool.Shows old s → spool.Shows new (state_after s (commands_of request))
+  pub broken_off : (why : StoreFault) → stopped ≡ Some why → IsBrokenOff why (answered_text request replies) written result
   pub late : IfErr result IsLate
   pub marked : Marks (spool.has_failed old) (spool.has_failed new) stopped
   pub noted : IsNoted old new stopped
-  pub failed : IsTrue (spool.has_failed old) → new ≡ old
+  pub failed : IsTrue (spool.has_failed old) → (result ≡ Err (fault.Store store.Failed)) × written [] × (new ≡ old)
 
 -- How a line ends: its request was served, or nothing was changed, and nothing was printed.
 abbrev pub EndsAs : Result ℕ Fault → Type 0 → Type 0 → Type 0
@@ -150,7 +171,7 @@ EndsAs (Err _) served unchanged = unchanged
 -- Those of the words come first, then those of names, then different systems, then the moment, then the size of the input, then the sys
 -- file's, and then those of the spool. Want of memory may take the place of any.
 abbrev pub IsFaultOf : Settings → List (List ℕ) → ℕ → List ℕ → Fault → Type 0
-IsFaultOf settings words now input (fault.Words text help) = AreRefused words
+IsFaultOf settings words now input (fault.Words text help) = AreRefused words help
 IsFaultOf settings words now input (fault.Name why) = IsAnswerTo words (Err (fault.Name why))
 IsFaultOf settings words now input fault.TwoSystems = IsAnswerTo words (Err fault.TwoSystems)
 IsFaultOf settings words now input (fault.Time why) =

@@ -1,5 +1,5 @@
 -- Lines that are served one after the other over one spool, and what the plain machine tells of them. All of it is this project's choice.
-use Rattle.std.specs.Prelude.{◌≡◌, ◌⊎◌, ◌++◌, ◌∷◌, ℕ, List, [], length, take, drop, Option, Some, None, Result, Ok, Err, IfOk, IfErr, ⊤}
+use Rattle.std.specs.Prelude.{◌≡◌, ◌⊎◌, ◌++◌, ◌∷◌, ℕ, List, [], length, take, drop, Option, Some, None, Result, Ok, Err, IfErr, OnErr, ⊤}
 use Rattle.sqlite.specs.Store.{Ghosts}
 use Rattle.sqlite.specs.State.{HasCleanDisk}
 use Rattle.uu_core.specs.State.{State}
@@ -11,6 +11,7 @@ use Rattle.uu_schema.specs.declared.fault.StoreFault.TheVariants as store
 use Rattle.uu_store.specs.Runs.{Ran}
 use Rattle.uu_store.specs.Spool as spool
 use Rattle.uu_store.specs.declared.spool.Spool.{Spool}
+use Rattle.uu_frame.specs.Writing.{IsCut}
 use Rattle.uu_settings.specs.declared.settings.Settings.{Settings}
 use Rattle.uu_request.specs.declared.request.Request.{Request}
 use Rattle.uuspool.specs.Served.{Ask, EndsAs, IsOutput, IsServed, IsFaultOf, answered_text, commands_of}
@@ -69,13 +70,23 @@ commands_in [] = []
 commands_in (None ∷ asked) = commands_in asked
 commands_in (Some request ∷ asked) = commands_of request ++ commands_in asked
 
--- The line came to this request, and its output and status are those of the machine in this state. Where the spool gave a fault, it is the
--- output of the commands that were answered: the replies that are left are theirs, and the machine's.
+-- What is told of a request in a state, by how its line ends: with a status its output; where the store gave a fault, the output of the commands that
+-- were answered; where the one or the other could not be written, less of it; and where memory ran out, nothing.
+abbrev pub IsTold : Settings → State → Request → List Reply → List ℕ → Result ℕ Fault → Type 0
+IsTold settings s request replies output (Ok status) = IsOutput settings s request output status
+IsTold settings s request replies output (Err (fault.Store why)) = output ≡ answered_text request replies
+IsTold settings s request replies output (Err fault.Write) =
+    ((whole : List ℕ) × (status : ℕ) × IsOutput settings s request whole status × IsCut whole (λ front. output ≡ front))
+    ⊎ IsCut (answered_text request replies) (λ front. output ≡ front)
+IsTold settings s request replies output (Err fault.Memory) = output ≡ []
+IsTold settings s request replies output (Err _) = ⊥
+
+-- The line came to this request, and what was told of it is what the machine tells in this state. Where it did not end with a status, it is the last
+-- that was served: the replies that are left are those to its commands, and the machine's.
 pub record IsToldAs (settings : Settings) (s : State) (replies : List Reply) (line : Line) (request : Request) : Type 0 where
   pub asks : Ask settings line.words line.now line.input (Ok request)
-  pub output : IfOk line.result (IsOutput settings s request line.output)
-  pub broken_off : (why : StoreFault) → line.result ≡ Err (fault.Store why)
-      → (line.output ≡ answered_text request replies) × (replies ≡ replies_to s (take (length replies) (commands_of request)))
+  pub told : IsTold settings s request replies line.output line.result
+  pub answers : OnErr line.result (replies ≡ replies_to s (take (length replies) (commands_of request)))
 
 -- the line came to no request: nothing was printed, and its fault is that of its words, its moment or its input, or it was left
 pub record IsUnasked (settings : Settings) (line : Line) : Type 0 where
@@ -95,13 +106,15 @@ AreTold settings s replies (line ∷ lines) (Some request ∷ asked) =
 AreTold settings s replies [] (request ∷ asked) = ⊥
 AreTold settings s replies (line ∷ lines) [] = ⊥
 
--- The lines are one run of the commands of their requests: what was told of each is what the machine tells, a stop leaves what the run says,
--- and where each line leads on to the next, every command was answered, so that the spool shows the machine's state.
+-- The lines are one run of the commands of their requests: what was told of each is what the machine tells, and a stop leaves what the run says.
+-- Where the store stopped none of them, every command was answered, and the spool shows the machine's state; so it is where each line leads on
+-- to the next.
 pub record IsOneRun {S : Type 0} {g : Ghosts S} (settings : Settings) (lines : List Line) (old new : Spool S g) : Type 0 where
   pub asked : List (Option Request)
   pub replies : List Reply
   pub stopped : Option StoreFault
   pub ran : Ran (commands_in asked) old new replies stopped
   pub told : HasCleanDisk (spool.disk new) → (s : State) → spool.Shows old s → AreTold settings s replies lines asked
-  pub every : LeadOn lines → (stopped ≡ None) × (length replies ≡ length (commands_in asked))
-  pub shows : HasCleanDisk (spool.disk new) → (s : State) → spool.Shows old s → LeadOn lines → spool.Shows new (state_after s (commands_in asked))
+  pub every : stopped ≡ None → length replies ≡ length (commands_in asked)
+  pub shows : stopped ≡ None → HasCleanDisk (spool.disk new) → (s : State) → spool.Shows old s → spool.Shows new (state_after s (commands_in asked))
+  pub led_on : LeadOn lines → stopped ≡ None

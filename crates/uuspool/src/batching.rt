@@ -6,7 +6,7 @@ ghost use Rattle.uu_names.specs.Text.{most_text};
 ghost use Rattle.uuspool.specs.Sessions.{Further, Serves, left_fault};
 ghost use Rattle.uuspool.specs.Faults.{errors_of_fault, output_of_fault, status_of};
 ghost use Rattle.uuspool.specs.Batch.{IsBatch, IsOfStream, IsUntold, end_errors, end_output, end_status, fault_answer, line_with, told_frame};
-ghost use Rattle.uuspool.specs.BatchSteps.{IsBatchStep};
+ghost use Rattle.uuspool.specs.Internal.BatchSteps.{IsBatchStep};
 
 use crate::fault::{Fault, fault_line, fault_status};
 use crate::laws::lines_are_one_run;
@@ -45,7 +45,7 @@ pub fn batch<S: Alter, C: Clock, R: BufRead, W: Write>(
     spool: &mut Spool<S>,
     out: &mut W,
 ) -> Result<u8, Fault>
-    ensures { IsBatch settings.now C.tells clock.old spool.old spool.new (R.remaining reader.old) (W.contents out.old) (W.contents out.new) result }
+    ensures { IsBatch settings.now C.tells clock.old spool.old spool.new (R.remaining reader.old) (R.remaining reader.new) (W.contents out.old) (W.contents out.new) result }
 {
     lines_are_one_run::<S>();
     let mut failed = false;
@@ -217,7 +217,7 @@ fn end_with<W: Write>(alloc: Global, fault: Fault, out: &mut W) -> Result<Step, 
 
 // A fault of the stream as the program tells it.
 fn stream_fault(alloc: Global, fault: FrameFault) -> Fault
-    ensures { (left : Option (List ℕ)) → IsCause most_text left fault → IsOfStream left result }
+    ensures { (had left : Option (List ℕ)) → IsCause most_text had left fault → IsOfStream had left result }
 {
     match fault {
         FrameFault::NoRequest => match String::from_str(alloc, "uuspool: no request\n") {

@@ -1,11 +1,12 @@
 //! Why a line of the program was not done, with its exit status and its line on standard error.
 
-ghost use Rattle.std.specs.Prelude.{◌≡◌, ◌≢◌, IfOk};
-ghost use Rattle.std.specs.String.{string_bytes};
+ghost use Rattle.std.specs.Prelude.{◌≡◌, Some, IfOk};
+ghost use Rattle.std.specs.Fmt.{DisplaysOnOk};
 ghost use Rattle.uu_names.specs.Fault.{fault_code};
 ghost use Rattle.uuspool.specs.Faults.{code_of, is_help, status_of, line_of_fault, settings_text, name_text, named, time_text, time_name, fault_place, placed};
 
 use std::alloc::{AllocError, AllocFailed, Global};
+use std::fmt;
 use thiserror::Error;
 use uu_line::LineFault;
 use uu_names::NameFault;
@@ -197,46 +198,58 @@ pub fn fault_status(fault: &Fault) -> u8
     }
 }
 
-/// What the program prints at this fault: the text of the words' fault as it is, and else one line
-/// that begins with the program's name.
+/// What the program prints at a fault: the text of the words' fault as it is, and else one line
+/// that begins with the program's name. It is made as it is written, and so takes no memory.
+#[derive(Clone, Copy)]
+pub struct FaultLine<'a>(pub &'a Fault);
+
+impl fmt::Display for FaultLine<'_> {
+    ghost output = { λ line. Some (line_of_fault line.0.now) };
+
+    fn fmt<W: fmt::Write>(&self, f: &mut fmt::Formatter<W>) -> fmt::Result {
+        let line = match self.0 {
+            Fault::Words { text, .. } => text.as_str(),
+            Fault::Settings(settings) => return settings_line(*settings, f),
+            Fault::Name(name) => name_line(*name),
+            Fault::Time(time) => return time_line(*time, f),
+            Fault::TwoSystems => "uuspool: addresses of two systems\n",
+            Fault::Input => "uuspool: too much input\n",
+            Fault::Store(StoreFault::Store(_)) => "uuspool: spool: store\n",
+            Fault::Store(StoreFault::Failed) => "uuspool: spool: failed\n",
+            Fault::Store(StoreFault::Foreign) => "uuspool: spool: foreign\n",
+            Fault::Store(StoreFault::Newer) => "uuspool: spool: newer\n",
+            Fault::Store(StoreFault::Memory) | Fault::Memory => "uuspool: out of memory\n",
+            Fault::Read => "uuspool: cannot read\n",
+            Fault::Write => "uuspool: cannot write\n",
+        };
+        f.write_str(line)
+    }
+}
+
+/// What the program prints at this fault, as bytes.
 pub fn fault_line(alloc: Global, fault: &Fault) -> Result<Vec<u8>, AllocError>
     ensures { IfOk result (λ line. line.items ≡ line_of_fault fault.now) }
 {
-    let line = match fault {
-        Fault::Words { text, .. } => text.as_str(),
-        Fault::Settings(settings) => return settings_line(alloc, *settings),
-        Fault::Name(name) => name_line(*name),
-        Fault::Time(time) => return time_line(alloc, *time),
-        Fault::TwoSystems => "uuspool: addresses of two systems\n",
-        Fault::Input => "uuspool: too much input\n",
-        Fault::Store(StoreFault::Store(_)) => "uuspool: spool: store\n",
-        Fault::Store(StoreFault::Failed) => "uuspool: spool: failed\n",
-        Fault::Store(StoreFault::Foreign) => "uuspool: spool: foreign\n",
-        Fault::Store(StoreFault::Newer) => "uuspool: spool: newer\n",
-        Fault::Store(StoreFault::Memory) | Fault::Memory => "uuspool: out of memory\n",
-        Fault::Read => "uuspool: cannot read\n",
-        Fault::Write => "uuspool: cannot write\n",
-    };
-    Vec::from_slice(alloc, line.as_bytes())
+    let line = FaultLine(fault);
+    Ok(format!(in alloc; "{line}")?.into_bytes())
 }
 
 // The line of a fault of the settings.
-fn settings_line(alloc: Global, fault: SettingsFault) -> Result<Vec<u8>, AllocError>
-    ensures { IfOk result (λ line. line.items ≡ named (settings_text fault)) }
+fn settings_line<W: fmt::Write>(fault: SettingsFault, f: &mut fmt::Formatter<W>) -> fmt::Result
+    ensures { DisplaysOnOk W.write_str_gives f.old result (Some (named (settings_text fault))) f.new }
 {
-    let line = match fault {
-        SettingsFault::NotToml => String::from_str(alloc, "uuspool: settings: not toml\n")?,
+    match fault {
+        SettingsFault::NotToml => f.write_str("uuspool: settings: not toml\n"),
         SettingsFault::Missing(key) => {
             let key = key.name();
-            format!(in alloc; "uuspool: settings: {key} missing\n")?
+            write!(f, "uuspool: settings: {key} missing\n")
         }
         SettingsFault::BadValue(key) => {
             let key = key.name();
-            format!(in alloc; "uuspool: settings: {key} bad\n")?
+            write!(f, "uuspool: settings: {key} bad\n")
         }
-        SettingsFault::Memory => String::from_str(alloc, "uuspool: out of memory\n")?,
-    };
-    Ok(line.into_bytes())
+        SettingsFault::Memory => f.write_str("uuspool: out of memory\n"),
+    }
 }
 
 // The line of a fault of a name.
@@ -255,25 +268,23 @@ fn name_line(fault: NameFault) -> &'static str
 }
 
 // The line of a fault of a moment or of a sys file.
-fn time_line(alloc: Global, fault: TimeFault) -> Result<Vec<u8>, AllocError>
-    ensures { IfOk result (λ line. line.items ≡ named (time_text fault)) }
+fn time_line<W: fmt::Write>(fault: TimeFault, f: &mut fmt::Formatter<W>) -> fmt::Result
+    ensures { DisplaysOnOk W.write_str_gives f.old result (Some (named (time_text fault))) f.new }
 {
     match fault {
-        TimeFault::Memory => Vec::from_slice(alloc, b"uuspool: out of memory\n"),
-        _ => placed_line(alloc, place_of(fault), time_name(fault)),
+        TimeFault::Memory => f.write_str("uuspool: out of memory\n"),
+        _ => placed_line(place_of(fault), time_name(fault), f),
     }
 }
 
 // The line of a fault of this name, at a line of a text, or at none.
-fn placed_line(alloc: Global, place: u32, name: &str) -> Result<Vec<u8>, AllocError>
-    ensures { IfOk result (λ line. line.items ≡ named (placed place name.now)) }
+fn placed_line<W: fmt::Write>(place: u32, name: &str, f: &mut fmt::Formatter<W>) -> fmt::Result
+    ensures { DisplaysOnOk W.write_str_gives f.old result (Some (named (placed place name.now))) f.new }
 {
     if place == 0 {
-        let line = format!(in alloc; "uuspool: time: {name}\n")?;
-        Vec::from_slice(alloc, line.as_bytes())
+        write!(f, "uuspool: time: {name}\n")
     } else {
-        let line = format!(in alloc; "uuspool: line {place}: {name}\n")?;
-        Vec::from_slice(alloc, line.as_bytes())
+        write!(f, "uuspool: line {place}: {name}\n")
     }
 }
 

@@ -17,7 +17,7 @@ mod serving;
 
 pub use batch_call::batch_settings;
 pub use batching::{Clock, batch};
-pub use fault::{Fault, fault_line, fault_status};
+pub use fault::{Fault, FaultLine, fault_line, fault_status};
 pub use input::{READ_LIMIT, read_input};
 pub use line::line_of;
 pub use moment::moment_of;

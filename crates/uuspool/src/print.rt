@@ -6,12 +6,13 @@ ghost use Rattle.uu_frame.specs.Writing.{IsCut};
 
 use crate::fault::Fault;
 use std::io::Write;
-use uu_frame::write_whole;
+use uu_frame::{FrameFault, write_whole};
 
 /// Prints an output, where there was memory to make it, and answers this status.
 ///
 /// # Errors
-/// `Memory` where there was none, and then nothing is written; `Write` where less than the output was written.
+/// `Memory` where there was none, or the writer found none for the output, and then nothing is written; `Write` where less than the output
+/// was written.
 pub(crate) fn print<E: Drop, W: Write>(
     output: Result<Vec<u8>, E>,
     status: u8,
@@ -26,6 +27,7 @@ pub(crate) fn print<E: Drop, W: Write>(
     match output {
         Ok(output) => match write_whole(&output, out) {
             Ok(()) => Ok(status),
+            Err(FrameFault::Memory) => Err(Fault::Memory),
             Err(_) => Err(Fault::Write),
         },
         Err(_) => Err(Fault::Memory),

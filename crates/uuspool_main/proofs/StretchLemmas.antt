@@ -70,17 +70,17 @@ module _ {S : Type 0} {g : Ghosts S} (settings : Settings) (begun ended : Spool 
 
 -- ---- how a batch ended
 
-of_stream : (left : Option (List ℕ)) (why : Fault) → IsOfStream left why → IsOfStream None why
-of_stream left (fault.Words text help) it = (it.0, it.1, tt)
-of_stream left fault.Input it = tt
-of_stream left fault.Read it = tt
-of_stream left fault.Memory it = tt
-of_stream left (fault.Settings why) it = absurd it
-of_stream left (fault.Name why) it = absurd it
-of_stream left (fault.Time why) it = absurd it
-of_stream left fault.TwoSystems it = absurd it
-of_stream left (fault.Store why) it = absurd it
-of_stream left fault.Write it = absurd it
+of_stream : (left rest : Option (List ℕ)) (why : Fault) → IsOfStream left rest why → IsOfStream None None why
+of_stream left rest (fault.Words text help) it = (it.0, it.1, tt)
+of_stream left rest fault.Input it = tt
+of_stream left rest fault.Read it = inr tt
+of_stream left rest fault.Memory it = tt
+of_stream left rest (fault.Settings why) it = absurd it
+of_stream left rest (fault.Name why) it = absurd it
+of_stream left rest (fault.Time why) it = absurd it
+of_stream left rest fault.TwoSystems it = absurd it
+of_stream left rest (fault.Store why) it = absurd it
+of_stream left rest fault.Write it = absurd it
 
 -- an answer could not be written, or there was no memory for it
 untold : (lines : List Line) (answer : List ℕ) (Writes : List ℕ → Type 0) (why : Fault) → IsUntold answer Writes why → EndsBatch lines (Err why)
@@ -95,11 +95,11 @@ untold lines answer Writes (fault.Time why) it = absurd it
 untold lines answer Writes fault.TwoSystems it = absurd it
 untold lines answer Writes (fault.Store why) it = absurd it
 
-module _ (lines : List Line) (left : Option (List ℕ)) (Writes : List Line → List ℕ → Type 0) (All : Type 0) where
-  pub batch_ended : (result : Result ℕ Fault) → IfOk result (EndsWith left (Writes lines))
-      → IfErr result (λ why. BreaksOff lines left Writes why ⊎ ((why ≡ fault.Read) × (length lines ≡ most_requests) × All))
+module _ (lines : List Line) (left rest : Option (List ℕ)) (Writes : List Line → List ℕ → Type 0) (All : Type 0) where
+  pub batch_ended : (result : Result ℕ Fault) → IfOk result (EndsWith left rest (Writes lines))
+      → IfErr result (λ why. BreaksOff lines left rest Writes why ⊎ ((why ≡ fault.Read) × (length lines ≡ most_requests) × All))
       → EndsBatch lines result
-  batch_ended (Ok status) ends broken = elim ends [ inl at_end ↦ inl (at_end.0, tt, tt) | inr faulty ↦ inr (faulty.0, of_stream left faulty.0 faulty.1, faulty.2, tt) ]
+  batch_ended (Ok status) ends broken = elim ends [ inl at_end ↦ inl (at_end.0, tt, tt) | inr faulty ↦ inr (faulty.0, of_stream left rest faulty.0 faulty.1, faulty.2, tt) ]
   batch_ended (Err why) ends broken =
       elim broken [
         | inl off ↦ elim off [ inl last ↦ untold lines (answer_of last.1) (Writes last.0) why last.3 | inr cause ↦ untold lines (fault_answer cause.0) (Writes lines) why cause.2 ]

@@ -56,7 +56,7 @@ WasGiven old new Is =
 -- How a batch of these lines may end: with status 0 or one that a fault of a stream has, and else because an answer could not be written, for
 -- want of memory, or since it has no number for a further line.
 abbrev pub EndsBatch : List Line → Result ℕ Fault → Type 0
-EndsBatch lines (Ok status) = EndsWith None (λ last. ⊤) status
+EndsBatch lines (Ok status) = EndsWith None None (λ last. ⊤) status
 EndsBatch lines (Err fault.Write) = ⊤
 EndsBatch lines (Err fault.Memory) = ⊤
 EndsBatch lines (Err fault.Read) = length lines ≡ most_requests

@@ -14,7 +14,7 @@ use std::process::ExitCode;
 use std::time::SystemTime;
 use std::{env, fs, io};
 use uuspool::{
-    CallLine, Fault, Settings, batch_settings, fault_line, fault_status, line_of, moment_of,
+    CallLine, Fault, FaultLine, Settings, batch_settings, fault_status, line_of, moment_of,
     read_input,
 };
 
@@ -174,15 +174,13 @@ fn log_length(rt: &HostRuntime, path: &str) -> io::Result<u64> {
     Ok(fs::metadata(rt, log.as_str())?.len())
 }
 
-// Prints a fault: help on standard output, all else on standard error. Where its line finds no memory
-// or cannot be written, nothing is printed and the status tells it alone.
+// Prints a fault: help on standard output, all else on standard error. Its line takes no memory. Where it cannot be
+// written, the status tells the fault alone.
 fn print_fault(rt: &HostRuntime, fault: &Fault) {
-    let Ok(line) = fault_line(rt.alloc(), fault) else {
-        return;
-    };
+    let line = FaultLine(fault);
     let _ = if fault.is_help() {
-        rt.stdout().write_all(&line)
+        write!(rt.stdout(), "{line}")
     } else {
-        rt.stderr().write_all(&line)
+        write!(rt.stderr(), "{line}")
     };
 }

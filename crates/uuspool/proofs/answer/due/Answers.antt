@@ -1,8 +1,7 @@
 use Rattle.std.proofs.Common.{List, ℕ, refl, ◌≡◌, ◌∙◌, ap}
 use Rattle.std.specs.Io.KnownBytes.{Appends}
 use Rattle.uu_request.specs.declared.request.Question.TheVariants as question
-use Rattle.uuspool.specs.Answers.{IsAnswer}
-use Rattle.uuspool.proofs.ServedLemmas.{Appends-nothing, marked_is_of_call, marks_of_call, noted_of_call, printed, question_served, question_unanswered}
+use Rattle.uuspool.proofs.ServedLemmas.{Answers, Appends-nothing, marked_is_of_call, marks_of_call, noted_of_call, printed, question_served, question_unanswered}
 use Rattle.std.specs.List.{flat_map}
 use Rattle.uu_report.specs.Reports.{due_text}
 use Rattle.uuspool.proofs.answer.due.Goals as goal
@@ -10,13 +9,12 @@ use Rattle.uuspool.proofs.answer.due.Goals as goal
 pub returns-in-Ok : goal.returns-in-Ok
 returns-in-Ok g c =
     let written : List ℕ → Type 0 = λ output. Appends (g.W.Write.contents c.args.out.now) (g.W.Write.contents c.print.new.out) output in
-    question_served c.args.settings.now (question.Due c.args.at.now) c.args.spool.now c.due.new.self written c.print.result c.in-Ok.ensures.ran c.in-Ok.ensures.marked c.print.ensures.fault
-    (λ clean s shown. let found = c.in-Ok.ensures.answer clean s shown in (
-      found.1,
-      printed c.print.result c.report_due.result 0 written (λ output. output ≡ flat_map due_text c.deref.result.now) (IsAnswer c.args.settings.now s (question.Due c.args.at.now))
-          (λ output is. (c.in-Ok.dues.items, found.0, is ∙ ap (flat_map due_text) c.deref.ensures.value, refl))
-          c.print.ensures.printed c.print.ensures.status c.report_due.ensures.lines,
-    ))
+    let asked = question.Due c.args.at.now in
+    question_served c.args.settings.now asked c.args.spool.now c.due.new.self written c.print.result c.in-Ok.ensures.ran c.in-Ok.ensures.marked
+    (λ clean s shown. (c.in-Ok.ensures.answer clean s shown).1)
+    (printed c.print.result c.report_due.result 0 written (λ output. output ≡ flat_map due_text c.deref.result.now) (Answers c.args.settings.now asked c.args.spool.now c.due.new.self)
+    (λ output is clean s shown. (c.in-Ok.dues.items, (c.in-Ok.ensures.answer clean s shown).0, is ∙ ap (flat_map due_text) c.deref.ensures.value, refl))
+    c.print.ensures.printed c.print.ensures.status c.print.ensures.fault c.print.ensures.cut c.print.ensures.nothing c.report_due.ensures.lines)
 
 pub returns-in-Err : goal.returns-in-Err
 returns-in-Err g c =

@@ -1,21 +1,19 @@
 use Rattle.std.proofs.Common.{List, ℕ, refl, subst, ◌∙◌}
 use Rattle.std.specs.Io.KnownBytes.{Appends}
 use Rattle.uu_request.specs.declared.request.Question.TheVariants as question
-use Rattle.uuspool.specs.Answers.{IsAnswer}
-use Rattle.uuspool.proofs.ServedLemmas.{Appends-nothing, marked_is_of_call, marks_of_call, noted_of_call, printed, question_served, question_unanswered}
+use Rattle.uuspool.proofs.ServedLemmas.{Answers, Appends-nothing, marked_is_of_call, marks_of_call, noted_of_call, printed, question_served, question_unanswered}
 use Rattle.uu_report.specs.Reports.{IsJobsReport}
 use Rattle.uuspool.proofs.answer.list.Goals as goal
 
 pub returns-in-Ok : goal.returns-in-Ok
 returns-in-Ok g c =
     let written : List ℕ → Type 0 = λ output. Appends (g.W.Write.contents c.args.out.now) (g.W.Write.contents c.print.new.out) output in
-    question_served c.args.settings.now (question.Jobs c.args.filter.now) c.args.spool.now c.jobs.new.self written c.print.result c.in-Ok.ensures.ran c.in-Ok.ensures.marked c.print.ensures.fault
-    (λ clean s shown. let found = c.in-Ok.ensures.answer clean s shown in (
-      found.1,
-      printed c.print.result c.report_jobs.result 0 written (IsJobsReport c.args.settings.now.zone c.deref.result.now) (IsAnswer c.args.settings.now s (question.Jobs c.args.filter.now))
-          (λ output is. (subst (λ jobs. IsJobsReport c.args.settings.now.zone jobs output) (c.deref.ensures.value ∙ found.0) is, refl))
-          c.print.ensures.printed c.print.ensures.status c.report_jobs.ensures.lines,
-    ))
+    let asked = question.Jobs c.args.filter.now in
+    question_served c.args.settings.now asked c.args.spool.now c.jobs.new.self written c.print.result c.in-Ok.ensures.ran c.in-Ok.ensures.marked
+    (λ clean s shown. (c.in-Ok.ensures.answer clean s shown).1)
+    (printed c.print.result c.report_jobs.result 0 written (IsJobsReport c.args.settings.now.zone c.deref.result.now) (Answers c.args.settings.now asked c.args.spool.now c.jobs.new.self)
+    (λ output is clean s shown. (subst (λ jobs. IsJobsReport c.args.settings.now.zone jobs output) (c.deref.ensures.value ∙ (c.in-Ok.ensures.answer clean s shown).0) is, refl))
+    c.print.ensures.printed c.print.ensures.status c.print.ensures.fault c.print.ensures.cut c.print.ensures.nothing c.report_jobs.ensures.lines)
 
 pub returns-in-Err : goal.returns-in-Err
 returns-in-Err g c =

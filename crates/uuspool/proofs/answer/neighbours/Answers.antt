@@ -1,4 +1,4 @@
-use Rattle.std.proofs.Common.{◌≡◌, ◌∙◌, List, [], ℕ, Vec, Err, ap, inr, option_map, refl, subst, sym}
+use Rattle.std.proofs.Common.{◌≡◌, ◌∙◌, List, [], ℕ, Vec, Err, ap, option_map, refl, subst, sym}
 use Rattle.std.specs.declared.alloc.Global.{Global}
 use Rattle.std.specs.Io.KnownBytes.{Appends}
 use Rattle.uu_map.specs.Entry.{IsEntry}
@@ -8,32 +8,41 @@ use Rattle.uu_schema.specs.declared.fault.StoreFault.TheVariants as store
 use Rattle.uu_schema.specs.declared.fault.StoreKind.TheVariants.{Database}
 use Rattle.uu_report.specs.Reports.{links_text}
 use Rattle.uu_request.specs.declared.request.Question.TheVariants as question
-use Rattle.uuspool.specs.Answers.{IsAnswer}
+use Rattle.uuspool.specs.Answers.{no_entry}
 use Rattle.uuspool.specs.declared.fault.Fault.TheVariants as fault
-use Rattle.uuspool.proofs.AnswerLemmas.{as_broken_off, entry_shown, has_fault, kept_is_readable}
-use Rattle.uuspool.proofs.ServedLemmas.{Appends-nothing, marked_is_of_call, marks_of_call, never_failed, noted_of_call, printed, question_served, question_unanswered}
+use Rattle.uuspool.proofs.AnswerLemmas.{as_broken_off, entry_shown, has_fault, kept_is_readable, no_entry_shown}
+use Rattle.uuspool.proofs.ServedLemmas.{Answers, Appends-nothing, marked_is_of_call, marks_of_call, never_failed, noted_of_call, printed, question_served, question_unanswered}
 use Rattle.uuspool.proofs.answer.neighbours.Goals as goal
 
 pub returns-in-Ok : goal.returns-in-Ok
 returns-in-Ok g c =
     let written : List ℕ → Type 0 = λ output. Appends (g.W.Write.contents c.args.out.now) (g.W.Write.contents c.print.new.out) output in
-    question_served c.args.settings.now (question.Entry c.args.host.now) c.args.spool.now c.entry.new.self written c.print.result c.in-Ok-Some.ensures.ran c.in-Ok-Some.ensures.marked c.print.ensures.fault
-    (λ clean s shown.
-    let found = c.in-Ok-Some.ensures.answer clean s shown in
-    let is : IsEntry c.in-Ok-Some.text.items c.in-Ok.entry = subst (λ text. IsEntry text c.in-Ok.entry) c.deref.ensures.value c.in-Ok.ensures.answer in (
-      found.1,
-      printed c.print.result c.report_links.result 0 written (λ output. output ≡ links_text c.in-Ok.entry)
-          (IsAnswer c.args.settings.now s (question.Entry c.args.host.now))
-          (λ output same. entry_shown (entry_at s c.args.host.now) c.in-Ok-Some.text.items c.in-Ok.entry output
-          (sym (ap (option_map (λ (text : Vec ℕ Global). text.items)) c.in-Ok-Some.field-0-is) ∙ found.0) is same)
-          c.print.ensures.printed c.print.ensures.status c.report_links.ensures.lines,
-    ))
+    let asked = question.Entry c.args.host.now in
+    let is : IsEntry c.in-Ok-Some.text.items c.in-Ok.entry = subst (λ text. IsEntry text c.in-Ok.entry) c.deref.ensures.value c.in-Ok.ensures.answer in
+    question_served c.args.settings.now asked c.args.spool.now c.entry.new.self written c.print.result c.in-Ok-Some.ensures.ran c.in-Ok-Some.ensures.marked
+    (λ clean s shown. (c.in-Ok-Some.ensures.answer clean s shown).1)
+    (printed c.print.result c.report_links.result 0 written (λ output. output ≡ links_text c.in-Ok.entry) (Answers c.args.settings.now asked c.args.spool.now c.entry.new.self)
+    (λ output same clean s shown. entry_shown (entry_at s c.args.host.now) c.in-Ok-Some.text.items c.in-Ok.entry output
+    (sym (ap (option_map (λ (text : Vec ℕ Global). text.items)) c.in-Ok-Some.field-0-is) ∙ (c.in-Ok-Some.ensures.answer clean s shown).0) is same)
+    c.print.ensures.printed c.print.ensures.status c.print.ensures.fault c.print.ensures.cut c.print.ensures.nothing c.report_links.ensures.lines)
 
 pub returns-in-Memory : goal.returns-in-Memory
 returns-in-Memory g c =
     question_served c.args.settings.now (question.Entry c.args.host.now) c.args.spool.now c.entry.new.self
-    (λ output. Appends (g.W.Write.contents c.args.out.now) (g.W.Write.contents c.args.out.now) output) (Err fault.Memory) c.in-Ok-Some.ensures.ran c.in-Ok-Some.ensures.marked (inr refl)
-    (λ clean s shown. ((c.in-Ok-Some.ensures.answer clean s shown).1, tt))
+    (λ output. Appends (g.W.Write.contents c.args.out.now) (g.W.Write.contents c.args.out.now) output) (Err fault.Memory) c.in-Ok-Some.ensures.ran c.in-Ok-Some.ensures.marked
+    (λ clean s shown. (c.in-Ok-Some.ensures.answer clean s shown).1) (Appends-nothing (g.W.Write.contents c.args.out.now))
+
+pub returns-in-Ok-None : goal.returns-in-Ok-None
+returns-in-Ok-None g c =
+    let written : List ℕ → Type 0 = λ output. Appends (g.W.Write.contents c.args.out.now) (g.W.Write.contents c.print-in-Ok-None.new.out) output in
+    let asked = question.Entry c.args.host.now in
+    let print = c.print-in-Ok-None.ensures in
+    question_served c.args.settings.now asked c.args.spool.now c.entry.new.self written c.print-in-Ok-None.result c.in-Ok-None.ensures.ran c.in-Ok-None.ensures.marked
+    (λ clean s shown. (c.in-Ok-None.ensures.answer clean s shown).1)
+    (printed c.print-in-Ok-None.result c.from_slice.result 1 written (λ output. output ≡ no_entry) (Answers c.args.settings.now asked c.args.spool.now c.entry.new.self)
+    (λ output is clean s shown. no_entry_shown (entry_at s c.args.host.now) output
+    (sym (ap (option_map (λ (text : Vec ℕ Global). text.items)) c.in-Ok-None.field-0-is) ∙ (c.in-Ok-None.ensures.answer clean s shown).0) is)
+    print.printed print.status print.fault print.cut print.nothing c.from_slice.ensures.items)
 
 pub returns-in-Ok-Some : goal.returns-in-Ok-Some
 returns-in-Ok-Some g c =

@@ -1,6 +1,6 @@
 use Rattle.std.proofs.Common.{◌∙◌, Result, Ok, ap, arith, not, refl, subst}
 use Rattle.uuspool.proofs.BatchLemmas.{batch_broken, batch_ended, batch_full, none_so_far, not_false, not_true, one_more_so_far}
-use Rattle.uuspool.specs.BatchSteps.{IsBatchStep}
+use Rattle.uuspool.specs.Internal.BatchSteps.{IsBatchStep}
 use Rattle.uuspool.specs.declared.batching.Step.{Step}
 use Rattle.uuspool.specs.declared.fault.Fault.{Fault}
 use Rattle.uuspool.proofs.batching.batch.Goals as goal

@@ -11,4 +11,4 @@ returns-in-None g c =
     (λ output. Appends (g.W.Write.contents c.args.out.now) (g.W.Write.contents c.print.new.out) output) c.output_of.result c.status_of.result c.print.result
     c.in-None.is (c.status_of.ensures ∙ ap replies_status c.deref-in-None.ensures.value)
     (subst (λ (replies : List Reply). IfOk c.output_of.result (λ output. output.items ≡ output_text c.args.subjects.now c.args.skipped.now replies)) c.deref.ensures.value c.output_of.ensures)
-    c.print.ensures.printed c.print.ensures.status c.print.ensures.fault
+    c.print.ensures.printed c.print.ensures.status c.print.ensures.fault c.print.ensures.cut c.print.ensures.nothing

@@ -13,4 +13,4 @@ returns-in_default-with_capacity g c =
 pub returns : goal.returns
 returns g c =
     let is = c.batch.ensures in
-    (_, is.run.replies, is.run.stopped, is.run.ran, (is.lines, is.requests, is.served, is.run, refl, batch_ended is.lines is.left _ _ c.batch.result is.answered is.broken_off))
+    (_, is.run.replies, is.run.stopped, is.run.ran, (is.lines, is.requests, is.served, is.run, refl, batch_ended is.lines is.left _ _ _ c.batch.result is.answered is.broken_off))

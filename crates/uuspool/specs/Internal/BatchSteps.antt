@@ -16,7 +16,7 @@ module _ {S : Type 0} {g : Ghosts S} {C : Type 0} (settings : Settings) (Tells :
   IsBatchStep (Ok (step.Answered leads_on)) =
       (line : Line) × IsNext settings Tells failed clock later old new line × Consumes had left (frame_of line) × Appends held holds (answer_of line)
       × Further line.result (leads_on ≡ true) (leads_on ≡ false)
-  IsBatchStep (Ok (step.Ended status)) = (new ≡ old) × EndsWith had (Appends held holds) status
+  IsBatchStep (Ok (step.Ended status)) = (new ≡ old) × EndsWith had left (Appends held holds) status
   IsBatchStep (Err why) =
       ((line : Line) × IsNext settings Tells failed clock later old new line × Consumes had left (frame_of line) × IsUntold (answer_of line) (Appends held holds) why)
-      ⊎ ((new ≡ old) × (cause : Fault) × IsOfStream had cause × IsUntold (fault_answer cause) (Appends held holds) why)
+      ⊎ ((new ≡ old) × (cause : Fault) × IsOfStream had left cause × IsUntold (fault_answer cause) (Appends held holds) why)

@@ -1,0 +1,31 @@
+use Rattle.std.proofs.Common.{ℕ, List, subst, sym}
+use Rattle.std.specs.Io.KnownBytes.{Appends}
+use Rattle.uu_request.specs.declared.request.Question.{Question}
+use Rattle.uu_request.specs.declared.request.Request.TheVariants as request
+use Rattle.uuspool.specs.Served.{IsServed}
+use Rattle.uuspool.proofs.answer.ask.Goals as goal
+
+pub returns-in-Jobs : goal.returns-in-Jobs
+returns-in-Jobs g c =
+    let written : List ℕ → Type 0 = λ output. Appends (g.W.Write.contents c.args.out.now) (g.W.Write.contents c.list.new.out) output in
+    subst (λ (q : Question). IsServed c.args.settings.now (request.Question q) c.args.spool.now c.list.new.spool written c.list.result) (sym c.in-Jobs.is) c.list.ensures
+
+pub returns-in-Job : goal.returns-in-Job
+returns-in-Job g c =
+    let written : List ℕ → Type 0 = λ output. Appends (g.W.Write.contents c.args.out.now) (g.W.Write.contents c.show.new.out) output in
+    subst (λ (q : Question). IsServed c.args.settings.now (request.Question q) c.args.spool.now c.show.new.spool written c.show.result) (sym c.in-Job.is) c.show.ensures
+
+pub returns-in-Due : goal.returns-in-Due
+returns-in-Due g c =
+    let written : List ℕ → Type 0 = λ output. Appends (g.W.Write.contents c.args.out.now) (g.W.Write.contents c.due.new.out) output in
+    subst (λ (q : Question). IsServed c.args.settings.now (request.Question q) c.args.spool.now c.due.new.spool written c.due.result) (sym c.in-Due.is) c.due.ensures
+
+pub returns-in-Systems : goal.returns-in-Systems
+returns-in-Systems g c =
+    let written : List ℕ → Type 0 = λ output. Appends (g.W.Write.contents c.args.out.now) (g.W.Write.contents c.status.new.out) output in
+    subst (λ (q : Question). IsServed c.args.settings.now (request.Question q) c.args.spool.now c.status.new.spool written c.status.result) (sym c.in-Systems.is) c.status.ensures
+
+pub returns-in-Entry : goal.returns-in-Entry
+returns-in-Entry g c =
+    let written : List ℕ → Type 0 = λ output. Appends (g.W.Write.contents c.args.out.now) (g.W.Write.contents c.neighbours.new.out) output in
+    subst (λ (q : Question). IsServed c.args.settings.now (request.Question q) c.args.spool.now c.neighbours.new.spool written c.neighbours.result) (sym c.in-Entry.is) c.neighbours.ensures
