@@ -1,10 +1,11 @@
-// A spool over the two files of a disk, one of which refuses every call from some call on.
+// A spool over the two files of a disk, one of which refuses every call from some call on. As those of the program, they are synced only where they are dirty.
 ghost use Rattle.std.specs.Prelude.{◌≡◌, false};
 
 use sqlite::{Alter, Connection, FileStore, Options};
 use sqlite_disk::{Crash, Disk, Files, Fuse, Memory};
 use std::alloc::Global;
 use std::process::Abort;
+use uu_files::SyncWhenDirty;
 use uu_store::{Spool, StoreFault};
 
 /// Which file the fuse is on.
@@ -158,7 +159,7 @@ pub(crate) fn visit_files<R: Abort, V: Visitor>(
     visit_of(rt, alloc, end, files)
 }
 
-type FusedFiles = Files<Fuse<Memory>>;
+type FusedFiles = Files<SyncWhenDirty<Fuse<Memory>>>;
 
 fn fused_files(rt: &impl Abort, alloc: Global, contents: &Contents, stop: Stop) -> FusedFiles {
     let (log, db) = match stop.place {
@@ -166,8 +167,8 @@ fn fused_files(rt: &impl Abort, alloc: Global, contents: &Contents, stop: Stop) 
         Place::Database => (u64::MAX, stop.calls),
     };
     Files {
-        log: Fuse::new(synced_file(rt, alloc, &contents.log), log),
-        db: Fuse::new(synced_file(rt, alloc, &contents.db), db),
+        log: SyncWhenDirty::new(Fuse::new(synced_file(rt, alloc, &contents.log), log)),
+        db: SyncWhenDirty::new(Fuse::new(synced_file(rt, alloc, &contents.db), db)),
     }
 }
 
@@ -192,8 +193,20 @@ fn visit_of(rt: &impl Abort, alloc: Global, end: End, files: FusedFiles) -> Visi
 
 fn contents_of(rt: &impl Abort, alloc: Global, files: &FusedFiles) -> Contents {
     Contents {
-        log: files.log.inner().bytes().to_vec(alloc).expect(rt, "memory"),
-        db: files.db.inner().bytes().to_vec(alloc).expect(rt, "memory"),
+        log: files
+            .log
+            .inner()
+            .inner()
+            .bytes()
+            .to_vec(alloc)
+            .expect(rt, "memory"),
+        db: files
+            .db
+            .inner()
+            .inner()
+            .bytes()
+            .to_vec(alloc)
+            .expect(rt, "memory"),
     }
 }
 

@@ -1,5 +1,5 @@
 //! Tests of the spool over disks and databases in memory: stops at each call of a disk, worked rows beside the plain machine, the
-//! pieces of jobs, what a listing costs, stretches of work over a file, and databases that are handed over.
+//! pieces of jobs, what a listing costs, stretches of work over a file, databases that are handed over, and syncs that are left out.
 #![tactic(auto)]
 
 #[cfg(test)]
@@ -32,6 +32,8 @@ mod runs;
 mod scripts;
 #[cfg(test)]
 mod stops;
+#[cfg(test)]
+mod syncs;
 #[cfg(test)]
 mod texts;
 #[cfg(test)]
