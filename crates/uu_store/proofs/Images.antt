@@ -16,8 +16,6 @@ use Rattle.sqlite_store.specs.declared.store.FileStore.{FileStore}
 use Rattle.sqlite_store.specs.declared.store.open.Unopened.{Unopened}
 use Rattle.sqlite_store.specs.FileStore as store
 use Rattle.sqlite_store.specs.Unopened.{state_of}
-use Rattle.sqlite_disk.specs.Events.{Event, settled, replay}
-use Rattle.sqlite_disk.specs.History.{MayLeave}
 use Rattle.uu_store.specs.Openings.{may_be_left, IsTakenAsMade}
 use Rattle.sqlite_disk.specs.declared.Disk as disk
 use Rattle.sqlite_disk.specs.declared.Files.{Files}
@@ -154,26 +152,7 @@ module _ (P : Trees → Type 0) (E : Type 0) (sound : (trees : Trees) → P tree
     leaves_has (left.Unopened now) leaves taken has image may = unopened now leaves taken has image may
     leaves_has (left.Store now) leaves taken has image may = stop_has now taken (in_store now leaves has) image may
 
--- ---- files as an opening by path finds them: nothing has happened to them yet
-
-settled_stays : (start : List ℕ) (key : ℕ) (mixes : Bool) (c : List ℕ) → MayLeave mixes (replay start (settled key ∷ [])).seen (replay start (settled key ∷ [])).synced (replay start (settled key ∷ [])).steps c → c ≡ start
-settled_stays start key mixes c (inl same) = same
-settled_stays start key mixes c (inr reached) = reached
-
-module _ (log db : List ℕ) {is_log : Bool} {events : List Event} {key : ℕ} where
-  pub fresh_log : (is_log ≡ true) × (events ≡ settled key ∷ []) → (replay (cond is_log log db) events).seen ≡ log
-  fresh_log fresh = rw (fresh.0, fresh.1)
-
-  pub fresh_db : (is_log ≡ false) × (events ≡ settled key ∷ []) → (replay (cond is_log log db) events).seen ≡ db
-  fresh_db fresh = rw (fresh.0, fresh.1)
-
-  pub fresh_log_stays : (is_log ≡ true) × (events ≡ settled key ∷ []) → (mixes : Bool) (c : List ℕ)
-      → MayLeave mixes (replay (cond is_log log db) events).seen (replay (cond is_log log db) events).synced (replay (cond is_log log db) events).steps c → c ≡ log
-  fresh_log_stays fresh mixes c may = settled_stays log key mixes c (rw (fresh.0, fresh.1) at may)
-
-  pub fresh_db_stays : (is_log ≡ false) × (events ≡ settled key ∷ []) → (mixes : Bool) (c : List ℕ)
-      → MayLeave mixes (replay (cond is_log log db) events).seen (replay (cond is_log log db) events).synced (replay (cond is_log log db) events).steps c → c ≡ db
-  fresh_db_stays fresh mixes c may = settled_stays db key mixes c (rw (fresh.0, fresh.1) at may)
+-- ---- files that an opening by path made ready: a stop leaves what they show and nothing else
 
 abbrev image : List ℕ → List ℕ → Image
 image log db = record { log = log; db = db }

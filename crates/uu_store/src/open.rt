@@ -19,13 +19,14 @@ ghost use Rattle.uu_store.specs.Stretches.{Adopted};
 use crate::adopt::AdoptFault;
 use crate::remains::{OpenFault, open_files};
 use crate::spool::Spool;
-use sqlite::{Alter, Connection, FileFrom, FileStore, Start};
+use sqlite::{Alter, Connection, FileStore, Start};
 use sqlite_disk::Disk;
 use std::alloc::Global;
+use uu_files::SpoolFile;
 use uu_schema::StoreFault;
 
 /// A spool over a file.
-pub type FileSpool<T> = Spool<FileStore<FileFrom<T>>>;
+pub type FileSpool<T> = Spool<FileStore<SpoolFile<T>>>;
 
 /// Opens the file at the path, or makes it, and adopts the database in it. A new file gets sums on its pages.
 ///
@@ -41,7 +42,7 @@ pub fn open_spool<T: Start>(
     rt: &HostRuntime,
     path: &str,
     start: T,
-) -> Result<FileSpool<T>, OpenFault<FileFrom<T>>>
+) -> Result<FileSpool<T>, OpenFault<SpoolFile<T>>>
     ensures usable { IfOk result (λ spool. has_failed spool ≡ false) }
     ensures never_failed { IfErr result (λ e. e.fault ≢ StoreFault.Failed) }
     ensures started { IfOk result (Started (image_at T.Start)) }

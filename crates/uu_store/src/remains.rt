@@ -5,8 +5,9 @@ ghost use Rattle.sqlite_wal.specs.Files.{image_at};
 ghost use Rattle.uu_schema.specs.Faults.{kind_of_error};
 ghost use Rattle.uu_store.specs.Openings.{IsFoundIfClean, IsNamed, IsOfNoContents, LeavesAlone, LeavesAsKept, remains_of, remains_of_opening};
 
-use sqlite::{Connection, Error, FileFrom, FileStore, Leftover, Start};
+use sqlite::{Connection, Error, FileStore, Leftover, Start};
 use sqlite_disk::Disk;
+use uu_files::{SpoolFile, open_database};
 use uu_schema::{StoreFault, kind_of};
 use uu_sql::is_memory;
 
@@ -81,7 +82,7 @@ pub(crate) fn open_files<T: Start>(
     rt: &HostRuntime,
     path: &str,
     start: T,
-) -> Result<Connection<FileStore<FileFrom<T>>>, OpenFault<FileFrom<T>>>
+) -> Result<Connection<FileStore<SpoolFile<T>>>, OpenFault<SpoolFile<T>>>
     ensures idle { IfOk result (λ conn. conn.in_transaction ≡ false) }
     ensures found { IfOk result (IsFoundIfClean over_files (image_at T.Start)) }
     ensures never_failed { IfErr result (λ e. e.fault ≢ StoreFault.Failed) }
@@ -89,7 +90,7 @@ pub(crate) fn open_files<T: Start>(
     ensures left { IfErr result (λ e. LeavesAsKept (image_at T.Start) (remains_of e)) }
     ensures left_alone { IfErr result (λ e. LeavesAlone (image_at T.Start) e.fault (remains_of e)) }
 {
-    match Connection::open_from(rt, path, true, start) {
+    match open_database(rt, path, start) {
         Ok(conn) => Ok(conn),
         Err((error, left)) => Err(OpenFault {
             fault: opening_fault(&error),

@@ -22,10 +22,11 @@ use crate::open::{FileSpool, open_spool};
 use crate::remains::OpenFault;
 use crate::run::{RunEnd, run_and_let_go};
 use crate::spool::Spool;
-use sqlite::{FileFrom, FileStore, Files, Start};
+use sqlite::{FileStore, Files, Start};
 use sqlite_disk::Disk;
 use std::alloc::Global;
 use uu_core::Command;
+use uu_files::SpoolFile;
 use uu_schema::StoreFault;
 
 /// A stretch of work: opens the file at the path, gives the spool in it the commands, and lets its store go.
@@ -37,11 +38,11 @@ pub fn work<T: Start>(
     path: &str,
     start: T,
     commands: Vec<Command>,
-) -> Result<(RunEnd, FileStore<FileFrom<T>>), OpenFault<FileFrom<T>>>
+) -> Result<(RunEnd, FileStore<SpoolFile<T>>), OpenFault<SpoolFile<T>>>
     ensures worked { IfOk result (λ end. IsStretch (image_at T.Start) (exchange_of commands.items end.0.replies.items end.0.stopped) end.1) }
 
     // Commands are given only to what an opening takes, so never to a database in which one of the names is taken and no table tells a version.
-    ensures started { IfOk result (λ end. IsClean (view end.1) → WasStarted ⟦<FileFrom<T> as Disk>⟧ (image_at T.Start)) }
+    ensures started { IfOk result (λ end. IsClean (view end.1) → WasStarted ⟦<SpoolFile<T> as Disk>⟧ (image_at T.Start)) }
     ensures never_other { IfOk result (λ end. IsClean (view end.1) → ¬ ImageHasOther (image_at T.Start)) }
 
     // Nothing stopped it exactly where all were answered.
@@ -72,8 +73,8 @@ pub fn work_and_close<T: Start>(
     path: &str,
     start: T,
     commands: Vec<Command>,
-) -> Result<(RunEnd, CloseEnd<FileFrom<T>>), OpenFault<FileFrom<T>>>
-    ensures closed { IfOk result (λ end. IfOk end.1 (IsClosedStretch ⟦<FileFrom<T> as Disk>⟧ (image_at T.Start) (exchange_of commands.items end.0.replies.items end.0.stopped))) }
+) -> Result<(RunEnd, CloseEnd<SpoolFile<T>>), OpenFault<SpoolFile<T>>>
+    ensures closed { IfOk result (λ end. IfOk end.1 (IsClosedStretch ⟦<SpoolFile<T> as Disk>⟧ (image_at T.Start) (exchange_of commands.items end.0.replies.items end.0.stopped))) }
 
     // Of a store that a close gave back the port does not say that its trees have their places; where they have, it was let go as any.
     ensures let_go { IfOk result (λ end. IfErr end.1 (λ e. IsTrue (view e.1).is_numbered
@@ -81,10 +82,10 @@ pub fn work_and_close<T: Start>(
     ensures told { IfOk result (λ end. IfErr end.1 (λ e. IsToldAfter end.0.stopped e.0)) }
     ensures cause { IfOk result (λ end. IfErr end.1 (λ e. IsClean (view e.1) → (kind : StoreKind) → e.0 ≡ StoreFault.Store kind → HasSomeCause kind e.1)) }
     ensures started { IfOk result (λ end. MatchResult end.1
-        (λ files. AreClean ⟦<FileFrom<T> as Disk>⟧ files.log files.db → WasStarted ⟦<FileFrom<T> as Disk>⟧ (image_at T.Start))
-        (λ e. IsClean (view e.1) → WasStarted ⟦<FileFrom<T> as Disk>⟧ (image_at T.Start))) }
+        (λ files. AreClean ⟦<SpoolFile<T> as Disk>⟧ files.log files.db → WasStarted ⟦<SpoolFile<T> as Disk>⟧ (image_at T.Start))
+        (λ e. IsClean (view e.1) → WasStarted ⟦<SpoolFile<T> as Disk>⟧ (image_at T.Start))) }
     ensures never_other { IfOk result (λ end. MatchResult end.1
-        (λ files. AreClean ⟦<FileFrom<T> as Disk>⟧ files.log files.db → ¬ ImageHasOther (image_at T.Start)) (λ e. IsClean (view e.1) → ¬ ImageHasOther (image_at T.Start))) }
+        (λ files. AreClean ⟦<SpoolFile<T> as Disk>⟧ files.log files.db → ¬ ImageHasOther (image_at T.Start)) (λ e. IsClean (view e.1) → ¬ ImageHasOther (image_at T.Start))) }
     ensures every { IfOk result (λ end. (end.0.stopped ≡ None) ↔ (length end.0.replies.items ≡ length commands.items)) }
     ensures fresh { IfOk result (λ end. IfSome end.0.stopped IsFresh) }
     ensures never_failed { IfErr result (λ e. e.fault ≢ StoreFault.Failed) }
@@ -125,7 +126,7 @@ pub fn start_again<H: FileHistory, T: Start>(
     rt: &HostRuntime,
     path: &str,
     start: T,
-) -> Result<FileSpool<T>, OpenFault<FileFrom<T>>>
+) -> Result<FileSpool<T>, OpenFault<SpoolFile<T>>>
     ensures shows { IfOk result (λ spool. HasCleanDisk (disk spool)
         → (s : State) → ImageKeeps H.before s → AllFilesPassed H.before H.stretches → image_at T.Start ≡ last_left H.before H.stretches
         → ∥ ShowsAfter s (file_exchanges H.stretches) spool ∥₁) }

@@ -1,4 +1,4 @@
-// A spool over the two files of a disk, one of which refuses every call from some call on.
+// A spool over the two files of a disk, one of which refuses every call from some call on. As those of the program, they are synced only where they are dirty.
 ghost use Rattle.std.specs.Prelude.{◌≡◌, false};
 
 use crate::rows::rows_of;
@@ -6,6 +6,7 @@ use sqlite::{Alter, Connection, FileStore, Options, Row};
 use sqlite_disk::{Crash, Disk, Files, Fuse, Memory};
 use std::alloc::Global;
 use std::process::Abort;
+use uu_files::SyncWhenDirty;
 use uu_store::{Spool, StoreFault};
 
 /// Which file the fuse is on.
@@ -206,7 +207,7 @@ fn changed_in<S: Alter + Drop>(
     (conn.into_store(), rows)
 }
 
-type FusedFiles = Files<Fuse<Memory>>;
+type FusedFiles = Files<SyncWhenDirty<Fuse<Memory>>>;
 
 fn fused_files(rt: &impl Abort, alloc: Global, contents: &Contents, stop: Stop) -> FusedFiles {
     let (log, db) = match stop.place {
@@ -214,8 +215,8 @@ fn fused_files(rt: &impl Abort, alloc: Global, contents: &Contents, stop: Stop) 
         Place::Database => (u64::MAX, stop.calls),
     };
     Files {
-        log: Fuse::new(synced_file(rt, alloc, &contents.log), log),
-        db: Fuse::new(synced_file(rt, alloc, &contents.db), db),
+        log: SyncWhenDirty::new(Fuse::new(synced_file(rt, alloc, &contents.log), log)),
+        db: SyncWhenDirty::new(Fuse::new(synced_file(rt, alloc, &contents.db), db)),
     }
 }
 
@@ -240,8 +241,20 @@ fn visit_of(rt: &impl Abort, alloc: Global, end: End, files: FusedFiles) -> Visi
 
 fn contents_of(rt: &impl Abort, alloc: Global, files: &FusedFiles) -> Contents {
     Contents {
-        log: files.log.inner().bytes().to_vec(alloc).expect(rt, "memory"),
-        db: files.db.inner().bytes().to_vec(alloc).expect(rt, "memory"),
+        log: files
+            .log
+            .inner()
+            .inner()
+            .bytes()
+            .to_vec(alloc)
+            .expect(rt, "memory"),
+        db: files
+            .db
+            .inner()
+            .inner()
+            .bytes()
+            .to_vec(alloc)
+            .expect(rt, "memory"),
     }
 }
 

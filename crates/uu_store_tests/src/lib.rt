@@ -1,5 +1,6 @@
 //! Tests of the spool over disks and databases in memory: stops at each call of a disk, worked rows beside the plain machine, the
-//! pieces of jobs, what a listing costs, stretches of work over a file, databases of an earlier version, and databases that are handed over.
+//! pieces of jobs, what a listing costs, stretches of work over a file, databases of an earlier version, databases that are handed over, and
+//! syncs that are left out.
 #![tactic(auto)]
 
 #[cfg(test)]
@@ -34,6 +35,8 @@ mod runs;
 mod scripts;
 #[cfg(test)]
 mod stops;
+#[cfg(test)]
+mod syncs;
 #[cfg(test)]
 mod texts;
 #[cfg(test)]

@@ -7,11 +7,11 @@ ghost use Rattle.uuspool_main.specs.Stretch.{IsOfWork, IsRun, LetsGo, WasGiven};
 
 use crate::batching::batch_on;
 use crate::is_log_long;
-use sqlite::{Alter, FileFrom, FileStore, Files, Start};
+use sqlite::{Alter, FileStore, Files, Start};
 use sqlite_disk::Disk;
 use std::io;
 use uu_store::laws::calls_make_a_stretch;
-use uu_store::{OpenFault, Spool, StoreFault, open_spool};
+use uu_store::{OpenFault, Spool, SpoolFile, StoreFault, open_spool};
 use uuspool::laws::lines_are_one_run;
 use uuspool::{Fault, Settings, serve};
 
@@ -49,7 +49,7 @@ pub(crate) fn work_on_file<T: Start>(
     settings: &Settings,
     work: &Work<'_>,
     start: T,
-) -> Result<(Result<u8, Fault>, Rest<FileFrom<T>>), OpenFault<FileFrom<T>>>
+) -> Result<(Result<u8, Fault>, Rest<SpoolFile<T>>), OpenFault<SpoolFile<T>>>
     ensures stretch { IfOk result (λ end. IsRun settings.now work.now (image_at T.Start) end.0 end.1) }
     ensures named { IfErr result (λ e. IsNamed (image_at T.Start) e.fault (remains_of e)) }
     ensures never_failed { IfErr result (λ e. e.fault ≢ StoreFault.Failed) }

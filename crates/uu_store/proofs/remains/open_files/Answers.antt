@@ -4,7 +4,7 @@ use Rattle.sqlite_wal.specs.Files.{image_at}
 use Rattle.uu_core.specs.State.{empty}
 use Rattle.uu_store.specs.Kept.{Keeps}
 use Rattle.uu_store.specs.Openings.{LeavesAlone, LeavesAsKept}
-use Rattle.uu_store.proofs.Images.{failed_has, fresh_log, fresh_db, fresh_log_stays, fresh_db_stays}
+use Rattle.uu_store.proofs.Images.{failed_has}
 use Rattle.uu_store.proofs.Opening.{keeps_sound, none_fits, is_found, some_weaker, left_of_opening, alone_of_opening}
 use Rattle.uu_store.proofs.remains.open_files.Goals as goal
 
@@ -13,10 +13,9 @@ returns-in-Ok-clause-found g c = is_found (image_at g.T.Start) (file_state c.in-
 
 pub returns-in-Err-clause-left : goal.returns-in-Err-clause-left
 returns-in-Err-clause-left g c = subst (LeavesAsKept (image_at g.T.Start)) (sym c.of_opening.ensures) (left_of_opening (image_at g.T.Start) c.in-Err.left (some_weaker c.in-Err.left (λ it cause clean taken s keeps.
-    let (files, log, db, leaves) = cause in
-    let a = g.T.Start.log in
-    let b = g.T.Start.db in
-    failed_has (λ trees. Keeps trees s) (s ≡ empty) (keeps_sound s) (none_fits s) _ files a b (fresh_log a b log) (fresh_db a b db) (fresh_log_stays a b log _) (fresh_db_stays a b db _) it (leaves clean).1 taken keeps) c.in-Err.ensures.cause))
+    let (files, settled, leaves) = cause clean in
+    failed_has (λ trees. Keeps trees s) (s ≡ empty) (keeps_sound s) (none_fits s) _ files g.T.Start.log g.T.Start.db
+    settled.log_shows settled.db_shows settled.log_stays settled.db_stays it leaves taken keeps) c.in-Err.ensures.cause))
 
 pub returns-in-Err-clause-left_alone : goal.returns-in-Err-clause-left_alone
 returns-in-Err-clause-left_alone g c = subst (LeavesAlone (image_at g.T.Start) c.opening_fault.result) (sym c.of_opening.ensures) (alone_of_opening (image_at g.T.Start) c.opening_fault.result c.in-Err.left)

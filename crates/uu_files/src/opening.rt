@@ -1,0 +1,138 @@
+//! The two files of a spool, and the database in them.
+ghost use Rattle.std.specs.Prelude.{◌≡◌, ◌⊎◌, true, false, None, IsTrue, IfOk, IfErr, IfSome};
+ghost use Rattle.sqlite.specs.Files.{file_state, IsCleanLeft, IsOpened, LeavesFiles};
+ghost use Rattle.sqlite.specs.Held.{IsNew};
+ghost use Rattle.sqlite.specs.Start.{FindsIn};
+ghost use Rattle.sqlite.specs.State.{HasCleanDisk};
+ghost use Rattle.sqlite_std_file.specs.File.{IsFresh, file_is_usable};
+ghost use Rattle.sqlite_wal.specs.Files.{image_at};
+ghost use Rattle.sqlite_wal.specs.Recovery.{Image};
+ghost use Rattle.uu_files.specs.Settled.{AreSettled, pool_pages};
+
+use crate::dirty::SyncWhenDirty;
+use sqlite::{Connection, Error, ErrorCode, FileFrom, FileStore, Files, Leftover, Options, Start};
+use sqlite_disk::Disk;
+use sqlite_std_file::OpenError;
+use std::hash::{BuildHasher, RandomState};
+use std::io::ErrorKind;
+
+/// A file of a spool: it held what `T` stands for, and is synced only where it is dirty.
+pub type SpoolFile<T> = SyncWhenDirty<FileFrom<T>>;
+
+/// The bytes of a page in a file.
+const PAGE: usize = 4_096;
+
+/// The pages of a pool beyond those of the files, for what is written.
+const SPARE_PAGES: usize = 32;
+
+/// The most pages of a pool, which take 128 MiB.
+const MOST_PAGES: usize = 32_768;
+
+const NO_MEMORY: Error = Error::SqliteFailure(ErrorCode::OutOfMemory);
+
+const CANNOT_OPEN: Error = Error::SqliteFailure(ErrorCode::CannotOpen);
+
+/// Opens the files at the path, or makes them, and the database in them, with sums on the pages of a new one.
+/// It is `Connection::open_from` of `sqlite`, but for files that are synced only where they are dirty and a pool as large as they need.
+///
+/// # Errors
+/// With what is left of the files, once they were opened.
+pub fn open_database<T: Start>(
+    rt: &HostRuntime,
+    path: &str,
+    start: T,
+) -> Result<Connection<FileStore<SpoolFile<T>>>, (Error, Option<Leftover<SpoolFile<T>>>)>
+    ensures fresh { IfOk result IsNew }
+    ensures opened { IfOk result (λ c. HasCleanDisk (file_state c) → IsOpened c) }
+    ensures found { IfOk result (λ c. HasCleanDisk (file_state c) → FindsIn (image_at T.Start) (file_state c)) }
+    ensures unopened { IfErr result (λ e. e.1 ≡ None
+        → (e.0 ≡ Error.SqliteFailure ErrorCode.CannotOpen) ⊎ ((e.0 ≡ Error.SqliteFailure ErrorCode.OutOfMemory) ⊎ (e.0 ≡ Error.SqliteFailure ErrorCode.DatabaseBusy))) }
+    ensures cause { IfErr result (λ e. IfSome e.1 (λ left. IsCleanLeft left
+        → (files : _) × AreSettled ⟦<SpoolFile<T> as Disk>⟧ (image_at T.Start) files × LeavesFiles files left)) }
+{
+    let seed = match RandomState::new(rt) {
+        Ok(state) => state.hash_one(&0u8),
+        Err(_) => return Err((CANNOT_OPEN, None)),
+    };
+    match open_pair(rt, path, start) {
+        Ok(files) => match open_in(rt, seed, files) {
+            Ok(conn) => Ok(conn),
+            Err((error, left)) => Err((error, Some(left))),
+        },
+        Err(error) => Err((error, None)),
+    }
+}
+
+// The files at the path, or new ones.
+fn open_pair<T: Start>(rt: &HostRuntime, path: &str, start: T) -> Result<Files<SpoolFile<T>>, Error>
+    ensures log { IfOk result (λ files. IsTrue (⟦<SpoolFile<T> as Disk>⟧.is_usable files.log)) }
+    ensures db { IfOk result (λ files. IsTrue (⟦<SpoolFile<T> as Disk>⟧.is_usable files.db)) }
+    ensures settled { IfOk result (AreSettled ⟦<SpoolFile<T> as Disk>⟧ (image_at T.Start)) }
+    ensures kind { IfErr result (λ e. (e ≡ Error.SqliteFailure ErrorCode.CannotOpen) ⊎ ((e ≡ Error.SqliteFailure ErrorCode.OutOfMemory) ⊎ (e ≡ Error.SqliteFailure ErrorCode.DatabaseBusy))) }
+{
+    if path == ":memory:" || path.starts_with("file:") {
+        return Err(CANNOT_OPEN);
+    }
+    match sqlite_std_file::open(rt, path, start) {
+        Ok(files) => Ok(behind(files)),
+        Err(OpenError::OutOfMemory) => Err(NO_MEMORY),
+        Err(OpenError::Busy) => Err(Error::SqliteFailure(ErrorCode::DatabaseBusy)),
+        Err(OpenError::Io(error)) if error.kind() == ErrorKind::OutOfMemory => Err(NO_MEMORY),
+        Err(_) => Err(CANNOT_OPEN),
+    }
+}
+
+// Files that were just settled, behind ones that are synced only where they are dirty.
+fn behind<T: Start>(files: Files<FileFrom<T>>) -> Files<SpoolFile<T>>
+    requires log { IsFresh true files.log }
+    requires db { IsFresh false files.db }
+    requires log_usable { IsTrue (file_is_usable T.Start files.log) }
+    requires db_usable { IsTrue (file_is_usable T.Start files.db) }
+    ensures log { IsTrue (⟦<SpoolFile<T> as Disk>⟧.is_usable result.log) }
+    ensures db { IsTrue (⟦<SpoolFile<T> as Disk>⟧.is_usable result.db) }
+    ensures settled { AreSettled ⟦<SpoolFile<T> as Disk>⟧ (image_at T.Start) result }
+{
+    Files {
+        log: SyncWhenDirty::synced(files.log),
+        db: SyncWhenDirty::synced(files.db),
+    }
+}
+
+// Opens the database in files, with a pool as large as they need.
+fn open_in<D: Disk + Drop>(
+    rt: &HostRuntime,
+    seed: u64,
+    files: Files<D>,
+) -> Result<Connection<FileStore<D>>, (Error, Leftover<D>)>
+    requires log { IsTrue (D.Disk.is_usable files.log) }
+    requires db { IsTrue (D.Disk.is_usable files.db) }
+    ensures fresh { IfOk result IsNew }
+    ensures opened { IfOk result (λ c. HasCleanDisk (file_state c) → IsOpened c) }
+    ensures found { (image : Image) → AreSettled D.Disk image files → IfOk result (λ c. HasCleanDisk (file_state c) → FindsIn image (file_state c)) }
+    ensures cause { (image : Image) → AreSettled D.Disk image files → IfErr result (λ e. IsCleanLeft e.1 → (files : _) × AreSettled D.Disk image files × LeavesFiles files e.1) }
+{
+    let mut files = files;
+    let mut options = Options::new(seed);
+    options.cache_pages = pool_for(&mut files);
+    Connection::open_files_with(rt.alloc(), files, options, true)
+}
+
+// The pages of a pool for these files. Where a length can't be asked, the pool is smaller than they need, which costs time alone.
+fn pool_for<D: Disk>(files: &mut Files<D>) -> usize
+    requires log { IsTrue (D.Disk.is_usable files.old.log) }
+    requires db { IsTrue (D.Disk.is_usable files.old.db) }
+    ensures log { IsTrue (D.Disk.is_usable files.new.log) }
+    ensures db { IsTrue (D.Disk.is_usable files.new.db) }
+    ensures settled { (image : Image) → AreSettled D.Disk image files.old → AreSettled D.Disk image files.new }
+{
+    let log = files.log.len().unwrap_or(0);
+    let db = files.db.len().unwrap_or(0);
+    pool_pages(log, db)
+}
+
+// The pages of a pool for a log and a database file of these lengths.
+fn pool_pages(log: usize, db: usize) -> usize
+    ensures { result ≡ pool_pages log db }
+{
+    (log / PAGE + db / PAGE + SPARE_PAGES).min(MOST_PAGES)
+}

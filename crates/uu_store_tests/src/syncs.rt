@@ -1,0 +1,36 @@
+// What the file behind one that is synced only where it is dirty is asked.
+use sqlite_disk::{Disk, Fuse, Memory};
+use std::alloc::Global;
+use std::process::Abort;
+use uu_files::SyncWhenDirty;
+
+/// A file of which the file behind answers so many calls.
+fn file_of(alloc: Global, calls: u64) -> SyncWhenDirty<Fuse<Memory>> {
+    SyncWhenDirty::new(Fuse::new(Memory::new(alloc), calls))
+}
+
+/// Three of these seven calls reach the file behind, which answers three: a sync of a file that nobody called synced, a write, and the sync behind that.
+fn expect_three_calls(rt: &impl Abort, alloc: Global) {
+    let mut file = file_of(alloc, 3);
+    assert!(rt; file.sync().is_ok(), "the first sync");
+    assert!(rt; file.sync().is_ok(), "a sync with nothing to sync");
+    assert!(rt; file.write_at(0, b"x").is_ok(), "a write");
+    assert!(rt; file.sync().is_ok(), "the sync behind it");
+    assert!(rt; file.sync().is_ok(), "again nothing to sync");
+    assert!(rt; file.write_at(0, b"y").is_err(), "a fourth call");
+    assert!(rt; file.sync().is_err(), "the sync behind a write that failed");
+}
+
+/// The same of a change of the length.
+fn expect_cut_is_synced(rt: &impl Abort, alloc: Global) {
+    let mut file = file_of(alloc, 2);
+    assert!(rt; file.sync().is_ok(), "the first sync");
+    assert!(rt; file.set_len(8).is_ok(), "a change of the length");
+    assert!(rt; file.sync().is_err(), "the sync behind it is left out");
+}
+
+#[test]
+fn a_file_is_synced_where_it_is_dirty_alone(rt: HostRuntime) {
+    expect_three_calls(&rt, rt.alloc());
+    expect_cut_is_synced(&rt, rt.alloc());
+}
