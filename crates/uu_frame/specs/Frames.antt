@@ -24,9 +24,13 @@ head_line count words = decimal count ++ behind_spaces words
 abbrev pub request_frame : List (List ℕ) → List ℕ → List ℕ
 request_frame words input = head_line (length input) words ++ 10 ∷ input
 
--- an answer: a line of its status and the number of its bytes, in decimal, and then the bytes
-abbrev pub answer_frame : ℕ → List ℕ → List ℕ
-answer_frame status bytes = (decimal status ++ 32 ∷ decimal (length bytes)) ++ 10 ∷ bytes
+-- the line of an answer: its status, and the lengths of its output and of its errors, in decimal
+abbrev pub answer_line : ℕ → ℕ → ℕ → List ℕ
+answer_line status output errors = decimal status ++ 32 ∷ decimal output ++ 32 ∷ decimal errors
+
+-- an answer: its line, then its output, and then its errors
+abbrev pub answer_frame : ℕ → List ℕ → List ℕ → List ℕ
+answer_frame status output errors = answer_line status (length output) (length errors) ++ 10 ∷ output ++ errors
 
 -- the most bytes of a request's line, its end left out
 abbrev pub most_line : ℕ

@@ -9,29 +9,34 @@ use crate::writing::write_whole;
 use std::alloc::Global;
 use std::io::Write;
 
-/// Writes an answer, and flushes it.
+/// Writes an answer, what it prints as output and as errors apart, and flushes it.
 ///
 /// # Errors
 /// `Write`, where a front of the answer was written, or all of it and it was not flushed; and `Memory`, where nothing was written.
 pub fn write_answer<W: Write>(
     alloc: Global,
     status: u8,
-    bytes: &[u8],
+    output: &[u8],
+    errors: &[u8],
     out: &mut W,
 ) -> Result<(), FrameFault>
-    ensures answer { OnOk result (Appends (W.contents out.old) (W.contents out.new) (answer_frame status bytes.now)) }
+    ensures answer { OnOk result (Appends (W.contents out.old) (W.contents out.new) (answer_frame status output.now errors.now)) }
     ensures named { IfErr result (λ fault. (fault ≡ FrameFault.Write) ⊎ (fault ≡ FrameFault.Memory)) }
-    ensures begun { result ≡ Err FrameFault.Write → IsBegun (answer_frame status bytes.now) (Appends (W.contents out.old) (W.contents out.new)) }
+    ensures begun { result ≡ Err FrameFault.Write → IsBegun (answer_frame status output.now errors.now) (Appends (W.contents out.old) (W.contents out.new)) }
     ensures nothing { result ≡ Err FrameFault.Memory → Appends (W.contents out.old) (W.contents out.new) [] }
 {
-    let count = bytes.len();
-    let Ok(line) = format!(in alloc; "{status} {count}\n") else {
+    let output_count = output.len();
+    let error_count = errors.len();
+    let Ok(line) = format!(in alloc; "{status} {output_count} {error_count}\n") else {
         return Err(FrameFault::Memory);
     };
     if let Err(fault) = write_whole(line.as_bytes(), out) {
         return Err(fault);
     }
-    if let Err(fault) = write_whole(bytes, out) {
+    if let Err(fault) = write_whole(output, out) {
+        return Err(fault);
+    }
+    if let Err(fault) = write_whole(errors, out) {
         return Err(fault);
     }
     match out.flush() {

@@ -9,7 +9,7 @@ use Rattle.uu_frame.specs.Writing.{IsBegun}
 use Rattle.uu_names.specs.Text.{most_text}
 use Rattle.uu_settings.specs.declared.settings.Settings.{Settings}
 use Rattle.uu_store.specs.declared.spool.Spool.{Spool}
-use Rattle.uuspool.specs.Faults.{line_of_fault, named, status_of}
+use Rattle.uuspool.specs.Faults.{errors_of_fault, named, output_of_fault, status_of}
 use Rattle.uuspool.specs.Sessions.{AreServed, IsOneRun, Line, Serves, left_fault}
 use Rattle.uuspool.specs.declared.fault.Fault.{Fault}
 use Rattle.uuspool.specs.declared.fault.Fault.TheVariants as fault
@@ -33,14 +33,23 @@ abbrev pub end_status : Result ℕ Fault → ℕ
 end_status (Ok status) = status
 end_status (Err why) = status_of why
 
--- what the program prints at an end, beside its output
-abbrev pub end_text : Result ℕ Fault → List ℕ
-end_text (Ok status) = []
-end_text (Err why) = line_of_fault why
+-- what the program prints at an end on standard output, behind what it printed before
+abbrev pub end_output : Result ℕ Fault → List ℕ
+end_output (Ok status) = []
+end_output (Err why) = output_of_fault why
 
--- the frame of a line's answer: the program's status, and what it would have printed on its two outputs
+-- what it prints at an end on standard error
+abbrev pub end_errors : Result ℕ Fault → List ℕ
+end_errors (Ok status) = []
+end_errors (Err why) = errors_of_fault why
+
+-- the frame that tells of an output and an end: the program's status, and what it would have printed on standard output and on standard error
+abbrev pub told_frame : List ℕ → Result ℕ Fault → List ℕ
+told_frame output end = answer_frame (end_status end) (output ++ end_output end) (end_errors end)
+
+-- the frame of a line's answer
 abbrev pub answer_of : Line → List ℕ
-answer_of line = answer_frame (end_status line.result) (line.output ++ end_text line.result)
+answer_of line = told_frame line.output line.result
 
 -- ---- the stream's own faults
 
@@ -58,7 +67,7 @@ IsOfStream left _ = ⊥
 
 -- the answer that tells of such a fault
 abbrev pub fault_answer : Fault → List ℕ
-fault_answer why = answer_frame (status_of why) (line_of_fault why)
+fault_answer why = told_frame [] (Err why)
 
 -- ---- one request
 

@@ -1,6 +1,6 @@
 -- What the program tells of a fault: its number, its exit status and its line. All of it is this
 -- project's choice.
-use Rattle.std.specs.Prelude.{ℕ, ◌==◌, ◌++◌, ◌∷◌, [], true, false, List, codes, if◌then◌else◌}
+use Rattle.std.specs.Prelude.{ℕ, ◌==◌, ◌++◌, ◌∷◌, [], Bool, true, false, List, codes, if◌then◌else◌}
 use Rattle.std.specs.Fmt.{decimal}
 use Rattle.std.specs.String.{string_bytes}
 use Rattle.uu_names.specs.declared.fault.NameFault.{NameFault}
@@ -147,6 +147,19 @@ line_of_fault (fault.Store why) = named (store_text why)
 line_of_fault fault.Read = named (codes "cannot read")
 line_of_fault fault.Write = named (codes "cannot write")
 line_of_fault fault.Memory = named (codes "out of memory")
+
+-- the fault is help that was asked for
+abbrev pub is_help : Fault → Bool
+is_help (fault.Words text help) = help
+is_help _ = false
+
+-- what the program prints of a fault on standard output: help
+abbrev pub output_of_fault : Fault → List ℕ
+output_of_fault why = if is_help why then line_of_fault why else []
+
+-- and on standard error: the line of any other
+abbrev pub errors_of_fault : Fault → List ℕ
+errors_of_fault why = if is_help why then [] else line_of_fault why
 
 -- The fault of a line that a fault of one of its names is: want of memory is a fault of its own.
 abbrev pub fault_of_name : NameFault → Fault

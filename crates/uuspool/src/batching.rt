@@ -1,11 +1,11 @@
 //! Many requests in one process: a stream of lines that are served over one spool, and the stream of their answers.
 ghost use Rattle.std.specs.Prelude.{◌≡◌, ◌++◌, ℕ, List, Bool, true, false, [], Option, Err, IfErr, IfOk, IfSome, OnOk, ⊤, map, string_bytes};
 ghost use Rattle.std.specs.Io.KnownBytes.{Appends};
-ghost use Rattle.uu_frame.specs.Frames.{IsCause, answer_frame};
+ghost use Rattle.uu_frame.specs.Frames.{IsCause};
 ghost use Rattle.uu_names.specs.Text.{most_text};
 ghost use Rattle.uuspool.specs.Sessions.{Further, Serves, left_fault};
-ghost use Rattle.uuspool.specs.Faults.{status_of};
-ghost use Rattle.uuspool.specs.Batch.{IsBatch, IsOfStream, IsUntold, end_status, end_text, fault_answer, line_with};
+ghost use Rattle.uuspool.specs.Faults.{errors_of_fault, output_of_fault, status_of};
+ghost use Rattle.uuspool.specs.Batch.{IsBatch, IsOfStream, IsUntold, end_errors, end_output, end_status, fault_answer, line_with, told_frame};
 ghost use Rattle.uuspool.specs.BatchSteps.{IsBatchStep};
 
 use crate::fault::{Fault, fault_line, fault_status};
@@ -140,38 +140,63 @@ fn leads_on(end: &Result<u8, Fault>) -> bool
     !matches!(end, Err(Fault::Store(_) | Fault::Write | Fault::Memory))
 }
 
-// Writes the answer: the status, the output, and the line of the fault.
+// Writes the answer: the status, what was printed as output, and what as errors.
 fn tell<W: Write>(alloc: Global, answer: Answer, out: &mut W) -> Result<(), Fault>
-    ensures answer { OnOk result (Appends (W.contents out.old) (W.contents out.new) (answer_frame (end_status answer.end) (answer.output.items ++ end_text answer.end))) }
-    ensures untold { IfErr result (IsUntold (answer_frame (end_status answer.end) (answer.output.items ++ end_text answer.end)) (Appends (W.contents out.old) (W.contents out.new))) }
+    ensures answer { OnOk result (Appends (W.contents out.old) (W.contents out.new) (told_frame answer.output.items answer.end)) }
+    ensures untold { IfErr result (IsUntold (told_frame answer.output.items answer.end) (Appends (W.contents out.old) (W.contents out.new))) }
 {
-    let Ok((status, bytes)) = told_of(alloc, answer) else {
+    let Ok(told) = told_of(alloc, answer) else {
         return Err(Fault::Memory);
     };
-    match write_answer(alloc, status, &bytes, out) {
+    match write_answer(alloc, told.status, &told.output, &told.errors, out) {
         Ok(()) => Ok(()),
         Err(FrameFault::Memory) => Err(Fault::Memory),
         Err(_) => Err(Fault::Write),
     }
 }
 
-// The status that is told of an answer, and its output with the line of the fault behind it.
-fn told_of(alloc: Global, answer: Answer) -> Result<(u8, Vec<u8>), Fault>
-    ensures { IfOk result (λ told. (told.0 ≡ end_status answer.end) × (told.1.items ≡ answer.output.items ++ end_text answer.end)) }
+// What is told of an answer: the program's status, and what it prints on its two outputs.
+#[derive(Drop)]
+struct Told {
+    status: u8,
+    output: Vec<u8>,
+    errors: Vec<u8>,
+}
+
+// What is told of an answer.
+fn told_of(alloc: Global, answer: Answer) -> Result<Told, Fault>
+    ensures status { IfOk result (λ told. told.status ≡ end_status answer.end) }
+    ensures output { IfOk result (λ told. told.output.items ≡ answer.output.items ++ end_output answer.end) }
+    ensures errors { IfOk result (λ told. told.errors.items ≡ end_errors answer.end) }
 {
-    let Answer { mut output, end } = answer;
+    let Answer { output, end } = answer;
     match end {
-        Ok(status) => Ok((status, output)),
-        Err(fault) => {
-            let Ok(line) = fault_line(alloc, &fault) else {
-                return Err(Fault::Memory);
-            };
-            match output.extend_from_slice(&line) {
-                Ok(()) => Ok((fault_status(&fault), output)),
-                Err(_) => Err(Fault::Memory),
-            }
-        }
+        Ok(status) => Ok(Told {
+            status,
+            output,
+            errors: Vec::new(alloc),
+        }),
+        Err(fault) => told_of_fault(alloc, output, &fault),
     }
+}
+
+// What is told of a fault behind an output: help stands behind the output, and the line of any other fault among the errors.
+fn told_of_fault(alloc: Global, output: Vec<u8>, fault: &Fault) -> Result<Told, Fault>
+    ensures status { IfOk result (λ told. told.status ≡ status_of fault.now) }
+    ensures output { IfOk result (λ told. told.output.items ≡ output.items ++ output_of_fault fault.now) }
+    ensures errors { IfOk result (λ told. told.errors.items ≡ errors_of_fault fault.now) }
+{
+    let mut output = output;
+    let status = fault_status(fault);
+    let mut errors = fault_line(alloc, fault)?;
+    if fault.is_help() {
+        output.append(&mut errors)?;
+    }
+    Ok(Told {
+        status,
+        output,
+        errors,
+    })
 }
 
 // Ends the stream with the answer to a fault of its own.

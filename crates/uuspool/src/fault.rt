@@ -3,7 +3,7 @@
 ghost use Rattle.std.specs.Prelude.{◌≡◌, ◌≢◌, IfOk};
 ghost use Rattle.std.specs.String.{string_bytes};
 ghost use Rattle.uu_names.specs.Fault.{fault_code};
-ghost use Rattle.uuspool.specs.Faults.{code_of, status_of, line_of_fault, settings_text, name_text, named, time_text, time_name, fault_place, placed};
+ghost use Rattle.uuspool.specs.Faults.{code_of, is_help, status_of, line_of_fault, settings_text, name_text, named, time_text, time_name, fault_place, placed};
 
 use std::alloc::{AllocError, AllocFailed, Global};
 use thiserror::Error;
@@ -71,6 +71,14 @@ impl Fault {
             Fault::Write => 9,
             Fault::Memory => 10,
         }
+    }
+
+    /// Whether it is help that was asked for: its text is printed on standard output, and the line of
+    /// any other fault on standard error.
+    pub fn is_help(&self) -> bool
+        ensures { result ≡ is_help self.now }
+    {
+        matches!(self, Fault::Words { help: true, .. })
     }
 }
 

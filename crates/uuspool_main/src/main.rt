@@ -180,7 +180,7 @@ fn print_fault(rt: &HostRuntime, fault: &Fault) {
     let Ok(line) = fault_line(rt.alloc(), fault) else {
         return;
     };
-    let _ = if matches!(fault, Fault::Words { help: true, .. }) {
+    let _ = if fault.is_help() {
         rt.stdout().write_all(&line)
     } else {
         rt.stderr().write_all(&line)
