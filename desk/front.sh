@@ -1,6 +1,7 @@
 # shellcheck shell=sh
-# What uux, uucp, uustat and uuname share: how options are read, how the spool is asked, and the statuses, which are those of sysexits.
-# Words come from strangers. Each is handed on as one word, behind `=` or `--`, and none is read by a shell again.
+# What uux, uucp, uustat and uuname share: how options are read, how the spool is asked, and the
+# statuses, which are those of sysexits. Words come from strangers. Each is handed on as one word,
+# behind `=` or `--`, and none is read by a shell again.
 
 bin=/usr/local/bin
 front=${0##*/}
@@ -15,8 +16,9 @@ fail() {
     exit "$1"
 }
 
-# Hands each option of the words to `option LETTER VALUE` of the script, whose $valued has the letters with a value and whose
-# `letter_of` knows the long names. $used is then the number of words that were options.
+# Hands each option of the words to `option LETTER VALUE` of the script, whose $valued has the
+# letters with a value and whose `letter_of` knows the long names. $used is then the number of words
+# that were options.
 read_options() {
     total=$#
     while [ $# -gt 0 ]; do
@@ -33,7 +35,8 @@ read_options() {
             case $valued in
             *"$letter"*)
                 letters=''
-                # A value that is empty may leave its letter alone before the `-` that is standard input.
+                # A value that is empty may leave its letter alone before the `-` that is standard
+                # input.
                 if [ -z "$value" ] && [ "${1-}" != - ]; then
                     [ $# -gt 0 ] || fail "$usage" "-$letter wants a value"
                     value=$1
@@ -60,8 +63,9 @@ unknown() {
     fail "$usage" "no option $1: see $front --help"
 }
 
-# Asks the spool. $said is what the program printed; where it isn't done, that is told, and the status is one of sysexits.
-# Faulty settings are the site's fault, so a message waits until they are mended.
+# Asks the spool. $said is what the program printed; where it isn't done, that is told, and the
+# status is one of sysexits. Faulty settings are the site's fault, so a message waits until they are
+# mended.
 ask() {
     said=$("$bin/uuspool-ask" "$@" 2>&1) && return
     case $?:$said in
