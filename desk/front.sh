@@ -53,9 +53,14 @@ read_options() {
 # A long option in letters: its letter, and its value right behind it.
 read_long() {
     letters=$(letter_of "${1%%=*}") || unknown "$1"
-    case $valued:$1 in
-    *"$letters"*:*=?*) letters=$letters${1#*=} ;;
-    *:*=*) unknown "$1" ;;
+    case $1 in
+    *=?*)
+        case $valued in
+        *"$letters"*) letters=$letters${1#*=} ;;
+        *) unknown "$1" ;;
+        esac
+        ;;
+    *=) unknown "$1" ;;
     esac
 }
 
