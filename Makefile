@@ -2,9 +2,10 @@
 #
 #   make            proves what the program stands on and leaves it at build/uuspool
 #   make first-run  the main job on a real file, killed inside a write and reopened; sends with too little memory
-#   make test       the gate: every proof from nothing, every test, every run, the worked lines of tests/, streams that fail, and openings and batches that are killed
+#   make test       the gate: every proof from nothing, every test, every run, the worked lines of tests/, streams that fail, openings and
+#                   batches that are killed, and the desk
 #   make bench      what calls of the spool cost over a real file
-#   make install    build/uuspool, its man page and the example of its settings below $(DESTDIR)$(PREFIX)
+#   make install    build/uuspool, the desk and what stands behind mailers, man pages and examples below $(DESTDIR)$(PREFIX)
 #   make clean      removes build/ and the kept work of every crate
 
 PREFIX = /usr/local
@@ -33,11 +34,15 @@ test:
 	@scripts/failing-streams
 	@scripts/migration-stops
 	@scripts/batch-stops
+	@scripts/desk-test
 
 install: build
 	install -D -m 755 build/uuspool '$(DESTDIR)$(PREFIX)/bin/uuspool'
-	install -D -m 644 man/uuspool.1 '$(DESTDIR)$(PREFIX)/share/man/man1/uuspool.1'
-	install -D -m 644 examples/uuspool.toml '$(DESTDIR)$(PREFIX)/share/doc/uuspool/uuspool.toml'
+	scripts/install-desk '$(PREFIX)' '$(DESTDIR)'
+	install -d '$(DESTDIR)$(PREFIX)/share/man/man1' '$(DESTDIR)$(PREFIX)/share/doc/uuspool'
+	install -m 644 man/*.1 '$(DESTDIR)$(PREFIX)/share/man/man1'
+	install -m 644 examples/uuspool.toml examples/uuspool-desk.service docs/mailers.md '$(DESTDIR)$(PREFIX)/share/doc/uuspool'
+	install -m 755 examples/night-calls examples/carry-over-ssh '$(DESTDIR)$(PREFIX)/share/doc/uuspool'
 
 clean:
 	rm -rf build crates/*/out
