@@ -167,6 +167,12 @@ module _ (log db : List ℕ) {is_log : Bool} {events : List Event} {key : ℕ} w
   pub fresh_db : (is_log ≡ false) × (events ≡ settled key ∷ []) → (replay (cond is_log log db) events).seen ≡ db
   fresh_db fresh = rw (fresh.0, fresh.1)
 
+  pub fresh_log_answers : (is_log ≡ true) × (events ≡ settled key ∷ []) → (replay (cond is_log log db) events).faults ≡ 0
+  fresh_log_answers fresh = rw (fresh.0, fresh.1)
+
+  pub fresh_db_answers : (is_log ≡ false) × (events ≡ settled key ∷ []) → (replay (cond is_log log db) events).faults ≡ 0
+  fresh_db_answers fresh = rw (fresh.0, fresh.1)
+
   pub fresh_log_stays : (is_log ≡ true) × (events ≡ settled key ∷ []) → (mixes : Bool) (c : List ℕ)
       → MayLeave mixes (replay (cond is_log log db) events).seen (replay (cond is_log log db) events).synced (replay (cond is_log log db) events).steps c → c ≡ log
   fresh_log_stays fresh mixes c may = settled_stays log key mixes c (rw (fresh.0, fresh.1) at may)

@@ -3,13 +3,24 @@ use Rattle.sqlite.specs.Files.{file_state}
 use Rattle.sqlite_wal.specs.Files.{image_at}
 use Rattle.uu_core.specs.State.{empty}
 use Rattle.uu_store.specs.Kept.{Keeps}
-use Rattle.uu_store.specs.Openings.{LeavesAlone, LeavesAsKept}
-use Rattle.uu_store.proofs.Images.{failed_has, fresh_log, fresh_db, fresh_log_stays, fresh_db_stays}
-use Rattle.uu_store.proofs.Opening.{keeps_sound, none_fits, is_found, some_weaker, left_of_opening, alone_of_opening}
+use Rattle.uu_store.specs.Openings.{IsNamed, LeavesAlone, LeavesAsKept}
+use Rattle.uu_store.proofs.Images.{failed_has, fresh_log, fresh_db, fresh_log_answers, fresh_db_answers, fresh_log_stays, fresh_db_stays}
+use Rattle.uu_store.proofs.Opening.{keeps_sound, none_fits, is_found, some_weaker, named_of_opening, left_of_opening, alone_of_opening}
+use Rattle.uu_store.proofs.Refusing.{opening_cause}
 use Rattle.uu_store.proofs.remains.open_files.Goals as goal
 
 pub returns-in-Ok-clause-found : goal.returns-in-Ok-clause-found
 returns-in-Ok-clause-found g c = is_found (image_at g.T.Start) (file_state c.in-Ok.conn) c.in-Ok.ensures.opened c.in-Ok.ensures.found
+
+pub returns-in-Err-clause-named : goal.returns-in-Err-clause-named
+returns-in-Err-clause-named g c = subst (IsNamed (image_at g.T.Start) c.opening_fault.result) (sym c.of_opening.ensures)
+    (named_of_opening (image_at g.T.Start) c.in-Err.left c.in-Err.error c.opening_fault.result c.opening_fault.ensures.named c.opening_fault.ensures.kind c.in-Err.ensures.unopened
+    (some_weaker c.in-Err.left (λ it cause clean which is.
+        let (files, log, db, fails) = cause in
+        let a = g.T.Start.log in
+        let b = g.T.Start.db in
+        opening_cause _ files a b (fresh_log a b log) (fresh_db a b db) (fresh_log_answers a b log) (fresh_db_answers a b db) it c.in-Err.error which (c.opening_fault.ensures.kind which is)
+        (λ memory. let told = c.opening_fault.ensures.memory memory in cc) (fails clean).0) c.in-Err.ensures.cause))
 
 pub returns-in-Err-clause-left : goal.returns-in-Err-clause-left
 returns-in-Err-clause-left g c = subst (LeavesAsKept (image_at g.T.Start)) (sym c.of_opening.ensures) (left_of_opening (image_at g.T.Start) c.in-Err.left (some_weaker c.in-Err.left (λ it cause clean taken s keeps.
