@@ -1,6 +1,6 @@
 //! The two files of a spool, and the database in them.
 ghost use Rattle.std.specs.Prelude.{◌≡◌, ◌⊎◌, true, false, None, IsTrue, IfOk, IfErr, IfSome};
-ghost use Rattle.sqlite.specs.Files.{file_state, IsCleanLeft, IsOpened, LeavesFiles};
+ghost use Rattle.sqlite.specs.Files.{file_state, FailsToOpenFiles, IsCleanLeft, IsOpened, LeavesFiles};
 ghost use Rattle.sqlite.specs.Held.{IsNew};
 ghost use Rattle.sqlite.specs.Start.{FindsIn};
 ghost use Rattle.sqlite.specs.State.{HasCleanDisk};
@@ -48,7 +48,7 @@ pub fn open_database<T: Start>(
     ensures unopened { IfErr result (λ e. e.1 ≡ None
         → (e.0 ≡ Error.SqliteFailure ErrorCode.CannotOpen) ⊎ ((e.0 ≡ Error.SqliteFailure ErrorCode.OutOfMemory) ⊎ (e.0 ≡ Error.SqliteFailure ErrorCode.DatabaseBusy))) }
     ensures cause { IfErr result (λ e. IfSome e.1 (λ left. IsCleanLeft left
-        → (files : _) × AreSettled ⟦<SpoolFile<T> as Disk>⟧ (image_at T.Start) files × LeavesFiles files left)) }
+        → (files : _) × AreSettled ⟦<SpoolFile<T> as Disk>⟧ (image_at T.Start) files × FailsToOpenFiles files left e.0 × LeavesFiles files left)) }
 {
     let seed = match RandomState::new(rt) {
         Ok(state) => state.hash_one(&0u8),
@@ -109,7 +109,7 @@ fn open_in<D: Disk + Drop>(
     ensures fresh { IfOk result IsNew }
     ensures opened { IfOk result (λ c. HasCleanDisk (file_state c) → IsOpened c) }
     ensures found { (image : Image) → AreSettled D.Disk image files → IfOk result (λ c. HasCleanDisk (file_state c) → FindsIn image (file_state c)) }
-    ensures cause { (image : Image) → AreSettled D.Disk image files → IfErr result (λ e. IsCleanLeft e.1 → (files : _) × AreSettled D.Disk image files × LeavesFiles files e.1) }
+    ensures cause { (image : Image) → AreSettled D.Disk image files → IfErr result (λ e. IsCleanLeft e.1 → (files : _) × AreSettled D.Disk image files × FailsToOpenFiles files e.1 e.0 × LeavesFiles files e.1) }
 {
     let mut files = files;
     let mut options = Options::new(seed);
