@@ -11,9 +11,9 @@ use std::io::Print;
 use std::process::Abort;
 use uu_core::choose;
 use uu_core::plain::Machine;
-use uu_map::{read_entry, split};
+use uu_map::{EntryText, MapFault, read_entry, split};
 use uu_names::{NameFault, Path, SiteName, Word, envelope, return_path};
-use uu_times::{Timetables, Windows, read_sys, read_time};
+use uu_times::{SysFile, TimeFault, Timetables, Windows, read_sys, read_time};
 
 #[test]
 fn names(rt: HostRuntime) {
@@ -99,20 +99,33 @@ fn times(rt: HostRuntime) {
     ] {
         each_refused(&rt, alloc, what, || read_time(alloc, text, &tables));
     }
-    for (what, text) in [
-        ("read_sys", SYS_FILE),
-        ("read_sys (a fault)", b"time Night 30\nsystem a\nsystem a\n"),
-    ] {
-        if text.len() <= 4_194_304 {
-            each_refused(&rt, alloc, what, || read_sys(alloc, text));
-        }
+    each_refused(&rt, alloc, "read_sys", || sys_file(alloc, SYS_FILE));
+    each_refused(&rt, alloc, "read_sys (a fault)", || sys_file(alloc, TWICE));
+}
+
+/// A sys file with a fault in its last line.
+const TWICE: &[u8] = b"time Night 30\nsystem a\nsystem a\n";
+
+/// What a sys file of at most so many bytes says.
+fn sys_file(alloc: Global, text: &[u8]) -> Result<SysFile, TimeFault> {
+    if text.len() > 4_194_304 {
+        return Err(TimeFault::Memory);
     }
+    read_sys(alloc, text)
+}
+
+/// Where the entries of a map text of at most so many bytes are.
+fn entries(alloc: Global, text: &[u8]) -> Result<Vec<EntryText>, MapFault> {
+    if text.len() > 4_194_304 {
+        return Err(MapFault::TooLarge);
+    }
+    split(alloc, text)
 }
 
 #[test]
 fn maps(rt: HostRuntime) {
     let alloc = rt.alloc();
-    each_refused(&rt, alloc, "split", || split(alloc, MAP));
+    each_refused(&rt, alloc, "split", || entries(alloc, MAP));
     each_refused(&rt, alloc, "read_entry", || read_entry(alloc, MAP));
     each_refused(
         &rt,

@@ -34,8 +34,10 @@ fn names_and_grades(rt: HostRuntime) {
     let wrong = Grade::parse(b'-').is_err();
     let last = Grade::of_rank(61).is_some();
     let past = Grade::of_rank(62).is_none();
-    let lengths = path.first_hop().len() + path.rest().len() + path.as_str().len();
-    let texts = here.as_str().len() + user.as_str().len();
+    let parts = path.first_hop() == "duke" && path.rest() == "unc!ann";
+    let texts = here.as_str() == "mysite"
+        && user.as_str() == "ann"
+        && path.as_str() == "duke!unc!ann";
     let code = NameFault::Memory.code();
     let refused = was_refused(alloc);
     let grade = parsed.expect(&rt, "a grade");
@@ -43,7 +45,7 @@ fn names_and_grades(rt: HostRuntime) {
     let rank = grade.rank();
     let byte = grade.as_byte();
     let refused = was_refused(alloc) || refused;
-    let right = wrong && last && past && lengths == 23 && texts == 9 && code == 7;
+    let right = wrong && last && past && parts && texts && code == 7;
     let names = [
         "Grade::parse",
         "Grade::of_rank",
