@@ -33,8 +33,6 @@ test:
 	@scripts/failing-streams
 	@scripts/migration-stops
 	@scripts/batch-stops
-	@scripts/migration-stops
-	@scripts/batch-stops
 	@scripts/damaged-files
 	@scripts/refused-memory
 	@scripts/desk-test
