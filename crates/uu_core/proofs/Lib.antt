@@ -2,7 +2,11 @@ pub mod DoneLemmas
 pub mod DueLemmas
 pub mod JobLemmas
 pub mod Members
+pub mod NextCallLaws
+pub mod NextCallLemmas
 pub mod PlainLemmas
+pub mod QueueLaws
+pub mod QueueLemmas
 pub mod RunLemmas
 pub mod TurnLemmas
 pub mod WaitingLemmas

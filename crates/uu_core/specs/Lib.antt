@@ -1,7 +1,9 @@
 pub mod After
 pub mod Due
 pub mod Laws
+pub mod NextCalls
 pub mod Plain
+pub mod Queues
 pub mod Refusal
 pub mod Run
 pub mod State

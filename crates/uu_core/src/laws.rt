@@ -1,7 +1,16 @@
 //! Laws of the machine that the contracts of this crate speak of.
-ghost use Rattle.std.specs.Prelude.{◌≡◌, ◌++◌, ◌+◌, ◌≤◌, ◌⊎◌, ◌<◌, ℕ, List, Some, None, Contains, Bool, false, All, AllPairs, IsPermutation, [], ◌∷◌};
+ghost use Rattle.std.specs.Prelude.{◌≡◌, ◌++◌, ◌+◌, ◌≤◌, ◌⊎◌, ◌<◌, ℕ, List, Some, None, Contains, Bool, false, All, AllPairs, IsPermutation, [], ◌∷◌, ◌↔◌, true, length, sum_by};
 ghost use Rattle.uu_core.specs.declared.command.Command.{Command};
 ghost use Rattle.uu_core.specs.declared.command.Command.TheVariants.{Queue};
+ghost use Rattle.uu_core.specs.declared.queue.Queue.{Queue as SystemQueue};
+ghost use Rattle.uu_core.specs.declared.due.Due.{Due};
+ghost use Rattle.uu_core.specs.declared.next_call.NextCall.{NextCall};
+ghost use Rattle.uu_core.specs.declared.next_call.Why.TheVariants as why;
+ghost use Rattle.uu_times.specs.Moment.{last_second};
+ghost use Rattle.uu_times.specs.declared.zone.Zone.{Zone};
+ghost use Rattle.uu_core.specs.NextCalls.{IsNextCall, IsMomentAt, IsEarlier, due_by, is_looked_at};
+ghost use Rattle.uu_core.specs.Queues.{AreQueues};
+ghost use Rattle.uu_core.specs.Plain.{AreByName};
 ghost use Rattle.uu_core.specs.declared.command.Reply.TheVariants.{Number, Refused};
 ghost use Rattle.uu_times.specs.declared.moment.Moment.{Moment};
 ghost use Rattle.uu_core.specs.declared.job.JobHead.{JobHead};
@@ -11,7 +20,7 @@ ghost use Rattle.uu_core.specs.declared.system.SystemRow.{SystemRow};
 ghost use Rattle.uu_core.specs.State.{State, Job, IsWellFormed, empty};
 ghost use Rattle.uu_core.specs.Refusal.{first_reason, AreInTurn};
 ghost use Rattle.uu_core.specs.Verdict.{verdict, reasons, done_refusal};
-ghost use Rattle.uu_core.specs.Due.{AreDue, AreInOrder, walk, with_next};
+ghost use Rattle.uu_core.specs.Due.{AreDue, AreInOrder, is_listed, walk, with_next};
 ghost use Rattle.uu_core.specs.After.{after, job_of};
 ghost use Rattle.uu_core.specs.Run.{state_after, replies_to};
 ghost use Rattle.uu_core.specs.Laws.{accepted_of, lets_go, numbers_in, IsAmong, IsHandedIn, IsOfRun, AreFound};
@@ -87,6 +96,26 @@ pub fn walks_list_what_is_due()
 pub fn walks_go_job_by_job()
     ensures start { (rows : List SystemRow) (at : Moment) → walk rows [] at ≡ [] }
     ensures step { (rows : List SystemRow) (at : Moment) (jobs : List JobHead) (job : JobHead) → walk rows (jobs ++ job ∷ []) at ≡ with_next rows at (walk rows jobs at) job }
+{}
+
+/// At the second that [`next_calls`](crate::next_calls) tells of a system, what is due lists the system with that job, if nothing changes until
+/// then; at a second that was looked at before, it doesn't list the system. One of which no second is told is listed at none that was
+/// looked at. And a system is told as due exactly where it may be called at once.
+pub fn calls_come_when_told()
+    ensures listed { (zone : Zone) (rows : List SystemRow) (jobs : List JobHead) (now second : ℕ) (call : NextCall) (at : Moment) (dues : List Due)
+        → IsNextCall zone rows jobs now call → call.second ≡ Some second → IsMomentAt zone second at → AreDue rows jobs at dues → Contains dues (due_by call) }
+    ensures not_before { (zone : Zone) (rows : List SystemRow) (jobs : List JobHead) (now earlier : ℕ) (call : NextCall) (at : Moment) (dues : List Due)
+        → AreByName (λ row. row.def.name) rows → (next : IsNextCall zone rows jobs now call) → is_looked_at next.row.call now earlier ≡ true → IsEarlier earlier call.second
+        → IsMomentAt zone earlier at → AreDue rows jobs at dues → is_listed dues call.system ≡ false }
+    ensures due { (zone : Zone) (rows : List SystemRow) (jobs : List JobHead) (now : ℕ) (call : NextCall)
+        → now ≤ last_second → IsNextCall zone rows jobs now call → (call.why ≡ why.Due) ↔ (call.second ≡ Some now) }
+{}
+
+/// The queues of all systems together have as many jobs and bytes as all the jobs.
+pub fn queues_sum_up_all_jobs()
+    ensures jobs { (jobs : List JobHead) (queues : List SystemQueue) → AreQueues jobs queues → sum_by (λ queue. queue.sums.jobs) queues ≡ length jobs }
+    ensures bytes { (jobs : List JobHead) (queues : List SystemQueue) → AreQueues jobs queues
+        → sum_by (λ queue. queue.sums.bytes) queues ≡ sum_by (λ job. job.size) jobs }
 {}
 
 /// Of all jobs only those that a report of a call names decide on it: any of the jobs, in any order, decide as all of

@@ -9,7 +9,9 @@ mod filter;
 mod job;
 pub mod laws;
 pub mod limits;
+mod next_call;
 pub mod plain;
+mod queue;
 mod refusal;
 mod sound;
 mod system;
@@ -20,6 +22,8 @@ pub use decide::{decide_done, decide_drop, decide_failed, decide_job, decide_que
 pub use due::{Due, choose};
 pub use filter::Filter;
 pub use job::{By, JobHead, Kind, NewJob};
+pub use next_call::{NextCall, Why, next_calls};
+pub use queue::{Queue, Sums, queues};
 pub use refusal::Refusal;
 pub use system::{CallState, Outcome, SystemRow};
 pub use uu_names::Listed;

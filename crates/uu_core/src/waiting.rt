@@ -33,7 +33,14 @@ pub fn limit(lines: &[Line], week: u16) -> Option<Grade>
 pub fn held(call: &CallState, at: &Moment) -> bool
     ensures { result ≡ is_held call.now at.now.second }
 {
-    call.last <= at.second && at.second - call.last < call.wait
+    held_at(call, at.second)
+}
+
+// Whether the system is left alone at a second.
+pub(crate) fn held_at(call: &CallState, second: u64) -> bool
+    ensures { result ≡ is_held call.now second }
+{
+    call.last <= second && second - call.last < call.wait
 }
 
 // The first line of the lowest grade among those whose windows hold the minute.

@@ -1,6 +1,6 @@
 //! The two files of a spool, and the database in them.
-ghost use Rattle.std.specs.Prelude.{◌≡◌, ◌⊎◌, true, false, None, IsTrue, IfOk, IfErr, IfSome};
-ghost use Rattle.sqlite.specs.Files.{file_state, IsCleanLeft, IsOpened, LeavesFiles};
+ghost use Rattle.std.specs.Prelude.{◌≡◌, ◌⊎◌, true, false, codes, None, Err, IsTrue, IfOk, IfErr, IfSome, IsErrAnd};
+ghost use Rattle.sqlite.specs.Files.{file_state, FailsToOpenFiles, IsCleanLeft, IsOpened, LeavesFiles};
 ghost use Rattle.sqlite.specs.Held.{IsNew};
 ghost use Rattle.sqlite.specs.Start.{FindsIn};
 ghost use Rattle.sqlite.specs.State.{HasCleanDisk};
@@ -47,8 +47,9 @@ pub fn open_database<T: Start>(
     ensures found { IfOk result (λ c. HasCleanDisk (file_state c) → FindsIn (image_at T.Start) (file_state c)) }
     ensures unopened { IfErr result (λ e. e.1 ≡ None
         → (e.0 ≡ Error.SqliteFailure ErrorCode.CannotOpen) ⊎ ((e.0 ≡ Error.SqliteFailure ErrorCode.OutOfMemory) ⊎ (e.0 ≡ Error.SqliteFailure ErrorCode.DatabaseBusy))) }
+    ensures memory { path.now ≡ codes ":memory:" → IsErrAnd result (λ e. e.0 ≡ Error.SqliteFailure ErrorCode.CannotOpen) }
     ensures cause { IfErr result (λ e. IfSome e.1 (λ left. IsCleanLeft left
-        → (files : _) × AreSettled ⟦<SpoolFile<T> as Disk>⟧ (image_at T.Start) files × LeavesFiles files left)) }
+        → (files : _) × AreSettled ⟦<SpoolFile<T> as Disk>⟧ (image_at T.Start) files × FailsToOpenFiles files left e.0 × LeavesFiles files left)) }
 {
     let seed = match RandomState::new(rt) {
         Ok(state) => state.hash_one(&0u8),
@@ -65,6 +66,7 @@ pub fn open_database<T: Start>(
 
 // The files at the path, or new ones.
 fn open_pair<T: Start>(rt: &HostRuntime, path: &str, start: T) -> Result<Files<SpoolFile<T>>, Error>
+    ensures memory { path.now ≡ codes ":memory:" → result ≡ Err (Error.SqliteFailure ErrorCode.CannotOpen) }
     ensures log { IfOk result (λ files. IsTrue (⟦<SpoolFile<T> as Disk>⟧.is_usable files.log)) }
     ensures db { IfOk result (λ files. IsTrue (⟦<SpoolFile<T> as Disk>⟧.is_usable files.db)) }
     ensures settled { IfOk result (AreSettled ⟦<SpoolFile<T> as Disk>⟧ (image_at T.Start)) }
@@ -109,7 +111,7 @@ fn open_in<D: Disk + Drop>(
     ensures fresh { IfOk result IsNew }
     ensures opened { IfOk result (λ c. HasCleanDisk (file_state c) → IsOpened c) }
     ensures found { (image : Image) → AreSettled D.Disk image files → IfOk result (λ c. HasCleanDisk (file_state c) → FindsIn image (file_state c)) }
-    ensures cause { (image : Image) → AreSettled D.Disk image files → IfErr result (λ e. IsCleanLeft e.1 → (files : _) × AreSettled D.Disk image files × LeavesFiles files e.1) }
+    ensures cause { (image : Image) → AreSettled D.Disk image files → IfErr result (λ e. IsCleanLeft e.1 → (files : _) × AreSettled D.Disk image files × FailsToOpenFiles files e.1 e.0 × LeavesFiles files e.1) }
 {
     let mut files = files;
     let mut options = Options::new(seed);

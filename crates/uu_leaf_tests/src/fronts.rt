@@ -519,3 +519,20 @@ pub const ENTRIES: [Fronts; 1] = [Fronts {
 97 unc: duke 495/mcnc 4000/phs 20000/old dead/= unc-c/skipped 5/
 99 unc: duke 495/mcnc 4000/phs 20000/old dead/= unc-ch/skipped 5/",
 }];
+
+// A message that was handed on.
+pub const MESSAGES: [Fronts; 1] = [Fronts {
+    text: "From ann Sun Sep  9 01:46:40 2001 remote from mysite\n>From joe Sat Sep  8 12:00:00 2001 remote from phs\nHello\n",
+    answers: "46 no envelope
+47 m!ann 47
+48 my!ann 48
+49 mys!ann 49
+50 mysi!ann 50
+51 mysit!ann 51
+52 mysite!ann 52
+100 mysite!ann 53
+101 mysite!p!joe 101
+102 mysite!ph!joe 102
+103 mysite!phs!joe 103
+110 mysite!phs!joe 104",
+}];

@@ -1,5 +1,6 @@
 // The line before a message, and the way back to who wrote it.
-use crate::expecting::{expect_same, expect_text, repeated};
+use crate::expecting::{expect_same, expect_text, repeated, wanted};
+use crate::fronts::{Fronts, MESSAGES};
 use crate::values::{site, word};
 use jiff_core::civil::{Date, DateTime, Time};
 use std::alloc::{AllocError, Global};
@@ -77,6 +78,21 @@ fn way_back(alloc: Global, text: &[u8]) -> Result<String, AllocError> {
 fn ways_back(rt: HostRuntime) {
     for (text, want) in WAYS_BACK.as_slice() {
         expect_text(&rt, way_back(rt.alloc(), text), want);
+    }
+}
+
+fn expect_fronts(rt: &impl Abort, alloc: Global, fronts: &Fronts) {
+    for length in 0..=fronts.text.len() {
+        let front = fronts.text.get(..length).expect(rt, "a front");
+        let want = wanted(fronts, length).expect(rt, "an answer");
+        expect_text(rt, way_back(alloc, front.as_bytes()), want);
+    }
+}
+
+#[test]
+fn each_front_of_a_message_is_read_as_plainly(rt: HostRuntime) {
+    for fronts in MESSAGES.as_slice() {
+        expect_fronts(&rt, rt.alloc(), fronts);
     }
 }
 

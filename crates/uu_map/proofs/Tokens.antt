@@ -3,7 +3,8 @@ use Rattle.std.proofs.Common.{◌≡◌, ℕ, suc, ◌+◌, ◌<◌, Bool, true,
 use Rattle.std.specs.List.{prefix_len, onto_first}
 use Rattle.std.specs.Char.{is_ascii_digit, is_ascii_uppercase}
 use Rattle.std.proofs.lemmas.Bool.Decides.{nat_tests}
-use Rattle.uu_map.specs.Token.{begins, runs_on, words, word_token, tokens, word_len}
+use Rattle.uu_map.specs.Token.{begins, runs_on, words, word_token, tokens}
+use Rattle.uu_map.specs.Internal.Cutting.{word_len}
 use Rattle.uu_names.specs.Text.{is_blank}
 
 one_more : (n : ℕ) → 1 + n ≡ suc n

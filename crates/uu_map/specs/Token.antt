@@ -1,6 +1,6 @@
 -- What an expression is made of: the words of its text (blanks only part them), and what each stands for.
 use Rattle.std.specs.Prelude.{ℕ, ◌+◌, ◌-◌, ◌*◌, Bool, false, List, [], ◌∷◌, Option, Some, None, option_map, ℤ, pos, negsuc, ◌==◌, codes, map, find, fold, if◌then◌else◌}
-use Rattle.std.specs.List.{prefix_len, onto_first}
+use Rattle.std.specs.List.{onto_first}
 use Rattle.std.specs.Char.{is_ascii_digit, is_ascii_uppercase}
 use Rattle.std.specs.Str.{byte, bytes_eq}
 use Rattle.uu_map.specs.declared.token.Additive.TheVariants.{Plus, Minus}
@@ -57,8 +57,3 @@ word_token (b ∷ bs) = if is_ascii_digit b then Amount (kept (pos (decimal (b �
 
 abbrev pub tokens : List ℕ → List Token
 tokens text = map word_token (words text)
-
--- how long the word is that a text begins with
-abbrev pub word_len : List ℕ → ℕ
-word_len [] = 0
-word_len (b ∷ bs) = if is_ascii_digit b then prefix_len is_ascii_digit (b ∷ bs) else (if is_ascii_uppercase b then prefix_len is_ascii_uppercase (b ∷ bs) else 1)

@@ -3,7 +3,8 @@ ghost use Rattle.std.specs.Prelude.{◌≡◌, ◌<◌, ◌≤◌, ◌∷◌, []
 ghost use Rattle.std.specs.List.{prefix_len};
 ghost use Rattle.std.specs.Char.{is_ascii_digit, is_ascii_uppercase};
 ghost use Rattle.uu_map.specs.Expression.{kept};
-ghost use Rattle.uu_map.specs.Token.{words, symbol_token, decimal, sign_token, word_token, tokens, word_len};
+ghost use Rattle.uu_map.specs.Token.{words, symbol_token, decimal, sign_token, word_token, tokens};
+ghost use Rattle.uu_map.specs.Internal.Cutting.{word_len};
 
 use uu_names::text::blanks_len;
 

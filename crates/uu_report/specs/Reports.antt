@@ -1,6 +1,6 @@
--- The reports of jobs, of what is due, of systems and of links. Their forms are this project's choice; the civil
+-- The reports of jobs, of what is due, of next calls, of queues, of systems and of links. Their forms are this project's choice; the civil
 -- calendar is that of `jiff_core`.
-use Rattle.std.specs.Prelude.{◌≡◌, ℕ, List, [], ◌∷◌, ◌++◌, None, codes, slice_get, option_to_list}
+use Rattle.std.specs.Prelude.{◌≡◌, ℕ, ◌-◌, Option, Some, List, [], ◌∷◌, ◌++◌, None, codes, slice_get, option_to_list}
 use Rattle.std.specs.Fmt.{decimal}
 use Rattle.std.specs.List.{flat_map}
 use Rattle.jiff_core.specs.DateTime.{civil_nanos}
@@ -18,6 +18,10 @@ use Rattle.uu_core.specs.declared.job.JobHead.{JobHead}
 use Rattle.uu_core.specs.declared.job.Kind.{Kind}
 use Rattle.uu_core.specs.declared.job.Kind.TheVariants.{Send, Request, Execute}
 use Rattle.uu_core.specs.declared.due.Due.{Due}
+use Rattle.uu_core.specs.declared.next_call.NextCall.{NextCall}
+use Rattle.uu_core.specs.declared.next_call.Why.{Why}
+use Rattle.uu_core.specs.declared.next_call.Why.TheVariants as why
+use Rattle.uu_core.specs.declared.queue.Queue.{Queue}
 use Rattle.uu_core.specs.declared.system.CallState.{CallState}
 use Rattle.uu_core.specs.declared.system.Outcome.{Outcome}
 use Rattle.uu_core.specs.declared.system.Outcome.TheVariants.{Never, Failed, Done}
@@ -87,6 +91,47 @@ IsJobsReport zone = AreLines (IsJobLine zone)
 -- the line of a system that may be called, with the job for which it is called
 abbrev pub due_text : Due → List ℕ
 due_text due = line_of (due.system ∷ grade_text due.grade ∷ decimal due.number ∷ [])
+
+-- ---- next calls
+
+-- why the system is called now for its first job, or why not
+abbrev pub why_text : Why → List ℕ
+why_text why.Due = codes "due"
+why_text why.Held = codes "held"
+why_text why.Closed = codes "closed"
+why_text why.Grade = codes "grade"
+
+-- in how many seconds a call comes, counted from the second `now` on, and at which moment; or that it never comes
+abbrev pub IsTimeText : Zone → ℕ → Option ℕ → List ℕ → Type 0
+IsTimeText zone now None text = text ≡ codes "never"
+IsTimeText zone now (Some second) text =
+    (moment : List ℕ) × IsMoment zone second moment × (text ≡ spaced (decimal (second - now) ∷ moment ∷ []))
+
+-- the line of a system that has a job
+abbrev pub IsNextCallLine : Zone → ℕ → NextCall → List ℕ → Type 0
+IsNextCallLine zone now call line =
+    (time : List ℕ) × IsTimeText zone now call.second time
+    × (line ≡ line_of (call.system ∷ grade_text call.grade ∷ decimal call.number ∷ time ∷ why_text call.why ∷ []))
+
+-- the report of when systems can next be called
+abbrev pub IsNextCallsReport : Zone → ℕ → List NextCall → List ℕ → Type 0
+IsNextCallsReport zone now = AreLines (IsNextCallLine zone now)
+
+-- ---- queues
+
+-- the line of a system for which jobs wait, the oldest since this moment
+abbrev pub queue_text : List ℕ → Queue → List ℕ
+queue_text moment queue =
+    line_of (queue.system ∷ decimal queue.sums.jobs ∷ decimal queue.sums.bytes ∷ grade_text queue.sums.grade ∷ moment ∷ [])
+
+-- the line of a system for which jobs wait
+abbrev pub IsQueueLine : Zone → Queue → List ℕ → Type 0
+IsQueueLine zone queue line =
+    (moment : List ℕ) × IsMoment zone queue.sums.oldest moment × (line ≡ queue_text moment queue)
+
+-- the report of what waits for each system
+abbrev pub IsQueuesReport : Zone → List Queue → List ℕ → Type 0
+IsQueuesReport zone = AreLines (IsQueueLine zone)
 
 -- ---- systems
 

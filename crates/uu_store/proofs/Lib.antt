@@ -9,6 +9,7 @@ pub mod Reopening
 pub mod Acknowledging
 pub mod Accounting
 pub mod Images
+pub mod Refusing
 pub mod Opening
 pub mod FileRuns
 pub mod Closing

@@ -1,5 +1,5 @@
 -- Opening the two files of a spool: what they hold, what an opening finds in them, and what one that failed leaves.
-use Rattle.std.specs.Prelude.{◌≡◌, ◌≢◌, ◌⊎◌, IsTrue, ⊤, Option, None, Some}
+use Rattle.std.specs.Prelude.{◌≡◌, ◌≢◌, ◌⊎◌, ◌<◌, IsTrue, ⊤, Option, None, Some}
 use Rattle.sqlite_disk.specs.declared.Disk as disk
 use Rattle.sqlite_wal.specs.Recovery.{Image}
 use Rattle.sqlite_wal.specs.Files.{outcomes}
@@ -14,7 +14,7 @@ use Rattle.sqlite.specs.Held.{Held, state}
 use Rattle.sqlite.specs.View.{IsClean}
 use Rattle.sqlite.specs.State as db
 use Rattle.sqlite.specs.Start.{FindsIn}
-use Rattle.sqlite.specs.Files.{HoldsDatabase, IsNothing, SaysSums, IsCleanLeft, over_files}
+use Rattle.sqlite.specs.Files.{HoldsDatabase, IsNothing, SaysSums, IsCleanLeft, IsFullLeft, faults_left, over_files}
 use Rattle.sqlite.specs.declared.file.Leftover.{Leftover}
 use Rattle.sqlite.specs.declared.file.Leftover.TheVariants as left
 use Rattle.sqlite_catalog.specs.Listing.{IsSound}
@@ -25,6 +25,8 @@ use Rattle.uu_store.specs.declared.remains.Remains.TheVariants as remains
 use Rattle.uu_store.specs.declared.spool.Spool.{Spool}
 use Rattle.uu_schema.specs.declared.fault.StoreFault.{StoreFault}
 use Rattle.uu_schema.specs.declared.fault.StoreFault.TheVariants.{Memory, Store, Foreign, Newer}
+use Rattle.uu_schema.specs.declared.fault.StoreKind.{StoreKind}
+use Rattle.uu_schema.specs.declared.fault.StoreKind.TheVariants as kind
 use Rattle.uu_schema.specs.declared.fault.StoreKind.TheVariants.{Database}
 use Rattle.uu_database.specs.FoundTables.{HasNone, HasFirst, HasNoneOrAll, HasOther}
 use Rattle.uu_database.specs.Adoption.{IsOfNone}
@@ -40,6 +42,10 @@ use Rattle.uu_store.specs.Stretches.{Adopted, TurnedAway, IsLetGo}
 -- the files hold a database that keeps the state, or none was made yet and the state is an empty spool's
 abbrev pub ImageKeeps : Image → State → Type 0
 ImageKeeps image s = ((trees : Trees) × HoldsDatabase image trees × Keeps trees s) ⊎ (IsNothing image × (s ≡ empty))
+
+-- the files hold a database, or none was made yet
+abbrev pub IsOpenable : Image → Type 0
+IsOpenable image = ((trees : Trees) × HoldsDatabase image trees) ⊎ IsNothing image
 
 -- it has some of the spool's tables, and not those of version 1
 abbrev pub HasSome : Schema → Type 0
@@ -152,12 +158,20 @@ module _ {D : Type 0} {g : disk.Ghosts D} where
   LeavesAlone before fault (remains.Store it) =
       IsTrue (store.view it).is_clean → (trees : Trees) → HoldsDatabase before trees → ((schema : Schema) → IsSound schema trees → StaysAfter fault schema) → (image : Image) → (store.state it).may_leave image → ∥ HoldsDatabase image trees ∥₁
 
+  -- Why no database was opened in files that hold this: it is none, the disk failed or refused a call, or a file is as long as it can be; and nothing is
+  -- too big.
+  abbrev pub HasOpeningCause : Image → StoreKind → Leftover D g → Type 0
+  HasOpeningCause before kind.Disk it = (¬ IsOpenable before) ⊎ ((0 < faults_left it) ⊎ IsFullLeft it)
+  HasOpeningCause before kind.Size it = ⊥
+  HasOpeningCause before kind.Database it = ¬ IsOpenable before
+
   -- The fault names the contents rightly: only a database that was opened is called foreign or newer, and none that keeps a state, nor files
   -- that held nothing; one where a name of the spool's tables is taken and no table tells a version is called foreign, and one with exactly the
-  -- tables rightly. Files that were not opened were refused by the system, or there was no memory.
+  -- tables rightly. Where no database was opened, a fault of the store has a cause. Files that were not opened were refused by the system, or there was no
+  -- memory.
   abbrev pub IsNamed : Image → StoreFault → Remains D g → Type 0
   IsNamed before fault remains.Unopened = (fault ≡ Memory) ⊎ (fault ≡ Store Database)
-  IsNamed before fault (remains.Files it) = IsOfNoContents fault
+  IsNamed before fault (remains.Files it) = IsOfNoContents fault × (IsCleanLeft it → (which : StoreKind) → fault ≡ Store which → HasOpeningCause before which it)
   IsNamed before fault (remains.Store it) =
       IsTrue (store.view it).is_clean → ((s : State) → ImageKeeps before s → IsOfNoContents fault) × (ImageHasOther before → fault ≡ Foreign)
       × ((v : Version) (trees : Trees) → HoldsDatabase before trees → IsSound (site_of v) trees → IsToldRightly v trees fault)

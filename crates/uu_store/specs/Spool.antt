@@ -1,5 +1,5 @@
 -- What a spool shows.
-use Rattle.std.specs.Prelude.{◌≡◌, Bool, true, false}
+use Rattle.std.specs.Prelude.{◌≡◌, Bool, true, false, Option, Some, is_some, ⊤}
 use Rattle.sqlite.specs.Store.{Ghosts}
 use Rattle.sqlite.specs.Held.{Held, state}
 use Rattle.sqlite.specs.State as db
@@ -7,6 +7,7 @@ use Rattle.uu_sql.specs.Steps.{Rests}
 use Rattle.uu_core.specs.State.{State}
 use Rattle.uu_schema.specs.declared.fault.StoreFault.{StoreFault}
 use Rattle.uu_schema.specs.declared.fault.StoreFault.TheVariants.{Memory, Store, Failed, Foreign, Newer}
+use Rattle.uu_schema.specs.declared.fault.StoreKind.{StoreKind}
 use Rattle.uu_store.specs.declared.spool.Spool.{Spool}
 use Rattle.uu_database.specs.Encoded.{Encodes}
 
@@ -18,9 +19,13 @@ connection_of spool = spool.conn
 abbrev pub disk : {S : Type 0} {g : Ghosts S} → Spool S g → db.State
 disk {g} spool = state g (connection_of spool)
 
+-- which part of the store failed, once a call answered that it did
+abbrev pub failure_of : {S : Type 0} {g : Ghosts S} → Spool S g → Option StoreKind
+failure_of spool = spool.failure
+
 -- a call answered that the store failed
 abbrev pub has_failed : {S : Type 0} {g : Ghosts S} → Spool S g → Bool
-has_failed spool = spool.failed
+has_failed spool = is_some (failure_of spool)
 
 -- the spool can be used, and its database encodes the state
 pub record Shows {S : Type 0} {g : Ghosts S} (spool : Spool S g) (s : State) : Type 0 where
@@ -35,3 +40,11 @@ Marks before afterwards (Store kind) = (before ≡ false) × (afterwards ≡ tru
 Marks before afterwards Failed = (before ≡ true) × (afterwards ≡ true)
 Marks before afterwards Foreign = ⊥
 Marks before afterwards Newer = ⊥
+
+-- a fault of the store is kept, of the kind that it was told to be
+abbrev pub Notes : Option StoreKind → StoreFault → Type 0
+Notes failure (Store kind) = failure ≡ Some kind
+Notes failure Memory = ⊤
+Notes failure Failed = ⊤
+Notes failure Foreign = ⊤
+Notes failure Newer = ⊤

@@ -1,5 +1,5 @@
 // Opening the spool's files.
-ghost use Rattle.std.specs.Prelude.{◌≡◌, ◌≢◌, false, IfOk, IfErr};
+ghost use Rattle.std.specs.Prelude.{◌≡◌, ◌≢◌, false, codes, IfOk, IfErr, IsErrAnd};
 ghost use Rattle.sqlite.specs.Files.{over_files};
 ghost use Rattle.sqlite.specs.Held.{state};
 ghost use Rattle.sqlite.specs.State.{HasCleanDisk};
@@ -7,6 +7,7 @@ ghost use Rattle.sqlite_wal.specs.Files.{image_at};
 ghost use Rattle.sqlite_wal.specs.Recovery.{Image};
 ghost use Rattle.uu_core.specs.State.{State};
 ghost use Rattle.uu_sql.specs.Steps.{Rests, Stands};
+ghost use Rattle.uu_schema.specs.declared.fault.StoreKind.TheVariants.{Database};
 ghost use Rattle.uu_schema.specs.declared.version.Version.{Version};
 ghost use Rattle.uu_schema.specs.Schema.{site_of};
 ghost use Rattle.uu_database.specs.Adoption.{StopsAs};
@@ -60,6 +61,9 @@ pub fn open_spool<T: Start>(
     ensures named { IfErr result (λ e. IsNamed (image_at T.Start) e.fault (remains_of e)) }
     ensures left { IfErr result (λ e. LeavesAsKept (image_at T.Start) (remains_of e)) }
     ensures left_alone { IfErr result (λ e. LeavesAlone (image_at T.Start) e.fault (remains_of e)) }
+
+    // The name of a database in memory is that of no file.
+    ensures in_memory { path.now ≡ codes ":memory:" → IsErrAnd result (λ e. e.fault ≡ StoreFault.Store Database) }
 {
     match open_files(rt, path, start) {
         Ok(conn) => adopted_in_files(rt.alloc(), conn),

@@ -1,8 +1,11 @@
 // What is left of the files of a spool that was not opened.
-ghost use Rattle.std.specs.Prelude.{◌≡◌, ◌≢◌, false, IfOk, IfErr};
+ghost use Rattle.std.specs.Prelude.{◌≡◌, ◌≢◌, false, codes, IfOk, IfErr, IsErrAnd};
 ghost use Rattle.sqlite.specs.Files.{over_files};
+ghost use Rattle.sqlite.specs.declared.error.Error.TheVariants.{SqliteFailure};
+ghost use Rattle.sqlite.specs.declared.error.ErrorCode.TheVariants.{OutOfMemory};
 ghost use Rattle.sqlite_wal.specs.Files.{image_at};
 ghost use Rattle.uu_schema.specs.Faults.{kind_of_error};
+ghost use Rattle.uu_schema.specs.declared.fault.StoreKind.TheVariants.{Database};
 ghost use Rattle.uu_store.specs.Openings.{IsFoundIfClean, IsNamed, IsOfNoContents, LeavesAlone, LeavesAsKept, remains_of, remains_of_opening};
 
 use sqlite::{Connection, Error, FileStore, Leftover, Start};
@@ -69,6 +72,8 @@ impl<D: Disk> OpenFault<D> {
 fn opening_fault(error: &Error) -> StoreFault
     ensures named { (result ≢ StoreFault.Failed) × IsOfNoContents result }
     ensures kind { (kind : _) → result ≡ StoreFault.Store kind → kind ≡ kind_of_error error.now }
+    ensures memory { error.now ≡ SqliteFailure OutOfMemory → result ≡ StoreFault.Memory }
+    ensures other { error.now ≢ SqliteFailure OutOfMemory → result ≡ StoreFault.Store (kind_of_error error.now) }
 {
     if is_memory(error) {
         StoreFault::Memory
@@ -89,6 +94,9 @@ pub(crate) fn open_files<T: Start>(
     ensures named { IfErr result (λ e. IsNamed (image_at T.Start) e.fault (remains_of e)) }
     ensures left { IfErr result (λ e. LeavesAsKept (image_at T.Start) (remains_of e)) }
     ensures left_alone { IfErr result (λ e. LeavesAlone (image_at T.Start) e.fault (remains_of e)) }
+
+    // The name of a database in memory is that of no file.
+    ensures in_memory { path.now ≡ codes ":memory:" → IsErrAnd result (λ e. e.fault ≡ StoreFault.Store Database) }
 {
     match open_database(rt, path, start) {
         Ok(conn) => Ok(conn),

@@ -35,7 +35,7 @@ fn keep(replies: &mut Vec<Reply>, reply: Reply)
 impl<S: Alter> Spool<S> {
     ghost use Rattle.std.specs.Prelude.{◌≢◌, IsTrue, IfOk, IfErr, Some, MatchOption};
     ghost use Rattle.sqlite.specs.View.{IsClean};
-    ghost use Rattle.uu_store.specs.Spool.{Marks};
+    ghost use Rattle.uu_store.specs.Spool.{failure_of, Marks, Notes};
     ghost use Rattle.uu_store.specs.Runs.{Ran};
     ghost use Rattle.uu_store.specs.Exchanges.{exchange_of, not_given};
     ghost use Rattle.uu_store.specs.Openings.{IsNotTaken};
@@ -52,6 +52,9 @@ impl<S: Alter> Spool<S> {
         // Nothing stopped it exactly where all were answered, and the spool had not failed before.
         ensures every { (result.stopped ≡ None) ↔ ((has_failed self.old ≡ false) × (length result.replies.items ≡ length commands.items)) }
         ensures marked { MatchOption result.stopped ((has_failed self.old ≡ false) × (has_failed self.new ≡ false)) (Marks (has_failed self.old) (has_failed self.new)) }
+
+        // The fault that stopped it is the one that its command gave, of that kind.
+        ensures noted { IfSome result.stopped (Notes (failure_of self.new)) }
 
         // A spool that failed is left as it was, and gives no reply.
         ensures failed { IsTrue (has_failed self.old) → (result.stopped ≡ Some StoreFault.Failed) × (result.replies.items ≡ []) × (self.new ≡ self.old) }

@@ -7,7 +7,7 @@ use std::mem::drop;
 use uu_core::{Command, Due, Filter, JobHead, Reply, SystemRow};
 use uu_database::{due, entry, find, give, list, next, systems};
 use uu_names::SiteName;
-use uu_schema::StoreFault;
+use uu_schema::{StoreFault, StoreKind};
 use uu_times::Moment;
 
 /// A spool, over a connection that it owns.
@@ -17,7 +17,8 @@ use uu_times::Moment;
 #[derive(Drop)]
 pub struct Spool<S: Alter> {
     conn: Connection<S>,
-    failed: bool,
+    // Which part of the store failed, once a call answered that it did.
+    failure: Option<StoreKind>,
     ghost idle: { conn.in_transaction ≡ false },
 }
 
@@ -36,7 +37,7 @@ impl<S: Alter> Spool<S> {
     ghost use Rattle.uu_schema.specs.Faults.{IsFresh};
     ghost use Rattle.uu_database.specs.Calls.{StaysUnclean};
     ghost use Rattle.uu_database.specs.Encoded.{Leaves, LeavesEither};
-    ghost use Rattle.uu_store.specs.Spool.{connection_of, disk, has_failed, Shows, Marks};
+    ghost use Rattle.uu_store.specs.Spool.{connection_of, disk, failure_of, has_failed, Shows, Marks, Notes};
     ghost use Rattle.uu_store.specs.Runs.{Ran, reply_in, fault_in};
     ghost use Rattle.uu_store.specs.Stretches.{IsLetGo};
 
@@ -48,7 +49,7 @@ impl<S: Alter> Spool<S> {
     {
         Spool {
             conn,
-            failed: false,
+            failure: None,
         }
     }
 
@@ -58,7 +59,7 @@ impl<S: Alter> Spool<S> {
         ensures idle { result.in_transaction ≡ false }
         ensures stop { (s : _) → Shows self s → Leaves (state S.Store result) s }
     {
-        let Spool { conn, failed: _ } = self;
+        let Spool { conn, failure: _ } = self;
         conn
     }
 
@@ -82,7 +83,7 @@ impl<S: Alter> Spool<S> {
         ensures let_go { IfErr result (λ e. IsLetGo S.Store (connection_of self).store e.1) }
         ensures numbered { IfErr result (λ e. IsClean (S.Store.view e.1) → IsTrue (S.Store.view e.1).is_numbered) }
     {
-        if self.failed {
+        if self.is_failed() {
             return Err((StoreFault::Failed, self.into_store()));
         }
         Ok(self.release())
@@ -92,7 +93,7 @@ impl<S: Alter> Spool<S> {
     pub(crate) fn is_failed(&self) -> bool
         ensures { result ≡ has_failed self.now }
     {
-        self.failed
+        self.failure.is_some()
     }
 
     // After a fault of the store no statement is given any more.
@@ -101,9 +102,10 @@ impl<S: Alter> Spool<S> {
         ensures same { result ≡ fault }
         ensures connection { connection_of self.new ≡ connection_of self.old }
         ensures marked { IsFresh fault → Marks (has_failed self.old) (has_failed self.new) fault }
+        ensures noted { Notes (failure_of self.new) fault }
     {
-        if fault != StoreFault::Memory {
-            self.failed = true;
+        if let StoreFault::Store(kind) = fault {
+            self.failure = Some(kind);
         }
         fault
     }
@@ -115,6 +117,7 @@ impl<S: Alter> Spool<S> {
     /// from then on every command and question answers `Failed` and does nothing.
     pub fn command(&mut self, alloc: Global, command: Command) -> Result<Reply, StoreFault>
         ensures marked { MatchResult result (λ _. (has_failed self.old ≡ false) × (has_failed self.new ≡ false)) (Marks (has_failed self.old) (has_failed self.new)) }
+        ensures noted { IfErr result (Notes (failure_of self.new)) }
 
         // On a clean store a command is one step of the machine.
         ensures step { HasCleanDisk (disk self.new) → (s : _) → Shows self.old s → IfOk result (λ reply. (reply ≡ (after s command).1) × Shows self.new (after s command).0) }
@@ -132,7 +135,7 @@ impl<S: Alter> Spool<S> {
         // So it is a run of one command.
         ensures ran { Ran (command ∷ []) self.old self.new (reply_in result) (fault_in result) }
     {
-        if self.failed {
+        if self.is_failed() {
             drop(command);
             return Err(StoreFault::Failed);
         }
@@ -151,6 +154,7 @@ impl<S: Alter> Spool<S> {
     /// that is kept changed. From then on every command and question answers `Failed` and does nothing.
     pub fn jobs(&mut self, alloc: Global, filter: &Filter) -> Result<Vec<JobHead>, StoreFault>
         ensures marked { MatchResult result (λ _. (has_failed self.old ≡ false) × (has_failed self.new ≡ false)) (Marks (has_failed self.old) (has_failed self.new)) }
+        ensures noted { IfErr result (Notes (failure_of self.new)) }
         ensures answer { HasCleanDisk (disk self.new) → (s : _) → Shows self.old s → IfOk result (λ heads. (heads.items ≡ listed filter.now s) × Shows self.new s) }
         ensures bounds { IfOk result (λ heads. AllByRecursion IsBounded heads.items) }
         ensures memory { HasCleanDisk (disk self.new) → (s : _) → Shows self.old s → result ≡ Err StoreFault.Memory → Shows self.new s }
@@ -159,7 +163,7 @@ impl<S: Alter> Spool<S> {
         ensures ran { Ran [] self.old self.new [] (fault_in result) }
         ensures failed { IsTrue (has_failed self.old) → (result ≡ Err StoreFault.Failed) × (self.new ≡ self.old) }
     {
-        if self.failed {
+        if self.is_failed() {
             return Err(StoreFault::Failed);
         }
         match list(alloc, &mut self.conn, filter) {
@@ -178,6 +182,7 @@ impl<S: Alter> Spool<S> {
         number: u32,
     ) -> Result<Option<(JobHead, Vec<u8>)>, StoreFault>
         ensures marked { MatchResult result (λ _. (has_failed self.old ≡ false) × (has_failed self.new ≡ false)) (Marks (has_failed self.old) (has_failed self.new)) }
+        ensures noted { IfErr result (Notes (failure_of self.new)) }
         ensures answer { HasCleanDisk (disk self.new) → (s : _) → Shows self.old s → IfOk result (λ found. (option_map job_shown found ≡ job_at s number) × Shows self.new s) }
         ensures size { IfOk result (λ found. IfSome found (λ job. job.0.size ≡ length job.1.items)) }
         ensures bounds { IfOk result (λ found. IfSome found (λ job. IsBounded job.0)) }
@@ -187,7 +192,7 @@ impl<S: Alter> Spool<S> {
         ensures ran { Ran [] self.old self.new [] (fault_in result) }
         ensures failed { IsTrue (has_failed self.old) → (result ≡ Err StoreFault.Failed) × (self.new ≡ self.old) }
     {
-        if self.failed {
+        if self.is_failed() {
             return Err(StoreFault::Failed);
         }
         match find(alloc, &mut self.conn, number) {
@@ -202,6 +207,7 @@ impl<S: Alter> Spool<S> {
     /// As [`Spool::jobs`].
     pub fn systems(&mut self, alloc: Global) -> Result<Vec<SystemRow>, StoreFault>
         ensures marked { MatchResult result (λ _. (has_failed self.old ≡ false) × (has_failed self.new ≡ false)) (Marks (has_failed self.old) (has_failed self.new)) }
+        ensures noted { IfErr result (Notes (failure_of self.new)) }
         ensures answer { HasCleanDisk (disk self.new) → (s : _) → Shows self.old s → IfOk result (λ systems. (systems.items ≡ s.systems) × Shows self.new s) }
         ensures formed { IfOk result (λ systems. IsWellFormed (holding systems.items)) }
         ensures bounds { IfOk result (λ systems. AllByRecursion IsTimed systems.items) }
@@ -211,7 +217,7 @@ impl<S: Alter> Spool<S> {
         ensures ran { Ran [] self.old self.new [] (fault_in result) }
         ensures failed { IsTrue (has_failed self.old) → (result ≡ Err StoreFault.Failed) × (self.new ≡ self.old) }
     {
-        if self.failed {
+        if self.is_failed() {
             return Err(StoreFault::Failed);
         }
         match systems(alloc, &mut self.conn) {
@@ -226,6 +232,7 @@ impl<S: Alter> Spool<S> {
     /// As [`Spool::jobs`].
     pub fn due(&mut self, alloc: Global, at: &Moment) -> Result<Vec<Due>, StoreFault>
         ensures marked { MatchResult result (λ _. (has_failed self.old ≡ false) × (has_failed self.new ≡ false)) (Marks (has_failed self.old) (has_failed self.new)) }
+        ensures noted { IfErr result (Notes (failure_of self.new)) }
         ensures answer { HasCleanDisk (disk self.new) → (s : _) → Shows self.old s → IfOk result (λ dues. AreDue s.systems (map head_of s.jobs) at.now dues.items × Shows self.new s) }
         ensures memory { HasCleanDisk (disk self.new) → (s : _) → Shows self.old s → result ≡ Err StoreFault.Memory → Shows self.new s }
         ensures stop { HasCleanDisk (disk self.new) → (s : _) → Shows self.old s → Leaves (disk self.new) s }
@@ -233,7 +240,7 @@ impl<S: Alter> Spool<S> {
         ensures ran { Ran [] self.old self.new [] (fault_in result) }
         ensures failed { IsTrue (has_failed self.old) → (result ≡ Err StoreFault.Failed) × (self.new ≡ self.old) }
     {
-        if self.failed {
+        if self.is_failed() {
             return Err(StoreFault::Failed);
         }
         match due(alloc, &mut self.conn, at) {
@@ -248,6 +255,7 @@ impl<S: Alter> Spool<S> {
     /// As [`Spool::jobs`].
     pub fn entry(&mut self, alloc: Global, host: &SiteName) -> Result<Option<Vec<u8>>, StoreFault>
         ensures marked { MatchResult result (λ _. (has_failed self.old ≡ false) × (has_failed self.new ≡ false)) (Marks (has_failed self.old) (has_failed self.new)) }
+        ensures noted { IfErr result (Notes (failure_of self.new)) }
         ensures answer { HasCleanDisk (disk self.new) → (s : _) → Shows self.old s → IfOk result (λ found. (option_map (λ text. text.items) found ≡ option_map (λ entry. entry.bytes) (entry_at s host.now)) × Shows self.new s) }
         ensures memory { HasCleanDisk (disk self.new) → (s : _) → Shows self.old s → result ≡ Err StoreFault.Memory → Shows self.new s }
         ensures stop { HasCleanDisk (disk self.new) → (s : _) → Shows self.old s → Leaves (disk self.new) s }
@@ -255,7 +263,7 @@ impl<S: Alter> Spool<S> {
         ensures ran { Ran [] self.old self.new [] (fault_in result) }
         ensures failed { IsTrue (has_failed self.old) → (result ≡ Err StoreFault.Failed) × (self.new ≡ self.old) }
     {
-        if self.failed {
+        if self.is_failed() {
             return Err(StoreFault::Failed);
         }
         match entry(alloc, &mut self.conn, host) {
@@ -270,6 +278,7 @@ impl<S: Alter> Spool<S> {
     /// As [`Spool::jobs`].
     pub fn next(&mut self) -> Result<u32, StoreFault>
         ensures marked { MatchResult result (λ _. (has_failed self.old ≡ false) × (has_failed self.new ≡ false)) (Marks (has_failed self.old) (has_failed self.new)) }
+        ensures noted { IfErr result (Notes (failure_of self.new)) }
         ensures answer { HasCleanDisk (disk self.new) → (s : _) → Shows self.old s → IfOk result (λ next. (next ≡ s.next) × Shows self.new s) }
         ensures memory { HasCleanDisk (disk self.new) → (s : _) → Shows self.old s → result ≡ Err StoreFault.Memory → Shows self.new s }
         ensures stop { HasCleanDisk (disk self.new) → (s : _) → Shows self.old s → Leaves (disk self.new) s }
@@ -277,7 +286,7 @@ impl<S: Alter> Spool<S> {
         ensures ran { Ran [] self.old self.new [] (fault_in result) }
         ensures failed { IsTrue (has_failed self.old) → (result ≡ Err StoreFault.Failed) × (self.new ≡ self.old) }
     {
-        if self.failed {
+        if self.is_failed() {
             return Err(StoreFault::Failed);
         }
         match next(&mut self.conn) {

@@ -8,8 +8,9 @@ use Rattle.uu_times.specs.declared.days.Simple.{Simple}
 use Rattle.uu_times.specs.declared.scan.Found.{Found}
 use Rattle.uu_times.specs.declared.scan.Place.{Place}
 use Rattle.uu_times.specs.declared.scan.Place.TheVariants.{Start, Letter, An, Named, From, Dash, To, Whole}
-use Rattle.uu_times.specs.Days.{spans, no_days, with_days, has_day, in_hours, has_minute, two_letters}
-use Rattle.uu_times.specs.Grammar.{DayWord, word_days, Spelling, Spells, bounds_of, days_of, simple_of, has_spelled, IsLongestFront, is_separator, lower}
+use Rattle.uu_times.specs.Days.{spans, in_hours}
+use Rattle.uu_times.specs.Grammar.{DayWord, word_days, Spelling, Spells, bounds_of, has_spelled, IsLongestFront, is_separator, lower}
+use Rattle.uu_times.specs.Internal.Simples.{no_days, with_days, has_day, has_minute, two_letters, days_of, simple_of}
 use Rattle.uu_times.specs.Internal.Scan.{is_time, is_end, minute_of, last_minute, more_digits, start_digit, first_letter, second_letter, next_place, simple_at, after, step, ending, going_on, scan, list_of}
 use Rattle.uu_times.proofs.GrammarLemmas.{scan-next, scan-ending, start-digit, end-digit, lists-read}
 use Rattle.uu_times.proofs.GrammarReads.{reads-lists}

@@ -8,8 +8,8 @@ use Rattle.uu_times.specs.declared.days.Simple.{Simple}
 use Rattle.uu_times.specs.declared.scan.Found.{Found}
 use Rattle.uu_times.specs.declared.scan.Place.{Place}
 use Rattle.uu_times.specs.declared.scan.Place.TheVariants.{Start, Letter, An, Named, From, Dash, To, Whole}
-use Rattle.uu_times.specs.Days.{no_days, with_days, two_letters}
-use Rattle.uu_times.specs.Grammar.{DayWord, su, mo, tu, we, th, fr, sa, wk, any, word_text, word_days, Hours, Spelling, two_digits, hours_text, spelled, IsTime, IsEnd, AreHours, IsSpelling, Spells, bounds_of, days_of, simple_of, is_separator}
+use Rattle.uu_times.specs.Internal.Simples.{no_days, with_days, two_letters, days_of, simple_of}
+use Rattle.uu_times.specs.Grammar.{DayWord, su, mo, tu, we, th, fr, sa, wk, any, word_text, word_days, Hours, Spelling, two_digits, hours_text, spelled, IsTime, IsEnd, AreHours, IsSpelling, Spells, bounds_of, is_separator}
 use Rattle.uu_times.specs.Internal.Scan.{is_time, is_end, more_digits, start_digit, end_digit, first_letter, second_letter, next_place, simple_at, after, ending, going_on, scan}
 use Rattle.uu_times.proofs.GrammarLemmas.{written, place_behind, simple-behind, made}
 

@@ -1,4 +1,5 @@
 pub mod Clock
+pub mod DayWords
 pub mod FileLemmas
 pub mod GrammarLemmas
 pub mod GrammarFronts

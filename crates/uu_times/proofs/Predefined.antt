@@ -2,7 +2,7 @@
 use Rattle.std.proofs.Common.{◌≡◌, ℕ, Some, Ok, List, refl, ap, ◌∙◌, codes, All, ◌∷◌, []}
 use Rattle.std.proofs.lemmas.List.Elements.{All-cons, All-nil}
 use Rattle.uu_times.specs.declared.days.Simple.{Simple}
-use Rattle.uu_times.specs.Days.{any_has}
+use Rattle.uu_times.specs.Internal.Simples.{any_has}
 use Rattle.uu_times.specs.Grammar.{lower}
 use Rattle.uu_times.specs.Internal.Scan.{scan, list_of}
 use Rattle.uu_times.specs.Ranges.{maximal_runs}

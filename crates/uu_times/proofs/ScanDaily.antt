@@ -12,7 +12,7 @@ use Rattle.uu_times.specs.declared.scan.Place.{Place}
 use Rattle.uu_times.specs.declared.scan.Place.TheVariants.{Start, Letter, An, Named, From, Dash, To, Whole}
 use Rattle.uu_times.specs.Internal.Scan.{is_time, is_end, minute_of, last_minute, first_letter, second_letter, more_digits, start_digit, next_place, simple_at, after, step, ending, going_on, scan, list_of}
 use Rattle.uu_times.specs.Grammar.{is_separator, lower}
-use Rattle.uu_times.specs.Days.{no_days, with_days, two_letters}
+use Rattle.uu_times.specs.Internal.Simples.{no_days, with_days, two_letters}
 use Rattle.uu_times.specs.Internal.Union.{IsDaily}
 
 -- the digits at a place are of times

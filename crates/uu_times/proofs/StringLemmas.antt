@@ -7,9 +7,9 @@ use Rattle.std.specs.Str.{bytes_eq}
 use Rattle.uu_times.specs.declared.days.Simple.{Simple}
 use Rattle.uu_times.specs.declared.fault.TimeFault.{TimeFault}
 use Rattle.uu_times.specs.declared.fault.TimeFault.TheVariants.{MomentRange, OffsetRange, BadTime, UnknownTable, TableTwice, BadNumber, BadSystem, TooManyLines, SystemTwice, BadWords, Memory, BadZone}
-use Rattle.uu_times.specs.Days.{any_has}
+use Rattle.uu_times.specs.Internal.Simples.{any_has, simple_of}
 use Rattle.uu_times.specs.Fault.{AnswersUnlessMemory, UnlessMemory}
-use Rattle.uu_times.specs.Grammar.{Spelling, simple_of, has_spelled, lower}
+use Rattle.uu_times.specs.Grammar.{Spelling, has_spelled, lower}
 use Rattle.uu_times.specs.Internal.Scan.{list_of}
 use Rattle.uu_times.specs.Ranges.{maximal_runs}
 use Rattle.uu_times.specs.Tables.{Tables, table_at, spelled_minutes, IsNever, IsTimeString, never, named, listed, unreadable, windows_in, time_of}

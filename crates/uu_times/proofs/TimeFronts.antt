@@ -3,7 +3,7 @@ use Rattle.std.proofs.Common.{◌≡◌, ℕ, Bool, true, false, cond, Option, N
 use Rattle.uu_times.specs.declared.days.Simple.{Simple}
 use Rattle.uu_times.specs.declared.fault.TimeFault.{TimeFault}
 use Rattle.uu_times.specs.declared.fault.TimeFault.TheVariants.{MomentRange, OffsetRange, BadTime, UnknownTable, TableTwice, BadNumber, BadSystem, TooManyLines, SystemTwice, BadWords, Memory, BadZone}
-use Rattle.uu_times.specs.Days.{any_has}
+use Rattle.uu_times.specs.Internal.Simples.{any_has}
 use Rattle.uu_times.specs.Fault.{AnswersUnlessMemory}
 use Rattle.uu_times.specs.Grammar.{IsLongestFront}
 use Rattle.uu_times.specs.Ranges.{maximal_runs}

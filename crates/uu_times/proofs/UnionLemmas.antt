@@ -8,7 +8,8 @@ use Rattle.std.proofs.lemmas.List.Elements.{All-nil, All-cons, All-head, All-tai
 use Rattle.std.proofs.lemmas.List.Folds.{list_any-append}
 use Rattle.std.proofs.lemmas.List.Sorted.{IsNonDecreasingBy-drop, list_any-IsPermutation, All-permutation}
 use Rattle.uu_times.specs.declared.days.Simple.{Simple}
-use Rattle.uu_times.specs.Days.{has_day, in_hours, has_minute, any_has}
+use Rattle.uu_times.specs.Days.{in_hours}
+use Rattle.uu_times.specs.Internal.Simples.{has_day, has_minute, any_has}
 use Rattle.uu_times.specs.Ranges.{within, holds, AreRunsFrom, AreRuns, maximal_runs}
 use Rattle.uu_times.proofs.Runs.{maximal_runs-runs}
 use Rattle.uu_times.specs.Internal.Union.{IsDaily, day_ranges, ranges_on, days_ranges, week_ranges, merged_from, merged}

@@ -4,9 +4,7 @@ use Rattle.std.specs.Prelude.{◌≡◌, ◌⊎◌, ℕ, ◌+◌, ◌*◌, ◌/�
 use Rattle.std.specs.List.{flat_map, list_any}
 use Rattle.std.specs.Char.{to_ascii_lowercase}
 use Rattle.std.specs.Str.{byte}
-use Rattle.uu_times.specs.declared.days.Days.{Days}
-use Rattle.uu_times.specs.declared.days.Simple.{Simple}
-use Rattle.uu_times.specs.Days.{day_minutes, spans, no_days, with_days, in_hours}
+use Rattle.uu_times.specs.Days.{day_minutes, spans, in_hours}
 
 -- a text in lower case, since case doesn't count
 abbrev pub lower : List ℕ → List ℕ
@@ -50,6 +48,10 @@ word_days fr = (5, 5)
 word_days sa = (6, 6)
 word_days wk = (1, 5)
 word_days any = (0, 6)
+
+-- all of them
+abbrev pub day_words : List DayWord
+day_words = su ∷ mo ∷ tu ∷ we ∷ th ∷ fr ∷ sa ∷ wk ∷ any ∷ []
 
 -- hours from one time of day to another
 pub record Hours : Type 0 where
@@ -108,15 +110,6 @@ abbrev pub has_spelled : ℕ → Spelling → Bool
 has_spelled minute spelling =
     list_any (λ word. spans (word_days word) (minute / day_minutes)) spelling.words
     && in_hours (option_map bounds_of spelling.hours) (minute % day_minutes)
-
--- the days of words, behind other days
-abbrev pub days_of : Days → List DayWord → Days
-days_of days [] = days
-days_of days (word ∷ words) = days_of (with_days days (word_days word)) words
-
--- what is kept of a simple string
-abbrev pub simple_of : Spelling → Simple
-simple_of spelling = record { days = days_of no_days spelling.words; hours = option_map bounds_of spelling.hours }
 
 -- a text begins a list of simple strings, whatever its case
 abbrev pub BeginsList : List ℕ → Type 0

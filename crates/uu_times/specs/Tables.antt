@@ -1,19 +1,19 @@
 -- Time strings and the timetables that they may name (Taylor UUCP 1.07 manual, "Time Strings"; how a timetable is named
 -- and the predefined ones are this project's choice).
-use Rattle.std.specs.Prelude.{◌≡◌, ℕ, Bool, false, ◌&&◌, ◌||◌, not, nat_le, ◌==◌, if◌then◌else◌, Option, None, Some, is_some, Result, Ok, Err, List, [], ◌∷◌, length, slice_index, codes, ⊤}
+use Rattle.std.specs.Prelude.{◌≡◌, ℕ, Bool, false, ◌&&◌, ◌||◌, not, nat_le, nat_eq, ◌==◌, if◌then◌else◌, Option, None, Some, Result, Ok, Err, List, [], ◌∷◌, length, codes, ⊤}
 use Rattle.std.specs.Cmp.Lexicographic.{slice_cmp}
 use Rattle.std.specs.Ordering.{nat_cmp}
 use Rattle.std.specs.BTreeMap.{insert_entry, is_at}
 use Rattle.std.specs.Map.{lookup}
-use Rattle.std.specs.List.{list_all, list_any}
+use Rattle.std.specs.List.{list_all, list_any, starts_with}
 use Rattle.std.specs.Char.{is_ascii_alphabetic, is_ascii_alphanumeric}
 use Rattle.std.specs.Str.{byte, bytes_eq}
 use Rattle.uu_times.specs.declared.fault.TimeFault.{TimeFault}
 use Rattle.uu_times.specs.declared.fault.TimeFault.TheVariants.{BadTime, UnknownTable}
-use Rattle.uu_times.specs.Days.{any_has, two_letters}
-use Rattle.uu_times.specs.Grammar.{Spelling, Spells, has_spelled, IsLongestFront, lower}
+use Rattle.uu_times.specs.Grammar.{word_text, day_words, Spelling, Spells, has_spelled, IsLongestFront, lower}
 use Rattle.uu_times.specs.Ranges.{maximal_runs}
 use Rattle.uu_times.specs.Internal.Scan.{list_of}
+use Rattle.uu_times.specs.Internal.Simples.{any_has}
 
 -- timetables: their names in lower case, in order, and the runs of their minutes
 abbrev pub Tables : Type 0
@@ -45,9 +45,7 @@ with_table tables name windows = insert_entry (slice_cmp nat_cmp) tables (lower 
 
 -- the text, in lower case, begins with a day word
 abbrev pub begins_with_day : List ℕ → Bool
-begins_with_day text =
-    is_some (two_letters (slice_index text 0) (slice_index text 1))
-    || (slice_index text 0 == byte "a" && slice_index text 1 == byte "n" && slice_index text 2 == byte "y")
+begins_with_day text = list_any (λ word. starts_with nat_eq text (word_text word)) day_words
 
 -- a text that is no time string, of which so many bytes begin a list of simple strings
 abbrev pub unreadable : ℕ → List ℕ → ℕ → TimeFault

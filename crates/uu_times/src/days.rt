@@ -1,6 +1,7 @@
 // Days of the week with hours of the day.
 ghost use Rattle.std.specs.Prelude.{◌≡◌, ◌<◌};
-ghost use Rattle.uu_times.specs.Days.{spans, with_days, has_day};
+ghost use Rattle.uu_times.specs.Days.{spans};
+ghost use Rattle.uu_times.specs.Internal.Simples.{with_days, has_day};
 
 /// Days of the week.
 #[derive(Clone, Copy)]

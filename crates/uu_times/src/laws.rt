@@ -1,8 +1,8 @@
 //! Laws of the definitions that the contracts cite.
 ghost use Rattle.std.specs.Prelude.{◌≡◌, ◌<◌, ℕ, Bool, List, None, Ok, Err, All, IsTrue, IfOk, IfErr, map};
 ghost use Rattle.std.specs.List.{filter_map, last_or};
-ghost use Rattle.uu_times.specs.Days.{has_minute};
-ghost use Rattle.uu_times.specs.Grammar.{Spelling, Spells, simple_of, has_spelled, IsLongestFront, lower};
+ghost use Rattle.uu_times.specs.Internal.Simples.{has_minute, simple_of};
+ghost use Rattle.uu_times.specs.Grammar.{Spelling, Spells, has_spelled, IsLongestFront, lower};
 ghost use Rattle.uu_times.specs.Ranges.{holds, AreRuns, maximal_runs};
 ghost use Rattle.uu_times.specs.Internal.Scan.{list_of};
 ghost use Rattle.uu_times.specs.SysFile.{known, windows_named};

@@ -1,7 +1,7 @@
 // Lists of simple strings, read byte by byte.
 ghost use Rattle.std.specs.Prelude.{◌≡◌, Ok, Err, Some};
 ghost use Rattle.uu_times.specs.Internal.Scan.{is_time, is_end, minute_of, last_minute, first_letter, second_letter, more_digits, start_digit, end_digit, next_place, simple_at, step, list_of};
-ghost use Rattle.uu_times.specs.Days.{two_letters};
+ghost use Rattle.uu_times.specs.Internal.Simples.{two_letters};
 ghost use Rattle.uu_times.specs.Grammar.{is_separator};
 ghost use Rattle.uu_times.specs.Internal.Listed.{Lists};
 
@@ -61,8 +61,8 @@ fn last_minute(digits: u16) -> u16
     }
 }
 
-/// The first and the last day that a day word of two letters names.
-pub fn two_letters(first: u8, second: u8) -> Option<(u8, u8)>
+// The first and the last day that a day word of two letters names.
+fn two_letters(first: u8, second: u8) -> Option<(u8, u8)>
     ensures { result ≡ two_letters first second }
 {
     match (first, second) {

@@ -1,17 +1,17 @@
 //! Timetables, and the time strings that may name them.
-ghost use Rattle.std.specs.Prelude.{◌≡◌, ℕ, List, Ok, Err, IfOk, IfErr, IsTrue, map, OnOk, slice_index};
+ghost use Rattle.std.specs.Prelude.{◌≡◌, ℕ, nat_eq, List, Ok, Err, IfOk, IfErr, IsTrue, map, OnOk};
 ghost use Rattle.std.specs.BTreeMap.{insert_entry};
 ghost use Rattle.std.specs.Char.{to_ascii_lowercase};
 ghost use Rattle.std.specs.Cmp.Lexicographic.{slice_cmp};
 ghost use Rattle.std.specs.Ordering.{nat_cmp};
-ghost use Rattle.std.specs.List.{list_all};
+ghost use Rattle.std.specs.List.{list_all, list_any, starts_with};
 ghost use Rattle.std.specs.Str.{bytes_eq};
 ghost use Rattle.uu_names.specs.Name.{is_site_name};
 ghost use Rattle.uu_times.specs.Fault.{AnswersUnlessMemory, UnlessMemory};
 ghost use Rattle.uu_times.specs.Grammar.{lower};
 ghost use Rattle.uu_times.specs.Tables.{is_table_byte, is_table_rest, is_table_name, table_at, with_table, with_list, begins_with_day, unreadable, TellsFront, IsTimeString, windows_in, time_of, predefined_tables};
 
-use crate::scan::{Unlisted, list_of, two_letters};
+use crate::scan::{Unlisted, list_of};
 use crate::union::windows_of;
 use crate::{TimeFault, Windows};
 use std::alloc::{AllocError, Global};
@@ -21,6 +21,11 @@ use uu_names::{NameFault, SiteName};
 
 /// The most bytes of a timetable's name behind the first.
 const MAX_TABLE_REST: usize = 31;
+
+/// The day words, in lower case.
+const DAY_WORDS: [&[u8]; 9] = [
+    b"su", b"mo", b"tu", b"we", b"th", b"fr", b"sa", b"wk", b"any",
+];
 
 /// Timetables by their names, in lower case, seen as the list of names and runs in order of the names.
 #[derive(Drop)]
@@ -158,25 +163,28 @@ pub(crate) fn is_table_name(text: &[u8]) -> bool
     }
 }
 
-// The letter at a place in lower case, and 0 behind the end.
-fn letter_at(text: &[u8], at: usize) -> u8
-    ensures { result ≡ slice_index (lower text.now) at }
+// Whether the text begins with the word, whatever their case.
+fn begins_in_any_case(text: &[u8], word: &[u8]) -> bool
+    ensures { result ≡ starts_with nat_eq (lower text.now) (lower word.now) }
 {
-    if at < text.len() {
-        text[at].to_ascii_lowercase()
-    } else {
-        0
+    match text.get(..word.len()) {
+        Some(front) => equals_in_any_case(word, front),
+        None => false,
     }
+}
+
+// Whether the text begins with one of the words, whatever their case.
+fn begins_with_any(text: &[u8], words: &[&[u8]]) -> bool
+    ensures { result ≡ list_any (λ word. starts_with nat_eq (lower text.now) (lower word.now)) words.now }
+{
+    words.iter().any(|word| begins_in_any_case(text, word))
 }
 
 // Whether the text begins with a day word.
 fn begins_with_day(text: &[u8]) -> bool
     ensures { result ≡ begins_with_day (lower text.now) }
 {
-    let first = letter_at(text, 0);
-    let second = letter_at(text, 1);
-    two_letters(first, second).is_some()
-        || first == b'a' && second == b'n' && letter_at(text, 2) == b'y'
+    begins_with_any(text, &DAY_WORDS)
 }
 
 // The fault of a text that is no time string, of which so many bytes begin a list of simple strings.

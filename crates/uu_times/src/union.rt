@@ -1,6 +1,6 @@
 // From simple strings to the runs of their minutes.
 ghost use Rattle.std.specs.Prelude.{◌≡◌, ◌≤◌, ◌<◌, ◌++◌, All, IfOk, IfSome, OnOk};
-ghost use Rattle.uu_times.specs.Days.{any_has};
+ghost use Rattle.uu_times.specs.Internal.Simples.{any_has};
 ghost use Rattle.uu_times.specs.Ranges.{maximal_runs};
 ghost use Rattle.uu_times.specs.Internal.Union.{IsDaily, day_ranges, ranges_on, days_ranges, week_ranges, merged};
 

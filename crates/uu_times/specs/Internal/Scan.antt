@@ -8,7 +8,7 @@ use Rattle.uu_times.specs.declared.days.Simple.{Simple}
 use Rattle.uu_times.specs.declared.scan.Place.{Place}
 use Rattle.uu_times.specs.declared.scan.Found.{Found}
 use Rattle.uu_times.specs.declared.scan.Place.TheVariants.{Start, Letter, An, Named, From, Dash, To, Whole}
-use Rattle.uu_times.specs.Days.{no_days, with_days, two_letters}
+use Rattle.uu_times.specs.Internal.Simples.{no_days, with_days, two_letters}
 use Rattle.uu_times.specs.Grammar.{is_separator, lower}
 
 -- a time of day as its four digits, 0000 to 2359

@@ -2,7 +2,7 @@
 use Rattle.std.specs.Prelude.{ℕ, zero, suc, ◌+◌, ◌*◌, ◌<◌, nat_le, if◌then◌else◌, max, Option, None, Some, IfSome, List, [], ◌∷◌, ◌++◌}
 use Rattle.std.specs.List.{flat_map}
 use Rattle.uu_times.specs.declared.days.Simple.{Simple}
-use Rattle.uu_times.specs.Days.{has_day}
+use Rattle.uu_times.specs.Internal.Simples.{has_day}
 
 -- hours end within the day
 abbrev pub IsDaily : Simple → Type 0

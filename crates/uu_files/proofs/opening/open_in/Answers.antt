@@ -1,5 +1,5 @@
-use Rattle.std.proofs.lemmas.Result.{IfErr-weaker, IfOk-weaker}
-use Rattle.uu_files.proofs.Settling.{settled_finds}
+use Rattle.std.proofs.lemmas.Result.{IfOk-weaker}
+use Rattle.uu_files.proofs.Settling.{failed_settled, settled_finds}
 use Rattle.uu_files.proofs.opening.open_in.Goals as goal
 
 pub returns-clause-found : goal.returns-clause-found
@@ -12,4 +12,4 @@ pub returns-clause-cause : goal.returns-clause-cause
 returns-clause-cause g c = λ image settled.
     let files = c.pool_for.new.files in
     let now = c.pool_for.ensures.settled image settled in
-    IfErr-weaker c.open_files_with.result _ _ (λ e leaves clean. (files, now, leaves clean)) c.open_files_with.ensures.unharmed
+    failed_settled image files now c.open_files_with.result c.open_files_with.ensures.cause c.open_files_with.ensures.unharmed

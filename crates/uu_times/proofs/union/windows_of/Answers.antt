@@ -2,7 +2,7 @@ use Rattle.std.proofs.Common.{ℕ, ap, sym, subst, rules, ◌∙◌, ◌≡◌}
 use Rattle.std.specs.List.Sorted.{IsNonDecreasingBy, IsPermutation}
 use Rattle.std.proofs.lemmas.List.Sorted.{IsNonDecreasingBy-from_sort_by_key}
 use Rattle.std.proofs.lemmas.Result.{IfOk-weaker}
-use Rattle.uu_times.specs.Days.{any_has}
+use Rattle.uu_times.specs.Internal.Simples.{any_has}
 use Rattle.uu_times.specs.Ranges.{AreRuns, maximal_runs}
 use Rattle.uu_times.specs.Internal.Union.{week_ranges, merged}
 use Rattle.uu_times.proofs.UnionLemmas.{merged-runs}

@@ -14,7 +14,7 @@ use Rattle.uu_store.proofs.spool.Spool.command.Goals as goal
 pub returns-in-Ok-clause-step : goal.returns-in-Ok-clause-step
 returns-in-Ok-clause-step g c clean s shows =
     let it = rw c.in-Ok.is at ((c.give-answer.ensures.step s).ok clean shows.rests shows.encodes) in
-    (it.0, record { usable = c.if-self.false; rests = it.1; encodes = it.2 })
+    (it.0, record { usable = sym c.is_failed.ensures ∙ c.if-is_failed.false; rests = it.1; encodes = it.2 })
 
 pub returns-in-Ok-clause-stop_ok : goal.returns-in-Ok-clause-stop_ok
 returns-in-Ok-clause-stop_ok g c clean s shows =

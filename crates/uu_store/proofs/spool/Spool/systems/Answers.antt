@@ -1,4 +1,4 @@
-use Rattle.std.proofs.Common.{refl, sym, subst}
+use Rattle.std.proofs.Common.{refl, sym, subst, ◌∙◌}
 use Rattle.sqlite.specs.Held.{state}
 use Rattle.uu_database.specs.Encoded.{Leaves}
 use Rattle.uu_database.proofs.Settling.{leaves}
@@ -15,7 +15,7 @@ returns-in-Err-clause-stop g c clean s shows =
 
 pub returns-in-Ok-clause-ran : goal.returns-in-Ok-clause-ran
 returns-in-Ok-clause-ran g c =
-    ran_answered _ c.args.self.now _ c.systems.new.conn refl (g.met.S.Store.settled c.args.self.now.conn.store) c.in-Ok.answer c.if-self.false (rw c.in-Ok.is at c.systems.ensures.answered)
+    ran_answered _ c.args.self.now _ c.systems.new.conn refl (g.met.S.Store.settled c.args.self.now.conn.store) c.in-Ok.answer (sym c.is_failed.ensures ∙ c.if-is_failed.false) (rw c.in-Ok.is at c.systems.ensures.answered)
 
 pub returns-in-Err-clause-ran : goal.returns-in-Err-clause-ran
 returns-in-Err-clause-ran g c =

@@ -1,0 +1,203 @@
+// When each system can next be called, and for which job.
+ghost use Rattle.std.specs.Prelude.{◌≡◌, ◌+◌, ◌*◌, ◌≤◌, ◌&&◌, nat_le, min, IfOk, All};
+ghost use Rattle.std.specs.List.{list_any};
+ghost use Rattle.uu_times.specs.Moment.{last_second};
+ghost use Rattle.uu_times.specs.Ranges.{holds};
+ghost use Rattle.uu_core.specs.Waiting.{limit_at};
+ghost use Rattle.uu_core.specs.Due.{is_within};
+ghost use Rattle.uu_core.specs.Plain.{AreByName};
+ghost use Rattle.uu_core.specs.NextCalls.{week_at, limit_in, free_from, is_callable, IsLeast, why_at, IsToldOf, AreNextCalls, IsAhead, turn_of, IsFirstOpen};
+
+use crate::job::JobHead;
+use crate::queue::{Sums, sums_by_system};
+use crate::system::{CallState, SystemRow};
+use crate::waiting::{held_at, limit};
+use std::alloc::{AllocError, Global};
+use uu_names::{Grade, SiteName};
+use uu_times::moment::LAST_SECOND;
+use uu_times::{Line, Moment, Zone};
+
+/// How many seconds ahead are looked at: 28 days.
+const LOOKED_AHEAD: u64 = 2_419_200;
+
+/// Why a system is called for a job, or why not now.
+#[derive(Clone, Copy, Debug, PartialEq, Eq)]
+pub enum Why {
+    /// It may be called for the job now.
+    Due,
+    /// It is left alone after a call.
+    Held,
+    /// No time line of it is open.
+    Closed,
+    /// The time lines that are open are for higher grades.
+    Grade,
+}
+
+/// When a system can next be called, and for which job.
+#[derive(Debug, Drop)]
+pub struct NextCall {
+    /// The system.
+    pub system: SiteName,
+    /// The job's grade.
+    pub grade: Grade,
+    /// The job's number.
+    pub number: u32,
+    /// The first of the seconds looked at at which the system may be called for the job, if there is one.
+    pub second: Option<u64>,
+    /// Whether it may be called for the job now, or why not.
+    pub why: Why,
+}
+
+// The minute of the week that the site's clock shows at a second.
+fn week_at(second: u64, zone: &Zone) -> u16
+    requires { second ≤ last_second }
+    ensures { result ≡ week_at zone.now second }
+{
+    Moment::new(second, zone).unwrap().week
+}
+
+// Whether the line is open at the minute of the week, and for this grade.
+fn is_open_for(line: &Line, week: u16, grade: Grade) -> bool
+    ensures { result ≡ (nat_le grade line.now.grade && holds line.now.windows week) }
+{
+    grade <= line.grade && line.windows.contains(week)
+}
+
+// Whether a line is open at the minute of the week, and for this grade.
+fn is_one_open_for(lines: &[Line], week: u16, grade: Grade) -> bool
+    ensures { result ≡ list_any (λ line. nat_le grade line.grade && holds line.windows week) lines.now }
+{
+    lines.iter().any(|line| is_open_for(line, week, grade))
+}
+
+// Whether the limit at the minute of the week reaches this grade.
+fn reaches(lines: &[Line], week: u16, grade: Grade) -> bool
+    ensures { result ≡ is_within (limit_at lines.now week) grade }
+{
+    is_one_open_for(lines, week, grade)
+}
+
+// Whether the system may be called for the grade at a second.
+fn may_be_called(row: &SystemRow, grade: Grade, second: u64, zone: &Zone) -> bool
+    requires { second ≤ last_second }
+    ensures { result ≡ is_within (limit_in zone.now row.now second) grade }
+{
+    !held_at(&row.call, second) && reaches(row.def.lines.as_slice(), week_at(second, zone), grade)
+}
+
+// The first of these minutes, counted from 1970-01-01 00:00 UTC, as whose second 0 the system may be called for the grade.
+fn first_open(row: &SystemRow, grade: Grade, from: u64, end: u64, zone: &Zone) -> Option<u64>
+    requires { 60 * end ≤ last_second + 60 }
+    ensures { IsFirstOpen (λ minute. is_within (limit_in zone.now row.now (60 * minute)) grade) from end result }
+{
+    for minute in from..end {
+        if may_be_called(row, grade, 60 * minute, zone) {
+            return Some(60 * minute);
+        }
+    }
+    None
+}
+
+// When a system that is held at a second is free again; the second itself, where it isn't held.
+fn free_from(call: &CallState, second: u64) -> u64
+    ensures { result ≡ min (free_from call.now second) u64.MAX }
+{
+    if held_at(call, second) {
+        call.last.saturating_add(call.wait)
+    } else {
+        second
+    }
+}
+
+// The first of the seconds looked at at which the system may be called for the grade.
+fn next_second(row: &SystemRow, grade: Grade, now: u64, zone: &Zone) -> Option<u64>
+    requires { now ≤ last_second }
+    ensures { IsLeast (is_callable zone.now row.now grade now) result }
+{
+    if may_be_called(row, grade, now, zone) {
+        return Some(now);
+    }
+    let free = free_from(&row.call, now).min(LAST_SECOND);
+    let last = (free + LOOKED_AHEAD).min(LAST_SECOND);
+    let from = (now / 60 + 1).max(free.div_ceil(60));
+    first_open(row, grade, from, last / 60 + 1, zone)
+}
+
+// Why the system is called for the grade at a second, or why not.
+fn why_at(row: &SystemRow, grade: Grade, second: u64, zone: &Zone) -> Why
+    requires { second ≤ last_second }
+    ensures { result ≡ why_at zone.now row.now grade second }
+{
+    if held_at(&row.call, second) {
+        return Why::Held;
+    }
+    match limit(row.def.lines.as_slice(), week_at(second, zone)) {
+        None => Why::Closed,
+        Some(limit) if grade <= limit => Why::Due,
+        Some(_) => Why::Grade,
+    }
+}
+
+// When a system can next be called, whose jobs come to these sums.
+fn next_call(
+    alloc: Global,
+    row: &SystemRow,
+    sums: &Sums,
+    now: u64,
+    zone: &Zone,
+) -> Result<NextCall, AllocError>
+    requires { now ≤ last_second }
+    ensures told { IfOk result (IsToldOf zone.now row.now now) }
+    ensures grade { IfOk result (λ call. call.grade ≡ sums.now.grade) }
+    ensures number { IfOk result (λ call. call.number ≡ sums.now.number) }
+{
+    Ok(NextCall {
+        system: row.def.name.clone()?,
+        grade: sums.grade,
+        number: sums.number,
+        second: next_second(row, sums.grade, now, zone),
+        why: why_at(row, sums.grade, now, zone),
+    })
+}
+
+// What the calls are ordered by: the second, then the job's grade and number. Those that never come are all last.
+fn turn(call: &NextCall) -> (u64, u8, u32)
+    ensures { result ≡ turn_of call.now }
+{
+    match call.second {
+        Some(second) => (second, call.grade.rank(), call.number),
+        None => (u64::MAX, 0, 0),
+    }
+}
+
+/// When each system that has a job can next be called from the second `now` on, for the first of its jobs by grade and number, and
+/// why it isn't called now.
+///
+/// The seconds looked at are `now` and each later one that is a whole minute of UTC, up to 28 days after it or, where
+/// the system is held at `now`, after the end of its wait; none past the last moment. The calls stand by their seconds, then by
+/// grade and number; last are the systems that can't be called at any of these seconds, by the bytes of their names.
+///
+/// For systems that stand by the bytes of their names, no two of one name, as in every spool. Takes a look-up for each job and
+/// system, one sort, and for each system that can't be called at once a look at its time lines for each minute up to then.
+pub fn next_calls(
+    alloc: Global,
+    rows: &[SystemRow],
+    jobs: &[JobHead],
+    now: u64,
+    zone: &Zone,
+) -> Result<Vec<NextCall>, AllocError>
+    requires { now ≤ last_second }
+    ensures calls { IfOk result (λ calls. AreByName (λ row. row.def.name) rows.now → AreNextCalls zone.now rows.now jobs.now now calls.items) }
+    ensures ahead { IfOk result (λ calls. All (IsAhead now) calls.items) }
+{
+    let by_system = sums_by_system(alloc, jobs)?;
+    let mut calls = Vec::new(alloc);
+    for row in rows {
+        if let Some(sums) = by_system.get(&row.def.name) {
+            calls.push(next_call(alloc, row, sums, now, zone)?)?;
+        }
+    }
+    // The sort is stable, so that those that never come stay in the order of the names.
+    calls.sort_by_key(|call| turn(call))?;
+    Ok(calls)
+}
