@@ -1,9 +1,9 @@
 # uuspool: the job spool of a UUCP site, with its proofs.
 #
 #   make            proves what the program stands on and leaves it at build/uuspool
-#   make first-run  the main job on a real file, killed inside a write and reopened
+#   make first-run  the main job on a real file, killed inside a write and reopened; sends with too little memory
 #   make test       the gate: every proof from nothing, every test, every run, the worked lines of tests/, streams that fail, openings and
-#                   batches that are killed, files that are damaged, memory that is refused, and the desk
+#                   batches that are killed, files that are damaged, and the desk
 #   make bench      what calls of the spool cost over a real file
 #   make install    build/uuspool, the desk and what stands behind mailers, man pages and examples below $(DESTDIR)$(PREFIX)
 #   make clean      removes build/ and the kept work of every crate
@@ -22,6 +22,7 @@ build:
 
 first-run: build
 	@scripts/first-run build/uuspool
+	@scripts/short-memory build/uuspool
 
 bench: build
 	@scripts/bench
@@ -34,7 +35,6 @@ test:
 	@scripts/migration-stops
 	@scripts/batch-stops
 	@scripts/damaged-files
-	@scripts/refused-memory
 	@scripts/desk-test
 
 install: build
