@@ -1,5 +1,5 @@
 #!/usr/bin/env python3
-"""What the scripts of `make bench` share: spools with many jobs, and times of processes."""
+"""What the scripts of `make bench` share: spools with many jobs, batches, and times of processes."""
 
 import os
 import shutil
@@ -62,5 +62,55 @@ def seconds(words, given=b""):
     return taken
 
 
+def processor_of(words):
+    """The seconds of the processor that a process takes, with no input and its output thrown away."""
+    process = subprocess.Popen(words, stdin=subprocess.DEVNULL, stdout=subprocess.DEVNULL)
+    _, status, used = os.wait4(process.pid, 0)
+    process.returncode = os.waitstatus_to_exitcode(status)
+    if status:
+        ended(f"{' '.join(map(str, words))} ended with {process.returncode}")
+    return used.ru_utime + used.ru_stime
+
+
 def median_ms(times):
     return statistics.median(times) * 1000
+
+
+class Batch:
+    """A batch that is asked one request after the other."""
+
+    def __init__(self, program):
+        self.spool = subprocess.Popen([program, "batch"], stdin=subprocess.PIPE, stdout=subprocess.PIPE)
+
+    def ask(self, words, given=b""):
+        self.spool.stdin.write(b"%d %s\n" % (len(given), words) + given)
+        self.spool.stdin.flush()
+        status, *counts = self.spool.stdout.readline().split()
+        output, errors = [self.spool.stdout.read(int(count)) for count in counts]
+        if status != b"0":
+            ended(f"{words} was answered {output + errors}")
+        return output
+
+    def mean(self, words, given, times):
+        """The mean time of so many of these requests, in milliseconds."""
+        begun = time.perf_counter()
+        for _ in range(times):
+            self.ask(words, given)
+        return (time.perf_counter() - begun) * 1000 / times
+
+    def memory(self):
+        """The most memory that the process has had so far, in MiB."""
+        with open(f"/proc/{self.spool.pid}/status", encoding="ascii") as lines:
+            return next(int(line.split()[1]) for line in lines if line.startswith("VmHWM")) / 1024
+
+    def processor(self):
+        """The seconds of the processor that it has taken so far."""
+        with open(f"/proc/{self.spool.pid}/stat", encoding="ascii") as line:
+            fields = line.read().rpartition(")")[2].split()
+        return (int(fields[11]) + int(fields[12])) / os.sysconf("SC_CLK_TCK")
+
+    def close(self):
+        self.spool.stdin.close()
+        self.spool.stdout.close()
+        if self.spool.wait():
+            ended("the batch failed")
