@@ -149,7 +149,7 @@ systems_to rows good rise =
     let c : walk owns_range fits_line (map line_columns lines) (flat_map ranges_of lines) ≡ true = walked owns_range fits_line line_columns ranges_of line.IsGoodLine line.line_fits line.ranges_own lines (all_flat line.IsGoodLine _ placed good_lines rows good) apart_lines in
     let waits_apart = weaker_pairs Before (Apart owns_wait fits_wait system_columns waits_of Few) (λ x y before. wait.wait_owned (system_columns x) y.def.name y.def.success_wait false (text_not x.def.name y.def.name before)) rows rise in
     let d : walk owns_wait fits_wait (map system_columns rows) (flat_map waits_of rows) ≡ true = walked owns_wait fits_wait system_columns waits_of Few (λ x few. wait.wait_fits x.def.name (system_columns x) x.def.success_wait few)
-        (λ x. wait.wait_owned (system_columns x) x.def.name x.def.success_wait true (text_to x.def.name)) rows (weaker _ Few (λ row g. g.0.limits.3) rows good) waits_apart in
+    (λ x. wait.wait_owned (system_columns x) x.def.name x.def.success_wait true (text_to x.def.name)) rows (weaker _ Few (λ row g. g.0.limits.3) rows good) waits_apart in
     rw (a, b, c, d) refl
 
 -- ---- jobs

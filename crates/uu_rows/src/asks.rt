@@ -49,5 +49,8 @@ pub fn ask_waits<S: Alter>(conn: &mut Connection<S>) -> Result<Vec<Row>, Error>
     ensures shows { Shows waits_text [] (state S.Store conn.old) (state S.Store conn.new) result }
     ensures spares { Spares (state S.Store conn.old) (state S.Store conn.new) result }
 {
-    conn.query_all("SELECT system, wait FROM success_waits ORDER BY system", &[])
+    conn.query_all(
+        "SELECT system, wait FROM success_waits ORDER BY system",
+        &[],
+    )
 }

@@ -69,7 +69,9 @@ fn nightly_commands(rt: &impl Abort, alloc: Global) -> Vec<uu_store::Command> {
         Order::Failed("duke", MONDAY),
         Order::Remove("duke"),
     ] {
-        commands.push(command(rt, alloc, order)).expect(rt, "memory");
+        commands
+            .push(command(rt, alloc, order))
+            .expect(rt, "memory");
     }
     commands
 }

@@ -56,10 +56,7 @@ fn found_next(rows: &[Row], wanted: Version) -> Result<Option<u32>, Error>
 
 /// The next number, of the one row of the table `spool`. None, where the table has not this one row with this version and a number of
 /// 32 bits.
-pub fn take_next<S: Alter>(
-    conn: &mut Connection<S>,
-    version: Version,
-) -> Result<Option<u32>, Error>
+pub fn take_next<S: Alter>(conn: &mut Connection<S>, version: Version) -> Result<Option<u32>, Error>
     ensures idle { conn.old.in_transaction ≡ false → conn.new.in_transaction ≡ false }
     ensures takes { Takes version (λ trees found. MatchOption found ((next : ℕ) → IsSmall next → trees spool.tree ≢ spool_row_of version next ∷ []) (λ next. trees spool.tree ≡ spool_row_of version next ∷ [])) (state S.Store conn.old) (state S.Store conn.new) result }
     ensures refused { HasCleanDisk (state S.Store conn.new) → IfErr result (IsRefused spool_text [] (state S.Store conn.old) (state S.Store conn.new)) }

@@ -18,11 +18,11 @@ use crate::asks::{
 use crate::integer::Integer;
 use sqlite::{Alter, Connection, Error, Row};
 use std::alloc::Global;
-use uu_rows::{RowFault, TypedRow, ask_lines, ask_ranges, ask_systems, ask_waits, or_none, read_all};
-use uu_schema::Version;
-use uu_tables::{
-    EntryColumns, LineColumns, PieceSize, RangeColumns, SystemColumns, WaitColumns,
+use uu_rows::{
+    RowFault, TypedRow, ask_lines, ask_ranges, ask_systems, ask_waits, or_none, read_all,
 };
+use uu_schema::Version;
+use uu_tables::{EntryColumns, LineColumns, PieceSize, RangeColumns, SystemColumns, WaitColumns};
 
 // Whether each rowid is below the next.
 fn rises(ids: &[Integer]) -> bool

@@ -11,7 +11,7 @@ returns-clause-alive g c clean alive =
       | in-Err-SqlInputError w ↦
           let e = w.in-Err-SqlInputError in
           let same = refused_by_name (state g.S.Store c.args.conn.now) (state g.S.Store c.prepare.new.self) _ [] e.field-0-0
-              (subst (λ x. IsNotRun (state g.S.Store c.args.conn.now) (state g.S.Store c.prepare.new.self) _ [] x) e.field-0-is (e.ensures.err clean [])) in
+          (subst (λ x. IsNotRun (state g.S.Store c.args.conn.now) (state g.S.Store c.prepare.new.self) _ [] x) e.field-0-is (e.ensures.err clean [])) in
           (same.0.was_open, same)
       | in_default w ↦ let no = sym alive ∙ w.matches-is in absurd (cc)
       | in_default-2 w ↦ let no = sym alive ∙ w.matches-is in absurd (cc)

@@ -18,9 +18,7 @@ use crate::facts::Facts;
 use crate::rows::{CALL_FAILED, CALL_MADE, CallColumns, NEVER_CALLED};
 use std::alloc::{AllocError, Global};
 use uu_core::laws::named_jobs_decide;
-use uu_core::{
-    CallState, JobHead, Outcome, Refusal, Reply, SystemRow, decide_done, decide_failed,
-};
+use uu_core::{CallState, JobHead, Outcome, Refusal, Reply, SystemRow, decide_done, decide_failed};
 use uu_names::{SiteName, Word};
 use uu_times::Moment;
 
@@ -122,7 +120,13 @@ pub(crate) fn plan_done<'a>(
 ) -> Result<Plan<'a>, AllocError>
     ensures { (s : State) → IsWellFormed s → AreFacts facts.now s (Done system.now at.now jobs.now) → IfOk result (IsPlan s (Done system.now at.now jobs.now)) }
 {
-    match done_call(facts.system.as_ref(), facts.found.as_slice(), system, at, jobs) {
+    match done_call(
+        facts.system.as_ref(),
+        facts.found.as_slice(),
+        system,
+        at,
+        jobs,
+    ) {
         Ok(call) => {
             let call = call_columns(call);
             let mut changes = vec![in alloc; Change::SetCall { system, call }]?;

@@ -16,9 +16,9 @@ pub returns-in-Err-clause-named : goal.returns-in-Err-clause-named
 returns-in-Err-clause-named g c = subst (IsNamed (image_at g.T.Start) c.opening_fault.result) (sym c.of_opening.ensures)
     (named_of_opening (image_at g.T.Start) c.in-Err.left c.in-Err.error c.opening_fault.result c.opening_fault.ensures.named c.opening_fault.ensures.kind c.in-Err.ensures.unopened
     (some_weaker c.in-Err.left (λ it cause clean which is.
-        let (files, settled, fails, leaves) = cause clean in
-        opening_cause _ files g.T.Start.log g.T.Start.db settled.log_shows settled.db_shows it c.in-Err.error which (c.opening_fault.ensures.kind which is)
-        (λ memory. let told = c.opening_fault.ensures.memory memory in cc) fails) c.in-Err.ensures.cause))
+    let (files, settled, fails, leaves) = cause clean in
+    opening_cause _ files g.T.Start.log g.T.Start.db settled.log_shows settled.db_shows it c.in-Err.error which (c.opening_fault.ensures.kind which is)
+    (λ memory. let told = c.opening_fault.ensures.memory memory in cc) fails) c.in-Err.ensures.cause))
 
 pub returns-in-Err-clause-left : goal.returns-in-Err-clause-left
 returns-in-Err-clause-left g c = subst (LeavesAsKept (image_at g.T.Start)) (sym c.of_opening.ensures) (left_of_opening (image_at g.T.Start) c.in-Err.left (some_weaker c.in-Err.left (λ it cause clean taken s keeps.
