@@ -62,14 +62,21 @@ def seconds(words, given=b""):
     return taken
 
 
-def processor_of(words):
-    """The seconds of the processor that a process takes, with no input and its output thrown away."""
-    process = subprocess.Popen(words, stdin=subprocess.DEVNULL, stdout=subprocess.DEVNULL)
+def taken(words, given=subprocess.DEVNULL, **where):
+    """The seconds of a process from its start to its end, and those of the processor, of it and of what it waited for; its output is thrown away."""
+    begun = time.perf_counter()
+    process = subprocess.Popen(words, stdin=given, stdout=subprocess.DEVNULL, **where)
     _, status, used = os.wait4(process.pid, 0)
+    wall = time.perf_counter() - begun
     process.returncode = os.waitstatus_to_exitcode(status)
     if status:
         ended(f"{' '.join(map(str, words))} ended with {process.returncode}")
-    return used.ru_utime + used.ru_stime
+    return wall, used.ru_utime + used.ru_stime
+
+
+def processor_of(words):
+    """The seconds of the processor that a process takes, with no input."""
+    return taken(words)[1]
 
 
 def median_ms(times):
