@@ -2,7 +2,7 @@
 #
 #   make            proves what the program stands on and leaves it at build/uuspool
 #   make first-run  the main job on a real file, killed inside a write and reopened; sends with too little memory
-#   make test       the gate: every proof from nothing, every test, every run, the worked lines of tests/, streams that fail, and batches that are killed
+#   make test       the gate: every proof from nothing, every test, every run, the worked lines of tests/, streams that fail, what `when` says beside `due`, and batches that are killed
 #   make bench      what calls of the spool cost over a real file
 #   make install    build/uuspool, its man page and the example of its settings below $(DESTDIR)$(PREFIX)
 #   make clean      removes build/ and the kept work of every crate
@@ -31,6 +31,7 @@ test:
 	@lanes=$$(scripts/lanes) && RT_JOBS=$$lanes rt ci
 	@scripts/transcripts
 	@scripts/failing-streams
+	@scripts/next-calls
 	@scripts/batch-stops
 
 install: build

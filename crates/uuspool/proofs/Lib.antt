@@ -6,6 +6,8 @@ pub mod EndLemmas
 pub mod FaultExamples
 pub mod FaultLemmas
 pub mod LineLemmas
+pub mod PairLemmas
 pub mod ServedLemmas
 pub mod ServesLemmas
 pub mod SessionLemmas
+pub mod SumLemmas
