@@ -66,12 +66,7 @@ fn time_text(
 }
 
 // In how many seconds a call comes, and at which moment.
-fn coming_text(
-    alloc: Global,
-    second: u64,
-    now: u64,
-    zone: &Zone,
-) -> Result<String, AllocError>
+fn coming_text(alloc: Global, second: u64, now: u64, zone: &Zone) -> Result<String, AllocError>
     requires from { now ≤ second }
     requires in_range { second ≤ LAST_SECOND }
     ensures { IfOk result (λ text. IsTimeText zone.now now (Some second) (string_bytes text)) }
