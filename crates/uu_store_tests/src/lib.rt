@@ -14,8 +14,6 @@ mod files;
 #[cfg(test)]
 mod handing_over;
 #[cfg(test)]
-mod kinds;
-#[cfg(test)]
 mod listing;
 #[cfg(test)]
 mod migrating;
