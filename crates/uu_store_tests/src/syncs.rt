@@ -12,6 +12,7 @@ fn file_of(alloc: Global, calls: u64) -> SyncWhenDirty<Fuse<Memory>> {
 /// Three of these seven calls reach the file behind, which answers three: a sync of a file that nobody called synced, a write, and the sync behind that.
 fn expect_three_calls(rt: &impl Abort, alloc: Global) {
     let mut file = file_of(alloc, 3);
+    assert!(rt; file.may_be_used(), "a sync of this file has failed");
     assert!(rt; file.sync().is_ok(), "the first sync");
     assert!(rt; file.sync().is_ok(), "a sync with nothing to sync");
     assert!(rt; file.write_at(0, b"x").is_ok(), "a write");
@@ -24,6 +25,7 @@ fn expect_three_calls(rt: &impl Abort, alloc: Global) {
 /// The same of a change of the length.
 fn expect_cut_is_synced(rt: &impl Abort, alloc: Global) {
     let mut file = file_of(alloc, 2);
+    assert!(rt; file.may_be_used(), "a sync of this file has failed");
     assert!(rt; file.sync().is_ok(), "the first sync");
     assert!(rt; file.set_len(8).is_ok(), "a change of the length");
     assert!(rt; file.sync().is_err(), "the sync behind it is left out");
