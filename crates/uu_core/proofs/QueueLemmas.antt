@@ -151,7 +151,7 @@ of_map jobs queues m ordered sums same = record {
       let count : length (map name_of queues) ≡ length queues = length-map queues name_of in
       let less = Less-from_sorted (slice_cmp nat_cmp) (map name_of queues) i j d.system (subst (IsStrictlySortedBy (slice_cmp nat_cmp)) names ordered) below (omega arith) in
       subst (λ (b : List ℕ). slice_cmp nat_cmp (get_or queues i d).system b ≡ Less) (map_at name_of queues j d.system d within)
-      (subst (λ (a : List ℕ). slice_cmp nat_cmp a (get_or (map name_of queues) j d.system) ≡ Less) (map_at name_of queues i d.system d (omega arith)) less);
+          (subst (λ (a : List ℕ). slice_cmp nat_cmp a (get_or (map name_of queues) j d.system) ≡ Less) (map_at name_of queues i d.system d (omega arith)) less);
 }
   where
     names : map (λ (e : List ℕ × Sums). e.0) m.entries ≡ map name_of queues

@@ -29,9 +29,12 @@ natural (negsuc n) = 0
 unfoldable pub week_at : Zone → ℕ → ℕ
 week_at zone second = natural (week_minute (local_second zone second))
 
--- the lowest grade for which the system may be called at the second, if it may
+-- the lowest grade for which the system may be called at the second, which is in this minute of the week, if it may
+abbrev pub limit_by : SystemRow → ℕ → ℕ → Option ℕ
+limit_by row second week = if is_held row.call second then None else limit_at row.def.lines week
+
 abbrev pub limit_in : Zone → SystemRow → ℕ → Option ℕ
-limit_in zone row second = if is_held row.call second then None else limit_at row.def.lines (week_at zone second)
+limit_in zone row second = limit_by row second (week_at zone second)
 
 -- ---- the seconds looked at
 
@@ -68,9 +71,11 @@ why_limited (Some limit) grade = if nat_le grade limit then why.Due else why.Gra
 
 -- why the system is called for the grade at the second, or isn't: it is left alone after a call, or no time line is open, or those that are open
 -- are for higher grades
+abbrev pub why_by : SystemRow → ℕ → ℕ → ℕ → Why
+why_by row grade second week = if is_held row.call second then why.Held else why_limited (limit_at row.def.lines week) grade
+
 abbrev pub why_at : Zone → SystemRow → ℕ → ℕ → Why
-why_at zone row grade second =
-    if is_held row.call second then why.Held else why_limited (limit_at row.def.lines (week_at zone second)) grade
+why_at zone row grade second = why_by row grade second (week_at zone second)
 
 -- when a system that has a job can next be called for the first of its jobs. If it may be called for any of them, it may for that one.
 pub record IsNextCall (zone : Zone) (rows : List SystemRow) (jobs : List JobHead) (now : ℕ) (next : NextCall) : Type 0 where

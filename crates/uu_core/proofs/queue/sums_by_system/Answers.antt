@@ -34,7 +34,7 @@ loop-job-preserved c =
     let copy : c.in_ok-clone.field-0 ≡ job.system = c.in_ok-clone.ensures.cases in
     let found : c.copied.result ≡ get (slice_cmp nat_cmp) map job.system = c.copied.ensures ∙ c.get.ensures.value in
     let new = λ (name : List ℕ). c.in_ok-insert.ensures.updates.0 name
-    ∙ ap (λ t. cond t (Some c.match-copied.sums) (get (slice_cmp nat_cmp) map name)) (ap (λ (k : List ℕ). is_at (slice_cmp nat_cmp k) name) copy ∙ sym (texts_ties job.system name)) in
+        ∙ ap (λ t. cond t (Some c.match-copied.sums) (get (slice_cmp nat_cmp) map name)) (ap (λ (k : List ℕ). is_at (slice_cmp nat_cmp k) name) copy ∙ sym (texts_ties job.system name)) in
     elim c.match-copied.branch [
       | in-Some w ↦
           let old : get (slice_cmp nat_cmp) map job.system ≡ Some w.in-Some.sums = sym found ∙ w.in-Some.is in
