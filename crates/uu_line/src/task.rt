@@ -87,6 +87,17 @@ pub enum Task {
     },
     /// `due`: reports which systems may be called now, each with its next job.
     Due,
+    /// `when [-s SYSTEM]`: reports when each system that has a job can next be called, or when this one can, for which job, and why
+    /// not now.
+    When {
+        /// Whose jobs.
+        filter: Filter,
+    },
+    /// `queues [-s SYSTEM]`: reports what the jobs of each system come to, or those of this one.
+    Queues {
+        /// Whose jobs.
+        filter: Filter,
+    },
     /// `status`: reports the systems and how their calls went.
     Status,
     /// `failed SYSTEM WHY`: notes a call that failed.
@@ -128,6 +139,8 @@ impl Task {
             | Task::Regrade { .. }
             | Task::Rejuvenate { .. }
             | Task::Due
+            | Task::When { .. }
+            | Task::Queues { .. }
             | Task::Status
             | Task::Failed { .. }
             | Task::Done { .. }
