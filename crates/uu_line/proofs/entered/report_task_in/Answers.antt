@@ -1,7 +1,7 @@
 use Rattle.std.proofs.Common.{◌≡◌, drop, inl, inr, refl}
 use Rattle.clap.specs.Words.{first_of, found_of, rows_of}
 use Rattle.std.specs.Prelude.{codes}
-use Rattle.uu_line.specs.Entries.{subcommands}
+use Rattle.uu_line.specs.Internal.Entries.{subcommands}
 use Rattle.uu_line.specs.Lines.{MeansTask, queues_task, when_task}
 use Rattle.uu_line.proofs.LineLemmas.{found_later, task_meant}
 use Rattle.uu_line.proofs.entered.report_task_in.Goals as goal
