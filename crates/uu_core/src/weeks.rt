@@ -6,8 +6,13 @@ ghost use Rattle.uu_core.specs.NextCalls.{week_at};
 use std::alloc::{AllocError, Global};
 use uu_times::{Moment, Zone};
 
+/// The most minutes whose answers are kept: the longest wait after a call, which is a year, and the
+/// 28 days that are looked at after it.
+const MOST_KEPT: u64 = 525_600 + 40_320;
+
 /// The minutes of the week at minutes of UTC, which are counted from 1970-01-01 00:00 on. The clock
-/// is asked once for each.
+/// is asked once for each of the first `MOST_KEPT`, and each time for a later one, which is looked at
+/// only where the clock was set back.
 #[derive(Drop)]
 pub(crate) struct Weeks<'a> {
     /// The site's clock.
@@ -39,6 +44,9 @@ impl<'a> Weeks<'a> {
         ensures zone { self.new.zone ≡ self.old.zone }
         ensures first { self.new.first ≡ self.old.first }
     {
+        if minute - self.first >= MOST_KEPT {
+            return Ok(moment_at(60 * minute, self.zone).week);
+        }
         let place = (minute - self.first) as usize;
         for known in self.weeks.len()..place + 1 {
             let at = moment_at(60 * (self.first + known as u64), self.zone);
