@@ -2,8 +2,8 @@
 #
 #   make            proves what the program stands on and leaves it at build/uuspool
 #   make first-run  the main job on a real file, killed inside a write and reopened; sends with too little memory
-#   make test       the gate: every proof from nothing, every test, every run, the worked lines of tests/, streams that fail, syncs counted, openings
-#                   and batches that are killed, files that are damaged, and the desk
+#   make test       the gate: every proof from nothing, every test, every run, the worked lines of tests/, what `when` says beside `due`, streams that
+#                   fail, syncs counted, openings and batches that are killed, files that are damaged, and the desk
 #   make bench      what calls of the spool cost over a real file
 #   make install    build/uuspool, the desk and what stands behind mailers, man pages and examples below $(DESTDIR)$(PREFIX)
 #   make clean      removes build/ and the kept work of every crate
@@ -31,6 +31,7 @@ test:
 	@scripts/check-tree
 	@lanes=$$(scripts/lanes) && RT_JOBS=$$lanes rt ci
 	@scripts/transcripts
+	@scripts/next-calls
 	@scripts/failing-streams
 	@scripts/syncs
 	@scripts/migration-stops

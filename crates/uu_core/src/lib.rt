@@ -17,6 +17,7 @@ mod refusal;
 mod sound;
 mod system;
 mod waiting;
+mod weeks;
 
 pub use command::{Command, Reply};
 pub use decide::{decide_done, decide_drop, decide_failed, decide_job, decide_queue};

@@ -1,17 +1,18 @@
 // When each system can next be called, and for which job.
-ghost use Rattle.std.specs.Prelude.{◌≡◌, ◌+◌, ◌*◌, ◌≤◌, ◌&&◌, nat_le, min, IfOk, All};
+ghost use Rattle.std.specs.Prelude.{◌≡◌, ◌+◌, ◌*◌, ◌≤◌, ◌/◌, ◌&&◌, nat_le, min, IfOk, All};
 ghost use Rattle.std.specs.List.{list_any};
 ghost use Rattle.uu_times.specs.Moment.{last_second};
 ghost use Rattle.uu_times.specs.Ranges.{holds};
 ghost use Rattle.uu_core.specs.Waiting.{limit_at};
 ghost use Rattle.uu_core.specs.Due.{is_within};
 ghost use Rattle.uu_core.specs.Plain.{AreByName};
-ghost use Rattle.uu_core.specs.NextCalls.{week_at, limit_in, free_from, is_callable, IsLeast, why_at, IsToldOf, AreNextCalls, IsAhead, turn_of, IsFirstOpen};
+ghost use Rattle.uu_core.specs.NextCalls.{week_at, limit_by, limit_in, free_from, is_callable, IsLeast, why_by, IsToldOf, AreNextCalls, IsAhead, turn_of, IsFirstOpen};
 
 use crate::job::JobHead;
 use crate::queue::{Sums, sums_by_system};
 use crate::system::{CallState, SystemRow};
-use crate::waiting::{held_at, limit};
+use crate::waiting::{held, held_at, limit};
+use crate::weeks::{Weeks, moment_at};
 use std::alloc::{AllocError, Global};
 use uu_names::{Grade, SiteName};
 use uu_times::moment::LAST_SECOND;
@@ -42,18 +43,11 @@ pub struct NextCall {
     pub grade: Grade,
     /// The job's number.
     pub number: u32,
-    /// The first of the seconds looked at at which the system may be called for the job, if there is one.
+    /// The first of the seconds looked at at which the system may be called for the job, if there
+    /// is one.
     pub second: Option<u64>,
     /// Whether it may be called for the job now, or why not.
     pub why: Why,
-}
-
-// The minute of the week that the site's clock shows at a second.
-fn week_at(second: u64, zone: &Zone) -> u16
-    requires { second ≤ last_second }
-    ensures { result ≡ week_at zone.now second }
-{
-    Moment::new(second, zone).unwrap().week
 }
 
 // Whether the line is open at the minute of the week, and for this grade.
@@ -77,25 +71,35 @@ fn reaches(lines: &[Line], week: u16, grade: Grade) -> bool
     is_one_open_for(lines, week, grade)
 }
 
-// Whether the system may be called for the grade at a second.
-fn may_be_called(row: &SystemRow, grade: Grade, second: u64, zone: &Zone) -> bool
-    requires { second ≤ last_second }
-    ensures { result ≡ is_within (limit_in zone.now row.now second) grade }
+// Whether the system may be called for the grade at a second, which is in this minute of the week.
+fn may_be_called(row: &SystemRow, grade: Grade, second: u64, week: u16) -> bool
+    ensures { result ≡ is_within (limit_by row.now second week) grade }
 {
-    !held_at(&row.call, second) && reaches(row.def.lines.as_slice(), week_at(second, zone), grade)
+    !held_at(&row.call, second) && reaches(row.def.lines.as_slice(), week, grade)
 }
 
-// The first of these minutes, counted from 1970-01-01 00:00 UTC, as whose second 0 the system may be called for the grade.
-fn first_open(row: &SystemRow, grade: Grade, from: u64, end: u64, zone: &Zone) -> Option<u64>
-    requires { 60 * end ≤ last_second + 60 }
-    ensures { IsFirstOpen (λ minute. is_within (limit_in zone.now row.now (60 * minute)) grade) from end result }
+// The first of these minutes, counted from 1970-01-01 00:00 UTC, as whose second 0 the system may
+// be called for the grade.
+fn first_open(
+    row: &SystemRow,
+    grade: Grade,
+    from: u64,
+    end: u64,
+    weeks: &mut Weeks<'_>,
+) -> Result<Option<u64>, AllocError>
+    requires first { weeks.old.first ≤ from }
+    requires in_range { 60 * end ≤ last_second + 60 }
+    ensures open { IfOk result (IsFirstOpen (λ minute. is_within (limit_in weeks.old.zone.now row.now (60 * minute)) grade) from end) }
+    ensures zone { weeks.new.zone ≡ weeks.old.zone }
+    ensures first { weeks.new.first ≡ weeks.old.first }
 {
     for minute in from..end {
-        if may_be_called(row, grade, 60 * minute, zone) {
-            return Some(60 * minute);
+        let week = weeks.at(minute)?;
+        if may_be_called(row, grade, 60 * minute, week) {
+            return Ok(Some(60 * minute));
         }
     }
-    None
+    Ok(None)
 }
 
 // When a system that is held at a second is free again; the second itself, where it isn't held.
@@ -110,28 +114,36 @@ fn free_from(call: &CallState, second: u64) -> u64
 }
 
 // The first of the seconds looked at at which the system may be called for the grade.
-fn next_second(row: &SystemRow, grade: Grade, now: u64, zone: &Zone) -> Option<u64>
-    requires { now ≤ last_second }
-    ensures { IsLeast (is_callable zone.now row.now grade now) result }
+fn next_second(
+    row: &SystemRow,
+    grade: Grade,
+    at: &Moment,
+    weeks: &mut Weeks<'_>,
+) -> Result<Option<u64>, AllocError>
+    requires week { at.now.week ≡ week_at weeks.old.zone.now at.now.second }
+    requires first { weeks.old.first ≤ at.now.second / 60 + 1 }
+    ensures second { IfOk result (IsLeast (is_callable weeks.old.zone.now row.now grade at.now.second)) }
+    ensures zone { weeks.new.zone ≡ weeks.old.zone }
+    ensures first { weeks.new.first ≡ weeks.old.first }
 {
-    if may_be_called(row, grade, now, zone) {
-        return Some(now);
+    let now = at.second;
+    if may_be_called(row, grade, now, at.week) {
+        return Ok(Some(now));
     }
     let free = free_from(&row.call, now).min(LAST_SECOND);
     let last = (free + LOOKED_AHEAD).min(LAST_SECOND);
     let from = (now / 60 + 1).max(free.div_ceil(60));
-    first_open(row, grade, from, last / 60 + 1, zone)
+    first_open(row, grade, from, last / 60 + 1, weeks)
 }
 
-// Why the system is called for the grade at a second, or why not.
-fn why_at(row: &SystemRow, grade: Grade, second: u64, zone: &Zone) -> Why
-    requires { second ≤ last_second }
-    ensures { result ≡ why_at zone.now row.now grade second }
+// Why the system is called for the grade at a moment, or why not.
+fn why_at(row: &SystemRow, grade: Grade, at: &Moment) -> Why
+    ensures { result ≡ why_by row.now grade at.now.second at.now.week }
 {
-    if held_at(&row.call, second) {
+    if held(&row.call, at) {
         return Why::Held;
     }
-    match limit(row.def.lines.as_slice(), week_at(second, zone)) {
+    match limit(row.def.lines.as_slice(), at.week) {
         None => Why::Closed,
         Some(limit) if grade <= limit => Why::Due,
         Some(_) => Why::Grade,
@@ -143,24 +155,30 @@ fn next_call(
     alloc: Global,
     row: &SystemRow,
     sums: &Sums,
-    now: u64,
-    zone: &Zone,
+    at: &Moment,
+    weeks: &mut Weeks<'_>,
 ) -> Result<NextCall, AllocError>
-    requires { now ≤ last_second }
-    ensures told { IfOk result (IsToldOf zone.now row.now now) }
+    requires week { at.now.week ≡ week_at weeks.old.zone.now at.now.second }
+    requires first { weeks.old.first ≤ at.now.second / 60 + 1 }
+    ensures told { IfOk result (IsToldOf weeks.old.zone.now row.now at.now.second) }
     ensures grade { IfOk result (λ call. call.grade ≡ sums.now.grade) }
     ensures number { IfOk result (λ call. call.number ≡ sums.now.number) }
+    ensures zone { weeks.new.zone ≡ weeks.old.zone }
+    ensures first { weeks.new.first ≡ weeks.old.first }
 {
+    let system = row.def.name.clone()?;
+    let second = next_second(row, sums.grade, at, weeks)?;
     Ok(NextCall {
-        system: row.def.name.clone()?,
+        system,
         grade: sums.grade,
         number: sums.number,
-        second: next_second(row, sums.grade, now, zone),
-        why: why_at(row, sums.grade, now, zone),
+        second,
+        why: why_at(row, sums.grade, at),
     })
 }
 
-// What the calls are ordered by: the second, then the job's grade and number. Those that never come are all last.
+// What the calls are ordered by: the second, then the job's grade and number. Those that never come
+// are all last.
 fn turn(call: &NextCall) -> (u64, u8, u32)
     ensures { result ≡ turn_of call.now }
 {
@@ -170,15 +188,18 @@ fn turn(call: &NextCall) -> (u64, u8, u32)
     }
 }
 
-/// When each system that has a job can next be called from the second `now` on, for the first of its jobs by grade and number, and
-/// why it isn't called now.
+/// When each system that has a job can next be called from the second `now` on, for the first of
+/// its jobs by grade and number, and why it isn't called now.
 ///
-/// The seconds looked at are `now` and each later one that is a whole minute of UTC, up to 28 days after it or, where
-/// the system is held at `now`, after the end of its wait; none past the last moment. The calls stand by their seconds, then by
-/// grade and number; last are the systems that can't be called at any of these seconds, by the bytes of their names.
+/// The seconds looked at are `now` and each later one that is a whole minute of UTC, up to 28 days
+/// after it or, where the system is held at `now`, after the end of its wait; none past the last
+/// moment. The calls stand by their seconds, then by grade and number; last are the systems that
+/// can't be called at any of these seconds, by the bytes of their names.
 ///
-/// For systems that stand by the bytes of their names, no two of one name, as in every spool. Takes a look-up for each job and
-/// system, one sort, and for each system that can't be called at once a look at its time lines for each minute up to then.
+/// For systems that stand by the bytes of their names, no two of one name, as in every spool. Takes
+/// a look-up for each job and system, one sort, and for each system that can't be called at once a
+/// look at its time lines for each minute up to then. The clock is asked once for each minute from
+/// `now` to the last one that is looked at, and two bytes are kept of its answer.
 pub fn next_calls(
     alloc: Global,
     rows: &[SystemRow],
@@ -191,10 +212,12 @@ pub fn next_calls(
     ensures ahead { IfOk result (λ calls. All (IsAhead now) calls.items) }
 {
     let by_system = sums_by_system(alloc, jobs)?;
+    let at = moment_at(now, zone);
+    let mut weeks = Weeks::from_minute(alloc, zone, now / 60 + 1);
     let mut calls = Vec::new(alloc);
     for row in rows {
         if let Some(sums) = by_system.get(&row.def.name) {
-            calls.push(next_call(alloc, row, sums, now, zone)?)?;
+            calls.push(next_call(alloc, row, sums, &at, &mut weeks)?)?;
         }
     }
     // The sort is stable, so that those that never come stay in the order of the names.

@@ -76,7 +76,7 @@ mail_command =
     with_rule (with_rule (new_app (codes "mail")) grade_option)
     (record (arguments (codes "address") 1) { required = true })
 
--- `-s SYSTEM` and `-u USER` of `list`
+-- `-s SYSTEM`, and `-u USER` of `list`
 abbrev pub wanted_system : Rule
 wanted_system = record (new_rule (codes "system")) { short = Some (byte "s"); value_names = 1 }
 
@@ -86,6 +86,10 @@ wanted_user = record (new_rule (codes "user")) { short = Some (byte "u"); value_
 -- `list [-s SYSTEM] [-u USER]`
 abbrev pub list_command : App
 list_command = with_rule (with_rule (new_app (codes "list")) wanted_system) wanted_user
+
+-- `NAME [-s SYSTEM]`
+abbrev pub report_command : List ℕ → App
+report_command name = with_rule (new_app name) wanted_system
 
 -- `NAME JOB`
 abbrev pub job_command : List ℕ → App
@@ -131,9 +135,14 @@ with_jobs =
     list_command.top) (job_command (codes "show")).top) (job_command (codes "kill")).top) regrade_command.top)
     (job_command (codes "rejuvenate")).top
 
+-- and those that report systems
+abbrev pub with_reports : App
+with_reports =
+    with_subcommand (with_subcommand (with_subcommand (with_subcommand with_jobs (new_app (codes "due")).top)
+    (report_command (codes "when")).top) (report_command (codes "queues")).top) (new_app (codes "status")).top
+
 -- and those of calls and of the map
 abbrev pub program : App
 program =
-    with_subcommand (with_subcommand (with_subcommand (with_subcommand (with_subcommand (with_subcommand with_jobs
-    (new_app (codes "due")).top) (new_app (codes "status")).top) failed_command.top) done_command.top)
+    with_subcommand (with_subcommand (with_subcommand (with_subcommand with_reports failed_command.top) done_command.top)
     (new_app (codes "map")).top) neighbours_command.top

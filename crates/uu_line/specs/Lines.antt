@@ -157,6 +157,14 @@ list_task system user =
     and_then (optional site_of system) (λ system.
     and_then (optional word_of user) (λ user. Ok (task.List (record { system = system; user = user }))))
 
+-- `when [-s SYSTEM]`
+abbrev pub when_task : Option Text → Result Task LineFault
+when_task system = and_then (optional site_of system) (λ system. Ok (task.When (record { system = system; user = None })))
+
+-- `queues [-s SYSTEM]`
+abbrev pub queues_task : Option Text → Result Task LineFault
+queues_task system = and_then (optional site_of system) (λ system. Ok (task.Queues (record { system = system; user = None })))
+
 -- `regrade JOB GRADE`
 abbrev pub regrade_task : ℕ → Text → Result Task LineFault
 regrade_task job grade = and_then (grade_of grade) (λ grade. Ok (task.Regrade job grade))
@@ -232,6 +240,8 @@ MeansTask name rows meant =
     ⊎ ((name ≡ codes "regrade") × MeansRegrade rows meant)
     ⊎ ((name ≡ codes "rejuvenate") × MeansJob (λ job. Ok (task.Rejuvenate job)) rows meant)
     ⊎ ((name ≡ codes "due") × (meant ≡ Ok task.Due))
+    ⊎ ((name ≡ codes "when") × (meant ≡ when_task (first_of (codes "system") rows)))
+    ⊎ ((name ≡ codes "queues") × (meant ≡ queues_task (first_of (codes "system") rows)))
     ⊎ ((name ≡ codes "status") × (meant ≡ Ok task.Status))
     ⊎ ((name ≡ codes "failed") × MeansFailed rows meant)
     ⊎ ((name ≡ codes "done") × MeansDone rows meant)
@@ -252,6 +262,8 @@ takes_input (task.Kill job) = false
 takes_input (task.Regrade job grade) = false
 takes_input (task.Rejuvenate job) = false
 takes_input task.Due = false
+takes_input (task.When filter) = false
+takes_input (task.Queues filter) = false
 takes_input task.Status = false
 takes_input (task.Failed system why) = false
 takes_input (task.Done system jobs) = false

@@ -144,11 +144,21 @@ const TARGET: Entry<'static> = Entry {
     help: "The file's name where it goes",
 };
 
+// `-s SYSTEM`, of a report of systems
+const WANTED: Entry<'static> = Entry {
+    id: "system",
+    form: Form::Letter('s'),
+    required: false,
+    defaults: &[],
+    shown: "SYSTEM",
+    help: "This neighbour alone",
+};
+
 // The options of the whole command.
 static OPTIONS: [Entry<'static>; 3] = [CONFIG, SECOND, USER];
 
 // The subcommands, in the order that help lists them in.
-static SUBCOMMANDS: [Subcommand<'static>; 17] = [
+static SUBCOMMANDS: [Subcommand<'static>; 19] = [
     Subcommand {
         name: "load",
         about: "Defines the systems of the sys file on standard input",
@@ -271,6 +281,16 @@ static SUBCOMMANDS: [Subcommand<'static>; 17] = [
         name: "due",
         about: "Lists the systems to call now, each with its next job",
         entries: &[],
+    },
+    Subcommand {
+        name: "when",
+        about: "Lists when each system can next be called, for which job, and why not now",
+        entries: &[WANTED],
+    },
+    Subcommand {
+        name: "queues",
+        about: "Sums up the jobs of each system",
+        entries: &[WANTED],
     },
     Subcommand {
         name: "status",

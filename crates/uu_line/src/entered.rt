@@ -11,7 +11,7 @@ ghost use Rattle.uu_line.specs.Lines as spec;
 use crate::fault::LineFault;
 use crate::reading::{
     done_task, drop_task, execute_task, failed_task, list_task, mail_task, neighbours_task,
-    regrade_task, request_task, send_task,
+    queues_task, regrade_task, request_task, send_task, when_task,
 };
 use crate::task::Task;
 use crate::values::{grade_of, job_in, jobs_in, paths_in, text_in};
@@ -46,19 +46,32 @@ fn job_task_in(alloc: Global, name: &str, given: &ArgMatches<'_>) -> Result<Task
         "kill" => Ok(kill_in(given)),
         "regrade" => regrade_in(given),
         "rejuvenate" => Ok(rejuvenate_in(given)),
-        _ => call_task_in(alloc, name, given),
+        _ => report_task_in(alloc, name, given),
     }
 }
 
-// The task of a subcommand of calls or of the map.
-fn call_task_in(alloc: Global, name: &str, given: &ArgMatches<'_>) -> Result<Task, LineFault>
+// The task of a subcommand that reports systems, or of one after those.
+fn report_task_in(alloc: Global, name: &str, given: &ArgMatches<'_>) -> Result<Task, LineFault>
     requires entered { IsEntered name.now (rows_of (found_of given.now)) }
     requires later { IsSome (find (λ subcommand. bytes_eq subcommand.0 name.now) (drop 11 subcommands)) }
     ensures { UnlessMemory (MeansTask name.now (rows_of (found_of given.now))) result }
 {
     match name {
         "due" => Ok(Task::Due),
+        "when" => when_in(alloc, given),
+        "queues" => queues_in(alloc, given),
         "status" => Ok(Task::Status),
+        _ => call_task_in(alloc, name, given),
+    }
+}
+
+// The task of a subcommand that notes a call, or of one of the map.
+fn call_task_in(alloc: Global, name: &str, given: &ArgMatches<'_>) -> Result<Task, LineFault>
+    requires entered { IsEntered name.now (rows_of (found_of given.now)) }
+    requires later { IsSome (find (λ subcommand. bytes_eq subcommand.0 name.now) (drop 15 subcommands)) }
+    ensures { UnlessMemory (MeansTask name.now (rows_of (found_of given.now))) result }
+{
+    match name {
         "failed" => failed_in(alloc, given),
         "done" => done_in(alloc, given),
         "map" => Ok(Task::Map),
@@ -169,6 +182,20 @@ fn rejuvenate_in(given: &ArgMatches<'_>) -> Task
 {
     let job = job_in(given);
     Task::Rejuvenate { job }
+}
+
+// The task of `when`.
+fn when_in(alloc: Global, given: &ArgMatches<'_>) -> Result<Task, LineFault>
+    ensures { Answers result (spec.when_task (first_of (codes "system") (rows_of (found_of given.now)))) }
+{
+    when_task(alloc, given.get_str("system"))
+}
+
+// The task of `queues`.
+fn queues_in(alloc: Global, given: &ArgMatches<'_>) -> Result<Task, LineFault>
+    ensures { Answers result (spec.queues_task (first_of (codes "system") (rows_of (found_of given.now)))) }
+{
+    queues_task(alloc, given.get_str("system"))
 }
 
 // The task of `failed`.

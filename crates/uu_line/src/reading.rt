@@ -183,6 +183,32 @@ pub(crate) fn list_task(
     Ok(Task::List { filter })
 }
 
+/// The task of `when`.
+#[tactic(auto, using(crate::proofs::LineLemmas::answers_then))]
+pub(crate) fn when_task(alloc: Global, system: Option<&str>) -> Result<Task, LineFault>
+    ensures { Answers result (spec.when_task (option_map (λ text. text.now) system.entry)) }
+{
+    let wanted = optional_site(alloc, system)?;
+    let filter = Filter {
+        system: wanted,
+        user: None,
+    };
+    Ok(Task::When { filter })
+}
+
+/// The task of `queues`.
+#[tactic(auto, using(crate::proofs::LineLemmas::answers_then))]
+pub(crate) fn queues_task(alloc: Global, system: Option<&str>) -> Result<Task, LineFault>
+    ensures { Answers result (spec.queues_task (option_map (λ text. text.now) system.entry)) }
+{
+    let wanted = optional_site(alloc, system)?;
+    let filter = Filter {
+        system: wanted,
+        user: None,
+    };
+    Ok(Task::Queues { filter })
+}
+
 /// The task of `regrade`.
 #[tactic(auto, using(crate::proofs::LineLemmas::answers_then))]
 pub(crate) fn regrade_task(job: u32, grade: &str) -> Result<Task, LineFault>

@@ -58,7 +58,8 @@ pub enum Task {
         /// What the neighbour is to do with the message: each address without its first site.
         rests: Listed<Word>,
     },
-    /// `list [-s SYSTEM] [-u USER]`: reports the jobs that are for the system and of the user, where they are given.
+    /// `list [-s SYSTEM] [-u USER]`: reports the jobs that are for the system and of the user,
+    /// where they are given.
     List {
         /// Which jobs.
         filter: Filter,
@@ -87,6 +88,17 @@ pub enum Task {
     },
     /// `due`: reports which systems may be called now, each with its next job.
     Due,
+    /// `when [-s SYSTEM]`: reports when each system that has a job can next be called, or when this
+    /// one can, for which job, and why not now.
+    When {
+        /// Whose jobs.
+        filter: Filter,
+    },
+    /// `queues [-s SYSTEM]`: reports what the jobs of each system come to, or those of this one.
+    Queues {
+        /// Whose jobs.
+        filter: Filter,
+    },
     /// `status`: reports the systems and how their calls went.
     Status,
     /// `failed SYSTEM WHY`: notes a call that failed.
@@ -96,7 +108,8 @@ pub enum Task {
         /// Why the call failed.
         why: Word,
     },
-    /// `done SYSTEM [JOB..]`: notes a call that succeeded, and lets the jobs go that it carried out.
+    /// `done SYSTEM [JOB..]`: notes a call that succeeded, and lets the jobs go that it carried
+    /// out.
     Done {
         /// The neighbour that was called.
         system: SiteName,
@@ -128,6 +141,8 @@ impl Task {
             | Task::Regrade { .. }
             | Task::Rejuvenate { .. }
             | Task::Due
+            | Task::When { .. }
+            | Task::Queues { .. }
             | Task::Status
             | Task::Failed { .. }
             | Task::Done { .. }

@@ -51,6 +51,11 @@ pub enum Question {
     Job(u32),
     /// Which systems may be called at this moment, each with its next job.
     Due(Moment),
+    /// When each system for which a job fits can next be called from this moment on, for the first
+    /// of these jobs.
+    NextCalls(Filter, Moment),
+    /// What the jobs that fit come to, for each system.
+    Queues(Filter),
     /// All systems, and how their calls went.
     Systems,
     /// The map entry of this host.
@@ -148,6 +153,8 @@ fn task_request(
             one(alloc, Command::Rejuvenate { job, at, by })
         }
         Task::Due => Ok(Request::Question(Question::Due(at))),
+        Task::When { filter } => Ok(Request::Question(Question::NextCalls(filter, at))),
+        Task::Queues { filter } => Ok(Request::Question(Question::Queues(filter))),
         Task::Status => Ok(Request::Question(Question::Systems)),
         Task::Failed { system, why } => one(alloc, Command::Failed { system, at, why }),
         Task::Done { system, jobs } => one(alloc, Command::Done { system, at, jobs }),

@@ -5,6 +5,8 @@ pub mod BatchLemmas
 pub mod EndLemmas
 pub mod FaultExamples
 pub mod LineLemmas
+pub mod PairLemmas
 pub mod ServedLemmas
 pub mod ServesLemmas
 pub mod SessionLemmas
+pub mod SumLemmas

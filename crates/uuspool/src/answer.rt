@@ -1,25 +1,39 @@
 //! Questions: what is asked of the spool, and what is printed of its answer.
 
-ghost use Rattle.std.specs.Prelude.{◌≡◌, ◌≤◌, ◌++◌, IfOk};
+ghost use Rattle.std.specs.Prelude.{◌≡◌, ◌≤◌, ◌++◌, [], false, IfOk, IfErr, IsTrue, MatchResult, List};
+ghost use Rattle.std.specs.List.{AllByRecursion};
 ghost use Rattle.std.specs.Io.KnownBytes.{Appends};
-ghost use Rattle.uu_report.specs.Reports.{IsJobLine};
+ghost use Rattle.sqlite.specs.State.{HasCleanDisk};
+ghost use Rattle.uu_core.specs.NextCalls.{AreNextCalls};
+ghost use Rattle.uu_core.specs.Plain.{AreByName};
+ghost use Rattle.uu_core.specs.Queues.{AreQueues};
+ghost use Rattle.uu_core.specs.declared.next_call.NextCall.{NextCall as AnyCall};
+ghost use Rattle.uu_core.specs.declared.queue.Queue.{Queue as AnyQueue};
+ghost use Rattle.uu_database.specs.HandedOut.{IsBounded};
+ghost use Rattle.uu_questions.specs.Listing.{listed};
+ghost use Rattle.uu_report.specs.Reports.{IsJobLine, IsNextCallsReport, IsQueuesReport};
 ghost use Rattle.uu_request.specs.declared.request.Question.TheVariants as question;
 ghost use Rattle.uu_request.specs.declared.request.Request.TheVariants as request;
+ghost use Rattle.uu_store.specs.Runs.{Ran, fault_in};
+ghost use Rattle.uu_store.specs.Spool.{Marks, Shows, disk, has_failed};
 ghost use Rattle.uuspool.specs.Served.{IsServed};
 
 use crate::fault::Fault;
 use crate::print::print;
-use crate::report::{report_due, report_jobs, report_links, report_status};
+use crate::report::{
+    report_due, report_jobs, report_links, report_next_calls, report_queues, report_status,
+};
 use sqlite::Alter;
 use std::alloc::{AllocError, Global};
 use std::io::Write;
 use std::mem::drop;
-use uu_core::{Filter, JobHead};
+use uu_core::{Filter, JobHead, SystemRow, next_calls, queues};
 use uu_map::{MapFault, read_entry};
 use uu_names::SiteName;
 use uu_report::job_line;
 use uu_request::Question;
 use uu_settings::Settings;
+use uu_store::laws::runs_are_one_run;
 use uu_store::{Spool, StoreFault, StoreKind};
 use uu_times::Moment;
 use uu_times::moment::LAST_SECOND;
@@ -38,6 +52,8 @@ pub(crate) fn ask<S: Alter, W: Write>(
         Question::Jobs(filter) => list(alloc, filter, settings, spool, out),
         Question::Job(number) => show(alloc, *number, settings, spool, out),
         Question::Due(at) => due(alloc, at, settings, spool, out),
+        Question::NextCalls(filter, at) => when(alloc, filter, at, settings, spool, out),
+        Question::Queues(filter) => sum_up(alloc, filter, settings, spool, out),
         Question::Systems => status(alloc, settings, spool, out),
         Question::Entry(host) => neighbours(alloc, host, settings, spool, out),
     }
@@ -110,6 +126,91 @@ fn due<S: Alter, W: Write>(
         Ok(dues) => print(report_due(alloc, &dues), 0, out),
         Err(fault) => Err(Fault::Store(fault)),
     }
+}
+
+// Prints when each system can next be called, for the first of those of its jobs that fit.
+fn when<S: Alter, W: Write>(
+    alloc: Global,
+    filter: &Filter,
+    at: &Moment,
+    settings: &Settings,
+    spool: &mut Spool<S>,
+    out: &mut W,
+) -> Result<u8, Fault>
+    ensures { IsServed settings.now (request.Question (question.NextCalls filter.now at.now)) spool.old spool.new (λ output. Appends (W.contents out.old) (W.contents out.new) output) result }
+{
+    match systems_and_jobs(alloc, filter, spool) {
+        Ok((systems, jobs)) => {
+            let text = next_calls_text(alloc, &systems, &jobs, at, settings);
+            print(text, 0, out)
+        }
+        Err(fault) => Err(Fault::Store(fault)),
+    }
+}
+
+// The systems, and the jobs that fit, both of one state.
+fn systems_and_jobs<S: Alter>(
+    alloc: Global,
+    filter: &Filter,
+    spool: &mut Spool<S>,
+) -> Result<(Vec<SystemRow>, Vec<JobHead>), StoreFault>
+    ensures marked { MatchResult result (λ _. (has_failed spool.old ≡ false) × (has_failed spool.new ≡ false)) (Marks (has_failed spool.old) (has_failed spool.new)) }
+    ensures answer { HasCleanDisk (disk spool.new) → (s : _) → Shows spool.old s
+        → IfOk result (λ answer. (answer.0.items ≡ s.systems) × (answer.1.items ≡ listed filter.now s) × Shows spool.new s) }
+    ensures ran { Ran [] spool.old spool.new [] (fault_in result) }
+    ensures failed { IsTrue (has_failed spool.old) → spool.new ≡ spool.old }
+{
+    runs_are_one_run::<S>();
+    match spool.systems(alloc) {
+        Ok(systems) => match spool.jobs(alloc, filter) {
+            Ok(jobs) => Ok((systems, jobs)),
+            Err(fault) => Err(fault),
+        },
+        Err(fault) => Err(fault),
+    }
+}
+
+// The report of when these systems can next be called, for these jobs.
+fn next_calls_text(
+    alloc: Global,
+    systems: &[SystemRow],
+    jobs: &[JobHead],
+    at: &Moment,
+    settings: &Settings,
+) -> Result<Vec<u8>, Fault>
+    ensures lines { IfOk result (λ text. (calls : List AnyCall)
+        × (AreByName (λ row. row.def.name) systems.now → AreNextCalls settings.now.zone systems.now jobs.now at.now.second calls)
+        × IsNextCallsReport settings.now.zone at.now.second calls text.items) }
+    ensures memory { IfErr result (λ fault. fault ≡ Fault.Memory) }
+{
+    let calls = next_calls(alloc, systems, jobs, at.second, &settings.zone)?;
+    report_next_calls(alloc, &calls, at, settings)
+}
+
+// Prints what the jobs that fit come to, for each system.
+fn sum_up<S: Alter, W: Write>(
+    alloc: Global,
+    filter: &Filter,
+    settings: &Settings,
+    spool: &mut Spool<S>,
+    out: &mut W,
+) -> Result<u8, Fault>
+    ensures { IsServed settings.now (request.Question (question.Queues filter.now)) spool.old spool.new (λ output. Appends (W.contents out.old) (W.contents out.new) output) result }
+{
+    match spool.jobs(alloc, filter) {
+        Ok(jobs) => print(queues_text(alloc, &jobs, settings), 0, out),
+        Err(fault) => Err(Fault::Store(fault)),
+    }
+}
+
+// The report of what these jobs come to, for each system.
+fn queues_text(alloc: Global, jobs: &[JobHead], settings: &Settings) -> Result<Vec<u8>, Fault>
+    requires { AllByRecursion IsBounded jobs.now }
+    ensures lines { IfOk result (λ text. (queues : List AnyQueue) × AreQueues jobs.now queues × IsQueuesReport settings.now.zone queues text.items) }
+    ensures memory { IfErr result (λ fault. fault ≡ Fault.Memory) }
+{
+    let queues = queues(alloc, jobs)?;
+    report_queues(alloc, &queues, settings)
 }
 
 // Prints the report of the systems.

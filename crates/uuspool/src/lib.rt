@@ -21,7 +21,9 @@ pub use fault::{Fault, FaultLine, fault_line, fault_status};
 pub use input::{READ_LIMIT, read_input};
 pub use line::line_of;
 pub use moment::moment_of;
-pub use report::{report_due, report_jobs, report_links, report_status};
+pub use report::{
+    report_due, report_jobs, report_links, report_next_calls, report_queues, report_status,
+};
 pub use serving::serve;
 pub use uu_line::{CallLine, Task};
 pub use uu_settings::{Key, Settings, SettingsFault};

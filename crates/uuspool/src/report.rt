@@ -2,14 +2,18 @@
 
 ghost use Rattle.std.specs.Prelude.{◌≡◌, ◌≤◌, IfOk, IfErr, All};
 ghost use Rattle.std.specs.List.{flat_map};
-ghost use Rattle.uu_report.specs.Reports.{IsJobsReport, IsStatusReport, due_text, links_text};
+ghost use Rattle.uu_core.specs.NextCalls.{IsAhead};
+ghost use Rattle.uu_report.specs.Reports.{IsJobsReport, IsNextCallsReport, IsQueuesReport, IsStatusReport, due_text, links_text};
 
 use crate::fault::Fault;
 use std::alloc::Global;
-use uu_core::{Due, JobHead, SystemRow};
+use uu_core::{Due, JobHead, NextCall, Queue, SystemRow};
 use uu_map::Entry;
-use uu_report::{due_report, jobs_report, links_report, status_report};
+use uu_report::{
+    due_report, jobs_report, links_report, next_calls_report, queues_report, status_report,
+};
 use uu_settings::Settings;
+use uu_times::Moment;
 use uu_times::moment::LAST_SECOND;
 
 /// The report of these jobs, in their order, a line for each:
@@ -30,6 +34,33 @@ pub fn report_due(alloc: Global, dues: &[Due]) -> Result<Vec<u8>, Fault>
     ensures memory { IfErr result (λ fault. fault ≡ Fault.Memory) }
 {
     Ok(due_report(alloc, dues)?)
+}
+
+/// The report of when systems can next be called, in the order handed in, a line for each:
+/// `SYSTEM GRADE NUMBER SECONDS MOMENT WHY`, or `SYSTEM GRADE NUMBER never WHY`, the seconds counted
+/// from this moment on, and the moment as in [`report_jobs`]. The only error is `Memory`.
+pub fn report_next_calls(
+    alloc: Global,
+    calls: &[NextCall],
+    at: &Moment,
+    settings: &Settings,
+) -> Result<Vec<u8>, Fault>
+    requires { All (IsAhead at.now.second) calls.now }
+    ensures lines { IfOk result (λ report. IsNextCallsReport settings.now.zone at.now.second calls.now report.items) }
+    ensures memory { IfErr result (λ fault. fault ≡ Fault.Memory) }
+{
+    Ok(next_calls_report(alloc, calls, at.second, &settings.zone)?)
+}
+
+/// The report of what waits for systems, in the order handed in, a line for each:
+/// `SYSTEM JOBS BYTES GRADE MOMENT`, the moment at which the oldest job was queued as in
+/// [`report_jobs`]. The only error is `Memory`.
+pub fn report_queues(alloc: Global, queues: &[Queue], settings: &Settings) -> Result<Vec<u8>, Fault>
+    requires { All (λ queue. queue.sums.oldest ≤ LAST_SECOND) queues.now }
+    ensures lines { IfOk result (λ report. IsQueuesReport settings.now.zone queues.now report.items) }
+    ensures memory { IfErr result (λ fault. fault ≡ Fault.Memory) }
+{
+    Ok(queues_report(alloc, queues, &settings.zone)?)
 }
 
 /// The report of these systems, in their order, a line for each: `SYSTEM FAILURES WAIT STATE`, the wait in seconds, the

@@ -30,6 +30,8 @@ subcommands =
     ∷ (codes "regrade", codes "job" ∷ codes "grade" ∷ [])
     ∷ (codes "rejuvenate", codes "job" ∷ [])
     ∷ (codes "due", [])
+    ∷ (codes "when", [])
+    ∷ (codes "queues", [])
     ∷ (codes "status", [])
     ∷ (codes "failed", codes "system" ∷ codes "why" ∷ [])
     ∷ (codes "done", codes "system" ∷ [])

@@ -1,11 +1,10 @@
 -- One more job adds to what its system's jobs come to, and to nothing else.
-use Rattle.std.proofs.Common.{◌≡◌, ◌∙◌, ◌+◌, ◌*◌, ◌<◌, ◌≤◌, ℕ, List, ◌++◌, ◌∷◌, [], take, length, cond, Option, Some, None, IfSome, nat_cmp, ap, sym, subst, arith}
+use Rattle.std.proofs.Common.{◌≡◌, ◌∙◌, ◌+◌, ◌*◌, ◌≤◌, ℕ, List, ◌++◌, ◌∷◌, [], take, cond, Option, Some, None, IfSome, nat_cmp, ap, sym, subst, arith}
 use Rattle.std.specs.BTreeMap.{get, is_at}
 use Rattle.std.specs.Cmp.Lexicographic.{slice_cmp, texts_ties}
 use Rattle.std.proofs.lemmas.List.{length-take}
 use Rattle.uu_core.specs.declared.job.JobHead.{JobHead}
 use Rattle.uu_core.specs.declared.queue.Sums.{Sums}
-use Rattle.uu_core.specs.State.{same_text}
 use Rattle.uu_core.specs.Queues.{AreSums, AreSumsOf, jobs_for}
 use Rattle.uu_core.proofs.QueueLemmas.{jobs_within, sums_step, small_step}
 use Rattle.uu_core.proofs.queue.sums_by_system.Goals as goal

@@ -5,19 +5,13 @@ use Rattle.uu_line.specs.Lines.{MeansDone, MeansFailed, MeansNeighbours, MeansTa
 use Rattle.uu_line.proofs.LineLemmas.{never_strange, task_meant}
 use Rattle.uu_line.proofs.entered.call_task_in.Goals as goal
 
-pub returns-in-due : goal.returns-in-due
-returns-in-due c = inr (inr (inr (inr (inr (inr (inr (inr (inr (inr (inr (inl (c.in-due.is, refl))))))))))))
-
-pub returns-in-status : goal.returns-in-status
-returns-in-status c = inr (inr (inr (inr (inr (inr (inr (inr (inr (inr (inr (inr (inl (c.in-status.is, refl)))))))))))))
-
 pub failed_in-requires : goal.failed_in-requires
 failed_in-requires c = subst (λ name. HaveTexts (texts_of name) (rows_of (found_of c.args.given.now))) c.in-failed.is c.requires.entered.texts
 
 pub returns-in-failed : goal.returns-in-failed
 returns-in-failed c =
     let rows = rows_of (found_of c.args.given.now) in
-    task_meant (MeansFailed rows) (MeansTask c.args.name.now rows) c.failed_in.result (λ meant means. inr (inr (inr (inr (inr (inr (inr (inr (inr (inr (inr (inr (inr (inl (c.in-failed.is, means))))))))))))))) c.failed_in.ensures
+    task_meant (MeansFailed rows) (MeansTask c.args.name.now rows) c.failed_in.result (λ meant means. inr (inr (inr (inr (inr (inr (inr (inr (inr (inr (inr (inr (inr (inr (inr (inl (c.in-failed.is, means))))))))))))))))) c.failed_in.ensures
 
 pub done_in-requires : goal.done_in-requires
 done_in-requires c = record { texts = subst (λ name. HaveTexts (texts_of name) (rows_of (found_of c.args.given.now))) c.in-done.is c.requires.entered.texts; numbers = c.requires.entered.jobs }
@@ -25,10 +19,10 @@ done_in-requires c = record { texts = subst (λ name. HaveTexts (texts_of name) 
 pub returns-in-done : goal.returns-in-done
 returns-in-done c =
     let rows = rows_of (found_of c.args.given.now) in
-    task_meant (MeansDone rows) (MeansTask c.args.name.now rows) c.done_in.result (λ meant means. inr (inr (inr (inr (inr (inr (inr (inr (inr (inr (inr (inr (inr (inr (inl (c.in-done.is, means)))))))))))))))) c.done_in.ensures
+    task_meant (MeansDone rows) (MeansTask c.args.name.now rows) c.done_in.result (λ meant means. inr (inr (inr (inr (inr (inr (inr (inr (inr (inr (inr (inr (inr (inr (inr (inr (inl (c.in-done.is, means)))))))))))))))))) c.done_in.ensures
 
 pub returns-in-map : goal.returns-in-map
-returns-in-map c = inr (inr (inr (inr (inr (inr (inr (inr (inr (inr (inr (inr (inr (inr (inr (inl (c.in-map.is, refl))))))))))))))))
+returns-in-map c = inr (inr (inr (inr (inr (inr (inr (inr (inr (inr (inr (inr (inr (inr (inr (inr (inr (inl (c.in-map.is, refl))))))))))))))))))
 
 pub neighbours_in-requires : goal.neighbours_in-requires
 neighbours_in-requires c = subst (λ name. HaveTexts (texts_of name) (rows_of (found_of c.args.given.now))) c.in-neighbours.is c.requires.entered.texts
@@ -36,7 +30,7 @@ neighbours_in-requires c = subst (λ name. HaveTexts (texts_of name) (rows_of (f
 pub returns-in-neighbours : goal.returns-in-neighbours
 returns-in-neighbours c =
     let rows = rows_of (found_of c.args.given.now) in
-    task_meant (MeansNeighbours rows) (MeansTask c.args.name.now rows) c.neighbours_in.result (λ meant means. inr (inr (inr (inr (inr (inr (inr (inr (inr (inr (inr (inr (inr (inr (inr (inr ((c.in-neighbours.is, means)))))))))))))))))) c.neighbours_in.ensures
+    task_meant (MeansNeighbours rows) (MeansTask c.args.name.now rows) c.neighbours_in.result (λ meant means. inr (inr (inr (inr (inr (inr (inr (inr (inr (inr (inr (inr (inr (inr (inr (inr (inr (inr (c.in-neighbours.is, means))))))))))))))))))) c.neighbours_in.ensures
 
 pub unreachable-requires : goal.unreachable-requires
-unreachable-requires c = never_strange c.args.name.now (drop 11 subcommands) (c.in_default.not-due, (c.in_default.not-status, (c.in_default.not-failed, (c.in_default.not-done, (c.in_default.not-map, (c.in_default.not-neighbours, tt)))))) c.requires.later
+unreachable-requires c = never_strange c.args.name.now (drop 15 subcommands) (c.in_default.not-failed, (c.in_default.not-done, (c.in_default.not-map, (c.in_default.not-neighbours, tt)))) c.requires.later

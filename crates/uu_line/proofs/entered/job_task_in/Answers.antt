@@ -36,8 +36,8 @@ rejuvenate_in-requires c = record { texts = subst (λ name. HaveTexts (texts_of 
 pub returns-in-rejuvenate : goal.returns-in-rejuvenate
 returns-in-rejuvenate c = inr (inr (inr (inr (inr (inr (inr (inr (inr (inr (inl (c.in-rejuvenate.is, c.rejuvenate_in.ensures)))))))))))
 
-pub call_task_in-requires : goal.call_task_in-requires
-call_task_in-requires c = record {
+pub report_task_in-requires : goal.report_task_in-requires
+report_task_in-requires c = record {
   entered = c.requires.entered;
   later = found_later c.args.name.now 5 (drop 6 subcommands) (c.in_default.not-list, (c.in_default.not-show, (c.in_default.not-kill, (c.in_default.not-regrade, (c.in_default.not-rejuvenate, tt))))) c.requires.later;
 }

@@ -20,6 +20,16 @@ returns-in-Due g c =
     let written : List ℕ → Type 0 = λ output. Appends (g.W.Write.contents c.args.out.now) (g.W.Write.contents c.due.new.out) output in
     subst (λ (q : Question). IsServed c.args.settings.now (request.Question q) c.args.spool.now c.due.new.spool written c.due.result) (sym c.in-Due.is) c.due.ensures
 
+pub returns-in-NextCalls : goal.returns-in-NextCalls
+returns-in-NextCalls g c =
+    let written : List ℕ → Type 0 = λ output. Appends (g.W.Write.contents c.args.out.now) (g.W.Write.contents c.when.new.out) output in
+    subst (λ (q : Question). IsServed c.args.settings.now (request.Question q) c.args.spool.now c.when.new.spool written c.when.result) (sym c.in-NextCalls.is) c.when.ensures
+
+pub returns-in-Queues : goal.returns-in-Queues
+returns-in-Queues g c =
+    let written : List ℕ → Type 0 = λ output. Appends (g.W.Write.contents c.args.out.now) (g.W.Write.contents c.sum_up.new.out) output in
+    subst (λ (q : Question). IsServed c.args.settings.now (request.Question q) c.args.spool.now c.sum_up.new.spool written c.sum_up.result) (sym c.in-Queues.is) c.sum_up.ensures
+
 pub returns-in-Systems : goal.returns-in-Systems
 returns-in-Systems g c =
     let written : List ℕ → Type 0 = λ output. Appends (g.W.Write.contents c.args.out.now) (g.W.Write.contents c.status.new.out) output in

@@ -1,0 +1,18 @@
+use Rattle.std.proofs.Common.{◌≤◌, List, All, subst, sym}
+use Rattle.std.proofs.lemmas.Result.{IfOk-weaker}
+use Rattle.uu_times.specs.Moment.{last_second}
+use Rattle.uu_core.specs.declared.queue.Queue.{Queue}
+use Rattle.uu_report.specs.Reports.{IsQueuesReport}
+use Rattle.uuspool.proofs.SumLemmas.{oldest_within}
+use Rattle.uuspool.proofs.answer.queues_text.Goals as goal
+
+pub report_queues-requires : goal.report_queues-requires
+report_queues-requires c =
+    subst (λ (queues : List Queue). All (λ queue. queue.sums.oldest ≤ last_second) queues) (sym c.deref.ensures.value)
+    (oldest_within c.args.jobs.now c.in_ok-queues.queues.items c.in_ok-queues.ensures c.requires)
+
+pub returns-clause-lines : goal.returns-clause-lines
+returns-clause-lines c =
+    IfOk-weaker c.report_queues.result _ _
+    (λ text is. (c.in_ok-queues.queues.items, c.in_ok-queues.ensures, subst (λ (queues : List Queue). IsQueuesReport c.args.settings.now.zone queues text.items) c.deref.ensures.value is))
+    c.report_queues.ensures.lines
