@@ -10,8 +10,8 @@ use Rattle.uu_taking.proofs.taking.take_entries.Goals as goal
 pub ask-requires : goal.ask-requires
 ask-requires g c = entries_ask
 
-pub ask-2-requires : goal.ask-2-requires
-ask-2-requires g c = entry_rowids_ask
+pub ask-requires-2 : goal.ask-requires-2
+ask-requires-2 g c = entry_rowids_ask
 
 pub returns-clause-takes : goal.returns-clause-takes
 returns-clause-takes g c v =

@@ -10,8 +10,8 @@ use Rattle.uu_taking.proofs.taking.take_sizes_in_any_order.Goals as goal
 pub ask-requires : goal.ask-requires
 ask-requires g c = sizes_ask
 
-pub ask-2-requires : goal.ask-2-requires
-ask-2-requires g c = piece_rowids_ask
+pub ask-requires-2 : goal.ask-requires-2
+ask-requires-2 g c = piece_rowids_ask
 
 pub returns-clause-takes : goal.returns-clause-takes
 returns-clause-takes g c v =
