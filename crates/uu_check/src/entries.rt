@@ -1,25 +1,12 @@
 // Map entries.
-ghost use Rattle.std.specs.Prelude.{◌≡◌, IfOk, MatchOption, Ok, is_err, true};
+ghost use Rattle.std.specs.Prelude.{◌≡◌, IfOk};
 ghost use Rattle.std.specs.List.{list_all};
-ghost use Rattle.uu_map.specs.Text.{host_of};
 ghost use Rattle.uu_check.specs.Tests.{is_entry, entry_before, are_entries};
 
 use crate::walk::{Ranked, rise};
 use std::alloc::{AllocError, Global};
-use uu_map::{Entry, MapFault, read_entry};
-use uu_names::SiteName;
+use uu_map::entry_host;
 use uu_tables::EntryColumns;
-
-// The host of a map entry, if it can be read.
-fn entry_host(alloc: Global, text: &[u8]) -> Result<Option<SiteName>, AllocError>
-    ensures { IfOk result (λ host. MatchOption host (is_err (host_of text.now) ≡ true) (λ host. host_of text.now ≡ Ok host)) }
-{
-    match read_entry(alloc, text) {
-        Ok(Entry { host, .. }) => Ok(Some(host)),
-        Err(MapFault::NoName | MapFault::BadHost | MapFault::TooLarge) => Ok(None),
-        Err(MapFault::Memory) => Err(AllocError),
-    }
-}
 
 fn is_entry(alloc: Global, entry: &EntryColumns) -> Result<bool, AllocError>
     ensures { IfOk result (λ good. good ≡ is_entry entry.now) }

@@ -4,7 +4,9 @@ ghost use Rattle.uu_check.specs.Tests.{are_ranges, is_retry, owns_range, fits_li
 
 use crate::walk::{Owner, Ranked};
 use uu_core::limits::{MAX_FAILURES, MAX_WAIT};
-use uu_tables::{LineColumns, RangeColumns, SystemColumns, WaitColumns};
+use uu_tables::{
+    CALL_FAILED, CALL_MADE, LineColumns, NEVER_CALLED, RangeColumns, SystemColumns, WaitColumns,
+};
 use uu_times::moment::LAST_SECOND;
 use uu_times::system::{LINE_LIMIT, MAX_RETRIES_LIMIT, RETRY_LIMIT, SUCCESS_WAIT_LIMIT};
 use uu_times::windows::WEEK;
@@ -51,15 +53,15 @@ fn is_outcome(cells: &SystemColumns) -> bool
 {
     match &cells.call.why {
         None => {
-            cells.call.outcome == 2
-                || cells.call.outcome == 0
+            cells.call.outcome == CALL_MADE
+                || cells.call.outcome == NEVER_CALLED
                     && cells.call.last == 0
                     && cells.call.failures == 0
                     && cells.call.wait == 0
         }
         Some(why) => {
             let _ = why.as_str();
-            cells.call.outcome == 1
+            cells.call.outcome == CALL_FAILED
         }
     }
 }

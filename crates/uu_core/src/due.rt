@@ -1,11 +1,11 @@
 // Which systems may be called now, and for which job.
-ghost use Rattle.std.specs.Prelude.{◌≡◌, ◌&&◌, ◌||◌, ◌++◌, ◌∷◌, [], ℕ, List, map, IfOk, OnOk, IsPermutation, nat_le, max};
+ghost use Rattle.std.specs.Prelude.{◌≡◌, ◌++◌, ◌∷◌, [], ℕ, List, map, IfOk, OnOk, IsPermutation};
 ghost use Rattle.std.specs.Ordering.{nat_cmp};
 ghost use Rattle.std.specs.Cmp.Lexicographic.{slice_cmp};
 ghost use Rattle.std.specs.BTreeMap.{get};
-ghost use Rattle.uu_core.specs.State.{same_text};
 ghost use Rattle.uu_core.specs.Due.{limit_now, is_within, may_be_called, due_of, AreDue, HaveNumbers, AreInOrder};
 
+use crate::callable::{is_free, lower};
 use crate::job::JobHead;
 use crate::system::SystemRow;
 use crate::waiting::{held, limit};
@@ -35,29 +35,6 @@ fn limit_now(row: &SystemRow, at: &Moment) -> Option<Grade>
     }
 }
 
-fn lower_of(grade: Grade, other: Grade) -> Grade
-    ensures { result ≡ max grade other }
-{
-    grade.max(other)
-}
-
-// The system may be called for this grade too, and for each that is higher.
-fn lower(
-    limits: &mut BTreeMap<SiteName, Grade>,
-    name: &SiteName,
-    lowest: Grade,
-) -> Result<(), AllocError>
-    ensures { OnOk result ((other : List ℕ) (grade : ℕ) → is_within (get (slice_cmp nat_cmp) limits.new other) grade
-        ≡ (is_within (get (slice_cmp nat_cmp) limits.old other) grade || (same_text name.now other && nat_le grade lowest))) }
-{
-    let lowest = match limits.get(name).copied() {
-        Some(other) => lower_of(lowest, other),
-        None => lowest,
-    };
-    limits.insert(name.clone()?, lowest)?;
-    Ok(())
-}
-
 // The lowest grade for which each system may be called now; a system that may not be called isn't there.
 fn limits(
     alloc: Global,
@@ -73,15 +50,6 @@ fn limits(
         }
     }
     Ok(limits)
-}
-
-fn is_free(free: &BTreeMap<SiteName, Grade>, job: &JobHead) -> bool
-    ensures { result ≡ is_within (get (slice_cmp nat_cmp) free.now job.now.system) job.now.grade }
-{
-    match free.get(&job.system) {
-        Some(lowest) => job.grade <= *lowest,
-        None => false,
-    }
 }
 
 // The jobs in their order, each borrowed.
@@ -129,7 +97,7 @@ pub fn choose(
     let ordered = in_order(alloc, jobs)?;
     let mut dues = Vec::new(alloc);
     for job in &ordered {
-        if is_free(&free, job) {
+        if is_free(&free, &job.system, job.grade) {
             free.remove(&job.system);
             list(&mut dues, job)?;
         }

@@ -2,6 +2,7 @@
 //! failed call, and which job each system is called for next. No file, no clock, no store.
 #![tactic(auto)]
 
+pub mod callable;
 mod command;
 mod decide;
 mod due;

@@ -16,7 +16,7 @@ use Rattle.uu_schema.specs.Schema.{site}
 use Rattle.uu_schema.specs.declared.fault.StoreFault.{StoreFault}
 use Rattle.uu_schema.specs.declared.fault.StoreFault.TheVariants.{Memory}
 use Rattle.uu_questions.specs.Answers.{Answers}
-use Rattle.uu_statements.specs.Step.{IsToldStep, Encodes as HasTables}
+use Rattle.uu_statements.specs.Step.{IsToldStep, HasTables}
 use Rattle.uu_database.specs.Calls.{IsStep}
 use Rattle.uu_database.specs.Encoded.{Encodes}
 use Rattle.uu_database.proofs.Resting.{ready, moved, unchanged, is_memory, asked_of}

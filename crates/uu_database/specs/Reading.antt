@@ -15,7 +15,7 @@ use Rattle.uu_schema.specs.Held.{system_key, line_key, range_key, job_key, entry
 use Rattle.uu_schema.specs.Cells.{system_cells, line_cells, range_cells, job_cells, entry_cells}
 use Rattle.uu_rows.specs.Readable.{IsSmall, IsSystem, IsLine, IsRange, IsHead, IsEntry}
 use Rattle.uu_rows.specs.Order.{system_cmp, line_cmp, range_cmp, head_cmp, entry_cmp}
-use Rattle.uu_taking.specs.Taking.{Finds, FindsSizes, FindsWaits}
+use Rattle.uu_taking.specs.Taking.{FindsRows, FindsSizes, FindsWaits}
 use Rattle.uu_database.specs.Adoption.{IsOfNone}
 use Rattle.uu_database.specs.declared.reading.Callers.{Callers}
 use Rattle.uu_database.specs.declared.reading.Waiting.{Waiting}
@@ -25,22 +25,22 @@ use Rattle.uu_database.specs.declared.reading.AllRows.{AllRows}
 -- ---- one table
 
 abbrev pub FindsSystems : Trees → Option (Vec SystemColumns Global) → Type 0
-FindsSystems trees found = Finds system_key system_cells system_places IsSystem system_cmp (trees systems.tree) found
+FindsSystems trees found = FindsRows system_key system_cells system_places IsSystem system_cmp (trees systems.tree) found
 
 abbrev pub FindsLines : Trees → Option (Vec LineColumns Global) → Type 0
-FindsLines trees found = Finds line_key line_cells line_places IsLine line_cmp (trees lines.tree) found
+FindsLines trees found = FindsRows line_key line_cells line_places IsLine line_cmp (trees lines.tree) found
 
 abbrev pub FindsRanges : Trees → Option (Vec RangeColumns Global) → Type 0
-FindsRanges trees found = Finds range_key range_cells range_places IsRange range_cmp (trees ranges.tree) found
+FindsRanges trees found = FindsRows range_key range_cells range_places IsRange range_cmp (trees ranges.tree) found
 
 abbrev pub FindsJobs : Trees → Option (Vec JobHead Global) → Type 0
-FindsJobs trees found = Finds job_key job_cells job_places IsHead head_cmp (trees jobs.tree) found
+FindsJobs trees found = FindsRows job_key job_cells job_places IsHead head_cmp (trees jobs.tree) found
 
 abbrev pub FindsPieces : Trees → Option (Vec PieceSize Global) → Type 0
 FindsPieces trees found = FindsSizes (trees pieces.tree) found
 
 abbrev pub FindsEntries : Trees → Option (Vec EntryColumns Global) → Type 0
-FindsEntries trees found = Finds entry_key entry_cells entry_places IsEntry entry_cmp (trees entries.tree) found
+FindsEntries trees found = FindsRows entry_key entry_cells entry_places IsEntry entry_cmp (trees entries.tree) found
 
 -- the table `spool` has its one row, of this version, and this next number, or none of 32 bits
 abbrev pub FindsNext : Version → Trees → Option ℕ → Type 0

@@ -49,7 +49,7 @@ fn carry_out_with<S: Alter>(
 }
 
 /// Gives one command: what it names is asked, its changes are planned, and they are made in one transaction.
-pub fn give<S: Alter>(
+pub fn command<S: Alter>(
     alloc: Global,
     conn: &mut Connection<S>,
     command: &Command,
@@ -144,7 +144,7 @@ fn timed_systems(systems: Vec<SystemRow>) -> Result<Vec<SystemRow>, StoreFault>
 }
 
 /// The heads of the jobs that fit, by grade and number.
-pub fn list<S: Alter>(
+pub fn jobs<S: Alter>(
     alloc: Global,
     conn: &mut Connection<S>,
     filter: &Filter,
@@ -162,7 +162,7 @@ pub fn list<S: Alter>(
 }
 
 /// The job of this number with its bytes, if it is there.
-pub fn find<S: Alter>(
+pub fn job<S: Alter>(
     alloc: Global,
     conn: &mut Connection<S>,
     number: u32,

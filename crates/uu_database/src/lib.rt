@@ -9,5 +9,5 @@ mod preparing;
 mod reading;
 mod tables;
 
-pub use asked::{due, entry, find, give, list, next, systems};
+pub use asked::{command, due, entry, job, jobs, next, systems};
 pub use preparing::prepare;

@@ -13,6 +13,6 @@ mod token;
 
 pub use entry::{Cost, Entry, EntryText, Link};
 pub use fault::MapFault;
-pub use reader::{MAX_ENTRY, read_entry};
+pub use reader::{MAX_ENTRY, entry_host, read_entry};
 pub use splitter::split;
 pub use uu_names::Listed;

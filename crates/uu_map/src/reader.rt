@@ -1,7 +1,7 @@
 // Entries, read line by line.
-ghost use Rattle.std.specs.Prelude.{◌≡◌, ◌≤◌, List, ◌∷◌, ◌++◌, length, IfOk, IfSome, Ok, option_copied, find};
+ghost use Rattle.std.specs.Prelude.{◌≡◌, ◌≤◌, List, ◌∷◌, ◌++◌, true, length, IfOk, IfSome, MatchOption, Ok, is_err, option_copied, find};
 ghost use Rattle.std.specs.Str.Lines.{lines};
-ghost use Rattle.uu_map.specs.Text.{most_entry, is_name_line, host_by, Numbered, joined, statements_of};
+ghost use Rattle.uu_map.specs.Text.{most_entry, is_name_line, host_by, host_of, Numbered, joined, statements_of};
 ghost use Rattle.uu_map.specs.declared.entry.Entry.{Entry};
 ghost use Rattle.uu_map.specs.Entry.{IsEntry, IsAnswer, AnswersUnlessMemory};
 ghost use Rattle.uu_map.specs.Token.{begins};
@@ -232,4 +232,15 @@ pub fn read_entry(alloc: Global, text: &[u8]) -> Result<Entry, MapFault>
     }
     let host = host(alloc, text)?;
     Ok(entry_of(alloc, host, text)?)
+}
+
+/// The host of a map entry, if the entry can be read.
+pub fn entry_host(alloc: Global, text: &[u8]) -> Result<Option<SiteName>, AllocError>
+    ensures { IfOk result (λ host. MatchOption host (is_err (host_of text.now) ≡ true) (λ host. host_of text.now ≡ Ok host)) }
+{
+    match read_entry(alloc, text) {
+        Ok(Entry { host, .. }) => Ok(Some(host)),
+        Err(MapFault::NoName | MapFault::BadHost | MapFault::TooLarge) => Ok(None),
+        Err(MapFault::Memory) => Err(AllocError),
+    }
 }

@@ -2,23 +2,23 @@
 //! blanks of texts.
 #![tactic(auto)]
 
+mod envelopes;
 mod fault;
 mod form;
-mod from_line;
 mod grade;
 pub mod laws;
-mod leading_lines;
 mod listed;
 mod path;
+mod return_paths;
 mod site_name;
 pub mod text;
 mod word;
 
+pub use envelopes::envelope;
 pub use fault::NameFault;
-pub use from_line::envelope;
 pub use grade::Grade;
-pub use leading_lines::return_path;
 pub use listed::Listed;
 pub use path::Path;
+pub use return_paths::return_path;
 pub use site_name::{SiteName, is_site_byte};
 pub use word::Word;

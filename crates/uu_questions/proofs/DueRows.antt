@@ -1,5 +1,5 @@
 -- The systems that may be called, and the walk along the jobs.
-use Rattle.std.proofs.Common.{◌≡◌, ◌<◌, ◌+◌, ℕ, zero, suc, pos, Bool, true, false, not, cond, leb, ◌&&◌, ◌||◌, max, List, [], ◌∷◌, ◌++◌, length, take, map, get_or, AllPairs, All, Option, Some, None, refl, ap, sym, subst, ◌∙◌, arith, append-nil, append_assoc, Ordering, Less, Equal, Greater, nat_cmp, IsPermutation}
+use Rattle.std.proofs.Common.{◌≡◌, ◌<◌, ◌+◌, ℕ, zero, suc, pos, Bool, true, false, not, cond, ◌&&◌, ◌||◌, List, [], ◌∷◌, ◌++◌, length, take, map, get_or, AllPairs, All, Option, Some, None, refl, ap, sym, subst, ◌∙◌, arith, append-nil, append_assoc, Ordering, Less, Equal, Greater, nat_cmp, IsPermutation}
 use Rattle.std.specs.List.{list_any, AllByRecursion}
 use Rattle.std.specs.Cmp.{IsTotalOrder, ranked}
 use Rattle.std.specs.Ordering.{is_eq, is_gt, ordering_then, MatchOrdering}
@@ -30,7 +30,7 @@ use Rattle.uu_schema.specs.Held.{job_places}
 use Rattle.uu_schema.specs.Cells.{job_cells}
 use Rattle.uu_questions.specs.Answers.{IsOf}
 use Rattle.uu_questions.specs.Listing.{by_rank}
-use Rattle.uu_questions.specs.Dues.{IsLeft, Offers, due_cells}
+use Rattle.uu_questions.specs.Dues.{IsLeft, TakesRow, due_cells}
 use Rattle.uu_questions.specs.Walks.{Took}
 use Rattle.uu_questions.specs.Texts.{due_jobs_text}
 use Rattle.uu_rows.proofs.Meanings.{at_places, by_places}
@@ -40,11 +40,7 @@ use Rattle.uu_rows.proofs.InTables.{all_pass}
 use Rattle.uu_rows.proofs.Comparing.{numbered, int_cmp-nat}
 use Rattle.uu_questions.proofs.Listed.{apart, numbers_rise}
 
--- ---- the greater of two limits
-
-abbrev pub with_limit : Option ℕ → ℕ → ℕ
-with_limit None lowest = lowest
-with_limit (Some other) lowest = max lowest other
+-- ---- one more of a list
 
 pub or-false : (b : Bool) → b || false ≡ b
 or-false true = refl
@@ -60,15 +56,6 @@ any_push p (y ∷ xs) x = ap (λ b. p y || b) (any_push p xs x) ∙ or-assoc (p 
 
 pub any_more : {X : Type 0} (p : X → Bool) (xs : List X) (i : ℕ) (d : X) → i < length xs → list_any p (take (i + 1) xs) ≡ list_any p (take i xs) || p (get_or xs i d)
 any_more p xs i d h = ap (list_any p) (take_more xs i d h) ∙ any_push p (take i xs) (get_or xs i d)
-
-pub lowered : (old new : Option ℕ) (lowest now : ℕ) (same : Bool) (grade : ℕ) (found : Option ℕ) → new ≡ cond same (Some now) old → (same ≡ true → found ≡ old) → now ≡ with_limit found lowest → is_within new grade ≡ (is_within old grade || (same && leb grade lowest))
-lowered old new lowest now false grade found e f g = ap (λ o. is_within o grade) e ∙ sym (or-false (is_within old grade))
-lowered old new lowest now true grade found e f g =
-    ap (λ o. is_within o grade) e ∙ ap (λ n. leb grade n) (g ∙ ap (λ o. with_limit o lowest) (f refl)) ∙ by-old old
-  where
-    by-old : (o : Option ℕ) → leb grade (with_limit o lowest) ≡ (is_within o grade || leb grade lowest)
-    by-old None = refl
-    by-old (Some other) = grind (arith, nat_tests)
 
 -- ---- one job more
 
@@ -95,7 +82,7 @@ left_after may dues due name grade old new h e =
 
 module _ {X : Type 0} (limit : X → List ℕ → Option ℕ) (dues : X → List Due) where
   abbrev pub Walked : X → Row → X → Type 0
-  Walked old row new = Offers (limit old) (dues old) row (limit new) (dues new)
+  Walked old row new = TakesRow (limit old) (dues old) row (limit new) (dues new)
 
   pub walked_on : ((rows : List SystemRow) (at : Moment) (jobs : List JobHead) (job : JobHead) → walk rows (jobs ++ job ∷ []) at ≡ with_next rows at (walk rows jobs at) job)
       → (rows : List SystemRow) (at : Moment) (seen rest : List JobHead) (before after : X) → Took Walked before (map (λ j. due_cells (due_of j)) rest) after → IsLeft (may_be_called rows at) (limit before) (dues before) → dues before ≡ walk rows seen at

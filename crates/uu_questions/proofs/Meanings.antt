@@ -11,7 +11,7 @@ use Rattle.sqlite_sql.specs.declared.ops.CompareOp.TheVariants.{Le, Lt}
 use Rattle.sqlite_sql.specs.declared.ops.ArithOp.TheVariants.{Add}
 use Rattle.uu_sql.specs.Layout.{over, where_is, equal_terms}
 use Rattle.uu_sql.proofs.Asks.{Means, ordered}
-use Rattle.uu_sql.proofs.Questions.{IsQuestion}
+use Rattle.uu_sql.specs.Queries.{IsQuery}
 use Rattle.uu_schema.specs.Schema.{site, spool, systems, lines, ranges, jobs, pieces, entries, success_waits}
 use Rattle.uu_questions.specs.Texts.{next_text, known_text, waiting_text, head_text, system_text, lines_of_text, ranges_of_text, waits_of_text, all_jobs_text, jobs_text, pieces_text, entry_text, held_text, open_text, due_jobs_text}
 use Rattle.uu_rows.proofs.Meanings.{at_places, by_places, is_first, head_names, system_names, line_names, range_names, wait_names}
@@ -22,7 +22,7 @@ pub next_means : Means site next_text (ordered spool.tree (is_first ∷ []) (at_
 unfolding understood everything
 next_means = record { command = refl; plain = (refl, refl); listing = refl }
 
-pub next_ask : IsQuestion next_text
+pub next_ask : IsQuery next_text
 unfolding everything
 next_ask = refl
 

@@ -35,6 +35,6 @@ IsLeft may limit dues = (name : List ℕ) (grade : ℕ) → is_within (limit nam
 abbrev pub with_due : (List ℕ → ℕ → Bool) → List Due → Due → List Due
 with_due may dues due = if may due.system due.grade && not (is_listed dues due.system) then dues ++ due ∷ [] else dues
 
--- what one more row does to the limits that are left and to what is listed
-abbrev pub Offers : (List ℕ → Option ℕ) → List Due → Row → (List ℕ → Option ℕ) → List Due → Type 0
-Offers limit dues row left more = (may : List ℕ → ℕ → Bool) (due : Due) → row ≡ due_cells due → IsLeft may limit dues → IsLeft may left more × (more ≡ with_due may dues due)
+-- A row is taken: its job is listed if its system may be called for it and isn't listed yet, and then the system is no longer left.
+abbrev pub TakesRow : (List ℕ → Option ℕ) → List Due → Row → (List ℕ → Option ℕ) → List Due → Type 0
+TakesRow limit dues row left more = (may : List ℕ → ℕ → Bool) (due : Due) → row ≡ due_cells due → IsLeft may limit dues → IsLeft may left more × (more ≡ with_due may dues due)

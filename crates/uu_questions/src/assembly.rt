@@ -13,7 +13,10 @@ use uu_check::{Rows, are_tables};
 use uu_core::{CallState, Outcome, SystemRow};
 use uu_names::{Listed, Word};
 use uu_rows::RowFault;
-use uu_tables::{CallColumns, LineColumns, RangeColumns, SystemColumns, WaitColumns};
+use uu_tables::{
+    CALL_FAILED, CALL_MADE, CallColumns, LineColumns, NEVER_CALLED, RangeColumns, SystemColumns,
+    WaitColumns,
+};
 use uu_times::{Line, SystemDef, Windows};
 
 /// A row to which rows of another table belong.
@@ -136,9 +139,9 @@ fn outcome_of(call: &CallColumns) -> Result<Outcome, RowFault>
     ensures bad { (outcome : Outcome) → NotIf result (HasOutcome call.now outcome) }
 {
     match (call.outcome, &call.why) {
-        (0, None) => Ok(Outcome::Never),
-        (1, Some(why)) => Ok(Outcome::Failed(why.clone()?)),
-        (2, None) => Ok(Outcome::Done),
+        (NEVER_CALLED, None) => Ok(Outcome::Never),
+        (CALL_FAILED, Some(why)) => Ok(Outcome::Failed(why.clone()?)),
+        (CALL_MADE, None) => Ok(Outcome::Done),
         _ => Err(RowFault::Bad),
     }
 }

@@ -1,10 +1,9 @@
 // Which systems may be called now, and for which grades.
-ghost use Rattle.std.specs.Prelude.{◌≡◌, ◌&&◌, ◌||◌, not, false, ℕ, List, map, filter, IfOk, OnOk, nat_le, max};
+ghost use Rattle.std.specs.Prelude.{◌≡◌, ◌&&◌, not, false, ℕ, List, map, filter, IfOk};
 ghost use Rattle.std.specs.Ordering.{nat_cmp};
 ghost use Rattle.std.specs.Cmp.Lexicographic.{slice_cmp};
 ghost use Rattle.std.specs.BTreeMap.{get};
 ghost use Rattle.sqlite.specs.Held.{state};
-ghost use Rattle.uu_core.specs.State.{same_text};
 ghost use Rattle.uu_core.specs.Waiting.{is_held};
 ghost use Rattle.uu_core.specs.Due.{is_within, may_be_called};
 ghost use Rattle.uu_tables.specs.Tables.{system_columns};
@@ -15,6 +14,7 @@ use crate::asks::typed_rows;
 use sqlite::{Alter, Connection, Error, params};
 use std::alloc::{AllocError, Global};
 use std::collections::BTreeMap;
+use uu_core::callable::lower;
 use uu_names::{Grade, SiteName};
 use uu_tables::{LineColumns, SystemColumns};
 use uu_times::Moment;
@@ -70,29 +70,6 @@ fn open_lines<S: Alter>(
 }
 
 // ---- limits
-
-fn lower_of(grade: Grade, other: Grade) -> Grade
-    ensures { result ≡ max grade other }
-{
-    grade.max(other)
-}
-
-// The system may be called for this grade too, and for each that is higher.
-fn lower(
-    limits: &mut BTreeMap<SiteName, Grade>,
-    name: &SiteName,
-    lowest: Grade,
-) -> Result<(), AllocError>
-    ensures { OnOk result ((other : List ℕ) (grade : ℕ) → is_within (get (slice_cmp nat_cmp) limits.new other) grade
-        ≡ (is_within (get (slice_cmp nat_cmp) limits.old other) grade || (same_text name.now other && nat_le grade lowest))) }
-{
-    let lowest = match limits.get(name).copied() {
-        Some(other) => lower_of(lowest, other),
-        None => lowest,
-    };
-    limits.insert(name.clone()?, lowest)?;
-    Ok(())
-}
 
 // The lowest grade of the lines of each system.
 fn lowest_of(alloc: Global, lines: &[LineColumns]) -> Result<BTreeMap<SiteName, Grade>, AllocError>

@@ -16,7 +16,7 @@ ghost use Rattle.uu_names.specs.Name.{is_site_name};
 ghost use Rattle.uu_rows.specs.Readable.{IsSmall};
 ghost use Rattle.uu_rows.specs.Values.{NotIf};
 ghost use Rattle.uu_questions.specs.Answers.{Answers};
-ghost use Rattle.uu_questions.specs.Dues.{IsLeft, Offers, due_cells, with_due};
+ghost use Rattle.uu_questions.specs.Dues.{IsLeft, TakesRow, due_cells, with_due};
 
 use crate::callable::callable;
 use crate::walk::{RowTaker, walk_rows};
@@ -24,6 +24,7 @@ use sqlite::{Alter, Connection, Error, Row};
 use std::alloc::{AllocError, Global};
 use std::collections::BTreeMap;
 use uu_core::Due;
+use uu_core::callable::is_free;
 use uu_core::laws::{walks_go_job_by_job, walks_list_what_is_due};
 use uu_names::{Grade, SiteName};
 use uu_rows::{RowFault, grade_in, name_in, number_in, or_error};
@@ -49,15 +50,6 @@ fn due_in(alloc: Global, row: &Row) -> Result<Due, Error>
     or_error(read_due(alloc, row))
 }
 
-fn is_free(left: &BTreeMap<SiteName, Grade>, due: &Due) -> bool
-    ensures { result ≡ is_within (get (slice_cmp nat_cmp) left.now due.now.system) due.now.grade }
-{
-    match left.get(&due.system) {
-        Some(lowest) => due.grade <= *lowest,
-        None => false,
-    }
-}
-
 // Lists the job if its system may be called for it, and lets the system go then.
 fn offer(
     left: &mut BTreeMap<SiteName, Grade>,
@@ -67,7 +59,7 @@ fn offer(
     ensures { OnOk result ((may : List ℕ → ℕ → Bool) → IsLeft may (get (slice_cmp nat_cmp) left.old) dues.old.items
         → IsLeft may (get (slice_cmp nat_cmp) left.new) dues.new.items × (dues.new.items ≡ with_due may dues.old.items due)) }
 {
-    if is_free(left, &due) {
+    if is_free(left, &due.system, due.grade) {
         left.remove(&due.system);
         dues.push(due)?;
     }
@@ -83,7 +75,7 @@ struct DueWalk {
 }
 
 impl RowTaker for DueWalk {
-    ghost takes = { λ old row new. Offers (get (slice_cmp nat_cmp) old.left) old.dues.items row (get (slice_cmp nat_cmp) new.left) new.dues.items };
+    ghost takes = { λ old row new. TakesRow (get (slice_cmp nat_cmp) old.left) old.dues.items row (get (slice_cmp nat_cmp) new.left) new.dues.items };
 
     fn take(&mut self, row: &Row) -> Result<(), Error> {
         let due = due_in(self.alloc, row)?;

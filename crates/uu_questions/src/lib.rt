@@ -5,7 +5,6 @@
 
 mod asks;
 mod assembly;
-mod before;
 mod callable;
 mod due;
 mod entries;
@@ -14,9 +13,8 @@ mod jobs;
 mod systems;
 mod walk;
 
-pub use before::facts_for;
 pub use due::systems_due;
 pub use entries::entry_of_host;
-pub use facts::next_number;
+pub use facts::{facts_for, next_number};
 pub use jobs::{job_of_number, list_jobs};
 pub use systems::all_systems;

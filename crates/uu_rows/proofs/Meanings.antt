@@ -7,7 +7,7 @@ use Rattle.sqlite.specs.Listing.{understood}
 use Rattle.sqlite_value.specs.declared.keys.Key.{Key}
 use Rattle.uu_sql.specs.Layout.{equal_terms}
 use Rattle.uu_sql.proofs.Asks.{Means, ordered, up}
-use Rattle.uu_sql.proofs.Questions.{IsQuestion}
+use Rattle.uu_sql.specs.Queries.{IsQuery}
 use Rattle.uu_schema.specs.Schema.{site, site_of, systems, lines, ranges, success_waits}
 use Rattle.uu_schema.specs.declared.version.Version.{Version}
 use Rattle.uu_schema.specs.declared.version.Version.TheVariants.{First, Second}
@@ -66,18 +66,18 @@ waits_means = record { command = refl; plain = (refl, refl); listing = refl }
 
 -- ---- each is a query
 
-pub waits_ask : IsQuestion waits_text
+pub waits_ask : IsQuery waits_text
 unfolding everything
 waits_ask = refl
 
-pub systems_ask : IsQuestion systems_text
+pub systems_ask : IsQuery systems_text
 unfolding everything
 systems_ask = refl
 
-pub lines_ask : IsQuestion lines_text
+pub lines_ask : IsQuery lines_text
 unfolding everything
 lines_ask = refl
 
-pub ranges_ask : IsQuestion ranges_text
+pub ranges_ask : IsQuery ranges_text
 unfolding everything
 ranges_ask = refl

@@ -4,19 +4,17 @@ use Rattle.std.specs.Prelude.{ℕ, List, Vec, IfOk, IsOk, IfErr, OnOk, Result}
 use Rattle.std.specs.declared.alloc.Global.{Global}
 use Rattle.sqlite.specs.declared.error.Error.{Error}
 use Rattle.sqlite.specs.Order.{Row}
-use Rattle.sqlite.specs.Query.{Query}
 use Rattle.sqlite.specs.State.{State, HasCleanDisk, Shown, FailsToQuery, Survives, CommitsShowing}
-use Rattle.uu_sql.proofs.Asks.{Means}
-use Rattle.uu_sql.proofs.Answers.{told}
-use Rattle.uu_sql.proofs.Questions.{IsQuestion, same_read}
+use Rattle.uu_sql.specs.Queries.{IsQuery}
+use Rattle.uu_sql.proofs.Questions.{same_read, told}
 use Rattle.uu_schema.specs.Schema.{site}
 use Rattle.uu_rows.specs.Shows.{Shows}
 
-pub shows : (text : List ℕ) (q : Query) (names : List (List ℕ)) (params : Row) (old new : State) → Means site text q names → IsQuestion text
-    → (r : Result (Vec Row Global) Error) → (HasCleanDisk new → IfOk r (λ rows. Shown text params old new rows.items)) → (HasCleanDisk new → IfErr r (FailsToQuery text params old new))
+pub shows : (text : List ℕ) (params : Row) (old new : State) → IsQuery text → (r : Result (Vec Row Global) Error)
+    → (HasCleanDisk new → IfOk r (λ rows. Shown text params old new rows.items)) → (HasCleanDisk new → IfErr r (FailsToQuery text params old new))
     → Survives old new (CommitsShowing text params old) → Shows text params old new r
-shows text q names params old new means is r ok err survives = record {
-  told = told site text q names params old new means r ok err survives;
+shows text params old new is r ok err survives = record {
+  told = told text is params old new site r ok err survives;
   same = λ clean. go r (ok clean);
   rows = ok;
   refused = err;

@@ -1,11 +1,22 @@
-// The rows of the systems, of their lines, of the ranges of these and of their success waits, in the order of their keys.
+// Queries in SQL without parameters, and those that taking a database and asking a spool share.
 ghost use Rattle.std.specs.Prelude.{◌≡◌, false, []};
 ghost use Rattle.sqlite.specs.Held.{state};
 ghost use Rattle.uu_rows.specs.Texts.{systems_text, lines_text, ranges_text, waits_text};
+ghost use Rattle.uu_sql.specs.Queries.{IsQuery};
 ghost use Rattle.uu_sql.specs.Spares.{Spares};
 ghost use Rattle.uu_rows.specs.Shows.{Shows};
 
 use sqlite::{Alter, Connection, Error, Row};
+
+/// The rows that a query shows.
+pub fn ask<S: Alter>(conn: &mut Connection<S>, sql: &str) -> Result<Vec<Row>, Error>
+    requires { IsQuery sql.now }
+    ensures idle { conn.old.in_transaction ≡ false → conn.new.in_transaction ≡ false }
+    ensures shows { Shows sql.now [] (state S.Store conn.old) (state S.Store conn.new) result }
+    ensures spares { Spares (state S.Store conn.old) (state S.Store conn.new) result }
+{
+    conn.query_all(sql, &[])
+}
 
 /// All systems, by name.
 pub fn ask_systems<S: Alter>(conn: &mut Connection<S>) -> Result<Vec<Row>, Error>
@@ -13,9 +24,9 @@ pub fn ask_systems<S: Alter>(conn: &mut Connection<S>) -> Result<Vec<Row>, Error
     ensures shows { Shows systems_text [] (state S.Store conn.old) (state S.Store conn.new) result }
     ensures spares { Spares (state S.Store conn.old) (state S.Store conn.new) result }
 {
-    conn.query_all(
+    ask(
+        conn,
         "SELECT name, max_retries, last, failures, wait, outcome, why FROM systems ORDER BY name",
-        &[],
     )
 }
 
@@ -25,9 +36,9 @@ pub fn ask_lines<S: Alter>(conn: &mut Connection<S>) -> Result<Vec<Row>, Error>
     ensures shows { Shows lines_text [] (state S.Store conn.old) (state S.Store conn.new) result }
     ensures spares { Spares (state S.Store conn.old) (state S.Store conn.new) result }
 {
-    conn.query_all(
+    ask(
+        conn,
         "SELECT system, place, rank, retry FROM lines ORDER BY system, place",
-        &[],
     )
 }
 
@@ -37,9 +48,9 @@ pub fn ask_ranges<S: Alter>(conn: &mut Connection<S>) -> Result<Vec<Row>, Error>
     ensures shows { Shows ranges_text [] (state S.Store conn.old) (state S.Store conn.new) result }
     ensures spares { Spares (state S.Store conn.old) (state S.Store conn.new) result }
 {
-    conn.query_all(
+    ask(
+        conn,
         "SELECT system, place, low, high FROM ranges ORDER BY system, place, low",
-        &[],
     )
 }
 
@@ -49,8 +60,8 @@ pub fn ask_waits<S: Alter>(conn: &mut Connection<S>) -> Result<Vec<Row>, Error>
     ensures shows { Shows waits_text [] (state S.Store conn.old) (state S.Store conn.new) result }
     ensures spares { Spares (state S.Store conn.old) (state S.Store conn.new) result }
 {
-    conn.query_all(
+    ask(
+        conn,
         "SELECT system, wait FROM success_waits ORDER BY system",
-        &[],
     )
 }

@@ -18,7 +18,8 @@ use std::alloc::Global;
 use uu_core::{JobHead, Kind};
 use uu_names::Listed;
 use uu_tables::{
-    CallColumns, EntryColumns, LineColumns, PieceSize, RangeColumns, SystemColumns, WaitColumns,
+    CallColumns, EXECUTE, EntryColumns, LineColumns, PieceSize, REQUEST, RangeColumns, SEND,
+    SystemColumns, WaitColumns,
 };
 
 /// The row, if it has this many columns.
@@ -129,13 +130,6 @@ impl TypedRow for WaitColumns {
         })
     }
 }
-
-// The number by which a row names a job that sends a file, one that fetches a file, and one that runs a command.
-const SEND: u32 = 0;
-
-const REQUEST: u32 = 1;
-
-const EXECUTE: u32 = 2;
 
 // What the job is for.
 fn kind_in(alloc: Global, row: &Row) -> Result<Kind, RowFault>

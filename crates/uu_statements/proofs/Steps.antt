@@ -24,20 +24,20 @@ use Rattle.uu_schema.specs.declared.fault.StoreKind.{StoreKind}
 use Rattle.uu_schema.specs.declared.fault.StoreFault.TheVariants.{Memory, Store}
 use Rattle.uu_schema.specs.declared.fault.Halt.{Halt}
 use Rattle.uu_schema.specs.declared.fault.Halt.TheVariants.{Before, Commit}
-use Rattle.uu_statements.specs.Step.{Encodes, IsStep, IsToldStep}
+use Rattle.uu_statements.specs.Step.{HasTables, IsWrittenStep, IsToldStep}
 
 module _ (s : State) (command : Command) (a : db.State) where
   module _ (b : db.State) (plan : Plan) (planned : IsPlan s command plan) {T E : Type 0} (w : Result T E) (whole : Whole site site (MakesAll plan.changes.items) a b w) where
     means : (old new : Trees) → Holds old (tables_of s) → MakesAll plan.changes.items old new → Holds new (tables_of (after s command).0)
     means old new holds made = subst (Holds new) planned.tables (made (tables_of s) holds)
 
-    left : db.HasCleanDisk b → Rests a → Encodes a.now s → (trees : Trees) → b.may_leave trees → a.may_leave trees ⊎ (IsSound site trees × Holds trees (tables_of (after s command).0))
+    left : db.HasCleanDisk b → Rests a → HasTables a.now s → (trees : Trees) → b.may_leave trees → a.may_leave trees ⊎ (IsSound site trees × Holds trees (tables_of (after s command).0))
     left clean rests enc trees may = elim (whole.survives.crash clean trees may) [
       | inl was ↦ inl was
       | inr made ↦ inr (let m = made enc.stands in (m.1, means a.now.trees trees enc.holds m.0))
     ]
 
-    pub step_written : {F : Type 0} → IsOk w → IsStep {E = F} s command a b (Ok plan.reply)
+    pub step_written : {F : Type 0} → IsOk w → IsWrittenStep {E = F} s command a b (Ok plan.reply)
     step_written done = record {
       ok = λ clean rests enc.
           let did = did_of w (whole.ends clean enc.stands) done in
@@ -51,7 +51,7 @@ module _ (s : State) (command : Command) (a : db.State) where
         did_of (Ok x) ends done = ends
         did_of (Err e) ends done = absurd (cc)
 
-    pub step_unwritten : {F : Type 0} (r : Result Reply F) → IsErr r → IsErr w → IsStep s command a b r
+    pub step_unwritten : {F : Type 0} (r : Result Reply F) → IsErr r → IsErr w → IsWrittenStep s command a b r
     step_unwritten (Ok x) fails undone = absurd (cc)
     step_unwritten (Err e) fails undone = record {
       ok = λ clean rests enc. tt;
@@ -60,11 +60,11 @@ module _ (s : State) (command : Command) (a : db.State) where
       clean = whole.survives.clean;
     }
       where
-        back : (w : Result T E) → Ends site (MakesAll plan.changes.items) a b w → IsErr w → Rests a → IsTrue b.is_open → Encodes a.now s → Rests b × Encodes b.now s
+        back : (w : Result T E) → Ends site (MakesAll plan.changes.items) a b w → IsErr w → Rests a → IsTrue b.is_open → HasTables a.now s → Rests b × HasTables b.now s
         back (Ok x) ends undone rests is_open enc = absurd (cc)
         back (Err e) ends undone rests is_open enc =
             let u = ends.undone is_open in
-            (record { is_open = is_open; idle = whole.idle; settled = u.0 ∙ sym u.1 }, subst (λ d. Encodes d s) (sym (u.0 ∙ sym rests.settled)) enc)
+            (record { is_open = is_open; idle = whole.idle; settled = u.0 ∙ sym u.1 }, subst (λ d. HasTables d s) (sym (u.0 ∙ sym rests.settled)) enc)
 
 -- ---- the fault that the caller is told
 
@@ -83,15 +83,15 @@ memory_before a b d (Before error) fault before commit over is = survives_then a
 memory_before a b d (Commit error) fault before commit over is = absurd (store_is_not_memory (kind_of_error error) (sym (commit error refl) ∙ is))
 
 -- nothing differs, so the connection is at rest and encodes what it did
-unchanged : (s : State) (b d : db.State) → db.IsUnchanged b d → Rests b → Encodes b.now s → Rests d × Encodes d.now s
+unchanged : (s : State) (b d : db.State) → db.IsUnchanged b d → Rests b → HasTables b.now s → Rests d × HasTables d.now s
 unchanged s b d same rests enc =
-    (record { is_open = same.0.is_open; idle = same.0.mode ∙ rests.idle; settled = same.0.now_is ∙ rests.settled ∙ sym same.0.committed_is }, subst (λ now. Encodes now s) (sym same.0.now_is) enc)
+    (record { is_open = same.0.is_open; idle = same.0.mode ∙ rests.idle; settled = same.0.now_is ∙ rests.settled ∙ sym same.0.committed_is }, subst (λ now. HasTables now s) (sym same.0.now_is) enc)
 
 module _ (s : State) (command : Command) (a b : db.State) where
-  pub told_written : {E : Type 0} (reply : Reply) → IsStep {E = E} s command a b (Ok reply) → IsToldStep s command a b (Ok reply)
+  pub told_written : {E : Type 0} (reply : Reply) → IsWrittenStep {E = E} s command a b (Ok reply) → IsToldStep s command a b (Ok reply)
   told_written reply step = record { ok = step.ok; memory = λ clean rests enc is. absurd (cc); stop = step.stop; clean = step.clean }
 
-  pub told_unwritten : {E : Type 0} (d : db.State) (e : E) (fault : StoreFault) → IsStep s command a b (Err e) → (db.HasCleanDisk d → fault ≡ Memory → IsTrue b.is_open × db.IsUnchanged b d) → db.Survives b d (λ _. ⊥)
+  pub told_unwritten : {E : Type 0} (d : db.State) (e : E) (fault : StoreFault) → IsWrittenStep s command a b (Err e) → (db.HasCleanDisk d → fault ≡ Memory → IsTrue b.is_open × db.IsUnchanged b d) → db.Survives b d (λ _. ⊥)
       → IsToldStep s command a d (Err fault)
   told_unwritten d e fault step memory over = record {
     ok = λ clean rests enc. tt;
@@ -111,8 +111,8 @@ module _ (s : State) (command : Command) (a b : db.State) where
     clean = told.asked.survives.clean;
   }
     where
-      here : db.HasCleanDisk b → Rests a → Encodes a.now s → Rests b × Encodes b.now s
-      here clean rests enc = let it = told_same site a b q ok told clean (record { rests = rests; stands = enc.stands }) in (it.0.rests, subst (λ now. Encodes now s) (sym it.1) enc)
+      here : db.HasCleanDisk b → Rests a → HasTables a.now s → Rests b × HasTables b.now s
+      here clean rests enc = let it = told_same site a b q ok told clean (record { rests = rests; stands = enc.stands }) in (it.0.rests, subst (λ now. HasTables now s) (sym it.1) enc)
 
   -- a question was refused
   pub told_unanswered : (d : db.State) (fault : StoreFault) → Asked site a b → (db.HasCleanDisk d → fault ≡ Memory → IsTrue b.is_open × db.IsUnchanged b d) → db.Survives b d (λ _. ⊥) → IsToldStep s command a d (Err fault)
@@ -120,7 +120,7 @@ module _ (s : State) (command : Command) (a b : db.State) where
     ok = λ clean rests enc. tt;
     memory = λ clean rests enc is.
         let m = memory clean (is_memory fault is) in
-        let it = asked.same (omega (arith, over.clean)) (record { rests = rests; stands = enc.stands }) m.0 in unchanged s b d m.1 it.0.rests (subst (λ now. Encodes now s) (sym it.1) enc);
+        let it = asked.same (omega (arith, over.clean)) (record { rests = rests; stands = enc.stands }) m.0 in unchanged s b d m.1 it.0.rests (subst (λ now. HasTables now s) (sym it.1) enc);
     stop = λ clean rests enc trees may. elim (over.crash clean trees may) [
       | inl was ↦ elim (asked.survives.crash (omega (arith, over.clean)) trees was) [ inl first ↦ inl first | inr never ↦ absurd (never (record { rests = rests; stands = enc.stands })) ]
       | inr none ↦ absurd none
@@ -142,5 +142,5 @@ module _ (s : State) (command : Command) (a b : db.State) where
     clean = omega (arith, told.asked.survives.clean, step.clean);
   }
     where
-      here : db.HasCleanDisk c → Rests a → Encodes a.now s → Rests b × Encodes b.now s
-      here clean rests enc = let it = told_same site a b q ok told (omega (arith, step.clean)) (record { rests = rests; stands = enc.stands }) in (it.0.rests, subst (λ now. Encodes now s) (sym it.1) enc)
+      here : db.HasCleanDisk c → Rests a → HasTables a.now s → Rests b × HasTables b.now s
+      here clean rests enc = let it = told_same site a b q ok told (omega (arith, step.clean)) (record { rests = rests; stands = enc.stands }) in (it.0.rests, subst (λ now. HasTables now s) (sym it.1) enc)

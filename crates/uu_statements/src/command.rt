@@ -10,7 +10,7 @@ ghost use Rattle.uu_tables.specs.Plans.{IsPlan};
 ghost use Rattle.uu_schema.specs.Faults.{IsFresh};
 ghost use Rattle.uu_schema.specs.declared.fault.Halt.TheVariants.{Before};
 ghost use Rattle.uu_schema.specs.declared.fault.StoreFault.TheVariants.{Memory};
-ghost use Rattle.uu_statements.specs.Step.{IsStep, IsToldStep};
+ghost use Rattle.uu_statements.specs.Step.{IsWrittenStep, IsToldStep};
 
 use crate::changes::commit;
 use sqlite::{Alter, Connection};
@@ -29,7 +29,7 @@ fn write_plan<S: Alter>(
     ensures idle { conn.new.in_transaction ≡ false }
     ensures clean { doubt (state S.Store conn.old).is_clean ≤ doubt (state S.Store conn.new).is_clean }
     ensures untouched { plan.entry.changes.items ≡ [] → (result ≡ Ok plan.entry.reply) × (conn.new ≡ conn.old) }
-    ensures step { (s : State) → (command : Command) → IsPlan s command plan.entry → IsStep s command (state S.Store conn.old) (state S.Store conn.new) result }
+    ensures step { (s : State) → (command : Command) → IsPlan s command plan.entry → IsWrittenStep s command (state S.Store conn.old) (state S.Store conn.new) result }
     ensures before { (error : Error) → result ≡ Err (Before error) → Survives (state S.Store conn.old) (state S.Store conn.new) (λ _. ⊥) }
 {
     if plan.changes.is_empty() {

@@ -7,15 +7,7 @@ ghost use Rattle.uu_statements.specs.Words.{IsWork};
 use std::alloc::{AllocError, Global};
 use uu_core::Kind;
 use uu_names::Word;
-
-/// The number by which a row names a job that sends a file.
-const SEND: u32 = 0;
-
-/// That of a job that fetches a file.
-const REQUEST: u32 = 1;
-
-/// That of a job that runs a command.
-const EXECUTE: u32 = 2;
+use uu_tables::{EXECUTE, REQUEST, SEND};
 
 /// The columns of a job that tell what it is for.
 #[derive(Drop)]

@@ -45,7 +45,7 @@ use Rattle.uu_schema.specs.declared.fault.StoreKind.{StoreKind}
 use Rattle.uu_schema.specs.declared.fault.StoreKind.TheVariants as part
 use Rattle.uu_schema.specs.Faults.{kind_of_error}
 use Rattle.uu_database.specs.FoundTables.{HasNoneOrAll, HasOther}
-use Rattle.uu_store.specs.Openings.{HasSome, ImageHasOther, StaysAfter, ImageKeeps, IsFound, IsFoundIfClean, HasOpeningCause, IsNamed, IsNotTaken, IsOfNoContents, IsToldRightly, LeavesAlone, LeavesAsKept, LeavesSame, remains_of, remains_of_opening}
+use Rattle.uu_store.specs.Openings.{HasSome, ImageHasOther, StaysAfter, ImageKeeps, IsFound, IsFoundIfClean, HasOpeningCause, IsRightFault, IsNotTaken, IsOfNoContents, IsToldRightly, LeavesAlone, LeavesAsKept, LeavesSame, remains_of, remains_of_opening}
 use Rattle.uu_database.proofs.Creating.{none_or_other, some_or_other}
 use Rattle.uu_store.proofs.Images.{unfound, stop_has}
 use Rattle.uu_store.proofs.Reopening.{simple_of, stands_again, stores_of}
@@ -196,7 +196,7 @@ away_alone image opened found stopped fault away clean trees held each left may 
     (away_same image opened found stopped fault away clean trees held each) left may) (is_left trees left)
 
 pub away_named : {D : Type 0} {g : disk.Ghosts D} (image : Image) (opened : Held (FileStore D g)) → IsFoundIfClean over_files image opened → (stopped : FileStore D g) (fault : StoreFault)
-    → IsNotTaken over_files opened stopped fault → IsNamed image fault (remains.Store stopped)
+    → IsNotTaken over_files opened stopped fault → IsRightFault image fault (remains.Store stopped)
 away_named image opened found stopped fault away clean = away_rightly image opened found stopped fault away clean
 
 -- ---- where nothing was opened
@@ -224,12 +224,12 @@ module _ {D : Type 0} {g : disk.Ghosts D} (image : Image) where
   alone_of_opening fault (Some it) = tt
 
   pub named_of_opening : (o : Option (Leftover D g)) (error : Error) (fault : StoreFault) → (fault ≢ Failed) × IsOfNoContents fault → ((kind : StoreKind) → fault ≡ Store kind → kind ≡ kind_of_error error)
-      → (o ≡ None → (error ≡ SqliteFailure CannotOpen) ⊎ ((error ≡ SqliteFailure OutOfMemory) ⊎ (error ≡ SqliteFailure DatabaseBusy))) → IfSome o (λ it. IsCleanLeft it → (which : StoreKind) → fault ≡ Store which → HasOpeningCause image which it) → IsNamed image fault (remains_of_opening o)
+      → (o ≡ None → (error ≡ SqliteFailure CannotOpen) ⊎ ((error ≡ SqliteFailure OutOfMemory) ⊎ (error ≡ SqliteFailure DatabaseBusy))) → IfSome o (λ it. IsCleanLeft it → (which : StoreKind) → fault ≡ Store which → HasOpeningCause image which it) → IsRightFault image fault (remains_of_opening o)
   named_of_opening None error fault named kinds why cause = refused_as error fault named kinds (why refl)
   named_of_opening (Some it) error fault named kinds why cause = (named.1, cause)
 
-pub named_as : {D : Type 0} {g : disk.Ghosts D} (image : Image) (it : OpenFault D g) (fault : StoreFault) (left : Remains D g) → it.fault ≡ fault → remains_of it ≡ left → IsNamed image fault left → IsNamed image it.fault (remains_of it)
-named_as image it fault left same there named = subst (λ fault. IsNamed image fault (remains_of it)) (sym same) (subst (IsNamed image fault) (sym there) named)
+pub named_as : {D : Type 0} {g : disk.Ghosts D} (image : Image) (it : OpenFault D g) (fault : StoreFault) (left : Remains D g) → it.fault ≡ fault → remains_of it ≡ left → IsRightFault image fault left → IsRightFault image it.fault (remains_of it)
+named_as image it fault left same there named = subst (λ fault. IsRightFault image fault (remains_of it)) (sym same) (subst (IsRightFault image fault) (sym there) named)
 
 pub alone_as : {D : Type 0} {g : disk.Ghosts D} (image : Image) (it : OpenFault D g) (fault : StoreFault) (left : Remains D g) → it.fault ≡ fault → remains_of it ≡ left → LeavesAlone image fault left → LeavesAlone image it.fault (remains_of it)
 alone_as image it fault left same there alone = subst (λ fault. LeavesAlone image fault (remains_of it)) (sym same) (subst (LeavesAlone image fault) (sym there) alone)

@@ -178,7 +178,7 @@ ran_one old new command (Err fault) settles step memory stop stays = record {
 
 -- a question
 module _ {S : Type 0} {g : Ghosts S} {T : Type 0} (IsAnswer : State → T → Type 0) (old now : Spool S g) (held : Held S) (same : connection_of now ≡ held) (settles : Settles (disk old)) where
-  still : (r : Result T StoreFault) → IsAnswered IsAnswer (disk old) (state g held) r → db.HasCleanDisk (disk now) → (s : State) → Shows old s → Leaves (disk now) s
+  pub still : (r : Result T StoreFault) → IsAnswered IsAnswer (disk old) (state g held) r → db.HasCleanDisk (disk now) → (s : State) → Shows old s → Leaves (disk now) s
   still r it clean s shows = subst (λ h. Leaves (state g h) s) (sym same) (λ trees may.
       leaves s (disk old) settles shows.rests shows.encodes trees (it.stop (clean_before now held same clean) s shows.rests shows.encodes trees may))
 

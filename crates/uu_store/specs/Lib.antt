@@ -6,5 +6,6 @@ pub mod Stretches
 pub mod Acknowledged
 pub mod Remembered
 pub mod Openings
+pub mod Questions
 pub mod Files
 pub mod Closing

@@ -165,13 +165,13 @@ module _ {D : Type 0} {g : disk.Ghosts D} where
   HasOpeningCause before kind.Size it = ⊥
   HasOpeningCause before kind.Database it = ¬ IsOpenable before
 
-  -- The fault names the contents rightly: only a database that was opened is called foreign or newer, and none that keeps a state, nor files
+  -- The fault is right for what the files held: only a database that was opened is called foreign or newer, and none that keeps a state, nor files
   -- that held nothing; one where a name of the spool's tables is taken and no table tells a version is called foreign, and one with exactly the
   -- tables rightly. Where no database was opened, a fault of the store has a cause. Files that were not opened were refused by the system, or there was no
   -- memory.
-  abbrev pub IsNamed : Image → StoreFault → Remains D g → Type 0
-  IsNamed before fault remains.Unopened = (fault ≡ Memory) ⊎ (fault ≡ Store Database)
-  IsNamed before fault (remains.Files it) = IsOfNoContents fault × (IsCleanLeft it → (which : StoreKind) → fault ≡ Store which → HasOpeningCause before which it)
-  IsNamed before fault (remains.Store it) =
+  abbrev pub IsRightFault : Image → StoreFault → Remains D g → Type 0
+  IsRightFault before fault remains.Unopened = (fault ≡ Memory) ⊎ (fault ≡ Store Database)
+  IsRightFault before fault (remains.Files it) = IsOfNoContents fault × (IsCleanLeft it → (which : StoreKind) → fault ≡ Store which → HasOpeningCause before which it)
+  IsRightFault before fault (remains.Store it) =
       IsTrue (store.view it).is_clean → ((s : State) → ImageKeeps before s → IsOfNoContents fault) × (ImageHasOther before → fault ≡ Foreign)
       × ((v : Version) (trees : Trees) → HoldsDatabase before trees → IsSound (site_of v) trees → IsToldRightly v trees fault)

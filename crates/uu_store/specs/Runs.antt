@@ -22,13 +22,17 @@ GoesOn (Some Failed) = ⊥
 GoesOn (Some Foreign) = ⊥
 GoesOn (Some Newer) = ⊥
 
--- What a run did where the spool showed a state: with k replies, the first k commands were steps of the machine, and these are its replies.
+-- the commands that were answered, by these replies: as many of the first
+abbrev pub answered : List Reply → List Command → List Command
+answered replies commands = take (length replies) commands
+
+-- What a run did where the spool showed a state: the commands that were answered were steps of the machine, and the replies are its replies.
 -- The spool shows the state after them, and a stop leaves that; where the store failed, that or the state after one more command.
 pub record RanFrom {S : Type 0} {g : Ghosts S} (s : State) (commands : List Command) (new : Spool S g) (replies : List Reply) (stopped : Option StoreFault) : Type 0 where
-  pub answers : replies ≡ replies_to s (take (length replies) commands)
-  pub shows : GoesOn stopped → Shows new (state_after s (take (length replies) commands))
-  pub stop : GoesOn stopped → Leaves (disk new) (state_after s (take (length replies) commands))
-  pub stop_store : LeavesEither (disk new) (state_after s (take (length replies) commands)) (state_after s (take (length replies + 1) commands))
+  pub answers : replies ≡ replies_to s (answered replies commands)
+  pub shows : GoesOn stopped → Shows new (state_after s (answered replies commands))
+  pub stop : GoesOn stopped → Leaves (disk new) (state_after s (answered replies commands))
+  pub stop_store : LeavesEither (disk new) (state_after s (answered replies commands)) (state_after s (take (length replies + 1) commands))
 
 -- what a run did, for each state that the spool may have shown
 pub record Ran {S : Type 0} {g : Ghosts S} (commands : List Command) (old new : Spool S g) (replies : List Reply) (stopped : Option StoreFault) : Type 0 where

@@ -13,7 +13,7 @@ ghost use Rattle.uu_schema.specs.Schema.{site_of};
 ghost use Rattle.uu_database.specs.Adoption.{StopsAs};
 ghost use Rattle.uu_database.specs.Encoded.{EncodesAs};
 ghost use Rattle.uu_database.specs.FoundTables.{HasNoneOrAll};
-ghost use Rattle.uu_store.specs.Openings.{ImageHasOther, ImageKeeps, IsFoundIfClean, IsNamed, IsNotTaken, LeavesAlone, LeavesAsKept, LeavesSame, Started, remains_of};
+ghost use Rattle.uu_store.specs.Openings.{ImageHasOther, ImageKeeps, IsFoundIfClean, IsRightFault, IsNotTaken, LeavesAlone, LeavesAsKept, LeavesSame, Started, remains_of};
 ghost use Rattle.uu_store.specs.Spool.{disk, has_failed, Shows};
 ghost use Rattle.uu_store.specs.Stretches.{Adopted};
 
@@ -58,7 +58,7 @@ pub fn open_spool<T: Start>(
     ensures left_same { IfOk result (λ spool. HasCleanDisk (disk spool) → LeavesSame (image_at T.Start) (disk spool).may_leave) }
 
     // What is left of files that were opened keeps what they kept, and the fault names it rightly.
-    ensures named { IfErr result (λ e. IsNamed (image_at T.Start) e.fault (remains_of e)) }
+    ensures named { IfErr result (λ e. IsRightFault (image_at T.Start) e.fault (remains_of e)) }
     ensures left { IfErr result (λ e. LeavesAsKept (image_at T.Start) (remains_of e)) }
     ensures left_alone { IfErr result (λ e. LeavesAlone (image_at T.Start) e.fault (remains_of e)) }
 
@@ -83,7 +83,7 @@ fn adopted_in_files<D: Disk + Drop>(
     ensures shows { (before : Image) → IsFoundIfClean over_files before conn → IfOk result (λ spool. HasCleanDisk (disk spool) → (s : State) → ImageKeeps before s → Shows spool s) }
     ensures never_other { (before : Image) → IsFoundIfClean over_files before conn → IfOk result (λ spool. HasCleanDisk (disk spool) → ¬ ImageHasOther before) }
     ensures left_same { (before : Image) → IsFoundIfClean over_files before conn → IfOk result (λ spool. HasCleanDisk (disk spool) → LeavesSame before (disk spool).may_leave) }
-    ensures named { (before : Image) → IsFoundIfClean over_files before conn → IfErr result (λ e. IsNamed before e.fault (remains_of e)) }
+    ensures named { (before : Image) → IsFoundIfClean over_files before conn → IfErr result (λ e. IsRightFault before e.fault (remains_of e)) }
     ensures left { (before : Image) → IsFoundIfClean over_files before conn → IfErr result (λ e. LeavesAsKept before (remains_of e)) }
     ensures left_alone { (before : Image) → IsFoundIfClean over_files before conn → IfErr result (λ e. LeavesAlone before e.fault (remains_of e)) }
 {

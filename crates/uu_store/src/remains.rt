@@ -6,7 +6,7 @@ ghost use Rattle.sqlite.specs.declared.error.ErrorCode.TheVariants.{OutOfMemory}
 ghost use Rattle.sqlite_wal.specs.Files.{image_at};
 ghost use Rattle.uu_schema.specs.Faults.{kind_of_error};
 ghost use Rattle.uu_schema.specs.declared.fault.StoreKind.TheVariants.{Database};
-ghost use Rattle.uu_store.specs.Openings.{IsFoundIfClean, IsNamed, IsOfNoContents, LeavesAlone, LeavesAsKept, remains_of, remains_of_opening};
+ghost use Rattle.uu_store.specs.Openings.{IsFoundIfClean, IsRightFault, IsOfNoContents, LeavesAlone, LeavesAsKept, remains_of, remains_of_opening};
 
 use sqlite::{Connection, Error, FileStore, Leftover, Start};
 use sqlite_disk::Disk;
@@ -91,7 +91,7 @@ pub(crate) fn open_files<T: Start>(
     ensures idle { IfOk result (λ conn. conn.in_transaction ≡ false) }
     ensures found { IfOk result (IsFoundIfClean over_files (image_at T.Start)) }
     ensures never_failed { IfErr result (λ e. e.fault ≢ StoreFault.Failed) }
-    ensures named { IfErr result (λ e. IsNamed (image_at T.Start) e.fault (remains_of e)) }
+    ensures named { IfErr result (λ e. IsRightFault (image_at T.Start) e.fault (remains_of e)) }
     ensures left { IfErr result (λ e. LeavesAsKept (image_at T.Start) (remains_of e)) }
     ensures left_alone { IfErr result (λ e. LeavesAlone (image_at T.Start) e.fault (remains_of e)) }
 

@@ -5,7 +5,6 @@ use sqlite::{Alter, Connection};
 use std::alloc::Global;
 use std::mem::drop;
 use uu_core::{Command, Due, Filter, JobHead, Reply, SystemRow};
-use uu_database::{due, entry, find, give, list, next, systems};
 use uu_names::SiteName;
 use uu_schema::{StoreFault, StoreKind};
 use uu_times::Moment;
@@ -38,6 +37,7 @@ impl<S: Alter> Spool<S> {
     ghost use Rattle.uu_database.specs.Calls.{StaysUnclean};
     ghost use Rattle.uu_database.specs.Encoded.{Leaves, LeavesEither};
     ghost use Rattle.uu_store.specs.Spool.{connection_of, disk, failure_of, has_failed, Shows, Marks, Notes};
+    ghost use Rattle.uu_store.specs.Questions.{IsQuestion};
     ghost use Rattle.uu_store.specs.Runs.{Ran, reply_in, fault_in};
     ghost use Rattle.uu_store.specs.Stretches.{IsLetGo};
 
@@ -139,7 +139,7 @@ impl<S: Alter> Spool<S> {
             drop(command);
             return Err(StoreFault::Failed);
         }
-        let answer = give(alloc, &mut self.conn, &command);
+        let answer = uu_database::command(alloc, &mut self.conn, &command);
         drop(command);
         match answer {
             Ok(reply) => Ok(reply),
@@ -153,20 +153,13 @@ impl<S: Alter> Spool<S> {
     /// `Memory`: nothing changed, and the spool can be used. `Store`: the database failed, or holds a row that a spool does not allow; nothing
     /// that is kept changed. From then on every command and question answers `Failed` and does nothing.
     pub fn jobs(&mut self, alloc: Global, filter: &Filter) -> Result<Vec<JobHead>, StoreFault>
-        ensures marked { MatchResult result (λ _. (has_failed self.old ≡ false) × (has_failed self.new ≡ false)) (Marks (has_failed self.old) (has_failed self.new)) }
-        ensures noted { IfErr result (Notes (failure_of self.new)) }
-        ensures answer { HasCleanDisk (disk self.new) → (s : _) → Shows self.old s → IfOk result (λ heads. (heads.items ≡ listed filter.now s) × Shows self.new s) }
+        ensures question { IsQuestion (λ s heads. heads.items ≡ listed filter.now s) self.old self.new result }
         ensures bounds { IfOk result (λ heads. AllByRecursion IsBounded heads.items) }
-        ensures memory { HasCleanDisk (disk self.new) → (s : _) → Shows self.old s → result ≡ Err StoreFault.Memory → Shows self.new s }
-        ensures stop { HasCleanDisk (disk self.new) → (s : _) → Shows self.old s → Leaves (disk self.new) s }
-        ensures clean { StaysUnclean (disk self.old) (disk self.new) }
-        ensures ran { Ran [] self.old self.new [] (fault_in result) }
-        ensures failed { IsTrue (has_failed self.old) → (result ≡ Err StoreFault.Failed) × (self.new ≡ self.old) }
     {
         if self.is_failed() {
             return Err(StoreFault::Failed);
         }
-        match list(alloc, &mut self.conn, filter) {
+        match uu_database::jobs(alloc, &mut self.conn, filter) {
             Ok(answer) => Ok(answer),
             Err(fault) => Err(self.noted(fault)),
         }
@@ -181,21 +174,14 @@ impl<S: Alter> Spool<S> {
         alloc: Global,
         number: u32,
     ) -> Result<Option<(JobHead, Vec<u8>)>, StoreFault>
-        ensures marked { MatchResult result (λ _. (has_failed self.old ≡ false) × (has_failed self.new ≡ false)) (Marks (has_failed self.old) (has_failed self.new)) }
-        ensures noted { IfErr result (Notes (failure_of self.new)) }
-        ensures answer { HasCleanDisk (disk self.new) → (s : _) → Shows self.old s → IfOk result (λ found. (option_map job_shown found ≡ job_at s number) × Shows self.new s) }
+        ensures question { IsQuestion (λ s found. option_map job_shown found ≡ job_at s number) self.old self.new result }
         ensures size { IfOk result (λ found. IfSome found (λ job. job.0.size ≡ length job.1.items)) }
         ensures bounds { IfOk result (λ found. IfSome found (λ job. IsBounded job.0)) }
-        ensures memory { HasCleanDisk (disk self.new) → (s : _) → Shows self.old s → result ≡ Err StoreFault.Memory → Shows self.new s }
-        ensures stop { HasCleanDisk (disk self.new) → (s : _) → Shows self.old s → Leaves (disk self.new) s }
-        ensures clean { StaysUnclean (disk self.old) (disk self.new) }
-        ensures ran { Ran [] self.old self.new [] (fault_in result) }
-        ensures failed { IsTrue (has_failed self.old) → (result ≡ Err StoreFault.Failed) × (self.new ≡ self.old) }
     {
         if self.is_failed() {
             return Err(StoreFault::Failed);
         }
-        match find(alloc, &mut self.conn, number) {
+        match uu_database::job(alloc, &mut self.conn, number) {
             Ok(answer) => Ok(answer),
             Err(fault) => Err(self.noted(fault)),
         }
@@ -206,21 +192,14 @@ impl<S: Alter> Spool<S> {
     /// # Errors
     /// As [`Spool::jobs`].
     pub fn systems(&mut self, alloc: Global) -> Result<Vec<SystemRow>, StoreFault>
-        ensures marked { MatchResult result (λ _. (has_failed self.old ≡ false) × (has_failed self.new ≡ false)) (Marks (has_failed self.old) (has_failed self.new)) }
-        ensures noted { IfErr result (Notes (failure_of self.new)) }
-        ensures answer { HasCleanDisk (disk self.new) → (s : _) → Shows self.old s → IfOk result (λ systems. (systems.items ≡ s.systems) × Shows self.new s) }
+        ensures question { IsQuestion (λ s systems. systems.items ≡ s.systems) self.old self.new result }
         ensures formed { IfOk result (λ systems. IsWellFormed (holding systems.items)) }
         ensures bounds { IfOk result (λ systems. AllByRecursion IsTimed systems.items) }
-        ensures memory { HasCleanDisk (disk self.new) → (s : _) → Shows self.old s → result ≡ Err StoreFault.Memory → Shows self.new s }
-        ensures stop { HasCleanDisk (disk self.new) → (s : _) → Shows self.old s → Leaves (disk self.new) s }
-        ensures clean { StaysUnclean (disk self.old) (disk self.new) }
-        ensures ran { Ran [] self.old self.new [] (fault_in result) }
-        ensures failed { IsTrue (has_failed self.old) → (result ≡ Err StoreFault.Failed) × (self.new ≡ self.old) }
     {
         if self.is_failed() {
             return Err(StoreFault::Failed);
         }
-        match systems(alloc, &mut self.conn) {
+        match uu_database::systems(alloc, &mut self.conn) {
             Ok(answer) => Ok(answer),
             Err(fault) => Err(self.noted(fault)),
         }
@@ -231,19 +210,12 @@ impl<S: Alter> Spool<S> {
     /// # Errors
     /// As [`Spool::jobs`].
     pub fn due(&mut self, alloc: Global, at: &Moment) -> Result<Vec<Due>, StoreFault>
-        ensures marked { MatchResult result (λ _. (has_failed self.old ≡ false) × (has_failed self.new ≡ false)) (Marks (has_failed self.old) (has_failed self.new)) }
-        ensures noted { IfErr result (Notes (failure_of self.new)) }
-        ensures answer { HasCleanDisk (disk self.new) → (s : _) → Shows self.old s → IfOk result (λ dues. AreDue s.systems (map head_of s.jobs) at.now dues.items × Shows self.new s) }
-        ensures memory { HasCleanDisk (disk self.new) → (s : _) → Shows self.old s → result ≡ Err StoreFault.Memory → Shows self.new s }
-        ensures stop { HasCleanDisk (disk self.new) → (s : _) → Shows self.old s → Leaves (disk self.new) s }
-        ensures clean { StaysUnclean (disk self.old) (disk self.new) }
-        ensures ran { Ran [] self.old self.new [] (fault_in result) }
-        ensures failed { IsTrue (has_failed self.old) → (result ≡ Err StoreFault.Failed) × (self.new ≡ self.old) }
+        ensures question { IsQuestion (λ s dues. AreDue s.systems (map head_of s.jobs) at.now dues.items) self.old self.new result }
     {
         if self.is_failed() {
             return Err(StoreFault::Failed);
         }
-        match due(alloc, &mut self.conn, at) {
+        match uu_database::due(alloc, &mut self.conn, at) {
             Ok(answer) => Ok(answer),
             Err(fault) => Err(self.noted(fault)),
         }
@@ -254,19 +226,12 @@ impl<S: Alter> Spool<S> {
     /// # Errors
     /// As [`Spool::jobs`].
     pub fn entry(&mut self, alloc: Global, host: &SiteName) -> Result<Option<Vec<u8>>, StoreFault>
-        ensures marked { MatchResult result (λ _. (has_failed self.old ≡ false) × (has_failed self.new ≡ false)) (Marks (has_failed self.old) (has_failed self.new)) }
-        ensures noted { IfErr result (Notes (failure_of self.new)) }
-        ensures answer { HasCleanDisk (disk self.new) → (s : _) → Shows self.old s → IfOk result (λ found. (option_map (λ text. text.items) found ≡ option_map (λ entry. entry.bytes) (entry_at s host.now)) × Shows self.new s) }
-        ensures memory { HasCleanDisk (disk self.new) → (s : _) → Shows self.old s → result ≡ Err StoreFault.Memory → Shows self.new s }
-        ensures stop { HasCleanDisk (disk self.new) → (s : _) → Shows self.old s → Leaves (disk self.new) s }
-        ensures clean { StaysUnclean (disk self.old) (disk self.new) }
-        ensures ran { Ran [] self.old self.new [] (fault_in result) }
-        ensures failed { IsTrue (has_failed self.old) → (result ≡ Err StoreFault.Failed) × (self.new ≡ self.old) }
+        ensures question { IsQuestion (λ s found. option_map (λ text. text.items) found ≡ option_map (λ entry. entry.bytes) (entry_at s host.now)) self.old self.new result }
     {
         if self.is_failed() {
             return Err(StoreFault::Failed);
         }
-        match entry(alloc, &mut self.conn, host) {
+        match uu_database::entry(alloc, &mut self.conn, host) {
             Ok(answer) => Ok(answer),
             Err(fault) => Err(self.noted(fault)),
         }
@@ -277,19 +242,12 @@ impl<S: Alter> Spool<S> {
     /// # Errors
     /// As [`Spool::jobs`].
     pub fn next(&mut self) -> Result<u32, StoreFault>
-        ensures marked { MatchResult result (λ _. (has_failed self.old ≡ false) × (has_failed self.new ≡ false)) (Marks (has_failed self.old) (has_failed self.new)) }
-        ensures noted { IfErr result (Notes (failure_of self.new)) }
-        ensures answer { HasCleanDisk (disk self.new) → (s : _) → Shows self.old s → IfOk result (λ next. (next ≡ s.next) × Shows self.new s) }
-        ensures memory { HasCleanDisk (disk self.new) → (s : _) → Shows self.old s → result ≡ Err StoreFault.Memory → Shows self.new s }
-        ensures stop { HasCleanDisk (disk self.new) → (s : _) → Shows self.old s → Leaves (disk self.new) s }
-        ensures clean { StaysUnclean (disk self.old) (disk self.new) }
-        ensures ran { Ran [] self.old self.new [] (fault_in result) }
-        ensures failed { IsTrue (has_failed self.old) → (result ≡ Err StoreFault.Failed) × (self.new ≡ self.old) }
+        ensures question { IsQuestion (λ s next. next ≡ s.next) self.old self.new result }
     {
         if self.is_failed() {
             return Err(StoreFault::Failed);
         }
-        match next(&mut self.conn) {
+        match uu_database::next(&mut self.conn) {
             Ok(answer) => Ok(answer),
             Err(fault) => Err(self.noted(fault)),
         }

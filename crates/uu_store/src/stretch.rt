@@ -13,7 +13,7 @@ ghost use Rattle.uu_store.specs.Acknowledged.{IsAcknowledged, ShowsJob};
 ghost use Rattle.uu_store.specs.Closing.{HasSomeCause, IsRunAndClosed, IsToldAfter};
 ghost use Rattle.uu_store.specs.Exchanges.{exchange_of};
 ghost use Rattle.uu_store.specs.Files.{AllFilesPassed, last_left, file_exchanges, IsStretch, IsClosedStretch};
-ghost use Rattle.uu_store.specs.Openings.{ImageHasOther, ImageKeeps, IsNamed, LeavesAlone, LeavesAsKept, LeavesSame, Started, WasStarted, remains_of};
+ghost use Rattle.uu_store.specs.Openings.{ImageHasOther, ImageKeeps, IsRightFault, LeavesAlone, LeavesAsKept, LeavesSame, Started, WasStarted, remains_of};
 ghost use Rattle.uu_store.specs.Spool.{disk, has_failed};
 ghost use Rattle.uu_store.specs.Stretches.{ShowsAfter};
 
@@ -49,7 +49,7 @@ pub fn work<T: Start>(
     ensures every { IfOk result (λ end. (end.0.stopped ≡ None) ↔ (length end.0.replies.items ≡ length commands.items)) }
     ensures fresh { IfOk result (λ end. IfSome end.0.stopped IsFresh) }
     ensures never_failed { IfErr result (λ e. e.fault ≢ StoreFault.Failed) }
-    ensures named { IfErr result (λ e. IsNamed (image_at T.Start) e.fault (remains_of e)) }
+    ensures named { IfErr result (λ e. IsRightFault (image_at T.Start) e.fault (remains_of e)) }
     ensures left { IfErr result (λ e. LeavesAsKept (image_at T.Start) (remains_of e)) }
     ensures left_alone { IfErr result (λ e. LeavesAlone (image_at T.Start) e.fault (remains_of e)) }
 {
@@ -89,7 +89,7 @@ pub fn work_and_close<T: Start>(
     ensures every { IfOk result (λ end. (end.0.stopped ≡ None) ↔ (length end.0.replies.items ≡ length commands.items)) }
     ensures fresh { IfOk result (λ end. IfSome end.0.stopped IsFresh) }
     ensures never_failed { IfErr result (λ e. e.fault ≢ StoreFault.Failed) }
-    ensures named { IfErr result (λ e. IsNamed (image_at T.Start) e.fault (remains_of e)) }
+    ensures named { IfErr result (λ e. IsRightFault (image_at T.Start) e.fault (remains_of e)) }
     ensures left { IfErr result (λ e. LeavesAsKept (image_at T.Start) (remains_of e)) }
     ensures left_alone { IfErr result (λ e. LeavesAlone (image_at T.Start) e.fault (remains_of e)) }
 {
@@ -140,7 +140,7 @@ pub fn start_again<H: FileHistory, T: Start>(
     ensures never_other { IfOk result (λ spool. HasCleanDisk (disk spool) → ¬ ImageHasOther (image_at T.Start)) }
     ensures left_same { IfOk result (λ spool. HasCleanDisk (disk spool) → LeavesSame (image_at T.Start) (disk spool).may_leave) }
     ensures never_failed { IfErr result (λ e. e.fault ≢ StoreFault.Failed) }
-    ensures named { IfErr result (λ e. IsNamed (image_at T.Start) e.fault (remains_of e)) }
+    ensures named { IfErr result (λ e. IsRightFault (image_at T.Start) e.fault (remains_of e)) }
     ensures left { IfErr result (λ e. LeavesAsKept (image_at T.Start) (remains_of e)) }
     ensures left_alone { IfErr result (λ e. LeavesAlone (image_at T.Start) e.fault (remains_of e)) }
 {

@@ -11,6 +11,6 @@ pub use change::{Change, JobColumns};
 pub use facts::Facts;
 pub use plan::{PIECE_BYTES, Plan, make_plan};
 pub use rows::{
-    CALL_FAILED, CALL_MADE, CallColumns, EntryColumns, LineColumns, NEVER_CALLED, PieceSize,
-    RangeColumns, SystemColumns, WaitColumns,
+    CALL_FAILED, CALL_MADE, CallColumns, EXECUTE, EntryColumns, LineColumns, NEVER_CALLED,
+    PieceSize, REQUEST, RangeColumns, SEND, SystemColumns, WaitColumns,
 };

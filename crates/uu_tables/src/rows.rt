@@ -10,6 +10,15 @@ pub const CALL_FAILED: u32 = 1;
 /// The number of the outcome of a call that was made.
 pub const CALL_MADE: u32 = 2;
 
+/// The number of the kind of a job that sends a file.
+pub const SEND: u32 = 0;
+
+/// The number of the kind of a job that fetches a file.
+pub const REQUEST: u32 = 1;
+
+/// The number of the kind of a job that runs a command.
+pub const EXECUTE: u32 = 2;
+
 /// The columns of a system that say how its calls went.
 #[derive(Drop)]
 pub struct CallColumns {

@@ -6,7 +6,7 @@ use Rattle.sqlite.specs.Query.{Query}
 use Rattle.sqlite_tied.specs.Compute.{everything}
 use Rattle.sqlite.specs.Listing.{understood}
 use Rattle.uu_sql.proofs.Asks.{Means, ordered}
-use Rattle.uu_sql.proofs.Questions.{IsQuestion}
+use Rattle.uu_sql.specs.Queries.{IsQuery}
 use Rattle.uu_schema.specs.declared.version.Version.{Version}
 use Rattle.uu_schema.specs.declared.version.Version.TheVariants.{First, Second}
 use Rattle.uu_schema.specs.Schema.{site, site_of, success_waits, spool, systems, lines, ranges, jobs, pieces, entries}
@@ -87,50 +87,50 @@ wait_rowids_means = record { command = refl; plain = (refl, refl); listing = ref
 
 -- ---- each is a query
 
-pub wait_rowids_ask : IsQuestion wait_rowids_text
+pub wait_rowids_ask : IsQuery wait_rowids_text
 unfolding everything
 wait_rowids_ask = refl
 
-pub version_ask : IsQuestion version_text
+pub version_ask : IsQuery version_text
 unfolding everything
 version_ask = refl
 
-pub spool_ask : IsQuestion spool_text
+pub spool_ask : IsQuery spool_text
 unfolding everything
 spool_ask = refl
 
-pub heads_ask : IsQuestion heads_text
+pub heads_ask : IsQuery heads_text
 unfolding everything
 heads_ask = refl
 
-pub sizes_ask : IsQuestion sizes_text
+pub sizes_ask : IsQuery sizes_text
 unfolding everything
 sizes_ask = refl
 
-pub numbered_sizes_ask : IsQuestion numbered_sizes_text
+pub numbered_sizes_ask : IsQuery numbered_sizes_text
 unfolding everything
 numbered_sizes_ask = refl
 
-pub entries_ask : IsQuestion entries_text
+pub entries_ask : IsQuery entries_text
 unfolding everything
 entries_ask = refl
 
-pub system_rowids_ask : IsQuestion system_rowids_text
+pub system_rowids_ask : IsQuery system_rowids_text
 unfolding everything
 system_rowids_ask = refl
 
-pub line_rowids_ask : IsQuestion line_rowids_text
+pub line_rowids_ask : IsQuery line_rowids_text
 unfolding everything
 line_rowids_ask = refl
 
-pub range_rowids_ask : IsQuestion range_rowids_text
+pub range_rowids_ask : IsQuery range_rowids_text
 unfolding everything
 range_rowids_ask = refl
 
-pub piece_rowids_ask : IsQuestion piece_rowids_text
+pub piece_rowids_ask : IsQuery piece_rowids_text
 unfolding everything
 piece_rowids_ask = refl
 
-pub entry_rowids_ask : IsQuestion entry_rowids_text
+pub entry_rowids_ask : IsQuery entry_rowids_text
 unfolding everything
 entry_rowids_ask = refl

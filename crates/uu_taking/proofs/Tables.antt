@@ -27,7 +27,7 @@ use Rattle.uu_schema.specs.Schema.{site_of}
 use Rattle.uu_schema.specs.declared.version.Version.{Version}
 use Rattle.uu_schema.specs.Keyed.{Keyed, columns}
 use Rattle.uu_rows.specs.Shows.{Shows}
-use Rattle.uu_taking.specs.Taking.{Finds, Takes, IsRead}
+use Rattle.uu_taking.specs.Taking.{FindsRows, Takes, IsRead}
 use Rattle.uu_rows.proofs.Meanings.{at_places}
 use Rattle.uu_taking.proofs.Meanings.{rowids_of}
 use Rattle.uu_rows.proofs.Back.{same_all}
@@ -58,7 +58,7 @@ module _ {K X : Type 0} (key : X → K) (cells : X → Row) (places : List ℕ) 
       let shown : IsAscending (λ x y. columns places x ≡ columns places y → ⊥) rs = ascending_from_map other (columns places) rs (subst (IsAscending other) from.2 apart) in
       (rs, IsPermutation-sym (trees tree) rs from.1, ascending_weaker _ other (λ x y h e. h (ap (columns places) e)) rs shown)
 
-  pub finds : (found : Option (Vec X Global)) → IsRead cells IsReadable rows ids found → Finds key cells places IsReadable cmp (trees tree) found
+  pub finds : (found : Option (Vec X Global)) → IsRead cells IsReadable rows ids found → FindsRows key cells places IsReadable cmp (trees tree) found
   finds None none = record {
     all = tt;
     only = λ xs good keyed.

@@ -29,7 +29,7 @@ use Rattle.uu_rows.proofs.Back.{same_all, head_back, head_returns}
 use Rattle.uu_rows.proofs.InTables.{heads_are, all_pass}
 use Rattle.uu_taking.specs.declared.integer.Integer.{Integer}
 use Rattle.uu_taking.specs.Texts.{heads_text}
-use Rattle.uu_taking.specs.Taking.{id_cells, AreRowids, AreHeads, AreNumbersRising, Finds}
+use Rattle.uu_taking.specs.Taking.{id_cells, AreRowids, AreHeads, AreNumbersRising, FindsRows}
 use Rattle.uu_taking.proofs.Meanings.{heads_means}
 use Rattle.uu_taking.proofs.Rowids.{id_shown, ids_apart}
 use Rattle.uu_taking.proofs.Tables.{at_columns}
@@ -117,7 +117,7 @@ module _ (v : Version) (a b : db.State) (rows : List Row) (stands : Stands (site
   number_less : (x y : JobHead) → head_cmp x y ≡ Less → x.number < y.number
   number_less x y h = grind (arith)
 
-  pub heads_taken : (found : Option (Vec JobHead Global)) → MatchOption found ((all : List JobHead) → ¬ AreHeads rows all) (λ all. AreHeads rows all.items) → Finds job_key job_cells job_places IsHead head_cmp table found
+  pub heads_taken : (found : Option (Vec JobHead Global)) → MatchOption found ((all : List JobHead) → ¬ AreHeads rows all) (λ all. AreHeads rows all.items) → FindsRows job_key job_cells job_places IsHead head_cmp table found
   heads_taken None none = record {
     all = tt;
     only = λ xs good keyed. none xs (record { rows_are = rows_only xs keyed.same good.rise; readable = good.readable; rising = ascending_weaker _ (λ (x y : JobHead). x.number < y.number) number_less xs good.rise });

@@ -58,7 +58,7 @@ pub record AreInOrder {X : Type 0} (IsReadable : X → Type 0) (cmp : X → X �
 
 -- Exactly the rows that the table holds are found. None are found only where no list of such rows in the order of its key
 -- is the table's; and where one is, that one is found.
-pub record Finds {K X : Type 0} (key : X → K) (cells : X → Row) (places : List ℕ) (IsReadable : X → Type 0) (cmp : X → X → Ordering) (rows : List Row) (found : Option (Vec X Global)) : Type 0 where
+pub record FindsRows {K X : Type 0} (key : X → K) (cells : X → Row) (places : List ℕ) (IsReadable : X → Type 0) (cmp : X → X → Ordering) (rows : List Row) (found : Option (Vec X Global)) : Type 0 where
   pub all : IfSome found (λ all. AreRows cells places all.items rows × AllByRecursion IsReadable all.items)
   pub only : (xs : List X) → AreInOrder IsReadable cmp xs → Keyed key cells places xs rows → MatchOption found ⊥ (λ all. all.items ≡ xs)
 
@@ -127,4 +127,4 @@ pub record FindsSizes (rows : List Row) (found : Option (Vec PieceSize Global)) 
 
 abbrev pub FindsWaits : Version → (ℕ → List Row) → Option (Vec WaitColumns Global) → Type 0
 FindsWaits First trees found = MatchOption found ⊥ (λ all. all.items ≡ [])
-FindsWaits Second trees found = Finds wait_key wait_cells wait_places IsWait wait_cmp (trees success_waits.tree) found
+FindsWaits Second trees found = FindsRows wait_key wait_cells wait_places IsWait wait_cmp (trees success_waits.tree) found

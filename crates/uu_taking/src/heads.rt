@@ -10,13 +10,12 @@ ghost use Rattle.uu_schema.specs.Held.{job_key, job_places};
 ghost use Rattle.uu_schema.specs.Cells.{job_cells};
 ghost use Rattle.uu_rows.specs.Readable.{IsHead};
 ghost use Rattle.uu_rows.specs.Order.{head_cmp};
-ghost use Rattle.uu_taking.specs.Taking.{AreNumbersRising, AreHeads, Finds, Takes};
+ghost use Rattle.uu_taking.specs.Taking.{AreNumbersRising, AreHeads, FindsRows, Takes};
 
-use crate::asks::ask_heads;
 use sqlite::{Alter, Connection, Error, Row};
 use std::alloc::Global;
 use uu_core::JobHead;
-use uu_rows::{RowFault, or_none, read_all};
+use uu_rows::{RowFault, ask, or_none, read_all};
 
 // Whether each number is below the next.
 fn rise(heads: &[JobHead]) -> bool
@@ -62,8 +61,11 @@ pub fn take_heads<S: Alter>(
     conn: &mut Connection<S>,
 ) -> Result<Option<Vec<JobHead>>, Error>
     ensures idle { conn.old.in_transaction ≡ false → conn.new.in_transaction ≡ false }
-    ensures takes { (v : Version) → Takes v (λ trees found. Finds job_key job_cells job_places IsHead head_cmp (trees jobs.tree) found) (state S.Store conn.old) (state S.Store conn.new) result }
+    ensures takes { (v : Version) → Takes v (λ trees found. FindsRows job_key job_cells job_places IsHead head_cmp (trees jobs.tree) found) (state S.Store conn.old) (state S.Store conn.new) result }
 {
-    let rows = ask_heads(conn)?;
+    let rows = ask(
+        conn,
+        "SELECT number, system, rank, user, kind, queued, first_word, second_word, size FROM jobs ORDER BY number",
+    )?;
     found(alloc, &rows)
 }

@@ -3,7 +3,6 @@
 //! not allow are `None`, and want of memory is `OutOfMemory`.
 #![tactic(auto)]
 
-mod asks;
 mod heads;
 mod integer;
 mod pieces;

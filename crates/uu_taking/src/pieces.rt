@@ -8,12 +8,11 @@ ghost use Rattle.uu_schema.specs.Schema.{pieces};
 ghost use Rattle.uu_rows.specs.Readable.{IsSize};
 ghost use Rattle.uu_taking.specs.Taking.{numbered_cells, comes_before, IsBefore, AreNumberedSizes, FindsSizes, Takes};
 
-use crate::asks::ask_numbered_sizes;
 use crate::integer::{Integer, integer_in};
 use crate::taking::take_sizes_in_any_order;
 use sqlite::{Alter, Connection, Error, Row};
 use std::alloc::{AllocError, Global};
-use uu_rows::{RowFault, TypedRow, has_width, number_in, read_all};
+use uu_rows::{RowFault, TypedRow, ask, has_width, number_in, read_all};
 use uu_tables::PieceSize;
 
 /// A row of the table `pieces` without its bytes, and its rowid.
@@ -85,8 +84,8 @@ fn typed(alloc: Global, rows: &[Row]) -> Result<Vec<PieceSize>, RowFault>
     }
 }
 
-/// Of each piece its job, its place and the number of its bytes, by job and place; no byte is read. None, where the rows of the
-/// table are not such rows, or have rowids that do not tell them apart.
+/// Of each piece its job, its place and the number of its bytes, by job and place; no byte is read. None
+/// where a row of the table is no piece's, or two rows have one rowid.
 pub fn take_sizes<S: Alter>(
     alloc: Global,
     conn: &mut Connection<S>,
@@ -94,7 +93,10 @@ pub fn take_sizes<S: Alter>(
     ensures idle { conn.old.in_transaction ≡ false → conn.new.in_transaction ≡ false }
     ensures takes { (v : Version) → Takes v (λ trees found. FindsSizes (trees pieces.tree) found) (state S.Store conn.old) (state S.Store conn.new) result }
 {
-    let rows = ask_numbered_sizes(conn)?;
+    let rows = ask(
+        conn,
+        "SELECT rowid, job, place, length(bytes) FROM pieces ORDER BY rowid",
+    )?;
     match typed(alloc, &rows) {
         Ok(all) => Ok(Some(all)),
         Err(RowFault::Bad) => take_sizes_in_any_order(alloc, conn),

@@ -12,9 +12,8 @@ ghost use Rattle.uu_rows.specs.Values.{NotIf};
 ghost use Rattle.uu_rows.specs.Readable.{IsSmall};
 ghost use Rattle.uu_taking.specs.Taking.{Takes, spool_cells};
 
-use crate::asks::ask_spool;
 use sqlite::{Alter, Connection, Error, Row};
-use uu_rows::{RowFault, has_width, number_in, or_none};
+use uu_rows::{RowFault, ask, has_width, number_in, or_none};
 use uu_schema::Version;
 
 // The number by which a row names a version.
@@ -61,6 +60,6 @@ pub fn take_next<S: Alter>(conn: &mut Connection<S>, version: Version) -> Result
     ensures takes { Takes version (λ trees found. MatchOption found ((next : ℕ) → IsSmall next → trees spool.tree ≢ spool_row_of version next ∷ []) (λ next. trees spool.tree ≡ spool_row_of version next ∷ [])) (state S.Store conn.old) (state S.Store conn.new) result }
     ensures refused { HasCleanDisk (state S.Store conn.new) → IfErr result (IsRefused spool_text [] (state S.Store conn.old) (state S.Store conn.new)) }
 {
-    let rows = ask_spool(conn)?;
+    let rows = ask(conn, "SELECT id, version, next FROM spool")?;
     found_next(&rows, version)
 }

@@ -9,17 +9,13 @@ ghost use Rattle.uu_schema.specs.Held.{system_key, line_key, range_key, entry_ke
 ghost use Rattle.uu_schema.specs.Cells.{system_cells, line_cells, range_cells, entry_cells};
 ghost use Rattle.uu_rows.specs.Readable.{IsSystem, IsLine, IsRange, IsEntry};
 ghost use Rattle.uu_rows.specs.Order.{system_cmp, line_cmp, range_cmp, entry_cmp};
-ghost use Rattle.uu_taking.specs.Taking.{Rise, AreRowids, IsRead, Finds, FindsSizes, FindsWaits, Takes};
+ghost use Rattle.uu_taking.specs.Taking.{Rise, AreRowids, IsRead, FindsRows, FindsSizes, FindsWaits, Takes};
 
-use crate::asks::{
-    ask_entries, ask_entry_rowids, ask_line_rowids, ask_piece_rowids, ask_range_rowids, ask_sizes,
-    ask_system_rowids, ask_wait_rowids,
-};
 use crate::integer::Integer;
 use sqlite::{Alter, Connection, Error, Row};
 use std::alloc::Global;
 use uu_rows::{
-    RowFault, TypedRow, ask_lines, ask_ranges, ask_systems, ask_waits, or_none, read_all,
+    RowFault, TypedRow, ask, ask_lines, ask_ranges, ask_systems, ask_waits, or_none, read_all,
 };
 use uu_schema::Version;
 use uu_tables::{EntryColumns, LineColumns, PieceSize, RangeColumns, SystemColumns, WaitColumns};
@@ -72,60 +68,63 @@ fn found<T: TypedRow>(alloc: Global, rows: &[Row], ids: &[Row]) -> Result<Option
     or_none(typed(alloc, rows, ids))
 }
 
-/// The systems, by name. None, where the rows of the table are not such rows, or have rowids that do not tell them apart.
+/// The systems, by name. None where a row of the table is no system's, or two rows have one rowid.
 pub fn take_systems<S: Alter>(
     alloc: Global,
     conn: &mut Connection<S>,
 ) -> Result<Option<Vec<SystemColumns>>, Error>
     ensures idle { conn.old.in_transaction ≡ false → conn.new.in_transaction ≡ false }
-    ensures takes { (v : Version) → Takes v (λ trees found. Finds system_key system_cells system_places IsSystem system_cmp (trees systems.tree) found) (state S.Store conn.old) (state S.Store conn.new) result }
+    ensures takes { (v : Version) → Takes v (λ trees found. FindsRows system_key system_cells system_places IsSystem system_cmp (trees systems.tree) found) (state S.Store conn.old) (state S.Store conn.new) result }
 {
     let rows = ask_systems(conn)?;
-    let ids = ask_system_rowids(conn)?;
+    let ids = ask(conn, "SELECT rowid FROM systems ORDER BY rowid")?;
     found(alloc, &rows, &ids)
 }
 
-/// The lines, by system and place. None, where the rows of the table are not such rows, or have rowids that do not tell them apart.
+/// The lines, by system and place. None where a row of the table is no line's, or two rows have one
+/// rowid.
 pub fn take_lines<S: Alter>(
     alloc: Global,
     conn: &mut Connection<S>,
 ) -> Result<Option<Vec<LineColumns>>, Error>
     ensures idle { conn.old.in_transaction ≡ false → conn.new.in_transaction ≡ false }
-    ensures takes { (v : Version) → Takes v (λ trees found. Finds line_key line_cells line_places IsLine line_cmp (trees lines.tree) found) (state S.Store conn.old) (state S.Store conn.new) result }
+    ensures takes { (v : Version) → Takes v (λ trees found. FindsRows line_key line_cells line_places IsLine line_cmp (trees lines.tree) found) (state S.Store conn.old) (state S.Store conn.new) result }
 {
     let rows = ask_lines(conn)?;
-    let ids = ask_line_rowids(conn)?;
+    let ids = ask(conn, "SELECT rowid FROM lines ORDER BY rowid")?;
     found(alloc, &rows, &ids)
 }
 
-/// The ranges, by system, place and first minute. None, where the rows of the table are not such rows, or have rowids that do not tell them apart.
+/// The ranges, by system, place and first minute. None where a row of the table is no range's, or two
+/// rows have one rowid.
 pub fn take_ranges<S: Alter>(
     alloc: Global,
     conn: &mut Connection<S>,
 ) -> Result<Option<Vec<RangeColumns>>, Error>
     ensures idle { conn.old.in_transaction ≡ false → conn.new.in_transaction ≡ false }
-    ensures takes { (v : Version) → Takes v (λ trees found. Finds range_key range_cells range_places IsRange range_cmp (trees ranges.tree) found) (state S.Store conn.old) (state S.Store conn.new) result }
+    ensures takes { (v : Version) → Takes v (λ trees found. FindsRows range_key range_cells range_places IsRange range_cmp (trees ranges.tree) found) (state S.Store conn.old) (state S.Store conn.new) result }
 {
     let rows = ask_ranges(conn)?;
-    let ids = ask_range_rowids(conn)?;
+    let ids = ask(conn, "SELECT rowid FROM ranges ORDER BY rowid")?;
     found(alloc, &rows, &ids)
 }
 
-/// The map entries with their bytes, by host. None, where the rows of the table are not such rows, or have rowids that do not tell them apart.
+/// The map entries with their bytes, by host. None where a row of the table is no entry's, or two rows
+/// have one rowid.
 pub fn take_entries<S: Alter>(
     alloc: Global,
     conn: &mut Connection<S>,
 ) -> Result<Option<Vec<EntryColumns>>, Error>
     ensures idle { conn.old.in_transaction ≡ false → conn.new.in_transaction ≡ false }
-    ensures takes { (v : Version) → Takes v (λ trees found. Finds entry_key entry_cells entry_places IsEntry entry_cmp (trees entries.tree) found) (state S.Store conn.old) (state S.Store conn.new) result }
+    ensures takes { (v : Version) → Takes v (λ trees found. FindsRows entry_key entry_cells entry_places IsEntry entry_cmp (trees entries.tree) found) (state S.Store conn.old) (state S.Store conn.new) result }
 {
-    let rows = ask_entries(conn)?;
-    let ids = ask_entry_rowids(conn)?;
+    let rows = ask(conn, "SELECT host, bytes FROM entries ORDER BY host")?;
+    let ids = ask(conn, "SELECT rowid FROM entries ORDER BY rowid")?;
     found(alloc, &rows, &ids)
 }
 
-/// Of each piece its job, its place and the number of its bytes, by job and place; no byte is read. None, where the rows of the
-/// table are not such rows, or have rowids that do not tell them apart.
+/// Of each piece its job, its place and the number of its bytes, by job and place; no byte is read. None
+/// where a row of the table is no piece's, or two rows have one rowid.
 pub(crate) fn take_sizes_in_any_order<S: Alter>(
     alloc: Global,
     conn: &mut Connection<S>,
@@ -133,8 +132,11 @@ pub(crate) fn take_sizes_in_any_order<S: Alter>(
     ensures idle { conn.old.in_transaction ≡ false → conn.new.in_transaction ≡ false }
     ensures takes { (v : Version) → Takes v (λ trees found. FindsSizes (trees pieces.tree) found) (state S.Store conn.old) (state S.Store conn.new) result }
 {
-    let rows = ask_sizes(conn)?;
-    let ids = ask_piece_rowids(conn)?;
+    let rows = ask(
+        conn,
+        "SELECT job, place, length(bytes) FROM pieces ORDER BY job, place",
+    )?;
+    let ids = ask(conn, "SELECT rowid FROM pieces ORDER BY rowid")?;
     found(alloc, &rows, &ids)
 }
 
@@ -147,12 +149,12 @@ fn take_waits_of_table<S: Alter>(
     ensures takes { Takes Version.Second (FindsWaits Version.Second) (state S.Store conn.old) (state S.Store conn.new) result }
 {
     let rows = ask_waits(conn)?;
-    let ids = ask_wait_rowids(conn)?;
+    let ids = ask(conn, "SELECT rowid FROM success_waits ORDER BY rowid")?;
     found(alloc, &rows, &ids)
 }
 
-/// The success waits, by system; none of the first version, of which nothing is asked. None, where the rows of the table are not such rows, or
-/// have rowids that do not tell them apart.
+/// The success waits, by system; an empty list of the first version, of which nothing is asked. None
+/// where a row of the table is no success wait's, or two rows have one rowid.
 pub fn take_waits<S: Alter>(
     alloc: Global,
     conn: &mut Connection<S>,

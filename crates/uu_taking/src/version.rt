@@ -10,10 +10,9 @@ ghost use Rattle.uu_taking.specs.Texts.{version_text};
 ghost use Rattle.uu_taking.specs.Version.{HasLater, ShowsLater, IsLater};
 ghost use Rattle.uu_taking.specs.Taking.{Takes, Tells};
 
-use crate::asks::ask_version;
 use crate::integer::integer_in;
 use sqlite::{Alter, Connection, Error, Row};
-use uu_rows::{RowFault, or_error};
+use uu_rows::{RowFault, ask, or_error};
 
 /// The version of the tables that this program makes and reads.
 const VERSION: i64 = 2;
@@ -60,6 +59,6 @@ pub fn names_later<S: Alter>(conn: &mut Connection<S>) -> Result<bool, Error>
     ensures takes { (v : Version) → Takes v (λ trees later. Tells later (IsLater trees) (¬ IsLater trees)) (state S.Store conn.old) (state S.Store conn.new) result }
     ensures refused { HasCleanDisk (state S.Store conn.new) → IfErr result (IsRefused version_text [] (state S.Store conn.old) (state S.Store conn.new)) }
 {
-    let rows = ask_version(conn)?;
+    let rows = ask(conn, "SELECT version FROM spool WHERE id = 1")?;
     found_later(&rows)
 }

@@ -2,7 +2,7 @@
 ghost use Rattle.std.specs.Prelude.{◌≢◌, IfOk, IfErr};
 ghost use Rattle.sqlite_wal.specs.Files.{image_at};
 ghost use Rattle.sqlite_wal.specs.Recovery.{Image};
-ghost use Rattle.uu_store.specs.Openings.{IsNamed, LeavesAlone, LeavesAsKept, Started, remains_of};
+ghost use Rattle.uu_store.specs.Openings.{IsRightFault, LeavesAlone, LeavesAsKept, Started, remains_of};
 ghost use Rattle.uuspool_main.specs.Stretch.{IsOfWork, IsRun, LetsGo, WasGiven};
 
 use crate::batching::batch_on;
@@ -51,7 +51,7 @@ pub(crate) fn work_on_file<T: Start>(
     start: T,
 ) -> Result<(Result<u8, Fault>, Rest<SpoolFile<T>>), OpenFault<SpoolFile<T>>>
     ensures stretch { IfOk result (λ end. IsRun settings.now work.now (image_at T.Start) end.0 end.1) }
-    ensures named { IfErr result (λ e. IsNamed (image_at T.Start) e.fault (remains_of e)) }
+    ensures named { IfErr result (λ e. IsRightFault (image_at T.Start) e.fault (remains_of e)) }
     ensures never_failed { IfErr result (λ e. e.fault ≢ StoreFault.Failed) }
     ensures left { IfErr result (λ e. LeavesAsKept (image_at T.Start) (remains_of e)) }
     ensures left_alone { IfErr result (λ e. LeavesAlone (image_at T.Start) e.fault (remains_of e)) }

@@ -1,6 +1,5 @@
 // What the plain machine holds, and what each command makes of it.
-ghost use Rattle.std.specs.Prelude.{◌≡◌, true, IfOk, MatchOption, is_err};
-ghost use Rattle.uu_map.specs.Text.{host_of};
+ghost use Rattle.std.specs.Prelude.{◌≡◌};
 ghost use Rattle.uu_core.specs.After.{after};
 ghost use Rattle.uu_core.specs.Plain.{state_of, IsInOrder, IsGiven};
 
@@ -16,7 +15,7 @@ use crate::job::{By, NewJob};
 use crate::refusal::Refusal;
 use crate::system::SystemRow;
 use std::alloc::{AllocError, Global};
-use uu_map::{Entry, MapFault, read_entry};
+use uu_map::entry_host;
 use uu_names::{Grade, Listed, SiteName, Word};
 use uu_times::{Moment, SystemDef};
 
@@ -165,16 +164,5 @@ impl Lists {
             }
             None => Ok(Reply::Refused(Refusal::BadEntry)),
         }
-    }
-}
-
-// The host of a map entry, if it can be read.
-fn entry_host(alloc: Global, text: &[u8]) -> Result<Option<SiteName>, AllocError>
-    ensures { IfOk result (λ host. MatchOption host (is_err (host_of text.now) ≡ true) (λ host. host_of text.now ≡ Ok host)) }
-{
-    match read_entry(alloc, text) {
-        Ok(Entry { host, .. }) => Ok(Some(host)),
-        Err(MapFault::NoName | MapFault::BadHost | MapFault::TooLarge) => Ok(None),
-        Err(MapFault::Memory) => Err(AllocError),
     }
 }

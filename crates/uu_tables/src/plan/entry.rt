@@ -1,27 +1,14 @@
 // Map entries.
-ghost use Rattle.std.specs.Prelude.{◌≡◌, true, IfOk, MatchOption, is_err};
+ghost use Rattle.std.specs.Prelude.{IfOk};
 ghost use Rattle.uu_core.specs.declared.command.Command.TheVariants.{Entry};
 ghost use Rattle.uu_core.specs.State.{State};
-ghost use Rattle.uu_map.specs.Text.{host_of};
 ghost use Rattle.uu_tables.specs.Plans.{IsPlan};
 
 use super::{Plan, refused};
 use crate::change::Change;
 use std::alloc::{AllocError, Global};
 use uu_core::{Refusal, Reply};
-use uu_map::{MapFault, read_entry};
-use uu_names::SiteName;
-
-// The host of a map entry, if it can be read.
-fn entry_host(alloc: Global, text: &[u8]) -> Result<Option<SiteName>, AllocError>
-    ensures { IfOk result (λ host. MatchOption host (is_err (host_of text.now) ≡ true) (λ host. host_of text.now ≡ Ok host)) }
-{
-    match read_entry(alloc, text) {
-        Ok(entry) => Ok(Some(entry.host)),
-        Err(MapFault::NoName | MapFault::BadHost | MapFault::TooLarge) => Ok(None),
-        Err(MapFault::Memory) => Err(AllocError),
-    }
-}
+use uu_map::entry_host;
 
 /// A map entry: that of its host goes, if there is one, and the new one is added whole.
 pub(crate) fn plan_entry<'a>(alloc: Global, bytes: &'a [u8]) -> Result<Plan<'a>, AllocError>

@@ -3,7 +3,7 @@ use Rattle.std.proofs.lemmas.Result.{IfOk-weaker}
 use Rattle.sqlite.specs.Held.{state}
 use Rattle.uu_questions.specs.Texts.{next_text}
 use Rattle.uu_questions.proofs.Answering.{then_read, not_shown}
-use Rattle.uu_questions.proofs.Meanings.{next_means, next_ask}
+use Rattle.uu_questions.proofs.Meanings.{next_ask}
 use Rattle.uu_rows.proofs.Showing.{answered, shows}
 use Rattle.uu_questions.proofs.Known.{next_rows}
 use Rattle.uu_questions.proofs.facts.next_number.Goals as goal
@@ -12,11 +12,11 @@ pub returns-in_err-rows-clause-answers : goal.returns-in_err-rows-clause-answers
 returns-in_err-rows-clause-answers g c =
     let a = state g.S.Store c.args.conn.now in
     let b = state g.S.Store c.query_all.new.self in
-    not_shown _ next_text [] a b c.query_all.result _ (shows next_text _ _ [] a b next_means next_ask c.query_all.result c.query_all.ensures.ok c.query_all.ensures.err c.query_all.ensures.survives) c.from_residual.ensures.0
+    not_shown _ next_text [] a b c.query_all.result _ (shows next_text [] a b next_ask c.query_all.result c.query_all.ensures.ok c.query_all.ensures.err c.query_all.ensures.survives) c.from_residual.ensures.0
 
 pub returns-clause-answers : goal.returns-clause-answers
 returns-clause-answers g c =
     let a = state g.S.Store c.args.conn.now in
     let b = state g.S.Store c.query_all.new.self in
-    then_read _ next_text [] a b c.query_all.result _ (shows next_text _ _ [] a b next_means next_ask c.query_all.result c.query_all.ensures.ok c.query_all.ensures.err c.query_all.ensures.survives) (answered _ _ c.in_ok-rows.was)
+    then_read _ next_text [] a b c.query_all.result _ (shows next_text [] a b next_ask c.query_all.result c.query_all.ensures.ok c.query_all.ensures.err c.query_all.ensures.survives) (answered _ _ c.in_ok-rows.was)
     (λ clean s of. IfOk-weaker c.next_in.result _ _ (λ next h. h s.next (c.as_slice.ensures.value ∙ next_rows a b s c.in_ok-rows.rows.items of (c.in_ok-rows.ensures.ok clean))) c.next_in.ensures.next)

@@ -1,16 +1,5 @@
-use Rattle.std.proofs.Common.{[]}
-use Rattle.sqlite.specs.Held.{state}
-use Rattle.uu_schema.specs.declared.version.Version.TheVariants.{Second}
-use Rattle.uu_rows.specs.Texts.{lines_text}
-use Rattle.uu_rows.proofs.Meanings.{lines_means, lines_ask}
-use Rattle.uu_sql.proofs.Questions.{spares}
-use Rattle.uu_rows.proofs.Showing.{shows}
+use Rattle.uu_rows.proofs.Meanings.{lines_ask}
 use Rattle.uu_rows.proofs.asks.ask_lines.Goals as goal
 
-pub returns-clause-shows : goal.returns-clause-shows
-returns-clause-shows g c =
-    shows lines_text _ _ [] (state g.S.Store c.args.conn.now) (state g.S.Store c.query_all.new.self) (lines_means Second) lines_ask c.query_all.result c.query_all.ensures.ok c.query_all.ensures.err c.query_all.ensures.survives
-
-pub returns-clause-spares : goal.returns-clause-spares
-returns-clause-spares g c =
-    spares lines_text lines_ask [] (state g.S.Store c.args.conn.now) (state g.S.Store c.query_all.new.self) c.query_all.result c.query_all.ensures.ok c.query_all.ensures.err c.query_all.ensures.survives
+pub ask-requires : goal.ask-requires
+ask-requires g c = lines_ask

@@ -1,16 +1,5 @@
-use Rattle.std.proofs.Common.{[]}
-use Rattle.sqlite.specs.Held.{state}
-use Rattle.uu_schema.specs.declared.version.Version.TheVariants.{Second}
-use Rattle.uu_rows.specs.Texts.{ranges_text}
-use Rattle.uu_rows.proofs.Meanings.{ranges_means, ranges_ask}
-use Rattle.uu_sql.proofs.Questions.{spares}
-use Rattle.uu_rows.proofs.Showing.{shows}
+use Rattle.uu_rows.proofs.Meanings.{ranges_ask}
 use Rattle.uu_rows.proofs.asks.ask_ranges.Goals as goal
 
-pub returns-clause-shows : goal.returns-clause-shows
-returns-clause-shows g c =
-    shows ranges_text _ _ [] (state g.S.Store c.args.conn.now) (state g.S.Store c.query_all.new.self) (ranges_means Second) ranges_ask c.query_all.result c.query_all.ensures.ok c.query_all.ensures.err c.query_all.ensures.survives
-
-pub returns-clause-spares : goal.returns-clause-spares
-returns-clause-spares g c =
-    spares ranges_text ranges_ask [] (state g.S.Store c.args.conn.now) (state g.S.Store c.query_all.new.self) c.query_all.result c.query_all.ensures.ok c.query_all.ensures.err c.query_all.ensures.survives
+pub ask-requires : goal.ask-requires
+ask-requires g c = ranges_ask

@@ -3,7 +3,7 @@ use Rattle.sqlite.specs.Files.{file_state}
 use Rattle.sqlite_wal.specs.Files.{image_at}
 use Rattle.uu_core.specs.State.{empty}
 use Rattle.uu_store.specs.Kept.{Keeps}
-use Rattle.uu_store.specs.Openings.{IsNamed, LeavesAlone, LeavesAsKept}
+use Rattle.uu_store.specs.Openings.{IsRightFault, LeavesAlone, LeavesAsKept}
 use Rattle.uu_store.proofs.Images.{failed_has}
 use Rattle.uu_store.proofs.Opening.{keeps_sound, none_fits, is_found, some_weaker, named_of_opening, left_of_opening, alone_of_opening}
 use Rattle.uu_store.proofs.Refusing.{opening_cause}
@@ -13,7 +13,7 @@ pub returns-in-Ok-clause-found : goal.returns-in-Ok-clause-found
 returns-in-Ok-clause-found g c = is_found (image_at g.T.Start) (file_state c.in-Ok.conn) c.in-Ok.ensures.opened c.in-Ok.ensures.found
 
 pub returns-in-Err-clause-named : goal.returns-in-Err-clause-named
-returns-in-Err-clause-named g c = subst (IsNamed (image_at g.T.Start) c.opening_fault.result) (sym c.of_opening.ensures)
+returns-in-Err-clause-named g c = subst (IsRightFault (image_at g.T.Start) c.opening_fault.result) (sym c.of_opening.ensures)
     (named_of_opening (image_at g.T.Start) c.in-Err.left c.in-Err.error c.opening_fault.result c.opening_fault.ensures.named c.opening_fault.ensures.kind c.in-Err.ensures.unopened
     (some_weaker c.in-Err.left (λ it cause clean which is.
     let (files, settled, fails, leaves) = cause clean in

@@ -5,14 +5,18 @@ use Rattle.uu_taking.specs.Texts.{line_rowids_text}
 use Rattle.uu_rows.proofs.Showing.{answered}
 use Rattle.uu_taking.proofs.Tables.{took, took_none}
 use Rattle.uu_taking.proofs.TakenTables.{lines_taken}
+use Rattle.uu_taking.proofs.Meanings.{line_rowids_ask}
 use Rattle.uu_taking.proofs.taking.take_lines.Goals as goal
+
+pub ask-requires : goal.ask-requires
+ask-requires g c = line_rowids_ask
 
 pub returns-clause-takes : goal.returns-clause-takes
 returns-clause-takes g c v =
     let a = state g.S.Store c.args.conn.now in
     let b = state g.S.Store c.ask_lines.new.conn in
-    let d = state g.S.Store c.ask_line_rowids.new.conn in
-    took v _ lines_text line_rowids_text a b d c.ask_lines.result c.ask_line_rowids.result c.found.result (answered _ _ c.in_ok-rows.was) (answered _ _ c.in_ok-ids.was) c.ask_lines.ensures.shows c.ask_line_rowids.ensures.shows c.ask_lines.ensures.spares c.ask_line_rowids.ensures.spares
+    let d = state g.S.Store c.ask.new.conn in
+    took v _ lines_text line_rowids_text a b d c.ask_lines.result c.ask.result c.found.result (answered _ _ c.in_ok-rows.was) (answered _ _ c.in_ok-ids.was) c.ask_lines.ensures.shows c.ask.ensures.shows c.ask_lines.ensures.spares c.ask.ensures.spares
     (λ early clean stands same. IfOk-weaker c.found.result _ _
     (λ found read. lines_taken v a b d c.in_ok-rows.rows.items c.in_ok-ids.ids.items stands same (c.in_ok-rows.ensures.shows.rows early) (c.in_ok-ids.ensures.shows.rows clean) found (rw (c.deref.ensures.value, c.deref-2.ensures.value) at read)) c.found.ensures.read)
 
@@ -20,5 +24,5 @@ pub returns-in_err-ids-clause-takes : goal.returns-in_err-ids-clause-takes
 returns-in_err-ids-clause-takes g c v =
     let a = state g.S.Store c.args.conn.now in
     let b = state g.S.Store c.ask_lines.new.conn in
-    let d = state g.S.Store c.ask_line_rowids.new.conn in
-    took_none v _ a b d c.ask_lines.result c.ask_line_rowids.result _ (answered _ _ c.in_ok-rows.was) c.ask_lines.ensures.spares c.ask_line_rowids.ensures.spares c.from_residual-in_err-ids.ensures.0
+    let d = state g.S.Store c.ask.new.conn in
+    took_none v _ a b d c.ask_lines.result c.ask.result _ (answered _ _ c.in_ok-rows.was) c.ask_lines.ensures.spares c.ask.ensures.spares c.from_residual-in_err-ids.ensures.0

@@ -9,15 +9,15 @@ pub returns-in-Ok : goal.returns-in-Ok
 returns-in-Ok g c =
     let written : List ℕ → Type 0 = λ output. Appends (g.W.Write.contents c.args.out.now) (g.W.Write.contents c.print.new.out) output in
     let asked = question.Jobs c.args.filter.now in
-    question_served c.args.settings.now asked c.args.spool.now c.jobs.new.self written c.print.result c.in-Ok.ensures.ran c.in-Ok.ensures.marked
-    (λ clean s shown. (c.in-Ok.ensures.answer clean s shown).1)
+    question_served c.args.settings.now asked c.args.spool.now c.jobs.new.self written c.print.result c.in-Ok.ensures.question.ran c.in-Ok.ensures.question.marked
+    (λ clean s shown. (c.in-Ok.ensures.question.answer clean s shown).1)
     (printed c.print.result c.report_jobs.result 0 written (IsJobsReport c.args.settings.now.zone c.deref.result.now) (Answers c.args.settings.now asked c.args.spool.now c.jobs.new.self)
-    (λ output is clean s shown. (subst (λ jobs. IsJobsReport c.args.settings.now.zone jobs output) (c.deref.ensures.value ∙ (c.in-Ok.ensures.answer clean s shown).0) is, refl))
+    (λ output is clean s shown. (subst (λ jobs. IsJobsReport c.args.settings.now.zone jobs output) (c.deref.ensures.value ∙ (c.in-Ok.ensures.question.answer clean s shown).0) is, refl))
     c.print.ensures.printed c.print.ensures.status c.print.ensures.fault c.print.ensures.cut c.print.ensures.nothing c.report_jobs.ensures.lines)
 
 pub returns-in-Err : goal.returns-in-Err
 returns-in-Err g c =
     question_unanswered c.args.settings.now (question.Jobs c.args.filter.now) c.args.spool.now c.jobs.new.self
     (λ output. Appends (g.W.Write.contents c.args.out.now) (g.W.Write.contents c.args.out.now) output) c.in-Err.fault
-    c.in-Err.ensures.ran (marks_of_call _ _ c.in-Err.fault c.in-Err.ensures.marked) (noted_of_call c.args.spool.now c.jobs.new.self c.in-Err.fault c.in-Err.ensures.marked) (λ had. (c.in-Err.ensures.failed had).1)
-    (marked_is_of_call _ _ c.in-Err.fault c.in-Err.ensures.marked) (Appends-nothing (g.W.Write.contents c.args.out.now))
+    c.in-Err.ensures.question.ran (marks_of_call _ _ c.in-Err.fault c.in-Err.ensures.question.marked) (noted_of_call c.args.spool.now c.jobs.new.self c.in-Err.fault c.in-Err.ensures.question.marked) (λ had. (c.in-Err.ensures.question.failed had).1)
+    (marked_is_of_call _ _ c.in-Err.fault c.in-Err.ensures.question.marked) (Appends-nothing (g.W.Write.contents c.args.out.now))

@@ -1,0 +1,28 @@
+-- What a question of a spool does.
+use Rattle.std.specs.Prelude.{◌≡◌, false, [], IsTrue, Result, Err, IfOk, IfErr, MatchResult}
+use Rattle.sqlite.specs.Store.{Ghosts}
+use Rattle.sqlite.specs.State.{HasCleanDisk}
+use Rattle.uu_core.specs.State.{State}
+use Rattle.uu_schema.specs.declared.fault.StoreFault.{StoreFault}
+use Rattle.uu_schema.specs.declared.fault.StoreFault.TheVariants.{Memory, Failed}
+use Rattle.uu_database.specs.Calls.{StaysUnclean}
+use Rattle.uu_database.specs.Encoded.{Leaves}
+use Rattle.uu_store.specs.declared.spool.Spool.{Spool}
+use Rattle.uu_store.specs.Spool.{disk, failure_of, has_failed, Shows, Marks, Notes}
+use Rattle.uu_store.specs.Runs.{Ran, fault_in}
+
+-- A question is answered by the state that the spool shows, and changes nothing, whatever it answers.
+pub record IsQuestion {S : Type 0} {g : Ghosts S} {T : Type 0} (IsAnswer : State → T → Type 0) (old new : Spool S g) (r : Result T StoreFault) : Type 0 where
+  -- it is answered where the spool can be used, before and afterwards; else the fault says how that is
+  pub marked : MatchResult r (λ _. (has_failed old ≡ false) × (has_failed new ≡ false)) (Marks (has_failed old) (has_failed new))
+  pub noted : IfErr r (Notes (failure_of new))
+  -- on a clean store the answer is that of the state, which the spool shows as before, for want of memory too
+  pub answer : HasCleanDisk (disk new) → (s : State) → Shows old s → IfOk r (λ answer. IsAnswer s answer × Shows new s)
+  pub memory : HasCleanDisk (disk new) → (s : State) → Shows old s → r ≡ Err Memory → Shows new s
+  -- a stop at its end leaves that state
+  pub stop : HasCleanDisk (disk new) → (s : State) → Shows old s → Leaves (disk new) s
+  pub clean : StaysUnclean (disk old) (disk new)
+  -- so it is a run of no command
+  pub ran : Ran [] old new [] (fault_in r)
+  -- a spool that failed is left as it was
+  pub failed : IsTrue (has_failed old) → (r ≡ Err Failed) × (new ≡ old)
