@@ -1,5 +1,6 @@
--- When each system can next be called, for which job, and why not now. (Held systems and limits: Taylor UUCP 1.07 manual, on the time
--- commands of the sys file; how far is looked ahead, what is told, and in which order, is this project's choice.)
+-- When each system can next be called, for which job, and why not now. (Held systems and limits:
+-- Taylor UUCP 1.07 manual, on the time commands of the sys file; how far is looked ahead, what is
+-- told, and in which order, is this project's choice.)
 use Rattle.std.specs.Prelude.{◌≡◌, ◌≢◌, ℕ, ◌+◌, ◌*◌, ◌%◌, ◌<◌, ◌≤◌, ℤ, pos, negsuc, Bool, true, false, ◌&&◌, ◌||◌, ◌==◌, nat_le, nat_lt, List, [], map, Option, Some, None, IfSome, ⊤, All, AllPairs, Contains, if◌then◌else◌}
 use Rattle.std.specs.Ordering.{nat_cmp, is_lt}
 use Rattle.std.specs.Cmp.Lexicographic.{slice_cmp}
@@ -29,7 +30,8 @@ natural (negsuc n) = 0
 unfoldable pub week_at : Zone → ℕ → ℕ
 week_at zone second = natural (week_minute (local_second zone second))
 
--- the lowest grade for which the system may be called at the second, which is in this minute of the week, if it may
+-- the lowest grade for which the system may be called at the second, which is in this minute of the
+-- week, if it may
 abbrev pub limit_by : SystemRow → ℕ → ℕ → Option ℕ
 limit_by row second week = if is_held row.call second then None else limit_at row.def.lines week
 
@@ -46,8 +48,9 @@ looked_ahead = 28 * 86400
 abbrev pub free_from : CallState → ℕ → ℕ
 free_from call now = if is_held call now then call.last + call.wait else now
 
--- The seconds looked at are the second of the question and each later one that is a whole minute of UTC, up to 28 days after it or, where the
--- system is held then, after the end of its wait. None lies past the last moment.
+-- The seconds looked at are the second of the question and each later one that is a whole minute of
+-- UTC, up to 28 days after it or, where the system is held then, after the end of its wait. None
+-- lies past the last moment.
 abbrev pub is_looked_at : CallState → ℕ → ℕ → Bool
 is_looked_at call now second =
     (second == now || (nat_lt now second && second % 60 == 0))
@@ -69,15 +72,16 @@ abbrev pub why_limited : Option ℕ → ℕ → Why
 why_limited None grade = why.Closed
 why_limited (Some limit) grade = if nat_le grade limit then why.Due else why.Grade
 
--- why the system is called for the grade at the second, or isn't: it is left alone after a call, or no time line is open, or those that are open
--- are for higher grades
+-- why the system is called for the grade at the second, or isn't: it is left alone after a call, or
+-- no time line is open, or those that are open are for higher grades
 abbrev pub why_by : SystemRow → ℕ → ℕ → ℕ → Why
 why_by row grade second week = if is_held row.call second then why.Held else why_limited (limit_at row.def.lines week) grade
 
 abbrev pub why_at : Zone → SystemRow → ℕ → ℕ → Why
 why_at zone row grade second = why_by row grade second (week_at zone second)
 
--- when a system that has a job can next be called for the first of its jobs. If it may be called for any of them, it may for that one.
+-- when a system that has a job can next be called for the first of its jobs. If it may be called
+-- for any of them, it may for that one.
 pub record IsNextCall (zone : Zone) (rows : List SystemRow) (jobs : List JobHead) (now : ℕ) (next : NextCall) : Type 0 where
   pub row : SystemRow
   pub there : Contains rows row
@@ -93,7 +97,8 @@ is_sooner_at (Some first) None by_job by_name = true
 is_sooner_at None (Some second) by_job by_name = false
 is_sooner_at None None by_job by_name = by_name
 
--- the one comes before the other: by second, and then by grade and number; of those that are never called, by the bytes of their names
+-- the one comes before the other: by second, and then by grade and number; of those that are never
+-- called, by the bytes of their names
 abbrev pub is_sooner : NextCall → NextCall → Bool
 is_sooner a b =
     is_sooner_at a.second b.second (nat_lt a.grade b.grade || (a.grade == b.grade && nat_lt a.number b.number))
@@ -134,7 +139,8 @@ pub record IsToldOf (zone : Zone) (row : SystemRow) (now : ℕ) (call : NextCall
   pub second : IsLeast (is_callable zone row call.grade now) call.second
   pub why : call.why ≡ why_at zone row call.grade now
 
--- the first minute that passes a test, from one on and before another, as the second at which it begins
+-- the first minute that passes a test, from one on and before another, as the second at which it
+-- begins
 abbrev pub IsFirstOpen : (ℕ → Bool) → ℕ → ℕ → Option ℕ → Type 0
 IsFirstOpen test from end None = (minute : ℕ) → from ≤ minute → minute < end → test minute ≡ false
 IsFirstOpen test from end (Some second) =

@@ -1,5 +1,5 @@
--- What waits for each system. (That a site's queues are summed up: Taylor UUCP 1.07 manual, on uustat; what is told of each, and
--- in which order, is this project's choice.)
+-- What waits for each system. (That a site's queues are summed up: Taylor UUCP 1.07 manual, on
+-- uustat; what is told of each, and in which order, is this project's choice.)
 use Rattle.std.specs.Prelude.{◌≡◌, ℕ, false, List, map, filter, length, sum_by, min, Option, None, Some, [], All, AllPairs, Contains}
 use Rattle.std.specs.List.{reduce}
 use Rattle.uu_core.specs.declared.job.JobHead.{JobHead}
@@ -20,8 +20,8 @@ pub record IsFirstJob (jobs : List JobHead) (grade number : ℕ) : Type 0 where
   pub number_is : number ≡ job.number
   pub first : All (λ other. goes_before other job ≡ false) jobs
 
--- what some jobs come to, of which there is one at least: how many there are, the sum of their sizes, the first by grade and number, and
--- the second since when the oldest waits
+-- what some jobs come to, of which there is one at least: how many there are, the sum of their
+-- sizes, the first by grade and number, and the second since when the oldest waits
 pub record AreSums (jobs : List JobHead) (sums : Sums) : Type 0 where
   pub count : sums.jobs ≡ length jobs
   pub bytes : sums.bytes ≡ sum_by (λ job. job.size) jobs

@@ -43,7 +43,8 @@ pub struct NextCall {
     pub grade: Grade,
     /// The job's number.
     pub number: u32,
-    /// The first of the seconds looked at at which the system may be called for the job, if there is one.
+    /// The first of the seconds looked at at which the system may be called for the job, if there
+    /// is one.
     pub second: Option<u64>,
     /// Whether it may be called for the job now, or why not.
     pub why: Why,
@@ -77,7 +78,8 @@ fn may_be_called(row: &SystemRow, grade: Grade, second: u64, week: u16) -> bool
     !held_at(&row.call, second) && reaches(row.def.lines.as_slice(), week, grade)
 }
 
-// The first of these minutes, counted from 1970-01-01 00:00 UTC, as whose second 0 the system may be called for the grade.
+// The first of these minutes, counted from 1970-01-01 00:00 UTC, as whose second 0 the system may
+// be called for the grade.
 fn first_open(
     row: &SystemRow,
     grade: Grade,
@@ -175,7 +177,8 @@ fn next_call(
     })
 }
 
-// What the calls are ordered by: the second, then the job's grade and number. Those that never come are all last.
+// What the calls are ordered by: the second, then the job's grade and number. Those that never come
+// are all last.
 fn turn(call: &NextCall) -> (u64, u8, u32)
     ensures { result ≡ turn_of call.now }
 {
@@ -185,15 +188,18 @@ fn turn(call: &NextCall) -> (u64, u8, u32)
     }
 }
 
-/// When each system that has a job can next be called from the second `now` on, for the first of its jobs by grade and number, and
-/// why it isn't called now.
+/// When each system that has a job can next be called from the second `now` on, for the first of
+/// its jobs by grade and number, and why it isn't called now.
 ///
-/// The seconds looked at are `now` and each later one that is a whole minute of UTC, up to 28 days after it or, where
-/// the system is held at `now`, after the end of its wait; none past the last moment. The calls stand by their seconds, then by
-/// grade and number; last are the systems that can't be called at any of these seconds, by the bytes of their names.
+/// The seconds looked at are `now` and each later one that is a whole minute of UTC, up to 28 days
+/// after it or, where the system is held at `now`, after the end of its wait; none past the last
+/// moment. The calls stand by their seconds, then by grade and number; last are the systems that
+/// can't be called at any of these seconds, by the bytes of their names.
 ///
-/// For systems that stand by the bytes of their names, no two of one name, as in every spool. Takes a look-up for each job and
-/// system, one sort, and for each system that can't be called at once a look at its time lines for each minute up to then.
+/// For systems that stand by the bytes of their names, no two of one name, as in every spool. Takes
+/// a look-up for each job and system, one sort, and for each system that can't be called at once a
+/// look at its time lines for each minute up to then. The clock is asked once for each minute from
+/// `now` to the last one that is looked at, and two bytes are kept of its answer.
 pub fn next_calls(
     alloc: Global,
     rows: &[SystemRow],

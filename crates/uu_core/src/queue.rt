@@ -96,7 +96,8 @@ pub(crate) fn sums_by_system(
     Ok(by_system)
 }
 
-/// What waits for each system that has a job, by the bytes of their names. Takes a look-up for each job.
+/// What waits for each system that has a job, by the bytes of their names. Takes a look-up for each
+/// job.
 pub fn queues(alloc: Global, jobs: &[JobHead]) -> Result<Vec<Queue>, AllocError>
     ensures { IfOk result (λ queues. AreQueues jobs.now queues.items) }
 {

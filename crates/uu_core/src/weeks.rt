@@ -6,7 +6,8 @@ ghost use Rattle.uu_core.specs.NextCalls.{week_at};
 use std::alloc::{AllocError, Global};
 use uu_times::{Moment, Zone};
 
-/// The minutes of the week at minutes of UTC, which are counted from 1970-01-01 00:00 on. The clock is asked once for each.
+/// The minutes of the week at minutes of UTC, which are counted from 1970-01-01 00:00 on. The clock
+/// is asked once for each.
 #[derive(Drop)]
 pub(crate) struct Weeks<'a> {
     /// The site's clock.

@@ -58,7 +58,8 @@ pub enum Task {
         /// What the neighbour is to do with the message: each address without its first site.
         rests: Listed<Word>,
     },
-    /// `list [-s SYSTEM] [-u USER]`: reports the jobs that are for the system and of the user, where they are given.
+    /// `list [-s SYSTEM] [-u USER]`: reports the jobs that are for the system and of the user,
+    /// where they are given.
     List {
         /// Which jobs.
         filter: Filter,
@@ -87,8 +88,8 @@ pub enum Task {
     },
     /// `due`: reports which systems may be called now, each with its next job.
     Due,
-    /// `when [-s SYSTEM]`: reports when each system that has a job can next be called, or when this one can, for which job, and why
-    /// not now.
+    /// `when [-s SYSTEM]`: reports when each system that has a job can next be called, or when this
+    /// one can, for which job, and why not now.
     When {
         /// Whose jobs.
         filter: Filter,
@@ -107,7 +108,8 @@ pub enum Task {
         /// Why the call failed.
         why: Word,
     },
-    /// `done SYSTEM [JOB..]`: notes a call that succeeded, and lets the jobs go that it carried out.
+    /// `done SYSTEM [JOB..]`: notes a call that succeeded, and lets the jobs go that it carried
+    /// out.
     Done {
         /// The neighbour that was called.
         system: SiteName,
