@@ -24,7 +24,7 @@ use Rattle.clap.specs.declared.parser.matches.SubCommand.{SubCommand}
 use Rattle.std.specs.Box.{box_value}
 use Rattle.std.specs.Prelude.{Box}
 use Rattle.uu_line.specs.Commands.{program}
-use Rattle.uu_line.specs.declared.line.CallLine.{CallLine}
+use Rattle.uu_line.specs.declared.line.CommandLine.{CommandLine}
 use Rattle.uu_line.specs.declared.task.Task.{Task}
 use Rattle.uu_line.specs.declared.task.Task.TheVariants as task
 use Rattle.uu_line.specs.Faults.{fault_of_name}
@@ -251,7 +251,7 @@ found_taken words found entries =
     (subst (λ rows. AreTaken rows (subcommand_of program words)) (sym entries.1) (program_takes words entries.0))
 
 -- and so the answer is the words'
-pub answers_words : (words : List Text) (found : ArgMatches) (answer : Result CallLine LineFault) → HasEntriesOf words found
+pub answers_words : (words : List Text) (found : ArgMatches) (answer : Result CommandLine LineFault) → HasEntriesOf words found
     → UnlessMemory (λ a. MeansEntries (rows_of (found_of found)) (subcommand_rows_of found) (answered a)) answer
     → IsAnswerTo words answer
 answers_words words found (Ok line) entries means = (entries.0, means_words words found (Ok (said line)) entries means)
@@ -262,7 +262,7 @@ answers_words words found (Err fault.Memory) entries means = tt
 
 -- `clap` refuses the words
 pub refuses_words : (words : List Text) (why : LineFault) → IsWordsOf (λ kind. IsAmong kind (fault_of program words)) why
-    → (let answer : Result CallLine LineFault = Err why in IsAnswerTo words answer)
+    → (let answer : Result CommandLine LineFault = Err why in IsAnswerTo words answer)
 refuses_words words (fault.Words text help) refused = refused
 refuses_words words (fault.Name why) refused = absurd refused
 refuses_words words fault.TwoSystems refused = absurd refused
@@ -420,7 +420,7 @@ mailed grade first hop paths same alike =
 pub user_fault : (rows : List Row) (entered : Option (Text × List Row)) (config user : Text) (at : Option ℕ) (f : LineFault) → Some config ≡ first_of (codes "config") rows
     → Some user ≡ first_of (codes "as") rows → IsNumberOf 64 (first_of (codes "at") rows) at
     → (let answer : Result (List ℕ) LineFault = Err f in Answers answer (word_of user))
-    → (let answer : Result CallLine LineFault = Err f in UnlessMemory (λ a. MeansEntries rows entered (answered a)) answer)
+    → (let answer : Result CommandLine LineFault = Err f in UnlessMemory (λ a. MeansEntries rows entered (answered a)) answer)
 user_fault rows entered config user at f is_config is_user is_at answers =
     err_weaker (λ a. a ≡ word_of user) (λ a. MeansEntries rows entered (answered a)) f
     (λ is. (config, is_config, (user, is_user, (at, is_at, subst (λ read. MeansLineOf config at read entered (Err f)) is refl)))) answers
@@ -428,12 +428,12 @@ user_fault rows entered config user at f is_config is_user is_at answers =
 pub task_fault : (rows : List Row) (entered : Option (Text × List Row)) (config user : Text) (at : Option ℕ) (word : List ℕ) (f : LineFault)
     → Some config ≡ first_of (codes "config") rows → Some user ≡ first_of (codes "as") rows → IsNumberOf 64 (first_of (codes "at") rows) at
     → Ok word ≡ word_of user → (let answer : Result Task LineFault = Err f in UnlessMemory (MeansEntered entered) answer)
-    → (let answer : Result CallLine LineFault = Err f in UnlessMemory (λ a. MeansEntries rows entered (answered a)) answer)
+    → (let answer : Result CommandLine LineFault = Err f in UnlessMemory (λ a. MeansEntries rows entered (answered a)) answer)
 task_fault rows entered config user at word f is_config is_user is_at is_word means =
     err_weaker (MeansEntered entered) (λ a. MeansEntries rows entered (answered a)) f
     (λ means. (config, is_config, (user, is_user, (at, is_at, subst (λ read. MeansLineOf config at read entered (Err f)) is_word (Err f, means, refl))))) means
 
-pub line_meant : (rows : List Row) (entered : Option (Text × List Row)) (user : Text) (line : CallLine) → Some (string_bytes line.config) ≡ first_of (codes "config") rows
+pub line_meant : (rows : List Row) (entered : Option (Text × List Row)) (user : Text) (line : CommandLine) → Some (string_bytes line.config) ≡ first_of (codes "config") rows
     → Some user ≡ first_of (codes "as") rows → IsNumberOf 64 (first_of (codes "at") rows) line.at → Ok line.user ≡ word_of user
     → MeansEntered entered (Ok line.task) → MeansEntries rows entered (Ok (said line))
 line_meant rows entered user line is_config is_user is_at is_word means =

@@ -19,7 +19,7 @@ use Rattle.uu_names.specs.declared.fault.NameFault.TheVariants.{Memory as NoMemo
 use Rattle.uu_line.specs.Commands.{program}
 use Rattle.uu_line.specs.declared.fault.LineFault.{LineFault}
 use Rattle.uu_line.specs.declared.fault.LineFault.TheVariants.{Words, Name, TwoSystems, Memory}
-use Rattle.uu_line.specs.declared.line.CallLine.{CallLine}
+use Rattle.uu_line.specs.declared.line.CommandLine.{CommandLine}
 use Rattle.uu_line.specs.declared.task.Task.{Task}
 use Rattle.uu_line.specs.declared.task.Task.TheVariants as task
 
@@ -279,10 +279,10 @@ pub record Line : Type 0 where
   pub user : List ℕ
   pub task : Task
 
-abbrev pub said : CallLine → Line
+abbrev pub said : CommandLine → Line
 said line = record { config = string_bytes line.config; at = line.at; user = line.user; task = line.task }
 
-abbrev pub answered : Result CallLine LineFault → Result Line LineFault
+abbrev pub answered : Result CommandLine LineFault → Result Line LineFault
 answered (Ok line) = Ok (said line)
 answered (Err fault) = Err fault
 
@@ -327,7 +327,7 @@ abbrev pub AreRefused : List Text → Bool → Type 0
 AreRefused words help = (kind : ErrorKind) × IsAmong kind (fault_of program words) × IsToldAsHelp kind help
 
 -- the words mean this line
-abbrev pub MeansLine : List Text → CallLine → Type 0
+abbrev pub MeansLine : List Text → CommandLine → Type 0
 MeansLine words line = (fault_of program words ≡ []) × Means words (Ok (said line))
 
 -- the words are taken, and this is the first fault of their names and addresses
@@ -336,7 +336,7 @@ MeansFault words fault = (fault_of program words ≡ []) × Means words (Err fau
 
 -- The answer to words is what they mean. A fault of words comes where `clap` refuses them or is asked for
 -- help, which it then says, and nowhere else; want of memory may take the place of any answer, and no other fault comes.
-abbrev pub IsAnswerTo : List Text → Result CallLine LineFault → Type 0
+abbrev pub IsAnswerTo : List Text → Result CommandLine LineFault → Type 0
 IsAnswerTo words (Ok line) = MeansLine words line
 IsAnswerTo words (Err (Words text help)) = AreRefused words help
 IsAnswerTo words (Err (Name why)) = MeansFault words (Name why)

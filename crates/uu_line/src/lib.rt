@@ -11,5 +11,5 @@ mod task;
 mod values;
 
 pub use fault::LineFault;
-pub use line::{CallLine, line_of};
+pub use line::{CommandLine, line_of};
 pub use task::Task;

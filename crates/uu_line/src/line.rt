@@ -20,7 +20,7 @@ use uu_names::Word;
 
 /// One line of the program.
 #[derive(Drop)]
-pub struct CallLine {
+pub struct CommandLine {
     /// The path of the settings file of `-c`, `uuspool.toml` where it is not given.
     pub config: String,
     /// The second of `--at`, UTC, where it is given.
@@ -37,7 +37,7 @@ pub struct CallLine {
 /// `Words` exactly where `clap` refuses the words, with `help` where they ask for help. `Name` with the
 /// first fault of the user, and then of the arguments and options in the order of the subcommand's usage
 /// (`Task`). `TwoSystems` where the addresses of a message begin with different systems. Else `Memory`.
-pub fn line_of(alloc: Global, words: &[String]) -> Result<CallLine, LineFault>
+pub fn line_of(alloc: Global, words: &[String]) -> Result<CommandLine, LineFault>
     ensures { IsAnswerTo (map string_bytes words.now) result }
 {
     match entries_of(alloc, words) {
@@ -47,7 +47,7 @@ pub fn line_of(alloc: Global, words: &[String]) -> Result<CallLine, LineFault>
 }
 
 // The line with these entries.
-fn line_in(alloc: Global, given: &ArgMatches<'_>) -> Result<CallLine, LineFault>
+fn line_in(alloc: Global, given: &ArgMatches<'_>) -> Result<CommandLine, LineFault>
     requires { AreTaken (rows_of (found_of given.now)) (subcommand_rows_of given.now) }
     ensures { UnlessMemory (λ answer. spec.MeansEntries (rows_of (found_of given.now)) (subcommand_rows_of given.now) (spec.answered answer)) result }
 {
@@ -58,7 +58,7 @@ fn line_in(alloc: Global, given: &ArgMatches<'_>) -> Result<CallLine, LineFault>
     match both(called, string_of(alloc, config)) {
         Ok(parts) => {
             let ((user, task), config) = parts;
-            Ok(CallLine {
+            Ok(CommandLine {
                 config,
                 at,
                 user,

@@ -19,7 +19,7 @@ use Rattle.uu_core.specs.declared.job.By.{By}
 use Rattle.uu_core.specs.declared.job.Kind.{Kind}
 use Rattle.uu_core.specs.declared.job.Kind.TheVariants as kind
 use Rattle.uu_line.specs.Lines.{same_text, takes_input}
-use Rattle.uu_line.specs.declared.line.CallLine.{CallLine}
+use Rattle.uu_line.specs.declared.line.CommandLine.{CommandLine}
 use Rattle.uu_line.specs.declared.task.Task.{Task}
 use Rattle.uu_line.specs.declared.task.Task.TheVariants as task
 use Rattle.uu_settings.specs.declared.settings.Settings.{Settings}
@@ -115,7 +115,7 @@ task_request settings at input user task.Map = Ok (entries input)
 task_request settings at input user (task.Neighbours host) = Ok (request.Question (question.Entry host))
 
 -- what a line asks for, where its input is not too large
-abbrev pub request_of : Settings → Moment → List ℕ → CallLine → Result Request RequestFault
+abbrev pub request_of : Settings → Moment → List ℕ → CommandLine → Result Request RequestFault
 request_of settings at input line =
     if takes_input line.task && nat_lt most_text (length input) then Err Input else task_request settings at input line.user line.task
 

@@ -15,7 +15,7 @@ use crate::systems::load;
 use std::alloc::Global;
 use std::mem::drop;
 use uu_core::{By, Command, Filter, Kind, NewJob};
-use uu_line::{CallLine, Task};
+use uu_line::{CommandLine, Task};
 use uu_names::text::MAX_TEXT;
 use uu_names::{Grade, Listed, SiteName, Word};
 use uu_report::Subject;
@@ -62,26 +62,26 @@ pub enum Question {
     Entry(SiteName),
 }
 
-/// What the line asks of a spool, at this moment on the site's clock and with this input.
+/// What the line asks of a spool, at this moment on the site's clock and with this input, which is the job's where the line hands one in.
 ///
 /// # Errors
 /// `Input` exactly where the line takes an input and that has more than `MAX_TEXT` bytes, then `Time` with the fault
 /// of the first faulty line of a sys file, else `Memory`.
 pub fn request_of(
     alloc: Global,
-    line: CallLine,
+    line: CommandLine,
     settings: &Settings,
     at: Moment,
-    input: &[u8],
+    input: Vec<u8>,
 ) -> Result<Request, RequestFault>
     requires { Shows at.local (local_second settings.now.zone at.second) }
-    ensures { AnswersUnlessMemory result (spec.request_of settings.now at input.now line) }
+    ensures { AnswersUnlessMemory result (spec.request_of settings.now at input.items line) }
 {
     if line.task.has_input() && input.len() > MAX_TEXT {
         drop(line);
         return Err(RequestFault::Input);
     }
-    let CallLine {
+    let CommandLine {
         config: _,
         at: _,
         user,
@@ -97,14 +97,14 @@ fn task_request(
     user: Word,
     settings: &Settings,
     at: Moment,
-    input: &[u8],
+    input: Vec<u8>,
 ) -> Result<Request, RequestFault>
     requires clock { Shows at.local (local_second settings.now.zone at.second) }
-    requires fits { IsTrue (takes_input task) → length input.now ≤ most_text }
-    ensures { AnswersUnlessMemory result (spec.task_request settings.now at input.now user task) }
+    requires fits { IsTrue (takes_input task) → length input.items ≤ most_text }
+    ensures { AnswersUnlessMemory result (spec.task_request settings.now at input.items user task) }
 {
     match task {
-        Task::Load => load(alloc, input),
+        Task::Load => load(alloc, &input),
         Task::Drop { system } => one(alloc, Command::Remove(system)),
         Task::Send {
             system,
@@ -113,7 +113,7 @@ fn task_request(
             grade,
         } => {
             let kind = Kind::Send { source, target };
-            queue_copy(alloc, user, system, grade, kind, input, at)
+            queue(alloc, user, system, grade, kind, input, at)
         }
         Task::Request {
             system,
@@ -131,13 +131,13 @@ fn task_request(
             arguments,
         } => {
             let kind = Kind::Execute { command, arguments };
-            queue_copy(alloc, user, system, grade, kind, input, at)
+            queue(alloc, user, system, grade, kind, input, at)
         }
         Task::Mail {
             grade,
             system,
             rests,
-        } => mail(alloc, user, system, grade, rests, input, at, settings),
+        } => mail(alloc, user, system, grade, rests, &input, at, settings),
         Task::List { filter } => Ok(Request::Question(Question::Jobs(filter))),
         Task::Show { job } => Ok(Request::Question(Question::Job(job))),
         Task::Kill { job } => {
@@ -158,7 +158,7 @@ fn task_request(
         Task::Status => Ok(Request::Question(Question::Systems)),
         Task::Failed { system, why } => one(alloc, Command::Failed { system, at, why }),
         Task::Done { system, jobs } => one(alloc, Command::Done { system, at, jobs }),
-        Task::Map => entries(alloc, input),
+        Task::Map => entries(alloc, &input),
         Task::Neighbours { host } => Ok(Request::Question(Question::Entry(host))),
     }
 }
@@ -176,22 +176,6 @@ pub(crate) fn one(alloc: Global, command: Command) -> Result<Request, RequestFau
         subjects: Listed::from_vec(subjects),
         skipped: Listed::from_vec(Vec::new(alloc)),
     }))
-}
-
-// A job with a copy of these bytes is handed in now.
-fn queue_copy(
-    alloc: Global,
-    user: Word,
-    system: SiteName,
-    grade: Grade,
-    kind: Kind,
-    bytes: &[u8],
-    at: Moment,
-) -> Result<Request, RequestFault>
-    ensures { AnswersUnlessMemory result (Ok (spec.queue user at system grade kind bytes.now)) }
-{
-    let bytes = Vec::from_slice(alloc, bytes)?;
-    queue(alloc, user, system, grade, kind, bytes, at)
 }
 
 /// A job of these bytes is handed in now.

@@ -13,39 +13,11 @@ use Rattle.uu_store.specs.declared.spool.Spool.{Spool}
 use Rattle.uuspool.specs.Batch.{BreaksOff, EndsWith, IsBatch, IsNext, IsOfStream, IsRequestLine, IsUntold, answer_of, fault_answer, frame_of, most_requests}
 use Rattle.uuspool.specs.Internal.BatchSteps.{IsBatchStep}
 use Rattle.uuspool.specs.Faults.{status_of}
-use Rattle.uuspool.specs.Sessions.{AreLeft, AreServed, Further, IsOneRun, LeadOn, Line, Serves, left_fault}
+use Rattle.uuspool.specs.ServedLines.{AllGoOn, AreLeft, AreServed, IsOneRun, Line, Serves, goes_on, left_fault}
 use Rattle.uuspool.specs.declared.batching.Step.{Step}
 use Rattle.uuspool.specs.declared.batching.Step.TheVariants as step
 use Rattle.uuspool.specs.declared.fault.Fault.{Fault}
 use Rattle.uuspool.specs.declared.fault.Fault.TheVariants as fault
-
--- ---- by whether others are served after an end
-
-further_is : (r : Result ℕ Fault) (A B : Type 0) → A → B → Further r A B
-further_is (Ok status) A B a b = a
-further_is (Err (fault.Store why)) A B a b = b
-further_is (Err fault.Write) A B a b = b
-further_is (Err fault.Memory) A B a b = b
-further_is (Err (fault.Words text help)) A B a b = a
-further_is (Err (fault.Settings why)) A B a b = a
-further_is (Err (fault.Name why)) A B a b = a
-further_is (Err (fault.Time why)) A B a b = a
-further_is (Err fault.TwoSystems) A B a b = a
-further_is (Err fault.Input) A B a b = a
-further_is (Err fault.Read) A B a b = a
-
-further_map : (r : Result ℕ Fault) (A B X Y C D : Type 0) → (A → X → C) → (B → Y → D) → Further r A B → Further r X Y → Further r C D
-further_map (Ok status) A B X Y C D on off p q = on p q
-further_map (Err (fault.Store why)) A B X Y C D on off p q = off p q
-further_map (Err fault.Write) A B X Y C D on off p q = off p q
-further_map (Err fault.Memory) A B X Y C D on off p q = off p q
-further_map (Err (fault.Words text help)) A B X Y C D on off p q = on p q
-further_map (Err (fault.Settings why)) A B X Y C D on off p q = on p q
-further_map (Err (fault.Name why)) A B X Y C D on off p q = on p q
-further_map (Err (fault.Time why)) A B X Y C D on off p q = on p q
-further_map (Err fault.TwoSystems) A B X Y C D on off p q = on p q
-further_map (Err fault.Input) A B X Y C D on off p q = on p q
-further_map (Err fault.Read) A B X Y C D on off p q = on p q
 
 -- ---- what a flag says
 
@@ -59,29 +31,23 @@ not_false false is = sym is
 
 -- ---- one line more
 
--- some line does not lead on
-abbrev pub LeadOff : List Line → Type 0
-LeadOff [] = ⊥
-LeadOff (line ∷ lines) = Further line.result (LeadOff lines) ⊤
+-- behind some line the next is left
+abbrev pub SomeStops : List Line → Type 0
+SomeStops [] = ⊥
+SomeStops (line ∷ lines) = (goes_on line.result ≡ false) ⊎ SomeStops lines
 
 left_more : (lines : List Line) (line : Line) → AreLeft lines → line.output ≡ [] → line.result ≡ Err left_fault → AreLeft (lines ++ line ∷ [])
 left_more [] line left nothing is = (nothing, is, tt)
 left_more (first ∷ lines) line (a, b, left) nothing is = (a, b, left_more lines line left nothing is)
 
-on_more : (lines : List Line) (line : Line) → LeadOn lines → Further line.result ⊤ ⊥ → LeadOn (lines ++ line ∷ [])
-on_more [] line on more = more
-on_more (first ∷ lines) line on more =
-    further_map first.result (LeadOn lines) ⊥ ⊤ ⊤ (LeadOn (lines ++ line ∷ [])) ⊥ (λ on t. on_more lines line on more) (λ no t. no) on (further_is first.result ⊤ ⊤ tt tt)
-
-off_more : (lines : List Line) (line : Line) → LeadOff lines → LeadOff (lines ++ line ∷ [])
+off_more : (lines : List Line) (line : Line) → SomeStops lines → SomeStops (lines ++ line ∷ [])
 off_more [] line off = absurd off
-off_more (first ∷ lines) line off =
-    further_map first.result (LeadOff lines) ⊤ ⊤ ⊤ (LeadOff (lines ++ line ∷ [])) ⊤ (λ off t. off_more lines line off) (λ t u. tt) off (further_is first.result ⊤ ⊤ tt tt)
+off_more (first ∷ lines) line (inl stops) = inl stops
+off_more (first ∷ lines) line (inr later) = inr (off_more lines line later)
 
-off_now : (lines : List Line) (line : Line) → LeadOn lines → Further line.result ⊥ ⊤ → LeadOff (lines ++ line ∷ [])
-off_now [] line on more = more
-off_now (first ∷ lines) line on more =
-    further_map first.result (LeadOn lines) ⊥ ⊤ ⊤ (LeadOff (lines ++ line ∷ [])) ⊤ (λ on t. off_now lines line on more) (λ no t. tt) on (further_is first.result ⊤ ⊤ tt tt)
+off_now : (lines : List Line) (line : Line) → goes_on line.result ≡ false → SomeStops (lines ++ line ∷ [])
+off_now [] line stops = inl stops
+off_now (first ∷ lines) line stops = inr (off_now lines line stops)
 
 all_more : (P : Line → Type 0) (lines : List Line) (line : Line) → AllByRecursion P lines → P line → AllByRecursion P (lines ++ line ∷ [])
 all_more P [] line all here = (here, tt)
@@ -98,26 +64,28 @@ flat_more : (f : Line → List ℕ) (lines : List Line) (line : Line) → flat_m
 flat_more f lines line = ap (λ back. flat_map f lines ++ back) (sym (append-nil (f line))) ∙ sym (flat_map-append f lines (line ∷ []))
 
 module _ {S : Type 0} {g : Ghosts S} (settings : Settings) where
-  served_more : (lines : List Line) (line : Line) (old mid new : Spool S g) → AreServed settings lines old mid → LeadOn lines → Serves settings line mid new → AreServed settings (lines ++ line ∷ []) old new
+  served_more : (lines : List Line) (line : Line) (old mid new : Spool S g) → AreServed settings lines old mid → AllGoOn lines → Serves settings line mid new → AreServed settings (lines ++ line ∷ []) old new
   served_more [] line old mid new same on serves =
-      (new, subst (λ (m : Spool S g). Serves settings line m new) same serves, further_is line.result (new ≡ new) (⊤ × (new ≡ new)) refl (tt, refl))
-  served_more (first ∷ lines) line old mid new (m, here, rest) on serves = (
+      (new, subst (λ (m : Spool S g). Serves settings line m new) same serves, (λ goes. refl), (λ stops. (tt, refl)))
+  served_more (first ∷ lines) line old mid new (m, here, rest, left) (goes, on) serves = (
     m,
     here,
-    further_map first.result (AreServed settings lines m mid) (AreLeft lines × (mid ≡ m)) (LeadOn lines) ⊥
-        (AreServed settings (lines ++ line ∷ []) m new) (AreLeft (lines ++ line ∷ []) × (new ≡ m))
-        (λ rest on. served_more lines line m mid new rest on serves) (λ left no. absurd no) rest on,
+    (λ _. served_more lines line m mid new (rest goes) on serves),
+    (λ stops. absurd (true≢false (sym goes ∙ stops))),
   )
 
-  unserved_more : (lines : List Line) (line : Line) (old mid new : Spool S g) → AreServed settings lines old mid → LeadOff lines
+  -- one of them stops, so that the line is left as those behind that one are
+  unserved_more : (lines : List Line) (line : Line) (old mid new : Spool S g) → AreServed settings lines old mid → SomeStops lines
       → line.output ≡ [] → line.result ≡ Err left_fault → new ≡ mid → AreServed settings (lines ++ line ∷ []) old new
   unserved_more [] line old mid new same off nothing is still = absurd off
-  unserved_more (first ∷ lines) line old mid new (m, here, rest) off nothing is still = (
+  unserved_more (first ∷ lines) line old mid new (m, here, rest, left) off nothing is still = (
     m,
     here,
-    further_map first.result (AreServed settings lines m mid) (AreLeft lines × (mid ≡ m)) (LeadOff lines) ⊤
-        (AreServed settings (lines ++ line ∷ []) m new) (AreLeft (lines ++ line ∷ []) × (new ≡ m))
-        (λ rest off. unserved_more lines line m mid new rest off nothing is still) (λ left t. (left_more lines line left.0 nothing is, still ∙ left.1)) rest off,
+    (λ goes. elim off [
+      | inl stops ↦ absurd (true≢false (sym goes ∙ stops))
+      | inr later ↦ unserved_more lines line m mid new (rest goes) later nothing is still
+    ]),
+    (λ stops. (left_more lines line (left stops).0 nothing is, still ∙ (left stops).1)),
   )
 
 -- a request within the limit was read
@@ -144,31 +112,28 @@ untold_behind held holds more before answer fault.Read wrote none = none
 
 -- ---- a stream so far
 
--- the requests that were answered so far, and whether some line does not lead on
+-- the requests that were answered so far, and whether behind some line the next is left
 pub record SoFar {S : Type 0} {g : Ghosts S} {C : Type 0} (settings : Settings) (Tells : C → ℕ → C → Type 0) (failed : Bool) (count : ℕ) (clock later : C) (old new : Spool S g) (had left held holds : Option (List ℕ)) : Type 0 where
   pub lines : List Line
   pub counted : length lines ≡ count
   pub served : AreServed settings lines old new
-  pub on : failed ≡ false → LeadOn lines
-  pub off : failed ≡ true → LeadOff lines
+  pub on : failed ≡ false → AllGoOn lines
+  pub off : failed ≡ true → SomeStops lines
   pub requests : AllByRecursion IsRequestLine lines
   pub clock_told : FoldsTo (λ earlier (line : Line) later. Tells earlier line.now later) clock lines later
   pub read : Consumes had left (flat_map frame_of lines)
   pub answered : Appends held holds (flat_map answer_of lines)
 
--- after a line, others are served where those before it lead on and it does
-on_then : (failed leads_on : Bool) (lines : List Line) (line : Line) → (failed ≡ false → LeadOn lines) → (failed ≡ true → line.result ≡ Err left_fault)
-    → Further line.result (leads_on ≡ true) (leads_on ≡ false) → leads_on ≡ true → LeadOn (lines ++ line ∷ [])
-on_then false leads_on lines line on left further goes =
-    on_more lines line (on refl) (further_map line.result (leads_on ≡ true) (leads_on ≡ false) ⊤ ⊤ ⊤ ⊥ (λ p t. tt) (λ stops t. absurd (true≢false (sym goes ∙ stops))) further (further_is line.result ⊤ ⊤ tt tt))
-on_then true leads_on lines line on left further goes =
-    let stops : leads_on ≡ false = subst (λ r. Further r (leads_on ≡ true) (leads_on ≡ false)) (left refl) further in absurd (true≢false (sym goes ∙ stops))
+-- after a line the next is served where those before it and it go on
+on_then : (failed goes : Bool) (lines : List Line) (line : Line) → (failed ≡ false → AllGoOn lines) → (failed ≡ true → line.result ≡ Err left_fault)
+    → goes ≡ goes_on line.result → goes ≡ true → AllGoOn (lines ++ line ∷ [])
+on_then false goes lines line on left is yes = all_more (λ (l : Line). goes_on l.result ≡ true) lines line (on refl) (sym is ∙ yes)
+on_then true goes lines line on left is yes = absurd (true≢false (sym yes ∙ is ∙ ap goes_on (left refl)))
 
-off_then : (failed leads_on : Bool) (lines : List Line) (line : Line) → (failed ≡ false → LeadOn lines) → (failed ≡ true → LeadOff lines)
-    → Further line.result (leads_on ≡ true) (leads_on ≡ false) → leads_on ≡ false → LeadOff (lines ++ line ∷ [])
-off_then false leads_on lines line on off further stops =
-    off_now lines line (on refl) (further_map line.result (leads_on ≡ true) (leads_on ≡ false) ⊤ ⊤ ⊥ ⊤ (λ goes t. absurd (true≢false (sym goes ∙ stops))) (λ p t. tt) further (further_is line.result ⊤ ⊤ tt tt))
-off_then true leads_on lines line on off further stops = off_more lines line (off refl)
+off_then : (failed goes : Bool) (lines : List Line) (line : Line) → (failed ≡ false → AllGoOn lines) → (failed ≡ true → SomeStops lines)
+    → goes ≡ goes_on line.result → goes ≡ false → SomeStops (lines ++ line ∷ [])
+off_then false goes lines line on off is no = off_now lines line (sym is ∙ no)
+off_then true goes lines line on off is no = off_more lines line (off refl)
 
 module _ {S : Type 0} {g : Ghosts S} {C : Type 0} (settings : Settings) (Tells : C → ℕ → C → Type 0) where
   pub none_so_far : (clock : C) (old : Spool S g) (had held : Option (List ℕ)) → SoFar settings Tells false 0 clock clock old old had had held held
@@ -184,22 +149,22 @@ module _ {S : Type 0} {g : Ghosts S} {C : Type 0} (settings : Settings) (Tells :
     answered = Appends-nil held;
   }
 
-  lines_then : (failed : Bool) (lines : List Line) (line : Line) (clock later : C) (old mid new : Spool S g) → AreServed settings lines old mid → (failed ≡ false → LeadOn lines) → (failed ≡ true → LeadOff lines)
+  lines_then : (failed : Bool) (lines : List Line) (line : Line) (clock later : C) (old mid new : Spool S g) → AreServed settings lines old mid → (failed ≡ false → AllGoOn lines) → (failed ≡ true → SomeStops lines)
       → IsNext settings Tells failed clock later mid new line → AreServed settings (lines ++ line ∷ []) old new
   lines_then false lines line clock later old mid new served on off next = served_more settings lines line old mid new served (on refl) (next.served refl)
   lines_then true lines line clock later old mid new served on off next =
       let left = next.left refl in unserved_more settings lines line old mid new served (off refl) left.0 left.1 left.2
 
   module _ (failed : Bool) (count : ℕ) (clock now later : C) (old mid new : Spool S g) (had left rest held holds more : Option (List ℕ)) (so : SoFar settings Tells failed count clock now old mid had left held holds) where
-    pub one_more_so_far : (leads_on after : Bool) → (after ≡ true → leads_on ≡ false) → (after ≡ false → leads_on ≡ true)
-        → (let r : Result Step Fault = Ok (step.Answered leads_on) in IsBatchStep settings Tells failed now later mid new left rest holds more r)
+    pub one_more_so_far : (goes after : Bool) → (after ≡ true → goes ≡ false) → (after ≡ false → goes ≡ true)
+        → (let r : Result Step Fault = Ok (step.Answered goes) in IsBatchStep settings Tells failed now later mid new left rest holds more r)
         → SoFar settings Tells after (count + 1) clock later old new had rest held more
-    one_more_so_far leads_on after fails goes (line, next, consumes, appends, further) = record {
+    one_more_so_far goes after fails on (line, next, consumes, appends, is) = record {
       lines = so.lines ++ line ∷ [];
       counted = one_counted so.lines line count so.counted;
       served = lines_then failed so.lines line now later old mid new so.served so.on so.off next;
-      on = λ no. on_then failed leads_on so.lines line so.on (λ was. (next.left was).1) further (goes no);
-      off = λ yes. off_then failed leads_on so.lines line so.on so.off further (fails yes);
+      on = λ no. on_then failed goes so.lines line so.on (λ was. (next.left was).1) is (on no);
+      off = λ yes. off_then failed goes so.lines line so.on so.off is (fails yes);
       requests = all_more IsRequestLine so.lines line so.requests next.request;
       clock_told = folds_more (λ earlier (l : Line) later. Tells earlier l.now later) clock so.lines now line later so.clock_told next.told;
       read = subst (Consumes had rest) (flat_more frame_of so.lines line) (Consumes-trans had left rest (flat_map frame_of so.lines) (frame_of line) so.read consumes);
@@ -261,7 +226,7 @@ module _ {S : Type 0} {g : Ghosts S} {C : Type 0} (settings : Settings) (Tells :
       → IfOk r (λ made. (made ≡ step.Ended (status_of why)) × Appends held holds (fault_answer why)) → IfErr r (IsUntold (fault_answer why) (Appends held holds))
       → IsBatchStep settings Tells failed clock later old new had left held holds r
   step_of_end (Ok (step.Ended status)) why is still (same, appends) named = let status_is : status ≡ status_of why = cc in (still, inr (why, is, status_is, appends))
-  step_of_end (Ok (step.Answered leads_on)) why is still (same, appends) named = absurd (cc)
+  step_of_end (Ok (step.Answered goes)) why is still (same, appends) named = absurd (cc)
   step_of_end (Err fault) why is still none untold = inr (still, why, is, untold)
 
   pub step_broken : (why : Fault) (line : Line) → IsUntold (answer_of line) (Appends held holds) why → IsNext settings Tells failed clock later old new line → Consumes had left (frame_of line)

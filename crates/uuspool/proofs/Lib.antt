@@ -8,5 +8,5 @@ pub mod LineLemmas
 pub mod PairLemmas
 pub mod ServedLemmas
 pub mod ServesLemmas
-pub mod SessionLemmas
+pub mod ServedLinesLemmas
 pub mod SumLemmas

@@ -10,7 +10,7 @@ use Rattle.uu_names.specs.Text.{most_text}
 use Rattle.uu_settings.specs.declared.settings.Settings.{Settings}
 use Rattle.uu_store.specs.declared.spool.Spool.{Spool}
 use Rattle.uuspool.specs.Faults.{errors_of_fault, named, output_of_fault, status_of}
-use Rattle.uuspool.specs.Sessions.{AreServed, IsOneRun, Line, Serves, left_fault}
+use Rattle.uuspool.specs.ServedLines.{AreServed, IsOneRun, Line, Serves, left_fault}
 use Rattle.uuspool.specs.declared.fault.Fault.{Fault}
 use Rattle.uuspool.specs.declared.fault.Fault.TheVariants as fault
 
@@ -72,7 +72,7 @@ fault_answer why = told_frame [] (Err why)
 
 -- ---- one request
 
--- The line was served at the second that the clock told, or it was left, since a line before it does not lead on.
+-- The line was served at the second that the clock told, or it was left, since a line before it does not go on.
 pub record IsNext {S : Type 0} {g : Ghosts S} {C : Type 0} (settings : Settings) (Tells : C → ℕ → C → Type 0) (failed : Bool) (clock later : C) (old new : Spool S g) (line : Line) : Type 0 where
   pub request : IsRequestLine line
   pub told : Tells clock line.now later
@@ -108,15 +108,15 @@ BreaksOff lines left rest Writes why =
 -- theirs, in their order, and what is left of the stream is nothing or has a fault, which is answered at last. Where an answer could not be made
 -- or written, the batch breaks off there: those before it were written, and a beginning of it. A batch has at most 2^64 - 1 lines, and ends with a
 -- fault once these are answered, too.
-pub record IsBatch {S : Type 0} {g : Ghosts S} {C : Type 0} (settings : Settings) (Tells : C → ℕ → C → Type 0) (clock : C) (old new : Spool S g) (had rest held holds : Option (List ℕ)) (result : Result ℕ Fault) : Type 0 where
+pub record IsBatch {S : Type 0} {g : Ghosts S} {C : Type 0} (settings : Settings) (Tells : C → ℕ → C → Type 0) (clock : C) (old new : Spool S g) (input_before input_after output_before output_after : Option (List ℕ)) (result : Result ℕ Fault) : Type 0 where
   pub lines : List Line
   pub served : AreServed settings lines old new
   pub run : IsOneRun settings lines old new
   pub requests : AllByRecursion IsRequestLine lines
   pub clock_told : (last : C) × FoldsTo (λ earlier (line : Line) later. Tells earlier line.now later) clock lines last
   pub left : Option (List ℕ)
-  pub read : Consumes had left (flat_map frame_of lines)
-  pub answered : IfOk result (EndsWith left rest (λ last. Appends held holds (flat_map answer_of lines ++ last)))
+  pub read : Consumes input_before left (flat_map frame_of lines)
+  pub answered : IfOk result (EndsWith left input_after (λ last. Appends output_before output_after (flat_map answer_of lines ++ last)))
   pub broken_off : IfErr result (λ why.
-      BreaksOff lines left rest (λ front last. Appends held holds (flat_map answer_of front ++ last)) why
-      ⊎ ((why ≡ fault.Read) × (length lines ≡ most_requests) × Appends held holds (flat_map answer_of lines)))
+      BreaksOff lines left input_after (λ front last. Appends output_before output_after (flat_map answer_of front ++ last)) why
+      ⊎ ((why ≡ fault.Read) × (length lines ≡ most_requests) × Appends output_before output_after (flat_map answer_of lines)))

@@ -161,17 +161,7 @@ output_of_fault why = if is_help why then line_of_fault why else []
 abbrev pub errors_of_fault : Fault → List ℕ
 errors_of_fault why = if is_help why then [] else line_of_fault why
 
--- The fault of a line that a fault of one of its names is: want of memory is a fault of its own.
-abbrev pub fault_of_name : NameFault → Fault
-fault_of_name name.Memory = fault.Memory
-fault_of_name why = fault.Name why
-
--- and a fault of a moment
-abbrev pub fault_of_time : TimeFault → Fault
-fault_of_time time.Memory = fault.Memory
-fault_of_time why = fault.Time why
-
--- and a fault of its words
+-- The fault of a line that a fault of its words is.
 abbrev pub fault_of_line : LineFault → Fault
 fault_of_line (line.Words text help) = fault.Words text help
 fault_of_line (line.Name why) = fault.Name why

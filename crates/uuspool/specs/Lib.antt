@@ -3,7 +3,7 @@ pub mod Input
 pub mod Lines
 pub mod Answers
 pub mod Served
-pub mod Sessions
+pub mod ServedLines
 pub mod Batch
 pub mod Internal
 pub mod BatchCalls

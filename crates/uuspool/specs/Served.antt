@@ -18,7 +18,7 @@ use Rattle.uu_store.specs.declared.spool.Spool.{Spool}
 use Rattle.uu_store.specs.declared.run.RunEnd.{RunEnd}
 use Rattle.uu_frame.specs.Writing.{IsCut}
 use Rattle.uu_line.specs.Lines.{AreRefused, MeansLine}
-use Rattle.uu_line.specs.declared.line.CallLine.{CallLine}
+use Rattle.uu_line.specs.declared.line.CommandLine.{CommandLine}
 use Rattle.uu_settings.specs.declared.settings.Settings.{Settings}
 use Rattle.uu_report.specs.declared.output.Subject.{Subject}
 use Rattle.uu_report.specs.Outputs.{answers_text, output_text, replies_status}
@@ -35,7 +35,7 @@ use Rattle.uuspool.specs.declared.fault.Fault.TheVariants as fault
 -- ---- from words to a request
 
 -- the second of a line, which is `now` where it gives none
-abbrev pub second_of : CallLine → ℕ → ℕ
+abbrev pub second_of : CommandLine → ℕ → ℕ
 second_of line now = unwrap_or line.at now
 
 -- the moment of a second on the site's clock
@@ -46,7 +46,7 @@ pub record IsMomentOf (settings : Settings) (instant : ℕ) (at : Moment) : Type
 
 -- what the words ask, with this input, at the second `now` where they give none, or why they ask nothing
 pub record Ask (settings : Settings) (words : List (List ℕ)) (now : ℕ) (input : List ℕ) (asked : Result Request RequestFault) : Type 0 where
-  pub line : CallLine
+  pub line : CommandLine
   pub means : MeansLine words line
   pub at : Moment
   pub moment : IsMomentOf settings (second_of line now) at
@@ -175,7 +175,7 @@ IsFaultOf settings words now input (fault.Words text help) = AreRefused words he
 IsFaultOf settings words now input (fault.Name why) = IsAnswerTo words (Err (fault.Name why))
 IsFaultOf settings words now input fault.TwoSystems = IsAnswerTo words (Err fault.TwoSystems)
 IsFaultOf settings words now input (fault.Time why) =
-    ((why ≡ MomentRange) × ((line : CallLine) × MeansLine words line × IsPast (second_of line now)))
+    ((why ≡ MomentRange) × ((line : CommandLine) × MeansLine words line × IsPast (second_of line now)))
     ⊎ Ask settings words now input (Err (asking.Time why))
 IsFaultOf settings words now input fault.Input = Ask settings words now input (Err asking.Input)
 IsFaultOf settings words now input fault.Memory = ⊤
@@ -183,3 +183,12 @@ IsFaultOf settings words now input (fault.Settings why) = ⊥
 IsFaultOf settings words now input fault.Read = ⊥
 IsFaultOf settings words now input (fault.Store why) = IsOfCall why × ((request : Request) × Ask settings words now input (Ok request))
 IsFaultOf settings words now input fault.Write = (request : Request) × Ask settings words now input (Ok request)
+
+-- Of a line at its moment: its input is too large, or is no sys file, or its request was asked of the spool. Want of memory may take the place of any.
+abbrev pub IsFaultOfLine : Settings → CommandLine → Moment → List ℕ → Fault → Type 0
+IsFaultOfLine settings line at input (fault.Time why) = request_of settings at input line ≡ Err (asking.Time why)
+IsFaultOfLine settings line at input fault.Input = request_of settings at input line ≡ Err asking.Input
+IsFaultOfLine settings line at input (fault.Store why) = IsOfCall why × ((request : Request) × (request_of settings at input line ≡ Ok request))
+IsFaultOfLine settings line at input fault.Write = (request : Request) × (request_of settings at input line ≡ Ok request)
+IsFaultOfLine settings line at input fault.Memory = ⊤
+IsFaultOfLine settings line at input _ = ⊥

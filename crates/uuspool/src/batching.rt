@@ -3,14 +3,14 @@ ghost use Rattle.std.specs.Prelude.{◌≡◌, ◌++◌, ℕ, List, Bool, true, 
 ghost use Rattle.std.specs.Io.KnownBytes.{Appends};
 ghost use Rattle.uu_frame.specs.Frames.{IsCause};
 ghost use Rattle.uu_names.specs.Text.{most_text};
-ghost use Rattle.uuspool.specs.Sessions.{Further, Serves, left_fault};
+ghost use Rattle.uuspool.specs.ServedLines.{Serves, goes_on, left_fault};
 ghost use Rattle.uuspool.specs.Faults.{errors_of_fault, output_of_fault, status_of};
 ghost use Rattle.uuspool.specs.Batch.{IsBatch, IsOfStream, IsUntold, end_errors, end_output, end_status, fault_answer, line_with, told_frame};
 ghost use Rattle.uuspool.specs.Internal.BatchSteps.{IsBatchStep};
 
 use crate::fault::{Fault, fault_line, fault_status};
 use crate::laws::lines_are_one_run;
-use crate::serving::serve;
+use crate::serving::serve_words;
 use sqlite::Alter;
 use std::alloc::Global;
 use std::io::{BufRead, Write};
@@ -51,7 +51,7 @@ pub fn batch<S: Alter, C: Clock, R: BufRead, W: Write>(
     let mut failed = false;
     for _count in 0..u64::MAX {
         match answer_next(alloc, settings, failed, clock, reader, spool, out) {
-            Ok(Step::Answered { leads_on }) => failed = !leads_on,
+            Ok(Step::Answered { goes_on }) => failed = !goes_on,
             Ok(Step::Ended(status)) => return Ok(status),
             Err(fault) => return Err(fault),
         }
@@ -61,8 +61,8 @@ pub fn batch<S: Alter, C: Clock, R: BufRead, W: Write>(
 
 // What was done with the next bytes of a stream.
 enum Step {
-    // A request was answered; after it others are carried out, or are not.
-    Answered { leads_on: bool },
+    // A request was answered; the next is served, or is left.
+    Answered { goes_on: bool },
     // There is no further request, and this is the program's status.
     Ended(u8),
 }
@@ -87,10 +87,10 @@ fn answer_next<S: Alter, C: Clock, R: BufRead, W: Write>(
     let Some(now) = clock.second() else {
         return end_with(alloc, Fault::Read, out);
     };
-    let answer = answer_to(alloc, settings, failed, &frame, now, spool);
-    let leads_on = leads_on(&answer.end);
+    let answer = answer_to(alloc, settings, failed, frame, now, spool);
+    let goes_on = goes_on(&answer.end);
     match tell(alloc, answer, out) {
-        Ok(()) => Ok(Step::Answered { leads_on }),
+        Ok(()) => Ok(Step::Answered { goes_on }),
         Err(fault) => Err(fault),
     }
 }
@@ -107,11 +107,11 @@ fn answer_to<S: Alter>(
     alloc: Global,
     settings: &Settings,
     failed: bool,
-    frame: &Frame,
+    frame: Frame,
     now: u64,
     spool: &mut Spool<S>,
 ) -> Answer
-    ensures served { failed ≡ false → Serves settings.now (line_with (map string_bytes frame.now.words.items) now frame.now.input.items result.output.items result.end) spool.old spool.new }
+    ensures served { failed ≡ false → Serves settings.now (line_with (map string_bytes frame.words.items) now frame.input.items result.output.items result.end) spool.old spool.new }
     ensures left { failed ≡ true → (result.output.items ≡ []) × (result.end ≡ Err left_fault) × (spool.new ≡ spool.old) }
 {
     if failed {
@@ -120,22 +120,15 @@ fn answer_to<S: Alter>(
             end: Err(Fault::Store(StoreFault::Failed)),
         };
     }
+    let Frame { words, input } = frame;
     let mut output = Vec::new(alloc);
-    let end = serve(
-        alloc,
-        &frame.words,
-        settings,
-        now,
-        &frame.input,
-        spool,
-        &mut output,
-    );
+    let end = serve_words(alloc, &words, settings, now, input, spool, &mut output);
     Answer { output, end }
 }
 
-// Whether requests after this end are carried out. The spool may have failed before memory or the output did.
-fn leads_on(end: &Result<u8, Fault>) -> bool
-    ensures { Further end.now (result ≡ true) (result ≡ false) }
+// Whether the next request is served after this end. The spool may have failed before memory or the output did.
+fn goes_on(end: &Result<u8, Fault>) -> bool
+    ensures { result ≡ goes_on end.now }
 {
     !matches!(end, Err(Fault::Store(_) | Fault::Write | Fault::Memory))
 }

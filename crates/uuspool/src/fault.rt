@@ -105,34 +105,6 @@ impl<T: Drop> From<AllocFailed<T>> for Fault {
     }
 }
 
-impl From<NameFault> for Fault {
-    ghost use Rattle.std.specs.Prelude.{◌≡◌};
-    ghost use Rattle.uuspool.specs.Faults.{fault_of_name};
-
-    ghost from_gives = { λ name fault. fault ≡ fault_of_name name };
-
-    fn from(fault: NameFault) -> Fault {
-        match fault {
-            NameFault::Memory => Fault::Memory,
-            fault => Fault::Name(fault),
-        }
-    }
-}
-
-impl From<TimeFault> for Fault {
-    ghost use Rattle.std.specs.Prelude.{◌≡◌};
-    ghost use Rattle.uuspool.specs.Faults.{fault_of_time};
-
-    ghost from_gives = { λ time fault. fault ≡ fault_of_time time };
-
-    fn from(fault: TimeFault) -> Fault {
-        match fault {
-            TimeFault::Memory => Fault::Memory,
-            fault => Fault::Time(fault),
-        }
-    }
-}
-
 impl From<LineFault> for Fault {
     ghost use Rattle.std.specs.Prelude.{◌≡◌};
     ghost use Rattle.uuspool.specs.Faults.{fault_of_line};
@@ -146,17 +118,6 @@ impl From<LineFault> for Fault {
             LineFault::TwoSystems => Fault::TwoSystems,
             LineFault::Memory => Fault::Memory,
         }
-    }
-}
-
-impl From<SettingsFault> for Fault {
-    ghost use Rattle.std.specs.Prelude.{◌≡◌};
-    ghost use Rattle.uuspool.specs.declared.fault.Fault.TheVariants.{Settings};
-
-    ghost from_gives = { λ settings fault. fault ≡ Settings settings };
-
-    fn from(fault: SettingsFault) -> Fault {
-        Fault::Settings(fault)
     }
 }
 

@@ -3,7 +3,7 @@ ghost use Rattle.std.specs.Prelude.{List, [], None};
 ghost use Rattle.uu_settings.specs.declared.settings.Settings.{Settings};
 ghost use Rattle.uu_store.specs.Runs.{Ran};
 ghost use Rattle.uu_store.specs.declared.spool.Spool.{Spool};
-ghost use Rattle.uuspool.specs.Sessions.{AreServed, IsOneRun, Line};
+ghost use Rattle.uuspool.specs.ServedLines.{AreServed, IsOneRun, Line};
 
 use sqlite::Alter;
 use uu_store::laws::runs_are_one_run;

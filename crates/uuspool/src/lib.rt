@@ -24,6 +24,6 @@ pub use moment::moment_of;
 pub use report::{
     report_due, report_jobs, report_links, report_next_calls, report_queues, report_status,
 };
-pub use serving::serve;
-pub use uu_line::{CallLine, Task};
+pub use serving::{serve, serve_line};
+pub use uu_line::{CommandLine, CommandLine as CallLine, Task};
 pub use uu_settings::{Key, Settings, SettingsFault};

@@ -6,7 +6,7 @@ ghost use Rattle.uuspool.specs.Lines.{IsAnswerTo};
 
 use crate::fault::Fault;
 use std::alloc::Global;
-use uu_line::CallLine;
+use uu_line::CommandLine;
 
 /// The line that the words after the program's name mean.
 ///
@@ -14,7 +14,7 @@ use uu_line::CallLine;
 /// `Words` exactly where `clap` refuses the words, with `help` where they ask for help. `Name` with the
 /// first fault of the user, and then of the arguments and options in the order of the subcommand's usage.
 /// `TwoSystems` where the addresses of a message begin with different systems. Else `Memory`.
-pub fn line_of(alloc: Global, words: &[String]) -> Result<CallLine, Fault>
+pub fn line_of(alloc: Global, words: &[String]) -> Result<CommandLine, Fault>
     ensures { IsAnswerTo (map string_bytes words.now) result }
 {
     match uu_line::line_of(alloc, words) {

@@ -1,12 +1,15 @@
-//! One line of the program: what its words ask of the spool is asked, and what is answered is printed.
+//! One line of the program: what it asks of the spool is asked, and what is answered is printed.
 
 ghost use Rattle.std.specs.Prelude.{◌≡◌, ◌≢◌, ℕ, true, false, List, [], Ok, IfOk, IfErr, IsSome, map};
 ghost use Rattle.std.specs.String.{string_bytes};
 ghost use Rattle.std.specs.Io.KnownBytes.{Appends};
+ghost use Rattle.uu_line.specs.Lines.{MeansLine};
 ghost use Rattle.uu_report.specs.Outputs.{answers_text};
+ghost use Rattle.uu_request.specs.Requests as requests;
 ghost use Rattle.uu_request.specs.declared.request.Request.TheVariants as request;
-ghost use Rattle.uuspool.specs.Served.{Ask, EndsAs, IsEarly, IsServed, IsPrintedEnd, IsFaultOf};
-ghost use Rattle.uuspool.specs.Sessions.{Serves};
+ghost use Rattle.uu_times.specs.Moment.{Shows, local_second};
+ghost use Rattle.uuspool.specs.Served.{Ask, EndsAs, IsEarly, IsFaultOf, IsFaultOfLine, IsMomentOf, IsPrintedEnd, IsServed, second_of};
+ghost use Rattle.uuspool.specs.ServedLines.{Serves};
 
 use crate::answer::ask;
 use crate::fault::Fault;
@@ -17,10 +20,12 @@ use sqlite::Alter;
 use std::alloc::Global;
 use std::io::Write;
 use std::mem::drop;
+use uu_line::CommandLine;
 use uu_report::{Subject, answer_lines, output_of, status_of};
 use uu_request::{Batch, Request, request_of};
 use uu_settings::Settings;
 use uu_store::{Reply, RunEnd, Spool};
+use uu_times::Moment;
 
 /// Runs the line that the words after the program's name mean, at the second `now` where the line
 /// gives none, with this input. Writes its output to `out` and answers its status: 0 done, 1 where a command was
@@ -50,38 +55,85 @@ pub fn serve<S: Alter, W: Write>(
     ensures serves { (output : List ℕ) → IsSome (W.contents out.old) → Appends (W.contents out.old) (W.contents out.new) output
         → Serves settings.now (record { words = map string_bytes words.now; now = now; input = input.now; output = output; result = result }) spool.old spool.new }
 {
-    match asked(alloc, words, settings, now, input) {
-        Ok(Request::Commands(batch)) => run(alloc, batch, settings, spool, out),
-        Ok(Request::Question(question)) => ask(alloc, &question, settings, spool, out),
-        Err(fault) => Err(fault),
+    match Vec::from_slice(alloc, input) {
+        Ok(input) => serve_words(alloc, words, settings, now, input, spool, out),
+        Err(_) => Err(Fault::Memory),
     }
 }
 
-// What the words ask of the spool.
-fn asked(
+/// Runs the line that the words mean as [`serve`] does, and takes the input.
+pub(crate) fn serve_words<S: Alter, W: Write>(
     alloc: Global,
     words: &[String],
     settings: &Settings,
     now: u64,
-    input: &[u8],
-) -> Result<Request, Fault>
-    ensures request { IfOk result (λ request. Ask settings.now (map string_bytes words.now) now input.now (Ok request)) }
-    ensures fault { IfErr result (IsFaultOf settings.now (map string_bytes words.now) now input.now) }
+    input: Vec<u8>,
+    spool: &mut Spool<S>,
+    out: &mut W,
+) -> Result<u8, Fault>
+    ensures ends { EndsAs result
+        ((request : _) × Ask settings.now (map string_bytes words.now) now input.items (Ok request)
+        × IsServed settings.now request spool.old spool.new (λ output. Appends (W.contents out.old) (W.contents out.new) output) result)
+        ((spool.new ≡ spool.old) × (out.new ≡ out.old)) }
+    ensures fault { IfErr result (IsFaultOf settings.now (map string_bytes words.now) now input.items) }
+    ensures serves { (output : List ℕ) → IsSome (W.contents out.old) → Appends (W.contents out.old) (W.contents out.new) output
+        → Serves settings.now (record { words = map string_bytes words.now; now = now; input = input.items; output = output; result = result }) spool.old spool.new }
+{
+    match line_and_moment(alloc, words, settings, now) {
+        Ok((line, at)) => serve_line(alloc, line, settings, at, input, spool, out),
+        Err(fault) => Err(fault),
+    }
+}
+
+// The line that the words mean, and its moment.
+fn line_and_moment(
+    alloc: Global,
+    words: &[String],
+    settings: &Settings,
+    now: u64,
+) -> Result<(CommandLine, Moment), Fault>
+    ensures line { IfOk result (λ it. MeansLine (map string_bytes words.now) it.0 × IsMomentOf settings.now (second_of it.0 now) it.1) }
+    ensures fault { (input : List ℕ) → IfErr result (IsFaultOf settings.now (map string_bytes words.now) now input) }
     ensures early { IfErr result IsEarly }
 {
     let line = match line_of(alloc, words) {
         Ok(line) => line,
         Err(fault) => return Err(fault),
     };
-    let at = match moment_of(line.at.unwrap_or(now), settings) {
-        Ok(at) => at,
+    match moment_of(line.at.unwrap_or(now), settings) {
+        Ok(at) => Ok((line, at)),
         Err(fault) => {
             drop(line);
-            return Err(fault);
+            Err(fault)
         }
-    };
+    }
+}
+
+/// Runs this line at this moment on the site's clock, with this input, which it takes. Writes its output to `out` and answers its status,
+/// as [`serve`] does for words that mean the line.
+///
+/// # Errors
+/// Those of [`serve`] but for the faults of words and of the moment: `Input`, then the `Time` of a sys file, `Store`, `Write` and `Memory`.
+pub fn serve_line<S: Alter, W: Write>(
+    alloc: Global,
+    line: CommandLine,
+    settings: &Settings,
+    at: Moment,
+    input: Vec<u8>,
+    spool: &mut Spool<S>,
+    out: &mut W,
+) -> Result<u8, Fault>
+    requires { Shows at.local (local_second settings.now.zone at.second) }
+    // At each end the line's request was served, or nothing changed.
+    ensures ends { EndsAs result
+        ((request : _) × (requests.request_of settings.now at input.items line ≡ Ok request)
+        × IsServed settings.now request spool.old spool.new (λ output. Appends (W.contents out.old) (W.contents out.new) output) result)
+        ((spool.new ≡ spool.old) × (out.new ≡ out.old)) }
+    ensures fault { IfErr result (IsFaultOfLine settings.now line at input.items) }
+{
     match request_of(alloc, line, settings, at, input) {
-        Ok(request) => Ok(request),
+        Ok(Request::Commands(batch)) => run(alloc, batch, settings, spool, out),
+        Ok(Request::Question(question)) => ask(alloc, &question, settings, spool, out),
         Err(fault) => Err(Fault::from(fault)),
     }
 }

@@ -16,57 +16,107 @@ use Rattle.uu_store.specs.Files.{IsStretch, IsClosedStretch}
 use Rattle.uu_store.specs.Spool.{connection_of}
 use Rattle.uu_store.specs.Stretches.{IsLetGo}
 use Rattle.uu_store.specs.Runs.{Ran}
+use Rattle.uu_times.specs.declared.moment.Moment.{Moment}
+use Rattle.uu_line.specs.Lines.{MeansLine}
+use Rattle.uu_line.specs.declared.line.CommandLine.{CommandLine}
 use Rattle.uu_settings.specs.declared.settings.Settings.{Settings}
+use Rattle.uu_request.specs.Requests.{request_of}
+use Rattle.uu_request.specs.declared.fault.RequestFault.{RequestFault}
+use Rattle.uu_request.specs.declared.fault.RequestFault.TheVariants as asking
 use Rattle.uu_request.specs.declared.request.Request.{Request}
 use Rattle.uuspool.specs.Batch.{BreaksOff, EndsWith, IsOfStream, IsUntold, answer_of, fault_answer, most_requests}
-use Rattle.uuspool.specs.Served.{Ask, EndsAs, IsServed, commands_of}
-use Rattle.uuspool.specs.Sessions.{Line}
+use Rattle.uuspool.specs.Served.{Ask, EndsAs, IsFaultOf, IsFaultOfLine, IsMomentOf, IsServed, commands_of, second_of}
+use Rattle.uuspool.specs.ServedLines.{Line}
 use Rattle.uuspool.specs.declared.fault.Fault.{Fault}
 use Rattle.uuspool.specs.declared.fault.Fault.TheVariants as fault
-use Rattle.uuspool_main.specs.Stretch.{EndsBatch, EndsStretch, LetsGo, WasGiven}
+use Rattle.uuspool_main.specs.Stretch.{EndsBatch, EndsStretch, IsOfLine, IsOfRequest, IsOfWords, LetsGo, WasGiven}
 use Rattle.uuspool_main.specs.declared.stretch.Rest.{Rest}
 use Rattle.uuspool_main.specs.declared.stretch.Rest.TheVariants as rest
 
 -- ---- what a line was given
 
-module _ {S : Type 0} {g : Ghosts S} (settings : Settings) (begun ended : Spool S g) (words : List (List ℕ)) (now : ℕ) (input : List ℕ) where
-  -- its request was served
-  abbrev pub Asked : Result ℕ Fault → Type 0
-  Asked r = (request : Request) × Ask settings words now input (Ok request) × IsServed settings request begun ended (λ output. ⊤) r
+module _ {S : Type 0} {g : Ghosts S} (settings : Settings) (begun ended : Spool S g) where
+  -- a request was served
+  abbrev pub Asked : (Request → Type 0) → Result ℕ Fault → Type 0
+  Asked Is r = (request : Request) × Is request × IsServed settings request begun ended (λ output. ⊤) r
 
   -- and these are its commands and their replies
-  abbrev pub AskedSo : Result ℕ Fault → Exchange → Type 0
-  AskedSo r exchange = (request : Request) × Ask settings words now input (Ok request)
+  abbrev pub AskedSo : (Request → Type 0) → Result ℕ Fault → Exchange → Type 0
+  AskedSo Is r exchange = (request : Request) × Is request
       × (it : IsServed settings request begun ended (λ output. ⊤) r) × (exchange ≡ exchange_of (commands_of request) it.replies it.stopped)
 
   -- nothing was done
   abbrev pub NoneSo : Exchange → Type 0
   NoneSo exchange = (ended ≡ begun) × (exchange ≡ exchange_of [] [] None)
 
-  asked_so : (r : Result ℕ Fault) → Asked r → WasGiven begun ended (AskedSo r)
-  asked_so r (request, asks, it) = (commands_of request, it.replies, it.stopped, it.ran, (request, asks, it, refl))
+  asked_so : (Is : Request → Type 0) (r : Result ℕ Fault) → Asked Is r → WasGiven begun ended (AskedSo Is r)
+  asked_so Is r (request, is, it) = (commands_of request, it.replies, it.stopped, it.ran, (request, is, it, refl))
 
   none_so : Ran [] begun begun [] None → ended ≡ begun → WasGiven begun ended NoneSo
   none_so none same = ([], [], None, subst (λ (new : Spool S g). Ran [] begun new [] None) (sym same) none, (same, refl))
 
   -- however it ended
-  pub line_given : (Still : Type 0) → Ran [] begun begun [] None → (r : Result ℕ Fault) → EndsAs r (Asked r) ((ended ≡ begun) × Still)
-      → WasGiven begun ended (λ exchange. EndsAs r (AskedSo r exchange) (NoneSo exchange))
-  line_given Still none (Ok status) it = asked_so (Ok status) it
-  line_given Still none (Err (fault.Store why)) it = asked_so (Err (fault.Store why)) it
-  line_given Still none (Err fault.Write) it = asked_so (Err fault.Write) it
-  line_given Still none (Err fault.Memory) it =
+  pub line_given : (Is : Request → Type 0) (Still : Type 0) → Ran [] begun begun [] None → (r : Result ℕ Fault) → EndsAs r (Asked Is r) ((ended ≡ begun) × Still)
+      → WasGiven begun ended (IsOfRequest settings begun ended Is r)
+  line_given Is Still none (Ok status) it = asked_so Is (Ok status) it
+  line_given Is Still none (Err (fault.Store why)) it = asked_so Is (Err (fault.Store why)) it
+  line_given Is Still none (Err fault.Write) it = asked_so Is (Err fault.Write) it
+  line_given Is Still none (Err fault.Memory) it =
       elim it [
-        | inl done ↦ let (commands, replies, stopped, ran, is) = asked_so (Err fault.Memory) done in (commands, replies, stopped, ran, inl is)
+        | inl done ↦ let (commands, replies, stopped, ran, is) = asked_so Is (Err fault.Memory) done in (commands, replies, stopped, ran, inl is)
         | inr not_done ↦ let (commands, replies, stopped, ran, is) = none_so none not_done.0 in (commands, replies, stopped, ran, inr is)
       ]
-  line_given Still none (Err (fault.Words text help)) it = none_so none it.0
-  line_given Still none (Err (fault.Settings why)) it = none_so none it.0
-  line_given Still none (Err (fault.Name why)) it = none_so none it.0
-  line_given Still none (Err (fault.Time why)) it = none_so none it.0
-  line_given Still none (Err fault.TwoSystems) it = none_so none it.0
-  line_given Still none (Err fault.Input) it = none_so none it.0
-  line_given Still none (Err fault.Read) it = none_so none it.0
+  line_given Is Still none (Err (fault.Words text help)) it = none_so none it.0
+  line_given Is Still none (Err (fault.Settings why)) it = none_so none it.0
+  line_given Is Still none (Err (fault.Name why)) it = none_so none it.0
+  line_given Is Still none (Err (fault.Time why)) it = none_so none it.0
+  line_given Is Still none (Err fault.TwoSystems) it = none_so none it.0
+  line_given Is Still none (Err fault.Input) it = none_so none it.0
+  line_given Is Still none (Err fault.Read) it = none_so none it.0
+
+  -- a request that is of a line is of other words too
+  request_as : (Is Other : Request → Type 0) → ((request : Request) → Is request → Other request) → (r : Result ℕ Fault) (exchange : Exchange)
+      → IsOfRequest settings begun ended Is r exchange → IsOfRequest settings begun ended Other r exchange
+  request_as Is Other into (Ok status) exchange (request, is, it) = (request, into request is, it)
+  request_as Is Other into (Err (fault.Store why)) exchange (request, is, it) = (request, into request is, it)
+  request_as Is Other into (Err fault.Write) exchange (request, is, it) = (request, into request is, it)
+  request_as Is Other into (Err fault.Memory) exchange it =
+      elim it [ inl done ↦ inl (done.0, into done.0 done.1, done.2) | inr not_done ↦ inr not_done ]
+  request_as Is Other into (Err (fault.Words text help)) exchange it = it
+  request_as Is Other into (Err (fault.Settings why)) exchange it = it
+  request_as Is Other into (Err (fault.Name why)) exchange it = it
+  request_as Is Other into (Err (fault.Time why)) exchange it = it
+  request_as Is Other into (Err fault.TwoSystems) exchange it = it
+  request_as Is Other into (Err fault.Input) exchange it = it
+  request_as Is Other into (Err fault.Read) exchange it = it
+
+  module _ (line : CommandLine) (at : Moment) (input : List ℕ) where
+    module _ (words : List (List ℕ)) (now : ℕ) (means : MeansLine words line) (moment : IsMomentOf settings (second_of line now) at) where
+      words_ask : (asked : Result Request RequestFault) → request_of settings at input line ≡ asked → Ask settings words now input asked
+      words_ask asked is = record { line = line; means = means; at = at; moment = moment; request = is }
+
+      words_fault : (r : Result ℕ Fault) → IfErr r (IsFaultOfLine settings line at input) → IfErr r (IsFaultOf settings words now input)
+      words_fault (Ok status) is = tt
+      words_fault (Err (fault.Time why)) is = inr (words_ask (Err (asking.Time why)) is)
+      words_fault (Err fault.Input) is = words_ask (Err asking.Input) is
+      words_fault (Err (fault.Store why)) (call, request, is) = (call, (request, words_ask (Ok request) is))
+      words_fault (Err fault.Write) (request, is) = (request, words_ask (Ok request) is)
+      words_fault (Err fault.Memory) is = tt
+      words_fault (Err (fault.Words text help)) none = absurd none
+      words_fault (Err (fault.Settings why)) none = absurd none
+      words_fault (Err (fault.Name why)) none = absurd none
+      words_fault (Err fault.TwoSystems) none = absurd none
+      words_fault (Err fault.Read) none = absurd none
+
+    -- what is said of a line is said of the words that mean it
+    pub of_words : (r : Result ℕ Fault) (exchange : Exchange) → IsOfLine settings begun ended line at input r exchange
+        → (words : List (List ℕ)) (now : ℕ) → MeansLine words line → IsMomentOf settings (second_of line now) at
+        → IsOfWords settings begun ended words now input r exchange
+    of_words r exchange (done, told) words now means moment = (
+      request_as (λ request. request_of settings at input line ≡ Ok request) (λ request. Ask settings words now input (Ok request))
+          (λ request is. words_ask words now means moment (Ok request) is) r exchange done,
+      words_fault words now means moment r told,
+    )
 
 -- ---- how a batch ended
 

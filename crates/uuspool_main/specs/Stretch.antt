@@ -1,7 +1,6 @@
 -- What a run of the program is given and answers, and how it leaves the spool's files.
-use Rattle.std.specs.Prelude.{◌≡◌, ℕ, List, [], length, map, Option, None, Ok, Err, Result, IfErr, IsTrue, ⊤}
+use Rattle.std.specs.Prelude.{◌≡◌, ℕ, List, [], length, Option, None, Ok, Err, Result, IfErr, IsTrue, ⊤}
 use Rattle.std.specs.List.{AllByRecursion}
-use Rattle.std.specs.String.{string_bytes}
 use Rattle.sqlite_disk.specs.declared.Disk as disk
 use Rattle.sqlite_wal.specs.Recovery.{Image}
 use Rattle.sqlite_store.specs.declared.store.FileStore.{FileStore}
@@ -20,11 +19,16 @@ use Rattle.uu_store.specs.Files.{IsStretch, IsClosedStretch}
 use Rattle.uu_store.specs.Spool.{connection_of}
 use Rattle.uu_store.specs.Openings.{Started}
 use Rattle.uu_store.specs.Stretches.{IsLetGo}
+use Rattle.uu_times.specs.Moment.{Shows, local_second}
+use Rattle.uu_times.specs.declared.moment.Moment.{Moment}
+use Rattle.uu_line.specs.Lines.{MeansLine}
+use Rattle.uu_line.specs.declared.line.CommandLine.{CommandLine}
 use Rattle.uu_settings.specs.declared.settings.Settings.{Settings}
+use Rattle.uu_request.specs.Requests.{request_of}
 use Rattle.uu_request.specs.declared.request.Request.{Request}
-use Rattle.uuspool.specs.Served.{Ask, EndsAs, IsFaultOf, IsServed, commands_of}
+use Rattle.uuspool.specs.Served.{Ask, EndsAs, IsFaultOf, IsFaultOfLine, IsMomentOf, IsServed, commands_of, second_of}
 use Rattle.uuspool.specs.Batch.{EndsWith, IsRequestLine, most_requests}
-use Rattle.uuspool.specs.Sessions.{AreServed, IsOneRun, Line, commands_in}
+use Rattle.uuspool.specs.ServedLines.{AreServed, IsOneRun, Line, commands_in}
 use Rattle.uuspool.specs.declared.fault.Fault.{Fault}
 use Rattle.uuspool.specs.declared.fault.Fault.TheVariants as fault
 use Rattle.uuspool_main.specs.declared.stretch.Work.{Work}
@@ -48,6 +52,11 @@ module _ {D : Type 0} {g : disk.Ghosts D} where
 
 -- ---- what was given and answered
 
+-- the moment of a line shows its second on the site's clock
+abbrev pub HasMoment : Settings → Work → Type 0
+HasMoment settings (work.Line line at input) = Shows at.local (local_second settings.zone at.second)
+HasMoment settings work.Requests = ⊤
+
 -- a spool was given commands, and what came of them is such an exchange
 abbrev pub WasGiven : {S : Type 0} {g : Ghosts S} → Spool S g → Spool S g → (Exchange → Type 0) → Type 0
 WasGiven old new Is =
@@ -63,14 +72,23 @@ EndsBatch lines (Err fault.Read) = length lines ≡ most_requests
 EndsBatch lines (Err _) = ⊥
 
 module _ {S : Type 0} {g : Ghosts S} (settings : Settings) (begun ended : Spool S g) where
-  -- The line's request was served, and these are its commands and their replies, or nothing was done; a fault is one of the line. (What a
-  -- terminal or a pipe was given is not known.)
-  abbrev pub IsOfLine : List (List ℕ) → ℕ → List ℕ → Result ℕ Fault → Exchange → Type 0
-  IsOfLine words now input result exchange = EndsAs result
-      ((request : Request) × Ask settings words now input (Ok request)
+  -- Such a request was served, and these are its commands and their replies, or nothing was done. (What a terminal or a pipe was given is not
+  -- known.)
+  abbrev pub IsOfRequest : (Request → Type 0) → Result ℕ Fault → Exchange → Type 0
+  IsOfRequest Is result exchange = EndsAs result
+      ((request : Request) × Is request
       × (it : IsServed settings request begun ended (λ output. ⊤) result) × (exchange ≡ exchange_of (commands_of request) it.replies it.stopped))
       ((ended ≡ begun) × (exchange ≡ exchange_of [] [] None))
-      × IfErr result (IsFaultOf settings words now input)
+
+  -- the request is the line's at this moment, and a fault is one of the line
+  abbrev pub IsOfLine : CommandLine → Moment → List ℕ → Result ℕ Fault → Exchange → Type 0
+  IsOfLine line at input result exchange =
+      IsOfRequest (λ request. request_of settings at input line ≡ Ok request) result exchange × IfErr result (IsFaultOfLine settings line at input)
+
+  -- the request is that of the words at this second, and a fault is one of the words
+  abbrev pub IsOfWords : List (List ℕ) → ℕ → List ℕ → Result ℕ Fault → Exchange → Type 0
+  IsOfWords words now input result exchange =
+      IsOfRequest (λ request. Ask settings words now input (Ok request)) result exchange × IfErr result (IsFaultOf settings words now input)
 
   -- Lines of requests were served, and these are the commands of their requests and the replies. (That they are those of standard input, and
   -- that the stream was at its end or had the fault, is said of `batch` alone.)
@@ -80,9 +98,12 @@ module _ {S : Type 0} {g : Ghosts S} (settings : Settings) (begun ended : Spool 
       × (it : IsOneRun settings lines begun ended) × (exchange ≡ exchange_of (commands_in it.asked) it.replies it.stopped)
       × EndsBatch lines result
 
-  -- this work was done, and these are the commands and the replies of its line or of its lines
+  -- This work was done, and these are the commands and the replies of its line or of its lines. What is said of the line is said of all words that
+  -- mean it at its moment.
   abbrev pub IsOfWork : Work → Result ℕ Fault → Exchange → Type 0
-  IsOfWork (work.Line words now input) result exchange = IsOfLine (map string_bytes words.now) now input.now result exchange
+  IsOfWork (work.Line line at input) result exchange =
+      IsOfLine line at input.items result exchange
+      × ((words : List (List ℕ)) (now : ℕ) → MeansLine words line → IsMomentOf settings (second_of line now) at → IsOfWords words now input.items result exchange)
   IsOfWork work.Requests result exchange = IsOfLines result exchange
 
 -- A run over files that held this: a spool was started over them, this work was done over it, and it was let go; that is a stretch of work, of

@@ -5,6 +5,10 @@
 mod batching;
 mod stretch;
 
+ghost use Rattle.std.specs.Prelude.{IfOk};
+ghost use Rattle.uu_times.specs.Moment.{Shows, local_second};
+ghost use Rattle.uuspool_main.specs.Stretch.{HasMoment};
+
 use crate::stretch::{Rest, Work, work_on_file};
 use sqlite::Wary;
 use sqlite_disk::Disk;
@@ -13,8 +17,9 @@ use std::mem::drop;
 use std::process::ExitCode;
 use std::time::SystemTime;
 use std::{env, fs, io};
+use uu_times::Moment;
 use uuspool::{
-    CallLine, Fault, FaultLine, Settings, batch_settings, fault_status, line_of, moment_of,
+    CommandLine, Fault, FaultLine, Settings, batch_settings, fault_status, line_of, moment_of,
     read_input,
 };
 
@@ -43,21 +48,26 @@ fn run(rt: &HostRuntime) -> Result<u8, Fault> {
 // Answers the requests on standard input, with the settings of this path.
 fn run_batch(rt: &HostRuntime, path: &str) -> Result<u8, Fault> {
     let settings = settings_in(rt, path)?;
-    run_on_file(rt, &settings, &Work::Requests)
+    run_on_file(rt, &settings, Work::Requests)
 }
 
 // Runs the line that these words mean.
 fn run_line(rt: &HostRuntime, words: &[String]) -> Result<u8, Fault> {
-    let needs = needs_of(rt, words)?;
-    let settings = settings_in(rt, needs.config.as_str())?;
-    let now = now_for(rt, needs.at, &settings)?;
-    let input = input_for(rt, needs.input)?;
-    let work = Work::Line {
-        words,
-        now,
-        input: &input,
-    };
-    run_on_file(rt, &settings, &work)
+    let line = line_of(rt.alloc(), words)?;
+    match given_for(rt, &line) {
+        Ok(given) => {
+            let Given {
+                settings,
+                at,
+                input,
+            } = given;
+            run_on_file(rt, &settings, Work::Line { line, at, input })
+        }
+        Err(fault) => {
+            drop(line);
+            Err(fault)
+        }
+    }
 }
 
 // The words after the program's name.
@@ -70,33 +80,26 @@ fn words_of(rt: &HostRuntime) -> Result<Vec<String>, Fault> {
     words.map_err(Fault::from)
 }
 
-// What a line is to be given.
+// What a line is given beside its words.
 #[derive(Drop)]
-struct Needs {
-    // The path of its settings.
-    config: String,
-    // The second that the line itself gives.
-    at: Option<u64>,
-    // Whether the line takes an input.
-    input: bool,
+struct Given {
+    settings: Settings,
+    at: Moment,
+    input: Vec<u8>,
 }
 
-// What the line that these words mean is to be given.
-fn needs_of(rt: &HostRuntime, words: &[String]) -> Result<Needs, Fault> {
-    match line_of(rt.alloc(), words) {
-        Ok(line) => {
-            let CallLine {
-                config,
-                at,
-                user: _,
-                task,
-            } = line;
-            let input = task.has_input();
-            drop(task);
-            Ok(Needs { config, at, input })
-        }
-        Err(fault) => Err(fault),
-    }
+// What this line is given: the settings of its file, its moment on their clock, and its input.
+fn given_for(rt: &HostRuntime, line: &CommandLine) -> Result<Given, Fault>
+    ensures { IfOk result (λ given. Shows given.at.local (local_second given.settings.zone given.at.second)) }
+{
+    let settings = settings_in(rt, line.config.as_str())?;
+    let at = moment_for(rt, line.at, &settings)?;
+    let input = input_for(rt, line.task.has_input())?;
+    Ok(Given {
+        settings,
+        at,
+        input,
+    })
 }
 
 // The settings in the file of this path.
@@ -112,16 +115,15 @@ fn settings_in(rt: &HostRuntime, path: &str) -> Result<Settings, Fault> {
     }
 }
 
-// The second of the line, or of the clock where the line gives none, which has to be that of a moment.
-fn now_for(rt: &HostRuntime, at: Option<u64>, settings: &Settings) -> Result<u64, Fault> {
-    let now = match at {
+// The moment of the line's second, or of the clock's where the line gives none.
+fn moment_for(rt: &HostRuntime, second: Option<u64>, settings: &Settings) -> Result<Moment, Fault>
+    ensures { IfOk result (λ at. Shows at.local (local_second settings.now.zone at.second)) }
+{
+    let second = match second {
         Some(second) => second,
         None => second_of_clock(rt)?,
     };
-    match moment_of(now, settings) {
-        Ok(_) => Ok(now),
-        Err(fault) => Err(fault),
-    }
+    moment_of(second, settings)
 }
 
 fn second_of_clock(rt: &HostRuntime) -> Result<u64, Fault> {
@@ -144,7 +146,9 @@ fn input_for(rt: &HostRuntime, takes_input: bool) -> Result<Vec<u8>, Fault> {
 }
 
 // Does the work over the file of the settings, by a function whose clauses speak of all contents. What is left of the files is dropped.
-fn run_on_file(rt: &HostRuntime, settings: &Settings, work: &Work<'_>) -> Result<u8, Fault> {
+fn run_on_file(rt: &HostRuntime, settings: &Settings, work: Work) -> Result<u8, Fault>
+    requires { HasMoment settings.now work }
+{
     match work_on_file(rt, settings, work, Wary) {
         Ok(worked) => answer_of(worked),
         Err(failed) => Err(Fault::Store(failed.fault)),

@@ -3,26 +3,28 @@ ghost use Rattle.std.specs.Prelude.{◌≢◌, IfOk, IfErr};
 ghost use Rattle.sqlite_wal.specs.Files.{image_at};
 ghost use Rattle.sqlite_wal.specs.Recovery.{Image};
 ghost use Rattle.uu_store.specs.Openings.{IsRightFault, LeavesAlone, LeavesAsKept, Started, remains_of};
-ghost use Rattle.uuspool_main.specs.Stretch.{IsOfWork, IsRun, LetsGo, WasGiven};
+ghost use Rattle.uuspool_main.specs.Stretch.{HasMoment, IsOfWork, IsRun, LetsGo, WasGiven};
 
 use crate::batching::batch_on;
 use crate::is_log_long;
 use sqlite::{Alter, FileStore, Files, Start};
 use sqlite_disk::Disk;
 use std::io;
+use std::mem::drop;
 use uu_store::laws::calls_make_a_stretch;
 use uu_store::{OpenFault, Spool, SpoolFile, StoreFault, open_spool};
+use uu_times::Moment;
 use uuspool::laws::lines_are_one_run;
-use uuspool::{Fault, Settings, serve};
+use uuspool::{CommandLine, Fault, Settings, serve_line};
 
 /// What is done over the spool.
 #[derive(Drop)]
-pub(crate) enum Work<'a> {
-    /// A line, at this second where it gives none, with this input.
+pub(crate) enum Work {
+    /// A line, at this moment, with this input.
     Line {
-        words: &'a [String],
-        now: u64,
-        input: &'a [u8],
+        line: CommandLine,
+        at: Moment,
+        input: Vec<u8>,
     },
     /// The requests on standard input.
     Requests,
@@ -47,10 +49,11 @@ pub(crate) enum Rest<D: Disk> {
 pub(crate) fn work_on_file<T: Start>(
     rt: &HostRuntime,
     settings: &Settings,
-    work: &Work<'_>,
+    work: Work,
     start: T,
 ) -> Result<(Result<u8, Fault>, Rest<SpoolFile<T>>), OpenFault<SpoolFile<T>>>
-    ensures stretch { IfOk result (λ end. IsRun settings.now work.now (image_at T.Start) end.0 end.1) }
+    requires { HasMoment settings.now work }
+    ensures stretch { IfOk result (λ end. IsRun settings.now work (image_at T.Start) end.0 end.1) }
     ensures named { IfErr result (λ e. IsRightFault (image_at T.Start) e.fault (remains_of e)) }
     ensures never_failed { IfErr result (λ e. e.fault ≢ StoreFault.Failed) }
     ensures left { IfErr result (λ e. LeavesAsKept (image_at T.Start) (remains_of e)) }
@@ -58,7 +61,10 @@ pub(crate) fn work_on_file<T: Start>(
 {
     match open_spool(rt, settings.spool.as_str(), start) {
         Ok(spool) => Ok(work_on(rt, settings, work, spool)),
-        Err(failed) => Err(failed),
+        Err(failed) => {
+            drop(work);
+            Err(failed)
+        }
     }
 }
 
@@ -67,10 +73,11 @@ pub(crate) fn work_on_file<T: Start>(
 fn work_on<D: Disk + Drop>(
     rt: &HostRuntime,
     settings: &Settings,
-    work: &Work<'_>,
+    work: Work,
     spool: Spool<FileStore<D>>,
 ) -> (Result<u8, Fault>, Rest<D>)
-    ensures { (before : Image) → Started before spool → IsRun settings.now work.now before result.0 result.1 }
+    requires { HasMoment settings.now work }
+    ensures { (before : Image) → Started before spool → IsRun settings.now work before result.0 result.1 }
 {
     calls_make_a_stretch::<D>();
     let mut spool = spool;
@@ -84,16 +91,17 @@ fn work_on<D: Disk + Drop>(
 fn answer_on<S: Alter>(
     rt: &HostRuntime,
     settings: &Settings,
-    work: &Work<'_>,
+    work: Work,
     spool: &mut Spool<S>,
 ) -> Result<u8, Fault>
-    ensures { WasGiven spool.old spool.new (IsOfWork settings.now spool.old spool.new work.now result) }
+    requires { HasMoment settings.now work }
+    ensures { WasGiven spool.old spool.new (IsOfWork settings.now spool.old spool.new work result) }
 {
     lines_are_one_run::<S>();
     match work {
-        Work::Line { words, now, input } => {
+        Work::Line { line, at, input } => {
             let mut out = io::writer(rt);
-            serve(rt.alloc(), words, settings, *now, input, spool, &mut out)
+            serve_line(rt.alloc(), line, settings, at, input, spool, &mut out)
         }
         Work::Requests => batch_on(rt, settings, spool),
     }

@@ -4,7 +4,7 @@ use Rattle.uu_frame.specs.Frames.{IsHead, request_frame}
 use Rattle.uu_frame.specs.declared.request.Frame.{Frame}
 use Rattle.uu_names.specs.Text.{most_text}
 use Rattle.uuspool.specs.Batch.{IsRequestLine, frame_of, line_with}
-use Rattle.uuspool.specs.Sessions.{Line}
+use Rattle.uuspool.specs.ServedLines.{Line}
 use Rattle.uuspool.specs.declared.fault.Fault.TheVariants as fault
 use Rattle.uuspool.proofs.BatchLemmas.{began_within, step_broken, step_of_end}
 use Rattle.uuspool.proofs.batching.answer_next.Goals as goal
@@ -51,7 +51,7 @@ returns-in-Ok g c =
       },
       read,
       c.in-Ok.ensures.answer,
-      c.leads_on-leads_on.ensures,
+      c.goes_on-goes_on.ensures,
     )
 
 pub returns : goal.returns

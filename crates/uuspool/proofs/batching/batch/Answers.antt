@@ -47,7 +47,7 @@ loop-count-preserved g c =
     c.args.spool.now c.loop-count.spool c.answer_next.new.spool
     (g.R.Read.remaining c.args.reader.now) (g.R.Read.remaining c.loop-count.reader) (g.R.Read.remaining c.answer_next.new.reader)
     (g.W.Write.contents c.args.out.now) (g.W.Write.contents c.loop-count.out) (g.W.Write.contents c.answer_next.new.out) c.loop-count.invariant
-    c.in-Ok-Answered.leads_on (not c.in-Ok-Answered.leads_on) (not_true c.in-Ok-Answered.leads_on) (not_false c.in-Ok-Answered.leads_on)
+    c.in-Ok-Answered.goes_on (not c.in-Ok-Answered.goes_on) (not_true c.in-Ok-Answered.goes_on) (not_false c.in-Ok-Answered.goes_on)
     (subst (λ (r : Result Step Fault).
     IsBatchStep c.args.settings.now g.C.Clock.tells c.loop-count.failed c.loop-count.clock c.answer_next.new.clock c.loop-count.spool c.answer_next.new.spool
     (g.R.Read.remaining c.loop-count.reader) (g.R.Read.remaining c.answer_next.new.reader) (g.W.Write.contents c.loop-count.out) (g.W.Write.contents c.answer_next.new.out) r)

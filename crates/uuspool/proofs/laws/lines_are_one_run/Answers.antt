@@ -1,5 +1,5 @@
 use Rattle.uu_store.specs.Spool.{connection_of}
-use Rattle.uuspool.proofs.SessionLemmas.{one_run, ran_nothing}
+use Rattle.uuspool.proofs.ServedLinesLemmas.{one_run, ran_nothing}
 use Rattle.uuspool.proofs.laws.lines_are_one_run.Goals as goal
 
 pub returns-clause-lines : goal.returns-clause-lines

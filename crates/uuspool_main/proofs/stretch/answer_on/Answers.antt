@@ -1,17 +1,25 @@
-use Rattle.std.proofs.Common.{map, string_bytes, subst, sym}
-use Rattle.uuspool_main.specs.Stretch.{IsOfWork, WasGiven}
+use Rattle.std.proofs.Common.{◌≡◌, Ok, subst, sym}
+use Rattle.uu_request.specs.Requests.{request_of}
+use Rattle.uuspool_main.specs.Stretch.{HasMoment, IsOfWork, WasGiven}
 use Rattle.uuspool_main.specs.declared.stretch.Work.{Work}
-use Rattle.uuspool_main.proofs.StretchLemmas.{line_given}
+use Rattle.uuspool_main.proofs.StretchLemmas.{line_given, of_words}
 use Rattle.uuspool_main.proofs.stretch.answer_on.Goals as goal
+
+pub serve_line-requires : goal.serve_line-requires
+serve_line-requires g c = subst (HasMoment c.args.settings.now) c.in-Line.is c.requires
 
 pub returns-in-Line : goal.returns-in-Line
 returns-in-Line g c =
-    subst (λ (what : Work). WasGiven c.args.spool.now c.serve.new.spool (IsOfWork c.args.settings.now c.args.spool.now c.serve.new.spool what c.serve.result))
-    (sym c.in-Line.is)
-    (let (commands, replies, stopped, ran, is) =
-    line_given c.args.settings.now c.args.spool.now c.serve.new.spool (map string_bytes c.in-Line.words.now) c.in-Line.now c.in-Line.input.now _
-    (c.lines_are_one_run.ensures.none c.args.spool.now) c.serve.result c.serve.ensures.ends
-    in (commands, replies, stopped, ran, (is, c.serve.ensures.fault)))
+    let settings = c.args.settings.now in
+    let line = c.in-Line.line in
+    let at = c.in-Line.at in
+    let input = c.in-Line.input.items in
+    let begun = c.args.spool.now in
+    let ended = c.serve_line.new.spool in
+    subst (λ (what : Work). WasGiven begun ended (IsOfWork settings begun ended what c.serve_line.result)) (sym c.in-Line.is)
+    (let (commands, replies, stopped, ran, done) =
+    line_given settings begun ended (λ request. request_of settings at input line ≡ Ok request) _ (c.lines_are_one_run.ensures.none begun) c.serve_line.result c.serve_line.ensures.ends
+    in let is = (done, c.serve_line.ensures.fault) in (commands, replies, stopped, ran, (is, of_words settings begun ended line at input c.serve_line.result _ is)))
 
 pub returns-in-Requests : goal.returns-in-Requests
 returns-in-Requests g c =

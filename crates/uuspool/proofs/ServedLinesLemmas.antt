@@ -1,5 +1,5 @@
 -- Lines that are served one after the other are one run of the commands of their requests.
-use Rattle.std.proofs.Common.{◌≡◌, ◌≤◌, ◌∙◌, ◌++◌, ◌∷◌, inl, inr, ℕ, Bool, List, [], length, drop, take, Option, Some, None, Result, Ok, Err, IfErr, OnErr, ap, append-nil, arith, refl, subst, sym}
+use Rattle.std.proofs.Common.{◌≡◌, ◌≤◌, ◌∙◌, ◌++◌, ◌∷◌, inl, inr, ℕ, Bool, true, false, true≢false, List, [], length, drop, take, Option, Some, None, Result, Ok, Err, IfErr, OnErr, ap, append-nil, arith, refl, subst, sym}
 use Rattle.std.specs.Prelude.{IsTrue}
 use Rattle.std.proofs.lemmas.List.{drop_all, length-append, take_all}
 use Rattle.std.proofs.Math.Seq.{drop-append_seam}
@@ -21,7 +21,7 @@ use Rattle.uu_request.specs.declared.request.Request.{Request}
 use Rattle.uu_request.specs.declared.request.Request.TheVariants.{Commands, Question}
 use Rattle.uuspool.proofs.ServedLemmas.{printed_as}
 use Rattle.uuspool.specs.Served.{Ask, EndsAs, IsBrokenOff, IsEvery, IsFaultOf, IsOutput, IsPrinted, IsServed, answered_text, commands_of}
-use Rattle.uuspool.specs.Sessions.{Line, Further, AreLeft, AreServed, LeadOn, IsTold, IsToldAs, IsUnasked, AreTold, IsOneRun, commands_in, left_fault}
+use Rattle.uuspool.specs.ServedLines.{Line, AllGoOn, AreLeft, AreServed, goes_on, IsTold, IsToldAs, IsUnasked, AreTold, IsOneRun, commands_in, left_fault}
 use Rattle.uuspool.specs.declared.fault.Fault.{Fault}
 use Rattle.uuspool.specs.declared.fault.Fault.TheVariants as fault
 
@@ -127,19 +127,6 @@ unasked settings line why same nothing told = record {
 behind : (first second : List Reply) (commands : List Command) → length first ≡ length commands → drop (length commands) (first ++ second) ≡ second
 behind first second commands same = subst (λ n. drop n (first ++ second) ≡ second) same (drop-append_seam first second)
 
-further_on : (r : Result ℕ Fault) (A C B : Type 0) → (A → C) → Further r A B → Further r C B
-further_on (Ok status) A C B so on = so on
-further_on (Err (fault.Store why)) A C B so left = left
-further_on (Err fault.Write) A C B so left = left
-further_on (Err fault.Memory) A C B so left = left
-further_on (Err (fault.Words text help)) A C B so on = so on
-further_on (Err (fault.Settings why)) A C B so on = so on
-further_on (Err (fault.Name why)) A C B so on = so on
-further_on (Err (fault.Time why)) A C B so on = so on
-further_on (Err fault.TwoSystems) A C B so on = so on
-further_on (Err fault.Input) A C B so on = so on
-further_on (Err fault.Read) A C B so on = so on
-
 -- ---- many lines
 
 abbrev pub Joins : (S : Type 0) → Ghosts S → Type 0
@@ -169,9 +156,9 @@ module _ {S : Type 0} {g : Ghosts S} (joins : Joins S g) (settles : Settles S g)
   one_run_of : (lines : List Line) (old new : Spool S g) (asked : List (Option Request)) (replies : List Reply) (stopped : Option StoreFault)
       → Ran (commands_in asked) old new replies stopped
       → (db.HasCleanDisk (disk new) → (s : State) → Shows old s → AreTold settings s replies lines asked)
-      → (stopped ≡ None → length replies ≡ length (commands_in asked)) → (LeadOn lines → stopped ≡ None)
+      → (stopped ≡ None → length replies ≡ length (commands_in asked)) → (AllGoOn lines → stopped ≡ None)
       → IsOneRun settings lines old new
-  one_run_of lines old new asked replies stopped ran told every led_on = record {
+  one_run_of lines old new asked replies stopped ran told every went_on = record {
     asked = asked;
     replies = replies;
     stopped = stopped;
@@ -182,7 +169,7 @@ module _ {S : Type 0} {g : Ghosts S} (joins : Joins S g) (settles : Settles S g)
         let enough : length (commands_in asked) ≤ length replies = omega (arith, every none) in
         subst (λ commands. Shows new (state_after s commands)) (take_all (length replies) (commands_in asked) enough)
         ((ran.from clean s shown).shows (subst GoesOn (sym none) tt));
-    led_on = led_on;
+    went_on = went_on;
   }
 
   module _ (line : Line) (lines : List Line) (old mid new : Spool S g) where
@@ -192,7 +179,7 @@ module _ {S : Type 0} {g : Ghosts S} (joins : Joins S g) (settles : Settles S g)
     done_then request status same asks it rest =
         one_run_of (line ∷ lines) old new (Some request ∷ rest.asked) (it.replies ++ rest.replies) rest.stopped
         (joins old mid new (commands_of request) (commands_in rest.asked) it.replies rest.replies it.stopped rest.stopped answered (subst GoesOn (sym none) tt) it.ran rest.ran)
-        told every (λ on. rest.led_on (subst (λ r. Further r (LeadOn lines) ⊥) same on))
+        told every (λ all. rest.went_on all.1)
       where
         none : it.stopped ≡ None
         none = not_stopped it.stopped (answered_text request it.replies) (λ output. line.output ≡ output) line.result status same it.broken_off
@@ -213,17 +200,17 @@ module _ {S : Type 0} {g : Ghosts S} (joins : Joins S g) (settles : Settles S g)
             omega (arith, answered, rest.every on, length-append it.replies rest.replies, length-append (commands_of request) (commands_in rest.asked))
 
     -- the line came to no request, and others were served after it
-    unasked_then : IsUnasked settings line → mid ≡ old → (LeadOn (line ∷ lines) → LeadOn lines) → IsOneRun settings lines mid new → IsOneRun settings (line ∷ lines) old new
-    unasked_then none same on rest =
+    unasked_then : IsUnasked settings line → mid ≡ old → IsOneRun settings lines mid new → IsOneRun settings (line ∷ lines) old new
+    unasked_then none same rest =
         one_run_of (line ∷ lines) old new (None ∷ rest.asked) rest.replies rest.stopped
         (subst (λ (m : Spool S g). Ran (commands_in rest.asked) m new rest.replies rest.stopped) same rest.ran)
         (λ clean s shown. (none, rest.told clean s (subst (λ (m : Spool S g). Shows m s) (sym same) shown)))
-        rest.every (λ all. rest.led_on (on all))
+        rest.every (λ all. rest.went_on all.1)
 
     -- the line was the last that was served
-    done_last : (request : Request) → (LeadOn (line ∷ lines) → ⊥) → Ask settings line.words line.now line.input (Ok request)
+    done_last : (request : Request) → goes_on line.result ≡ false → Ask settings line.words line.now line.input (Ok request)
         → IsServed settings request old mid (λ output. line.output ≡ output) line.result → AreLeft lines → new ≡ mid → IsOneRun settings (line ∷ lines) old new
-    done_last request off asks it left same =
+    done_last request stops asks it left same =
         one_run_of (line ∷ lines) old new (Some request ∷ nones lines) it.replies it.stopped
         (subst (λ commands. Ran commands old new it.replies it.stopped) (sym alone) (subst (λ (n : Spool S g). Ran (commands_of request) old n it.replies it.stopped) (sym same) it.ran))
         (λ clean s shown. (
@@ -232,7 +219,7 @@ module _ {S : Type 0} {g : Ghosts S} (joins : Joins S g) (settles : Settles S g)
               (left_are_told settings (state_after s (commands_of request)) lines left),
         ))
         (λ none. all_answered (has_failed old) request it.replies it.stopped it.every none ∙ ap length (sym alone))
-        (λ on. absurd (off on))
+        (λ all. absurd (true≢false (sym all.0 ∙ stops)))
       where
         alone : commands_in (Some request ∷ nones lines) ≡ commands_of request
         alone = ap (λ rest. commands_of request ++ rest) (nones_ask_nothing lines) ∙ append-nil (commands_of request)
@@ -248,37 +235,32 @@ module _ {S : Type 0} {g : Ghosts S} (joins : Joins S g) (settles : Settles S g)
 
     -- the line has a fault that comes before the spool is asked
     early : (why : Fault) → line.result ≡ Err why → mid ≡ old → line.output ≡ [] → IfErr line.result (IsFaultOf settings line.words line.now line.input)
-        → IsOneRun settings lines mid new → (let r : Result ℕ Fault = Err why in Further r (LeadOn lines) ⊥ → LeadOn lines) → IsOneRun settings (line ∷ lines) old new
-    early why same kept nothing told rest on =
-        unasked_then (unasked settings line why same nothing told) kept (λ all. on (subst (λ r. Further r (LeadOn lines) ⊥) same all)) rest
+        → IsOneRun settings lines mid new → IsOneRun settings (line ∷ lines) old new
+    early why same kept nothing told rest = unasked_then (unasked settings line why same nothing told) kept rest
 
     -- by how the line ended
     one_more : (r : Result ℕ Fault) → line.result ≡ r
         → EndsAs r ((request : Request) × Ask settings line.words line.now line.input (Ok request) × IsServed settings request old mid (λ output. line.output ≡ output) line.result)
         ((mid ≡ old) × (line.output ≡ []))
         → IfErr line.result (IsFaultOf settings line.words line.now line.input)
-        → Further r (IsOneRun settings lines mid new) (AreLeft lines × (new ≡ mid)) → IsOneRun settings (line ∷ lines) old new
-    one_more (Ok status) same (request, asks, it) told rest = done_then request status same asks it rest
-    one_more (Err (fault.Store why)) same (request, asks, it) told (left, still) =
-        done_last request (λ on. subst (λ r. Further r (LeadOn lines) ⊥) same on) asks it left still
-    one_more (Err fault.Write) same (request, asks, it) told (left, still) =
-        done_last request (λ on. subst (λ r. Further r (LeadOn lines) ⊥) same on) asks it left still
-    one_more (Err fault.Memory) same (inl (request, asks, it)) told (left, still) =
-        done_last request (λ on. subst (λ r. Further r (LeadOn lines) ⊥) same on) asks it left still
-    one_more (Err fault.Memory) same (inr (kept, nothing)) told (left, still) =
-        unasked_last (unasked settings line fault.Memory same nothing told) kept left still
-    one_more (Err (fault.Words text help)) same (kept, nothing) told rest = early (fault.Words text help) same kept nothing told rest (λ on. on)
-    one_more (Err (fault.Settings why)) same (kept, nothing) told rest = early (fault.Settings why) same kept nothing told rest (λ on. on)
-    one_more (Err (fault.Name why)) same (kept, nothing) told rest = early (fault.Name why) same kept nothing told rest (λ on. on)
-    one_more (Err (fault.Time why)) same (kept, nothing) told rest = early (fault.Time why) same kept nothing told rest (λ on. on)
-    one_more (Err fault.TwoSystems) same (kept, nothing) told rest = early fault.TwoSystems same kept nothing told rest (λ on. on)
-    one_more (Err fault.Input) same (kept, nothing) told rest = early fault.Input same kept nothing told rest (λ on. on)
-    one_more (Err fault.Read) same (kept, nothing) told rest = early fault.Read same kept nothing told rest (λ on. on)
+        → (goes_on r ≡ true → IsOneRun settings lines mid new) → (goes_on r ≡ false → AreLeft lines × (new ≡ mid)) → IsOneRun settings (line ∷ lines) old new
+    one_more (Ok status) same (request, asks, it) told on off = done_then request status same asks it (on refl)
+    one_more (Err (fault.Store why)) same (request, asks, it) told on off = done_last request (ap goes_on same) asks it (off refl).0 (off refl).1
+    one_more (Err fault.Write) same (request, asks, it) told on off = done_last request (ap goes_on same) asks it (off refl).0 (off refl).1
+    one_more (Err fault.Memory) same (inl (request, asks, it)) told on off = done_last request (ap goes_on same) asks it (off refl).0 (off refl).1
+    one_more (Err fault.Memory) same (inr (kept, nothing)) told on off =
+        unasked_last (unasked settings line fault.Memory same nothing told) kept (off refl).0 (off refl).1
+    one_more (Err (fault.Words text help)) same (kept, nothing) told on off = early (fault.Words text help) same kept nothing told (on refl)
+    one_more (Err (fault.Settings why)) same (kept, nothing) told on off = early (fault.Settings why) same kept nothing told (on refl)
+    one_more (Err (fault.Name why)) same (kept, nothing) told on off = early (fault.Name why) same kept nothing told (on refl)
+    one_more (Err (fault.Time why)) same (kept, nothing) told on off = early (fault.Time why) same kept nothing told (on refl)
+    one_more (Err fault.TwoSystems) same (kept, nothing) told on off = early fault.TwoSystems same kept nothing told (on refl)
+    one_more (Err fault.Input) same (kept, nothing) told on off = early fault.Input same kept nothing told (on refl)
+    one_more (Err fault.Read) same (kept, nothing) told on off = early fault.Read same kept nothing told (on refl)
 
   -- lines that are served one after the other are one run
   pub one_run : (lines : List Line) (old new : Spool S g) → AreServed settings lines old new → IsOneRun settings lines old new
   one_run [] old new same =
       one_run_of [] old new [] [] None (subst (λ (n : Spool S g). Ran [] old n [] None) (sym same) (ran_nothing settles old)) (λ clean s shown. refl) (λ all. refl) (λ on. refl)
-  one_run (line ∷ lines) old new (mid, serves, rest) =
-      one_more line lines old mid new line.result refl serves.ends serves.told
-      (further_on line.result (AreServed settings lines mid new) (IsOneRun settings lines mid new) (AreLeft lines × (new ≡ mid)) (one_run lines mid new) rest)
+  one_run (line ∷ lines) old new (mid, serves, on, off) =
+      one_more line lines old mid new line.result refl serves.ends serves.told (λ goes. one_run lines mid new (on goes)) off

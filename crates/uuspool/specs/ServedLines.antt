@@ -1,5 +1,6 @@
 -- Lines that are served one after the other over one spool, and what the plain machine tells of them. All of it is this project's choice.
-use Rattle.std.specs.Prelude.{◌≡◌, ◌⊎◌, ◌++◌, ◌∷◌, ℕ, List, [], length, take, drop, Option, Some, None, Result, Ok, Err, IfErr, OnErr, ⊤}
+use Rattle.std.specs.Prelude.{◌≡◌, ◌⊎◌, ◌++◌, ◌∷◌, ℕ, Bool, true, false, List, [], length, take, drop, Option, Some, None, Result, Ok, Err, IfErr, OnErr, ⊤}
+use Rattle.std.specs.List.{AllByRecursion}
 use Rattle.sqlite.specs.Store.{Ghosts}
 use Rattle.sqlite.specs.State.{HasCleanDisk}
 use Rattle.uu_core.specs.State.{State}
@@ -33,14 +34,14 @@ pub record Serves {S : Type 0} {g : Ghosts S} (settings : Settings) (line : Line
       ((new ≡ old) × (line.output ≡ []))
   pub told : IfErr line.result (IsFaultOf settings line.words line.now line.input)
 
--- Whether the lines after this one are served: they are left where the spool gave a fault, and where memory or the output failed, since the
--- spool may have failed before that.
-abbrev pub Further : Result ℕ Fault → Type 0 → Type 0 → Type 0
-Further (Ok status) served left = served
-Further (Err (fault.Store why)) served left = left
-Further (Err fault.Write) served left = left
-Further (Err fault.Memory) served left = left
-Further (Err _) served left = served
+-- The next line is served. It is left where the spool gave a fault, and where memory or the output failed, since the spool may have failed
+-- before that.
+abbrev pub goes_on : Result ℕ Fault → Bool
+goes_on (Ok status) = true
+goes_on (Err (fault.Store why)) = false
+goes_on (Err fault.Write) = false
+goes_on (Err fault.Memory) = false
+goes_on (Err _) = true
 
 -- the fault of a line that is left
 abbrev pub left_fault : Fault
@@ -51,16 +52,17 @@ abbrev pub AreLeft : List Line → Type 0
 AreLeft [] = ⊤
 AreLeft (line ∷ lines) = (line.output ≡ []) × (line.result ≡ Err left_fault) × AreLeft lines
 
--- the lines were served one after the other, each where those before it allow that; those that are left touch nothing
+-- The lines were served one after the other: where a line goes on, those after it were served, and else they are left and touch nothing.
 abbrev pub AreServed : {S : Type 0} {g : Ghosts S} → Settings → List Line → Spool S g → Spool S g → Type 0
 AreServed settings [] old new = new ≡ old
 AreServed {S} {g} settings (line ∷ lines) old new =
-    (mid : Spool S g) × Serves settings line old mid × Further line.result (AreServed settings lines mid new) (AreLeft lines × (new ≡ mid))
+    (mid : Spool S g) × Serves settings line old mid
+    × (goes_on line.result ≡ true → AreServed settings lines mid new)
+    × (goes_on line.result ≡ false → AreLeft lines × (new ≡ mid))
 
--- after each of the lines others are served
-abbrev pub LeadOn : List Line → Type 0
-LeadOn [] = ⊤
-LeadOn (line ∷ lines) = Further line.result (LeadOn lines) ⊥
+-- behind each of the lines the next is served
+abbrev pub AllGoOn : List Line → Type 0
+AllGoOn = AllByRecursion (λ line. goes_on line.result ≡ true)
 
 -- ---- what the plain machine tells
 
@@ -107,8 +109,8 @@ AreTold settings s replies [] (request ∷ asked) = ⊥
 AreTold settings s replies (line ∷ lines) [] = ⊥
 
 -- The lines are one run of the commands of their requests: what was told of each is what the machine tells, and a stop leaves what the run says.
--- Where the store stopped none of them, every command was answered, and the spool shows the machine's state; so it is where each line leads on
--- to the next.
+-- Where the store stopped none of them, every command was answered, and the spool shows the machine's state; so it is where each line goes
+-- on.
 pub record IsOneRun {S : Type 0} {g : Ghosts S} (settings : Settings) (lines : List Line) (old new : Spool S g) : Type 0 where
   pub asked : List (Option Request)
   pub replies : List Reply
@@ -117,4 +119,4 @@ pub record IsOneRun {S : Type 0} {g : Ghosts S} (settings : Settings) (lines : L
   pub told : HasCleanDisk (spool.disk new) → (s : State) → spool.Shows old s → AreTold settings s replies lines asked
   pub every : stopped ≡ None → length replies ≡ length (commands_in asked)
   pub shows : stopped ≡ None → HasCleanDisk (spool.disk new) → (s : State) → spool.Shows old s → spool.Shows new (state_after s (commands_in asked))
-  pub led_on : LeadOn lines → stopped ≡ None
+  pub went_on : AllGoOn lines → stopped ≡ None

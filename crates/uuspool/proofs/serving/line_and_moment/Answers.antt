@@ -1,0 +1,10 @@
+use Rattle.std.proofs.Common.{inl, map, refl, subst, sym}
+use Rattle.std.specs.String.{string_bytes}
+use Rattle.uu_times.specs.Moment.{IsPast}
+use Rattle.uuspool.specs.Served.{IsFaultOf, IsMomentOf}
+use Rattle.uuspool.proofs.serving.line_and_moment.Goals as goal
+
+pub returns-in-Err-moment_of-clause-fault : goal.returns-in-Err-moment_of-clause-fault
+returns-in-Err-moment_of-clause-fault c = λ input.
+    subst (IsFaultOf c.args.settings.now (map string_bytes c.args.words.now) c.args.now input) (sym c.in-Err-moment_of.ensures.past.0)
+    (inl (refl, (c.in-Ok.line, c.in-Ok.ensures, subst IsPast c.unwrap_or.ensures c.in-Err-moment_of.ensures.past.1)))
