@@ -340,7 +340,7 @@ fn stretches_of_work(rt: HostRuntime) {
     }
 }
 
-/// A spool is given back without memory.
+/// A spool is given back, or its store is, without memory.
 #[test]
 fn release(rt: HostRuntime) {
     let alloc = rt.alloc();
@@ -351,4 +351,9 @@ fn release(rt: HostRuntime) {
     let refused = was_refused(alloc);
     assert!(rt; !refused && conn.is_autocommit(), "memory is asked for");
     tell_none(&rt, "Spool::release");
+    let spool = taken(&rt, alloc, conn);
+    refuse(alloc, 1, Short::Onwards);
+    let _store = spool.into_store();
+    assert!(rt; !was_refused(alloc), "memory is asked for");
+    tell_none(&rt, "Spool::into_store");
 }

@@ -9,11 +9,11 @@ use jiff_core::civil::{Date, DateTime, Time};
 use std::alloc::Global;
 use std::io::Print;
 use std::process::Abort;
-use uu_core::choose;
 use uu_core::plain::Machine;
+use uu_core::{choose, next_calls, queues};
 use uu_map::{EntryText, MapFault, read_entry, split};
 use uu_names::{NameFault, Path, SiteName, Word, envelope, return_path};
-use uu_times::{SysFile, TimeFault, Timetables, Windows, read_sys, read_time};
+use uu_times::{SysFile, TimeFault, Timetables, Windows, Zone, read_sys, read_time};
 
 #[test]
 fn names(rt: HostRuntime) {
@@ -146,7 +146,8 @@ const FOUR_JOBS: [Order; 6] = [
     Order::Queue("unc", b'9', Work::Send, 0),
 ];
 
-fn machine(rt: &impl Abort, alloc: Global) -> Machine {
+/// A machine with these jobs.
+pub(crate) fn machine(rt: &impl Abort, alloc: Global) -> Machine {
     let mut machine = Machine::new(alloc);
     for order in FOUR_JOBS {
         machine
@@ -176,6 +177,14 @@ fn choices(rt: HostRuntime) {
         "choose",
         || choose(alloc, machine.systems(), &heads, &at),
     );
+    let zone = Zone::fixed(0).expect(&rt, "a zone");
+    each_refused(
+        &rt,
+        alloc,
+        "next_calls",
+        || next_calls(alloc, machine.systems(), &heads, SUNDAY, &zone),
+    );
+    each_refused(&rt, alloc, "queues", || queues(alloc, &heads));
     each_refused(&rt, alloc, "Machine::heads", || machine.heads(alloc));
     each_refused(&rt, alloc, "Machine::due", || machine.due(alloc, &at));
 }

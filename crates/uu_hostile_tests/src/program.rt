@@ -131,7 +131,8 @@ const LINES: &[(&str, &[Line], Line, &str)] = &[
     ),
 ];
 
-fn words_of(rt: &impl Abort, alloc: Global, line: &str) -> Vec<String> {
+/// The words of a line.
+pub(crate) fn words_of(rt: &impl Abort, alloc: Global, line: &str) -> Vec<String> {
     let mut words = Vec::new(alloc);
     for word in line.split(' ') {
         words
