@@ -2,8 +2,8 @@
 ghost use Rattle.std.specs.Prelude.{◌≡◌, false};
 
 use crate::places::{
-    Contents, FEW_PAGES, Left, MANY_PAGES, files_of, left_of, nothing, picture, play, prepared,
-    shown, taken,
+    Contents, FEW_PAGES, Left, Looks, MANY_PAGES, files_of, left_of, nothing, picture, play,
+    prepared, shown, taken,
 };
 use crate::refusing::{BOTH, Count, MOST, Outcome, Short, refuse, tell_none, was_refused};
 use crate::values::{Order, Work, commands};
@@ -93,22 +93,18 @@ fn adopted_files<D: Disk + Drop>(
 }
 
 /// Both that what was synced and all that was written show this.
-fn expect_left(rt: &impl Abort, alloc: Global, left: &Left, want: &str) {
-    assert!(rt;
-        shown(rt, alloc, &left.synced, MANY_PAGES).as_str() == want,
-        "another state is synced"
-    );
-    assert!(rt;
-        shown(rt, alloc, &left.written, MANY_PAGES).as_str() == want,
-        "another state is written"
-    );
+fn expect_left(rt: &impl Abort, alloc: Global, looks: &mut Looks, left: &Left, want: &str) {
+    let is_synced = looks.show(rt, alloc, &left.synced, want);
+    let is_written = looks.show(rt, alloc, &left.written, want);
+    assert!(rt; is_synced && is_written, "another state is left");
 }
 
 fn expect_in_files<R: Abort + Print>(rt: &R, alloc: Global, name: &str, contents: &Contents) {
     let want = shown(rt, alloc, contents, MANY_PAGES);
+    let mut looks = Looks::new(rt, alloc, contents, MANY_PAGES);
     for short in BOTH {
         let mut count = Count::new();
-        for n in 1..MOST {
+        for n in (1..MOST).filter(|n| short.is_tried(*n)) {
             let files = files_of(rt, alloc, contents);
             let (adopted, files) = adopted_files(rt, alloc, files, MANY_PAGES, n, short);
             if adopted.outcome != Outcome::Store {
@@ -117,7 +113,8 @@ fn expect_in_files<R: Abort + Print>(rt: &R, alloc: Global, name: &str, contents
                     "something else is shown"
                 );
             }
-            expect_left(rt, alloc, &left_of(rt, alloc, files), want.as_str());
+            let left = left_of(rt, alloc, files);
+            expect_left(rt, alloc, &mut looks, &left, want.as_str());
             if !count.goes_on(rt, adopted.refused, adopted.outcome) {
                 count.tell(rt, name, short);
                 break;
@@ -154,7 +151,7 @@ fn adopt_in_memory(rt: HostRuntime) {
     for (name, orders) in IN_MEMORY {
         for short in BOTH {
             let mut count = Count::new();
-            for n in 1..MOST {
+            for n in (1..MOST).filter(|n| short.is_tried(*n)) {
                 let conn = Connection::open_in_memory(alloc).expect(&rt, "memory");
                 let mut want = String::new(alloc);
                 let conn = if orders.is_empty() {
@@ -218,18 +215,16 @@ fn closed_files<D: Disk + Drop>(
 #[test]
 fn closes(rt: HostRuntime) {
     let alloc = rt.alloc();
-    let want = shown(
-        &rt,
-        alloc,
-        &prepared(&rt, alloc, FEW_PAGES, FULL),
-        FEW_PAGES,
-    );
+    let contents = prepared(&rt, alloc, FEW_PAGES, FULL);
+    let want = shown(&rt, alloc, &contents, FEW_PAGES);
+    let mut looks = Looks::new(&rt, alloc, &contents, FEW_PAGES);
     for short in BOTH {
         let mut count = Count::new();
-        for n in 1..MOST {
+        for n in (1..MOST).filter(|n| short.is_tried(*n)) {
             let files = files_of(&rt, alloc, &nothing(alloc));
             let (refused, outcome, files) = closed_files(&rt, alloc, files, n, short);
-            expect_left(&rt, alloc, &left_of(&rt, alloc, files), want.as_str());
+            let left = left_of(&rt, alloc, files);
+            expect_left(&rt, alloc, &mut looks, &left, want.as_str());
             if !count.goes_on(&rt, refused, outcome) {
                 count.tell(&rt, "Spool::close", short);
                 break;
@@ -306,17 +301,23 @@ fn states(rt: &impl Abort, alloc: Global) -> Vec<String> {
 }
 
 /// The files keep the state after the commands that were answered, or where the store failed after one more.
-fn expect_worked(rt: &impl Abort, alloc: Global, states: &[String], left: &Left, worked: Worked) {
+fn expect_worked(
+    rt: &impl Abort,
+    alloc: Global,
+    looks: &mut Looks,
+    states: &[String],
+    left: &Left,
+    worked: Worked,
+) {
     let most = if worked.outcome == Outcome::Store {
         2
     } else {
         1
     };
     for contents in [&left.synced, &left.written] {
-        let found = shown(rt, alloc, contents, FEW_PAGES);
         let mut is_kept = false;
         for state in states.iter().skip(worked.replies).take(most) {
-            is_kept = is_kept || state.as_str() == found.as_str();
+            is_kept = is_kept || looks.show(rt, alloc, contents, state.as_str());
         }
         assert!(rt; is_kept, "another state is kept");
     }
@@ -326,12 +327,14 @@ fn expect_worked(rt: &impl Abort, alloc: Global, states: &[String], left: &Left,
 fn stretches_of_work(rt: HostRuntime) {
     let alloc = rt.alloc();
     let states = states(&rt, alloc);
+    let mut looks = Looks::new(&rt, alloc, &nothing(alloc), FEW_PAGES);
     for short in BOTH {
         let mut count = Count::new();
-        for n in 1..MOST {
+        for n in (1..MOST).filter(|n| short.is_tried(*n)) {
             let files = files_of(&rt, alloc, &nothing(alloc));
             let (worked, files) = worked_files(&rt, alloc, files, n, short);
-            expect_worked(&rt, alloc, &states, &left_of(&rt, alloc, files), worked);
+            let left = left_of(&rt, alloc, files);
+            expect_worked(&rt, alloc, &mut looks, &states, &left, worked);
             if !count.goes_on(&rt, worked.refused, worked.outcome) {
                 count.tell(&rt, "Spool::adopt_and_run", short);
                 break;

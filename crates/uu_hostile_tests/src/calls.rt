@@ -509,7 +509,7 @@ fn calls_in_memory(rt: HostRuntime) {
         let mut trial = new_trial(&rt, alloc, before, *act);
         for short in BOTH {
             let mut count = Count::new();
-            for n in 1..MOST {
+            for n in (1..MOST).filter(|n| short.is_tried(*n)) {
                 trial.n = n;
                 trial.short = short;
                 visit_memory(&rt, alloc, before, &mut trial);
@@ -552,7 +552,7 @@ fn expect_in_files<R: Abort + Print>(
     let mut trial = new_trial(rt, alloc, before, act);
     for short in BOTH {
         let mut count = Count::new();
-        for n in 1..MOST {
+        for n in (1..MOST).filter(|n| short.is_tried(*n)) {
             trial.n = n;
             trial.short = short;
             let left = visit_files(rt, alloc, &contents, options, orders, &mut trial);

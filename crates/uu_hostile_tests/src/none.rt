@@ -16,9 +16,7 @@ use uu_names::text::{blanks_len, first_line, is_blank, len_before};
 use uu_names::{Grade, Listed, NameFault, Path, is_site_byte};
 use uu_schema::{StoreFault, StoreKind};
 use uu_times::{Moment, SystemDef, TimeFault, Windows, Zone};
-use uuspool::{
-    Fault, Key, Settings, SettingsFault, Task, batch_settings, fault_status, moment_of,
-};
+use uuspool::{Fault, Key, Settings, SettingsFault, Task, batch_settings, fault_status, moment_of};
 
 /// No request was made of the calls of these names, and they gave what they had to give.
 fn expect_none<R: Abort + Print>(rt: &R, refused: bool, right: bool, names: &[&str]) {

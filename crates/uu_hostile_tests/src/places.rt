@@ -135,6 +135,19 @@ pub(crate) struct Contents {
     db: Vec<u8>,
 }
 
+impl Contents {
+    fn is_same(&self, other: &Contents) -> bool {
+        self.log.as_slice() == other.log.as_slice() && self.db.as_slice() == other.db.as_slice()
+    }
+
+    fn copied(&self, rt: &impl Abort, alloc: Global) -> Contents {
+        Contents {
+            log: self.log.to_vec(alloc).expect(rt, "memory"),
+            db: self.db.to_vec(alloc).expect(rt, "memory"),
+        }
+    }
+}
+
 /// Files that are not there yet.
 pub(crate) fn nothing(alloc: Global) -> Contents {
     Contents {
@@ -269,4 +282,43 @@ pub(crate) fn shown(
     };
     visit_files(rt, alloc, contents, options, &[], &mut looker);
     looker.shown
+}
+
+/// What was last looked at in files, which mostly stays the same.
+#[derive(Drop)]
+pub(crate) struct Looks {
+    options: Options,
+    contents: Contents,
+    shown: String,
+}
+
+impl Looks {
+    /// What a spool in files with these contents shows, looked at.
+    pub(crate) fn new(
+        rt: &impl Abort,
+        alloc: Global,
+        contents: &Contents,
+        options: Options,
+    ) -> Looks {
+        Looks {
+            options,
+            contents: contents.copied(rt, alloc),
+            shown: shown(rt, alloc, contents, options),
+        }
+    }
+
+    /// Whether a spool in files with these contents shows this. The same contents are not looked at again.
+    pub(crate) fn show(
+        &mut self,
+        rt: &impl Abort,
+        alloc: Global,
+        contents: &Contents,
+        want: &str,
+    ) -> bool {
+        if !self.contents.is_same(contents) {
+            self.shown = shown(rt, alloc, contents, self.options);
+            self.contents = contents.copied(rt, alloc);
+        }
+        self.shown.as_str() == want
+    }
 }

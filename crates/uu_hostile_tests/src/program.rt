@@ -376,7 +376,7 @@ fn lines_are_served(rt: HostRuntime) {
         let mut trial = new_trial(&rt, alloc, lines, *line, output);
         for short in BOTH {
             let mut count = Count::new();
-            for n in 1..MOST {
+            for n in (1..MOST).filter(|n| short.is_tried(*n)) {
                 trial.n = n;
                 trial.short = short;
                 visit_memory(&rt, alloc, &[], &mut trial);
@@ -407,7 +407,7 @@ fn a_load_into_files(rt: HostRuntime) {
     let mut trial = new_trial(&rt, alloc, &[], ("load", SYS_FILE), output);
     for short in BOTH {
         let mut count = Count::new();
-        for n in 1..MOST {
+        for n in (1..MOST).filter(|n| short.is_tried(*n)) {
             trial.n = n;
             trial.short = short;
             let left = visit_files(&rt, alloc, &nothing(alloc), FEW_PAGES, &[], &mut trial);
@@ -725,7 +725,7 @@ fn batches(rt: HostRuntime) {
     }
     for short in BOTH {
         let mut count = Count::new();
-        for n in 1..MOST {
+        for n in (1..MOST).filter(|n| short.is_tried(*n)) {
             trial.n = n;
             trial.short = short;
             visit_memory(&rt, alloc, &[], &mut trial);

@@ -28,6 +28,16 @@ pub(crate) enum Short {
 
 pub(crate) const BOTH: [Short; 2] = [Short::Alone, Short::Onwards];
 
+impl Short {
+    /// Whether the nth request of a call of a spool is tried: each one alone, and each seventh with all later ones.
+    pub(crate) fn is_tried(self, n: usize) -> bool {
+        match self {
+            Short::Alone => true,
+            Short::Onwards => n % 7 == 1,
+        }
+    }
+}
+
 /// From here on the nth request is refused.
 pub(crate) fn refuse(alloc: Global, n: usize, short: Short) {
     let size = match short {
