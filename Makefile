@@ -1,9 +1,9 @@
 # uuspool: the job spool of a UUCP site, with its proofs.
 #
 #   make            proves what the program stands on and leaves it at build/uuspool
-#   make first-run  the main job on a real file, killed inside a write and reopened; sends with too little memory
+#   make first-run  the main job on a real file, killed inside a write and reopened
 #   make test       the gate: every proof from nothing, every test, every run, the worked lines of tests/, what `when` says beside `due`, streams that
-#                   fail, syncs counted, openings and batches that are killed, files that are damaged, and the desk
+#                   fail, syncs counted, openings and batches that are killed, files that are damaged, the desk, and memory that is refused
 #   make bench      what calls of the spool cost over a real file
 #   make install    build/uuspool, the desk and what stands behind mailers, man pages and examples below $(DESTDIR)$(PREFIX)
 #   make clean      removes build/ and the kept work of every crate
@@ -22,7 +22,6 @@ build:
 
 first-run: build
 	@scripts/first-run build/uuspool
-	@scripts/short-memory build/uuspool
 
 bench: build
 	@scripts/bench
@@ -38,6 +37,7 @@ test:
 	@scripts/batch-stops
 	@scripts/damaged-files
 	@scripts/desk-test
+	@scripts/refused-memory
 
 install: build
 	install -D -m 755 build/uuspool '$(DESTDIR)$(PREFIX)/bin/uuspool'
