@@ -2,6 +2,7 @@
 ghost use Rattle.std.specs.Prelude.{◌≡◌, false};
 
 use crate::rows::rows_of;
+use crate::visitors::expect_stopped;
 use sqlite::{Alter, Connection, FileStore, Options, Row};
 use sqlite_disk::{Crash, Disk, Files, Fuse, Memory};
 use std::alloc::Global;
@@ -295,7 +296,10 @@ fn visited_in<R: Abort, S: Alter + Drop, V: Visitor>(
             visitor.visit(rt, alloc, &mut spool);
             left_open(spool, closes)
         }
-        Err(refused) => Left::Untaken(refused.conn.into_store()),
+        Err(refused) => {
+            expect_stopped(rt, refused.fault);
+            Left::Untaken(refused.conn.into_store())
+        }
     }
 }
 

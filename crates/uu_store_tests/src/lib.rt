@@ -14,6 +14,8 @@ mod files;
 #[cfg(test)]
 mod handing_over;
 #[cfg(test)]
+mod kinds;
+#[cfg(test)]
 mod listing;
 #[cfg(test)]
 mod migrating;

@@ -7,7 +7,7 @@ use crate::scripts::{commands, replies};
 use sqlite::Alter;
 use std::alloc::Global;
 use std::process::Abort;
-use uu_store::{Reply, RunEnd, Spool, StoreFault};
+use uu_store::{Reply, RunEnd, Spool, StoreFault, StoreKind};
 
 /// How a spool is given the commands of a script.
 #[derive(Clone, Copy)]
@@ -113,9 +113,9 @@ fn expect_first(rt: &impl Abort, wanted: &[Reply], replies: &[Reply]) {
     }
 }
 
-/// The fault is that of a stop.
+/// The fault is that of a stop: the disk refused a call.
 pub(crate) fn expect_stopped(rt: &impl Abort, fault: StoreFault) {
-    assert!(rt; matches!(fault, StoreFault::Store(_)), "another fault");
+    assert_eq!(rt; fault, StoreFault::Store(StoreKind::Disk));
 }
 
 /// After a stop the spool answers a run, a command and a question with `Failed`.
