@@ -88,14 +88,20 @@ class Batch:
 
     def __init__(self, program):
         self.spool = subprocess.Popen([program, "batch"], stdin=subprocess.PIPE, stdout=subprocess.PIPE)
+        # (the spool is open behind its first answer)
+        self.ask(b"due")
 
     def ask(self, words, given=b""):
         self.spool.stdin.write(b"%d %s\n" % (len(given), words) + given)
         self.spool.stdin.flush()
+        return self.answer()
+
+    def answer(self):
+        """The output of the next answer, which has to be a good one."""
         status, *counts = self.spool.stdout.readline().split()
         output, errors = [self.spool.stdout.read(int(count)) for count in counts]
         if status != b"0":
-            ended(f"{words} was answered {output + errors}")
+            ended(f"a request was answered {output + errors}")
         return output
 
     def mean(self, words, given, times):
@@ -112,9 +118,15 @@ class Batch:
 
     def processor(self):
         """The seconds of the processor that it has taken so far."""
-        with open(f"/proc/{self.spool.pid}/stat", encoding="ascii") as line:
-            fields = line.read().rpartition(")")[2].split()
-        return (int(fields[11]) + int(fields[12])) / os.sysconf("SC_CLK_TCK")
+        # (the clock of a process, as clock_getcpuclockid of Linux makes its number)
+        return time.clock_gettime((~self.spool.pid << 3) | 2)
+
+    def send_many(self, jobs):
+        """Sends so many jobs of a byte for the systems in turn, as one stream, and waits for the answers."""
+        self.spool.stdin.write(stream(jobs, b"x"))
+        self.spool.stdin.flush()
+        for _ in range(jobs):
+            self.answer()
 
     def close(self):
         self.spool.stdin.close()
