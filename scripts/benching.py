@@ -1,6 +1,7 @@
 #!/usr/bin/env python3
 """What the scripts of `make bench` share: spools with many jobs, batches, and times of processes."""
 
+import itertools
 import os
 import shutil
 import statistics
@@ -18,9 +19,15 @@ def ended(what):
     sys.exit(f"{os.path.basename(sys.argv[0])}: {what}")
 
 
+def sends(jobs, bytes_of_each):
+    """The requests of a batch that queue so many jobs for the systems in turn, one by one."""
+    for at in range(jobs):
+        yield b"%d send site%d /tmp/letter ~/letter\n%s" % (len(bytes_of_each), at % SYSTEMS, bytes_of_each)
+
+
 def stream(jobs, bytes_of_each):
-    """The requests of a batch that queue so many jobs for the systems in turn."""
-    return b"".join(b"%d send site%d /tmp/letter ~/letter\n%s" % (len(bytes_of_each), at % SYSTEMS, bytes_of_each) for at in range(jobs))
+    """These requests as one text."""
+    return b"".join(sends(jobs, bytes_of_each))
 
 
 def make(program, jobs, bytes_of_each):
@@ -32,7 +39,7 @@ def make(program, jobs, bytes_of_each):
     with open("uuspool.toml", "w", encoding="utf-8") as file:
         file.write('name = "here"\nspool = "bench.db"\n')
     systems = b"".join(b"system site%d\ntime Any\n" % at for at in range(SYSTEMS))
-    answer_to(program, b"%d load\n%s%s" % (len(systems), systems, stream(jobs, bytes_of_each)))
+    give(program, itertools.chain([b"%d load\n%s" % (len(systems), systems)], sends(jobs, bytes_of_each)))
 
 
 def put(source, target):
@@ -44,12 +51,15 @@ def put(source, target):
             os.fsync(file.fileno())
 
 
-def answer_to(program, requests):
-    """What a batch answers to a stream of requests, all at once."""
-    ran = subprocess.run([program, "batch"], input=requests, stdout=subprocess.PIPE, check=False)
-    if ran.returncode != 0:
-        ended(f"a batch ended with {ran.returncode}")
-    return ran.stdout
+def give(program, requests):
+    """Gives a batch these requests, and throws its answers away."""
+    # (one by one, since memory that is taken here would count as that of each process that is started later)
+    batch = subprocess.Popen([program, "batch"], stdin=subprocess.PIPE, stdout=subprocess.DEVNULL)
+    for request in requests:
+        batch.stdin.write(request)
+    batch.stdin.close()
+    if batch.wait():
+        ended(f"a batch ended with {batch.returncode}")
 
 
 def seconds(words, given=b""):
