@@ -62,16 +62,6 @@ def give(program, requests):
         ended(f"a batch ended with {batch.returncode}")
 
 
-def seconds(words, given=b""):
-    """How long a process takes, with this input and its output thrown away."""
-    begun = time.perf_counter()
-    ran = subprocess.run(words, input=given, stdout=subprocess.DEVNULL, check=False)
-    taken = time.perf_counter() - begun
-    if ran.returncode != 0:
-        ended(f"{' '.join(map(str, words))} ended with {ran.returncode}")
-    return taken
-
-
 def taken(words, given=subprocess.DEVNULL, **where):
     """The seconds of a process from its start to its end, and those of the processor, of it and of what it waited for; its output is thrown away."""
     begun = time.perf_counter()
