@@ -1,6 +1,7 @@
 #!/usr/bin/env python3
 """What the scripts of `make bench` share: spools with many jobs, batches, and times of processes."""
 
+import itertools
 import os
 import shutil
 import statistics
@@ -18,9 +19,15 @@ def ended(what):
     sys.exit(f"{os.path.basename(sys.argv[0])}: {what}")
 
 
+def sends(jobs, bytes_of_each):
+    """The requests of a batch that queue so many jobs for the systems in turn, one by one."""
+    for at in range(jobs):
+        yield b"%d send site%d /tmp/letter ~/letter\n%s" % (len(bytes_of_each), at % SYSTEMS, bytes_of_each)
+
+
 def stream(jobs, bytes_of_each):
-    """The requests of a batch that queue so many jobs for the systems in turn."""
-    return b"".join(b"%d send site%d /tmp/letter ~/letter\n%s" % (len(bytes_of_each), at % SYSTEMS, bytes_of_each) for at in range(jobs))
+    """These requests as one text."""
+    return b"".join(sends(jobs, bytes_of_each))
 
 
 def make(program, jobs, bytes_of_each):
@@ -32,7 +39,7 @@ def make(program, jobs, bytes_of_each):
     with open("uuspool.toml", "w", encoding="utf-8") as file:
         file.write('name = "here"\nspool = "bench.db"\n')
     systems = b"".join(b"system site%d\ntime Any\n" % at for at in range(SYSTEMS))
-    answer_to(program, b"%d load\n%s%s" % (len(systems), systems, stream(jobs, bytes_of_each)))
+    give(program, itertools.chain([b"%d load\n%s" % (len(systems), systems)], sends(jobs, bytes_of_each)))
 
 
 def put(source, target):
@@ -44,22 +51,15 @@ def put(source, target):
             os.fsync(file.fileno())
 
 
-def answer_to(program, requests):
-    """What a batch answers to a stream of requests, all at once."""
-    ran = subprocess.run([program, "batch"], input=requests, stdout=subprocess.PIPE, check=False)
-    if ran.returncode != 0:
-        ended(f"a batch ended with {ran.returncode}")
-    return ran.stdout
-
-
-def seconds(words, given=b""):
-    """How long a process takes, with this input and its output thrown away."""
-    begun = time.perf_counter()
-    ran = subprocess.run(words, input=given, stdout=subprocess.DEVNULL, check=False)
-    taken = time.perf_counter() - begun
-    if ran.returncode != 0:
-        ended(f"{' '.join(map(str, words))} ended with {ran.returncode}")
-    return taken
+def give(program, requests):
+    """Gives a batch these requests, and throws its answers away."""
+    # (one by one, since memory that is taken here would count as that of each process that is started later)
+    batch = subprocess.Popen([program, "batch"], stdin=subprocess.PIPE, stdout=subprocess.DEVNULL)
+    for request in requests:
+        batch.stdin.write(request)
+    batch.stdin.close()
+    if batch.wait():
+        ended(f"a batch ended with {batch.returncode}")
 
 
 def taken(words, given=subprocess.DEVNULL, **where):
@@ -88,14 +88,20 @@ class Batch:
 
     def __init__(self, program):
         self.spool = subprocess.Popen([program, "batch"], stdin=subprocess.PIPE, stdout=subprocess.PIPE)
+        # (the spool is open behind its first answer)
+        self.ask(b"due")
 
     def ask(self, words, given=b""):
         self.spool.stdin.write(b"%d %s\n" % (len(given), words) + given)
         self.spool.stdin.flush()
+        return self.answer()
+
+    def answer(self):
+        """The output of the next answer, which has to be a good one."""
         status, *counts = self.spool.stdout.readline().split()
         output, errors = [self.spool.stdout.read(int(count)) for count in counts]
         if status != b"0":
-            ended(f"{words} was answered {output + errors}")
+            ended(f"a request was answered {output + errors}")
         return output
 
     def mean(self, words, given, times):
@@ -112,9 +118,15 @@ class Batch:
 
     def processor(self):
         """The seconds of the processor that it has taken so far."""
-        with open(f"/proc/{self.spool.pid}/stat", encoding="ascii") as line:
-            fields = line.read().rpartition(")")[2].split()
-        return (int(fields[11]) + int(fields[12])) / os.sysconf("SC_CLK_TCK")
+        # (the clock of a process, as clock_getcpuclockid of Linux makes its number)
+        return time.clock_gettime((~self.spool.pid << 3) | 2)
+
+    def send_many(self, jobs):
+        """Sends so many jobs of a byte for the systems in turn, as one stream, and waits for the answers."""
+        self.spool.stdin.write(stream(jobs, b"x"))
+        self.spool.stdin.flush()
+        for _ in range(jobs):
+            self.answer()
 
     def close(self):
         self.spool.stdin.close()
