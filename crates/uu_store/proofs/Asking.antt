@@ -1,11 +1,11 @@
 -- A question of a spool: what its three ends come to.
-use Rattle.std.proofs.Common.{◌≡◌, Bool, true, false, true≢false, Ok, Err, refl, sym, ap, subst, ◌∙◌, arith}
+use Rattle.std.proofs.Common.{◌≡◌, true, false, true≢false, [], Result, Ok, Err, refl, sym, ap, subst, ◌∙◌, arith}
 use Rattle.sqlite.specs.Store.{Ghosts}
 use Rattle.sqlite.specs.Held.{Held, state}
 use Rattle.sqlite.specs.State as db
 use Rattle.uu_core.specs.State.{State}
 use Rattle.uu_schema.specs.declared.fault.StoreFault.{StoreFault}
-use Rattle.uu_schema.specs.declared.fault.StoreFault.TheVariants.{Memory, Store, Failed, Foreign, Newer}
+use Rattle.uu_schema.specs.declared.fault.StoreFault.TheVariants.{Memory, Failed}
 use Rattle.uu_database.specs.Calls.{StaysUnclean, IsAnswered}
 use Rattle.uu_store.specs.declared.spool.Spool.{Spool}
 use Rattle.uu_store.specs.Spool.{connection_of, disk, failure_of, has_failed, Shows, Marks, Notes}

@@ -5,6 +5,7 @@ pub mod OneState
 pub mod NoWaits
 pub mod Adopting
 pub mod Running
+pub mod Asking
 pub mod Reopening
 pub mod Acknowledging
 pub mod Accounting
