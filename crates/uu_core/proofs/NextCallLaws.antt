@@ -1,10 +1,8 @@
 -- What is told of calls, beside what is due.
-use Rattle.std.proofs.Common.{◌≡◌, ℕ, zero, suc, ◌+◌, ◌*◌, ◌%◌, ◌<◌, ◌≤◌, Bool, true, false, not, cond, leb, ltb, ◌&&◌, ◌||◌, ◌==◌, List, [], ◌∷◌, length, map, filter, get_or, Option, Some, None, IfSome, All, AllPairs, Contains, refl, ap, sym, ◌∙◌, subst, arith, ◌↔◌, ◌⊎◌, inl, inr}
-use Rattle.std.specs.List.{list_any, list_all}
-use Rattle.std.specs.Ordering.{nat_cmp}
-use Rattle.std.specs.Cmp.Lexicographic.{slice_cmp, bytes_decides}
+use Rattle.std.proofs.Common.{◌≡◌, ℕ, ◌+◌, ◌%◌, ◌≤◌, Bool, true, false, not, cond, leb, ltb, ◌&&◌, ◌||◌, ◌==◌, List, [], ◌∷◌, get_or, Option, Some, None, IfSome, Contains, refl, ap, sym, ◌∙◌, subst, arith, ◌↔◌}
+use Rattle.std.specs.List.{list_all}
+use Rattle.std.specs.Cmp.Lexicographic.{bytes_decides}
 use Rattle.std.specs.declared.cmp.Ordering.TheVariants.{Less, Equal}
-use Rattle.std.proofs.lemmas.Bool.{leb-true}
 use Rattle.std.proofs.lemmas.Bool.Decides.{nat_tests}
 use Rattle.std.proofs.lemmas.Cmp.{nat_list_cmp_total, tied_itself}
 use Rattle.std.proofs.lemmas.List.{get_or_default}
@@ -15,17 +13,15 @@ use Rattle.uu_times.specs.declared.zone.Zone.{Zone}
 use Rattle.uu_core.specs.declared.due.Due.{Due}
 use Rattle.uu_core.specs.declared.job.JobHead.{JobHead}
 use Rattle.uu_core.specs.declared.next_call.NextCall.{NextCall}
-use Rattle.uu_core.specs.declared.next_call.Why.{Why}
 use Rattle.uu_core.specs.declared.next_call.Why.TheVariants as why
-use Rattle.uu_core.specs.declared.system.CallState.{CallState}
 use Rattle.uu_core.specs.declared.system.SystemRow.{SystemRow}
 use Rattle.uu_core.specs.State.{same_text, is_system, ComesBefore}
 use Rattle.uu_core.specs.Plain.{AreByName}
 use Rattle.uu_core.specs.Waiting.{limit_at, is_held}
 use Rattle.uu_core.specs.Queues.{jobs_for}
-use Rattle.uu_core.specs.Due.{limit_now, is_within, may_be_called, may_go, goes_before, is_due, due_of, is_listed, AreDue}
-use Rattle.uu_core.specs.NextCalls.{natural, week_at, limit_in, looked_ahead, free_from, is_looked_at, is_callable, IsLeast, why_limited, why_at, IsNextCall, IsMomentAt, due_by, IsEarlier}
-use Rattle.uu_core.proofs.Members.{from_filter, kept, some_passes, passing_one, none_in, first_of, later_of}
+use Rattle.uu_core.specs.Due.{limit_now, is_within, may_go, goes_before, is_due, due_of, is_listed, AreDue}
+use Rattle.uu_core.specs.NextCalls.{natural, week_at, limit_in, looked_ahead, is_looked_at, is_callable, IsLeast, why_limited, IsNextCall, IsMomentAt, due_by, IsEarlier}
+use Rattle.uu_core.proofs.Members.{from_filter, kept, some_passes, passing_one, first_of, later_of}
 use Rattle.uu_core.proofs.NextCallLemmas.{ahead_of, false-true, left-true, right-true}
 
 -- at the moment of a second the limit is that of the second

@@ -1,14 +1,13 @@
 -- The sums over all systems are those over all jobs.
-use Rattle.std.proofs.Common.{◌≡◌, ℕ, zero, suc, ◌+◌, ◌<◌, Bool, true, false, cond, List, [], ◌∷◌, length, map, filter, get_or, sum_by, All, AllPairs, Contains, refl, ap, sym, ◌∙◌, subst, arith, ◌⊎◌, inl, inr}
-use Rattle.std.specs.Ordering.{nat_cmp}
-use Rattle.std.specs.Cmp.Lexicographic.{slice_cmp, bytes_decides}
+use Rattle.std.proofs.Common.{◌≡◌, ℕ, suc, ◌+◌, ◌<◌, Bool, true, false, cond, List, [], ◌∷◌, length, map, get_or, sum_by, All, AllPairs, Contains, refl, ap, sym, ◌∙◌, subst, arith, ◌⊎◌, inl, inr}
+use Rattle.std.specs.Cmp.Lexicographic.{bytes_decides}
 use Rattle.std.proofs.lemmas.List.{length-map}
 use Rattle.std.proofs.lemmas.List.Elements.{All-head, All-tail}
 use Rattle.std.proofs.lemmas.List.Sums.{sum_by-cons}
 use Rattle.uu_core.specs.declared.job.JobHead.{JobHead}
 use Rattle.uu_core.specs.declared.queue.Queue.{Queue}
 use Rattle.uu_core.specs.State.{same_text, ComesBefore}
-use Rattle.uu_core.specs.Queues.{jobs_for, AreSums, AreQueues}
+use Rattle.uu_core.specs.Queues.{jobs_for, AreQueues}
 use Rattle.uu_core.proofs.DueLemmas.{map_at}
 use Rattle.uu_core.proofs.Members.{first_of, later_of, first_or_later, none_in}
 use Rattle.uu_core.proofs.NextCallLemmas.{not_same}

@@ -1,5 +1,5 @@
 -- What jobs come to, one more at a time, and what waits for each system.
-use Rattle.std.proofs.Common.{◌≡◌, ◌≢◌, ℕ, zero, suc, ◌+◌, ◌*◌, ◌<◌, ◌≤◌, Bool, true, false, cond, ◌||◌, ◌&&◌, ◌==◌, min, ltb, List, [], ◌∷◌, ◌++◌, length, map, filter, take, get_or, sum_by, Option, Some, None, IfSome, is_some, All, AllPairs, Contains, refl, ap, sym, ◌∙◌, subst, arith, append-nil, length-append}
+use Rattle.std.proofs.Common.{◌≡◌, ◌≢◌, ℕ, ◌+◌, ◌<◌, ◌≤◌, Bool, true, false, cond, ◌||◌, ◌&&◌, ◌==◌, min, ltb, List, [], ◌∷◌, ◌++◌, length, map, take, get_or, Option, Some, None, IfSome, is_some, Contains, refl, ap, sym, ◌∙◌, subst, arith, append-nil, length-append}
 use Rattle.std.specs.List.{reduce, fold}
 use Rattle.std.specs.Ordering.{nat_cmp}
 use Rattle.std.specs.Cmp.Lexicographic.{slice_cmp, bytes_decides}
@@ -12,8 +12,8 @@ use Rattle.std.proofs.lemmas.List.{map-append, length-map}
 use Rattle.std.proofs.lemmas.Map.Keys.{Less-from_sorted}
 use Rattle.std.proofs.lemmas.Map.Lookups.{exact_bytes}
 use Rattle.std.proofs.lemmas.Map.Views.{All-found, btree_map_contains_key_iff}
-use Rattle.std.proofs.lemmas.List.Sums.{fold_push, sum_by_push, sum_by-le, length-filter, count_by-le-length}
-use Rattle.std.proofs.lemmas.List.Elements.{All-nil, All-cons, All-push, All-weaker, All-filter, All-contains, Contains-push, Contains-append_left, filter_more}
+use Rattle.std.proofs.lemmas.List.Sums.{fold_push, sum_by_push, length-filter, count_by-le-length}
+use Rattle.std.proofs.lemmas.List.Elements.{All-push, All-weaker, Contains-push, Contains-append_left, filter_more}
 use Rattle.uu_core.specs.declared.job.JobHead.{JobHead}
 use Rattle.uu_core.specs.declared.queue.Sums.{Sums}
 use Rattle.uu_core.specs.declared.queue.Queue.{Queue}
@@ -21,7 +21,7 @@ use Rattle.uu_core.specs.State.{same_text}
 use Rattle.uu_core.specs.Due.{goes_before}
 use Rattle.uu_core.specs.Queues.{jobs_for, IsFirstJob, AreSums, AreSumsOf, AreQueues}
 use Rattle.uu_core.proofs.DueLemmas.{map_at}
-use Rattle.uu_core.proofs.Members.{first_of, kept, none_in}
+use Rattle.uu_core.proofs.Members.{kept, none_in}
 
 -- ---- one job, and one more
 
@@ -151,7 +151,7 @@ of_map jobs queues m ordered sums same = record {
       let count : length (map name_of queues) ≡ length queues = length-map queues name_of in
       let less = Less-from_sorted (slice_cmp nat_cmp) (map name_of queues) i j d.system (subst (IsStrictlySortedBy (slice_cmp nat_cmp)) names ordered) below (omega arith) in
       subst (λ (b : List ℕ). slice_cmp nat_cmp (get_or queues i d).system b ≡ Less) (map_at name_of queues j d.system d within)
-          (subst (λ (a : List ℕ). slice_cmp nat_cmp a (get_or (map name_of queues) j d.system) ≡ Less) (map_at name_of queues i d.system d (omega arith)) less);
+      (subst (λ (a : List ℕ). slice_cmp nat_cmp a (get_or (map name_of queues) j d.system) ≡ Less) (map_at name_of queues i d.system d (omega arith)) less);
 }
   where
     names : map (λ (e : List ℕ × Sums). e.0) m.entries ≡ map name_of queues

@@ -51,7 +51,8 @@ pub enum Question {
     Job(u32),
     /// Which systems may be called at this moment, each with its next job.
     Due(Moment),
-    /// When each system for which a job fits can next be called from this moment on, for the first of these jobs.
+    /// When each system for which a job fits can next be called from this moment on, for the first
+    /// of these jobs.
     NextCalls(Filter, Moment),
     /// What the jobs that fit come to, for each system.
     Queues(Filter),

@@ -36,9 +36,9 @@ pub fn report_due(alloc: Global, dues: &[Due]) -> Result<Vec<u8>, Fault>
     Ok(due_report(alloc, dues)?)
 }
 
-/// The report of when systems can next be called, in the order handed in, a line for each: `SYSTEM GRADE NUMBER SECONDS MOMENT WHY`, or
-/// `SYSTEM GRADE NUMBER never WHY`, the seconds counted from this moment on, and the moment as in [`report_jobs`]. The only error is
-/// `Memory`.
+/// The report of when systems can next be called, in the order handed in, a line for each:
+/// `SYSTEM GRADE NUMBER SECONDS MOMENT WHY`, or `SYSTEM GRADE NUMBER never WHY`, the seconds counted
+/// from this moment on, and the moment as in [`report_jobs`]. The only error is `Memory`.
 pub fn report_next_calls(
     alloc: Global,
     calls: &[NextCall],
@@ -52,8 +52,9 @@ pub fn report_next_calls(
     Ok(next_calls_report(alloc, calls, at.second, &settings.zone)?)
 }
 
-/// The report of what waits for systems, in the order handed in, a line for each: `SYSTEM JOBS BYTES GRADE MOMENT`, the moment at which
-/// the oldest job was queued as in [`report_jobs`]. The only error is `Memory`.
+/// The report of what waits for systems, in the order handed in, a line for each:
+/// `SYSTEM JOBS BYTES GRADE MOMENT`, the moment at which the oldest job was queued as in
+/// [`report_jobs`]. The only error is `Memory`.
 pub fn report_queues(alloc: Global, queues: &[Queue], settings: &Settings) -> Result<Vec<u8>, Fault>
     requires { All (λ queue. queue.sums.oldest ≤ LAST_SECOND) queues.now }
     ensures lines { IfOk result (λ report. IsQueuesReport settings.now.zone queues.now report.items) }

@@ -1,5 +1,5 @@
 -- One more system is told of where it has jobs, and the sort puts the calls in order.
-use Rattle.std.proofs.Common.{◌≡◌, ◌∙◌, ◌<◌, ◌++◌, ◌∷◌, [], ℕ, List, All, Contains, Bor, Option, Some, None, is_some, true, false, map, filter, take, length, nat_cmp, ap, sym, subst, arith, append-nil, refl, rules}
+use Rattle.std.proofs.Common.{◌≡◌, ◌∙◌, ◌++◌, ◌∷◌, [], ℕ, List, All, Bor, Some, None, is_some, true, false, map, filter, nat_cmp, ap, sym, subst, arith, append-nil, rules}
 use Rattle.std.specs.BTreeMap.{get}
 use Rattle.std.specs.Cmp.Lexicographic.{slice_cmp}
 use Rattle.std.proofs.lemmas.List.{take_all, map-append}
@@ -12,7 +12,7 @@ use Rattle.uu_core.specs.declared.job.JobHead.{JobHead}
 use Rattle.uu_core.specs.declared.next_call.NextCall.{NextCall}
 use Rattle.uu_core.specs.declared.queue.Sums.{Sums}
 use Rattle.uu_core.specs.declared.system.SystemRow.{SystemRow}
-use Rattle.uu_core.specs.Queues.{AreSums, AreSumsOf, IsFirstJob, jobs_for}
+use Rattle.uu_core.specs.Queues.{AreSumsOf, IsFirstJob, jobs_for}
 use Rattle.uu_core.specs.NextCalls.{IsAhead, IsNextCall, IsToldOf, turn_of}
 use Rattle.uu_core.proofs.QueueLemmas.{has_sums}
 use Rattle.uu_core.proofs.NextCallLemmas.{ahead_of, calls_are, names_more}

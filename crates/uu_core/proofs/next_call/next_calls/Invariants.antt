@@ -1,4 +1,4 @@
-use Rattle.std.proofs.Common.{◌≡◌, ◌+◌, ◌/◌, List, ℕ, All, map, filter, take, is_some}
+use Rattle.std.proofs.Common.{◌≡◌, ◌+◌, ◌/◌, All, map, filter, take, is_some}
 use Rattle.std.specs.Ordering.{nat_cmp}
 use Rattle.std.specs.Cmp.Lexicographic.{slice_cmp}
 use Rattle.std.specs.BTreeMap.{get}

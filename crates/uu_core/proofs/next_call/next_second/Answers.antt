@@ -1,5 +1,5 @@
 -- The first second, else the first minute as whose second 0 the system may be called.
-use Rattle.std.proofs.Common.{◌≡◌, ◌∙◌, ◌+◌, ◌/◌, min, max, ap, sym, arith, IfOk, false}
+use Rattle.std.proofs.Common.{◌≡◌, ◌∙◌, ◌+◌, ◌/◌, min, max, ap, sym, arith, false}
 use Rattle.std.proofs.lemmas.Result.{IfOk-weaker}
 use Rattle.uu_times.specs.Moment.{last_second}
 use Rattle.uu_core.specs.Due.{is_within}

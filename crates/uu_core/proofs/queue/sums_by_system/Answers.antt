@@ -1,11 +1,10 @@
 -- One more job adds to what its system's jobs come to, and to nothing else.
-use Rattle.std.proofs.Common.{◌≡◌, ◌∙◌, ◌+◌, ◌*◌, ◌<◌, ◌≤◌, ℕ, List, ◌++◌, ◌∷◌, [], take, length, cond, Option, Some, None, IfSome, nat_cmp, ap, sym, subst, arith}
+use Rattle.std.proofs.Common.{◌≡◌, ◌∙◌, ◌+◌, ◌*◌, ◌≤◌, ℕ, List, ◌++◌, ◌∷◌, [], take, cond, Option, Some, None, IfSome, nat_cmp, ap, sym, subst, arith}
 use Rattle.std.specs.BTreeMap.{get, is_at}
 use Rattle.std.specs.Cmp.Lexicographic.{slice_cmp, texts_ties}
 use Rattle.std.proofs.lemmas.List.{length-take}
 use Rattle.uu_core.specs.declared.job.JobHead.{JobHead}
 use Rattle.uu_core.specs.declared.queue.Sums.{Sums}
-use Rattle.uu_core.specs.State.{same_text}
 use Rattle.uu_core.specs.Queues.{AreSums, AreSumsOf, jobs_for}
 use Rattle.uu_core.proofs.QueueLemmas.{jobs_within, sums_step, small_step}
 use Rattle.uu_core.proofs.queue.sums_by_system.Goals as goal
@@ -34,7 +33,7 @@ loop-job-preserved c =
     let copy : c.in_ok-clone.field-0 ≡ job.system = c.in_ok-clone.ensures.cases in
     let found : c.copied.result ≡ get (slice_cmp nat_cmp) map job.system = c.copied.ensures ∙ c.get.ensures.value in
     let new = λ (name : List ℕ). c.in_ok-insert.ensures.updates.0 name
-        ∙ ap (λ t. cond t (Some c.match-copied.sums) (get (slice_cmp nat_cmp) map name)) (ap (λ (k : List ℕ). is_at (slice_cmp nat_cmp k) name) copy ∙ sym (texts_ties job.system name)) in
+    ∙ ap (λ t. cond t (Some c.match-copied.sums) (get (slice_cmp nat_cmp) map name)) (ap (λ (k : List ℕ). is_at (slice_cmp nat_cmp k) name) copy ∙ sym (texts_ties job.system name)) in
     elim c.match-copied.branch [
       | in-Some w ↦
           let old : get (slice_cmp nat_cmp) map job.system ≡ Some w.in-Some.sums = sym found ∙ w.in-Some.is in

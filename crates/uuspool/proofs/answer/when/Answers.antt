@@ -18,7 +18,7 @@ returns-in-Ok g c =
     let zone = c.args.settings.now.zone in
     let second = c.args.at.now.second in
     let rows = c.deref.result.now in
-    let jobs = c.deref-2.result.now in
+    let jobs = c.deref-in-Ok.result.now in
     question_served c.args.settings.now asked c.args.spool.now c.systems_and_jobs.new.spool written c.print.result c.in-Ok.ensures.ran c.in-Ok.ensures.marked
     (λ clean s shown. (c.in-Ok.ensures.answer clean s shown).2)
     (printed c.print.result c.next_calls_text-text.result 0 written
@@ -27,7 +27,7 @@ returns-in-Ok g c =
     (λ output is clean s shown.
     let found = c.in-Ok.ensures.answer clean s shown in
     let systems : rows ≡ s.systems = c.deref.ensures.value ∙ found.0 in
-    let fitting : jobs ≡ listed c.args.filter.now s = c.deref-2.ensures.value ∙ found.1 in
+    let fitting : jobs ≡ listed c.args.filter.now s = c.deref-in-Ok.ensures.value ∙ found.1 in
     let by_name = subst (AreByName (λ (row : SystemRow). row.def.name)) (sym systems) shown.encodes.holds.good.by_name in (
       is.0,
       subst (λ (heads : List JobHead). AreNextCalls zone s.systems heads second is.0) fitting (subst (λ (all : List SystemRow). AreNextCalls zone all jobs second is.0) systems (is.1 by_name)),
