@@ -85,7 +85,7 @@ module _ (settings : Settings) (line : CommandLine) (at : Moment) (input : List 
     pub words_fault : (f : Fault) → IsFaultOfLine settings line at input f → IsFaultOf settings words now input f
     words_fault (fault.Time why) is = inr (words_ask (Err (asking.Time why)) is)
     words_fault fault.Input is = words_ask (Err asking.Input) is
-    words_fault (fault.Store why) (call, request, is) = (call, (request, words_ask (Ok request) is))
+    words_fault (fault.Store why) (call, (request, is)) = (call, (request, words_ask (Ok request) is))
     words_fault fault.Write (request, is) = (request, words_ask (Ok request) is)
     words_fault fault.Memory is = tt
     words_fault (fault.Words text help) none = absurd none

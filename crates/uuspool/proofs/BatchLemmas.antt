@@ -1,6 +1,6 @@
 -- How a batch goes from request to request.
 use Rattle.std.proofs.Common.{◌≡◌, ◌≤◌, ◌∙◌, ◌+◌, ◌++◌, ◌∷◌, inl, inr, ℕ, Bool, true, false, true≢false, not, List, [], Option, None, Some, Result, Ok, Err, IfErr, IfOk, IfSome, length, length-append, ap, append-nil, append_assoc, refl, subst, sym}
-use Rattle.std.specs.Prelude.{◌⊎◌, ⊤}
+use Rattle.std.specs.Prelude.{◌⊎◌}
 use Rattle.std.specs.List.{AllByRecursion, FoldsTo, flat_map}
 use Rattle.std.specs.Io.KnownBytes.{Appends, Consumes}
 use Rattle.std.proofs.KnownBytes.{Appends-nil, Appends-trans, Consumes-nil, Consumes-trans}
@@ -127,13 +127,13 @@ pub record SoFar {S : Type 0} {g : Ghosts S} {C : Type 0} (settings : Settings) 
 -- after a line the next is served where those before it and it go on
 on_then : (failed goes : Bool) (lines : List Line) (line : Line) → (failed ≡ false → AllGoOn lines) → (failed ≡ true → line.result ≡ Err left_fault)
     → goes ≡ goes_on line.result → goes ≡ true → AllGoOn (lines ++ line ∷ [])
-on_then false goes lines line on left is yes = all_more (λ (l : Line). goes_on l.result ≡ true) lines line (on refl) (sym is ∙ yes)
-on_then true goes lines line on left is yes = absurd (true≢false (sym yes ∙ is ∙ ap goes_on (left refl)))
+on_then false goes lines line on left is went = all_more (λ (l : Line). goes_on l.result ≡ true) lines line (on refl) (sym is ∙ went)
+on_then true goes lines line on left is went = absurd (true≢false (sym went ∙ is ∙ ap goes_on (left refl)))
 
 off_then : (failed goes : Bool) (lines : List Line) (line : Line) → (failed ≡ false → AllGoOn lines) → (failed ≡ true → SomeStops lines)
     → goes ≡ goes_on line.result → goes ≡ false → SomeStops (lines ++ line ∷ [])
-off_then false goes lines line on off is no = off_now lines line (sym is ∙ no)
-off_then true goes lines line on off is no = off_more lines line (off refl)
+off_then false goes lines line on off is stops = off_now lines line (sym is ∙ stops)
+off_then true goes lines line on off is stops = off_more lines line (off refl)
 
 module _ {S : Type 0} {g : Ghosts S} {C : Type 0} (settings : Settings) (Tells : C → ℕ → C → Type 0) where
   pub none_so_far : (clock : C) (old : Spool S g) (had held : Option (List ℕ)) → SoFar settings Tells false 0 clock clock old old had had held held

@@ -1,5 +1,5 @@
 -- Two questions of one spool, one after the other.
-use Rattle.std.proofs.Common.{◌≡◌, ◌≤◌, Bool, false, Option, Some, None, sym, subst, ◌∙◌, arith}
+use Rattle.std.proofs.Common.{◌≡◌, Bool, false, sym, subst, ◌∙◌, arith}
 use Rattle.sqlite.specs.Store.{Ghosts}
 use Rattle.sqlite.specs.State.{HasCleanDisk}
 use Rattle.uu_database.specs.Calls.{StaysUnclean}

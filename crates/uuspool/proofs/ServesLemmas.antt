@@ -1,14 +1,18 @@
 -- A line that was served to a writer whose bytes are known.
-use Rattle.std.proofs.Common.{◌≡◌, ◌∙◌, ℕ, List, [], Option, Some, None, Result, Ok, Err, IfErr, IsSome, subst, sym}
+use Rattle.std.proofs.Common.{◌≡◌, ◌∙◌, ℕ, List, [], Option, Some, None, Result, Ok, IfErr, IsSome, subst, sym}
 use Rattle.std.proofs.lemmas.List.{append_cancel_left}
 use Rattle.std.specs.Io.KnownBytes.{Appends}
 use Rattle.sqlite.specs.Store.{Ghosts}
+use Rattle.uu_times.specs.declared.moment.Moment.{Moment}
+use Rattle.uu_line.specs.Lines.{MeansLine}
+use Rattle.uu_line.specs.declared.line.CommandLine.{CommandLine}
 use Rattle.uu_settings.specs.declared.settings.Settings.{Settings}
+use Rattle.uu_request.specs.Requests.{request_of}
 use Rattle.uu_request.specs.declared.request.Request.{Request}
 use Rattle.uu_store.specs.declared.spool.Spool.{Spool}
-use Rattle.uuspool.proofs.AskLemmas.{ends_as}
+use Rattle.uuspool.proofs.AskLemmas.{ends_as, words_ask}
 use Rattle.uuspool.proofs.ServedLemmas.{Appends-nothing, broken_as, printed_as}
-use Rattle.uuspool.specs.Served.{Ask, EndsAs, IsFaultOf, IsServed, answered_text}
+use Rattle.uuspool.specs.Served.{Ask, EndsAs, IsFaultOf, IsMomentOf, IsServed, answered_text, second_of}
 use Rattle.uuspool.specs.ServedLines.{Line, Serves}
 use Rattle.uuspool.specs.declared.fault.Fault.{Fault}
 
@@ -35,6 +39,17 @@ served_as settings request old new written other r over it = record {
   failed = λ had. (let was = it.failed had in (was.0, over [] was.1, was.2));
 }
 
+-- words end as their line does
+pub words_end : {S : Type 0} {g : Ghosts S} (settings : Settings) (line : CommandLine) (at : Moment) (input : List ℕ) (words : List (List ℕ)) (now : ℕ)
+    → MeansLine words line → IsMomentOf settings (second_of line now) at
+    → (old new : Spool S g) (written : List ℕ → Type 0) (Unchanged : Type 0) (r : Result ℕ Fault)
+    → EndsAs r ((request : Request) × (request_of settings at input line ≡ Ok request) × IsServed settings request old new written r) Unchanged
+    → EndsAs r ((request : Request) × Ask settings words now input (Ok request) × IsServed settings request old new written r) Unchanged
+words_end settings line at input words now means moment old new written Unchanged r =
+    ends_as r ((request : Request) × (request_of settings at input line ≡ Ok request) × IsServed settings request old new written r) Unchanged
+    ((request : Request) × Ask settings words now input (Ok request) × IsServed settings request old new written r) Unchanged
+    (λ served. (served.0, words_ask settings line at input words now means moment (Ok served.0) served.1, served.2)) (λ kept. kept)
+
 -- a line whose output is what the known bytes grew by
 pub line_serves : {S : Type 0} {g : Ghosts S} (settings : Settings) (line : Line) (old new : Spool S g) (before after : Option (List ℕ)) (Still : Type 0)
     → EndsAs line.result
@@ -44,7 +59,11 @@ pub line_serves : {S : Type 0} {g : Ghosts S} (settings : Settings) (line : Line
     → Serves settings line old new
 line_serves settings line old new before after Still ends still told known wrote = record {
   ends =
-      ends_as line.result _ _ _ _
+      ends_as line.result
+      ((request : Request) × Ask settings line.words line.now line.input (Ok request) × IsServed settings request old new (λ output. Appends before after output) line.result)
+      ((new ≡ old) × Still)
+      ((request : Request) × Ask settings line.words line.now line.input (Ok request) × IsServed settings request old new (λ output. line.output ≡ output) line.result)
+      ((new ≡ old) × (line.output ≡ []))
       (λ served. (
         served.0,
         served.1,

@@ -1,5 +1,5 @@
 -- The oldest of jobs that are within the moments is so too.
-use Rattle.std.proofs.Common.{◌≡◌, ℕ, ◌<◌, ◌≤◌, min, List, [], ◌∷◌, length, map, get_or, Option, Some, All, sym, ◌∙◌, arith}
+use Rattle.std.proofs.Common.{◌≡◌, ℕ, ◌≤◌, min, List, [], ◌∷◌, map, get_or, Some, All, arith}
 use Rattle.std.specs.List.{fold, reduce, AllByRecursion}
 use Rattle.std.proofs.lemmas.List.Elements.{All-filter, All-from_recursion, All-head, All-map, All-weaker}
 use Rattle.uu_times.specs.Moment.{last_second}

@@ -1,4 +1,4 @@
-use Rattle.std.proofs.Common.{◌≡◌, ◌∙◌, List, ℕ, refl, subst}
+use Rattle.std.proofs.Common.{◌∙◌, List, ℕ, refl, subst}
 use Rattle.std.specs.Io.KnownBytes.{Appends}
 use Rattle.uu_core.specs.Queues.{AreQueues}
 use Rattle.uu_core.specs.declared.job.JobHead.{JobHead}

@@ -1,5 +1,5 @@
 -- What holds after both questions, or after the first where that had no answer.
-use Rattle.std.proofs.Common.{◌≡◌, ◌∙◌, [], None, Some, refl}
+use Rattle.std.proofs.Common.{[], None, Some, refl}
 use Rattle.uuspool.proofs.PairLemmas.{clean_before, marked_later}
 use Rattle.uuspool.proofs.ServedLemmas.{never_failed}
 use Rattle.uuspool.proofs.answer.systems_and_jobs.Goals as goal

@@ -54,8 +54,8 @@ returns-in-Ok g c =
       c.goes_on-goes_on.ensures,
     )
 
-pub returns : goal.returns
-returns g c =
+pub returns-in-Err-tell : goal.returns-in-Err-tell
+returns-in-Err-tell g c =
     let answer = c.answer_to-answer.result in
     let line : Line = line_with (map string_bytes c.in-Ok-Some.frame.words.items) c.in-Some.now c.in-Ok-Some.frame.input.items answer.output.items answer.end in
     let request : IsRequestLine line = (

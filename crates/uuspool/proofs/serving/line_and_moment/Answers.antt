@@ -1,7 +1,7 @@
 use Rattle.std.proofs.Common.{inl, map, refl, subst, sym}
 use Rattle.std.specs.String.{string_bytes}
 use Rattle.uu_times.specs.Moment.{IsPast}
-use Rattle.uuspool.specs.Served.{IsFaultOf, IsMomentOf}
+use Rattle.uuspool.specs.Served.{IsFaultOf}
 use Rattle.uuspool.proofs.serving.line_and_moment.Goals as goal
 
 pub returns-in-Err-moment_of-clause-fault : goal.returns-in-Err-moment_of-clause-fault
