@@ -20,6 +20,7 @@ use uu_times::{Moment, SysFile, TimeFault, Timetables, Windows, Zone, read_sys, 
 // ---- names
 
 /// A call that reads a name.
+#[derive(Clone, Copy)]
 enum NameCall {
     Site(&'static str),
     SiteBytes(&'static [u8]),
@@ -71,6 +72,7 @@ fn names(rt: HostRuntime) {
 // ---- mail
 
 /// A call on a message.
+#[derive(Clone, Copy)]
 enum MailCall<'a> {
     Envelope(&'a Word, &'a DateTime, &'a SiteName),
     WayBack(&'a [u8]),
@@ -123,6 +125,7 @@ fn mail(rt: HostRuntime) {
 // ---- times
 
 /// A call on times.
+#[derive(Clone, Copy)]
 enum TimeCall<'a> {
     Ranges,
     Predefined,
@@ -191,6 +194,7 @@ fn sys_file(alloc: Global, text: &[u8]) -> Result<SysFile, TimeFault> {
 // ---- maps
 
 /// A call on a map.
+#[derive(Clone, Copy)]
 enum MapCall {
     Split,
     Entry(&'static [u8]),
@@ -266,6 +270,7 @@ fn told(rt: &impl Abort, alloc: Global, machine: &Machine) -> String {
 }
 
 /// What is asked of a machine.
+#[derive(Clone, Copy)]
 enum Question {
     Choose,
     NextCalls,
@@ -275,6 +280,7 @@ enum Question {
 }
 
 /// What a machine is asked.
+#[derive(Clone, Copy)]
 struct Asking<'a> {
     question: Question,
     machine: &'a Machine,

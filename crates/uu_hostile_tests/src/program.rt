@@ -433,6 +433,7 @@ fn a_load_into_files(rt: HostRuntime) {
 // ---- words, settings, input and faults
 
 /// A call of the program's library that asks no spool.
+#[derive(Clone, Copy)]
 enum LibraryCall<'a> {
     Words(&'a [String]),
     Settings(&'a str),
