@@ -1,4 +1,5 @@
-// Databases are taken as a spool and files are closed while memory is short, and a whole stretch of work.
+// Databases are taken as a spool and files are closed while memory is short, and a whole stretch of
+// work.
 ghost use Rattle.std.specs.Prelude.{◌≡◌, false};
 
 use crate::places::{
@@ -23,7 +24,8 @@ const FULL: &[Order] = &[
     Order::Failed("unc"),
 ];
 
-/// What came of an `adopt`: whether a request was refused, what it told, and what the database shows, where it can be asked.
+/// What came of an `adopt`: whether a request was refused, what it told, and what the database
+/// shows, where it can be asked.
 #[derive(Drop)]
 struct Adopted {
     refused: bool,
@@ -31,7 +33,8 @@ struct Adopted {
     shown: String,
 }
 
-/// Takes the database while memory is short. Where it finds none, the connection is handed back idle, and a second `adopt` succeeds.
+/// Takes the database while memory is short. Where it finds none, the connection is handed back
+/// idle, and a second `adopt` succeeds.
 fn adopt_short<S: Alter + Drop>(
     rt: &impl Abort,
     alloc: Global,
@@ -104,7 +107,10 @@ fn expect_in_files<R: Abort + Print>(rt: &R, alloc: Global, name: &str, contents
     let mut looks = Looks::new(rt, alloc, contents, MANY_PAGES);
     for short in BOTH {
         let mut count = Count::new();
-        for n in (1..MOST).filter(|n| short.is_tried(*n)) {
+        for n in 1..MOST {
+            if !short.is_tried(n) {
+                continue;
+            }
             let files = files_of(rt, alloc, contents);
             let (adopted, files) = adopted_files(rt, alloc, files, MANY_PAGES, n, short);
             if adopted.outcome != Outcome::Store {
@@ -151,7 +157,10 @@ fn adopt_in_memory(rt: HostRuntime) {
     for (name, orders) in IN_MEMORY {
         for short in BOTH {
             let mut count = Count::new();
-            for n in (1..MOST).filter(|n| short.is_tried(*n)) {
+            for n in 1..MOST {
+                if !short.is_tried(n) {
+                    continue;
+                }
                 let conn = Connection::open_in_memory(alloc).expect(&rt, "memory");
                 let mut want = String::new(alloc);
                 let conn = if orders.is_empty() {
@@ -220,7 +229,10 @@ fn closes(rt: HostRuntime) {
     let mut looks = Looks::new(&rt, alloc, &contents, FEW_PAGES);
     for short in BOTH {
         let mut count = Count::new();
-        for n in (1..MOST).filter(|n| short.is_tried(*n)) {
+        for n in 1..MOST {
+            if !short.is_tried(n) {
+                continue;
+            }
             let files = files_of(&rt, alloc, &nothing(alloc));
             let (refused, outcome, files) = closed_files(&rt, alloc, files, n, short);
             let left = left_of(&rt, alloc, files);
@@ -233,7 +245,8 @@ fn closes(rt: HostRuntime) {
     }
 }
 
-/// What came of a stretch of work: whether a request was refused, what is told, and how many commands were answered.
+/// What came of a stretch of work: whether a request was refused, what is told, and how many
+/// commands were answered.
 #[derive(Clone, Copy)]
 struct Worked {
     refused: bool,
@@ -300,7 +313,8 @@ fn states(rt: &impl Abort, alloc: Global) -> Vec<String> {
     states
 }
 
-/// The files keep the state after the commands that were answered, or where the store failed after one more.
+/// The files keep the state after the commands that were answered, or where the store failed after
+/// one more.
 fn expect_worked(
     rt: &impl Abort,
     alloc: Global,
@@ -330,7 +344,10 @@ fn stretches_of_work(rt: HostRuntime) {
     let mut looks = Looks::new(&rt, alloc, &nothing(alloc), FEW_PAGES);
     for short in BOTH {
         let mut count = Count::new();
-        for n in (1..MOST).filter(|n| short.is_tried(*n)) {
+        for n in 1..MOST {
+            if !short.is_tried(n) {
+                continue;
+            }
             let files = files_of(&rt, alloc, &nothing(alloc));
             let (worked, files) = worked_files(&rt, alloc, files, n, short);
             let left = left_of(&rt, alloc, files);

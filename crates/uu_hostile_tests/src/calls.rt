@@ -1,4 +1,5 @@
-// The calls of a spool: over a database in memory and over the files of a disk in memory, both freshly opened and with its statements kept.
+// The calls of a spool: over a database in memory and over the files of a disk in memory, both
+// freshly opened and with its statements kept.
 use crate::places::{
     Contents, FEW_PAGES, Left, MANY_PAGES, Visitor, nothing, picture, prepared, shown, visit_files,
     visit_memory,
@@ -137,7 +138,8 @@ fn faked<S: Alter>(
     Ok(Got::End(RunEnd { replies, stopped }))
 }
 
-/// What a call has to answer with ample memory, its replies, and what is shown before it and after each of its commands.
+/// What a call has to answer with ample memory, its replies, and what is shown before it and after
+/// each of its commands.
 #[derive(Drop)]
 struct Wanted {
     text: String,
@@ -509,7 +511,10 @@ fn calls_in_memory(rt: HostRuntime) {
         let mut trial = new_trial(&rt, alloc, before, *act);
         for short in BOTH {
             let mut count = Count::new();
-            for n in (1..MOST).filter(|n| short.is_tried(*n)) {
+            for n in 1..MOST {
+                if !short.is_tried(n) {
+                    continue;
+                }
                 trial.n = n;
                 trial.short = short;
                 visit_memory(&rt, alloc, before, &mut trial);
@@ -552,7 +557,10 @@ fn expect_in_files<R: Abort + Print>(
     let mut trial = new_trial(rt, alloc, before, act);
     for short in BOTH {
         let mut count = Count::new();
-        for n in (1..MOST).filter(|n| short.is_tried(*n)) {
+        for n in 1..MOST {
+            if !short.is_tried(n) {
+                continue;
+            }
             trial.n = n;
             trial.short = short;
             let left = visit_files(rt, alloc, &contents, options, orders, &mut trial);

@@ -1,54 +1,105 @@
 // The calls of the crates below the spool.
 ghost use Rattle.std.specs.Prelude.{◌≡◌};
 
-use crate::refusing::{BOTH, Count, MOST, each_refused, outcome_of, refuse, text_of, was_refused};
+use crate::refusing::{
+    BOTH, Call, Count, MOST, each_refused, outcome_of, refuse, text_of, was_refused,
+};
 use crate::values::{
     HANDED_ON, MAP, MESSAGE, Order, SUNDAY, SYS_FILE, Work, command, moment, site, word,
 };
 use jiff_core::civil::{Date, DateTime, Time};
-use std::alloc::Global;
+use std::alloc::{AllocError, Global};
 use std::io::Print;
 use std::process::Abort;
 use uu_core::plain::Machine;
-use uu_core::{choose, next_calls, queues};
-use uu_map::{EntryText, MapFault, read_entry, split};
+use uu_core::{Due, JobHead, NextCall, Queue, choose, next_calls, queues};
+use uu_map::{Entry, EntryText, MapFault, read_entry, split};
 use uu_names::{NameFault, Path, SiteName, Word, envelope, return_path};
-use uu_times::{SysFile, TimeFault, Timetables, Windows, Zone, read_sys, read_time};
+use uu_times::{Moment, SysFile, TimeFault, Timetables, Windows, Zone, read_sys, read_time};
+
+// ---- names
+
+/// A call that reads a name.
+#[derive(Clone, Copy)]
+enum NameCall {
+    Site(&'static str),
+    SiteBytes(&'static [u8]),
+    Word(&'static str),
+    WordBytes(&'static [u8]),
+    Path(&'static str),
+    PathBytes(&'static [u8]),
+}
+
+/// What is read.
+#[derive(Debug, Drop)]
+enum Named {
+    Site(Result<SiteName, NameFault>),
+    Word(Result<Word, NameFault>),
+    Path(Result<Path, NameFault>),
+}
+
+impl Call for NameCall {
+    type Answer = Named;
+
+    fn made(&self, alloc: Global) -> Named {
+        match self {
+            NameCall::Site(text) => Named::Site(SiteName::parse(alloc, text)),
+            NameCall::SiteBytes(bytes) => Named::Site(SiteName::from_bytes(alloc, bytes)),
+            NameCall::Word(text) => Named::Word(Word::parse(alloc, text)),
+            NameCall::WordBytes(bytes) => Named::Word(Word::from_bytes(alloc, bytes)),
+            NameCall::Path(text) => Named::Path(Path::parse(alloc, text)),
+            NameCall::PathBytes(bytes) => Named::Path(Path::from_bytes(alloc, bytes)),
+        }
+    }
+}
+
+const NAME_CALLS: [(&str, NameCall); 6] = [
+    ("SiteName::parse", NameCall::Site("unc-ch")),
+    ("SiteName::from_bytes", NameCall::SiteBytes(b"unc-ch")),
+    ("Word::parse", NameCall::Word("/tmp/a")),
+    ("Word::from_bytes", NameCall::WordBytes(b"/tmp/a")),
+    ("Path::parse", NameCall::Path("duke!unc!ann")),
+    ("Path::from_bytes", NameCall::PathBytes(b"duke!unc!ann")),
+];
 
 #[test]
 fn names(rt: HostRuntime) {
-    let alloc = rt.alloc();
-    each_refused(
-        &rt,
-        alloc,
-        "SiteName::parse",
-        || SiteName::parse(alloc, "unc-ch"),
-    );
-    each_refused(
-        &rt,
-        alloc,
-        "SiteName::from_bytes",
-        || SiteName::from_bytes(alloc, b"unc-ch"),
-    );
-    each_refused(&rt, alloc, "Word::parse", || Word::parse(alloc, "/tmp/a"));
-    each_refused(
-        &rt,
-        alloc,
-        "Word::from_bytes",
-        || Word::from_bytes(alloc, b"/tmp/a"),
-    );
-    each_refused(
-        &rt,
-        alloc,
-        "Path::parse",
-        || Path::parse(alloc, "duke!unc!ann"),
-    );
-    each_refused(
-        &rt,
-        alloc,
-        "Path::from_bytes",
-        || Path::from_bytes(alloc, b"duke!unc!ann"),
-    );
+    for (name, call) in &NAME_CALLS {
+        each_refused(&rt, rt.alloc(), name, call);
+    }
+}
+
+// ---- mail
+
+/// A call on a message.
+#[derive(Clone, Copy)]
+enum MailCall<'a> {
+    Envelope(&'a Word, &'a DateTime, &'a SiteName),
+    WayBack(&'a [u8]),
+}
+
+/// What it answers.
+#[derive(Debug, Drop)]
+enum Mailed {
+    Bytes(Result<Vec<u8>, NameFault>),
+    Way(Result<(Path, usize), NameFault>),
+}
+
+impl Call for MailCall<'_> {
+    type Answer = Mailed;
+
+    fn made(&self, alloc: Global) -> Mailed {
+        match self {
+            MailCall::Envelope(user, local, here) => {
+                if (1000..=9999).contains(&local.date.year) {
+                    Mailed::Bytes(envelope(alloc, user, local, here, MESSAGE))
+                } else {
+                    Mailed::Bytes(Err(NameFault::NoEnvelope))
+                }
+            }
+            MailCall::WayBack(message) => Mailed::Way(return_path(alloc, message)),
+        }
+    }
 }
 
 /// The second of a moment at which the day and the hour have one digit.
@@ -65,42 +116,68 @@ fn mail(rt: HostRuntime) {
     let user = word(&rt, alloc, "ann");
     let here = site(&rt, alloc, "mysite");
     let local = local_time(&rt);
-    let written = || {
-        if (1000..=9999).contains(&local.date.year) {
-            envelope(alloc, &user, &local, &here, MESSAGE)
-        } else {
-            Err(NameFault::NoEnvelope)
+    let written = MailCall::Envelope(&user, &local, &here);
+    each_refused(&rt, alloc, "envelope", &written);
+    let read = MailCall::WayBack(HANDED_ON);
+    each_refused(&rt, alloc, "return_path", &read);
+}
+
+// ---- times
+
+/// A call on times.
+#[derive(Clone, Copy)]
+enum TimeCall<'a> {
+    Ranges,
+    Predefined,
+    Text(&'a str, &'a Timetables),
+    Sys(&'a [u8]),
+}
+
+/// What it answers.
+#[derive(Debug, Drop)]
+enum Timed {
+    Ranges(Result<Option<Windows>, AllocError>),
+    Predefined(Result<(), TimeFault>),
+    Text(Result<Windows, TimeFault>),
+    Sys(Result<SysFile, TimeFault>),
+}
+
+impl Call for TimeCall<'_> {
+    type Answer = Timed;
+
+    fn made(&self, alloc: Global) -> Timed {
+        match self {
+            TimeCall::Ranges => Timed::Ranges(Windows::from_ranges(alloc, &[(0, 10), (12, 12)])),
+            TimeCall::Predefined => Timed::Predefined(match Timetables::predefined(alloc) {
+                Ok(_) => Ok(()),
+                Err(fault) => Err(fault),
+            }),
+            TimeCall::Text(text, tables) => Timed::Text(read_time(alloc, text, tables)),
+            TimeCall::Sys(text) => Timed::Sys(sys_file(alloc, text)),
         }
-    };
-    each_refused(&rt, alloc, "envelope", written);
-    each_refused(&rt, alloc, "return_path", || return_path(alloc, HANDED_ON));
+    }
 }
 
 #[test]
 fn times(rt: HostRuntime) {
     let alloc = rt.alloc();
-    let ranges = [(0, 10), (12, 12)];
-    each_refused(
-        &rt,
-        alloc,
-        "Windows::from_ranges",
-        || Windows::from_ranges(alloc, &ranges),
-    );
-    let predefined = || match Timetables::predefined(alloc) {
-        Ok(_) => Ok(()),
-        Err(fault) => Err(fault),
-    };
-    each_refused(&rt, alloc, "Timetables::predefined", predefined);
     let tables = Timetables::predefined(alloc).expect(&rt, "memory");
-    for (what, text) in [
-        ("read_time (a list)", "Wk2305-0855,Sa,Su2305-1655"),
-        ("read_time (a table)", "night"),
-        ("read_time (a fault)", "Wk2305-0755|Su2400-2400"),
-    ] {
-        each_refused(&rt, alloc, what, || read_time(alloc, text, &tables));
+    let list = "Wk2305-0855,Sa,Su2305-1655";
+    let calls = [
+        ("Windows::from_ranges", TimeCall::Ranges),
+        ("Timetables::predefined", TimeCall::Predefined),
+        ("read_time (a list)", TimeCall::Text(list, &tables)),
+        ("read_time (a table)", TimeCall::Text("night", &tables)),
+        (
+            "read_time (a fault)",
+            TimeCall::Text("Wk2305-0755|Su2400-2400", &tables),
+        ),
+        ("read_sys", TimeCall::Sys(SYS_FILE)),
+        ("read_sys (a fault)", TimeCall::Sys(TWICE)),
+    ];
+    for (name, call) in &calls {
+        each_refused(&rt, alloc, name, call);
     }
-    each_refused(&rt, alloc, "read_sys", || sys_file(alloc, SYS_FILE));
-    each_refused(&rt, alloc, "read_sys (a fault)", || sys_file(alloc, TWICE));
 }
 
 /// A sys file with a fault in its last line.
@@ -114,6 +191,33 @@ fn sys_file(alloc: Global, text: &[u8]) -> Result<SysFile, TimeFault> {
     read_sys(alloc, text)
 }
 
+// ---- maps
+
+/// A call on a map.
+#[derive(Clone, Copy)]
+enum MapCall {
+    Split,
+    Entry(&'static [u8]),
+}
+
+/// What it answers.
+#[derive(Debug, Drop)]
+enum Mapped {
+    Texts(Result<Vec<EntryText>, MapFault>),
+    Entry(Result<Entry, MapFault>),
+}
+
+impl Call for MapCall {
+    type Answer = Mapped;
+
+    fn made(&self, alloc: Global) -> Mapped {
+        match self {
+            MapCall::Split => Mapped::Texts(entries(alloc, MAP)),
+            MapCall::Entry(text) => Mapped::Entry(read_entry(alloc, text)),
+        }
+    }
+}
+
 /// Where the entries of a map text of at most so many bytes are.
 fn entries(alloc: Global, text: &[u8]) -> Result<Vec<EntryText>, MapFault> {
     if text.len() > 4_194_304 {
@@ -122,17 +226,17 @@ fn entries(alloc: Global, text: &[u8]) -> Result<Vec<EntryText>, MapFault> {
     split(alloc, text)
 }
 
+const MAP_CALLS: [(&str, MapCall); 3] = [
+    ("split", MapCall::Split),
+    ("read_entry", MapCall::Entry(MAP)),
+    ("read_entry (a fault)", MapCall::Entry(b"#N unc, a\n a*b\n")),
+];
+
 #[test]
 fn maps(rt: HostRuntime) {
-    let alloc = rt.alloc();
-    each_refused(&rt, alloc, "split", || entries(alloc, MAP));
-    each_refused(&rt, alloc, "read_entry", || read_entry(alloc, MAP));
-    each_refused(
-        &rt,
-        alloc,
-        "read_entry (a fault)",
-        || read_entry(alloc, b"#N unc, a\n a*b\n"),
-    );
+    for (name, call) in &MAP_CALLS {
+        each_refused(&rt, rt.alloc(), name, call);
+    }
 }
 
 // ---- the plain machine
@@ -165,28 +269,75 @@ fn told(rt: &impl Abort, alloc: Global, machine: &Machine) -> String {
     (format!(in alloc; "{heads} {systems}")).expect(rt, "memory")
 }
 
+/// What is asked of a machine.
+#[derive(Clone, Copy)]
+enum Question {
+    Choose,
+    NextCalls,
+    Queues,
+    Heads,
+    Due,
+}
+
+/// What a machine is asked.
+#[derive(Clone, Copy)]
+struct Asking<'a> {
+    question: Question,
+    machine: &'a Machine,
+    heads: &'a [JobHead],
+    at: &'a Moment,
+    zone: &'a Zone,
+}
+
+/// What it answers.
+#[derive(Debug, Drop)]
+enum Chosen {
+    Due(Result<Vec<Due>, AllocError>),
+    Calls(Result<Vec<NextCall>, AllocError>),
+    Queues(Result<Vec<Queue>, AllocError>),
+    Heads(Result<Vec<JobHead>, AllocError>),
+}
+
+impl Call for Asking<'_> {
+    type Answer = Chosen;
+
+    fn made(&self, alloc: Global) -> Chosen {
+        let systems = self.machine.systems();
+        match self.question {
+            Question::Choose => Chosen::Due(choose(alloc, systems, self.heads, self.at)),
+            Question::NextCalls => {
+                Chosen::Calls(next_calls(alloc, systems, self.heads, SUNDAY, self.zone))
+            }
+            Question::Queues => Chosen::Queues(queues(alloc, self.heads)),
+            Question::Heads => Chosen::Heads(self.machine.heads(alloc)),
+            Question::Due => Chosen::Due(self.machine.due(alloc, self.at)),
+        }
+    }
+}
+
 #[test]
 fn choices(rt: HostRuntime) {
     let alloc = rt.alloc();
     let machine = machine(&rt, alloc);
     let at = moment(&rt, SUNDAY);
-    let heads = machine.heads(alloc).expect(&rt, "memory");
-    each_refused(
-        &rt,
-        alloc,
-        "choose",
-        || choose(alloc, machine.systems(), &heads, &at),
-    );
     let zone = Zone::fixed(0).expect(&rt, "a zone");
-    each_refused(
-        &rt,
-        alloc,
-        "next_calls",
-        || next_calls(alloc, machine.systems(), &heads, SUNDAY, &zone),
-    );
-    each_refused(&rt, alloc, "queues", || queues(alloc, &heads));
-    each_refused(&rt, alloc, "Machine::heads", || machine.heads(alloc));
-    each_refused(&rt, alloc, "Machine::due", || machine.due(alloc, &at));
+    let heads = machine.heads(alloc).expect(&rt, "memory");
+    for (name, question) in [
+        ("choose", Question::Choose),
+        ("next_calls", Question::NextCalls),
+        ("queues", Question::Queues),
+        ("Machine::heads", Question::Heads),
+        ("Machine::due", Question::Due),
+    ] {
+        let asking = Asking {
+            question,
+            machine: &machine,
+            heads: &heads,
+            at: &at,
+            zone: &zone,
+        };
+        each_refused(&rt, alloc, name, &asking);
+    }
 }
 
 /// A step of a machine finds no memory: it changed nothing, and the same step is then made.

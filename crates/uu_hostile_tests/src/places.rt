@@ -56,7 +56,8 @@ pub(crate) fn play<S: Alter>(
     }
 }
 
-/// Everything that a spool shows: the next number, the systems with their calls, what is due, a map entry, and the jobs with their bytes.
+/// Everything that a spool shows: the next number, the systems with their calls, what is due, a map
+/// entry, and the jobs with their bytes.
 pub(crate) fn picture<S: Alter>(rt: &impl Abort, alloc: Global, spool: &mut Spool<S>) -> String {
     let mut text = String::new(alloc);
     let next = spool.next().expect(rt, "an answer");
@@ -156,7 +157,8 @@ pub(crate) fn nothing(alloc: Global) -> Contents {
     }
 }
 
-/// What a visit leaves: what was synced, which every crash leaves, and all that was written, which a crash may leave.
+/// What a visit leaves: what was synced, which every crash leaves, and all that was written, which
+/// a crash may leave.
 #[derive(Drop)]
 pub(crate) struct Left {
     pub(crate) synced: Contents,
@@ -201,7 +203,8 @@ pub(crate) fn left_of(rt: &impl Abort, alloc: Global, mut files: MemoryFiles) ->
     }
 }
 
-/// Opens files with these contents as a spool, has it carry out the commands and visited, and lets it go.
+/// Opens files with these contents as a spool, has it carry out the commands and visited, and lets
+/// it go.
 pub(crate) fn visit_files<R: Abort, V: Visitor>(
     rt: &R,
     alloc: Global,
@@ -307,7 +310,8 @@ impl Looks {
         }
     }
 
-    /// Whether a spool in files with these contents shows this. The same contents are not looked at again.
+    /// Whether a spool in files with these contents shows this. The same contents are not looked at
+    /// again.
     pub(crate) fn show(
         &mut self,
         rt: &impl Abort,

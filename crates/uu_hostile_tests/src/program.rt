@@ -1,17 +1,18 @@
-// The calls of the program's library: words, settings, lines that are served, batches, reports and faults.
+// The calls of the program's library: words, settings, lines that are served, batches, reports and
+// faults.
 use crate::places::{FEW_PAGES, Left, Visitor, nothing, picture, shown, visit_files, visit_memory};
-use crate::refusing::{BOTH, Count, MOST, Outcome, Short, each_refused, refuse, was_refused};
+use crate::refusing::{BOTH, Call, Count, MOST, Outcome, Short, each_refused, refuse, was_refused};
 use crate::values::{MAP, MESSAGE, SUNDAY, SYS_FILE, SYS_FILE_DUKE, TWO_SYSTEMS, moment};
 use sqlite::Alter;
-use std::alloc::Global;
+use std::alloc::{AllocError, Global};
 use std::io::Print;
 use std::process::Abort;
 use uu_core::{Due, Filter, JobHead, SystemRow};
-use uu_map::read_entry;
+use uu_map::{Entry, read_entry};
 use uu_store::{Spool, StoreFault};
 use uuspool::{
-    Clock, Fault, Settings, batch, fault_line, line_of, read_input, report_due, report_jobs,
-    report_links, report_status, serve,
+    Clock, Fault, Settings, SettingsFault, batch, fault_line, line_of, read_input, report_due,
+    report_jobs, report_links, report_status, serve,
 };
 
 const SETTINGS: &str = "name = \"mysite\"\noffset = 0\nspool = \"spool.db\"\nadmins = [\"root\"]\n";
@@ -191,8 +192,8 @@ fn shown_after(
     serves.shown
 }
 
-/// A line that is served while memory is short, after others: what is to be printed, and what is shown before it, after the first of its
-/// commands, and after all.
+/// A line that is served while memory is short, after others: what is to be printed, and what is
+/// shown before it, after the first of its commands, and after all.
 #[derive(Drop)]
 struct Trial {
     lines: &'static [Line],
@@ -274,7 +275,8 @@ impl Trial {
                     Outcome::Answer,
                 )
             }
-            // The store failed after a command that was answered, and there was no memory for that answer.
+            // The store failed after a command that was answered, and there was no memory for that
+            // answer.
             Err(Fault::Memory) if spool.next() == Err(StoreFault::Failed) => {
                 self.answered = 1;
                 told(out.is_empty(), Outcome::Store)
@@ -376,7 +378,10 @@ fn lines_are_served(rt: HostRuntime) {
         let mut trial = new_trial(&rt, alloc, lines, *line, output);
         for short in BOTH {
             let mut count = Count::new();
-            for n in (1..MOST).filter(|n| short.is_tried(*n)) {
+            for n in 1..MOST {
+                if !short.is_tried(n) {
+                    continue;
+                }
                 trial.n = n;
                 trial.short = short;
                 visit_memory(&rt, alloc, &[], &mut trial);
@@ -407,7 +412,10 @@ fn a_load_into_files(rt: HostRuntime) {
     let mut trial = new_trial(&rt, alloc, &[], ("load", SYS_FILE), output);
     for short in BOTH {
         let mut count = Count::new();
-        for n in (1..MOST).filter(|n| short.is_tried(*n)) {
+        for n in 1..MOST {
+            if !short.is_tried(n) {
+                continue;
+            }
             trial.n = n;
             trial.short = short;
             let left = visit_files(&rt, alloc, &nothing(alloc), FEW_PAGES, &[], &mut trial);
@@ -424,75 +432,119 @@ fn a_load_into_files(rt: HostRuntime) {
 
 // ---- words, settings, input and faults
 
+/// A call of the program's library that asks no spool.
+#[derive(Clone, Copy)]
+enum LibraryCall<'a> {
+    Words(&'a [String]),
+    Settings(&'a str),
+    Input,
+    Line(&'a Fault),
+    Due(&'a [Due]),
+    Links(&'a Entry),
+    Jobs(&'a [JobHead], &'a Settings),
+    Status(&'a [SystemRow], &'a Settings),
+}
+
+/// What it answers.
+#[derive(Debug, Drop)]
+enum Given {
+    Second(Result<Option<u64>, Fault>),
+    Settings(Result<Settings, SettingsFault>),
+    Bytes(Result<Vec<u8>, Fault>),
+    Line(Result<Vec<u8>, AllocError>),
+}
+
+impl Call for LibraryCall<'_> {
+    type Answer = Given;
+
+    fn made(&self, alloc: Global) -> Given {
+        match self {
+            LibraryCall::Words(words) => Given::Second(match line_of(alloc, words) {
+                Ok(line) => Ok(line.at),
+                Err(fault) => Err(fault),
+            }),
+            LibraryCall::Settings(text) => Given::Settings(Settings::read(alloc, text)),
+            LibraryCall::Input => Given::Bytes(read_input(alloc, &mut SYS_FILE)),
+            LibraryCall::Line(fault) => Given::Line(fault_line(alloc, fault)),
+            LibraryCall::Due(due) => Given::Bytes(report_due(alloc, due)),
+            LibraryCall::Links(entry) => Given::Bytes(report_links(alloc, entry)),
+            LibraryCall::Jobs(jobs, settings) => Given::Bytes(jobs_report(alloc, jobs, settings)),
+            LibraryCall::Status(rows, settings) => {
+                Given::Bytes(status_report(alloc, rows, settings))
+            }
+        }
+    }
+}
+
+/// The report of jobs that were handed in at a moment.
+fn jobs_report(alloc: Global, jobs: &[JobHead], settings: &Settings) -> Result<Vec<u8>, Fault> {
+    if jobs.iter().all(|job| job.queued <= LAST_SECOND) {
+        report_jobs(alloc, jobs, settings)
+    } else {
+        Err(Fault::Read)
+    }
+}
+
+/// The report of systems whose last calls were at a moment.
+fn status_report(alloc: Global, rows: &[SystemRow], settings: &Settings) -> Result<Vec<u8>, Fault> {
+    if rows.iter().all(|row| row.call.last <= LAST_SECOND) {
+        report_status(alloc, rows, settings)
+    } else {
+        Err(Fault::Read)
+    }
+}
+
+/// Lines that are none.
+const BAD_LINES: [&str; 6] = [
+    "nonsense",
+    "-h",
+    "send duke",
+    "mail duke!a phs!b",
+    "--as a\u{e9} list",
+    "kill x",
+];
+
 #[test]
 fn words(rt: HostRuntime) {
     let alloc = rt.alloc();
     for (_, _, (line, _), _) in LINES {
         let words = words_of(&rt, alloc, line);
-        let read = || match line_of(alloc, &words) {
-            Ok(line) => Ok(line.at),
-            Err(fault) => Err(fault),
-        };
-        each_refused(&rt, alloc, "line_of", read);
+        each_refused(&rt, alloc, "line_of", &LibraryCall::Words(&words));
     }
-    for line in [
-        "nonsense",
-        "-h",
-        "send duke",
-        "mail duke!a phs!b",
-        "--as a\u{e9} list",
-        "kill x",
-    ] {
+    for line in BAD_LINES {
         let words = words_of(&rt, alloc, line);
-        let read = || match line_of(alloc, &words) {
-            Ok(line) => Ok(line.at),
-            Err(fault) => Err(fault),
-        };
-        each_refused(&rt, alloc, "line_of (a fault)", read);
+        each_refused(&rt, alloc, "line_of (a fault)", &LibraryCall::Words(&words));
     }
 }
 
+/// Settings, and texts that are none.
+const SETTINGS_TEXTS: [(&str, &str); 5] = [
+    ("Settings::read", SETTINGS),
+    (
+        "Settings::read (zone)",
+        "name = \"a\"\nspool = \"s\"\nzone = \"EST5EDT,M3.2.0,M11.1.0\"\n",
+    ),
+    ("Settings::read (no toml)", "name ="),
+    ("Settings::read (nothing)", ""),
+    (
+        "Settings::read (bad admins)",
+        "name = \"a\"\nspool = \"s\"\nadmins = \"root\"\n",
+    ),
+];
+
 #[test]
 fn settings_are_read(rt: HostRuntime) {
-    let alloc = rt.alloc();
-    each_refused(
-        &rt,
-        alloc,
-        "Settings::read",
-        || Settings::read(alloc, SETTINGS),
-    );
-    let zone = "name = \"a\"\nspool = \"s\"\nzone = \"EST5EDT,M3.2.0,M11.1.0\"\n";
-    each_refused(
-        &rt,
-        alloc,
-        "Settings::read (zone)",
-        || Settings::read(alloc, zone),
-    );
-    for text in [
-        "name =",
-        "",
-        "name = \"a\"\nspool = \"s\"\nadmins = \"root\"\n",
-    ] {
-        each_refused(
-            &rt,
-            alloc,
-            "Settings::read (a fault)",
-            || Settings::read(alloc, text),
-        );
+    for (name, text) in SETTINGS_TEXTS {
+        each_refused(&rt, rt.alloc(), name, &LibraryCall::Settings(text));
     }
 }
 
 #[test]
 fn inputs_and_faults(rt: HostRuntime) {
     let alloc = rt.alloc();
-    each_refused(
-        &rt,
-        alloc,
-        "read_input",
-        || read_input(alloc, &mut SYS_FILE),
-    );
+    each_refused(&rt, alloc, "read_input", &LibraryCall::Input);
     for fault in [Fault::Input, Fault::TwoSystems, Fault::Read, Fault::Memory] {
-        each_refused(&rt, alloc, "fault_line", || fault_line(alloc, &fault));
+        each_refused(&rt, alloc, "fault_line", &LibraryCall::Line(&fault));
     }
 }
 
@@ -541,24 +593,12 @@ fn reports(rt: HostRuntime) {
         due,
     } = rows;
     let entry = read_entry(alloc, MAP).expect(&rt, "an entry");
-    each_refused(&rt, alloc, "report_due", || report_due(alloc, &due));
-    each_refused(&rt, alloc, "report_links", || report_links(alloc, &entry));
-    let jobs = || {
-        if heads.iter().all(|head| head.queued <= LAST_SECOND) {
-            report_jobs(alloc, &heads, &settings)
-        } else {
-            Err(Fault::Read)
-        }
-    };
-    each_refused(&rt, alloc, "report_jobs", jobs);
-    let status = || {
-        if systems.iter().all(|row| row.call.last <= LAST_SECOND) {
-            report_status(alloc, &systems, &settings)
-        } else {
-            Err(Fault::Read)
-        }
-    };
-    each_refused(&rt, alloc, "report_status", status);
+    let jobs = LibraryCall::Jobs(&heads, &settings);
+    let status = LibraryCall::Status(&systems, &settings);
+    each_refused(&rt, alloc, "report_due", &LibraryCall::Due(&due));
+    each_refused(&rt, alloc, "report_links", &LibraryCall::Links(&entry));
+    each_refused(&rt, alloc, "report_jobs", &jobs);
+    each_refused(&rt, alloc, "report_status", &status);
 }
 
 // ---- batches
@@ -590,7 +630,8 @@ fn requests(rt: &impl Abort, alloc: Global, count: usize) -> Vec<u8> {
     stream
 }
 
-/// A batch that is answered while memory is short: its answers to the first requests, none of them, one, and so on, with what is shown then.
+/// A batch that is answered while memory is short: its answers to the first requests, none of them,
+/// one, and so on, with what is shown then.
 #[derive(Drop)]
 struct Batch {
     settings: Settings,
@@ -622,8 +663,8 @@ impl Batch {
         }
     }
 
-    /// Each request was answered and carried out; or some of the first were, the next one was told want of memory and carried out or not,
-    /// and none behind it was.
+    /// Each request was answered and carried out; or some of the first were, the next one was told
+    /// want of memory and carried out or not, and none behind it was.
     fn judged(&self, shown: &str, out: &[u8], end: &Result<u8, Fault>) -> Outcome {
         let answered = self.told(out);
         let is_whole = answered == REQUESTS.len();
@@ -725,7 +766,10 @@ fn batches(rt: HostRuntime) {
     }
     for short in BOTH {
         let mut count = Count::new();
-        for n in (1..MOST).filter(|n| short.is_tried(*n)) {
+        for n in 1..MOST {
+            if !short.is_tried(n) {
+                continue;
+            }
             trial.n = n;
             trial.short = short;
             visit_memory(&rt, alloc, &[], &mut trial);

@@ -1,4 +1,5 @@
-// Readers that give one byte at a time, never end, break off or are interrupted, and what `read_input` answers of each.
+// Readers that give one byte at a time, never end, break off or are interrupted, and what
+// `read_input` answers of each.
 use std::alloc::Global;
 use std::io;
 use std::io::{ErrorKind, Read};

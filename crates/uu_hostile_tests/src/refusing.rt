@@ -1,8 +1,7 @@
-// Requests for memory that are refused, one after the other. `tests/refuse.c`, loaded before the C library, refuses them; it is told which
-// ones by requests of sizes that nothing else asks for. Where it is not loaded these are answered, nothing is refused, and each call is
-// made with ample memory alone.
-ghost use Rattle.std.specs.Prelude.{◌≡◌};
-
+// Requests for memory that are refused, one after the other. `tests/refuse.c`, loaded before the C
+// library, refuses them; it is told which ones by requests of sizes that nothing else asks for.
+// Where it is not loaded these are answered, nothing is refused, and each call is made with ample
+// memory alone.
 use std::alloc::Global;
 use std::fmt::Debug;
 use std::io::Print;
@@ -29,7 +28,8 @@ pub(crate) enum Short {
 pub(crate) const BOTH: [Short; 2] = [Short::Alone, Short::Onwards];
 
 impl Short {
-    /// Whether the nth request of a call of a spool is tried: each one alone, and each seventh with all later ones.
+    /// Whether the nth request of a call of a spool is tried: each one alone, and each seventh with
+    /// all later ones.
     pub(crate) fn is_tried(self, n: usize) -> bool {
         match self {
             Short::Alone => true,
@@ -93,7 +93,8 @@ impl Count {
         }
     }
 
-    /// Notes what a call made of a request, and tells whether it came to that one, or what it did is wrong.
+    /// Notes what a call made of a request, and tells whether it came to that one, or what it did
+    /// is wrong.
     pub(crate) fn note(&mut self, refused: bool, outcome: Outcome) -> Next {
         if outcome == Outcome::Wrong || (!refused && outcome != Outcome::Answer) {
             return Next::Wrong;
@@ -118,7 +119,8 @@ impl Count {
         next == Next::Request
     }
 
-    /// Tells what came of the requests of the call of this name, which `scripts/refused-memory` reads.
+    /// Tells what came of the requests of the call of this name, which `scripts/refused-memory`
+    /// reads.
     pub(crate) fn tell<R: Abort + Print>(&self, rt: &R, name: &str, short: Short) {
         let which = match short {
             Short::Alone => "refused",
@@ -148,8 +150,8 @@ pub(crate) fn text_of<T: Debug>(rt: &impl Abort, alloc: Global, value: &T) -> St
 
 /// Whether the text is that of an answer of want of memory.
 pub(crate) fn is_memory(text: &str) -> bool {
-    text == "Err(AllocError)"
-        || (text.starts_with("Err(") && text.trim_end_matches(')').ends_with("Memory"))
+    let end = text.trim_end_matches(')');
+    text.contains("Err(") && (end.ends_with("Memory") || end.ends_with("AllocError"))
 }
 
 /// What an answer is beside the one with ample memory.
@@ -163,23 +165,26 @@ pub(crate) fn outcome_of(text: &str, ample: &str) -> Outcome {
     }
 }
 
-/// Makes a call with ample memory, then with its first request refused, with its second, and so on until none was; and the same with all
-/// later ones refused, too. Each time it gives its answer or tells want of memory.
-pub(crate) fn each_refused<R: Abort + Print, T: Debug + Drop, F: Fn() -> T>(
-    rt: &R,
-    alloc: Global,
-    name: &str,
-    call: F,
-)
-    requires { F.IsAlwaysCallable call }
-{
-    let ample = text_of(rt, alloc, &call());
+/// A call, with what it is given.
+pub(crate) trait Call {
+    /// What it answers.
+    type Answer: Debug + Drop;
+
+    /// The call alone.
+    fn made(&self, alloc: Global) -> Self::Answer;
+}
+
+/// Makes a call with ample memory, then with its first request refused, with its second, and so on
+/// until none was; and the same with all later ones refused, too. Each time it gives its answer or
+/// tells want of memory.
+pub(crate) fn each_refused<R: Abort + Print, C: Call>(rt: &R, alloc: Global, name: &str, call: &C) {
+    let ample = text_of(rt, alloc, &call.made(alloc));
     assert!(rt; !is_memory(ample.as_str()), "no answer with ample memory");
     for short in BOTH {
         let mut count = Count::new();
         for n in 1..MOST {
             refuse(alloc, n, short);
-            let got = call();
+            let got = call.made(alloc);
             let refused = was_refused(alloc);
             let text = text_of(rt, alloc, &got);
             let outcome = outcome_of(text.as_str(), ample.as_str());
