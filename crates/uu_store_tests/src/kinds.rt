@@ -2,6 +2,8 @@
 // tests see that at each of its calls (`expect_stopped`). Here the database itself refuses a
 // statement, whose answer has more rows than a limit on its steps allows. No row that a spool writes
 // is too big, so that this kind is seen of the error alone.
+ghost use Rattle.std.specs.Prelude.{◌≡◌, false};
+
 use crate::order::{MONDAY, NIGHT, Order, Work, command};
 use crate::questions::Step::Does;
 use crate::questions::{Step, play};
