@@ -77,11 +77,11 @@ module _ {S : Type 0} {g : Ghosts S} (settings : Settings) (begun ended : Spool 
   -- a request that is of a line is of other words too
   request_as : (Is Other : Request → Type 0) → ((request : Request) → Is request → Other request) → (r : Result ℕ Fault) (exchange : Exchange)
       → IsOfRequest settings begun ended Is r exchange → IsOfRequest settings begun ended Other r exchange
-  request_as Is Other into (Ok status) exchange (request, is, it) = (request, into request is, it)
-  request_as Is Other into (Err (fault.Store why)) exchange (request, is, it) = (request, into request is, it)
-  request_as Is Other into (Err fault.Write) exchange (request, is, it) = (request, into request is, it)
+  request_as Is Other into (Ok status) exchange (request, is, served, same) = (request, into request is, served, same)
+  request_as Is Other into (Err (fault.Store why)) exchange (request, is, served, same) = (request, into request is, served, same)
+  request_as Is Other into (Err fault.Write) exchange (request, is, served, same) = (request, into request is, served, same)
   request_as Is Other into (Err fault.Memory) exchange it =
-      elim it [ inl done ↦ inl (done.0, into done.0 done.1, done.2) | inr not_done ↦ inr not_done ]
+      elim it [ inl done ↦ inl (done.0, into done.0 done.1, done.2, done.3) | inr not_done ↦ inr not_done ]
   request_as Is Other into (Err (fault.Words text help)) exchange it = it
   request_as Is Other into (Err (fault.Settings why)) exchange it = it
   request_as Is Other into (Err (fault.Name why)) exchange it = it
@@ -99,7 +99,7 @@ module _ {S : Type 0} {g : Ghosts S} (settings : Settings) (begun ended : Spool 
       words_fault (Ok status) is = tt
       words_fault (Err (fault.Time why)) is = inr (words_ask (Err (asking.Time why)) is)
       words_fault (Err fault.Input) is = words_ask (Err asking.Input) is
-      words_fault (Err (fault.Store why)) (call, request, is) = (call, (request, words_ask (Ok request) is))
+      words_fault (Err (fault.Store why)) (call, asked) = (call, (asked.0, words_ask (Ok asked.0) asked.1))
       words_fault (Err fault.Write) (request, is) = (request, words_ask (Ok request) is)
       words_fault (Err fault.Memory) is = tt
       words_fault (Err (fault.Words text help)) none = absurd none

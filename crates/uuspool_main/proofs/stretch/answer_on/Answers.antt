@@ -1,6 +1,7 @@
 use Rattle.std.proofs.Common.{◌≡◌, Ok, subst, sym}
 use Rattle.uu_request.specs.Requests.{request_of}
-use Rattle.uuspool_main.specs.Stretch.{HasMoment, IsOfWork, WasGiven}
+use Rattle.uu_store.specs.Exchanges.{exchange_of}
+use Rattle.uuspool_main.specs.Stretch.{HasMoment, IsOfLine, IsOfWork, WasGiven}
 use Rattle.uuspool_main.specs.declared.stretch.Work.{Work}
 use Rattle.uuspool_main.proofs.StretchLemmas.{line_given, of_words}
 use Rattle.uuspool_main.proofs.stretch.answer_on.Goals as goal
@@ -19,7 +20,8 @@ returns-in-Line g c =
     subst (λ (what : Work). WasGiven begun ended (IsOfWork settings begun ended what c.serve_line.result)) (sym c.in-Line.is)
     (let (commands, replies, stopped, ran, done) =
     line_given settings begun ended (λ request. request_of settings at input line ≡ Ok request) _ (c.lines_are_one_run.ensures.none begun) c.serve_line.result c.serve_line.ensures.ends
-    in let is = (done, c.serve_line.ensures.fault) in (commands, replies, stopped, ran, (is, of_words settings begun ended line at input c.serve_line.result _ is)))
+    in let is : IsOfLine settings begun ended line at input c.serve_line.result (exchange_of commands replies stopped) = (done, c.serve_line.ensures.fault) in
+    (commands, replies, stopped, ran, (is, of_words settings begun ended line at input c.serve_line.result (exchange_of commands replies stopped) is)))
 
 pub returns-in-Requests : goal.returns-in-Requests
 returns-in-Requests g c =
