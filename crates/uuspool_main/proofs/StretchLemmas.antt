@@ -1,6 +1,6 @@
 -- From the calls over a spool to a stretch of work over its files.
 use Rattle.std.proofs.Common.{◌≡◌, ◌⊎◌, ℕ, List, [], length, Option, None, Result, Ok, Err, inl, inr, refl, subst, sym}
-use Rattle.std.specs.Prelude.{IsTrue, IfOk, IfErr, ⊤}
+use Rattle.std.specs.Prelude.{IsTrue, IfOk, IfErr, ⊤, unwrap_or}
 use Rattle.sqlite_disk.specs.declared.Disk as disk
 use Rattle.sqlite_disk.specs.declared.Files.{Files}
 use Rattle.sqlite_wal.specs.Recovery.{Image}
@@ -117,6 +117,12 @@ module _ {S : Type 0} {g : Ghosts S} (settings : Settings) (begun ended : Spool 
           (λ request is. words_ask words now means moment (Ok request) is) r exchange done,
       words_fault words now means moment r told,
     )
+
+-- the moment of one of its seconds is a line's
+pub at_second : (settings : Settings) (second : Option ℕ) (now instant : ℕ) → unwrap_or second now ≡ instant → (r : Result Moment Fault) → IfOk r (IsMomentOf settings instant)
+    → IfOk r (λ at. (now : ℕ) × IsMomentOf settings (unwrap_or second now) at)
+at_second settings second now instant is (Ok at) moment = (now, subst (λ i. IsMomentOf settings i at) (sym is) moment)
+at_second settings second now instant is (Err why) none = tt
 
 -- ---- how a batch ended
 

@@ -19,7 +19,6 @@ use Rattle.uu_store.specs.Files.{IsStretch, IsClosedStretch}
 use Rattle.uu_store.specs.Spool.{connection_of}
 use Rattle.uu_store.specs.Openings.{Started}
 use Rattle.uu_store.specs.Stretches.{IsLetGo}
-use Rattle.uu_times.specs.Moment.{Shows, local_second}
 use Rattle.uu_times.specs.declared.moment.Moment.{Moment}
 use Rattle.uu_line.specs.Lines.{MeansLine}
 use Rattle.uu_line.specs.declared.line.CommandLine.{CommandLine}
@@ -52,9 +51,9 @@ module _ {D : Type 0} {g : disk.Ghosts D} where
 
 -- ---- what was given and answered
 
--- the moment of a line shows its second on the site's clock
+-- the moment of a line is that of its second, or where it gives none of another
 abbrev pub HasMoment : Settings → Work → Type 0
-HasMoment settings (work.Line line at input) = Shows at.local (local_second settings.zone at.second)
+HasMoment settings (work.Line line at input) = (now : ℕ) × IsMomentOf settings (second_of line now) at
 HasMoment settings work.Requests = ⊤
 
 -- a spool was given commands, and what came of them is such an exchange

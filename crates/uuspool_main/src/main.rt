@@ -5,8 +5,8 @@
 mod batching;
 mod stretch;
 
-ghost use Rattle.std.specs.Prelude.{IfOk};
-ghost use Rattle.uu_times.specs.Moment.{Shows, local_second};
+ghost use Rattle.std.specs.Prelude.{IfOk, unwrap_or};
+ghost use Rattle.uuspool.specs.Served.{IsMomentOf, second_of};
 ghost use Rattle.uuspool_main.specs.Stretch.{HasMoment};
 
 use crate::stretch::{Rest, Work, work_on_file};
@@ -90,7 +90,7 @@ struct Given {
 
 // What this line is given: the settings of its file, its moment on their clock, and its input.
 fn given_for(rt: &HostRuntime, line: &CommandLine) -> Result<Given, Fault>
-    ensures { IfOk result (λ given. Shows given.at.local (local_second given.settings.zone given.at.second)) }
+    ensures { IfOk result (λ given. (now : _) × IsMomentOf given.settings (second_of line.now now) given.at) }
 {
     let settings = settings_in(rt, line.config.as_str())?;
     let at = moment_for(rt, line.at, &settings)?;
@@ -117,13 +117,15 @@ fn settings_in(rt: &HostRuntime, path: &str) -> Result<Settings, Fault> {
 
 // The moment of the line's second, or of the clock's where the line gives none.
 fn moment_for(rt: &HostRuntime, second: Option<u64>, settings: &Settings) -> Result<Moment, Fault>
-    ensures { IfOk result (λ at. Shows at.local (local_second settings.now.zone at.second)) }
+    ensures { IfOk result (λ at. (now : _) × IsMomentOf settings.now (unwrap_or second now) at) }
 {
-    let second = match second {
-        Some(second) => second,
-        None => second_of_clock(rt)?,
-    };
-    moment_of(second, settings)
+    match second {
+        Some(second) => moment_of(second, settings),
+        None => match second_of_clock(rt) {
+            Ok(now) => moment_of(now, settings),
+            Err(fault) => Err(fault),
+        },
+    }
 }
 
 fn second_of_clock(rt: &HostRuntime) -> Result<u64, Fault> {

@@ -1,13 +1,17 @@
 use Rattle.std.proofs.Common.{◌≡◌, Ok, subst, sym}
 use Rattle.uu_request.specs.Requests.{request_of}
+use Rattle.uu_times.specs.Moment.{Shows, local_second}
 use Rattle.uu_store.specs.Exchanges.{exchange_of}
 use Rattle.uuspool_main.specs.Stretch.{HasMoment, IsOfLine, IsOfWork, WasGiven}
 use Rattle.uuspool_main.specs.declared.stretch.Work.{Work}
+use Rattle.uuspool_main.specs.declared.stretch.Work.TheVariants as work
 use Rattle.uuspool_main.proofs.StretchLemmas.{line_given, of_words}
 use Rattle.uuspool_main.proofs.stretch.answer_on.Goals as goal
 
 pub serve_line-requires : goal.serve_line-requires
-serve_line-requires g c = subst (HasMoment c.args.settings.now) c.in-Line.is c.requires
+serve_line-requires g c =
+    let has : HasMoment c.args.settings.now (work.Line c.in-Line.line c.in-Line.at c.in-Line.input) = subst (HasMoment c.args.settings.now) c.in-Line.is c.requires in
+    subst (λ second. Shows c.in-Line.at.local (local_second c.args.settings.now.zone second)) (sym has.1.second) has.1.local
 
 pub returns-in-Line : goal.returns-in-Line
 returns-in-Line g c =
