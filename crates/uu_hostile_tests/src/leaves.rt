@@ -13,7 +13,7 @@ use std::io::Print;
 use std::process::Abort;
 use uu_core::plain::Machine;
 use uu_core::{Due, JobHead, NextCall, Queue, choose, next_calls, queues};
-use uu_map::{Entry, EntryText, MapFault, read_entry, split};
+use uu_map::{Entry, EntryText, MapFault, entry_host, read_entry, split};
 use uu_names::{NameFault, Path, SiteName, Word, envelope, return_path};
 use uu_times::{Moment, SysFile, TimeFault, Timetables, Windows, Zone, read_sys, read_time};
 
@@ -198,6 +198,7 @@ fn sys_file(alloc: Global, text: &[u8]) -> Result<SysFile, TimeFault> {
 enum MapCall {
     Split,
     Entry(&'static [u8]),
+    Host(&'static [u8]),
 }
 
 /// What it answers.
@@ -205,6 +206,7 @@ enum MapCall {
 enum Mapped {
     Texts(Result<Vec<EntryText>, MapFault>),
     Entry(Result<Entry, MapFault>),
+    Host(Result<Option<SiteName>, AllocError>),
 }
 
 impl Call for MapCall {
@@ -214,6 +216,7 @@ impl Call for MapCall {
         match self {
             MapCall::Split => Mapped::Texts(entries(alloc, MAP)),
             MapCall::Entry(text) => Mapped::Entry(read_entry(alloc, text)),
+            MapCall::Host(text) => Mapped::Host(entry_host(alloc, text)),
         }
     }
 }
@@ -226,10 +229,11 @@ fn entries(alloc: Global, text: &[u8]) -> Result<Vec<EntryText>, MapFault> {
     split(alloc, text)
 }
 
-const MAP_CALLS: [(&str, MapCall); 3] = [
+const MAP_CALLS: [(&str, MapCall); 4] = [
     ("split", MapCall::Split),
     ("read_entry", MapCall::Entry(MAP)),
     ("read_entry (a fault)", MapCall::Entry(b"#N unc, a\n a*b\n")),
+    ("entry_host", MapCall::Host(MAP)),
 ];
 
 #[test]

@@ -4,8 +4,10 @@ use crate::program::words_of;
 use crate::refusing::{Short, refuse, tell_none, was_refused};
 use crate::values::{SUNDAY, Work, by, grade, moment, new_job, site, system, word};
 use std::alloc::Global;
+use std::collections::BTreeMap;
 use std::io::Print;
 use std::process::Abort;
+use uu_core::callable::{is_free, lower};
 use uu_core::plain::Machine;
 use uu_core::{
     CallState, Filter, Outcome, Refusal, SystemRow, decide_done, decide_drop, decide_failed,
@@ -169,6 +171,22 @@ fn moments_and_systems(rt: HostRuntime) {
     ];
     let right = right && inside && ranges == 2 && closed && code == 11;
     expect_none(&rt, refused, right, names.as_slice());
+}
+
+#[test]
+fn limits_of_systems(rt: HostRuntime) {
+    let alloc = rt.alloc();
+    let duke = site(&rt, alloc, "duke");
+    let unc = site(&rt, alloc, "unc");
+    let high = grade(&rt, b'A');
+    let low = grade(&rt, b'z');
+    let mut limits = BTreeMap::new(alloc);
+    lower(&mut limits, &duke, grade(&rt, b'N')).expect(&rt, "memory");
+    refuse(alloc, 1, Short::Onwards);
+    let free = is_free(&limits, &duke, high) && !is_free(&limits, &duke, low);
+    let other = is_free(&limits, &unc, high);
+    let refused = was_refused(alloc);
+    expect_none(&rt, refused, free && !other, &["is_free"]);
 }
 
 /// A system that may be called all week, whose last call failed.

@@ -7,12 +7,12 @@ use sqlite::Alter;
 use std::alloc::{AllocError, Global};
 use std::io::Print;
 use std::process::Abort;
-use uu_core::{Due, Filter, JobHead, SystemRow};
+use uu_core::{Due, Filter, JobHead, Queue, SystemRow, queues};
 use uu_map::{Entry, read_entry};
 use uu_store::{Spool, StoreFault};
 use uuspool::{
     Clock, Fault, Settings, SettingsFault, batch, fault_line, line_of, read_input, report_due,
-    report_jobs, report_links, report_status, serve,
+    report_jobs, report_links, report_queues, report_status, serve,
 };
 
 const SETTINGS: &str = "name = \"mysite\"\noffset = 0\nspool = \"spool.db\"\nadmins = [\"root\"]\n";
@@ -104,6 +104,18 @@ const LINES: &[(&str, &[Line], Line, &str)] = &[
         &[LOAD, SEND, REQUEST],
         ("due", b""),
         "unc 9 2\nduke B 1\n",
+    ),
+    (
+        "serve (when)",
+        &[LOAD, SEND, REQUEST],
+        ("--at 1000000000 when", b""),
+        "unc 9 2 0 2001-09-09 01:46:40 due\nduke B 1 0 2001-09-09 01:46:40 due\n",
+    ),
+    (
+        "serve (queues)",
+        &[LOAD, SEND, REQUEST],
+        ("queues", b""),
+        "duke 1 3 B 2001-09-09 01:46:40\nunc 1 0 9 2001-09-09 01:46:40\n",
     ),
     (
         "serve (status)",
@@ -442,6 +454,7 @@ enum LibraryCall<'a> {
     Due(&'a [Due]),
     Links(&'a Entry),
     Jobs(&'a [JobHead], &'a Settings),
+    Queues(&'a [Queue], &'a Settings),
     Status(&'a [SystemRow], &'a Settings),
 }
 
@@ -469,6 +482,9 @@ impl Call for LibraryCall<'_> {
             LibraryCall::Due(due) => Given::Bytes(report_due(alloc, due)),
             LibraryCall::Links(entry) => Given::Bytes(report_links(alloc, entry)),
             LibraryCall::Jobs(jobs, settings) => Given::Bytes(jobs_report(alloc, jobs, settings)),
+            LibraryCall::Queues(queues, settings) => {
+                Given::Bytes(queues_report(alloc, queues, settings))
+            }
             LibraryCall::Status(rows, settings) => {
                 Given::Bytes(status_report(alloc, rows, settings))
             }
@@ -480,6 +496,15 @@ impl Call for LibraryCall<'_> {
 fn jobs_report(alloc: Global, jobs: &[JobHead], settings: &Settings) -> Result<Vec<u8>, Fault> {
     if jobs.iter().all(|job| job.queued <= LAST_SECOND) {
         report_jobs(alloc, jobs, settings)
+    } else {
+        Err(Fault::Read)
+    }
+}
+
+/// The report of queues whose oldest jobs were handed in at a moment.
+fn queues_report(alloc: Global, queues: &[Queue], settings: &Settings) -> Result<Vec<u8>, Fault> {
+    if queues.iter().all(|queue| queue.sums.oldest <= LAST_SECOND) {
+        report_queues(alloc, queues, settings)
     } else {
         Err(Fault::Read)
     }
@@ -593,11 +618,14 @@ fn reports(rt: HostRuntime) {
         due,
     } = rows;
     let entry = read_entry(alloc, MAP).expect(&rt, "an entry");
+    let waiting = queues(alloc, &heads).expect(&rt, "an answer");
     let jobs = LibraryCall::Jobs(&heads, &settings);
+    let sums = LibraryCall::Queues(&waiting, &settings);
     let status = LibraryCall::Status(&systems, &settings);
     each_refused(&rt, alloc, "report_due", &LibraryCall::Due(&due));
     each_refused(&rt, alloc, "report_links", &LibraryCall::Links(&entry));
     each_refused(&rt, alloc, "report_jobs", &jobs);
+    each_refused(&rt, alloc, "report_queues", &sums);
     each_refused(&rt, alloc, "report_status", &status);
 }
 
