@@ -31,8 +31,9 @@ def stream(jobs, bytes_of_each):
 
 
 def make(program, jobs, bytes_of_each):
-    """Makes a spool in the working directory with 100 systems, which may be called at any time, and so many jobs for them in turn. The log is copied
-    into the file, where the program closes it."""
+    """Makes a spool in the working directory with 100 systems, which may be called at any time,
+    and so many jobs for them in turn. The log is copied into the file, where the program closes
+    it."""
     for name in FILES:
         if os.path.exists(name):
             os.remove(name)
@@ -53,7 +54,8 @@ def put(source, target):
 
 def give(program, requests):
     """Gives a batch these requests, and throws its answers away."""
-    # (one by one, since memory that is taken here would count as that of each process that is started later)
+    # (one by one, since memory that is taken here would count as that of each process that is
+    # started later)
     batch = subprocess.Popen([program, "batch"], stdin=subprocess.PIPE, stdout=subprocess.DEVNULL)
     for request in requests:
         batch.stdin.write(request)
@@ -63,7 +65,8 @@ def give(program, requests):
 
 
 def taken(words, given=subprocess.DEVNULL, **where):
-    """The seconds of a process from its start to its end, and those of the processor, of it and of what it waited for; its output is thrown away."""
+    """The seconds of a process from its start to its end, and those of the processor, of it and
+    of what it waited for; its output is thrown away."""
     begun = time.perf_counter()
     process = subprocess.Popen(words, stdin=given, stdout=subprocess.DEVNULL, **where)
     _, status, used = os.wait4(process.pid, 0)
@@ -122,7 +125,8 @@ class Batch:
         return time.clock_gettime((~self.spool.pid << 3) | 2)
 
     def send_many(self, jobs):
-        """Sends so many jobs of a byte for the systems in turn, as one stream, and waits for the answers."""
+        """Sends so many jobs of a byte for the systems in turn, as one stream, and waits for the
+        answers."""
         self.spool.stdin.write(stream(jobs, b"x"))
         self.spool.stdin.flush()
         for _ in range(jobs):

@@ -1,4 +1,5 @@
--- Rows that a walk accepts are those of a list of items, each with one row and the rows that belong to it.
+-- Rows that a walk accepts are those of a list of items, each with one row and the rows that belong
+-- to it.
 use Rattle.std.proofs.Common.{◌≡◌, ℕ, zero, suc, ◌+◌, Bool, true, false, cond, ◌==◌, List, [], ◌∷◌, ◌++◌, map, length, take, drop, refl, sym, ap, subst, ◌∙◌, arith}
 use Rattle.std.specs.List.{AllByRecursion, prefix_len, flat_map}
 use Rattle.std.proofs.lemmas.Bool.{and_parts}

@@ -1,4 +1,5 @@
--- The tables of a state in the order of their keys: what a question with ORDER BY answers, and that no key stands twice.
+-- The tables of a state in the order of their keys: what a question with ORDER BY answers, and that
+-- no key stands twice.
 use Rattle.std.specs.Prelude.{◌≡◌, ◌<◌, AllPairs}
 use Rattle.std.specs.declared.cmp.Ordering.TheVariants.{Less}
 use Rattle.uu_core.specs.State.{ComesBefore}

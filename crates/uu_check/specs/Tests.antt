@@ -68,7 +68,8 @@ fits_line l rs = nat_lt l.grade grade_count && is_retry l.retry && are_ranges 0 
 
 -- ---- systems and their lines
 
--- the reason is there exactly where the last call failed, and a system that was never called has zeros
+-- the reason is there exactly where the last call failed, and a system that was never called has
+-- zeros
 abbrev pub is_outcome : Option (List ℕ) → ℕ → ℕ → ℕ → ℕ → Bool
 is_outcome None outcome last failures wait = (outcome == 2) || ((outcome == 0) && (last == 0) && (failures == 0) && (wait == 0))
 is_outcome (Some why) outcome last failures wait = (outcome == 1) && is_word why

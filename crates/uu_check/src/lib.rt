@@ -1,4 +1,5 @@
-//! Which rows of the eight tables are those of a state of the spool: what is asked of a database before it is taken as one.
+//! Which rows of the eight tables are those of a state of the spool: what is asked of a database
+//! before it is taken as one.
 #![tactic(auto)]
 
 mod entries;

@@ -101,7 +101,8 @@ module _ (zone : Zone) (row : SystemRow) (grade now free last from : ℕ) where
   abbrev test : ℕ → Bool
   test minute = is_within (limit_in zone row (60 * minute)) grade
 
-  -- a second at which the system may be called, and that isn't the first one, is a minute of those that are looked through
+  -- a second at which the system may be called, and that isn't the first one, is a minute of those
+  -- that are looked through
   later_minute : is_within (limit_in zone row now) grade ≡ false → free ≡ min (free_from row.call now) last_second → last ≡ min (free + looked_ahead) last_second
       → from ≡ max (now / 60 + 1) (div_ceil free 60) → (other : ℕ) → is_callable zone row grade now other ≡ true
       → (k : ℕ) × (other ≡ 60 * k) × (from ≤ k) × (k < last / 60 + 1) × (test k ≡ true)

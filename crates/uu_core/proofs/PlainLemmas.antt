@@ -138,7 +138,8 @@ others name row rows own later =
         let there : other.def.name ≡ name = (bytes_decides other.def.name name).0 e in
         absurd (not_before_itself name (ap (λ n. slice_cmp nat_cmp n name) (sym here) ∙ ap (λ n. slice_cmp nat_cmp row.def.name n) (sym there) ∙ l))
 
--- one system has the name, so that what its calls become is what those of all systems of the name become
+-- one system has the name, so that what its calls become is what those of all systems of the name
+-- become
 pub called_once : (name : List ℕ) (change : SystemRow → CallState) (call : CallState) (rows : List SystemRow) → AreByName (λ (row : SystemRow). row.def.name) rows → ((row : SystemRow) → find (is_system name) rows ≡ Some row → change row ≡ call) → change_call name (λ _. call) rows ≡ change_call name change rows
 called_once name change call [] ordered is = refl
 called_once name change call (row ∷ rows) ordered is = by-test (is_system name row) refl is (called_once name change call rows (pairs-rest before row rows ordered))
@@ -212,7 +213,8 @@ put_among {V} name item first same rest f s r =
 pub made_of : {X : Type 0} (make : List X → List X) (items all new whole : List X) → new ≡ make items → items ≡ all → make all ≡ whole → new ≡ whole
 made_of make items all new whole e same f = e ∙ ap make same ∙ f
 
--- where the item comes in relation to the one at a place, as the call that compares the two names answers
+-- where the item comes in relation to the one at a place, as the call that compares the two names
+-- answers
 pub item_stands : {V : Type 0} (name : V → List ℕ) (item there : V) (items all : List V) (i : ℕ) (first second : List ℕ) (answer : Ordering) → items ≡ all → there ≡ get_or items i there → first ≡ name item → second ≡ name there → answer ≡ slice_cmp nat_cmp first second → slice_cmp nat_cmp (name item) (name (get_or all i there)) ≡ answer
 item_stands name item there items all i first second answer same here f s a =
     ap (λ x. slice_cmp nat_cmp (name item) (name x)) (sym (here ∙ ap (λ l. get_or l i there) same))

@@ -1,5 +1,5 @@
--- What a command makes of a state, and what it answers. (Killing and rejuvenating jobs: Taylor UUCP 1.07 manual, on uustat; the rest is
--- this project's choice.)
+-- What a command makes of a state, and what it answers. (Killing and rejuvenating jobs: Taylor UUCP
+-- 1.07 manual, on uustat; the rest is this project's choice.)
 use Rattle.std.specs.Prelude.{ℕ, ◌+◌, Bool, not, ◌==◌, List, [], ◌∷◌, ◌++◌, map, filter, Option, Some, None, Result, Ok, Err, if◌then◌else◌}
 use Rattle.std.specs.Ordering.{is_lt, nat_cmp}
 use Rattle.std.specs.Cmp.Lexicographic.{slice_cmp}
@@ -36,7 +36,8 @@ abbrev pub failed_decision : Option SystemRow → Moment → List ℕ → Result
 failed_decision None at why = Err NoSystem
 failed_decision (Some row) at why = Ok (failed_call row at why)
 
--- the call state after a call that went well (the success wait: Taylor UUCP 1.07 manual, on the time commands)
+-- the call state after a call that went well (the success wait: Taylor UUCP 1.07 manual, on the
+-- time commands)
 abbrev pub done_call : SystemRow → Moment → CallState
 done_call row at = record { last = at.second; failures = 0; wait = row.def.success_wait; outcome = WasDone }
 

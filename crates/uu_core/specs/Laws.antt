@@ -64,7 +64,8 @@ pub record IsHandedIn (state : State) (command : Command) (job : Job) : Type 0 w
   pub accepted : verdict state (Queue new) ≡ None
   pub job_is : job ≡ job_of state.next new
 
--- the job is what an accepted command of a run handed in, with perhaps another grade or time of queueing by then
+-- the job is what an accepted command of a run handed in, with perhaps another grade or time of
+-- queueing by then
 pub record IsOfRun (state : State) (commands : List Command) (later : Job) : Type 0 where
   pub before : List Command
   pub new : NewJob

@@ -14,13 +14,15 @@ state_of lists = record { jobs = lists.jobs.items; systems = lists.systems.items
 abbrev pub AreByName : {V : Type 0} → (V → List ℕ) → List V → Type 0
 AreByName name items = AllPairs (λ first second. ComesBefore (name first) (name second)) items
 
--- the numbers rise and are used up, the systems stand by name and the entries by host, so that no two are the same
+-- the numbers rise and are used up, the systems stand by name and the entries by host, so that no
+-- two are the same
 pub record IsInOrder (state : State) : Type 0 where
   pub rising : AllPairs (λ a b. a.number < b.number) state.jobs
   pub below_next : All (λ job. job.number < state.next) state.jobs
   pub by_name : AreByName (λ row. row.def.name) state.systems
   pub by_host : AreByName (λ entry. entry.host) state.entries
 
--- the command was carried out or refused with that reply, or there was no memory and nothing changed
+-- the command was carried out or refused with that reply, or there was no memory and nothing
+-- changed
 abbrev pub IsGiven : {E : Type 0} → State → Command → Result Reply E → State → Type 0
 IsGiven old command result new = MatchResult result (λ reply. (new, reply) ≡ after old command) (λ _. new ≡ old)

@@ -27,8 +27,8 @@ refusal_name TooLarge = codes "TooLarge"
 refusal_name NumbersOut = codes "NumbersOut"
 refusal_name BadEntry = codes "BadEntry"
 
--- How early a refusal is told where several apply: `TooLarge` first, since it needs no look at the spool, and then by number (this
--- project's choice).
+-- How early a refusal is told where several apply: `TooLarge` first, since it needs no look at the
+-- spool, and then by number (this project's choice).
 abbrev pub turn_of : Refusal → ℕ
 turn_of TooLarge = 0
 turn_of refusal = refusal_code refusal

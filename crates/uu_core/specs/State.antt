@@ -34,8 +34,8 @@ pub record MapEntry : Type 0 where
   pub host : List ℕ
   pub bytes : List ℕ
 
--- The jobs in the order in which they were accepted, the systems in the order of their names, the entries in that of
--- their hosts, and the number of the next job.
+-- The jobs in the order in which they were accepted, the systems in the order of their names, the
+-- entries in that of their hosts, and the number of the next job.
 pub record State : Type 0 where
   pub jobs : List Job
   pub systems : List SystemRow

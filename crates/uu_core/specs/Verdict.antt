@@ -1,5 +1,6 @@
--- Which commands are refused, and why. (That a job is killed or rejuvenated by its owner or by an administrator is the Taylor UUCP
--- 1.07 manual's, on uustat; regrading, the limits and the order of the reasons are this project's choice.)
+-- Which commands are refused, and why. (That a job is killed or rejuvenated by its owner or by an
+-- administrator is the Taylor UUCP 1.07 manual's, on uustat; regrading, the limits and the order of
+-- the reasons are this project's choice.)
 use Rattle.std.specs.Prelude.{ℕ, Bool, true, false, not, ◌==◌, ◌||◌, ◌&&◌, nat_eq, nat_lt, List, [], ◌∷◌, length, map, Option, Some, None, is_err, option_map, if◌then◌else◌}
 use Rattle.std.specs.List.{list_any}
 use Rattle.std.specs.Set.{distinct_count}

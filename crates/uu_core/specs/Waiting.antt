@@ -1,5 +1,6 @@
--- How low a grade a system is called for, and how long it is left alone after a failed call (Taylor UUCP 1.07 manual,
--- `time`, `timegrade` and `max-retries`; the growing waits are this project's choice).
+-- How low a grade a system is called for, and how long it is left alone after a failed call (Taylor
+-- UUCP 1.07 manual, `time`, `timegrade` and `max-retries`; the growing waits are this project's
+-- choice).
 use Rattle.std.specs.Prelude.{ℕ, ◌+◌, ◌-◌, ◌*◌, ◌^◌, min, max, Bool, ◌&&◌, ◌==◌, nat_le, nat_lt, List, map, filter, find, Option, option_and_then, unwrap_or, if◌then◌else◌}
 use Rattle.std.specs.List.{reduce}
 use Rattle.uu_times.specs.System.{System}
@@ -49,6 +50,7 @@ wait_minutes def week failures =
 abbrev pub wait_after : System → ℕ → ℕ → ℕ
 wait_after def week failures = 60 * wait_minutes def week failures
 
--- the system is left alone: the wait has begun and is not over; a clock set back to before `last` leaves it free (this project's choice)
+-- the system is left alone: the wait has begun and is not over; a clock set back to before `last`
+-- leaves it free (this project's choice)
 abbrev pub is_held : CallState → ℕ → Bool
 is_held call now = nat_le call.last now && nat_lt now (call.last + call.wait)

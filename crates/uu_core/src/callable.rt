@@ -1,4 +1,5 @@
-//! The lowest grade for which each system may be called, kept by name; a system that may not be called isn't there.
+//! The lowest grade for which each system may be called, kept by name; a system that may not be
+//! called isn't there.
 ghost use Rattle.std.specs.Prelude.{◌≡◌, ◌&&◌, ◌||◌, ℕ, List, OnOk, nat_le, max};
 ghost use Rattle.std.specs.Ordering.{nat_cmp};
 ghost use Rattle.std.specs.Cmp.Lexicographic.{slice_cmp};

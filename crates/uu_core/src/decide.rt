@@ -16,7 +16,8 @@ use uu_times::Moment;
 /// Whether a system may be removed, where it is known or not, and a job waits for it or not.
 ///
 /// # Errors
-/// [`Refusal::NoSystem`] where it is not known, and then [`Refusal::Busy`] where a job waits for it.
+/// [`Refusal::NoSystem`] where it is not known, and then [`Refusal::Busy`] where a job waits for
+/// it.
 pub fn decide_drop(known: bool, waiting: bool) -> Result<(), Refusal>
     ensures { result ≡ decided (drop_refusal known waiting) tt }
 {
@@ -44,11 +45,13 @@ fn is_too_large(job: &NewJob) -> bool
     job.bytes.as_slice().len() > MAX_BYTES as usize || has_many_arguments(&job.kind)
 }
 
-/// The number of a job that is handed in, where its system is known or not and `next` is the next number.
+/// The number of a job that is handed in, where its system is known or not and `next` is the next
+/// number.
 ///
 /// # Errors
-/// [`Refusal::TooLarge`] where the job has more than 1,048,576 bytes or 64 arguments, then [`Refusal::NoSystem`] where its system is not
-/// known, and then [`Refusal::NumbersOut`] where `next` is 4,294,967,295.
+/// [`Refusal::TooLarge`] where the job has more than 1,048,576 bytes or 64 arguments, then
+/// [`Refusal::NoSystem`] where its system is not known, and then [`Refusal::NumbersOut`] where
+/// `next` is 4,294,967,295.
 pub fn decide_queue(known: bool, next: u32, job: &NewJob) -> Result<u32, Refusal>
     ensures { result ≡ decided (queue_refusal known next job.now) next }
 {
@@ -72,7 +75,8 @@ fn may_touch(by: &By, job: &JobHead) -> bool
 /// Whether the job of a number, if there is one, may be killed, regraded or rejuvenated.
 ///
 /// # Errors
-/// [`Refusal::NoJob`] where there is none, and [`Refusal::NotYours`] where it is another user's and `by` is no administrator.
+/// [`Refusal::NoJob`] where there is none, and [`Refusal::NotYours`] where it is another user's and
+/// `by` is no administrator.
 pub fn decide_job(job: Option<&JobHead>, by: &By) -> Result<(), Refusal>
     ensures { result ≡ decided (job_refusal (option_copied job.entry) by.now) tt }
 {
@@ -141,14 +145,15 @@ fn has_other(system: &SiteName, numbers: &[u32], jobs: &[JobHead]) -> bool
     jobs.iter().any(|job| is_among(numbers, job.number) && job.system != *system)
 }
 
-/// The calls of a system, if it is known, after one at this moment in which the jobs of these numbers went through: it is left alone for
-/// its success wait.
-/// `found` holds the jobs of the spool whose numbers are among them.
+/// The calls of a system, if it is known, after one at this moment in which the jobs of these
+/// numbers went through: it is left alone for its success wait. `found` holds the jobs of the spool
+/// whose numbers are among them.
 ///
 /// # Errors
-/// In this order: [`Refusal::TooLarge`] where there are more than 256 numbers, [`Refusal::NoSystem`] where the system is not known,
-/// [`Refusal::NoJob`] where a number has no job, [`Refusal::JobTwice`] where a number stands twice, and [`Refusal::OtherSystem`] where one of
-/// the jobs waits for another system.
+/// In this order: [`Refusal::TooLarge`] where there are more than 256 numbers,
+/// [`Refusal::NoSystem`] where the system is not known, [`Refusal::NoJob`] where a number has no
+/// job, [`Refusal::JobTwice`] where a number stands twice, and [`Refusal::OtherSystem`] where one
+/// of the jobs waits for another system.
 pub fn decide_done(
     system: Option<&SystemRow>,
     name: &SiteName,

@@ -35,7 +35,8 @@ fn limit_now(row: &SystemRow, at: &Moment) -> Option<Grade>
     }
 }
 
-// The lowest grade for which each system may be called now; a system that may not be called isn't there.
+// The lowest grade for which each system may be called now; a system that may not be called isn't
+// there.
 fn limits(
     alloc: Global,
     rows: &[SystemRow],
@@ -82,9 +83,10 @@ fn list(dues: &mut Vec<Due>, job: &JobHead) -> Result<(), AllocError>
     Ok(())
 }
 
-/// The systems that may be called at this moment and have a job to be called for: not held, and the first of the
-/// system's jobs by grade and number has a grade within its limit. They stand by grade and number of these jobs. For jobs of which
-/// no two have one number, as in every spool. Takes one sort, and for each job and system a look-up.
+/// The systems that may be called at this moment and have a job to be called for: not held, and the
+/// first of the system's jobs by grade and number has a grade within its limit. They stand by grade
+/// and number of these jobs. For jobs of which no two have one number, as in every spool. Takes one
+/// sort, and for each job and system a look-up.
 pub fn choose(
     alloc: Global,
     rows: &[SystemRow],

@@ -33,27 +33,30 @@ pub fn refusals_change_nothing()
     ensures { (state : State) (command : Command) (refusal : Refusal) → verdict state command ≡ Some refusal → after state command ≡ (state, Refused refusal) }
 {}
 
-/// Where several reasons apply, [`Refusal::TooLarge`](crate::Refusal::TooLarge) is told first, and else the one of the least number: the
-/// reasons of each command stand in that order, and the first that applies is told.
+/// Where several reasons apply, [`Refusal::TooLarge`](crate::Refusal::TooLarge) is told first, and
+/// else the one of the least number: the reasons of each command stand in that order, and the first
+/// that applies is told.
 pub fn refusals_are_told_in_order()
     ensures order { (state : State) (command : Command) → AreInTurn (reasons state command) }
     ensures told { (state : State) (command : Command) → verdict state command ≡ first_reason (reasons state command) }
 {}
 
-/// A run of some commands followed by others is the run of the others from the state after the first.
+/// A run of some commands followed by others is the run of the others from the state after the
+/// first.
 pub fn runs_follow_one_another()
     ensures states { (state : State) (first second : List Command) → state_after state (first ++ second) ≡ state_after (state_after state first) second }
     ensures replies { (state : State) (first second : List Command) → replies_to state (first ++ second) ≡ replies_to state first ++ replies_to (state_after state first) second }
 {}
 
-/// The final state of a run is that of its accepted commands alone, in order, and of these none is refused.
+/// The final state of a run is that of its accepted commands alone, in order, and of these none is
+/// refused.
 pub fn accepted_commands_alone()
     ensures same { (state : State) (commands : List Command) → state_after state (accepted_of state commands) ≡ state_after state commands }
     ensures accepted { (state : State) (commands : List Command) → accepted_of state (accepted_of state commands) ≡ accepted_of state commands }
 {}
 
-/// A number that a job got is below the next number from then on, and no job gets it again: the numbers that a run gives begin at the
-/// next one and rise.
+/// A number that a job got is below the next number from then on, and no job gets it again: the
+/// numbers that a run gives begin at the next one and rise.
 pub fn numbers_are_not_used_again()
     ensures rise { (state : State) (commands : List Command) → state.next ≤ (state_after state commands).next }
     ensures used { (state : State) (job : NewJob) (number : ℕ) → (after state (Queue job)).1 ≡ Number number → (number ≡ state.next) × ((after state (Queue job)).0.next ≡ number + 1) }
@@ -66,15 +69,16 @@ pub fn jobs_stay_until_they_go()
     ensures { (state : State) (command : Command) (job : Job) → Contains state.jobs job → lets_go command job.number ≡ false → IsAmong (after state command).0.jobs job }
 {}
 
-/// Nothing is lost in a run: the job of an accepted command is there, and stays until an accepted command lets it go.
+/// Nothing is lost in a run: the job of an accepted command is there, and stays until an accepted
+/// command lets it go.
 pub fn jobs_stay_through_runs()
     ensures queued { (state : State) (job : NewJob) → verdict state (Queue job) ≡ None → Contains (after state (Queue job)).0.jobs (job_of state.next job) }
     ensures stays { (state : State) (commands : List Command) (job : Job) → Contains state.jobs job
         → All (λ command. lets_go command job.number ≡ false) (accepted_of state commands) → IsAmong (state_after state commands).jobs job }
 {}
 
-/// Nothing is made: each job was there before, or is the one that the command hands in; after a run it was there before, or an
-/// accepted command of the run handed it in.
+/// Nothing is made: each job was there before, or is the one that the command hands in; after a run
+/// it was there before, or an accepted command of the run handed it in.
 pub fn jobs_are_handed_in()
     ensures step { (state : State) (command : Command) (later : Job) → Contains (after state command).0.jobs later → IsAmong state.jobs later ⊎ IsHandedIn state command later }
     ensures run { (state : State) (commands : List Command) (later : Job) → Contains (state_after state commands).jobs later → IsAmong state.jobs later ⊎ IsOfRun state commands later }
@@ -98,9 +102,10 @@ pub fn walks_go_job_by_job()
     ensures step { (rows : List SystemRow) (at : Moment) (jobs : List JobHead) (job : JobHead) → walk rows (jobs ++ job ∷ []) at ≡ with_next rows at (walk rows jobs at) job }
 {}
 
-/// At the second that [`next_calls`](crate::next_calls) tells of a system, what is due lists the system with that job, if nothing changes until
-/// then; at a second that was looked at before, it doesn't list the system. One of which no second is told is listed at none that was
-/// looked at. And a system is told as due exactly where it may be called at once.
+/// At the second that [`next_calls`](crate::next_calls) tells of a system, what is due lists the
+/// system with that job, if nothing changes until then; at a second that was looked at before, it
+/// doesn't list the system. One of which no second is told is listed at none that was looked at.
+/// And a system is told as due exactly where it may be called at once.
 pub fn calls_come_when_told()
     ensures listed { (zone : Zone) (rows : List SystemRow) (jobs : List JobHead) (now second : ℕ) (call : NextCall) (at : Moment) (dues : List Due)
         → IsNextCall zone rows jobs now call → call.second ≡ Some second → IsMomentAt zone second at → AreDue rows jobs at dues → Contains dues (due_by call) }
@@ -118,8 +123,8 @@ pub fn queues_sum_up_all_jobs()
         → sum_by (λ queue. queue.sums.bytes) queues ≡ sum_by (λ job. job.size) jobs }
 {}
 
-/// Of all jobs only those that a report of a call names decide on it: any of the jobs, in any order, decide as all of
-/// them do if these are among them.
+/// Of all jobs only those that a report of a call names decide on it: any of the jobs, in any
+/// order, decide as all of them do if these are among them.
 pub fn named_jobs_decide()
     ensures { (known : Bool) (system numbers : List ℕ) (jobs found : List JobHead) → AreFound numbers jobs found → done_refusal known system numbers found ≡ done_refusal known system numbers jobs }
 {}

@@ -1,5 +1,6 @@
-//! The spool of a UUCP site as a plain machine: its commands, what refuses them, how long a system is left alone after a
-//! failed call, and which job each system is called for next. No file, no clock, no store.
+//! The spool of a UUCP site as a plain machine: its commands, what refuses them, how long a system
+//! is left alone after a failed call, and which job each system is called for next. No file, no
+//! clock, no store.
 #![tactic(auto)]
 
 pub mod callable;

@@ -1,4 +1,5 @@
-//! The limits of a spool (this project's choice). Those of moments and systems stand in `uu_times`, that of a map entry in `uu_map`.
+//! The limits of a spool (this project's choice). Those of moments and systems stand in `uu_times`,
+//! that of a map entry in `uu_map`.
 
 /// The most bytes of a job.
 pub const MAX_BYTES: u32 = 1_048_576;

@@ -1,5 +1,5 @@
-//! The machine as a plain program over lists, slow and clear: what each command makes of a spool and what each question
-//! answers, with nothing but vectors. Faster programs are compared with it.
+//! The machine as a plain program over lists, slow and clear: what each command makes of a spool
+//! and what each question answers, with nothing but vectors. Faster programs are compared with it.
 ghost use Rattle.std.specs.Prelude.{◌≡◌, ℕ, List, map, take, IfOk, OnErr, MatchResult, option_map, option_copied};
 ghost use Rattle.uu_core.specs.State.{empty, head_of, job_at, entry_at};
 ghost use Rattle.uu_core.specs.Due.{AreDue};
@@ -26,8 +26,8 @@ use std::marker::Model;
 use uu_names::SiteName;
 use uu_times::Moment;
 
-/// A spool in memory, seen as its state. It never holds two jobs of one number, two systems of one name or two entries
-/// of one host.
+/// A spool in memory, seen as its state. It never holds two jobs of one number, two systems of one
+/// name or two entries of one host.
 #[derive(Drop)]
 pub struct Machine {
     lists: Lists,
@@ -67,8 +67,8 @@ impl Machine {
         self.lists.step(alloc, command)
     }
 
-    /// Carries commands out in order, each refused one with its refusal. Where there is no memory, the first commands
-    /// were carried out, up to some place, and the others weren't.
+    /// Carries commands out in order, each refused one with its refusal. Where there is no memory,
+    /// the first commands were carried out, up to some place, and the others weren't.
     pub fn run(&mut self, alloc: Global, commands: Vec<Command>) -> Result<Vec<Reply>, AllocError>
         ensures done { IfOk result (λ replies. (self.new, replies.items) ≡ run self.old commands.items) }
         ensures failed { OnErr result ((count : ℕ) × (self.new ≡ state_after self.old (take count commands.items))) }
@@ -102,7 +102,8 @@ impl Machine {
         self.lists.systems.as_slice()
     }
 
-    /// What is due at a moment: each system that may be called now, with its first job by grade and number.
+    /// What is due at a moment: each system that may be called now, with its first job by grade and
+    /// number.
     pub fn due(&self, alloc: Global, at: &Moment) -> Result<Vec<Due>, AllocError>
         ensures { IfOk result (λ dues. AreDue self.now.systems (map head_of self.now.jobs) at.now dues.items) }
     {

@@ -4,8 +4,8 @@ ghost use Rattle.uu_core.specs.Refusal.{refusal_code, refusal_name};
 
 use thiserror::Error;
 
-/// Why a command is refused. A refused command changes nothing. Where several reasons apply, [`Refusal::TooLarge`] is
-/// told first, and else the one that stands first here.
+/// Why a command is refused. A refused command changes nothing. Where several reasons apply,
+/// [`Refusal::TooLarge`] is told first, and else the one that stands first here.
 #[derive(Clone, Copy, Debug, PartialEq, Eq, Error)]
 pub enum Refusal {
     /// There is no such system.
@@ -38,7 +38,8 @@ pub enum Refusal {
 }
 
 impl Refusal {
-    /// The refusal's number, from 1 for [`Refusal::NoSystem`] to 9 for [`Refusal::BadEntry`], in the order of the variants.
+    /// The refusal's number, from 1 for [`Refusal::NoSystem`] to 9 for [`Refusal::BadEntry`], in
+    /// the order of the variants.
     pub fn code(&self) -> u8
         ensures { result ≡ refusal_code self.now }
     {

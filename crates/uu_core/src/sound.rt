@@ -57,8 +57,8 @@ fn job_is_sound(job: &NewJob)
     kind_is_sound(&job.kind);
 }
 
-/// The names, words, grades and moments of each command are such, as its types see to it: a command of this type keeps
-/// a spool well-formed.
+/// The names, words, grades and moments of each command are such, as its types see to it: a command
+/// of this type keeps a spool well-formed.
 pub fn commands_are_sound(command: &Command)
     ensures { IsCommand command.now }
 {

@@ -13,7 +13,8 @@ pub enum Outcome {
     Done,
 }
 
-/// The calls of a system so far. For a new system all numbers are 0 and the outcome is [`Outcome::Never`].
+/// The calls of a system so far. For a new system all numbers are 0 and the outcome is
+/// [`Outcome::Never`].
 #[derive(Debug, Drop)]
 pub struct CallState {
     /// When the last call was reported, in UTC seconds.

@@ -11,8 +11,9 @@ use uu_times::{Line, Moment, SystemDef};
 /// The minutes of a day, which a system waits at least from its last retry on.
 const DAY: u32 = 1440;
 
-/// The lowest grade for which a system with these time lines is called at a minute of the week: the grade of greatest
-/// rank among the lines whose windows hold the minute, and none where no line does (Taylor UUCP 1.07 manual, `timegrade`).
+/// The lowest grade for which a system with these time lines is called at a minute of the week: the
+/// grade of greatest rank among the lines whose windows hold the minute, and none where no line
+/// does (Taylor UUCP 1.07 manual, `timegrade`).
 pub fn limit(lines: &[Line], week: u16) -> Option<Grade>
     ensures { result ≡ limit_at lines.now week }
 {
@@ -28,8 +29,8 @@ pub fn limit(lines: &[Line], week: u16) -> Option<Grade>
     limit
 }
 
-/// Whether the system is left alone at a moment: its wait has begun and isn't over. A moment before `last`, as after a
-/// clock was set back, never holds a system (this project's choice).
+/// Whether the system is left alone at a moment: its wait has begun and isn't over. A moment before
+/// `last`, as after a clock was set back, never holds a system (this project's choice).
 pub fn held(call: &CallState, at: &Moment) -> bool
     ensures { result ≡ is_held call.now at.now.second }
 {

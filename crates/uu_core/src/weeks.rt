@@ -11,8 +11,8 @@ use uu_times::{Moment, Zone};
 const MOST_KEPT: u64 = 525_600 + 40_320;
 
 /// The minutes of the week at minutes of UTC, which are counted from 1970-01-01 00:00 on. The clock
-/// is asked once for each of the first `MOST_KEPT`, and each time for a later one, which is looked at
-/// only where a wait is longer than a year, as in no spool.
+/// is asked once for each of the first `MOST_KEPT`, and each time for a later one, which is looked
+/// at only where a wait is longer than a year, as in no spool.
 #[derive(Drop)]
 pub(crate) struct Weeks<'a> {
     /// The site's clock.

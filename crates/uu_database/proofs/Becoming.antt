@@ -1,4 +1,5 @@
--- How a database becomes one of another schema: that of an empty spool is made, and that of version 1 made one of version 2.
+-- How a database becomes one of another schema: that of an empty spool is made, and that of version
+-- 1 made one of version 2.
 use Rattle.std.proofs.Common.{◌≡◌, inl, inr, false, Result, Ok, Err, refl, sym, subst, ◌∙◌, arith}
 use Rattle.std.specs.Prelude.{IsTrue, IsOk, IsErr, OnOk, IfErr}
 use Rattle.sqlite.specs.Schema.{Schema}

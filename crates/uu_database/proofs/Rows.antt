@@ -1,4 +1,5 @@
--- The tables of a well-formed state are such as are read, each in the strict order of its key, and no key stands twice.
+-- The tables of a well-formed state are such as are read, each in the strict order of its key, and
+-- no key stands twice.
 use Rattle.std.proofs.Common.{◌≡◌, ℕ, ◌<◌, List, Less, Equal, Ordering, Option, None, Some, IfSome, refl, ap, arith}
 use Rattle.std.specs.List.{AllByRecursion}
 use Rattle.sqlite.specs.Order.{Row}

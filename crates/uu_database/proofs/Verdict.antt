@@ -63,7 +63,8 @@ pub record Gives (rows : Rows) (all : AllRows) : Type 0 where
   pub entries : rows.entries.now ≡ all.rest.entries.items
   pub success_waits : rows.success_waits.now ≡ all.rest.success_waits.items
 
--- the success waits that were read are those of a state that has the database's rows, and the other way round
+-- the success waits that were read are those of a state that has the database's rows, and the other
+-- way round
 waits_only : (v : Version) (trees : Trees) (s : State) (all : Vec WaitColumns Global) → FindsWaits v trees (Some all) → HoldsStateAs v trees s → all.items ≡ (tables_of s).success_waits
 waits_only First trees s all found holds = found ∙ sym holds.tables.success_waits
 waits_only Second trees s all found holds = found.only (tables_of s).success_waits (waits_in_order s holds.good) holds.tables.success_waits

@@ -34,8 +34,8 @@ abbrev pub UnlessStore : {T : Type 0} → Result T StoreFault → Type 0 → Typ
 UnlessStore (Ok x) Fact = Fact
 UnlessStore (Err fault) Fact = UnlessFailed fault Fact
 
--- A database that has the tables of a version is taken exactly where it encodes a state, told as that of a later version exactly where a row
--- says so, and else as foreign.
+-- A database that has the tables of a version is taken exactly where it encodes a state, told as
+-- that of a later version exactly where a row says so, and else as foreign.
 pub record IsInspected (v : Version) (old new : db.State) (r : Result (Unit {0}) StoreFault) : Type 0 where
   pub ok : db.HasCleanDisk new → Stands (site_of v) old.now → OnOk r ((s : State) × HoldsStateAs v old.now.trees s)
   pub newer : db.HasCleanDisk new → Stands (site_of v) old.now → r ≡ Err Newer → IsLater old.now.trees
@@ -56,13 +56,15 @@ IsRefused (Ok x) = ⊥
 IsRefused (Err (Store kind)) = ⊥
 IsRefused (Err fault) = ⊤
 
--- a database with any of the spool's tables, whatever their shape and whatever stands beside them, or with no tables, is as it was
+-- a database with any of the spool's tables, whatever their shape and whatever stands beside them,
+-- or with no tables, is as it was
 pub record IsAsBefore (old new : db.State) : Type 0 where
   pub some : ¬ HasNone old.now.schema → Rests new × (new.now ≡ old.now)
   pub none : Stands no_schema old.now → Rests new × (new.now ≡ old.now)
 
--- A stop leaves the state that a database encodes, of one with any of the spool's tables but those of version 1 what it was, of version 1 that or
--- version 2 of the same state, and of one without tables that or an empty spool.
+-- A stop leaves the state that a database encodes, of one with any of the spool's tables but those
+-- of version 1 what it was, of version 1 that or version 2 of the same state, and of one without
+-- tables that or an empty spool.
 pub record StopsAs (old new : db.State) : Type 0 where
   pub some : ¬ HasNone old.now.schema → ¬ HasFirst old.now.schema → (trees : Trees) → new.may_leave trees → trees ≡ old.now.trees
   pub state : (s : State) → Encodes old.now s → Leaves new s

@@ -19,8 +19,8 @@ use Rattle.uu_database.specs.Encoded.{Encodes, HoldsState, Migrated}
 abbrev pub StaysUnclean : db.State → db.State → Type 0
 StaysUnclean old new = doubt old.is_clean ≤ doubt new.is_clean
 
--- A command is one step of the machine, or nothing. A stop at its end may leave what it could leave before, and beside
--- that only the state after.
+-- A command is one step of the machine, or nothing. A stop at its end may leave what it could leave
+-- before, and beside that only the state after.
 pub record IsStep (s : State) (command : Command) (old new : db.State) (r : Result Reply StoreFault) : Type 0 where
   pub ok : db.HasCleanDisk new → Rests old → Encodes old.now s → IfOk r (λ reply. (reply ≡ (after s command).1) × Rests new × Encodes new.now (after s command).0)
   pub memory : db.HasCleanDisk new → Rests old → Encodes old.now s → r ≡ Err Memory → Rests new × Encodes new.now s
@@ -34,7 +34,8 @@ pub record IsAnswered {T : Type 0} (IsAnswer : State → T → Type 0) (old new 
   pub stop : db.HasCleanDisk new → (s : State) → Rests old → Encodes old.now s → (trees : Trees) → new.may_leave trees → old.may_leave trees
   pub clean : StaysUnclean old new
 
--- A database becomes one of another schema by a step of its trees, whole or not at all, and a stop may leave that or what it could leave before.
+-- A database becomes one of another schema by a step of its trees, whole or not at all, and a stop
+-- may leave that or what it could leave before.
 pub record Becomes (from to : Schema) (Step : Trees → Trees → Type 0) (old new : db.State) (r : Result (Unit {0}) StoreFault) : Type 0 where
   pub ok : db.HasCleanDisk new → Rests old → Stands from old.now → OnOk r (Rests new × Stands to new.now × Step old.now.trees new.now.trees)
   pub memory : db.HasCleanDisk new → Rests old → Stands from old.now → r ≡ Err Memory → Rests new × (new.now ≡ old.now)

@@ -1,6 +1,6 @@
--- Which of the spool's tables a schema has, read off those that each version makes. Names are compared
--- without regard to ASCII case, as SQLite does. `laws::tables_are_found_by_the_format` says that what is
--- looked at in a database (`FoundTables`) finds just this.
+-- Which of the spool's tables a schema has, read off those that each version makes. Names are
+-- compared without regard to ASCII case, as SQLite does. `laws::tables_are_found_by_the_format`
+-- says that what is looked at in a database (`FoundTables`) finds just this.
 use Rattle.std.specs.Prelude.{◌≡◌, ℕ, true, false, List, [], ◌∷◌, codes, find, map, Some}
 use Rattle.std.specs.List.{AllByRecursion}
 use Rattle.sqlite.specs.Schema.{Schema}
@@ -39,7 +39,8 @@ abbrev pub later_tables : Version → List Table
 later_tables First = success_waits ∷ []
 later_tables Second = []
 
--- every table of a version is there with its columns, and none has the name of a table that was added later
+-- every table of a version is there with its columns, and none has the name of a table that was
+-- added later
 pub record HasTablesOf (v : Version) (schema : Schema) : Type 0 where
   pub all : AllByRecursion (HasTableOf schema) (site_of v).tables
   pub none_later : AllByRecursion (λ (table : Table). IsFree schema table.name) (later_tables v)

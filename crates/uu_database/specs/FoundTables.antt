@@ -1,4 +1,5 @@
--- Which of the spool's tables a database has, by their names and those of their columns, compared without regard to ASCII case as SQLite does.
+-- Which of the spool's tables a database has, by their names and those of their columns, compared
+-- without regard to ASCII case as SQLite does.
 use Rattle.std.specs.Prelude.{◌≡◌, ◌⊎◌, ℕ, Bool, false, ◌&&◌, ◌||◌, if◌then◌else◌, List, [], ◌∷◌, codes, find, Option, Some, None, is_some}
 use Rattle.std.specs.List.{list_any, list_all}
 use Rattle.std.specs.Option.{option_map_or}
@@ -69,7 +70,8 @@ is_taken schema name = is_some (table_of schema name)
 abbrev pub is_any_taken : Schema → Bool
 is_any_taken schema = is_taken schema (codes "systems") || is_taken schema (codes "lines") || is_taken schema (codes "ranges") || is_taken schema (codes "jobs") || is_taken schema (codes "pieces") || is_taken schema (codes "entries") || is_taken schema (codes "success_waits")
 
--- the version whose tables are there with all their columns: version 1 has no table of the success waits
+-- the version whose tables are there with all their columns: version 1 has no table of the success
+-- waits
 abbrev pub tables_with : Schema → Table → Option Version
 tables_with schema spool =
     if is_whole schema spool

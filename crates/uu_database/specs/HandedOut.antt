@@ -1,4 +1,5 @@
--- What is handed out of a job, and within which limits, whatever the store. (The limits are this project's choice.)
+-- What is handed out of a job, and within which limits, whatever the store. (The limits are this
+-- project's choice.)
 use Rattle.std.specs.Prelude.{ℕ, ◌≤◌, Bool, true, false, ◌&&◌, nat_le, List, Vec, Option, Some, None, Result, Ok, Err}
 use Rattle.std.specs.declared.alloc.Global.{Global}
 use Rattle.uu_core.specs.declared.job.JobHead.{JobHead}

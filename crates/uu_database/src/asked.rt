@@ -48,7 +48,8 @@ fn carry_out_with<S: Alter>(
     }
 }
 
-/// Gives one command: what it names is asked, its changes are planned, and they are made in one transaction.
+/// Gives one command: what it names is asked, its changes are planned, and they are made in one
+/// transaction.
 pub fn command<S: Alter>(
     alloc: Global,
     conn: &mut Connection<S>,

@@ -26,7 +26,8 @@ pub(crate) enum Finding {
     Later,
 }
 
-// What the database is, by the version whose tables are all there. The version that it names is asked first.
+// What the database is, by the version whose tables are all there. The version that it names is
+// asked first.
 fn find_out<S: Alter>(
     alloc: Global,
     conn: &mut Connection<S>,

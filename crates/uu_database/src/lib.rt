@@ -1,5 +1,5 @@
-//! A database as a spool's: what it is found to be, and each command and question over a connection to it, with the fault that the caller
-//! is told.
+//! A database as a spool's: what it is found to be, and each command and question over a connection
+//! to it, with the fault that the caller is told.
 #![tactic(auto)]
 
 mod asked;

@@ -1,4 +1,5 @@
-// A database that is to be a spool's: looked at where it has any of the tables, and made one of this version, or else given them.
+// A database that is to be a spool's: looked at where it has any of the tables, and made one of
+// this version, or else given them.
 ghost use Rattle.std.specs.Prelude.{◌≡◌, ◌≢◌, false, Some, None, Err, IfErr, IsErr, OnOk};
 ghost use Rattle.sqlite.specs.Held.{state};
 ghost use Rattle.sqlite.specs.State.{HasCleanDisk};
@@ -50,7 +51,8 @@ fn migrate_tables<S: Alter>(conn: &mut Connection<S>) -> Result<(), StoreFault>
     }
 }
 
-// A database with a table `spool`, looked at. One that has the tables of version 1, and was taken, gets those of version 2.
+// A database with a table `spool`, looked at. One that has the tables of version 1, and was taken,
+// gets those of version 2.
 fn take_up<S: Alter>(
     alloc: Global,
     conn: &mut Connection<S>,
@@ -75,12 +77,13 @@ fn take_up<S: Alter>(
     }
 }
 
-/// Makes a spool's database of one that has none of the tables, and looks at any other, which stays as it is, but that the tables of version 1
-/// become those of version 2, in one transaction.
+/// Makes a spool's database of one that has none of the tables, and looks at any other, which stays
+/// as it is, but that the tables of version 1 become those of version 2, in one transaction.
 ///
 /// # Errors
-/// `Foreign` where a table stands under one of the names and no table `spool` tells a version: then nothing is asked. Else `Newer` where a row
-/// names a later version, and `Foreign` where not all of the tables are there, or a row is not one of a spool's; `Memory` and `Store` of the database.
+/// `Foreign` where a table stands under one of the names and no table `spool` tells a version: then
+/// nothing is asked. Else `Newer` where a row names a later version, and `Foreign` where not all of
+/// the tables are there, or a row is not one of a spool's; `Memory` and `Store` of the database.
 pub fn prepare<S: Alter>(alloc: Global, conn: &mut Connection<S>) -> Result<(), StoreFault>
     requires { conn.old.in_transaction ≡ false }
     ensures never_failed { IfErr result (λ fault. fault ≢ StoreFault.Failed) }

@@ -13,9 +13,11 @@ use uu_schema::Version;
 pub(crate) enum Found {
     /// None of the spool's tables.
     Nothing,
-    /// The table `spool` with the columns that tell its version, and the version whose tables are all there.
+    /// The table `spool` with the columns that tell its version, and the version whose tables are
+    /// all there.
     Spool { tables: Option<Version> },
-    /// One of the names is taken, and there is no table `spool` with the columns that tell its version.
+    /// One of the names is taken, and there is no table `spool` with the columns that tell its
+    /// version.
     Other,
 }
 
@@ -130,7 +132,8 @@ fn is_any_taken(schema: &Schema) -> bool
         || is_taken(schema, "success_waits")
 }
 
-// The version whose tables are there with all their columns. Version 1 has no table of the success waits.
+// The version whose tables are there with all their columns. Version 1 has no table of the success
+// waits.
 fn tables_with(schema: &Schema, spool: &Table) -> Option<Version>
     ensures { result ≡ tables_with schema.now spool.now }
 {

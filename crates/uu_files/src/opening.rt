@@ -32,8 +32,9 @@ const NO_MEMORY: Error = Error::SqliteFailure(ErrorCode::OutOfMemory);
 
 const CANNOT_OPEN: Error = Error::SqliteFailure(ErrorCode::CannotOpen);
 
-/// Opens the files at the path, or makes them, and the database in them, with sums on the pages of a new one.
-/// It is `Connection::open_from` of `sqlite`, but for files that are synced only where they are dirty and a pool as large as they need.
+/// Opens the files at the path, or makes them, and the database in them, with sums on the pages of
+/// a new one. It is `Connection::open_from` of `sqlite`, but for files that are synced only where
+/// they are dirty and a pool as large as they need.
 ///
 /// # Errors
 /// With what is left of the files, once they were opened.
@@ -119,7 +120,8 @@ fn open_in<D: Disk + Drop>(
     Connection::open_files_with(rt.alloc(), files, options, true)
 }
 
-// The pages of a pool for these files. Where a length can't be asked, the pool is smaller than they need, which costs time alone.
+// The pages of a pool for these files. Where a length can't be asked, the pool is smaller than they
+// need, which costs time alone.
 fn pool_for<D: Disk>(files: &mut Files<D>) -> usize
     requires log { IsTrue (D.Disk.is_usable files.old.log) }
     requires db { IsTrue (D.Disk.is_usable files.old.db) }

@@ -37,7 +37,8 @@ answer_frame status output errors = answer_line status (length output) (length e
 abbrev pub most_line : ℕ
 most_line = 65536
 
--- a request may have this count and these words: the words are bare, the count is below 2^32, and its line is UTF-8 and not too long
+-- a request may have this count and these words: the words are bare, the count is below 2^32, and
+-- its line is UTF-8 and not too long
 pub record IsHead (count : ℕ) (words : List (List ℕ)) : Type 0 where
   pub bare : All IsBare words
   pub count_fits : count < 2 ^ 32
@@ -76,8 +77,9 @@ BeginsWithin limit bytes =
 abbrev pub IsWithinLine : Option (List ℕ) → Option (List ℕ) → Type 0
 IsWithinLine had left = (front : List ℕ) × All (λ byte. byte ≢ 10) front × (length front ≤ most_line) × Consumes had left front
 
--- The cause of a fault is in the bytes that the reader had, and that it has left, where they are known. A read may fail at any time, within the
--- next line or behind that of a request within the limit, and memory be short.
+-- The cause of a fault is in the bytes that the reader had, and that it has left, where they are
+-- known. A read may fail at any time, within the next line or behind that of a request within the
+-- limit, and memory be short.
 abbrev pub IsCause : ℕ → Option (List ℕ) → Option (List ℕ) → FrameFault → Type 0
 IsCause limit had left fault.NoRequest = IfSome had BeginsWithNoRequest
 IsCause limit had left fault.TooLarge = IfSome had (BeginsWithTooMuch limit)

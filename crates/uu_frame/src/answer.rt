@@ -12,8 +12,8 @@ use std::io::Write;
 /// Writes an answer, what it prints as output and as errors apart, and flushes it.
 ///
 /// # Errors
-/// `Write`, where a front of the answer was written, or all of it and it was not flushed; and `Memory`, where nothing was written, also where
-/// it was the writer that found none.
+/// `Write`, where a front of the answer was written, or all of it and it was not flushed; and
+/// `Memory`, where nothing was written, also where it was the writer that found none.
 pub fn write_answer<W: Write>(
     alloc: Global,
     status: u8,

@@ -8,10 +8,12 @@ use crate::fault::FrameFault;
 use std::alloc::Global;
 use std::io::{BufRead, Error, ErrorKind};
 
-/// The most bytes of a request's line, without its end: at their limits, the words of a call come to less than a third.
+/// The most bytes of a request's line, without its end: at their limits, the words of a call come
+/// to less than a third.
 pub const MAX_LINE: usize = 65_536;
 
-// The next line without its end, or none at the end of the stream. It is read byte by byte, so that no more is taken than a line may have.
+// The next line without its end, or none at the end of the stream. It is read byte by byte, so that
+// no more is taken than a line may have.
 pub(crate) fn read_line<R: BufRead>(
     alloc: Global,
     reader: &mut R,

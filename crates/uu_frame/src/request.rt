@@ -18,11 +18,13 @@ pub struct Frame {
     pub input: Vec<u8>,
 }
 
-/// The next request of the stream, whose input has `limit` bytes at most, or none at the end of the stream.
+/// The next request of the stream, whose input has `limit` bytes at most, or none at the end of the
+/// stream.
 ///
 /// # Errors
-/// `NoRequest` where the next line is none of a request, or has more than `MAX_LINE` bytes, and is not read to its end then; `TooLarge` where it
-/// is that of a request whose input has more than `limit` bytes; `Read` where the bytes cannot be read or end within a request; and `Memory`.
+/// `NoRequest` where the next line is none of a request, or has more than `MAX_LINE` bytes, and is
+/// not read to its end then; `TooLarge` where it is that of a request whose input has more than
+/// `limit` bytes; `Read` where the bytes cannot be read or end within a request; and `Memory`.
 pub fn read_request<R: BufRead>(
     alloc: Global,
     limit: usize,

@@ -9,7 +9,8 @@ use std::io::{ErrorKind, Write};
 /// Writes all bytes, as `write_all` does, which says nothing of what it wrote where it fails.
 ///
 /// # Errors
-/// `Write`, where less than the bytes was written; `Memory`, where the writer found none for the first of them, so that nothing was written.
+/// `Write`, where less than the bytes was written; `Memory`, where the writer found none for the
+/// first of them, so that nothing was written.
 pub fn write_whole<W: Write>(bytes: &[u8], out: &mut W) -> Result<(), FrameFault>
     ensures fault { IfErr result (λ fault. (fault ≡ FrameFault.Write) ⊎ (fault ≡ FrameFault.Memory)) }
     ensures bytes { MatchResult result (λ _. Appends (W.contents out.old) (W.contents out.new) bytes.now) (λ _. IsCut bytes.now (Appends (W.contents out.old) (W.contents out.new))) }
@@ -39,7 +40,8 @@ pub fn write_whole<W: Write>(bytes: &[u8], out: &mut W) -> Result<(), FrameFault
     }
 }
 
-/// Writes all bytes of a text behind its front, which was written: where the writer finds no memory for them, the text is cut, too.
+/// Writes all bytes of a text behind its front, which was written: where the writer finds no memory
+/// for them, the text is cut, too.
 ///
 /// # Errors
 /// `Write`, where less than the bytes was written.

@@ -1,4 +1,5 @@
-// Worked answers of single decisions: what is refused, how long a system is left alone, and what is due.
+// Worked answers of single decisions: what is refused, how long a system is left alone, and what is
+// due.
 use crate::expecting::{expect_same, expect_text};
 use crate::values::{
     SUNDAY, all_week, by, file, grade, moment, new_job, office, resting, site, word,
@@ -77,7 +78,8 @@ fn jobs_handed_in(rt: HostRuntime) {
     }
 }
 
-/// The success wait of duke, if it is known, the jobs that went through in a call of it, and its second and wait, or what refuses it.
+/// The success wait of duke, if it is known, the jobs that went through in a call of it, and its
+/// second and wait, or what refuses it.
 const CALLS: [(Option<u32>, &[u32], Result<(u64, u64), Refusal>); 9] = [
     (Some(600), &[1, 1], Err(Refusal::JobTwice)),
     (Some(600), &[1, 3], Err(Refusal::OtherSystem)),
@@ -122,7 +124,8 @@ fn jobs_of_a_call(rt: HostRuntime) {
     }
 }
 
-/// Whether ann's job is there, a user who may or may not touch the jobs of others, and the decision.
+/// Whether ann's job is there, a user who may or may not touch the jobs of others, and the
+/// decision.
 const TOUCHED: [(bool, &str, bool, Result<(), Refusal>); 6] = [
     (true, "bob", false, Err(Refusal::NotYours)),
     (true, "ann", false, Ok(())),
@@ -169,7 +172,8 @@ fn failed(
     system.call
 }
 
-/// A retry number and a most number of retries, the seconds of calls that failed, and the wait behind them.
+/// A retry number and a most number of retries, the seconds of calls that failed, and the wait
+/// behind them.
 const WAITS: [(Option<u32>, u32, &[u64], u64); 11] = [
     (None, 26, &[SUNDAY; 1], 600),
     (None, 26, &[SUNDAY; 2], 1200),
@@ -193,7 +197,8 @@ fn waits_double_up_to_a_day(rt: HostRuntime) {
     }
 }
 
-/// Seconds, and whether a system is left alone whose last call failed at 1,000,116,000, to be left alone for a day.
+/// Seconds, and whether a system is left alone whose last call failed at 1,000,116,000, to be left
+/// alone for a day.
 const HELD: [(u64, bool); 4] = [
     (1_000_116_000, true),
     (1_000_202_399, true),

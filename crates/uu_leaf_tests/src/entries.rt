@@ -1,4 +1,5 @@
-// Entries and maps: worked ones, hostile ones, each front of one entry against a plain reader, and the time that large ones take.
+// Entries and maps: worked ones, hostile ones, each front of one entry against a plain reader, and
+// the time that large ones take.
 use crate::expecting::{expect_same, expect_soon, expect_text, show_skipped, wanted};
 use crate::fronts::{ENTRIES, Fronts};
 use std::alloc::{AllocError, Global};
@@ -294,7 +295,8 @@ fn symbols_have_their_values(rt: HostRuntime) {
     expect_all(&rt, rt.alloc(), SYMBOLS.as_slice());
 }
 
-/// A statement, what stands for each `[` in it, what for each `]`, so many times each, and what that is read as.
+/// A statement, what stands for each `[` in it, what for each `]`, so many times each, and what
+/// that is read as.
 type Nest = (
     &'static str,
     &'static str,
@@ -389,7 +391,8 @@ fn letter(number: u32) -> char {
     char::from(b'a' + (number % 26) as u8)
 }
 
-// The link of this number, below 17,576: three letters, not in the order of the numbers, and at first a cost.
+// The link of this number, below 17,576: three letters, not in the order of the numbers, and at
+// first a cost.
 fn push_link(text: &mut String, number: u32) -> Result<(), AllocError> {
     let name = number.wrapping_mul(7_919) % 17_576;
     let (first, second, third) = (letter(name), letter(name / 26), letter(name / 676));
@@ -400,7 +403,8 @@ fn push_link(text: &mut String, number: u32) -> Result<(), AllocError> {
     }
 }
 
-// An entry of 65,536 bytes that is one statement of 10,000 links, 8,508 of them with a cost of one digit.
+// An entry of 65,536 bytes that is one statement of 10,000 links, 8,508 of them with a cost of one
+// digit.
 fn large_entry(alloc: Global) -> Result<String, AllocError> {
     let mut text = String::from_str(alloc, "#N unc\nunc ")?;
     for number in 0..10_000u32 {

@@ -1,7 +1,8 @@
-// What each front of some texts means, as plain readers have it. `scripts/plain-readers` writes this file; change it there.
+// What each front of some texts means, as plain readers have it. `scripts/plain-readers` writes
+// this file; change it there.
 
-/// A text, and what its fronts mean, in lines: a line has the greatest length of the fronts that it speaks of, those that are longer
-/// than the line above says, and the answer to each of them.
+/// A text, and what its fronts mean, in lines: a line has the greatest length of the fronts that it
+/// speaks of, those that are longer than the line above says, and the answer to each of them.
 pub struct Fronts {
     pub text: &'static str,
     pub answers: &'static str,

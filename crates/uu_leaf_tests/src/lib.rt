@@ -1,4 +1,5 @@
-//! Tests of the leaf crates: names and mail, times and sys files, map entries, and the decisions of the spool.
+//! Tests of the leaf crates: names and mail, times and sys files, map entries, and the decisions of
+//! the spool.
 #![tactic(auto)]
 
 #[cfg(test)]

@@ -6,7 +6,8 @@ use uu_names::{Grade, NameFault, SiteName, Word};
 // From the highest grade to the lowest.
 const GRADES: &[u8] = b"0123456789ABCDEFGHIJKLMNOPQRSTUVWXYZabcdefghijklmnopqrstuvwxyz";
 
-// The rank of a byte's grade, the byte that it is written as, and whether its rank leads back to it.
+// The rank of a byte's grade, the byte that it is written as, and whether its rank leads back to
+// it.
 fn parsed(byte: u8) -> Result<(usize, u8, bool), NameFault> {
     let grade = Grade::parse(byte)?;
     let is_ranked = Grade::of_rank(grade.rank()) == Some(grade);

@@ -62,7 +62,8 @@ fn bangs(text: &[u8]) -> usize {
     bangs
 }
 
-// Whether some path begins with the text: each part that a `!` ends is a site name's, the last part may go on.
+// Whether some path begins with the text: each part that a `!` ends is a site name's, the last part
+// may go on.
 fn plain_begins(text: &[u8]) -> bool {
     let all = bangs(text);
     let (mut left, mut is_empty) = (all, true);

@@ -1,4 +1,5 @@
-// Sys files: a worked one, faults, each front of some files against a plain reader, and the time that large files take.
+// Sys files: a worked one, faults, each front of some files against a plain reader, and the time
+// that large files take.
 use crate::expecting::{expect_same, expect_soon, expect_text, repeated, show_skipped, wanted};
 use crate::fronts::{Fronts, SYS_FILES};
 use crate::times::show_windows;
@@ -231,7 +232,8 @@ fn faults_behind_many_lines(rt: HostRuntime) {
     }
 }
 
-/// How long a text is, how many systems it has, the last one's name, and how many lines of how many runs each system has.
+/// How long a text is, how many systems it has, the last one's name, and how many lines of how many
+/// runs each system has.
 type Counts = (usize, usize, &'static str, usize, usize);
 
 // Copies of the runs of the last row would take 174 gigabytes.

@@ -170,7 +170,8 @@ const RULES: [&str; 12] = [
     "XXX3YYY,M3.2.0,M11.1.0/-167:59:59",
 ];
 
-/// Texts that are no rule: parts that are missing or too much, names, offsets, days and times past their limits.
+/// Texts that are no rule: parts that are missing or too much, names, offsets, days and times past
+/// their limits.
 const NO_RULES: [&str; 36] = [
     "",
     "5",
@@ -351,7 +352,8 @@ fn sets_from_ranges(rt: HostRuntime) {
     }
 }
 
-// Whether a system may have so many lines, and be left alone for so many seconds after a call that went well.
+// Whether a system may have so many lines, and be left alone for so many seconds after a call that
+// went well.
 fn is_within_limits(rt: &impl Abort, alloc: Global, count: u32, success_wait: u32) -> bool {
     let mut lines = Vec::new(alloc);
     for _ in 0..count {

@@ -86,7 +86,8 @@ pub fn resting(rt: &impl Abort, alloc: Global, name: &str, success_wait: u32) ->
     system(rt, alloc, name, Vec::new(alloc), 26, success_wait)
 }
 
-// A system that may be called all week for each grade, and on weekdays from 9:00 to 17:00 for grade C and above.
+// A system that may be called all week for each grade, and on weekdays from 9:00 to 17:00 for grade
+// C and above.
 pub fn office(rt: &impl Abort, alloc: Global, name: &str) -> SystemDef {
     let all_week = line(rt, alloc, b'z', WEEK.as_slice(), Some(30));
     let often = line(rt, alloc, b'C', OFFICE.as_slice(), Some(5));

@@ -1,4 +1,5 @@
--- The entries of a line that `clap` takes: what the program's own rules make of the checks that its words pass.
+-- The entries of a line that `clap` takes: what the program's own rules make of the checks that its
+-- words pass.
 use Rattle.std.proofs.Common.{◌≡◌, ◌&&◌, ◌||◌, ◌==◌, ◌≤◌, ◌⊎◌, inl, inr, ⊎_elim, sym, refl, subst, ℕ, Bool, true, false, not, cond, List, [], ◌∷◌, ◌++◌, length, codes, fold, Option, Some, None, is_some, true≢false, arith}
 use Rattle.std.specs.Prelude.{⊤, IsSome, find, nat_le, nat_lt, option_and_then, option_map, slice_get, unwrap_or}
 use Rattle.std.specs.List.{list_all, list_any}

@@ -34,7 +34,7 @@ use Rattle.clap.proofs.ValueTestLemmas.{accepts-Accepts}
 use Rattle.clap.proofs.WalkLemmas.{both}
 use Rattle.uu_line.specs.Internal.Entries.{AreNumbersUpTo, AreTaken, HasSubcommand}
 use Rattle.uu_line.specs.Lines.{texts_at}
-use Rattle.uu_line.specs.Lines.{Answers, AreNumbers, HasEntriesOf, IsAddressFault, IsAnswerTo, IsBadAddress, IsNumber, IsNumberOf, IsWordsOf, Line, Means, MeansEntered, MeansEntries, MeansLineOf, UnlessMemory, and_then, answered, mail_by, named, optional, said, same_text, site_of, word_of, words_of}
+use Rattle.uu_line.specs.Lines.{Answers, AreNumbers, HasEntriesOf, IsAddressFault, IsAnswerTo, IsBadAddress, IsNumber, IsNumberOf, IsWordsOf, Line, Means, MeansEntered, MeansEntries, MeansLineOf, UnlessMemory, and_then, line_or_fault, mail_by, named, optional, said, same_text, site_of, word_of, words_of}
 use Rattle.uu_line.proofs.ProgramLemmas.{program_takes}
 use Rattle.uu_line.specs.declared.fault.LineFault.{LineFault}
 use Rattle.uu_line.specs.declared.fault.LineFault.TheVariants as fault
@@ -252,7 +252,7 @@ found_taken words found entries =
 
 -- and so the answer is the words'
 pub answers_words : (words : List Text) (found : ArgMatches) (answer : Result CommandLine LineFault) → HasEntriesOf words found
-    → UnlessMemory (λ a. MeansEntries (rows_of (found_of found)) (subcommand_rows_of found) (answered a)) answer
+    → UnlessMemory (λ a. MeansEntries (rows_of (found_of found)) (subcommand_rows_of found) (line_or_fault a)) answer
     → IsAnswerTo words answer
 answers_words words found (Ok line) entries means = (entries.0, means_words words found (Ok (said line)) entries means)
 answers_words words found (Err (fault.Words text help)) entries means = absurd means
@@ -420,17 +420,17 @@ mailed grade first hop paths same alike =
 pub user_fault : (rows : List Row) (entered : Option (Text × List Row)) (config user : Text) (at : Option ℕ) (f : LineFault) → Some config ≡ first_of (codes "config") rows
     → Some user ≡ first_of (codes "as") rows → IsNumberOf 64 (first_of (codes "at") rows) at
     → (let answer : Result (List ℕ) LineFault = Err f in Answers answer (word_of user))
-    → (let answer : Result CommandLine LineFault = Err f in UnlessMemory (λ a. MeansEntries rows entered (answered a)) answer)
+    → (let answer : Result CommandLine LineFault = Err f in UnlessMemory (λ a. MeansEntries rows entered (line_or_fault a)) answer)
 user_fault rows entered config user at f is_config is_user is_at answers =
-    err_weaker (λ a. a ≡ word_of user) (λ a. MeansEntries rows entered (answered a)) f
+    err_weaker (λ a. a ≡ word_of user) (λ a. MeansEntries rows entered (line_or_fault a)) f
     (λ is. (config, is_config, (user, is_user, (at, is_at, subst (λ read. MeansLineOf config at read entered (Err f)) is refl)))) answers
 
 pub task_fault : (rows : List Row) (entered : Option (Text × List Row)) (config user : Text) (at : Option ℕ) (word : List ℕ) (f : LineFault)
     → Some config ≡ first_of (codes "config") rows → Some user ≡ first_of (codes "as") rows → IsNumberOf 64 (first_of (codes "at") rows) at
     → Ok word ≡ word_of user → (let answer : Result Task LineFault = Err f in UnlessMemory (MeansEntered entered) answer)
-    → (let answer : Result CommandLine LineFault = Err f in UnlessMemory (λ a. MeansEntries rows entered (answered a)) answer)
+    → (let answer : Result CommandLine LineFault = Err f in UnlessMemory (λ a. MeansEntries rows entered (line_or_fault a)) answer)
 task_fault rows entered config user at word f is_config is_user is_at is_word means =
-    err_weaker (MeansEntered entered) (λ a. MeansEntries rows entered (answered a)) f
+    err_weaker (MeansEntered entered) (λ a. MeansEntries rows entered (line_or_fault a)) f
     (λ means. (config, is_config, (user, is_user, (at, is_at, subst (λ read. MeansLineOf config at read entered (Err f)) is_word (Err f, means, refl))))) means
 
 pub line_meant : (rows : List Row) (entered : Option (Text × List Row)) (user : Text) (line : CommandLine) → Some (string_bytes line.config) ≡ first_of (codes "config") rows

@@ -1,4 +1,5 @@
--- Of words that a command takes which has those subcommands alone that they name, the whole command finds the same.
+-- Of words that a command takes which has those subcommands alone that they name, the whole command
+-- finds the same.
 use Rattle.std.proofs.Common.{◌≡◌, ◌∙◌, ap, sym, refl, subst, ℕ, Bool, true, false, cond, List, [], ◌∷◌, ◌++◌, map, filter, fold, codes, Option, Some, None, is_some, true≢false}
 use Rattle.std.specs.Prelude.{⊤, find, option_map}
 use Rattle.std.specs.List.{list_all}

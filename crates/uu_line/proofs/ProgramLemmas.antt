@@ -1,4 +1,5 @@
--- The program's command is one of which `clap` says exactly what it finds, and its lines have the entries that they have to.
+-- The program's command is one of which `clap` says exactly what it finds, and its lines have the
+-- entries that they have to.
 use Rattle.std.proofs.Common.{◌≡◌, ◌∙◌, ◌&&◌, ap, refl, Bool, true, List, [], filter, fold, map, Option, Some, is_some, Result, Ok, Err, IfOk, sym}
 use Rattle.std.specs.Prelude.{IfSome}
 use Rattle.std.specs.Result.{result_ok}

@@ -1,5 +1,5 @@
--- What the entries of words have that `clap` takes. Each use of an argument passes that argument's checks, so what they
--- ask of the values of a use holds of every entry at the end.
+-- What the entries of words have that `clap` takes. Each use of an argument passes that argument's
+-- checks, so what they ask of the values of a use holds of every entry at the end.
 use Rattle.std.proofs.Common.{◌≡◌, ◌+◌, ◌&&◌, sym, refl, subst, ℕ, zero, suc, Bool, true, false, cond, List, [], ◌∷◌, ◌++◌, length, drop, min, fold, Option, Some, None, is_some, true≢false}
 use Rattle.std.specs.Prelude.{⊤, find, encode_utf8, slice_get}
 use Rattle.std.specs.Option.{option_map_or}

@@ -1,5 +1,5 @@
--- The program's command line, in the terms of `clap`. The subcommands and options are this project's
--- choice.
+-- The program's command line, in the terms of `clap`. The subcommands and options are this
+-- project's choice.
 use Rattle.std.specs.Prelude.{ℕ, List, Some, [], ◌∷◌, true, codes}
 use Rattle.std.specs.Str.{byte}
 use Rattle.clap.specs.Lexer.{usize_max}

@@ -1,5 +1,5 @@
--- What the words of a line mean. The forms of words are those of `clap`, which takes no line without a subcommand and its
--- required entries; the lines themselves are this project's choice.
+-- What the words of a line mean. The forms of words are those of `clap`, which takes no line
+-- without a subcommand and its required entries; the lines themselves are this project's choice.
 use Rattle.std.specs.Prelude.{◌≡◌, ◌≢◌, ◌↔◌, ◌⊎◌, Bool, true, false, ℕ, ◌^◌, ◌<◌, List, [], ◌∷◌, Option, Some, None, Result, Ok, Err, All, ⊤, codes, if◌then◌else◌, map, take, slice_get, ok_or, string_bytes, unwrap_or}
 use Rattle.std.specs.List.{list_all}
 use Rattle.std.specs.Str.Parse.{IsNumeral, digits_value, without_leading_plus}
@@ -116,8 +116,8 @@ exec_task grade system command arguments =
 abbrev pub same_text : Text → Text → Bool
 same_text = pointwise nat_eq
 
--- Addresses that are bang paths: each has to begin with the same system as the first, and the rests are what
--- that is to do.
+-- Addresses that are bang paths: each has to begin with the same system as the first, and the rests
+-- are what that is to do.
 abbrev pub mail_by : ℕ → Text → List Text → Result Task LineFault
 mail_by grade first addresses =
     if list_all (λ address. same_text (first_hop address) (first_hop first)) addresses
@@ -282,9 +282,9 @@ pub record Line : Type 0 where
 abbrev pub said : CommandLine → Line
 said line = record { config = string_bytes line.config; at = line.at; user = line.user; task = line.task }
 
-abbrev pub answered : Result CommandLine LineFault → Result Line LineFault
-answered (Ok line) = Ok (said line)
-answered (Err fault) = Err fault
+abbrev pub line_or_fault : Result CommandLine LineFault → Result Line LineFault
+line_or_fault (Ok line) = Ok (said line)
+line_or_fault (Err fault) = Err fault
 
 abbrev pub line_with : Text → Option ℕ → List ℕ → Result Task LineFault → Result Line LineFault
 line_with config at user task = and_then task (λ task. Ok (record { config = config; at = at; user = user; task = task }))
@@ -307,8 +307,8 @@ MeansEntries rows entered meant =
     WithText (codes "as") rows (λ user.
     (at : Option ℕ) × IsNumberOf 64 (first_of (codes "at") rows) at × MeansLineOf config at (word_of user) entered meant))
 
--- What words mean that `clap` accepts, those after the program's name: a line, or the first fault of its
--- names.
+-- What words mean that `clap` accepts, those after the program's name: a line, or the first fault
+-- of its names.
 abbrev pub Means : List Text → Result Line LineFault → Type 0
 Means words meant = MeansEntries (matches_of program words) (subcommand_of program words) meant
 
@@ -322,7 +322,8 @@ HasEntriesOf words found =
 abbrev pub IsToldAsHelp : ErrorKind → Bool → Type 0
 IsToldAsHelp kind help = (help ≡ false) ↔ ((kind ≢ DisplayHelp) × (kind ≢ DisplayVersion))
 
--- the words are no line, or ask for help: `clap` refuses them with one of the kinds that it may, which says whether they ask for help
+-- the words are no line, or ask for help: `clap` refuses them with one of the kinds that it may,
+-- which says whether they ask for help
 abbrev pub AreRefused : List Text → Bool → Type 0
 AreRefused words help = (kind : ErrorKind) × IsAmong kind (fault_of program words) × IsToldAsHelp kind help
 
@@ -334,8 +335,9 @@ MeansLine words line = (fault_of program words ≡ []) × Means words (Ok (said 
 abbrev pub MeansFault : List Text → LineFault → Type 0
 MeansFault words fault = (fault_of program words ≡ []) × Means words (Err fault)
 
--- The answer to words is what they mean. A fault of words comes where `clap` refuses them or is asked for
--- help, which it then says, and nowhere else; want of memory may take the place of any answer, and no other fault comes.
+-- The answer to words is what they mean. A fault of words comes where `clap` refuses them or is
+-- asked for help, which it then says, and nowhere else; want of memory may take the place of any
+-- answer, and no other fault comes.
 abbrev pub IsAnswerTo : List Text → Result CommandLine LineFault → Type 0
 IsAnswerTo words (Ok line) = MeansLine words line
 IsAnswerTo words (Err (Words text help)) = AreRefused words help
@@ -355,7 +357,8 @@ UnlessMemory P (Err Memory) = ⊤
 abbrev pub Answers : {V : Type 0} → Result V LineFault → Result V LineFault → Type 0
 Answers answer expected = UnlessMemory (λ a. a ≡ expected) answer
 
--- want of memory, or a fault of words with a kind of which P holds, which says whether they ask for help
+-- want of memory, or a fault of words with a kind of which P holds, which says whether they ask for
+-- help
 abbrev pub IsWordsOf : (ErrorKind → Type 0) → LineFault → Type 0
 IsWordsOf P (Words text help) = (kind : ErrorKind) × P kind × IsToldAsHelp kind help
 IsWordsOf P Memory = ⊤

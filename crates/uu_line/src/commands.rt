@@ -346,8 +346,8 @@ static SUBCOMMANDS: [Subcommand<'static>; 19] = [
     },
 ];
 
-/// The command: its options and its subcommands, of which one has to be there. Without words it has all of them, and for words those that they
-/// name, and `load`.
+/// The command: its options and its subcommands, of which one has to be there. Without words it has
+/// all of them, and for words those that they name, and `load`.
 pub(crate) fn program_command<'a>(
     alloc: Global,
     words: Option<&[String]>,
@@ -396,8 +396,8 @@ fn commands_of<'a>(
     Ok(commands)
 }
 
-// Whether the subcommand is wanted for the words: they name it, or it is `load`, the first row, since a command without subcommands reads words
-// otherwise.
+// Whether the subcommand is wanted for the words: they name it, or it is `load`, the first row,
+// since a command without subcommands reads words otherwise.
 fn is_wanted(words: Option<&[String]>, name: &str) -> bool
     ensures { result ≡ spec.is_wanted (option_map (λ ws. map string_bytes ws.now) words.entry) name.now }
 {
@@ -450,7 +450,8 @@ fn argument_of<'a>(alloc: Global, entry: &Entry<'a>) -> Arg<'a>
         .help(entry.help)
 }
 
-// An argument or option of this id and form. It is begun in each arm, since one that lives across a choice is dear to prove.
+// An argument or option of this id and form. It is begun in each arm, since one that lives across a
+// choice is dear to prove.
 fn formed<'a>(alloc: Global, id: &'a str, form: Form<'a>) -> Arg<'a>
     ensures rule { rule_of result ≡ rule_formed form.entry id.entry.now }
     ensures local { result.global ≡ false }

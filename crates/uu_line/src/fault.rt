@@ -7,7 +7,8 @@ use uu_names::NameFault;
 /// Why words are no line.
 #[derive(Debug, Drop, Error)]
 pub enum LineFault {
-    /// The words are no line of the program, or ask for its help. `text` is what is printed, as it is.
+    /// The words are no line of the program, or ask for its help. `text` is what is printed, as it
+    /// is.
     #[error("{text}")]
     Words {
         /// What is printed, with its line ends.

@@ -1,5 +1,5 @@
-//! The program's command line: from the words after the program's name to a line of typed values. It knows nothing of
-//! the spool.
+//! The program's command line: from the words after the program's name to a line of typed values.
+//! It knows nothing of the spool.
 #![tactic(auto)]
 
 mod commands;

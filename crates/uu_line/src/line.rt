@@ -34,9 +34,10 @@ pub struct CommandLine {
 /// The line that the words after the program's name mean.
 ///
 /// # Errors
-/// `Words` exactly where `clap` refuses the words, with `help` where they ask for help. `Name` with the
-/// first fault of the user, and then of the arguments and options in the order of the subcommand's usage
-/// (`Task`). `TwoSystems` where the addresses of a message begin with different systems. Else `Memory`.
+/// `Words` exactly where `clap` refuses the words, with `help` where they ask for help. `Name` with
+/// the first fault of the user, and then of the arguments and options in the order of the
+/// subcommand's usage (`Task`). `TwoSystems` where the addresses of a message begin with different
+/// systems. Else `Memory`.
 pub fn line_of(alloc: Global, words: &[String]) -> Result<CommandLine, LineFault>
     ensures { IsAnswerTo (map string_bytes words.now) result }
 {
@@ -49,7 +50,7 @@ pub fn line_of(alloc: Global, words: &[String]) -> Result<CommandLine, LineFault
 // The line with these entries.
 fn line_in(alloc: Global, given: &ArgMatches<'_>) -> Result<CommandLine, LineFault>
     requires { AreTaken (rows_of (found_of given.now)) (subcommand_rows_of given.now) }
-    ensures { UnlessMemory (λ answer. spec.MeansEntries (rows_of (found_of given.now)) (subcommand_rows_of given.now) (spec.answered answer)) result }
+    ensures { UnlessMemory (λ answer. spec.MeansEntries (rows_of (found_of given.now)) (subcommand_rows_of given.now) (spec.line_or_fault answer)) result }
 {
     let config = text_in(given, "config");
     let at = second_in(given);
@@ -83,8 +84,9 @@ fn entries_of<'a>(alloc: Global, words: &'a [String]) -> Result<ArgMatches<'a>, 
     }
 }
 
-// The entries that `clap` finds with the subcommands that the words name, and `load`, which are those that it finds with all. What it refuses so
-// is asked once more of the whole command, whose faults name every subcommand.
+// The entries that `clap` finds with the subcommands that the words name, and `load`, which are
+// those that it finds with all. What it refuses so is asked once more of the whole command, whose
+// faults name every subcommand.
 fn entries_by_named<'a>(alloc: Global, words: &'a [String]) -> Option<ArgMatches<'a>>
     ensures { IfSome result (λ found. HasEntriesOf (map string_bytes words.now) found) }
 {

@@ -1,4 +1,5 @@
-//! The texts, numbers, words and bang paths that are given under an id, and texts as names, words and grades.
+//! The texts, numbers, words and bang paths that are given under an id, and texts as names, words
+//! and grades.
 
 ghost use Rattle.std.specs.Prelude.{◌≡◌, ◌∷◌, [], All, Ok, IfOk, IfErr, IsSome, IsTrue, Some, map, option_map, codes};
 ghost use Rattle.std.specs.String.{string_bytes};
@@ -237,7 +238,8 @@ fn path_of(alloc: Global, text: &str) -> Result<Path, LineFault>
     }
 }
 
-/// Both values, or the fault of the first that is none. A caller with an exit at each value is dear to prove.
+/// Both values, or the fault of the first that is none. A caller with an exit at each value is dear
+/// to prove.
 pub(crate) fn both<A: Drop, B: Drop>(
     first: Result<A, LineFault>,
     second: Result<B, LineFault>,

@@ -1,4 +1,5 @@
--- What a map entry says of its host (UUCP Mapping Project README; what is skipped is this project's choice).
+-- What a map entry says of its host (UUCP Mapping Project README; what is skipped is this project's
+-- choice).
 use Rattle.std.specs.Prelude.{◌≡◌, ⊤, ℕ, List, [], ◌∷◌, Option, Some, None, Result, Ok, Err, flat_map}
 use Rattle.std.specs.List.{AllZip}
 use Rattle.uu_map.specs.declared.entry.Link.{Link}
@@ -29,8 +30,8 @@ skipped_lines (s ∷ ss) (Some m ∷ ms) = skipped_lines ss ms
 skipped_lines [] ms = []
 skipped_lines (s ∷ ss) [] = []
 
--- The entry of a text: the host that it names, the aliases of its kept statements in the text's order, their links as
--- they are listed, and the lines of the skipped ones.
+-- The entry of a text: the host that it names, the aliases of its kept statements in the text's
+-- order, their links as they are listed, and the lines of the skipped ones.
 pub record IsEntry (text : List ℕ) (entry : Entry) : Type 0 where
   pub meanings : List (Option Meaning)
   pub host : host_of text ≡ Ok entry.host

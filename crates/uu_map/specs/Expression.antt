@@ -1,5 +1,5 @@
--- The expressions that stand for costs (UUCP Mapping Project README, on costs as arithmetic expressions;
--- the grammar's details, the limits and `DEAD` are this project's choice).
+-- The expressions that stand for costs (UUCP Mapping Project README, on costs as arithmetic
+-- expressions; the grammar's details, the limits and `DEAD` are this project's choice).
 --
 --     sum     := product (("+" | "-") product)*
 --     product := factor (("*" | "/") factor)*
@@ -15,7 +15,8 @@ use Rattle.uu_map.specs.declared.token.Multiplicative.TheVariants.{Times, Over}
 use Rattle.uu_map.specs.declared.token.Token.{Token}
 use Rattle.uu_map.specs.declared.token.Token.TheVariants as tokens
 
--- The tree of an expression: operators of one kind go from left to right, and those between factors bind more tightly.
+-- The tree of an expression: operators of one kind go from left to right, and those between factors
+-- bind more tightly.
 mutual
   pub data Sum : Type 0 where
     one_product : Product → Sum
@@ -133,7 +134,8 @@ abbrev mutual
   factor_is_dead (group s) = sum_is_dead s
   factor_is_dead (signed op f) = factor_is_dead f
 
--- what an expression of this value costs: a negative value counts as 0, and with `DEAD` the value isn't looked at
+-- what an expression of this value costs: a negative value counts as 0, and with `DEAD` the value
+-- isn't looked at
 abbrev pub cost_of_value : ℤ → Cost
 cost_of_value (pos n) = Value n
 cost_of_value (negsuc n) = Value 0

@@ -1,4 +1,5 @@
--- The statements of a map entry (UUCP Mapping Project README, on links and aliases; the details are this project's choice).
+-- The statements of a map entry (UUCP Mapping Project README, on links and aliases; the details are
+-- this project's choice).
 --
 --     statement := host | host blanks list of links | host blanks* "=" list of names
 --     link      := [ mark ] name [ mark ] blanks* [ "(" sum ")" ]
@@ -39,15 +40,16 @@ IsMarkAtMost [] = ⊤
 IsMarkAtMost (b ∷ []) = IsTrue (is_mark b)
 IsMarkAtMost (b ∷ c ∷ bs) = ⊥
 
--- the cost of a link for which none is written, and how deep parentheses and signs may nest (this project's choice)
+-- the cost of a link for which none is written, and how deep parentheses and signs may nest (this
+-- project's choice)
 abbrev pub usual_cost : ℕ
 usual_cost = 4000
 
 abbrev pub most_depth : ℕ
 most_depth = 32
 
--- What stands behind a link's name says the cost: nothing means 4000; an expression in parentheses, in which parentheses
--- and signs nest at most 32 deep, costs its value.
+-- What stands behind a link's name says the cost: nothing means 4000; an expression in parentheses,
+-- in which parentheses and signs nest at most 32 deep, costs its value.
 pub record IsPriced (text : List ℕ) (cost : Cost) (sum : Sum) : Type 0 where
   pub written : tokens text ≡ Open ∷ (sum_text sum ++ Close ∷ [])
   pub fits : IsTrue (sum_fits most_depth sum)
@@ -56,7 +58,8 @@ pub record IsPriced (text : List ℕ) (cost : Cost) (sum : Sum) : Type 0 where
 abbrev pub IsCost : List ℕ → Cost → Type 0
 IsCost text cost = ((tokens text ≡ []) × (cost ≡ Value usual_cost)) ⊎ ((sum : Sum) × IsPriced text cost sum)
 
--- a link as an element of a list: blanks, a mark or nothing, the name, a mark or nothing, and what says its cost
+-- a link as an element of a list: blanks, a mark or nothing, the name, a mark or nothing, and what
+-- says its cost
 pub record IsLink (text : List ℕ) (link : Link) : Type 0 where
   pub blanks : List ℕ
   pub front : List ℕ
@@ -83,7 +86,8 @@ pub record Meaning : Type 0 where
   pub aliases : List (List ℕ)
   pub links : List Link
 
--- The host alone; the host, a blank and a list of links; the host, blanks or nothing, an equals sign and a list of names.
+-- The host alone; the host, a blank and a list of links; the host, blanks or nothing, an equals
+-- sign and a list of names.
 pub data IsStatement (host : List ℕ) : List ℕ → Meaning → Type 0 where
   alone : IsStatement host host (record { aliases = []; links = [] })
   with_links : (blank : ℕ) (list : List ℕ) (links : List Link) → IsTrue (is_blank blank) → AllZip IsLink (elements list) links → IsStatement host (host ++ blank ∷ list) (record { aliases = []; links = links })

@@ -1,5 +1,5 @@
--- The lines of a map text, and what they say of entries and statements (UUCP Mapping Project README, on `#N` lines and
--- comments; continued lines are this project's choice).
+-- The lines of a map text, and what they say of entries and statements (UUCP Mapping Project
+-- README, on `#N` lines and comments; continued lines are this project's choice).
 use Rattle.std.specs.Prelude.{ℕ, ◌+◌, Bool, true, not, ◌&&◌, ◌||◌, List, [], ◌∷◌, ◌++◌, length, take, drop, Option, Some, None, Result, Ok, Err, nat_lt, ◌==◌, codes, find, if◌then◌else◌}
 use Rattle.std.specs.List.{prefix_len, before_first, take_while}
 use Rattle.std.specs.Str.{byte, bytes_eq}
@@ -24,7 +24,8 @@ is_name_line line = bytes_eq (take 2 line) (codes "#N") && ends_or_blank (drop 2
 abbrev pub is_named_byte : ℕ → Bool
 is_named_byte b = not (is_blank b || is_comma b)
 
--- what a name line names: what stands behind `#N` and blanks, up to a blank, a comma or the line's end
+-- what a name line names: what stands behind `#N` and blanks, up to a blank, a comma or the line's
+-- end
 abbrev pub named_by : List ℕ → List ℕ
 named_by line = take_while is_named_byte (drop (prefix_len is_blank (drop 2 line)) (drop 2 line))
 

@@ -1,4 +1,5 @@
--- What an expression is made of: the words of its text (blanks only part them), and what each stands for.
+-- What an expression is made of: the words of its text (blanks only part them), and what each
+-- stands for.
 use Rattle.std.specs.Prelude.{ℕ, ◌+◌, ◌-◌, ◌*◌, Bool, false, List, [], ◌∷◌, Option, Some, None, option_map, ℤ, pos, negsuc, ◌==◌, codes, map, find, fold, if◌then◌else◌}
 use Rattle.std.specs.List.{onto_first}
 use Rattle.std.specs.Char.{is_ascii_digit, is_ascii_uppercase}
@@ -23,7 +24,8 @@ abbrev pub words : List ℕ → List (List ℕ)
 words [] = []
 words (b ∷ bs) = if is_blank b then words bs else (if runs_on b bs then onto_first b (words bs) else (b ∷ []) ∷ words bs)
 
--- the symbols that stand for a number (their names are those of the UUCP Mapping Project; the values are this project's profile)
+-- the symbols that stand for a number (their names are those of the UUCP Mapping Project; the
+-- values are this project's profile)
 abbrev pub symbols : List (List ℕ × ℤ)
 symbols =
     (codes "LOCAL", pos 25) ∷ (codes "DEDICATED", pos 95) ∷ (codes "DIRECT", pos 200) ∷ (codes "DEMAND", pos 300) ∷

@@ -15,14 +15,15 @@ pub struct EntryText {
 /// What a link costs. Each value is below [`Cost::Dead`].
 #[derive(Clone, Copy, Debug, PartialEq, Eq, PartialOrd, Ord)]
 pub enum Cost {
-    /// A number without a unit, the less the better. Of an entry that was read, it is from 0 to 1,000,000,000,000.
+    /// A number without a unit, the less the better. Of an entry that was read, it is from 0 to
+    /// 1,000,000,000,000.
     Value(u64),
     /// The symbol `DEAD` stands in the cost: the link is not to be used.
     Dead,
 }
 
-/// A link to a neighbour. Links compare by the bytes of the name and then by the cost, which is not the order in which an
-/// [`Entry`] lists them.
+/// A link to a neighbour. Links compare by the bytes of the name and then by the cost, which is not
+/// the order in which an [`Entry`] lists them.
 #[derive(Debug, PartialEq, Eq, PartialOrd, Ord, Drop)]
 pub struct Link {
     /// The neighbour.

@@ -313,8 +313,8 @@ impl Reading {
     }
 }
 
-/// What an expression costs that begins behind its opening parenthesis and ends with the closing one,
-/// or none where the text is no such expression.
+/// What an expression costs that begins behind its opening parenthesis and ends with the closing
+/// one, or none where the text is no such expression.
 pub(crate) fn cost(alloc: Global, text: &[u8]) -> Result<Option<Cost>, AllocError>
     ensures { IfOk result (λ cost. cost ≡ run (start most_depth) (tokens text.now)) }
 {

@@ -18,14 +18,15 @@ pub enum MapFault {
     /// The entry has more than 65,536 bytes.
     #[error("too large")]
     TooLarge,
-    /// Memory was refused, to [`read_entry`](crate::read_entry) or to [`split`](crate::split). It may take the place of any
-    /// other answer.
+    /// Memory was refused, to [`read_entry`](crate::read_entry) or to [`split`](crate::split). It
+    /// may take the place of any other answer.
     #[error("out of memory")]
     Memory,
 }
 
 impl MapFault {
-    /// The fault's number, from 1 for [`MapFault::NoName`] to 4 for [`MapFault::Memory`], in the order of the variants.
+    /// The fault's number, from 1 for [`MapFault::NoName`] to 4 for [`MapFault::Memory`], in the
+    /// order of the variants.
     pub fn code(&self) -> u8
         ensures { result ≡ fault_code self.now }
     {

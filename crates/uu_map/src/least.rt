@@ -81,7 +81,8 @@ fn as_links(alloc: Global, ranked: Vec<Ranked>) -> Result<Vec<Link>, AllocError>
         .collect(alloc)
 }
 
-/// The links of an entry, each name with its least cost, in order of cost and then of the name's bytes.
+/// The links of an entry, each name with its least cost, in order of cost and then of the name's
+/// bytes.
 pub(crate) fn listed(alloc: Global, links: Vec<Link>) -> Result<Vec<Link>, AllocError>
     ensures { IfOk result (λ v. IsListing links.items v.items) }
 {

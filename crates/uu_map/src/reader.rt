@@ -127,7 +127,8 @@ impl Parsed {
         Ok(())
     }
 
-    // Takes what a line says: it continues the pending statement, or it ends that and another begins.
+    // Takes what a line says: it continues the pending statement, or it ends that and another
+    // begins.
     fn take_line(
         &mut self,
         alloc: Global,
@@ -217,12 +218,15 @@ fn entry_of(alloc: Global, host: SiteName, text: &[u8]) -> Result<Entry, AllocEr
     parsed.into_entry(alloc, host)
 }
 
-/// Reads a map entry: the host that its first `#N` line names, its aliases, its links and what was skipped.
+/// Reads a map entry: the host that its first `#N` line names, its aliases, its links and what was
+/// skipped.
 ///
-/// A text of more than 65,536 bytes is [`MapFault::TooLarge`], then one that names no host [`MapFault::NoName`], and then
-/// one whose host is no site name [`MapFault::BadHost`]. A statement that can't be read is skipped whole.
+/// A text of more than 65,536 bytes is [`MapFault::TooLarge`], then one that names no host
+/// [`MapFault::NoName`], and then one whose host is no site name [`MapFault::BadHost`]. A statement
+/// that can't be read is skipped whole.
 pub fn read_entry(alloc: Global, text: &[u8]) -> Result<Entry, MapFault>
-    // What is kept is in the grammar and has that meaning; what is skipped is not; each fault has its cause.
+    // What is kept is in the grammar and has that meaning; what is skipped is not; each fault has
+    // its cause.
     ensures answer { IsAnswer text.now result }
     // No other entry is that of the text.
     ensures only { (entry : Entry) → IsEntry text.now entry → AnswersUnlessMemory result (Ok entry) }

@@ -138,7 +138,8 @@ goes_on (site ∷ sites) (other ∷ others) part last rest p q r e =
 
 -- ---- the scan
 
--- the bytes that the part after the last `!` may have: before the first `!` those of a site name alone
+-- the bytes that the part after the last `!` may have: before the first `!` those of a site name
+-- alone
 abbrev pub part_byte : List (List ℕ) → ℕ → Bool
 part_byte [] = is_site_byte
 part_byte (site ∷ sites) = is_local_byte

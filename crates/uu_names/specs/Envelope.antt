@@ -1,5 +1,5 @@
--- The line that `rmail` puts before a message (RFC 976; the date in local time and in the form of C's `ctime` is this
--- project's choice).
+-- The line that `rmail` puts before a message (RFC 976; the date in local time and in the form of
+-- C's `ctime` is this project's choice).
 use Rattle.std.specs.Prelude.{ℕ, ◌+◌, ◌-◌, ◌*◌, ◌/◌, ◌%◌, List, [], ◌∷◌, ◌++◌, codes, take, drop, nat_lt, nat_eq, if◌then◌else◌, unsigned_abs}
 use Rattle.std.specs.List.{concat, starts_with}
 use Rattle.std.specs.Str.{byte}
@@ -44,7 +44,8 @@ abbrev pub from_line : List ℕ → DateTime → List ℕ → List ℕ
 from_line user local site =
     concat (codes "From " ∷ user ∷ codes " " ∷ date_text local ∷ codes " remote from " ∷ site ∷ (line_feed ∷ []) ∷ [])
 
--- what stands between that line and the message: a `>` before a message that begins with a `From ` line of its own
+-- what stands between that line and the message: a `>` before a message that begins with a `From `
+-- line of its own
 abbrev pub quote_of : List ℕ → List ℕ
 quote_of message = if starts_with nat_eq message (codes "From ") then codes ">" else []
 

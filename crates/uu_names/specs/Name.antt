@@ -33,8 +33,9 @@ is_site_name text = has_form is_site_byte text && nat_le (length text) most_name
 abbrev pub is_word : List ℕ → Bool
 is_word text = has_form is_word_byte text && nat_le (length text) most_word
 
--- What a text is, where each byte has to pass and a limit stands on their number. The form of the whole text is
--- looked at before its length. A text of another form is refused at the first byte that does not pass, the empty text at 0.
+-- What a text is, where each byte has to pass and a limit stands on their number. The form of the
+-- whole text is looked at before its length. A text of another form is refused at the first byte
+-- that does not pass, the empty text at 0.
 abbrev pub checked_text : (ℕ → Bool) → ℕ → (ℕ → NameFault) → List ℕ → Result (List ℕ) NameFault
 checked_text passes limit bad_at text =
     if has_form passes text then (if nat_le (length text) limit then Ok text else Err TooLong) else Err (bad_at (prefix_len passes text))

@@ -1,5 +1,5 @@
--- Bang paths: the sites that a message goes over, and what the last of them makes of the rest (RFC 976 writes such
--- addresses `host!host!user`; this project's grammar and limits).
+-- Bang paths: the sites that a message goes over, and what the last of them makes of the rest (RFC
+-- 976 writes such addresses `host!host!user`; this project's grammar and limits).
 use Rattle.std.specs.Prelude.{◌≡◌, ℕ, ◌<◌, ◌≤◌, Bool, not, ◌&&◌, List, [], ◌∷◌, ◌++◌, ◌==◌, nat_le, length, take, IsTrue, ⊤}
 use Rattle.std.specs.List.{list_all, join_with_byte, before_first, after_first}
 use Rattle.std.specs.Str.{byte}
@@ -23,7 +23,8 @@ path_text path = join_with_byte (byte "!") (path.sites ++ path.local_part ∷ []
 abbrev pub is_local_byte : ℕ → Bool
 is_local_byte b = is_word_byte b && not (is_bang b)
 
--- the form of a path, lengths left aside: one site or more, each of the form of a site name, and a local part
+-- the form of a path, lengths left aside: one site or more, each of the form of a site name, and a
+-- local part
 abbrev pub has_path_form : BangPath → Bool
 has_path_form path = nat_le 1 (length path.sites) && list_all (has_form is_site_byte) path.sites && has_form is_local_byte path.local_part
 

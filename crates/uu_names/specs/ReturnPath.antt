@@ -1,4 +1,5 @@
--- The lines that the sites on a message's way have put before it, and the path back to its sender (RFC 976).
+-- The lines that the sites on a message's way have put before it, and the path back to its sender
+-- (RFC 976).
 use Rattle.std.specs.Prelude.{◌≡◌, ◌⊎◌, ℕ, Bool, not, List, [], ◌∷◌, ◌++◌, ◌==◌, codes, length, IsTrue, if◌then◌else◌, map, take, ◌-◌, nat_eq, ⊤}
 use Rattle.std.specs.List.{concat, onto_first, join_with_byte, ends_with}
 use Rattle.std.specs.Str.{byte}
@@ -31,8 +32,9 @@ pub record Sender : Type 0 where
 abbrev pub IsSpaced : List ℕ → Type 0
 IsSpaced text = (text ≡ []) ⊎ ((more : List ℕ) × (text ≡ byte " " ∷ more))
 
--- A leading line: a marker, a user of one byte or more without a space, nothing or a space and any bytes, and
--- ` remote from ` and a site name. As that has no space, this ` remote from ` is the last one of the line.
+-- A leading line: a marker, a user of one byte or more without a space, nothing or a space and any
+-- bytes, and ` remote from ` and a site name. As that has no space, this ` remote from ` is the
+-- last one of the line.
 pub record IsLeadingLine (marker line : List ℕ) (sender : Sender) : Type 0 where
   pub between : List ℕ
   pub text : line ≡ marker ++ (sender.user ++ (between ++ (codes " remote from " ++ sender.site)))

@@ -1,4 +1,5 @@
--- Texts from outside: what sys files, map texts and messages have in common (this project's choice).
+-- Texts from outside: what sys files, map texts and messages have in common (this project's
+-- choice).
 use Rattle.std.specs.Prelude.{ℕ, Bool, ◌||◌, ◌==◌}
 
 abbrev pub space : ℕ

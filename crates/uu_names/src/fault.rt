@@ -33,7 +33,8 @@ pub enum NameFault {
 }
 
 impl NameFault {
-    /// The fault's number, from 1 for [`NameFault::BadGrade`] to 7 for [`NameFault::Memory`], in the order of the variants.
+    /// The fault's number, from 1 for [`NameFault::BadGrade`] to 7 for [`NameFault::Memory`], in
+    /// the order of the variants.
     pub fn code(&self) -> u8
         ensures { result ≡ fault_code self.now }
     {

@@ -8,8 +8,9 @@ use std::marker::Model;
 /// How many grades there are.
 const COUNT: u8 = 62;
 
-/// A grade: one digit or letter of ASCII, seen as its rank, 0 to 61 for `0` to `9`, then `A` to `Z`, then `a` to `z`.
-/// A lower rank is a higher grade, so that grades are ordered by rank, the most urgent first (Taylor UUCP 1.07 manual, on grades).
+/// A grade: one digit or letter of ASCII, seen as its rank, 0 to 61 for `0` to `9`, then `A` to
+/// `Z`, then `a` to `z`. A lower rank is a higher grade, so that grades are ordered by rank, the
+/// most urgent first (Taylor UUCP 1.07 manual, on grades).
 #[derive(Clone, Copy, Debug, PartialEq, Eq, PartialOrd, Ord, Hash)]
 pub struct Grade {
     rank: u8,

@@ -1,5 +1,5 @@
-//! Grades, site names, words, bang paths and mail envelopes of a UUCP site, and what the crates above share: lists in types, lines and
-//! blanks of texts.
+//! Grades, site names, words, bang paths and mail envelopes of a UUCP site, and what the crates
+//! above share: lists in types, lines and blanks of texts.
 #![tactic(auto)]
 
 mod envelopes;

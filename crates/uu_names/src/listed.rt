@@ -3,7 +3,8 @@ ghost use Rattle.std.specs.Prelude.{◌≡◌};
 
 use std::marker::Model;
 
-/// Items in order, seen as their list. It is made from a vector and gives it back without taking memory.
+/// Items in order, seen as their list. It is made from a vector and gives it back without taking
+/// memory.
 #[derive(Debug, Drop)]
 pub struct Listed<T> {
     items: Vec<T>,

@@ -12,9 +12,10 @@ use crate::word::{self, is_word_byte};
 use std::alloc::{AllocError, Global};
 use std::marker::Model;
 
-/// A bang path, seen as its bytes: one or more site names and then a local part, joined by `!`, at most 255 bytes in all.
-/// The local part has bytes from 0x21 to 0x7E without `!`, and is not read any further: `@` and `%` stay as written.
-/// (RFC 976 writes such addresses; the grammar and the limits are this project's choice.)
+/// A bang path, seen as its bytes: one or more site names and then a local part, joined by `!`, at
+/// most 255 bytes in all. The local part has bytes from 0x21 to 0x7E without `!`, and is not read
+/// any further: `@` and `%` stay as written. (RFC 976 writes such addresses; the grammar and the
+/// limits are this project's choice.)
 #[derive(Debug, Drop)]
 pub struct Path {
     text: String,
@@ -33,8 +34,8 @@ impl Model for Path {
 /// The most bytes of a path.
 const MAX_LEN: usize = 255;
 
-// The offset of the first `!` of a path's text, or why the bytes are none. The one scan keeps what the part after the
-// last `!` is so far.
+// The offset of the first `!` of a path's text, or why the bytes are none. The one scan keeps what
+// the part after the last `!` is so far.
 fn check(bytes: &[u8]) -> Result<usize, NameFault>
     ensures { MatchResult result
         (λ hop_len. IsPathText bytes.now × (hop_len ≡ position_or_len is_bang bytes.now))
@@ -74,9 +75,9 @@ fn check(bytes: &[u8]) -> Result<usize, NameFault>
 }
 
 impl Path {
-    /// Reads a bang path. A text that is none is [`NameFault::BadPath`] with the length of its longest prefix that some
-    /// path begins with, lengths left aside. Of the right form, but with a site name of more than 63 bytes or more than
-    /// 255 bytes in all, it is [`NameFault::TooLong`].
+    /// Reads a bang path. A text that is none is [`NameFault::BadPath`] with the length of its
+    /// longest prefix that some path begins with, lengths left aside. Of the right form, but with a
+    /// site name of more than 63 bytes or more than 255 bytes in all, it is [`NameFault::TooLong`].
     pub fn parse(alloc: Global, text: &str) -> Result<Path, NameFault>
         ensures text { IfOk result (λ path. path ≡ text.now) }
         ensures path { IsOk result → IsPathText text.now }

@@ -14,8 +14,9 @@ use std::alloc::{AllocError, Global};
 use std::cmp::Ordering;
 use std::marker::Model;
 
-/// The name of a site, seen as its bytes: 1 to 63 letters, digits, `-`, `_` or `.` of ASCII.
-/// Case is kept and compared. Names are ordered by their bytes. (The bytes and the limit are this project's choice.)
+/// The name of a site, seen as its bytes: 1 to 63 letters, digits, `-`, `_` or `.` of ASCII. Case
+/// is kept and compared. Names are ordered by their bytes. (The bytes and the limit are this
+/// project's choice.)
 #[derive(Debug, Drop)]
 pub struct SiteName {
     text: String,
@@ -46,8 +47,8 @@ pub(crate) fn is_site_name(bytes: &[u8]) -> bool
 }
 
 impl SiteName {
-    /// Reads a site name. A text with another byte is [`NameFault::BadName`] at the first such byte, the empty text at 0;
-    /// then one of more than 63 bytes is [`NameFault::TooLong`].
+    /// Reads a site name. A text with another byte is [`NameFault::BadName`] at the first such
+    /// byte, the empty text at 0; then one of more than 63 bytes is [`NameFault::TooLong`].
     pub fn parse(alloc: Global, text: &str) -> Result<SiteName, NameFault>
         ensures { AnswersUnlessMemory result (site_name_of text.now) }
     {

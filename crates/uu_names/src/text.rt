@@ -6,7 +6,8 @@ ghost use Rattle.uu_names.specs.Text.{is_blank, line_feed};
 
 use std::alloc::{AllocError, Global};
 
-/// The most bytes of a sys file or a map text, which are read whole before they are used (this project's choice).
+/// The most bytes of a sys file or a map text, which are read whole before they are used (this
+/// project's choice).
 pub const MAX_TEXT: usize = 4_194_304;
 
 /// Whether the byte is a blank: a space or a tab.
@@ -43,8 +44,8 @@ pub(crate) fn strip_carriage_return(line: &[u8]) -> &[u8]
     }
 }
 
-/// The first line of a text of one byte or more, and the text behind it. A line ends with a line feed, before which one carriage
-/// return is dropped, or at the end of the text, where none is.
+/// The first line of a text of one byte or more, and the text behind it. A line ends with a line
+/// feed, before which one carriage return is dropped, or at the end of the text, where none is.
 pub fn first_line(text: &[u8]) -> (&[u8], &[u8])
     requires { 0 < length text.now }
     ensures lines { lines text.now ≡ result.0.now ∷ lines result.1.now }

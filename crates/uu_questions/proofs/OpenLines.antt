@@ -1,4 +1,5 @@
--- Which systems may be called, from the lines whose windows hold the minute and from the systems that are left alone.
+-- Which systems may be called, from the lines whose windows hold the minute and from the systems
+-- that are left alone.
 use Rattle.std.proofs.Common.{◌≡◌, ◌+◌, ◌==◌, ℕ, Bool, true, false, not, cond, leb, ◌&&◌, ◌||◌, max, fold, List, [], ◌∷◌, Option, None, if◌then◌else◌, map, filter, flat_map, refl, ap, sym, ◌∙◌, inl, inr, arith, Less, Equal, nat_cmp}
 use Rattle.std.specs.List.{AllByRecursion, list_any, reduce}
 use Rattle.std.specs.Ordering.{ordering_then}
@@ -249,7 +250,8 @@ module _ (at : Moment) (name : List ℕ) (grade : ℕ) where
       ∙ any_kept (λ row. is_system name row) (λ row. is_held row.call at.second) rows
       ∙ any_same (λ row. is_held row.call at.second && is_system name row) kept (λ row. and-comm (is_held row.call at.second) (is_system name row)) rows
 
-  -- a system may be called for a grade where one of its lines lets it through and it is not left alone
+  -- a system may be called for a grade where one of its lines lets it through and it is not left
+  -- alone
   pub called : (s : State) → IsWellFormed s → (lines : List LineColumns) (held : List SystemColumns) → lets_through lines name grade ≡ is_open s.systems at.week name grade
       → held ≡ map system_columns (filter (λ row. is_held row.call at.second) s.systems) → (lets_through lines name grade && not (is_among held name)) ≡ may_be_called s.systems at name grade
   called s good lines held opened is =

@@ -1,4 +1,5 @@
--- The tables of a state stand in the order of their keys, as the answers to questions with ORDER BY do.
+-- The tables of a state stand in the order of their keys, as the answers to questions with ORDER BY
+-- do.
 use Rattle.std.proofs.Common.{◌≡◌, ℕ, List, length, flat_map, Less, Equal, Greater, Ordering, refl}
 use Rattle.std.specs.Ordering.{nat_cmp, ordering_reverse}
 use Rattle.std.specs.Cmp.Lexicographic.{slice_cmp}

@@ -18,8 +18,8 @@ pub record IsAt (s : State) (database : Database) : Type 0 where
 abbrev pub IsOf : State → db.State → Type 0
 IsOf s shown = IsAt s shown.now
 
--- A question commits nothing and, while the connection is open, changes nothing, whatever it answers. What it answers of the
--- tables of a state is exact.
+-- A question commits nothing and, while the connection is open, changes nothing, whatever it
+-- answers. What it answers of the tables of a state is exact.
 pub record Answers {T : Type 0} (IsAnswer : State → T → Type 0) (old new : db.State) (r : Result T Error) : Type 0 where
   pub told : Told site old new r
   pub same : db.HasCleanDisk new → Stands site old.now → OnOk r (new.now ≡ old.now)

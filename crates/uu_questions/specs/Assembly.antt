@@ -88,7 +88,8 @@ lines_and_wait_of_each (s ∷ systems) lines ranges waits =
 abbrev pub HaveWindows : List Line → Type 0
 HaveWindows lines = AllByRecursion (λ (line : Line). AreRuns line.windows) lines
 
--- the rows are those of the system that they make, with this success wait, and it is within its limits
+-- the rows are those of the system that they make, with this success wait, and it is within its
+-- limits
 pub record MakeSystem (s : SystemColumns) (lines : List LineColumns) (ranges : List RangeColumns) (wait : ℕ) : Type 0 where
   pub windows : HaveWindows (lines_from lines ranges)
   pub limits : AreWithinLimits (lines_from lines ranges) s.max_retries wait

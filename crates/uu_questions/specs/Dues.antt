@@ -1,4 +1,5 @@
--- Which systems may be called, and a walk along the jobs that lists each of them once, for the first job for which it may be called.
+-- Which systems may be called, and a walk along the jobs that lists each of them once, for the
+-- first job for which it may be called.
 use Rattle.std.specs.Prelude.{◌≡◌, ℕ, pos, nat_le, Bool, not, ◌&&◌, if◌then◌else◌, List, [], ◌∷◌, ◌++◌, Option}
 use Rattle.std.specs.List.{list_any}
 use Rattle.sqlite.specs.declared.types.Value.TheVariants.{Int, Text}
@@ -15,7 +16,8 @@ use Rattle.uu_tables.specs.declared.rows.SystemColumns.{SystemColumns}
 abbrev pub lets_through : List LineColumns → List ℕ → ℕ → Bool
 lets_through lines name grade = list_any (λ line. same_text line.system name && nat_le grade line.grade) lines
 
--- the windows of one of the lines of the system of this name hold the minute, and its grade is this one or a lower one
+-- the windows of one of the lines of the system of this name hold the minute, and its grade is this
+-- one or a lower one
 abbrev pub is_open : List SystemRow → ℕ → List ℕ → ℕ → Bool
 is_open rows week name grade = list_any (λ row. is_system name row && is_within (limit_at row.def.lines week) grade) rows
 
@@ -27,7 +29,8 @@ is_among systems name = list_any (λ system. same_text system.name name) systems
 abbrev pub due_cells : Due → Row
 due_cells due = Text due.system ∷ Int (pos due.grade) ∷ Int (pos due.number) ∷ []
 
--- the limit that is left of each system lets those grades through for which it may be called, until it is listed
+-- the limit that is left of each system lets those grades through for which it may be called, until
+-- it is listed
 abbrev pub IsLeft : (List ℕ → ℕ → Bool) → (List ℕ → Option ℕ) → List Due → Type 0
 IsLeft may limit dues = (name : List ℕ) (grade : ℕ) → is_within (limit name) grade ≡ (may name grade && not (is_listed dues name))
 
@@ -35,6 +38,7 @@ IsLeft may limit dues = (name : List ℕ) (grade : ℕ) → is_within (limit nam
 abbrev pub with_due : (List ℕ → ℕ → Bool) → List Due → Due → List Due
 with_due may dues due = if may due.system due.grade && not (is_listed dues due.system) then dues ++ due ∷ [] else dues
 
--- A row is taken: its job is listed if its system may be called for it and isn't listed yet, and then the system is no longer left.
+-- A row is taken: its job is listed if its system may be called for it and isn't listed yet, and
+-- then the system is no longer left.
 abbrev pub TakesRow : (List ℕ → Option ℕ) → List Due → Row → (List ℕ → Option ℕ) → List Due → Type 0
 TakesRow limit dues row left more = (may : List ℕ → ℕ → Bool) (due : Due) → row ≡ due_cells due → IsLeft may limit dues → IsLeft may left more × (more ≡ with_due may dues due)

@@ -8,7 +8,8 @@ use Rattle.sqlite.specs.State as db
 use Rattle.uu_sql.specs.Steps.{Stands, Told}
 use Rattle.uu_schema.specs.Schema.{site}
 
--- A question commits nothing and changes nothing, whatever it answers. What is read is read of the rows that its text means.
+-- A question commits nothing and changes nothing, whatever it answers. What is read is read of the
+-- rows that its text means.
 pub record Reads {T : Type 0} (IsRead : List Row → T → Type 0) (text : List ℕ) (params : Row) (old new : db.State) (r : Result T Error) : Type 0 where
   pub told : Told site old new r
   pub same : db.HasCleanDisk new → Stands site old.now → OnOk r (new.now ≡ old.now)

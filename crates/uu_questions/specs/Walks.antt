@@ -11,7 +11,8 @@ abbrev pub Took : {X : Type 0} → (X → Row → X → Type 0) → X → List R
 Took takes before [] after = before ≡ after
 Took {X} takes before (row ∷ rows) after = (mid : X) × takes before row mid × Took takes mid rows after
 
--- A walk commits nothing and changes nothing, whatever it answers. The rows that it took are those that the text means.
+-- A walk commits nothing and changes nothing, whatever it answers. The rows that it took are those
+-- that the text means.
 pub record Walks {X T : Type 0} (takes : X → Row → X → Type 0) (text : List ℕ) (params : Row) (old new : db.State) (before after : X) (r : Result T Error) : Type 0 where
   pub told : Told site old new r
   pub same : db.HasCleanDisk new → Stands site old.now → OnOk r (new.now ≡ old.now)

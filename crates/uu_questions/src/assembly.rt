@@ -171,7 +171,8 @@ fn system_of(
     })
 }
 
-// The systems whose rows, with those of their lines, of the ranges of these and of their success waits, stand at the front one after the other.
+// The systems whose rows, with those of their lines, of the ranges of these and of their success
+// waits, stand at the front one after the other.
 fn put_in_turn(
     alloc: Global,
     systems: &[SystemColumns],
@@ -200,7 +201,8 @@ fn put_in_turn(
     Ok(made)
 }
 
-// Whether the rows are those of systems that a spool may hold: none is left over, and each line stands at its place.
+// Whether the rows are those of systems that a spool may hold: none is left over, and each line
+// stands at its place.
 fn are_of_systems(
     alloc: Global,
     systems: &[SystemColumns],
@@ -226,8 +228,8 @@ fn are_of_systems(
     )
 }
 
-/// The systems whose rows, with those of their lines, of the ranges of these and of their success waits, are given, each list in the order of
-/// its key.
+/// The systems whose rows, with those of their lines, of the ranges of these and of their success
+/// waits, are given, each list in the order of its key.
 pub(crate) fn systems_of(
     alloc: Global,
     systems: &[SystemColumns],

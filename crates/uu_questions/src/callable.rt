@@ -96,7 +96,8 @@ fn without(
     left
 }
 
-// The lowest grade for which each system may be called; a system that may not be called isn't there.
+// The lowest grade for which each system may be called; a system that may not be called isn't
+// there.
 fn limits(
     alloc: Global,
     lines: &[LineColumns],
@@ -108,8 +109,9 @@ fn limits(
     Ok(without(lowest, held))
 }
 
-/// The lowest grade for which each system may be called at this moment; a system that may not be called isn't there. Only the
-/// lines whose windows hold the minute and the systems that are left alone are read.
+/// The lowest grade for which each system may be called at this moment; a system that may not be
+/// called isn't there. Only the lines whose windows hold the minute and the systems that are left
+/// alone are read.
 pub(crate) fn callable<S: Alter>(
     alloc: Global,
     conn: &mut Connection<S>,

@@ -66,7 +66,8 @@ fn offer(
     Ok(())
 }
 
-// The systems that may still be called, each with the lowest grade for which, and what is listed so far.
+// The systems that may still be called, each with the lowest grade for which, and what is listed so
+// far.
 #[derive(Drop)]
 struct DueWalk {
     alloc: Global,
@@ -111,9 +112,10 @@ fn due_within<S: Alter>(
     Ok(walk.dues)
 }
 
-/// The systems that may be called at this moment and have a job to be called for, each with the first of its jobs by grade and number
-/// whose grade is within its limit. They stand by grade and number of these jobs. Three questions are asked: which lines have windows
-/// that hold the minute, which systems are left alone, and the jobs, which are taken one at a time, without their bytes.
+/// The systems that may be called at this moment and have a job to be called for, each with the
+/// first of its jobs by grade and number whose grade is within its limit. They stand by grade and
+/// number of these jobs. Three questions are asked: which lines have windows that hold the minute,
+/// which systems are left alone, and the jobs, which are taken one at a time, without their bytes.
 pub fn systems_due<S: Alter>(
     alloc: Global,
     conn: &mut Connection<S>,

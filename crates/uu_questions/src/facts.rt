@@ -81,7 +81,8 @@ pub(crate) fn head_of_job<S: Alter>(
     )
 }
 
-// The jobs of these numbers without their bytes, as many as are there; a number that stands twice gives its job twice.
+// The jobs of these numbers without their bytes, as many as are there; a number that stands twice
+// gives its job twice.
 fn heads_of_jobs<S: Alter>(
     alloc: Global,
     conn: &mut Connection<S>,

@@ -127,8 +127,9 @@ fn whole_job(head: JobHead, bytes: Vec<u8>) -> Result<Option<(JobHead, Vec<u8>)>
     }
 }
 
-/// The job of this number with its bytes, if it is there. Beside the job itself one piece at a time is held. A job that has another
-/// number of bytes than its row says is an error, off a clean store too.
+/// The job of this number with its bytes, if it is there. Beside the job itself one piece at a time
+/// is held. A job that has another number of bytes than its row says is an error, off a clean store
+/// too.
 pub fn job_of_number<S: Alter>(
     alloc: Global,
     conn: &mut Connection<S>,

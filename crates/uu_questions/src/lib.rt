@@ -1,6 +1,7 @@
-//! The questions that the spool's store asks of its eight tables, each with its answer: what is asked before a command, and what
-//! users ask. A question commits nothing and changes nothing, whatever it answers. Want of memory is `OutOfMemory`; a row that the
-//! tables allow and the format does not is `QueryReturnedNoRows`.
+//! The questions that the spool's store asks of its eight tables, each with its answer: what is
+//! asked before a command, and what users ask. A question commits nothing and changes nothing,
+//! whatever it answers. Want of memory is `OutOfMemory`; a row that the tables allow and the format
+//! does not is `QueryReturnedNoRows`.
 #![tactic(auto)]
 
 mod asks;

@@ -207,8 +207,8 @@ pub(crate) fn system_of_name<S: Alter>(
     Ok(first_of(put_together(alloc, &columns, &rows)?))
 }
 
-/// All systems in the byte order of their names, with their definitions and their calls. A spool may hold what is handed out, off a clean store
-/// too.
+/// All systems in the byte order of their names, with their definitions and their calls. A spool
+/// may hold what is handed out, off a clean store too.
 pub fn all_systems<S: Alter>(
     alloc: Global,
     conn: &mut Connection<S>,

@@ -1,4 +1,5 @@
--- What is printed of the replies to a line's commands, and the line's status. All of it is this project's choice.
+-- What is printed of the replies to a line's commands, and the line's status. All of it is this
+-- project's choice.
 use Rattle.std.specs.Prelude.{ℕ, List, [], ◌∷◌, ◌++◌, codes, if◌then◌else◌}
 use Rattle.std.specs.Fmt.{decimal}
 use Rattle.std.specs.List.{flat_map, list_any, zip}

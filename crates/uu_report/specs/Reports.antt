@@ -1,5 +1,5 @@
--- The reports of jobs, of what is due, of next calls, of queues, of systems and of links. Their forms are this project's choice; the civil
--- calendar is that of `jiff_core`.
+-- The reports of jobs, of what is due, of next calls, of queues, of systems and of links. Their
+-- forms are this project's choice; the civil calendar is that of `jiff_core`.
 use Rattle.std.specs.Prelude.{◌≡◌, ℕ, ◌-◌, Option, Some, List, [], ◌∷◌, ◌++◌, None, codes, slice_get, option_to_list}
 use Rattle.std.specs.Fmt.{decimal}
 use Rattle.std.specs.List.{flat_map}
@@ -101,7 +101,8 @@ why_text why.Held = codes "held"
 why_text why.Closed = codes "closed"
 why_text why.Grade = codes "grade"
 
--- in how many seconds a call comes, counted from the second `now` on, and at which moment; or that it never comes
+-- in how many seconds a call comes, counted from the second `now` on, and at which moment; or that
+-- it never comes
 abbrev pub IsTimeText : Zone → ℕ → Option ℕ → List ℕ → Type 0
 IsTimeText zone now None text = text ≡ codes "never"
 IsTimeText zone now (Some second) text =
@@ -172,6 +173,7 @@ alias_text alias = line_of (codes "=" ∷ alias ∷ [])
 abbrev pub skipped_text : ℕ → List ℕ
 skipped_text line = line_of (codes "skipped" ∷ decimal line ∷ [])
 
--- what an entry says of its host: the links, the other names, and the lines of the skipped statements
+-- what an entry says of its host: the links, the other names, and the lines of the skipped
+-- statements
 abbrev pub links_text : Entry → List ℕ
 links_text entry = flat_map link_text entry.links ++ flat_map alias_text entry.aliases ++ flat_map skipped_text entry.skipped

@@ -1,5 +1,5 @@
-//! What the program prints of what a spool holds and answers: reports, and the output of commands. It knows of no file
-//! and no store.
+//! What the program prints of what a spool holds and answers: reports, and the output of commands.
+//! It knows of no file and no store.
 #![tactic(auto)]
 
 mod clock;

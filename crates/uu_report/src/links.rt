@@ -9,8 +9,8 @@ use std::alloc::{AllocError, Global};
 use uu_map::{Cost, Entry, Link};
 use uu_names::SiteName;
 
-/// The report of an entry: `NAME COST` or `NAME dead` for each link, then `= ALIAS` for each alias, then
-/// `skipped LINE` for each skipped statement, all in the entry's order.
+/// The report of an entry: `NAME COST` or `NAME dead` for each link, then `= ALIAS` for each alias,
+/// then `skipped LINE` for each skipped statement, all in the entry's order.
 pub fn links_report(alloc: Global, entry: &Entry) -> Result<Vec<u8>, AllocError>
     ensures { IfOk result (λ report. report.items ≡ links_text entry.now) }
 {

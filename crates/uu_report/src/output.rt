@@ -39,8 +39,8 @@ pub fn answer_lines(
     Ok(lines)
 }
 
-/// The output of a line whose commands were all answered: their lines, and then `skipped LINE` for each line of the
-/// input that was skipped.
+/// The output of a line whose commands were all answered: their lines, and then `skipped LINE` for
+/// each line of the input that was skipped.
 pub fn output_of(
     alloc: Global,
     subjects: &[Subject],

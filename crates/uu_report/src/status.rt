@@ -10,8 +10,9 @@ use uu_core::{CallState, Outcome, SystemRow};
 use uu_times::Zone;
 use uu_times::moment::LAST_SECOND;
 
-/// The report of these systems, in their order, a line for each: `SYSTEM FAILURES WAIT STATE`, the wait in
-/// seconds, the state as `never`, `done MOMENT` or `failed MOMENT WHY`, the moment on the site's clock.
+/// The report of these systems, in their order, a line for each: `SYSTEM FAILURES WAIT STATE`, the
+/// wait in seconds, the state as `never`, `done MOMENT` or `failed MOMENT WHY`, the moment on the
+/// site's clock.
 pub fn status_report(
     alloc: Global,
     systems: &[SystemRow],

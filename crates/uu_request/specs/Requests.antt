@@ -1,6 +1,7 @@
--- What a line asks of a spool, at a moment on the site's clock and with an input. (Sending and requesting files, executing
--- commands, killing and rejuvenating jobs: Taylor UUCP 1.07 manual, on uucp, uux and uustat; `rmail` and its envelope: RFC 976;
--- the subcommands and what else they ask are this project's choice.)
+-- What a line asks of a spool, at a moment on the site's clock and with an input. (Sending and
+-- requesting files, executing commands, killing and rejuvenating jobs: Taylor UUCP 1.07 manual, on
+-- uucp, uux and uustat; `rmail` and its envelope: RFC 976; the subcommands and what else they ask
+-- are this project's choice.)
 use Rattle.std.specs.Prelude.{◌≡◌, ℕ, ◌≤◌, ◌&&◌, nat_lt, length, List, [], ◌∷◌, map, Result, Ok, Err, codes, ⊤, slice_range, if◌then◌else◌}
 use Rattle.std.specs.List.{list_any}
 use Rattle.uu_names.specs.Envelope.{envelope_of}
@@ -46,8 +47,8 @@ abbrev pub queue : List ℕ → Moment → List ℕ → ℕ → Kind → List �
 queue user at system grade kind bytes =
     one (command.Queue (record { system = system; grade = grade; user = user; kind = kind; bytes = bytes; at = at }))
 
--- A message: the system runs `rmail` with what it is to do as its arguments, and the envelope as its input, with the date and time
--- of the site's clock and the site's name.
+-- A message: the system runs `rmail` with what it is to do as its arguments, and the envelope as
+-- its input, with the date and time of the site's clock and the site's name.
 abbrev pub mail : Settings → List ℕ → Moment → List ℕ → ℕ → List (List ℕ) → List ℕ → Request
 mail settings user at system grade rests message =
     queue user at system grade (kind.Execute (codes "rmail") rests) (envelope_of user at.local settings.name message)

@@ -16,7 +16,8 @@ use uu_settings::Settings;
 use uu_times::Moment;
 use uu_times::laws::zones_are_what_they_say;
 
-/// A message to a system, which is to run `rmail` with these arguments: its envelope is handed in now.
+/// A message to a system, which is to run `rmail` with these arguments: its envelope is handed in
+/// now.
 pub(crate) fn mail(
     alloc: Global,
     user: Word,

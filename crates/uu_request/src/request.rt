@@ -38,7 +38,8 @@ pub struct Batch {
     pub commands: Listed<Command>,
     /// For each command, what its reply is told of.
     pub subjects: Listed<Subject>,
-    /// The lines of the input that were skipped, counted from 1. They are told once every command was answered.
+    /// The lines of the input that were skipped, counted from 1. They are told once every command
+    /// was answered.
     pub skipped: Listed<u32>,
 }
 
@@ -62,11 +63,12 @@ pub enum Question {
     Entry(SiteName),
 }
 
-/// What the line asks of a spool, at this moment on the site's clock and with this input, which is the job's where the line hands one in.
+/// What the line asks of a spool, at this moment on the site's clock and with this input, which is
+/// the job's where the line hands one in.
 ///
 /// # Errors
-/// `Input` exactly where the line takes an input and that has more than `MAX_TEXT` bytes, then `Time` with the fault
-/// of the first faulty line of a sys file, else `Memory`.
+/// `Input` exactly where the line takes an input and that has more than `MAX_TEXT` bytes, then
+/// `Time` with the fault of the first faulty line of a sys file, else `Memory`.
 pub fn request_of(
     alloc: Global,
     line: CommandLine,

@@ -1,4 +1,5 @@
--- From the answer of a query over one table to what it says of the table's typed rows, in whatever order the table has them.
+-- From the answer of a query over one table to what it says of the table's typed rows, in whatever
+-- order the table has them.
 use Rattle.std.proofs.Common.{◌≡◌, ℕ, List, [], ◌∷◌, map, filter, Bool, false, Ordering, Less, sym, ap, subst, ◌∙◌}
 use Rattle.std.specs.List.{list_all}
 use Rattle.std.specs.Ordering.{is_eq}
@@ -17,7 +18,8 @@ use Rattle.sqlite_keyed.proofs.SortLemmas.{sorted_unique, sorted_is-sort_by, sor
 use Rattle.uu_sql.proofs.Asks.{ordered}
 use Rattle.uu_sql.proofs.Rows.{matched}
 
--- `shown` is what the table's rows show of themselves, and `see` makes of that a row of which the query says the same
+-- `shown` is what the table's rows show of themselves, and `see` makes of that a row of which the
+-- query says the same
 module _ (t : ℕ) (tests project : List Term) (order : List (Term × Key)) (db : Trees) (params : Row) (rows : List Row) (bare : overlay db [] t ≡ db t)
     (a : IsAnswer (ordered t tests project order) (overlay db []) params rows)
     (shown see : Row → Row)

@@ -1,5 +1,6 @@
--- Typed rows whose values are those of their types, so that their rows can be read: numbers of 32 bits, names, words and grades. The rows of
--- a state keep closer limits, which `uu_check` says (`specs/Readable.antt` there).
+-- Typed rows whose values are those of their types, so that their rows can be read: numbers of 32
+-- bits, names, words and grades. The rows of a state keep closer limits, which `uu_check` says
+-- (`specs/Readable.antt` there).
 use Rattle.std.specs.Prelude.{ℕ, pos, ◌<◌, ◌^◌, [], ◌∷◌, IsTrue, IfSome}
 use Rattle.sqlite.specs.declared.types.Value.TheVariants.{Int}
 use Rattle.sqlite.specs.Order.{Row}

@@ -9,7 +9,8 @@ use Rattle.sqlite.specs.State as db
 use Rattle.uu_sql.specs.Steps.{Told}
 use Rattle.uu_schema.specs.Schema.{site}
 
--- What a question in SQL shows are the rows that its text means, and it changes nothing, whatever tables there are. An error is the database's, of this text.
+-- What a question in SQL shows are the rows that its text means, and it changes nothing, whatever
+-- tables there are. An error is the database's, of this text.
 pub record Shows (text : List ℕ) (params : Row) (old new : db.State) (r : Result (Vec Row Global) Error) : Type 0 where
   pub told : Told site old new r
   pub same : db.HasCleanDisk new → OnOk r (new.now ≡ old.now)

@@ -20,7 +20,8 @@ pub enum RowFault {
 }
 
 impl RowFault {
-    /// The same as an error of the database: want of memory as want of memory, and a bad row as one that is not there.
+    /// The same as an error of the database: want of memory as want of memory, and a bad row as one
+    /// that is not there.
     pub fn as_error(self) -> Error
         ensures { result ≡ error_of self }
     {

@@ -1,5 +1,6 @@
-//! Rows of the spool's tables, read as typed rows: what each column has to hold, and the rows of a table in the order of its key.
-//! Want of memory is `RowFault::Memory`; a row that the tables allow and the format does not is `RowFault::Bad`.
+//! Rows of the spool's tables, read as typed rows: what each column has to hold, and the rows of a
+//! table in the order of its key. Want of memory is `RowFault::Memory`; a row that the tables allow
+//! and the format does not is `RowFault::Bad`.
 #![tactic(auto)]
 
 mod asks;

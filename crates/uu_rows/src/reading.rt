@@ -64,7 +64,8 @@ fn read_first<T: TypedRow>(alloc: Global, rows: &[Row]) -> Result<Option<T>, Row
     }
 }
 
-/// The first of the rows as a typed row, if there is one. A row that the format does not allow is an error of the database.
+/// The first of the rows as a typed row, if there is one. A row that the format does not allow is
+/// an error of the database.
 pub fn first_row<T: TypedRow>(alloc: Global, rows: &[Row]) -> Result<Option<T>, Error>
     ensures row { IfOk result (λ found. option_map T.cells found ≡ slice_get rows.now 0) }
     ensures readable { IfOk result (λ found. IfSome found T.IsReadable) }

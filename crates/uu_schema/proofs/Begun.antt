@@ -1,4 +1,5 @@
--- The tables that are made are those of an empty spool, and those that are migrated hold what they held.
+-- The tables that are made are those of an empty spool, and those that are migrated hold what they
+-- held.
 use Rattle.std.proofs.Common.{◌≡◌, ℕ, List, [], refl, subst, sym, ◌∙◌}
 use Rattle.std.proofs.lemmas.List.Sorted.{IsPermutation-refl}
 use Rattle.sqlite.specs.Order.{Row}

@@ -1,4 +1,5 @@
--- The cells of each typed row: the values of its columns, in order. (The numbers of the kinds and the text of arguments are this project's choice.)
+-- The cells of each typed row: the values of its columns, in order. (The numbers of the kinds and
+-- the text of arguments are this project's choice.)
 use Rattle.std.specs.Prelude.{ℕ, pos, List, [], ◌∷◌}
 use Rattle.std.specs.List.{join_with_byte}
 use Rattle.sqlite.specs.declared.types.Value.TheVariants.{Int, Text, Blob}

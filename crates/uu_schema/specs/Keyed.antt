@@ -9,8 +9,8 @@ use Rattle.uu_sql.specs.Rowids.{AreNumbered, OnceEach}
 abbrev pub columns : List ℕ → Row → Row
 columns places r = map (column r) places
 
--- The rows show the cells of each element at these places, in any order. No two elements have one key, and the rows have
--- rowids that tell them apart.
+-- The rows show the cells of each element at these places, in any order. No two elements have one
+-- key, and the rows have rowids that tell them apart.
 pub record Keyed {K X : Type 0} (key : X → K) (cells : X → Row) (places : List ℕ) (xs : List X) (rows : List Row) : Type 0 where
   pub same : IsPermutation (map cells xs) (map (columns places) rows)
   pub numbered : AreNumbered rows

@@ -24,7 +24,8 @@ number_of Second = 2
 abbrev pub version : ℕ
 version = number_of Second
 
--- The row of `spool` as the port keeps it: the rowid, then the columns, where an INTEGER PRIMARY KEY is kept as Null.
+-- The row of `spool` as the port keeps it: the rowid, then the columns, where an INTEGER PRIMARY
+-- KEY is kept as Null.
 abbrev pub spool_row_of : Version → ℕ → Row
 spool_row_of v next = Int (pos 1) ∷ Null ∷ Int (pos (number_of v)) ∷ Int (pos next) ∷ []
 

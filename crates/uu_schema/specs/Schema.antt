@@ -1,4 +1,5 @@
--- The eight tables of the spool, version 2, those of version 1, and the texts that make them. (This project's choice.)
+-- The eight tables of the spool, version 2, those of version 1, and the texts that make them. (This
+-- project's choice.)
 use Rattle.std.specs.Prelude.{[], ◌∷◌, codes, List, ℕ}
 use Rattle.sqlite.specs.Table.{Table}
 use Rattle.sqlite.specs.Schema.{Schema}

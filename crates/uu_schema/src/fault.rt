@@ -29,7 +29,8 @@ pub enum StoreFault {
     /// Memory was refused. Nothing changed, and the spool can be used.
     #[error("out of memory")]
     Memory,
-    /// The database failed. The command in hand may stand in the file or not; from then on every call but `release` answers `Failed`.
+    /// The database failed. The command in hand may stand in the file or not; from then on every
+    /// call but `release` answers `Failed`.
     #[error("the store failed")]
     Store(StoreKind),
     /// An earlier call answered `Store`. The file is to be opened again.
@@ -104,7 +105,8 @@ pub fn kind_of(error: &SqlError) -> StoreKind
     }
 }
 
-/// What an error of the database means for the caller. It is want of memory only where the connection still answers.
+/// What an error of the database means for the caller. It is want of memory only where the
+/// connection still answers.
 pub fn store_fault<S: Alter>(conn: &mut Connection<S>, error: &SqlError) -> StoreFault
     requires { conn.old.in_transaction ≡ false }
     ensures idle { conn.new.in_transaction ≡ false }
@@ -120,8 +122,8 @@ pub fn store_fault<S: Alter>(conn: &mut Connection<S>, error: &SqlError) -> Stor
     }
 }
 
-/// What a command that stopped means for the caller. A commit that was refused is never want of memory, since what it
-/// left is not known; the database is not asked any more then.
+/// What a command that stopped means for the caller. A commit that was refused is never want of
+/// memory, since what it left is not known; the database is not asked any more then.
 pub fn halt_fault<S: Alter>(conn: &mut Connection<S>, halt: &Halt) -> StoreFault
     requires { conn.old.in_transaction ≡ false }
     ensures idle { conn.new.in_transaction ≡ false }

@@ -168,13 +168,15 @@ fn create_tables<S: Alter>(tx: &mut Transaction<'_, S>) -> Result<usize, Error>
     create_from_systems(tx)
 }
 
-/// Makes the tables of an empty spool in a database without tables, all of them or none, in one transaction.
+/// Makes the tables of an empty spool in a database without tables, all of them or none, in one
+/// transaction.
 pub fn create<S: Alter>(conn: &mut Connection<S>) -> Result<(), Halt>
     requires { conn.old.in_transaction ≡ false }
     ensures idle { conn.new.in_transaction ≡ false }
     ensures whole { Whole no_schema site MakesEmpty (state S.Store conn.old) (state S.Store conn.new) result }
 
-    // Nothing of a transaction that stopped before its commit can be kept, whatever the database. A commit that was refused is not such a one.
+    // Nothing of a transaction that stopped before its commit can be kept, whatever the database. A
+    // commit that was refused is not such a one.
     ensures before { (error : Error) → result ≡ Err (Before error) → Survives (state S.Store conn.old) (state S.Store conn.new) (λ _. ⊥) }
 {
     let mut tx = conn.transaction();
@@ -206,8 +208,8 @@ pub fn migrate<S: Alter>(conn: &mut Connection<S>) -> Result<(), Halt>
     ensures idle { conn.new.in_transaction ≡ false }
     ensures whole { Whole first_site site Migrates (state S.Store conn.old) (state S.Store conn.new) result }
 
-    // Nothing of a transaction that stopped before its commit can be kept, and what was committed shows again, whatever the database. A commit that
-    // was refused is not such a one.
+    // Nothing of a transaction that stopped before its commit can be kept, and what was committed
+    // shows again, whatever the database. A commit that was refused is not such a one.
     ensures before { (error : Error) → result ≡ Err (Before error) → Survives (state S.Store conn.old) (state S.Store conn.new) (λ _. ⊥) }
     ensures undone { (error : Error) → result ≡ Err (Before error) → HasCleanDisk (state S.Store conn.new) → Undid (state S.Store conn.old) (state S.Store conn.new) }
 {

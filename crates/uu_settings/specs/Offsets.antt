@@ -1,4 +1,5 @@
--- The minutes that a site's clock may be ahead of UTC: less than a day, either way. The limit is this project's choice.
+-- The minutes that a site's clock may be ahead of UTC: less than a day, either way. The limit is
+-- this project's choice.
 use Rattle.std.specs.Prelude.{ℤ, pos, neg_ℤ, ◌≤ℤ◌, Bool, ◌&&◌, int_le}
 use Rattle.uu_times.specs.Zone.{most_offset}
 

@@ -1,4 +1,5 @@
--- What a TOML document (TOML 1.1) sets for a site. The keys, their order and their limits are this project's choice.
+-- What a TOML document (TOML 1.1) sets for a site. The keys, their order and their limits are this
+-- project's choice.
 use Rattle.std.specs.Prelude.{◌≡◌, ℕ, pos, not, ◌==◌, length, Bool, List, [], ◌∷◌, Option, Some, None, Result, Ok, Err, ⊤, if◌then◌else◌, ok_or, option_map, option_and_then, string_bytes}
 use Rattle.std.specs.Result.{result_ok}
 use Rattle.toml.specs.Data.{Data, Items, Members, no_items, item, as_str, as_integer, as_array, get_member}

@@ -54,7 +54,8 @@ pub enum SettingsFault {
 }
 
 impl SettingsFault {
-    /// The fault's number, from 1 for [`SettingsFault::NotToml`] to 4 for [`SettingsFault::Memory`], in the order of the variants.
+    /// The fault's number, from 1 for [`SettingsFault::NotToml`] to 4 for
+    /// [`SettingsFault::Memory`], in the order of the variants.
     pub fn code(&self) -> u8
         ensures { result ≡ fault_code self.now }
     {

@@ -10,15 +10,16 @@ use std::alloc::Global;
 use toml::Table;
 
 impl Settings {
-    /// Reads settings from a TOML document (TOML 1.1). The keys `name`, a site name, and `spool`, a text of one byte or
-    /// more, have to be there. `offset`, a whole number of minutes from -1439 to 1439, or `zone`, the text of a POSIX rule, says
-    /// the clock, which is UTC where both are absent; `admins`, an array of words, is empty where it is. Other keys are passed
-    /// over.
+    /// Reads settings from a TOML document (TOML 1.1). The keys `name`, a site name, and `spool`, a
+    /// text of one byte or more, have to be there. `offset`, a whole number of minutes from -1439
+    /// to 1439, or `zone`, the text of a POSIX rule, says the clock, which is UTC where both are
+    /// absent; `admins`, an array of words, is empty where it is. Other keys are passed over.
     ///
     /// # Errors
-    /// `NotToml` where the text is no TOML document. Else the first fault of the keys in the order `name`, `offset`,
-    /// `zone`, `spool`, `admins`: `Missing` where a key that has to be there isn't, `BadValue` where a key has another value,
-    /// and of `zone` where `offset` is there too. Else `Memory`.
+    /// `NotToml` where the text is no TOML document. Else the first fault of the keys in the order
+    /// `name`, `offset`, `zone`, `spool`, `admins`: `Missing` where a key that has to be there
+    /// isn't, `BadValue` where a key has another value, and of `zone` where `offset` is there too.
+    /// Else `Memory`.
     pub fn read(alloc: Global, text: &str) -> Result<Settings, SettingsFault>
         ensures { IsAnswerTo text.now result }
     {

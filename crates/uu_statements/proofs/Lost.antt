@@ -1,4 +1,5 @@
--- Rows that go, for any table: those that a deed takes pass a test, and where none that is left passes it, they are all that do.
+-- Rows that go, for any table: those that a deed takes pass a test, and where none that is left
+-- passes it, they are all that do.
 use Rattle.std.proofs.Common.{◌≡◌, ◌⊎◌, inl, inr, ℕ, ℤ, List, [], ◌∷◌, map, filter, Bool, true, false, not, refl, sym, ap, subst, ◌∙◌, Ordering, Less, Equal, Greater, true≢false}
 use Rattle.std.specs.Prelude.{IsTrue}
 use Rattle.std.specs.List.{list_any}

@@ -1,4 +1,5 @@
--- A row that INSERT put in has a key of its own: its rowid is free, and the index of the key refuses a row that agrees with another.
+-- A row that INSERT put in has a key of its own: its rowid is free, and the index of the key
+-- refuses a row that agrees with another.
 use Rattle.std.proofs.Common.{◌≡◌, ◌≢◌, inr, ℕ, ℤ, List, [], ◌∷◌, Bool, true, false, refl, sym, ap, subst, ◌∙◌, Ordering, Less, Equal, Greater, true≢false}
 use Rattle.std.specs.Prelude.{IsTrue, ◌&&◌}
 use Rattle.std.specs.Ordering.{is_eq, is_ne, ordering_reverse}

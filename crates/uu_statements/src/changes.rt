@@ -86,7 +86,8 @@ pub(crate) fn commit<S: Alter>(
     ensures idle { conn.new.in_transaction ≡ false }
     ensures whole { Whole site site (MakesAll changes.now) (state S.Store conn.old) (state S.Store conn.new) result }
 
-    // Nothing of a transaction that stopped before its commit can be kept, whatever the database. A commit that was refused is not such a one.
+    // Nothing of a transaction that stopped before its commit can be kept, whatever the database. A
+    // commit that was refused is not such a one.
     ensures before { (error : Error) → result ≡ Err (Before error) → Survives (state S.Store conn.old) (state S.Store conn.new) (λ _. ⊥) }
 {
     let mut tx = conn.transaction();

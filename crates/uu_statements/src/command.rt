@@ -19,7 +19,8 @@ use uu_core::Reply;
 use uu_schema::{Halt, StoreFault, halt_fault};
 use uu_tables::Plan;
 
-// Carries out what is planned. A plan without changes, as that of a refused command, makes no call of the database.
+// Carries out what is planned. A plan without changes, as that of a refused command, makes no call
+// of the database.
 fn write_plan<S: Alter>(
     alloc: Global,
     conn: &mut Connection<S>,
@@ -39,7 +40,8 @@ fn write_plan<S: Alter>(
     Ok(plan.reply)
 }
 
-/// Carries out a command of which this is the plan: its changes in one transaction, or no call of the database where it has none.
+/// Carries out a command of which this is the plan: its changes in one transaction, or no call of
+/// the database where it has none.
 pub fn carry_out<S: Alter>(
     alloc: Global,
     conn: &mut Connection<S>,
@@ -52,7 +54,8 @@ pub fn carry_out<S: Alter>(
     ensures untouched { plan.entry.changes.items ≡ [] → (result ≡ Ok plan.entry.reply) × (conn.new ≡ conn.old) }
     ensures step { (s : State) → (command : Command) → IsPlan s command plan.entry → IsToldStep s command (state S.Store conn.old) (state S.Store conn.new) result }
 
-    // Want of memory is never told of a commit that was refused: a stop leaves what it could leave before, whatever the database.
+    // Want of memory is never told of a commit that was refused: a stop leaves what it could leave
+    // before, whatever the database.
     ensures memory { result ≡ Err Memory → Survives (state S.Store conn.old) (state S.Store conn.new) (λ _. ⊥) }
 {
     match write_plan(alloc, conn, plan) {

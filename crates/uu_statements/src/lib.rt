@@ -1,4 +1,5 @@
-//! Changes of the spool's tables, each one statement, and the changes of a command as one transaction.
+//! Changes of the spool's tables, each one statement, and the changes of a command as one
+//! transaction.
 #![tactic(auto)]
 
 mod changes;

@@ -58,7 +58,8 @@ goes_or_not (Some Failed) = inr (λ h. h)
 goes_or_not (Some Foreign) = inr (λ h. h)
 goes_or_not (Some Newer) = inr (λ h. h)
 
--- what a stretch that began with a state may leave: the state after one of two lists of commands, both of which count
+-- what a stretch that began with a state may leave: the state after one of two lists of commands,
+-- both of which count
 pub record LeavesTwo (it : Stretch) (s : State) : Type 0 where
   pub one : List Command
   pub other : List Command

@@ -20,7 +20,8 @@ use Rattle.uu_store.specs.Exchanges.{Exchange, Passes}
 abbrev pub IsAcknowledged : List Exchange → NewJob → ℕ → Type 0
 IsAcknowledged exchanges new number = (it : Exchange) × Contains exchanges it × Contains (zip it.commands it.replies) (Queue new, Number number)
 
--- the job is there under its number, with all its bytes; its grade and its time of queueing may have changed
+-- the job is there under its number, with all its bytes; its grade and its time of queueing may
+-- have changed
 abbrev pub IsThere : State → NewJob → ℕ → Type 0
 IsThere state new number = (job : Job) × (job_at state number ≡ Some job) × IsSameJob (job_of number new) job
 
@@ -33,7 +34,8 @@ pub record IsAccountedFor (s : State) (counted : List Command) (new : NewJob) (n
   pub kept : IsThere (state_after s counted) new number ⊎ WasLetGo s counted number
   pub alone : (job : Job) → Contains (state_after s counted).jobs job → job.number ≡ number → IsSameJob (job_of number new) job
 
--- what was found stores the state after the commands that count, and the job is accounted for by these
+-- what was found stores the state after the commands that count, and the job is accounted for by
+-- these
 abbrev pub StoresJob : State → List Exchange → NewJob → ℕ → db.State → Type 0
 StoresJob s told new number found = (counted : List Command) × Passes s told counted × Rests found × Stores found.now (state_after s counted) × IsAccountedFor s counted new number
 

@@ -33,8 +33,10 @@ KeepsAlone image s = ∥ ImageKeeps image s ∥₁ × ∥ ImageKeeps (record ima
 abbrev pub HoldsOneOf : (Trees → Type 0) → Image → Type 0
 HoldsOneOf could_leave image = ∥ ((trees : Trees) × could_leave trees × HoldsDatabase image trees) ∥₁
 
--- The store that was let go has these files, and on a clean disk it is open, with a log of no frames. While the disk returned what was written, a stop leaves files that hold a
--- database which it could leave before, and they keep the state that the spool showed, as they read now and as a stop leaves them.
+-- The store that was let go has these files, and on a clean disk it is open, with a log of no
+-- frames. While the disk returned what was written, a stop leaves files that hold a database which
+-- it could leave before, and they keep the state that the spool showed, as they read now and as a
+-- stop leaves them.
 pub record IsClosed {D : Type 0} {g : disk.Ghosts D} (spool : Spool (FileStore D g) over_files) (files : Files D) : Type 0 where
   pub last : FileStore D g
   pub files_are : store.files last ≡ (files.log, files.db)
@@ -45,7 +47,8 @@ pub record IsClosed {D : Type 0} {g : disk.Ghosts D} (spool : Spool (FileStore D
   pub now : AreClean g files.log files.db → (s : State) → Shows spool s → KeepsAlone (image_of g files) s
   pub stop : AreClean g files.log files.db → (s : State) → Shows spool s → (image : Image) → outcomes g files.log files.db image → KeepsAlone image s
 
--- a spool was given the commands, which ended so, and then its files were closed, or its store was let go where that failed
+-- a spool was given the commands, which ended so, and then its files were closed, or its store was
+-- let go where that failed
 pub record IsRunAndClosed {D : Type 0} {g : disk.Ghosts D} (spool : Spool (FileStore D g) over_files) (commands : List Command) (replies : List Reply) (fault : Option StoreFault)
     (close : Result (Files D) (StoreFault × FileStore D g)) : Type 0 where
   pub ended : Spool (FileStore D g) over_files
@@ -53,18 +56,20 @@ pub record IsRunAndClosed {D : Type 0} {g : disk.Ghosts D} (spool : Spool (FileS
   pub closed : IfOk close (IsClosed ended)
   pub let_go : IfErr close (λ e. IsLetGo over_files (connection_of ended).store e.1)
 
--- Why a close failed: it tells of the disk only where that failed or refused a call meanwhile, and nothing is too big. (Memory that was refused
--- and a store that was shut are told as `Database`.)
+-- Why a close failed: it tells of the disk only where that failed or refused a call meanwhile, and
+-- nothing is too big. (Memory that was refused and a store that was shut are told as `Database`.)
 abbrev pub HasCause : {D : Type 0} {g : disk.Ghosts D} → StoreKind → FileStore D g → FileStore D g → Type 0
 HasCause part.Disk was last = MoreFaults (store.faults was) (store.faults last)
 HasCause part.Size was last = ⊥
 HasCause part.Database was last = ⊤
 
--- it has a cause, whatever the store was before: the disk failed or refused some call, and nothing is too big
+-- it has a cause, whatever the store was before: the disk failed or refused some call, and nothing
+-- is too big
 abbrev pub HasSomeCause : {D : Type 0} {g : disk.Ghosts D} → StoreKind → FileStore D g → Type 0
 HasSomeCause {D} {g} kind last = (was : FileStore D g) × HasCause kind was last
 
--- which fault a close that fails after a run tells, by how the run ended: `Failed` exactly where the store had failed in it, and else `Store`
+-- which fault a close that fails after a run tells, by how the run ended: `Failed` exactly where
+-- the store had failed in it, and else `Store`
 abbrev pub IsToldAfter : Option StoreFault → StoreFault → Type 0
 IsToldAfter stopped (Store kind) = GoesOn stopped
 IsToldAfter stopped Failed = ¬ GoesOn stopped

@@ -44,7 +44,8 @@ pub record IsOverFiles {D : Type 0} {g : disk.Ghosts D} (before : Image) (exchan
   pub numbered : IsTrue (view stopped).is_numbered
   pub may : (files_of stopped).may_leave left
 
--- the opening found what the files held, its spool was closed, and the stop left one of the contents that it could leave of the closed files
+-- the opening found what the files held, its spool was closed, and the stop left one of the
+-- contents that it could leave of the closed files
 pub record IsOverClosed {D : Type 0} {g : disk.Ghosts D} (before : Image) (exchange : Exchange) (opened : Held (FileStore D g)) (files : Files D) (left : Image) : Type 0 where
   pub found : IsFound before (file_state opened)
   pub last : Spool (FileStore D g) over_files
@@ -84,7 +85,8 @@ KeepsJob s told new number image = (counted : List Command) × Passes s told cou
 
 -- ---- the stretches that calls make
 
--- A stretch of work over files that held this: this was asked and answered, and the store was let go so.
+-- A stretch of work over files that held this: this was asked and answered, and the store was let
+-- go so.
 pub record IsStretch {D : Type 0} {g : disk.Ghosts D} (before : Image) (exchange : Exchange) (stopped : FileStore D g) : Type 0 where
   pub opened : Held (FileStore D g)
   pub passed : IsClean (view stopped) → (left : Image) → (files_of stopped).may_leave left → IsOverFiles before exchange opened stopped left

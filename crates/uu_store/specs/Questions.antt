@@ -11,12 +11,15 @@ use Rattle.uu_store.specs.declared.spool.Spool.{Spool}
 use Rattle.uu_store.specs.Spool.{disk, failure_of, has_failed, Shows, Marks, Notes}
 use Rattle.uu_store.specs.Runs.{Ran, fault_in}
 
--- A question is answered by the state that the spool shows, and changes nothing, whatever it answers.
+-- A question is answered by the state that the spool shows, and changes nothing, whatever it
+-- answers.
 pub record IsQuestion {S : Type 0} {g : Ghosts S} {T : Type 0} (IsAnswer : State → T → Type 0) (old new : Spool S g) (r : Result T StoreFault) : Type 0 where
-  -- it is answered where the spool can be used, before and afterwards; else the fault says how that is
+  -- it is answered where the spool can be used, before and afterwards; else the fault says how that
+  -- is
   pub marked : MatchResult r (λ _. (has_failed old ≡ false) × (has_failed new ≡ false)) (Marks (has_failed old) (has_failed new))
   pub noted : IfErr r (Notes (failure_of new))
-  -- on a clean store the answer is that of the state, which the spool shows as before, for want of memory too
+  -- on a clean store the answer is that of the state, which the spool shows as before, for want of
+  -- memory too
   pub answer : HasCleanDisk (disk new) → (s : State) → Shows old s → IfOk r (λ answer. IsAnswer s answer × Shows new s)
   pub memory : HasCleanDisk (disk new) → (s : State) → Shows old s → r ≡ Err Memory → Shows new s
   -- a stop at its end leaves that state

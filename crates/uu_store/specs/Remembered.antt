@@ -10,8 +10,9 @@ use Rattle.uu_store.specs.Spool.{disk}
 use Rattle.uu_store.specs.Stretches.{StretchOver, Led, ShowsAfter, told}
 use Rattle.uu_store.specs.Acknowledged.{IsAcknowledged, ShowsJob}
 
--- Whatever stretches led to the connection that it was made of, it shows the state after every command that was answered, and at most one
--- more of each stretch in which the store failed, and each job whose number was told, unless an accepted command let it go.
+-- Whatever stretches led to the connection that it was made of, it shows the state after every
+-- command that was answered, and at most one more of each stretch in which the store failed, and
+-- each job whose number was told, unless an accepted command let it go.
 pub record Remembers {S : Type 0} {g : Ghosts S} (found : Held S) (spool : Spool S g) : Type 0 where
   pub commands : db.HasCleanDisk (disk spool) → (s : State) (before : Held S) (stretches : List (StretchOver S)) → Led g s before stretches found → ∥ ShowsAfter s (told g stretches) spool ∥₁
   pub jobs : db.HasCleanDisk (disk spool) → (s : State) (before : Held S) (stretches : List (StretchOver S)) → Led g s before stretches found

@@ -1,4 +1,5 @@
--- What a run of commands over a spool did: a list that was given one after the other, until one was not answered.
+-- What a run of commands over a spool did: a list that was given one after the other, until one was
+-- not answered.
 use Rattle.std.specs.Prelude.{◌≡◌, ◌≤◌, ◌+◌, List, [], ◌∷◌, length, take, Option, Some, None, Result, Ok, Err, ⊤}
 use Rattle.sqlite.specs.Store.{Ghosts}
 use Rattle.sqlite.specs.State as db
@@ -26,8 +27,9 @@ GoesOn (Some Newer) = ⊥
 abbrev pub answered : List Reply → List Command → List Command
 answered replies commands = take (length replies) commands
 
--- What a run did where the spool showed a state: the commands that were answered were steps of the machine, and the replies are its replies.
--- The spool shows the state after them, and a stop leaves that; where the store failed, that or the state after one more command.
+-- What a run did where the spool showed a state: the commands that were answered were steps of the
+-- machine, and the replies are its replies. The spool shows the state after them, and a stop leaves
+-- that; where the store failed, that or the state after one more command.
 pub record RanFrom {S : Type 0} {g : Ghosts S} (s : State) (commands : List Command) (new : Spool S g) (replies : List Reply) (stopped : Option StoreFault) : Type 0 where
   pub answers : replies ≡ replies_to s (answered replies commands)
   pub shows : GoesOn stopped → Shows new (state_after s (answered replies commands))

@@ -1,4 +1,5 @@
--- Stretches of work over a store: each from an opening to a stop, and the next opening finds what that stop may have left.
+-- Stretches of work over a store: each from an opening to a stop, and the next opening finds what
+-- that stop may have left.
 use Rattle.std.specs.Prelude.{◌≡◌, ◌⊎◌, ◌≤◌, IsTrue, List, [], ◌∷◌, map, Option}
 use Rattle.sqlite.specs.Tree.{Trees}
 use Rattle.sqlite.specs.Store.{Ghosts}
@@ -25,7 +26,8 @@ pub record Adopted {S : Type 0} {g : Ghosts S} (was : Held S) (spool : Spool S g
   pub shows : db.HasCleanDisk (disk spool) → (s : State) → Rests (state g was) → Stores (state g was).now s → Shows spool s
   pub clean : StaysUnclean (state g was) (disk spool)
 
--- A database was not taken as a spool, or the store failed meanwhile: a stop leaves what keeps the state.
+-- A database was not taken as a spool, or the store failed meanwhile: a stop leaves what keeps the
+-- state.
 pub record TurnedAway {S : Type 0} (g : Ghosts S) (was now : Held S) : Type 0 where
   pub stop : db.HasCleanDisk (state g now) → (s : State) → Rests (state g was) → Stores (state g was).now s → KeepsOnly (state g now).may_leave s
   pub clean : StaysUnclean (state g was) (state g now)
@@ -82,7 +84,8 @@ pub record Unworked (it : Stretch) : Type 0 where
   pub ending : it.exchange.ending ≡ none_given
   pub let_go : IsLetGo it.store last.store it.stopped
 
--- The database was taken and the commands were run, or it was not taken. Until the stop the disk returned what was written.
+-- The database was taken and the commands were run, or it was not taken. Until the stop the disk
+-- returned what was written.
 pub record Passed (it : Stretch) : Type 0 where
   pub work : Worked it ⊎ Unworked it
   pub clean : IsClean (it.store.view it.stopped)
@@ -95,8 +98,8 @@ pub record Reopens (could_leave : Trees → Type 0) (found : db.State) : Type 0 
   pub live : db.IsLive found
   pub left : ∥ could_leave found.now.trees ∥₁
 
--- From what could be left before them to what an opening after the last one finds. Nobody else writes: each opening finds what the stop
--- before it could leave.
+-- From what could be left before them to what an opening after the last one finds. Nobody else
+-- writes: each opening finds what the stop before it could leave.
 abbrev pub LeadTo : (Trees → Type 0) → List Stretch → db.State → Type 0
 LeadTo could_leave [] found = Reopens could_leave found
 LeadTo could_leave (it ∷ more) found = Reopens could_leave (opened_as it) × Passed it × LeadTo (left_by it) more found
@@ -125,7 +128,8 @@ over {S} g it = record { S = S; store = g; opened = it.opened; exchange = it.exc
 abbrev pub told : {S : Type 0} → Ghosts S → List (StretchOver S) → List Exchange
 told g stretches = exchanges (map (over g) stretches)
 
--- stretches that began with what could be left of a state, and what an opening after the last one found
+-- stretches that began with what could be left of a state, and what an opening after the last one
+-- found
 pub record Led {S : Type 0} (g : Ghosts S) (s : State) (before : Held S) (stretches : List (StretchOver S)) (found : Held S) : Type 0 where
   pub kept : KeepsOnly (state g before).may_leave s
   pub led : LeadTo (state g before).may_leave (map (over g) stretches) (state g found)

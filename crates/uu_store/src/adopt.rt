@@ -38,17 +38,21 @@ impl<S: Alter> Spool<S> {
     ghost use Rattle.uu_store.specs.Stretches.{Adopted, TurnedAway};
     ghost use Rattle.uu_store.specs.Remembered.{Remembers};
 
-    /// Takes the database as a spool: one without the spool's tables gets them, in one transaction. One that has them, and no
-    /// others, is taken exactly where its rows are those of a spool's state. Where its tables are those of version 1, they become those of
-    /// version 2 then, in one transaction. One that has some of them, and not all of a version with their columns, is never taken.
+    /// Takes the database as a spool: one without the spool's tables gets them, in one transaction.
+    /// One that has them, and no others, is taken exactly where its rows are those of a spool's
+    /// state. Where its tables are those of version 1, they become those of version 2 then, in one
+    /// transaction. One that has some of them, and not all of a version with their columns, is
+    /// never taken.
     ///
     /// # Errors
-    /// The connection is handed back with no transaction open. `Foreign` where a table stands under one of the names and the table `spool` is
-    /// not there, or without the columns that tell its version: then nothing is asked, and the connection comes back as it was handed in. Else
-    /// `Newer` where a row of id 1 in the table `spool` names a version later than this program's, which is asked before the rest, and
-    /// `Foreign` where another table or a column is missing, or a row is not one of a spool's. Then, and after `Memory`, a database with any of
-    /// the spool's tables, or with no tables, is as it was, and so is what a stop leaves. Every row is read; of a job's bytes only their number is
-    /// handed out.
+    /// The connection is handed back with no transaction open. `Foreign` where a table stands under
+    /// one of the names and the table `spool` is not there, or without the columns that tell its
+    /// version: then nothing is asked, and the connection comes back as it was handed in. Else
+    /// `Newer` where a row of id 1 in the table `spool` names a version later than this program's,
+    /// which is asked before the rest, and `Foreign` where another table or a column is missing, or
+    /// a row is not one of a spool's. Then, and after `Memory`, a database with any of the spool's
+    /// tables, or with no tables, is as it was, and so is what a stop leaves. Every row is read; of
+    /// a job's bytes only their number is handed out.
     pub fn adopt(alloc: Global, conn: Connection<S>) -> Result<Spool<S>, AdoptFault<S>>
         requires { conn.in_transaction ≡ false }
 
@@ -56,12 +60,14 @@ impl<S: Alter> Spool<S> {
         ensures usable { IfOk result (λ spool. has_failed spool ≡ false) }
         ensures never_failed { IfErr result (λ e. e.fault ≢ StoreFault.Failed) }
 
-        // A database that encodes a state is taken with it, and an empty one becomes an empty spool. One that encodes no state isn't taken.
+        // A database that encodes a state is taken with it, and an empty one becomes an empty
+        // spool. One that encodes no state isn't taken.
         ensures adopted { IfOk result (λ spool. Adopted conn spool) }
         ensures encoded_before { IfOk result (λ spool. (v : Version) → HasCleanDisk (disk spool) → Stands (site_of v) (state S.Store conn).now → (s : _) × EncodesAs v (state S.Store conn).now s) }
 
-        // What is taken had none of the spool's tables, or all of a version. One in which a name of theirs is taken and no table tells a version is
-        // foreign, and comes back as it was handed in.
+        // What is taken had none of the spool's tables, or all of a version. One in which a name of
+        // theirs is taken and no table tells a version is foreign, and comes back as it was handed
+        // in.
         ensures taken_by_tables { IfOk result (λ spool. HasNoneOrAll (state S.Store conn).now.schema) }
         ensures other_is_foreign { HasOther (state S.Store conn).now.schema → IsErrAnd result (λ e. (e.fault ≡ StoreFault.Foreign) × (e.conn ≡ conn)) }
 
@@ -73,11 +79,13 @@ impl<S: Alter> Spool<S> {
         ensures foreign_encodes_no_state { IfErr result (λ e. HasCleanDisk (state S.Store e.conn) → (v : Version) → Stands (site_of v) (state S.Store conn).now → e.fault ≡ StoreFault.Foreign → (¬ IsLater (state S.Store conn).now.trees) × ((s : _) → ¬ EncodesAs v (state S.Store conn).now s)) }
         ensures newer_names_a_later_version { IfErr result (λ e. HasCleanDisk (state S.Store e.conn) → (v : Version) → Stands (site_of v) (state S.Store conn).now → e.fault ≡ StoreFault.Newer → IsLater (state S.Store conn).now.trees) }
 
-        // A refusal leaves it as it was, also where the tables are of another shape or others stand beside them.
+        // A refusal leaves it as it was, also where the tables are of another shape or others stand
+        // beside them.
         ensures refusal_changes_nothing { IfErr result (λ e. HasCleanDisk (state S.Store e.conn) → Rests (state S.Store conn) → UnlessFailed e.fault (IsAsBefore (state S.Store conn) (state S.Store e.conn))) }
 
-        // What a stop at its end leaves: the state that was encoded, of version 1 in that or in version 2, and of an empty one nothing or an empty
-        // spool. Once it was taken, version 2 alone is left, and after a refusal what was there, unless the store failed.
+        // What a stop at its end leaves: the state that was encoded, of version 1 in that or in
+        // version 2, and of an empty one nothing or an empty spool. Once it was taken, version 2
+        // alone is left, and after a refusal what was there, unless the store failed.
         ensures stop_when_taken { IfOk result (λ spool. HasCleanDisk (disk spool) → Rests (state S.Store conn) → StopsAs (state S.Store conn) (disk spool)) }
         ensures stop_when_created { IfOk result (λ spool. HasCleanDisk (disk spool) → Rests (state S.Store conn) → Stands no_schema (state S.Store conn).now → Leaves (disk spool) empty) }
         ensures stop_when_migrated { IfOk result (λ spool. HasCleanDisk (disk spool) → Rests (state S.Store conn) → (s : _) → EncodesAs First (state S.Store conn).now s → Leaves (disk spool) s) }

@@ -46,7 +46,8 @@ use uu_core::laws::{
     runs_follow_one_another, states_stay_well_formed,
 };
 
-/// A database encodes at most one state, by the tables of at most one version: whatever a call says of the state that is shown, it says of one alone.
+/// A database encodes at most one state, by the tables of at most one version: whatever a call says
+/// of the state that is shown, it says of one alone.
 pub fn one_database_has_one_state()
     ensures { (v w : Version) (trees : Trees) (one other : State) → HoldsStateAs v trees one → HoldsStateAs w trees other → one ≡ other }
 {
@@ -60,8 +61,9 @@ pub fn version_one_has_no_success_waits()
     ensures { (database : Database) (s : State) → EncodesAs First database s → AllByRecursion (λ (row : SystemRow). row.def.success_wait ≡ 0) s.systems }
 {}
 
-/// Where every command of a run was answered, it and the next run are one run of all the commands. (A question is a run of none.) A run that
-/// ended for want of memory is one of the commands that were answered.
+/// Where every command of a run was answered, it and the next run are one run of all the commands.
+/// (A question is a run of none.) A run that ended for want of memory is one of the commands that
+/// were answered.
 pub fn runs_are_one_run<S: Alter>()
     ensures joined { (old mid new : Spool S S.Store) (one other : List Command) (first second : List Reply) (was stopped : Option StoreFault)
         → length first ≡ length one → GoesOn was → Ran one old mid first was → Ran other mid new second stopped → Ran (one ++ other) old new (first ++ second) stopped }
@@ -77,7 +79,8 @@ pub fn a_store_at_rest_leaves_what_it_stores<S: Alter>()
     ensures again { (held : Held S) → Rests (state S.Store held) → IsLive (state S.Store held) → Reopens (state S.Store held).may_leave (state S.Store held) }
 {}
 
-/// Stretches of work that follow one another: what could be left before them, the stretches, and what an opening after the last one found.
+/// Stretches of work that follow one another: what could be left before them, the stretches, and
+/// what an opening after the last one found.
 pub trait History {
     ghost before: { Trees → Type 0 };
 
@@ -86,9 +89,11 @@ pub trait History {
     ghost found: { db.State };
 }
 
-/// Whatever commands a spool is given, over any stretches, and wherever each of them is stopped: what is found then stores exactly the state
-/// that the machine reaches by the commands that count. Of each stretch these are a prefix, with every command that was answered, as it was
-/// answered, and where the store failed at most one more. A job whose number was told is there, unless an accepted command let it go.
+/// Whatever commands a spool is given, over any stretches, and wherever each of them is stopped:
+/// what is found then stores exactly the state that the machine reaches by the commands that count.
+/// Of each stretch these are a prefix, with every command that was answered, as it was answered,
+/// and where the store failed at most one more. A job whose number was told is there, unless an
+/// accepted command let it go.
 pub fn no_answered_command_is_lost<H: History>()
     ensures commands { (s : State) → KeepsOnly H.before s → LeadTo H.before H.stretches H.found → ∥ StoresAfter s (exchanges H.stretches) H.found ∥₁ }
     ensures jobs { (s : State) (new : NewJob) (number : ℕ) → KeepsOnly H.before s → LeadTo H.before H.stretches H.found
@@ -99,7 +104,8 @@ pub fn no_answered_command_is_lost<H: History>()
     acknowledged_jobs_are_accounted_for();
 }
 
-/// What [`no_answered_command_is_lost`] says, of stretches over a store of one kind: they are values there, and need no trait.
+/// What [`no_answered_command_is_lost`] says, of stretches over a store of one kind: they are
+/// values there, and need no trait.
 pub fn no_answered_command_is_lost_over<S: Alter>()
     ensures commands { (s : State) (before : Held S) (stretches : List (StretchOver S)) (found : Held S)
         → Led S.Store s before stretches found → ∥ StoresAfter s (told S.Store stretches) (state S.Store found) ∥₁ }
@@ -111,8 +117,8 @@ pub fn no_answered_command_is_lost_over<S: Alter>()
     acknowledged_jobs_are_accounted_for();
 }
 
-/// A job whose number was told is there with all its bytes after the commands that count, until an accepted one kills it or delivers it, and
-/// no other job has its number.
+/// A job whose number was told is there with all its bytes after the commands that count, until an
+/// accepted one kills it or delivers it, and no other job has its number.
 pub fn acknowledged_jobs_are_accounted_for()
     ensures { (s : State) (told : List Exchange) (counted : List Command) (new : NewJob) (number : ℕ)
         → IsWellFormed s → Passes s told counted → IsAcknowledged told new number → IsAccountedFor s counted new number }
@@ -123,15 +129,17 @@ pub fn acknowledged_jobs_are_accounted_for()
     jobs_are_handed_in();
 }
 
-/// Stretches of work over the two files of a spool that follow one another, and what the files held before the first.
+/// Stretches of work over the two files of a spool that follow one another, and what the files held
+/// before the first.
 pub trait FileHistory {
     ghost before: { Image };
 
     ghost stretches: { List FileStretch };
 }
 
-/// Whatever commands a spool over files is given, over any stretches, and wherever each of them is stopped, also within its opening: the files
-/// keep exactly the state that the machine reaches by the commands that count. Of each stretch these are a prefix, with every command that was
+/// Whatever commands a spool over files is given, over any stretches, and wherever each of them is
+/// stopped, also within its opening: the files keep exactly the state that the machine reaches by
+/// the commands that count. Of each stretch these are a prefix, with every command that was
 /// answered, as it was answered, and where the store failed at most one more.
 pub fn no_answered_command_is_lost_in_files<H: FileHistory>()
     ensures commands { (s : State) → ImageKeeps H.before s → AllFilesPassed H.before H.stretches → ∥ KeepsAfter s H.stretches (last_left H.before H.stretches) ∥₁ }
@@ -145,8 +153,9 @@ pub fn no_answered_command_is_lost_in_files<H: FileHistory>()
     acknowledged_jobs_are_accounted_for();
 }
 
-/// Whatever commands and questions a spool in files that were opened is given, they are a stretch of work once its store is let go, or its
-/// files are closed: what [`crate::work`] says of its calls holds of any.
+/// Whatever commands and questions a spool in files that were opened is given, they are a stretch
+/// of work once its store is let go, or its files are closed: what [`crate::work`] says of its
+/// calls holds of any.
 pub fn calls_make_a_stretch<D: Disk>()
     ensures let_go { (before : Image) (commands : List Command) (begun ended : Spool (FileStore D D.Disk) over_files) (replies : List Reply) (stopped : Option StoreFault) (store : FileStore D D.Disk)
         → Started before begun → Ran commands begun ended replies stopped → IsLetGo over_files (connection_of ended).store store
@@ -156,8 +165,9 @@ pub fn calls_make_a_stretch<D: Disk>()
         → IsClosedStretch D.Disk before (exchange_of commands replies stopped) files }
 {}
 
-/// A stretch that calls made, and an opening that failed once it had opened the files, are stretches of a history, with any contents that a stop
-/// may leave then: so calls that follow one another meet what is supposed of a history.
+/// A stretch that calls made, and an opening that failed once it had opened the files, are
+/// stretches of a history, with any contents that a stop may leave then: so calls that follow one
+/// another meet what is supposed of a history.
 pub fn stretches_make_a_history<D: Disk>()
     ensures let_go { (before left : Image) (exchange : Exchange) (store : FileStore D D.Disk) (it : IsStretch before exchange store)
         → IsClean (view store) → (files_of store).may_leave left → FilePassed before (let_go_after it left) }

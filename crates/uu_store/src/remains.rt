@@ -39,8 +39,9 @@ impl<D: Disk> Remains<D> {
 
 /// Why no spool was opened, and what is left of its files.
 ///
-/// None but the opening of the files can tell that they were not opened: no other code can make such a fault, and an opening takes what
-/// stands for the contents, so that no code opens the same contents twice.
+/// None but the opening of the files can tell that they were not opened: no other code can make
+/// such a fault, and an opening takes what stands for the contents, so that no code opens the same
+/// contents twice.
 #[derive(Drop)]
 pub struct OpenFault<D: Disk> {
     /// Why it was not opened.

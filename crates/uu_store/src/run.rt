@@ -41,11 +41,12 @@ impl<S: Alter> Spool<S> {
     ghost use Rattle.uu_store.specs.Openings.{IsNotTaken};
     ghost use Rattle.uu_store.specs.Stretches.{Passed, stretch};
 
-    /// Carries out the commands, one after the other, until one is not answered. Room for all replies is taken first, so that no reply
-    /// is lost.
+    /// Carries out the commands, one after the other, until one is not answered. Room for all
+    /// replies is taken first, so that no reply is lost.
     ///
     /// # Errors
-    /// The first fault of a command ends the run, and no further command is given. `Failed` comes before any command.
+    /// The first fault of a command ends the run, and no further command is given. `Failed` comes
+    /// before any command.
     pub fn run(&mut self, alloc: Global, commands: Vec<Command>) -> RunEnd
         ensures ran { Ran commands.items self.old self.new result.replies.items result.stopped }
 
@@ -89,7 +90,8 @@ impl<S: Alter> Spool<S> {
         }
     }
 
-    /// Takes the database as a spool, gives it the commands, and gives back the store: one stretch of work, from an opening to a stop.
+    /// Takes the database as a spool, gives it the commands, and gives back the store: one stretch
+    /// of work, from an opening to a stop.
     ///
     /// # Errors
     /// Those of [`Spool::adopt`], with the store. No command was given then.

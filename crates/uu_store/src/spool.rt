@@ -11,8 +11,9 @@ use uu_times::Moment;
 
 /// A spool, over a connection that it owns.
 ///
-/// While nobody else writes the file and the disk returns what was written, a spool shows one state of the plain
-/// machine of `uu_core`. A command is one step of the machine, and it is in the file once it is answered `Done` or `Number`.
+/// While nobody else writes the file and the disk returns what was written, a spool shows one state
+/// of the plain machine of `uu_core`. A command is one step of the machine, and it is in the file
+/// once it is answered `Done` or `Number`.
 #[derive(Drop)]
 pub struct Spool<S: Alter> {
     conn: Connection<S>,
@@ -63,7 +64,8 @@ impl<S: Alter> Spool<S> {
         conn
     }
 
-    /// Gives back the store under the connection, where an open transaction is undone. It takes no memory.
+    /// Gives back the store under the connection, where an open transaction is undone. It takes no
+    /// memory.
     pub fn into_store(self) -> S
     where
         S: Drop,
@@ -110,11 +112,13 @@ impl<S: Alter> Spool<S> {
         fault
     }
 
-    /// Carries out one command. Its last call of the database is the commit; a refused command makes no change, and is a reply, no error.
+    /// Carries out one command. Its last call of the database is the commit; a refused command
+    /// makes no change, and is a reply, no error.
     ///
     /// # Errors
-    /// `Memory`: nothing changed, and the spool can be used. `Store`: the command is kept whole or not at all, which the next opening shows;
-    /// from then on every command and question answers `Failed` and does nothing.
+    /// `Memory`: nothing changed, and the spool can be used. `Store`: the command is kept whole or
+    /// not at all, which the next opening shows; from then on every command and question answers
+    /// `Failed` and does nothing.
     pub fn command(&mut self, alloc: Global, command: Command) -> Result<Reply, StoreFault>
         ensures marked { MatchResult result (λ _. (has_failed self.old ≡ false) × (has_failed self.new ≡ false)) (Marks (has_failed self.old) (has_failed self.new)) }
         ensures noted { IfErr result (Notes (failure_of self.new)) }
@@ -150,8 +154,9 @@ impl<S: Alter> Spool<S> {
     /// The heads of the jobs that fit, by grade, the highest first, and in one grade by number.
     ///
     /// # Errors
-    /// `Memory`: nothing changed, and the spool can be used. `Store`: the database failed, or holds a row that a spool does not allow; nothing
-    /// that is kept changed. From then on every command and question answers `Failed` and does nothing.
+    /// `Memory`: nothing changed, and the spool can be used. `Store`: the database failed, or holds
+    /// a row that a spool does not allow; nothing that is kept changed. From then on every command
+    /// and question answers `Failed` and does nothing.
     pub fn jobs(&mut self, alloc: Global, filter: &Filter) -> Result<Vec<JobHead>, StoreFault>
         ensures question { IsQuestion (λ s heads. heads.items ≡ listed filter.now s) self.old self.new result }
         ensures bounds { IfOk result (λ heads. AllByRecursion IsBounded heads.items) }
@@ -205,7 +210,8 @@ impl<S: Alter> Spool<S> {
         }
     }
 
-    /// What is due at the moment: each system that may be called then, with its first job by grade and number.
+    /// What is due at the moment: each system that may be called then, with its first job by grade
+    /// and number.
     ///
     /// # Errors
     /// As [`Spool::jobs`].

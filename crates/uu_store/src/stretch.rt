@@ -29,7 +29,8 @@ use uu_core::Command;
 use uu_files::SpoolFile;
 use uu_schema::StoreFault;
 
-/// A stretch of work: opens the file at the path, gives the spool in it the commands, and lets its store go.
+/// A stretch of work: opens the file at the path, gives the spool in it the commands, and lets its
+/// store go.
 ///
 /// # Errors
 /// Those of [`open_spool`]. No command was given then.
@@ -41,7 +42,8 @@ pub fn work<T: Start>(
 ) -> Result<(RunEnd, FileStore<SpoolFile<T>>), OpenFault<SpoolFile<T>>>
     ensures worked { IfOk result (λ end. IsStretch (image_at T.Start) (exchange_of commands.items end.0.replies.items end.0.stopped) end.1) }
 
-    // Commands are given only to what an opening takes, so never to a database in which one of the names is taken and no table tells a version.
+    // Commands are given only to what an opening takes, so never to a database in which one of the
+    // names is taken and no table tells a version.
     ensures started { IfOk result (λ end. IsClean (view end.1) → WasStarted ⟦<SpoolFile<T> as Disk>⟧ (image_at T.Start)) }
     ensures never_other { IfOk result (λ end. IsClean (view end.1) → ¬ ImageHasOther (image_at T.Start)) }
 
@@ -65,9 +67,10 @@ pub type CloseEnd<D> = Result<Files<D>, (StoreFault, FileStore<D>)>;
 /// [`work`], and then the files are closed.
 ///
 /// # Errors
-/// Those of [`open_spool`]. No command was given then. A close that fails is no error of the stretch, which has its replies: it answers `Failed`
-/// where the store failed in the run, and else `Store`; on a clean disk of kind `Disk` only where the disk failed or refused a call, and never of
-/// kind `Size`.
+/// Those of [`open_spool`]. No command was given then. A close that fails is no error of the
+/// stretch, which has its replies: it answers `Failed` where the store failed in the run, and else
+/// `Store`; on a clean disk of kind `Disk` only where the disk failed or refused a call, and never
+/// of kind `Size`.
 pub fn work_and_close<T: Start>(
     rt: &HostRuntime,
     path: &str,
@@ -76,7 +79,8 @@ pub fn work_and_close<T: Start>(
 ) -> Result<(RunEnd, CloseEnd<SpoolFile<T>>), OpenFault<SpoolFile<T>>>
     ensures closed { IfOk result (λ end. IfOk end.1 (IsClosedStretch ⟦<SpoolFile<T> as Disk>⟧ (image_at T.Start) (exchange_of commands.items end.0.replies.items end.0.stopped))) }
 
-    // Of a store that a close gave back the port does not say that its trees have their places; where they have, it was let go as any.
+    // Of a store that a close gave back the port does not say that its trees have their places;
+    // where they have, it was let go as any.
     ensures let_go { IfOk result (λ end. IfErr end.1 (λ e. IsTrue (view e.1).is_numbered
         → IsStretch (image_at T.Start) (exchange_of commands.items end.0.replies.items end.0.stopped) e.1)) }
     ensures told { IfOk result (λ end. IfErr end.1 (λ e. IsToldAfter end.0.stopped e.0)) }
@@ -116,9 +120,10 @@ fn run_and_close<D: Disk + Drop>(
     (end, spool.close())
 }
 
-/// Opens the file again, after any stretches of work over it. While nobody else wrote the files, and the disk returned what was written, the
-/// spool shows exactly the state that the machine reaches by the commands that count; so a job whose number was told is there with all its
-/// bytes, until an accepted command kills it or delivers it, and no other job has its number.
+/// Opens the file again, after any stretches of work over it. While nobody else wrote the files,
+/// and the disk returned what was written, the spool shows exactly the state that the machine
+/// reaches by the commands that count; so a job whose number was told is there with all its bytes,
+/// until an accepted command kills it or delivers it, and no other job has its number.
 ///
 /// # Errors
 /// Those of [`open_spool`].

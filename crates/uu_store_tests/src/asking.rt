@@ -1,5 +1,6 @@
-// Stops of a disk while questions are asked of a spool that earlier commands left there, and while it is let go: what is opened afterwards is
-// the state shown. Few pages are kept in memory, so that the questions read the files.
+// Stops of a disk while questions are asked of a spool that earlier commands left there, and while
+// it is let go: what is opened afterwards is the state shown. Few pages are kept in memory, so that
+// the questions read the files.
 use crate::disk::{
     Contents, FEW_PAGES, LONG_LOG, Place, SHORTEST_LOG, Stop, Use, Visitor, nothing, visit_files,
 };
@@ -149,8 +150,8 @@ fn fewest_calls(rt: &impl Abort, alloc: Global, contents: &Contents, place: Plac
     high
 }
 
-/// A stop while the opened spool is asked and let go: what was synced then. What is left is what the stop before left, or else it is opened
-/// and shown.
+/// A stop while the opened spool is asked and let go: what was synced then. What is left is what
+/// the stop before left, or else it is opened and shown.
 fn stop_at(
     rt: &impl Abort,
     alloc: Global,
@@ -172,8 +173,9 @@ fn stop_at(
     visit.synced
 }
 
-/// Stops at each call of one file from the first question on, until all are answered, and at ten calls more, of which there are none: how
-/// many questions were answered before the stops, each number once.
+/// Stops at each call of one file from the first question on, until all are answered, and at ten
+/// calls more, of which there are none: how many questions were answered before the stops, each
+/// number once.
 fn stop_at_each_call(rt: &impl Abort, alloc: Global, place: Place) -> Vec<usize> {
     let contents = prepared(rt, alloc, place);
     let (picture, mut ask) = told_after(rt, alloc);

@@ -1,5 +1,6 @@
-// A stop at each call of a disk while the files of a spool are closed. The spool that is opened afterwards shows what the plain machine holds.
-// The log is never copied before, so that the close has all of it to copy.
+// A stop at each call of a disk while the files of a spool are closed. The spool that is opened
+// afterwards shows what the plain machine holds. The log is never copied before, so that the close
+// has all of it to copy.
 use crate::disk::{End, LONG_LOG, Place, Stop, Use, Visit, nothing, visit_files};
 use crate::questions::{Step, told_picture};
 use crate::scripts::{EVERY_KIND, LARGE_JOB, machine_after};
@@ -11,8 +12,8 @@ use uu_store::StoreFault;
 /// The fewest calls of a file that a close makes.
 const FEWEST: u32 = 2;
 
-/// What is shown after a visit whose commands were all answered. The files may have been closed, and then the database file shows the same
-/// with no log beside it.
+/// What is shown after a visit whose commands were all answered. The files may have been closed,
+/// and then the database file shows the same with no log beside it.
 fn expect_kept(rt: &impl Abort, alloc: Global, visit: Visit, picture: &str) {
     expect_shown(rt, alloc, &visit.synced, picture);
     expect_shown(rt, alloc, &visit.written, picture);
@@ -28,8 +29,9 @@ fn expect_unclosed(rt: &impl Abort, end: End) {
     assert!(rt; is_unclosed, "a failed spool is closed");
 }
 
-/// Gives all commands of a script, and stops at each call of one file, counting up until the files are closed. Where a stop comes within the
-/// commands, which other tests have, the spool has failed, and is not closed.
+/// Gives all commands of a script, and stops at each call of one file, counting up until the files
+/// are closed. Where a stop comes within the commands, which other tests have, the spool has
+/// failed, and is not closed.
 fn stop_at_each_call(rt: &impl Abort, alloc: Global, place: Place, script: &'static [Step]) {
     let count = script.len();
     let machine = machine_after(rt, alloc, script, count);

@@ -1,4 +1,5 @@
-// A spool over the two files of a disk, one of which refuses every call from some call on. As those of the program, they are synced only where they are dirty.
+// A spool over the two files of a disk, one of which refuses every call from some call on. As those
+// of the program, they are synced only where they are dirty.
 ghost use Rattle.std.specs.Prelude.{◌≡◌, false};
 
 use crate::rows::rows_of;
@@ -24,7 +25,8 @@ pub(crate) struct Stop {
     pub(crate) calls: u64,
 }
 
-/// All pages stay in memory, and a log of eight frames is copied into the database file before the next transaction.
+/// All pages stay in memory, and a log of eight frames is copied into the database file before the
+/// next transaction.
 pub(crate) const SHORT_LOG: Options = Options {
     cache_pages: 2_000,
     spill_pages: 4,
@@ -56,7 +58,8 @@ pub(crate) const FEW_PAGES: Options = Options {
     seed: 7,
 };
 
-/// How the files are used, when one of them stops, and whether they are closed at the end, or else let go.
+/// How the files are used, when one of them stops, and whether they are closed at the end, or else
+/// let go.
 #[derive(Clone, Copy)]
 pub(crate) struct Use {
     pub(crate) options: Options,
@@ -128,7 +131,8 @@ pub(crate) enum End {
     Refused(StoreFault),
 }
 
-/// What a visit leaves: what was synced, which every crash leaves, and all that was written, which a crash may leave.
+/// What a visit leaves: what was synced, which every crash leaves, and all that was written, which
+/// a crash may leave.
 #[derive(Drop)]
 pub(crate) struct Visit {
     pub(crate) end: End,
@@ -148,7 +152,8 @@ pub(crate) trait Visitor {
     fn visit<R: Abort, S: Alter>(&mut self, rt: &R, alloc: Global, spool: &mut Spool<S>);
 }
 
-/// Opens files with these contents, takes them as a spool, has it visited, and closes it or lets it go.
+/// Opens files with these contents, takes them as a spool, has it visited, and closes it or lets it
+/// go.
 pub(crate) fn visit_files<R: Abort, V: Visitor>(
     rt: &R,
     alloc: Global,
@@ -161,8 +166,8 @@ pub(crate) fn visit_files<R: Abort, V: Visitor>(
     visit_of(rt, alloc, end, files)
 }
 
-/// What files with these contents hold once these statements have changed their database, and the rows of the answer to a question behind
-/// them. Nothing is taken as a spool.
+/// What files with these contents hold once these statements have changed their database, and the
+/// rows of the answer to a question behind them. Nothing is taken as a spool.
 pub(crate) fn change_files(
     rt: &impl Abort,
     alloc: Global,

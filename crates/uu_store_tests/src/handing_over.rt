@@ -1,4 +1,5 @@
-// Databases that are handed to a spool and come back: an adopted one by `release`, a refused one with its fault.
+// Databases that are handed to a spool and come back: an adopted one by `release`, a refused one
+// with its fault.
 use crate::order::{Order, Work};
 use crate::questions::Question::{Jobs, Next};
 use crate::questions::Step::{Does, Says};

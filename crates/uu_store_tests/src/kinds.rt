@@ -1,7 +1,7 @@
 // Which part of the store a fault tells of. A stop of the disk is told as one of the disk: other
 // tests see that at each of its calls (`expect_stopped`). Here the database itself refuses a
-// statement, whose answer has more rows than a limit on its steps allows. No row that a spool writes
-// is too big, so that this kind is seen of the error alone.
+// statement, whose answer has more rows than a limit on its steps allows. No row that a spool
+// writes is too big, so that this kind is seen of the error alone.
 ghost use Rattle.std.specs.Prelude.{◌≡◌, false};
 
 use crate::order::{MONDAY, NIGHT, Order, Work, command};

@@ -1,6 +1,7 @@
-//! Tests of the spool over disks and databases in memory: stops at each call of a disk, worked rows beside the plain machine, the
-//! pieces of jobs, what a listing costs, stretches of work over a file, databases of an earlier version, databases that are handed over, and
-//! syncs that are left out.
+//! Tests of the spool over disks and databases in memory: stops at each call of a disk, worked rows
+//! beside the plain machine, the pieces of jobs, what a listing costs, stretches of work over a
+//! file, databases of an earlier version, databases that are handed over, and syncs that are left
+//! out.
 #![tactic(auto)]
 
 #[cfg(test)]

@@ -55,8 +55,8 @@ fn listing(rt: &(impl Abort + Clock), alloc: Global, jobs: u32) -> Duration {
     listing_in(rt, alloc, conn, jobs)
 }
 
-// Ten times as many jobs take ten times as long, and a little more for the sorting; a loaded machine is
-// given ten times that and a little time beside.
+// Ten times as many jobs take ten times as long, and a little more for the sorting; a loaded
+// machine is given ten times that and a little time beside.
 fn expect_little_more(rt: &impl Abort, few: Duration, many: Duration) {
     let room = Duration::from_millis(20);
     assert!(rt; many <= few.saturating_mul(150).saturating_add(room));

@@ -1,5 +1,6 @@
-// A stop at each call of a disk while files of version 1 are taken as a spool, and their tables become those of version 2. Whatever it leaves is
-// one of the two versions, and the spool that is opened afterwards shows what the plain machine holds.
+// A stop at each call of a disk while files of version 1 are taken as a spool, and their tables
+// become those of version 2. Whatever it leaves is one of the two versions, and the spool that is
+// opened afterwards shows what the plain machine holds.
 use crate::disk::{
     Contents, LONG_LOG, Place, SHORTEST_LOG, Stop, Use, Visit, Visitor, change_files, nothing,
     visit_files,
@@ -13,7 +14,8 @@ use std::alloc::Global;
 use std::process::Abort;
 use uu_store::Spool;
 
-/// So many commands of the script are given: a job of several pieces is there, and a call has failed.
+/// So many commands of the script are given: a job of several pieces is there, and a call has
+/// failed.
 const COUNT: usize = 8;
 
 /// Gives a spool the commands.
@@ -84,8 +86,8 @@ fn stop_at(rt: &impl Abort, alloc: Global, contents: &Contents, used: Use, pictu
     left_by(rt, alloc, &visit, picture)
 }
 
-/// Stops at each call of one file, counting up until the files are taken: how many left other files of version 1, and how many left version 2
-/// where all that was written was kept.
+/// Stops at each call of one file, counting up until the files are taken: how many left other files
+/// of version 1, and how many left version 2 where all that was written was kept.
 fn stop_at_each_call(rt: &impl Abort, alloc: Global, place: Place, options: Options) -> (u32, u32) {
     let contents = first_version(rt, alloc);
     assert_eq!(rt; version_in(rt, alloc, &contents), 1);

@@ -9,7 +9,8 @@ use std::alloc::Global;
 use std::process::Abort;
 use uu_store::Reply::Number;
 
-/// A job, its bytes, how many pieces they are cut into, and how many bytes the last one has. Each other piece has 16,384.
+/// A job, its bytes, how many pieces they are cut into, and how many bytes the last one has. Each
+/// other piece has 16,384.
 const PIECES: [(&[Step], usize, usize, u32); 5] = [
     (
         &[

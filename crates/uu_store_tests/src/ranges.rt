@@ -10,7 +10,8 @@ use std::alloc::Global;
 use std::process::Abort;
 use uu_store::Reply::{Done, Number};
 
-/// Systems with the ranges of their time lines, in minutes from Sunday 00:00: the nights of the weekdays from 23:05 to 07:55, all week, and never.
+/// Systems with the ranges of their time lines, in minutes from Sunday 00:00: the nights of the
+/// weekdays from 23:05 to 07:55, all week, and never.
 const RANGES: [(&[Step], &[(u32, u32)]); 3] = [
     (
         &[Does(Order::Define("duke", NIGHT, 26), Done)],

@@ -1,4 +1,5 @@
-// A stop at each call of a disk while the spool is opened that an earlier stop left: what is opened afterwards is what the earlier one left.
+// A stop at each call of a disk while the spool is opened that an earlier stop left: what is opened
+// afterwards is what the earlier one left.
 use crate::disk::{Contents, Place, SHORT_LOG, Stop, Use, nothing, visit_files};
 use crate::scripts::LARGE_JOB;
 use crate::visitors::{Way, expect_shown, giving, no_command, shown};
@@ -27,8 +28,9 @@ fn stop_at_each_call(rt: &impl Abort, alloc: Global, contents: &Contents, place:
     panic!(rt; "no opening ends")
 }
 
-/// A run is stopped at each call of one file, until all commands are answered. Where that leaves something new on the disk, it is opened with
-/// a stop at each call of the same file or of the other.
+/// A run is stopped at each call of one file, until all commands are answered. Where that leaves
+/// something new on the disk, it is opened with a stop at each call of the same file or of the
+/// other.
 fn stop_twice(rt: &impl Abort, alloc: Global, place: Place, again: Place) {
     let mut before = nothing(alloc);
     for calls in 0..10_000 {

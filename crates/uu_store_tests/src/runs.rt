@@ -1,4 +1,5 @@
-// Runs and stretches with ample memory, of the spool and of the plain machine, which answer every command.
+// Runs and stretches with ample memory, of the spool and of the plain machine, which answer every
+// command.
 ghost use Rattle.std.specs.Prelude.{◌≡◌, false};
 
 use crate::questions::{Step, asked_picture, told_picture};
@@ -17,7 +18,8 @@ fn expect_whole(rt: &impl Abort, end: &RunEnd, wanted: &[Reply]) {
     assert_eq!(rt; end.replies.as_slice(), wanted);
 }
 
-/// The plain machine answers every command of a script in a run, too, and shows then what it does after as many steps.
+/// The plain machine answers every command of a script in a run, too, and shows then what it does
+/// after as many steps.
 fn expect_machine_run(
     rt: &impl Abort,
     alloc: Global,

@@ -1,4 +1,5 @@
-// Lists of commands with their replies, given to spools that are stopped, and what the plain machine shows after each command.
+// Lists of commands with their replies, given to spools that are stopped, and what the plain
+// machine shows after each command.
 use crate::order::{ANY, ANY_30, MONDAY, NIGHT, OFFICE, Order, Work, command};
 use crate::questions::Question::{Due, Entry, Jobs, Next, Systems};
 use crate::questions::Step::{Does, Says};

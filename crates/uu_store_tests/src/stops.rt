@@ -1,6 +1,7 @@
-// A stop at each call of a disk while commands are given: from some call on, one of the two files refuses every call. The spool that is
-// opened afterwards shows what the plain machine holds after the commands that were answered, or after one more. The log is short, so that
-// stops fall within its checkpoints too.
+// A stop at each call of a disk while commands are given: from some call on, one of the two files
+// refuses every call. The spool that is opened afterwards shows what the plain machine holds after
+// the commands that were answered, or after one more. The log is short, so that stops fall within
+// its checkpoints too.
 use crate::disk::{Contents, Place, SHORT_LOG, Stop, Use, Visit, nothing, visit_files};
 use crate::questions::Step;
 use crate::scripts::{EVERY_KIND, LARGE_JOB, TWO_SYSTEMS, is_picture, pictures};
@@ -59,9 +60,10 @@ fn stop_at(rt: &impl Abort, alloc: Global, give: Give, stop: Stop, pictures: &[S
     }
 }
 
-/// Stops at each call of one file, counting up until the last command is answered, and at ten calls more, of which there are none. Where a
-/// stop leaves another database file than the one before, a checkpoint was finished in between: the stop of the database file before, and
-/// that of the log after, fell within it.
+/// Stops at each call of one file, counting up until the last command is answered, and at ten calls
+/// more, of which there are none. Where a stop leaves another database file than the one before, a
+/// checkpoint was finished in between: the stop of the database file before, and that of the log
+/// after, fell within it.
 fn stop_at_each_call(
     rt: &impl Abort,
     alloc: Global,

@@ -9,7 +9,8 @@ fn file_of(alloc: Global, calls: u64) -> SyncWhenDirty<Fuse<Memory>> {
     SyncWhenDirty::new(Fuse::new(Memory::new(alloc), calls))
 }
 
-/// Three of these seven calls reach the file behind, which answers three: a sync of a file that nobody called synced, a write, and the sync behind that.
+/// Three of these seven calls reach the file behind, which answers three: a sync of a file that
+/// nobody called synced, a write, and the sync behind that.
 fn expect_three_calls(rt: &impl Abort, alloc: Global) {
     let mut file = file_of(alloc, 3);
     assert!(rt; file.may_be_used(), "a sync of this file has failed");

@@ -1,5 +1,5 @@
-// Worked rows: commands with their replies and questions with their answers, given to a spool in memory, and then to another beside the
-// plain machine.
+// Worked rows: commands with their replies and questions with their answers, given to a spool in
+// memory, and then to another beside the plain machine.
 ghost use Rattle.std.specs.Prelude.{◌≡◌, false};
 
 use crate::order::{ANY, ANY_30, HIGH, MONDAY, NIGHT, OFFICE, Order, SUNDAY, Work};
@@ -140,7 +140,8 @@ const REGRADING: &[Step] = &[
     Does(Order::Regrade(3, b'N'), Refused(Refusal::NoJob)),
 ];
 
-/// The wait is that of the lower grade. Monday at 10:00 is minute 2,040 of the week, at which the lower grade is let through, and its retry number counts.
+/// The wait is that of the lower grade. Monday at 10:00 is minute 2,040 of the week, at which the
+/// lower grade is let through, and its retry number counts.
 const TWO_LINES: &[Step] = &[
     Does(Order::Define("duke", OFFICE, 26), Done),
     Does(Order::File("duke", b'z'), Number(1)),
@@ -185,8 +186,8 @@ const WAITS: &[Step] = &[
     Says(Systems, "duke 26 [C 0 0-10079] 0 0 1000116000 done/"),
 ];
 
-/// A system is left alone after a call that went well, with jobs and without. A new definition leaves a wait that runs, and counts from the
-/// next call on.
+/// A system is left alone after a call that went well, with jobs and without. A new definition
+/// leaves a wait that runs, and counts from the next call on.
 const SUCCESS_WAITS: &[Step] = &[
     Does(Order::Rests("duke", ANY, 600), Done),
     Says(Systems, "duke 26 [z 0 0-10079] rests 600 0 0 0 never/"),

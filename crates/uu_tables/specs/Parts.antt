@@ -39,7 +39,8 @@ with_lines lines t = record t {
 abbrev pub with_waits : List WaitColumns → Tables → Tables
 with_waits waits t = record t { success_waits = insert_each (λ row. row.system) waits t.success_waits }
 
--- The tables with a definition but its lines and its success wait: a known system loses those that it had, and keeps its calls.
+-- The tables with a definition but its lines and its success wait: a known system loses those that
+-- it had, and keeps its calls.
 abbrev pub with_definition : Bool → System → Tables → Tables
 with_definition true def t = record t {
   systems = alter (has_name def.name) (λ row. record row { max_retries = def.max_retries }) t.systems;

@@ -1,5 +1,5 @@
--- The tables of a state as plain lists of rows, in the machine's own order. (The tables, their keys and the size of a piece are this
--- project's choice.)
+-- The tables of a state as plain lists of rows, in the machine's own order. (The tables, their keys
+-- and the size of a piece are this project's choice.)
 use Rattle.std.specs.Prelude.{ℕ, zero, suc, ◌+◌, ◌*◌, ◌/◌, List, [], ◌∷◌, length, map, take, drop, Option, None, Some}
 use Rattle.std.specs.List.{flat_map, range_with_len}
 use Rattle.uu_times.specs.declared.system.Line.{Line}

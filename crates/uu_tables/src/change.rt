@@ -21,7 +21,8 @@ pub struct JobColumns<'a> {
     pub size: u32,
 }
 
-/// A change of the tables that one statement makes. Where no row is of that name or number, it changes nothing.
+/// A change of the tables that one statement makes. Where no row is of that name or number, it
+/// changes nothing.
 #[derive(Drop)]
 pub enum Change<'a> {
     /// One more system, which was never called, without its lines.

@@ -1,14 +1,16 @@
 // What is asked of the tables before a command.
 use uu_core::{JobHead, SystemRow};
 
-/// What is asked of the tables before a command, as far as the command names it. What it doesn't name isn't asked.
+/// What is asked of the tables before a command, as far as the command names it. What it doesn't
+/// name isn't asked.
 #[derive(Drop)]
 pub struct Facts {
     /// Whether the system is known: asked for `Define`, `Remove` and `Queue`.
     pub is_known: bool,
     /// Whether a job waits for the system: asked for `Remove`.
     pub is_waiting: bool,
-    /// The system, if it is known, with its definition and its calls: asked for `Failed` and `Done`.
+    /// The system, if it is known, with its definition and its calls: asked for `Failed` and
+    /// `Done`.
     pub system: Option<SystemRow>,
     /// The number of the next job: asked for `Queue`.
     pub next: u32,

@@ -1,5 +1,5 @@
-//! The eight tables of the spool as plain lists of typed rows, and what each command changes in them, decided without a
-//! database: a list of changes, each of which is one statement.
+//! The eight tables of the spool as plain lists of typed rows, and what each command changes in
+//! them, decided without a database: a list of changes, each of which is one statement.
 #![tactic(auto)]
 
 mod change;

@@ -1,4 +1,5 @@
--- What the question on the heads of the jobs says of their table, both ways. A job's number is its rowid.
+-- What the question on the heads of the jobs says of their table, both ways. A job's number is its
+-- rowid.
 use Rattle.std.proofs.Common.{◌≡◌, ◌<◌, ℕ, pos, Bool, true, ◌&&◌, List, [], ◌∷◌, map, refl, sym, ap, subst, ◌∙◌, arith, Less, Option, Some, None, Vec}
 use Rattle.std.specs.Prelude.{◌↔◌, ◌<ℤ◌, IsTrue, nat_lt, MatchOption}
 use Rattle.std.specs.declared.alloc.Global.{Global}

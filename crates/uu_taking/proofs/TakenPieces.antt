@@ -1,4 +1,5 @@
--- What one question on the rowids and the sizes of the pieces says of their table, where the rows rise by rowid as by job and place.
+-- What one question on the rowids and the sizes of the pieces says of their table, where the rows
+-- rise by rowid as by job and place.
 use Rattle.std.proofs.Common.{◌≡◌, ◌<◌, ℕ, pos, zero, suc, Bool, true, false, ◌&&◌, ◌||◌, ◌==◌, List, [], ◌∷◌, map, length, refl, sym, ap, subst, ◌∙◌, arith, Ordering, Less, is_lt, Option, Some, Vec, IsSorted}
 use Rattle.std.specs.Prelude.{◌<ℤ◌, nat_lt}
 use Rattle.std.specs.declared.alloc.Global.{Global}

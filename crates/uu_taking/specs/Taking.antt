@@ -56,8 +56,8 @@ pub record AreInOrder {X : Type 0} (IsReadable : X → Type 0) (cmp : X → X �
   pub readable : AllByRecursion IsReadable xs
   pub rise : IsAscending (λ a b. cmp a b ≡ Less) xs
 
--- Exactly the rows that the table holds are found. None are found only where no list of such rows in the order of its key
--- is the table's; and where one is, that one is found.
+-- Exactly the rows that the table holds are found. None are found only where no list of such rows
+-- in the order of its key is the table's; and where one is, that one is found.
 pub record FindsRows {K X : Type 0} (key : X → K) (cells : X → Row) (places : List ℕ) (IsReadable : X → Type 0) (cmp : X → X → Ordering) (rows : List Row) (found : Option (Vec X Global)) : Type 0 where
   pub all : IfSome found (λ all. AreRows cells places all.items rows × AllByRecursion IsReadable all.items)
   pub only : (xs : List X) → AreInOrder IsReadable cmp xs → Keyed key cells places xs rows → MatchOption found ⊥ (λ all. all.items ≡ xs)
@@ -66,8 +66,8 @@ pub record FindsRows {K X : Type 0} (key : X → K) (cells : X → Row) (places 
 abbrev pub Tells : Bool → Type 0 → Type 0 → Type 0
 Tells good Yes No = (good ≡ true → Yes) × (good ≡ false → No)
 
--- The question commits nothing and changes nothing, whatever it answers and whatever tables there are, and what it answers of the tables of a
--- version is so.
+-- The question commits nothing and changes nothing, whatever it answers and whatever tables there
+-- are, and what it answers of the tables of a version is so.
 pub record Takes (v : Version) {T : Type 0} (IsAnswer : (ℕ → List Row) → T → Type 0) (old new : db.State) (r : Result T Error) : Type 0 where
   pub spares : Spares old new r
   pub same : db.HasCleanDisk new → OnOk r (new.now ≡ old.now)

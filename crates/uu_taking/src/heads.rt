@@ -1,4 +1,5 @@
-// The jobs without their bytes, read when a database is looked at as a spool. A job's number is its rowid, so one question tells both.
+// The jobs without their bytes, read when a database is looked at as a spool. A job's number is its
+// rowid, so one question tells both.
 ghost use Rattle.std.specs.Prelude.{◌≡◌, ◌↔◌, false, List, map, Err, IfOk, IfErr, IsTrue, MatchOption};
 ghost use Rattle.std.specs.List.{AllByRecursion};
 ghost use Rattle.sqlite.specs.declared.error.Error.TheVariants.{SqliteFailure};

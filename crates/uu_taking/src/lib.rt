@@ -1,6 +1,7 @@
-//! Every row of each of the spool's tables, read when a database is looked at as a spool, and the version that it names. Each
-//! question commits nothing and changes nothing, whatever it answers and whatever tables the database has. Rows that the format does
-//! not allow are `None`, and want of memory is `OutOfMemory`.
+//! Every row of each of the spool's tables, read when a database is looked at as a spool, and the
+//! version that it names. Each question commits nothing and changes nothing, whatever it answers
+//! and whatever tables the database has. Rows that the format does not allow are `None`, and want
+//! of memory is `OutOfMemory`.
 #![tactic(auto)]
 
 mod heads;

@@ -1,5 +1,6 @@
-// The pieces without their bytes, read when a database is looked at as a spool. Where a later piece has a higher rowid, as in every
-// file that a spool wrote, one question tells sizes and rowids; else two do.
+// The pieces without their bytes, read when a database is looked at as a spool. Where a later piece
+// has a higher rowid, as in every file that a spool wrote, one question tells sizes and rowids;
+// else two do.
 ghost use Rattle.std.specs.Prelude.{◌≡◌, true, false, map, IfOk};
 ghost use Rattle.sqlite.specs.Tree.{IsAscending};
 ghost use Rattle.sqlite.specs.Held.{state};
@@ -84,8 +85,8 @@ fn typed(alloc: Global, rows: &[Row]) -> Result<Vec<PieceSize>, RowFault>
     }
 }
 
-/// Of each piece its job, its place and the number of its bytes, by job and place; no byte is read. None
-/// where a row of the table is no piece's, or two rows have one rowid.
+/// Of each piece its job, its place and the number of its bytes, by job and place; no byte is read.
+/// None where a row of the table is no piece's, or two rows have one rowid.
 pub fn take_sizes<S: Alter>(
     alloc: Global,
     conn: &mut Connection<S>,

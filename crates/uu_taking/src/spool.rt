@@ -53,8 +53,8 @@ fn found_next(rows: &[Row], wanted: Version) -> Result<Option<u32>, Error>
     or_none(next_in_row(rows, wanted))
 }
 
-/// The next number, of the one row of the table `spool`. None, where the table has not this one row with this version and a number of
-/// 32 bits.
+/// The next number, of the one row of the table `spool`. None, where the table has not this one row
+/// with this version and a number of 32 bits.
 pub fn take_next<S: Alter>(conn: &mut Connection<S>, version: Version) -> Result<Option<u32>, Error>
     ensures idle { conn.old.in_transaction ≡ false → conn.new.in_transaction ≡ false }
     ensures takes { Takes version (λ trees found. MatchOption found ((next : ℕ) → IsSmall next → trees spool.tree ≢ spool_row_of version next ∷ []) (λ next. trees spool.tree ≡ spool_row_of version next ∷ [])) (state S.Store conn.old) (state S.Store conn.new) result }

@@ -95,8 +95,8 @@ pub fn take_lines<S: Alter>(
     found(alloc, &rows, &ids)
 }
 
-/// The ranges, by system, place and first minute. None where a row of the table is no range's, or two
-/// rows have one rowid.
+/// The ranges, by system, place and first minute. None where a row of the table is no range's, or
+/// two rows have one rowid.
 pub fn take_ranges<S: Alter>(
     alloc: Global,
     conn: &mut Connection<S>,
@@ -109,8 +109,8 @@ pub fn take_ranges<S: Alter>(
     found(alloc, &rows, &ids)
 }
 
-/// The map entries with their bytes, by host. None where a row of the table is no entry's, or two rows
-/// have one rowid.
+/// The map entries with their bytes, by host. None where a row of the table is no entry's, or two
+/// rows have one rowid.
 pub fn take_entries<S: Alter>(
     alloc: Global,
     conn: &mut Connection<S>,
@@ -123,8 +123,8 @@ pub fn take_entries<S: Alter>(
     found(alloc, &rows, &ids)
 }
 
-/// Of each piece its job, its place and the number of its bytes, by job and place; no byte is read. None
-/// where a row of the table is no piece's, or two rows have one rowid.
+/// Of each piece its job, its place and the number of its bytes, by job and place; no byte is read.
+/// None where a row of the table is no piece's, or two rows have one rowid.
 pub(crate) fn take_sizes_in_any_order<S: Alter>(
     alloc: Global,
     conn: &mut Connection<S>,
@@ -153,8 +153,8 @@ fn take_waits_of_table<S: Alter>(
     found(alloc, &rows, &ids)
 }
 
-/// The success waits, by system; an empty list of the first version, of which nothing is asked. None
-/// where a row of the table is no success wait's, or two rows have one rowid.
+/// The success waits, by system; an empty list of the first version, of which nothing is asked.
+/// None where a row of the table is no success wait's, or two rows have one rowid.
 pub fn take_waits<S: Alter>(
     alloc: Global,
     conn: &mut Connection<S>,

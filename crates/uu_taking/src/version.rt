@@ -52,8 +52,8 @@ fn found_later(rows: &[Row]) -> Result<bool, Error>
     or_error(later_in(rows))
 }
 
-/// Whether the table `spool` names a later version than this program's. Asked before all else, since the other tables of a later
-/// version may differ.
+/// Whether the table `spool` names a later version than this program's. Asked before all else,
+/// since the other tables of a later version may differ.
 pub fn names_later<S: Alter>(conn: &mut Connection<S>) -> Result<bool, Error>
     ensures idle { conn.old.in_transaction ≡ false → conn.new.in_transaction ≡ false }
     ensures takes { (v : Version) → Takes v (λ trees later. Tells later (IsLater trees) (¬ IsLater trees)) (state S.Store conn.old) (state S.Store conn.new) result }

@@ -1,4 +1,5 @@
--- What is read is a list of simple strings, and what isn't read has the longest front that begins one.
+-- What is read is a list of simple strings, and what isn't read has the longest front that begins
+-- one.
 use Rattle.std.proofs.Common.{◌≡◌, ◌⊎◌, inl, inr, ℕ, ◌+◌, ◌-◌, ◌*◌, ◌/◌, ◌%◌, ◌<◌, ◌≤◌, Bool, true, false, ◌&&◌, cond, Option, None, Some, option_map, option_and_then, Result, Ok, Err, List, [], ◌∷◌, ◌++◌, length, map, refl, ap, sym, subst, ◌∙◌, arith, append_assoc, append-nil, length-append, nat_eq, nat_le, nat_lt}
 use Rattle.std.proofs.lemmas.Bool.{cond-true, cond-false, cases_Bool, eqb-true, ltb-true, leb-true, and_parts, or_cases}
 use Rattle.std.specs.Char.{is_ascii_digit}

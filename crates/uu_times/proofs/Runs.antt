@@ -1,4 +1,5 @@
--- The maximal runs of a set of week minutes: what they hold, and that no other ranges that are apart hold the same.
+-- The maximal runs of a set of week minutes: what they hold, and that no other ranges that are
+-- apart hold the same.
 use Rattle.std.proofs.Common.{◌≡◌, ℕ, zero, suc, ◌+◌, ◌<◌, ◌≤◌, Bool, true, false, ◌&&◌, ◌||◌, cond, List, [], ◌∷◌, inl, inr, refl, ap, sym, subst, lit≤, ◌∙◌, arith, nat_eq, nat_le}
 use Rattle.std.proofs.lemmas.Bool.{cases_lt, cases_eq, cond_both, cond-true, cond-false, eqb-true, eqb-false, eq-eqb, ne_eqb, le-leb, lt-leb, or_from, or_left, and_from, and_right, cases_Bool}
 use Rattle.uu_times.specs.Ranges.{within, holds, AreRunsFrom, AreRuns, onto_runs, runs_from, maximal_runs}

@@ -1,4 +1,5 @@
--- The ranges of simple strings hold their minutes, and so do the runs that they are put together to.
+-- The ranges of simple strings hold their minutes, and so do the runs that they are put together
+-- to.
 use Rattle.std.proofs.Common.{◌≡◌, ℕ, zero, suc, ◌+◌, ◌*◌, ◌/◌, ◌%◌, ◌<◌, ◌≤◌, Bool, true, false, ◌&&◌, ◌||◌, max, Option, None, Some, IfSome, List, [], ◌∷◌, ◌++◌, All, lit≤, refl, ap, sym, ◌∙◌, arith, add-one, append_assoc, drop, drop-cons, get_or, length, nat_eq, nat_le, nat_lt}
 use Rattle.std.specs.List.{AllByRecursion}
 use Rattle.std.specs.List.Sorted.{IsNonDecreasingBy, IsPermutation}

@@ -1,5 +1,5 @@
--- What a line of a sys file says (Taylor UUCP 1.07 manual, "The Sys File"; that a timetable is defined here is this project's
--- choice).
+-- What a line of a sys file says (Taylor UUCP 1.07 manual, "The Sys File"; that a timetable is
+-- defined here is this project's choice).
 use Rattle.std.specs.Prelude.{ℕ, ◌+◌, ◌-◌, ◌*◌, ◌&&◌, nat_le, ◌==◌, if◌then◌else◌, Option, None, Some, Result, Ok, Err, List, [], ◌∷◌, length, codes, ◌≤◌, ⊤}
 use Rattle.std.specs.List.{list_all}
 use Rattle.std.specs.Char.{is_ascii_digit}

@@ -1,5 +1,6 @@
--- Lists of simple strings as they are written, in lower case, and the minutes that they stand for (Taylor UUCP 1.07 manual, "Time
--- Strings"; that day words may stand in a row, that hours keep to their days and that both end minutes count is this project's choice).
+-- Lists of simple strings as they are written, in lower case, and the minutes that they stand for
+-- (Taylor UUCP 1.07 manual, "Time Strings"; that day words may stand in a row, that hours keep to
+-- their days and that both end minutes count is this project's choice).
 use Rattle.std.specs.Prelude.{◌≡◌, ◌⊎◌, ℕ, ◌+◌, ◌*◌, ◌/◌, ◌%◌, ◌<◌, ◌≤◌, Bool, true, ◌&&◌, ◌||◌, ◌==◌, if◌then◌else◌, Option, None, Some, IfSome, option_map, List, [], ◌∷◌, ◌++◌, length, take, map, codes}
 use Rattle.std.specs.List.{flat_map, list_any}
 use Rattle.std.specs.Char.{to_ascii_lowercase}

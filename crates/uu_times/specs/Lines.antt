@@ -1,5 +1,5 @@
--- The lines of a sys file and their words (Taylor UUCP 1.07 manual, "Configuration File Overview"; that lines are joined before
--- comments are cut is this project's choice).
+-- The lines of a sys file and their words (Taylor UUCP 1.07 manual, "Configuration File Overview";
+-- that lines are joined before comments are cut is this project's choice).
 use Rattle.std.specs.Prelude.{ℕ, ◌+◌, ◌-◌, Bool, ◌&&◌, nat_lt, ◌==◌, if◌then◌else◌, List, [], ◌∷◌, ◌++◌, length, take, slice_index, filter, Option, None, Some}
 use Rattle.std.specs.List.{slice_split}
 use Rattle.std.specs.Str.{byte}
@@ -11,8 +11,8 @@ pub record Numbered : Type 0 where
   pub line : List ℕ
 
 -- a line that ends with a backslash is joined with the next
-abbrev pub goes_on : List ℕ → Bool
-goes_on line = slice_index line (length line - 1) == byte "\\"
+abbrev pub is_continued : List ℕ → Bool
+is_continued line = slice_index line (length line - 1) == byte "\\"
 
 -- the line without that backslash
 abbrev pub without_last : List ℕ → List ℕ
@@ -20,7 +20,7 @@ without_last line = take (length line - 1) line
 
 -- what is kept of a line where lines are joined
 abbrev pub kept_part : List ℕ → List ℕ
-kept_part line = if goes_on line then without_last line else line
+kept_part line = if is_continued line then without_last line else line
 
 -- a front, and what it is joined with; the whole has the number of its first line
 abbrev pub joined_onto : ℕ → List ℕ → List Numbered → List Numbered
@@ -31,10 +31,11 @@ joined_onto number front (next ∷ more) = record { number = number; line = fron
 unfoldable pub joined : ℕ → List (List ℕ) → List Numbered
 joined number [] = []
 joined number (line ∷ more) =
-    if goes_on line then joined_onto number (without_last line) (joined (number + 1) more)
+    if is_continued line then joined_onto number (without_last line) (joined (number + 1) more)
     else record { number = number; line = line } ∷ joined (number + 1) more
 
--- Up to a `#` that begins a comment, which has no backslash directly before it; a backslash directly before a `#` goes.
+-- Up to a `#` that begins a comment, which has no backslash directly before it; a backslash
+-- directly before a `#` goes.
 abbrev pub uncommented : List ℕ → List ℕ
 uncommented [] = []
 uncommented (letter ∷ []) = if letter == byte "#" then [] else letter ∷ []

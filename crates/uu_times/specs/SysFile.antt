@@ -1,5 +1,5 @@
--- What a sys file says (Taylor UUCP 1.07 manual, "The Sys File"; that a section's own lines take the place of the defaults, and
--- the faults, are as this project chose).
+-- What a sys file says (Taylor UUCP 1.07 manual, "The Sys File"; that a section's own lines take
+-- the place of the defaults, and the faults, are as this project chose).
 use Rattle.std.specs.Prelude.{ℕ, nat_le, if◌then◌else◌, Option, None, Some, unwrap_or, Result, Ok, Err, List, [], ◌∷◌, ◌++◌, length}
 use Rattle.std.specs.Cmp.Lexicographic.{slice_cmp}
 use Rattle.std.specs.BTreeMap.{insert_entry}
@@ -19,7 +19,8 @@ use Rattle.uu_times.specs.Lines.{Numbered, joined}
 use Rattle.uu_times.specs.System.{System, most_lines, default_retries, default_success_wait}
 use Rattle.uu_times.specs.Tables.{Tables, predefined_tables}
 
--- the time line that a line is, the number of failures, the wait after a call that went well, the name of a system or of a timetable, the number of a skipped line
+-- the time line that a line is, the number of failures, the wait after a call that went well, the
+-- name of a system or of a timetable, the number of a skipped line
 abbrev pub time_in : Directive → Option Line
 time_in (Time line) = Some line
 time_in _ = None
@@ -49,8 +50,8 @@ abbrev pub windows_named : List ℕ → Directive → Option (List (ℕ × ℕ))
 windows_named name (Table other windows) = if bytes_eq name other then Some windows else None
 windows_named name _ = None
 
--- The timetables known behind lines: each definition takes the place of one of its name. `laws::the_last_timetable_counts` says what is
--- found there.
+-- The timetables known behind lines: each definition takes the place of one of its name.
+-- `laws::the_last_timetable_counts` says what is found there.
 abbrev pub known : Tables → List Directive → Tables
 known tables [] = tables
 known tables (Table name windows ∷ directives) = known (insert_entry (slice_cmp nat_cmp) tables name windows) directives
@@ -73,7 +74,8 @@ abbrev pub lines_or : List Line → List Line → List Line
 lines_or [] others = others
 lines_or (line ∷ lines) others = line ∷ lines
 
--- the time lines of a section, its last number of failures, and its last wait after a call that went well
+-- the time lines of a section, its last number of failures, and its last wait after a call that
+-- went well
 pub record Part : Type 0 where
   pub lines : List Line
   pub max_retries : Option ℕ
@@ -88,7 +90,8 @@ system_of name part defaults = record {
   success_wait = unwrap_or (option_or part.success_wait defaults.success_wait) default_success_wait;
 }
 
--- what the lines of a section say of a system: its time lines, and the last of its numbers of failures and of its waits
+-- what the lines of a section say of a system: its time lines, and the last of its numbers of
+-- failures and of its waits
 abbrev pub part_of : List Directive → Part
 part_of directives = record {
   lines = filter_map time_in directives;
@@ -102,8 +105,8 @@ systems_of defaults [] = []
 systems_of defaults (Begin name ∷ directives) = system_of name (part_of (section directives)) defaults ∷ systems_of defaults directives
 systems_of defaults (directive ∷ directives) = systems_of defaults directives
 
--- what can be wrong with a line, where these come before it: a second section of a system, a 33rd time line of a section, a
--- second definition of a timetable
+-- what can be wrong with a line, where these come before it: a second section of a system, a 33rd
+-- time line of a section, a second definition of a timetable
 abbrev pub checked : List Directive → ℕ → Directive → Result Directive TimeFault
 checked before line (Begin name) = if list_any (bytes_eq name) (filter_map name_in before) then Err (SystemTwice line) else Ok (Begin name)
 checked before line (Time time) = if nat_le most_lines (length (filter_map time_in (present [] before))) then Err (TooManyLines line) else Ok (Time time)

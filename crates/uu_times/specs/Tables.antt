@@ -1,5 +1,5 @@
--- Time strings and the timetables that they may name (Taylor UUCP 1.07 manual, "Time Strings"; how a timetable is named
--- and the predefined ones are this project's choice).
+-- Time strings and the timetables that they may name (Taylor UUCP 1.07 manual, "Time Strings"; how
+-- a timetable is named and the predefined ones are this project's choice).
 use Rattle.std.specs.Prelude.{◌≡◌, ℕ, Bool, false, ◌&&◌, ◌||◌, not, nat_le, nat_eq, ◌==◌, if◌then◌else◌, Option, None, Some, Result, Ok, Err, List, [], ◌∷◌, length, codes, ⊤}
 use Rattle.std.specs.Cmp.Lexicographic.{slice_cmp}
 use Rattle.std.specs.Ordering.{nat_cmp}
@@ -52,7 +52,8 @@ abbrev pub unreadable : ℕ → List ℕ → ℕ → TimeFault
 unreadable line text at =
     if is_table_name text && not (begins_with_day (lower text)) then UnknownTable line else BadTime line at
 
--- the place that a fault of a text tells is the length of its longest front that begins a list of simple strings
+-- the place that a fault of a text tells is the length of its longest front that begins a list of
+-- simple strings
 abbrev pub TellsFront : List ℕ → TimeFault → Type 0
 TellsFront text (BadTime line at) = IsLongestFront text at
 TellsFront text fault = ⊤
@@ -61,8 +62,9 @@ TellsFront text fault = ⊤
 abbrev pub windows_in : ℕ → List ℕ → Result (List (ℕ × ℕ)) TimeFault
 windows_in line text = elim (list_of text) [ Ok simples ↦ Ok (maximal_runs (any_has simples)) | Err at ↦ Err (unreadable line text at) ]
 
--- The set of a time string on a line: none for `Never`, that of a timetable for its name, and else that of a list of simple
--- strings. The whole text is compared, in this order. `laws::time_strings_are_read` ties it to `IsTimeString`.
+-- The set of a time string on a line: none for `Never`, that of a timetable for its name, and else
+-- that of a list of simple strings. The whole text is compared, in this order.
+-- `laws::time_strings_are_read` ties it to `IsTimeString`.
 abbrev pub time_of : Tables → ℕ → List ℕ → Result (List (ℕ × ℕ)) TimeFault
 time_of tables line text =
     if bytes_eq (lower text) (codes "never") then Ok []
@@ -76,8 +78,8 @@ spelled_minutes spellings = maximal_runs (λ minute. list_any (has_spelled minut
 abbrev pub IsNever : List ℕ → Type 0
 IsNever text = lower text ≡ codes "never"
 
--- What a time string means: no minute for `Never`, else those of the timetable that it names, and else those of the list of simple
--- strings that it is.
+-- What a time string means: no minute for `Never`, else those of the timetable that it names, and
+-- else those of the list of simple strings that it is.
 pub data IsTimeString (tables : Tables) (text : List ℕ) : List (ℕ × ℕ) → Type 0 where
   never : IsNever text → IsTimeString tables text []
   named : (windows : List (ℕ × ℕ)) → ¬ IsNever text → table_at tables text ≡ Some windows → IsTimeString tables text windows

@@ -1,4 +1,5 @@
--- The clock of a site: a POSIX rule (POSIX.1, the variable TZ), as `jiff_tz` reads it and as it defines its offset at an instant.
+-- The clock of a site: a POSIX rule (POSIX.1, the variable TZ), as `jiff_tz` reads it and as it
+-- defines its offset at an instant.
 use Rattle.std.specs.Prelude.{◌⊎◌, ℕ, ℤ, pos, neg_ℤ, ◌*ℤ◌, ◌<ℤ◌, List, Option, None}
 use Rattle.jiff_core.specs.Timestamp.{nanos_of_seconds}
 use Rattle.jiff_tz.specs.Abbreviation.{offset_text}
@@ -16,7 +17,8 @@ most_offset = 1439
 abbrev pub IsFarOff : ℤ → Type 0
 IsFarOff minutes = (minutes <ℤ neg_ℤ (pos most_offset)) ⊎ (pos most_offset <ℤ minutes)
 
--- the rule of a clock that is always so many minutes ahead of UTC, with the name that `jiff` gives it, as `+05:30`
+-- the rule of a clock that is always so many minutes ahead of UTC, with the name that `jiff` gives
+-- it, as `+05:30`
 abbrev pub always : ℤ → TzText
 always minutes = record {
   std_name = offset_text (pos 60 *ℤ minutes);

@@ -13,16 +13,18 @@ ghost use Rattle.uu_times.specs.declared.days.Simple.{Simple};
 ghost use Rattle.uu_times.specs.declared.zone.Zone.{Zone};
 ghost use Rattle.uu_times.specs.declared.directive.Directive.{Directive};
 
-/// A set of week minutes is the union of its maximal runs, which are in order and apart; and a list that
-/// [`Windows::from_ranges`](crate::Windows::from_ranges) accepts is the list of the maximal runs of its union.
+/// A set of week minutes is the union of its maximal runs, which are in order and apart; and a list
+/// that [`Windows::from_ranges`](crate::Windows::from_ranges) accepts is the list of the maximal
+/// runs of its union.
 pub fn sets_are_their_runs()
     ensures union { (set : ℕ → Bool) (minute : ℕ) → minute < 10080 → holds (maximal_runs set) minute ≡ set minute }
     ensures apart { (set : ℕ → Bool) → AreRuns (maximal_runs set) }
     ensures accepted { (ranges : List (ℕ × ℕ)) → AreRuns ranges → maximal_runs (holds ranges) ≡ ranges }
 {}
 
-/// The simple strings that are read of a text are those that are written there, whatever its case, and their minutes are those of
-/// what is written. A text that is no list of simple strings is told by the length of its longest front that begins one.
+/// The simple strings that are read of a text are those that are written there, whatever its case,
+/// and their minutes are those of what is written. A text that is no list of simple strings is told
+/// by the length of its longest front that begins one.
 pub fn lists_are_what_is_written()
     ensures written { (text : List ℕ) (spellings : List Spelling) → Spells (lower text) spellings → list_of text ≡ Ok (map simple_of spellings) }
     ensures read { (text : List ℕ) (simples : List Simple) → list_of text ≡ Ok simples
@@ -31,26 +33,28 @@ pub fn lists_are_what_is_written()
     ensures unread { (text : List ℕ) (at : ℕ) → list_of text ≡ Err at → IsLongestFront text at }
 {}
 
-/// What is read of a time string is what the string means by the grammar, and a string that is refused means nothing.
+/// What is read of a time string is what the string means by the grammar, and a string that is
+/// refused means nothing.
 pub fn time_strings_are_read()
     ensures read { (tables : Tables) (line : ℕ) (text : List ℕ) → IfOk (time_of tables line text) (IsTimeString tables text) }
     ensures refused { (tables : Tables) (line : ℕ) (text : List ℕ) → IfErr (time_of tables line text) (λ _. (windows : List (ℕ × ℕ)) → ¬ IsTimeString tables text windows) }
 {}
 
-/// A name stands for the last timetable of that name, whatever its case, behind any lines of a sys file: one that the lines define, or
-/// else one that was there before them.
+/// A name stands for the last timetable of that name, whatever its case, behind any lines of a sys
+/// file: one that the lines define, or else one that was there before them.
 pub fn the_last_timetable_counts()
     ensures { (tables : Tables) (lines : List Directive) (name : List ℕ) → IsTrue (is_table_name name)
         → table_at (known tables lines) name ≡ last_or (table_at tables name) (filter_map (windows_named (lower name)) lines) }
 {}
 
-/// The string of each timetable that is there from the start is a list of simple strings, and its name stands for their minutes.
+/// The string of each timetable that is there from the start is a list of simple strings, and its
+/// name stands for their minutes.
 pub fn predefined_tables_are_read()
     ensures { All (IsReadAs predefined_tables) predefined_strings }
 {}
 
-/// What a zone says tells its clock, which is always as far from UTC as its standard time where it says no daylight saving time; and
-/// no clock is 26 hours or more from UTC.
+/// What a zone says tells its clock, which is always as far from UTC as its standard time where it
+/// says no daylight saving time; and no clock is 26 hours or more from UTC.
 pub fn zones_are_what_they_say()
     ensures same { (a b : Zone) → said a ≡ said b → (second : ℕ) → offset_at a second ≡ offset_at b second }
     ensures standard { (zone : Zone) → (said zone).dst ≡ None → (second : ℕ) → offset_at zone second ≡ (said zone).std_seconds }

@@ -4,15 +4,15 @@ ghost use Rattle.std.specs.Option.{option_copied};
 ghost use Rattle.std.specs.List.{position_or_len};
 ghost use Rattle.std.specs.Str.{byte};
 ghost use Rattle.std.specs.Str.Lines.{lines};
-ghost use Rattle.uu_times.specs.Lines.{goes_on, kept_part, joined, uncommented, words_of, one_word, one_or_two};
+ghost use Rattle.uu_times.specs.Lines.{is_continued, kept_part, joined, uncommented, words_of, one_word, one_or_two};
 ghost use Rattle.uu_names.specs.Text.{is_blank, most_text};
 
 use std::alloc::{AllocError, Global};
 use uu_names::text::{blanks_len, first_line, is_blank};
 
 // Whether the line is joined with the next.
-fn goes_on(line: &[u8]) -> bool
-    ensures { result ≡ goes_on line.now }
+fn is_continued(line: &[u8]) -> bool
+    ensures { result ≡ is_continued line.now }
 {
     !line.is_empty() && line[line.len() - 1] == b'\\'
 }
@@ -27,16 +27,16 @@ pub struct Joined<'a> {
 
 // Whether the line is joined with a text behind it.
 fn is_joined(line: &[u8], rest: &[u8]) -> bool
-    ensures { result ≡ (goes_on line.now && nat_lt 0 (length rest.now)) }
+    ensures { result ≡ (is_continued line.now && nat_lt 0 (length rest.now)) }
 {
-    goes_on(line) && !rest.is_empty()
+    is_continued(line) && !rest.is_empty()
 }
 
 // The line without the backslash that joins it.
 fn kept_part(line: &[u8]) -> &[u8]
     ensures { result.now ≡ kept_part line.now }
 {
-    if goes_on(line) {
+    if is_continued(line) {
         &line[..line.len() - 1]
     } else {
         line

@@ -19,7 +19,8 @@ pub enum Place {
     An(Days),
     /// Behind a day word.
     Named(Days),
-    /// Within the time at which the hours begin: what the next digit counts, and the digits so far, filled up with zeros.
+    /// Within the time at which the hours begin: what the next digit counts, and the digits so far,
+    /// filled up with zeros.
     From(Days, u16, u16),
     /// Behind that time.
     Dash(Days, u16),

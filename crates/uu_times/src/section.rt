@@ -11,7 +11,8 @@ use std::marker::Model;
 use std::mem;
 use uu_names::{Listed, SiteName};
 
-/// The time lines of a section, its last number of failures, and its last wait after a call that went well.
+/// The time lines of a section, its last number of failures, and its last wait after a call that
+/// went well.
 #[derive(Drop)]
 pub struct Section {
     lines: Vec<Line>,

@@ -200,21 +200,26 @@ fn read_file(alloc: Global, text: &[u8]) -> Result<SysFile, TimeFault>
     }
 }
 
-/// Reads a sys file of at most 4,194,304 bytes: its systems in order, each with the time lines and the number of failures of its
-/// section or else the defaults, and the numbers of the lines that were skipped, since they begin with another keyword.
+/// Reads a sys file of at most 4,194,304 bytes: its systems in order, each with the time lines and
+/// the number of failures of its section or else the defaults, and the numbers of the lines that
+/// were skipped, since they begin with another keyword.
 ///
-/// What a line's time string means by the grammar is [`time_strings_are_read`](crate::laws::time_strings_are_read), and which timetable a
-/// name stands for [`the_last_timetable_counts`](crate::laws::the_last_timetable_counts). (Taylor UUCP 1.07 manual, "The Sys File"; a
-/// timetable may be defined here too.) Time and memory grow as the text does, but for the search of names and the sort of a line's ranges; tests
-/// measure the time alone, and no clause speaks of either.
+/// What a line's time string means by the grammar is
+/// [`time_strings_are_read`](crate::laws::time_strings_are_read), and which timetable a name stands
+/// for [`the_last_timetable_counts`](crate::laws::the_last_timetable_counts). (Taylor UUCP 1.07
+/// manual, "The Sys File"; a timetable may be defined here too.) Time and memory grow as the text
+/// does, but for the search of names and the sort of a line's ranges; tests measure the time alone,
+/// and no clause speaks of either.
 ///
 /// # Errors
-/// The fault of the first faulty line, with its number, which for a joined line is that of its first one. First what the line says by itself:
-/// [`TimeFault::BadSystem`] where a `system` line has not exactly one site name; [`TimeFault::BadWords`] where the words behind another keyword
-/// are too few or too many, or no grade or no timetable's name where one is wanted; [`TimeFault::UnknownTable`] or [`TimeFault::BadTime`] for its
-/// time string, as [`read_time`](crate::read_time) has them; [`TimeFault::BadNumber`]. Then what the lines before it forbid:
-/// [`TimeFault::SystemTwice`], [`TimeFault::TooManyLines`] for the 33rd time line of a section, [`TimeFault::TableTwice`]. Else
-/// [`TimeFault::Memory`].
+/// The fault of the first faulty line, with its number, which for a joined line is that of its
+/// first one. First what the line says by itself: [`TimeFault::BadSystem`] where a `system` line
+/// has not exactly one site name; [`TimeFault::BadWords`] where the words behind another keyword
+/// are too few or too many, or no grade or no timetable's name where one is wanted;
+/// [`TimeFault::UnknownTable`] or [`TimeFault::BadTime`] for its time string, as
+/// [`read_time`](crate::read_time) has them; [`TimeFault::BadNumber`]. Then what the lines before
+/// it forbid: [`TimeFault::SystemTwice`], [`TimeFault::TooManyLines`] for the 33rd time line of a
+/// section, [`TimeFault::TableTwice`]. Else [`TimeFault::Memory`].
 pub fn read_sys(alloc: Global, text: &[u8]) -> Result<SysFile, TimeFault>
     requires { length text.now ≤ most_text }
     ensures { AnswersUnlessMemory result (sys_file_of text.now) }

@@ -22,7 +22,8 @@ pub const DEFAULT_MAX_RETRIES: u32 = 26;
 /// The most seconds that a system may be left alone after a call that went well: 365 days.
 pub const SUCCESS_WAIT_LIMIT: u32 = 31_536_000;
 
-/// The seconds that a system is left alone after a call that went well, where a sys file doesn't say.
+/// The seconds that a system is left alone after a call that went well, where a sys file doesn't
+/// say.
 pub const DEFAULT_SUCCESS_WAIT: u32 = 0;
 
 /// When jobs of a grade and above may be sent.
@@ -75,8 +76,8 @@ impl Model for SystemDef {
 }
 
 impl SystemDef {
-    /// A system of these parts, and `None` where there are more than 32 lines, a retry number isn't 1 to
-    /// 525,600, `max_retries` is over 1,000,000, or `success_wait` is over 31,536,000.
+    /// A system of these parts, and `None` where there are more than 32 lines, a retry number isn't
+    /// 1 to 525,600, `max_retries` is over 1,000,000, or `success_wait` is over 31,536,000.
     pub fn new(
         name: SiteName,
         lines: Listed<Line>,
@@ -135,6 +136,7 @@ fn has_retry(line: &Line) -> bool
 pub struct SysFile {
     /// Its systems, in the order of their sections.
     pub systems: Listed<SystemDef>,
-    /// The numbers of the lines that were skipped, since they begin with another keyword, counted from 1.
+    /// The numbers of the lines that were skipped, since they begin with another keyword, counted
+    /// from 1.
     pub skipped: Listed<u32>,
 }

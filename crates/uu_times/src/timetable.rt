@@ -27,7 +27,8 @@ const DAY_WORDS: [&[u8]; 9] = [
     b"su", b"mo", b"tu", b"we", b"th", b"fr", b"sa", b"wk", b"any",
 ];
 
-/// Timetables by their names, in lower case, seen as the list of names and runs in order of the names.
+/// Timetables by their names, in lower case, seen as the list of names and runs in order of the
+/// names.
 #[derive(Drop)]
 pub struct Timetables {
     tables: BTreeMap<SiteName, Windows>,
@@ -187,7 +188,8 @@ fn begins_with_day(text: &[u8]) -> bool
     begins_with_any(text, &DAY_WORDS)
 }
 
-// The fault of a text that is no time string, of which so many bytes begin a list of simple strings.
+// The fault of a text that is no time string, of which so many bytes begin a list of simple
+// strings.
 fn unreadable(line: u32, text: &[u8], at: usize) -> TimeFault
     ensures { result ≡ unreadable line text.now at }
 {
@@ -229,13 +231,14 @@ pub(crate) fn time_of(
 
 /// The set of a time string.
 ///
-/// It is empty for `Never`, that of a timetable for its name, and else that of a list of simple strings; case doesn't
-/// count. Minutes are those of the local week; 0 is Sunday 00:00.
+/// It is empty for `Never`, that of a timetable for its name, and else that of a list of simple
+/// strings; case doesn't count. Minutes are those of the local week; 0 is Sunday 00:00.
 ///
 /// # Errors
-/// A text that is none of these is [`TimeFault::UnknownTable`] where it has the form of a timetable's name and doesn't begin
-/// with a day word, and else [`TimeFault::BadTime`] with the length of the longest front of the text that begins a list of
-/// simple strings; the line of both is 0. Else [`TimeFault::Memory`].
+/// A text that is none of these is [`TimeFault::UnknownTable`] where it has the form of a
+/// timetable's name and doesn't begin with a day word, and else [`TimeFault::BadTime`] with the
+/// length of the longest front of the text that begins a list of simple strings; the line of both
+/// is 0. Else [`TimeFault::Memory`].
 pub fn read_time(alloc: Global, text: &str, tables: &Timetables) -> Result<Windows, TimeFault>
     ensures string { IfOk result (λ windows. IsTimeString tables.now text.now windows) }
     ensures refused { IfErr result (λ fault. UnlessMemory fault ((windows : List (ℕ × ℕ)) → ¬ IsTimeString tables.now text.now windows)) }

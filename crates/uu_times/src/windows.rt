@@ -9,7 +9,8 @@ use std::rc::Rc;
 /// The minutes in a week. Minute 0 is Sunday 00:00, local.
 pub const WEEK: u16 = 10_080;
 
-/// A set of week minutes, as the minutes at which a time string lets a call be made. Minute 0 is Sunday 00:00, local.
+/// A set of week minutes, as the minutes at which a time string lets a call be made. Minute 0 is
+/// Sunday 00:00, local.
 ///
 /// It is kept as its maximal runs in order, each with its first and its last minute; two runs
 /// have at least one minute outside between them. Systems share the runs of a timetable.

@@ -1,5 +1,5 @@
--- What the program tells of faults, as worked examples of the definitions: the line, the status and the number of each. Many of them come of no line
--- of the program alone.
+-- What the program tells of faults, as worked examples of the definitions: the line, the status and
+-- the number of each. Many of them come of no line of the program alone.
 use Rattle.std.proofs.Common.{◌≡◌, ℕ, Bool, List, ◌∷◌, [], ◌++◌, String, codes, refl}
 use Rattle.std.specs.declared.alloc.Global.{Global}
 use Rattle.uu_names.specs.declared.fault.NameFault.TheVariants as name

@@ -1,4 +1,5 @@
--- What is printed of the answer to a question on a state, and the status. All of it is this project's choice.
+-- What is printed of the answer to a question on a state, and the status. All of it is this
+-- project's choice.
 use Rattle.std.specs.Prelude.{◌≡◌, ℕ, Option, Some, None, List, [], ◌∷◌, ◌++◌, codes, map}
 use Rattle.std.specs.List.{flat_map}
 use Rattle.uu_times.specs.declared.zone.Zone.{Zone}

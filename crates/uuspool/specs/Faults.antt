@@ -52,8 +52,8 @@ abbrev pub store_status : StoreFault → ℕ
 store_status store.Memory = 4
 store_status _ = 3
 
--- the exit status of a fault: 0 for help, 2 for words, settings, names, times, addresses and input, 3 for the
--- spool, 4 for want of memory wherever it was met, 5 for reading and writing
+-- the exit status of a fault: 0 for help, 2 for words, settings, names, times, addresses and input,
+-- 3 for the spool, 4 for want of memory wherever it was met, 5 for reading and writing
 abbrev pub status_of : Fault → ℕ
 status_of (fault.Words text true) = 0
 status_of (fault.Words text false) = 2

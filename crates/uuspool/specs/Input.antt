@@ -1,5 +1,5 @@
--- The input of a line of the program, which has at most 4,194,304 bytes. The limit is this project's
--- choice.
+-- The input of a line of the program, which has at most 4,194,304 bytes. The limit is this
+-- project's choice.
 use Rattle.std.specs.Prelude.{◌≡◌, ℕ, ◌<◌, ◌≤◌, List, Option, IfSome, length}
 use Rattle.std.specs.Io.KnownBytes.{Consumes}
 use Rattle.uu_names.specs.Text.{most_text}

@@ -6,8 +6,9 @@ use Rattle.uu_line.specs.declared.line.CommandLine.{CommandLine}
 use Rattle.uuspool.specs.declared.fault.Fault.{Fault}
 use Rattle.uuspool.specs.declared.fault.Fault.TheVariants.{Words, Name, TwoSystems, Memory}
 
--- The answer to words is what they mean. A fault of words comes where `clap` refuses them or is asked for
--- help, which it then says, and nowhere else; want of memory may take the place of any answer, and no other fault comes.
+-- The answer to words is what they mean. A fault of words comes where `clap` refuses them or is
+-- asked for help, which it then says, and nowhere else; want of memory may take the place of any
+-- answer, and no other fault comes.
 abbrev pub IsAnswerTo : List (List ℕ) → Result CommandLine Fault → Type 0
 IsAnswerTo words (Ok line) = MeansLine words line
 IsAnswerTo words (Err (Words text help)) = AreRefused words help

@@ -1,4 +1,5 @@
--- What the words of a call ask of a spool, what the program prints, and its status. All of it is this project's choice.
+-- What the words of a call ask of a spool, what the program prints, and its status. All of it is
+-- this project's choice.
 use Rattle.std.specs.Prelude.{◌≡◌, ◌≢◌, ◌↔◌, ◌⊎◌, ℕ, pos, Bool, true, false, IsTrue, Option, Some, None, MatchOption, List, [], Result, Ok, Err, IfErr, ⊤, unwrap_or, length}
 use Rattle.sqlite.specs.Store.{Ghosts}
 use Rattle.sqlite.specs.State.{HasCleanDisk}
@@ -44,7 +45,8 @@ pub record IsMomentOf (settings : Settings) (instant : ℕ) (at : Moment) : Type
   pub week : pos at.week ≡ week_minute (local_second settings.zone instant)
   pub local : Shows at.local (local_second settings.zone instant)
 
--- what the words ask, with this input, at the second `now` where they give none, or why they ask nothing
+-- what the words ask, with this input, at the second `now` where they give none, or why they ask
+-- nothing
 pub record Ask (settings : Settings) (words : List (List ℕ)) (now : ℕ) (input : List ℕ) (asked : Result Request RequestFault) : Type 0 where
   pub line : CommandLine
   pub means : MeansLine words line
@@ -70,21 +72,23 @@ abbrev pub answered_text : Request → List Reply → List ℕ
 answered_text (Commands batch) replies = answers_text batch.subjects replies
 answered_text (Question question) replies = []
 
--- the output and the status of commands are those of the replies that came; an answer to a question is no reply
+-- the output and the status of commands are those of the replies that came; an answer to a question
+-- is no reply
 abbrev pub IsOfReplies : Request → List Reply → List ℕ → ℕ → Type 0
 IsOfReplies (Commands batch) replies output status = (output ≡ output_text batch.subjects batch.skipped replies) × (status ≡ replies_status replies)
 IsOfReplies (Question question) replies output status = ⊤
 
--- How a request ends of which all was answered: with the status of an output that was written; or that output could not be written, and less of it
--- was; or memory ran out, and nothing was.
+-- How a request ends of which all was answered: with the status of an output that was written; or
+-- that output could not be written, and less of it was; or memory ran out, and nothing was.
 abbrev pub IsPrinted : (List ℕ → ℕ → Type 0) → (List ℕ → Type 0) → Result ℕ Fault → Type 0
 IsPrinted Is written (Ok status) = (output : List ℕ) × Is output status × written output
 IsPrinted Is written (Err fault.Write) = (output : List ℕ) × (status : ℕ) × Is output status × IsCut output written
 IsPrinted Is written (Err fault.Memory) = written []
 IsPrinted Is written (Err _) = ⊥
 
--- How a request ends that the store broke off: with the store's fault, once this output was written. Another fault hides that one only where less was
--- written, and want of memory where nothing of it was.
+-- How a request ends that the store broke off: with the store's fault, once this output was
+-- written. Another fault hides that one only where less was written, and want of memory where
+-- nothing of it was.
 abbrev pub IsBrokenOff : StoreFault → List ℕ → (List ℕ → Type 0) → Result ℕ Fault → Type 0
 IsBrokenOff why output written (Ok status) = ⊥
 IsBrokenOff why output written (Err (fault.Store told)) = (told ≡ why) × written output
@@ -120,7 +124,8 @@ IsLate fault.Write = ⊤
 IsLate fault.Memory = ⊤
 IsLate _ = ⊥
 
--- How a request ends, by whether the spool had failed before and has afterwards: `Failed` is told of a spool that had failed, and of no other.
+-- How a request ends, by whether the spool had failed before and has afterwards: `Failed` is told
+-- of a spool that had failed, and of no other.
 abbrev pub Marks : Bool → Bool → Option StoreFault → Type 0
 Marks before afterwards None = (before ≡ false) × (afterwards ≡ false)
 Marks before afterwards (Some store.Memory) = (before ≡ false) × (afterwards ≡ false)
@@ -134,15 +139,18 @@ abbrev pub IsNoted : {S : Type 0} {g : Ghosts S} → Spool S g → Spool S g →
 IsNoted old new stopped =
     HasCleanDisk (spool.disk new) → (s : State) → spool.Shows old s → (kind : StoreKind) → stopped ≡ Some (store.Store kind) → spool.has_failed new ≡ true
 
--- Nothing stopped commands exactly where each was answered, by a spool that had not failed. A question has no reply.
+-- Nothing stopped commands exactly where each was answered, by a spool that had not failed. A
+-- question has no reply.
 abbrev pub IsEvery : Bool → Request → List Reply → Option StoreFault → Type 0
 IsEvery failed (Commands batch) replies stopped = (stopped ≡ None) ↔ ((failed ≡ false) × (length replies ≡ length batch.commands))
 IsEvery failed (Question question) replies stopped = replies ≡ []
 
--- A request was served: it was a run of its commands, so that the replies are the machine's, the spool shows the machine's state after the
--- commands that were answered, and a stop leaves that. Where nothing stopped it, all were answered, and their output was `written`, or less of it
--- where it could not be; where the store gave a fault, the output of the commands that were answered was, or less of it, and then alone another
--- fault hides the store's. Of a spool that had failed it is told, nothing is printed, and it is left as it was.
+-- A request was served: it was a run of its commands, so that the replies are the machine's, the
+-- spool shows the machine's state after the commands that were answered, and a stop leaves that.
+-- Where nothing stopped it, all were answered, and their output was `written`, or less of it where
+-- it could not be; where the store gave a fault, the output of the commands that were answered was,
+-- or less of it, and then alone another fault hides the store's. Of a spool that had failed it is
+-- told, nothing is printed, and it is left as it was.
 pub record IsServed {S : Type 0} {g : Ghosts S} (settings : Settings) (request : Request) (old new : Spool S g) (written : List ℕ → Type 0) (result : Result ℕ Fault) : Type 0 where
   pub replies : List Reply
   pub stopped : Option StoreFault
@@ -168,8 +176,9 @@ EndsAs (Err _) served unchanged = unchanged
 
 -- ---- which fault ends a line
 
--- Those of the words come first, then those of names, then different systems, then the moment, then the size of the input, then the sys
--- file's, and then those of the spool. Want of memory may take the place of any.
+-- Those of the words come first, then those of names, then different systems, then the moment, then
+-- the size of the input, then the sys file's, and then those of the spool. Want of memory may take
+-- the place of any.
 abbrev pub IsFaultOf : Settings → List (List ℕ) → ℕ → List ℕ → Fault → Type 0
 IsFaultOf settings words now input (fault.Words text help) = AreRefused words help
 IsFaultOf settings words now input (fault.Name why) = IsAnswerTo words (Err (fault.Name why))
@@ -184,7 +193,8 @@ IsFaultOf settings words now input fault.Read = ⊥
 IsFaultOf settings words now input (fault.Store why) = IsOfCall why × ((request : Request) × Ask settings words now input (Ok request))
 IsFaultOf settings words now input fault.Write = (request : Request) × Ask settings words now input (Ok request)
 
--- Of a line at its moment: its input is too large, or is no sys file, or its request was asked of the spool. Want of memory may take the place of any.
+-- Of a line at its moment: its input is too large, or is no sys file, or its request was asked of
+-- the spool. Want of memory may take the place of any.
 abbrev pub IsFaultOfLine : Settings → CommandLine → Moment → List ℕ → Fault → Type 0
 IsFaultOfLine settings line at input (fault.Time why) = request_of settings at input line ≡ Err (asking.Time why)
 IsFaultOfLine settings line at input fault.Input = request_of settings at input line ≡ Err asking.Input

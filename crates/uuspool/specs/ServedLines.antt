@@ -1,4 +1,5 @@
--- Lines that are served one after the other over one spool, and what the plain machine tells of them. All of it is this project's choice.
+-- Lines that are served one after the other over one spool, and what the plain machine tells of
+-- them. All of it is this project's choice.
 use Rattle.std.specs.Prelude.{◌≡◌, ◌⊎◌, ◌++◌, ◌∷◌, ℕ, Bool, true, false, List, [], length, take, drop, Option, Some, None, Result, Ok, Err, IfErr, OnErr, ⊤}
 use Rattle.std.specs.List.{AllByRecursion}
 use Rattle.sqlite.specs.Store.{Ghosts}
@@ -19,7 +20,8 @@ use Rattle.uuspool.specs.Served.{Ask, EndsAs, IsOutput, IsServed, IsFaultOf, ans
 use Rattle.uuspool.specs.declared.fault.Fault.{Fault}
 use Rattle.uuspool.specs.declared.fault.Fault.TheVariants as fault
 
--- a line: its words, the second where they give none, and its input; and what came of it: what was printed, and its status or its fault
+-- a line: its words, the second where they give none, and its input; and what came of it: what was
+-- printed, and its status or its fault
 pub record Line : Type 0 where
   pub words : List (List ℕ)
   pub now : ℕ
@@ -34,8 +36,8 @@ pub record Serves {S : Type 0} {g : Ghosts S} (settings : Settings) (line : Line
       ((new ≡ old) × (line.output ≡ []))
   pub told : IfErr line.result (IsFaultOf settings line.words line.now line.input)
 
--- The next line is served. It is left where the spool gave a fault, and where memory or the output failed, since the spool may have failed
--- before that.
+-- The next line is served. It is left where the spool gave a fault, and where memory or the output
+-- failed, since the spool may have failed before that.
 abbrev pub goes_on : Result ℕ Fault → Bool
 goes_on (Ok status) = true
 goes_on (Err (fault.Store why)) = false
@@ -52,7 +54,8 @@ abbrev pub AreLeft : List Line → Type 0
 AreLeft [] = ⊤
 AreLeft (line ∷ lines) = (line.output ≡ []) × (line.result ≡ Err left_fault) × AreLeft lines
 
--- The lines were served one after the other: where a line goes on, those after it were served, and else they are left and touch nothing.
+-- The lines were served one after the other: where a line goes on, those after it were served, and
+-- else they are left and touch nothing.
 abbrev pub AreServed : {S : Type 0} {g : Ghosts S} → Settings → List Line → Spool S g → Spool S g → Type 0
 AreServed settings [] old new = new ≡ old
 AreServed {S} {g} settings (line ∷ lines) old new =
@@ -72,8 +75,9 @@ commands_in [] = []
 commands_in (None ∷ asked) = commands_in asked
 commands_in (Some request ∷ asked) = commands_of request ++ commands_in asked
 
--- What is told of a request in a state, by how its line ends: with a status its output; where the store gave a fault, the output of the commands that
--- were answered; where the one or the other could not be written, less of it; and where memory ran out, nothing.
+-- What is told of a request in a state, by how its line ends: with a status its output; where the
+-- store gave a fault, the output of the commands that were answered; where the one or the other
+-- could not be written, less of it; and where memory ran out, nothing.
 abbrev pub IsTold : Settings → State → Request → List Reply → List ℕ → Result ℕ Fault → Type 0
 IsTold settings s request replies output (Ok status) = IsOutput settings s request output status
 IsTold settings s request replies output (Err (fault.Store why)) = output ≡ answered_text request replies
@@ -83,22 +87,24 @@ IsTold settings s request replies output (Err fault.Write) =
 IsTold settings s request replies output (Err fault.Memory) = output ≡ []
 IsTold settings s request replies output (Err _) = ⊥
 
--- The line came to this request, and what was told of it is what the machine tells in this state. Where it did not end with a status, it is the last
--- that was served: the replies that are left are those to its commands, and the machine's.
+-- The line came to this request, and what was told of it is what the machine tells in this state.
+-- Where it did not end with a status, it is the last that was served: the replies that are left are
+-- those to its commands, and the machine's.
 pub record IsToldAs (settings : Settings) (s : State) (replies : List Reply) (line : Line) (request : Request) : Type 0 where
   pub asks : Ask settings line.words line.now line.input (Ok request)
   pub told : IsTold settings s request replies line.output line.result
   pub answers : OnErr line.result (replies ≡ replies_to s (take (length replies) (commands_of request)))
 
--- the line came to no request: nothing was printed, and its fault is that of its words, its moment or its input, or it was left
+-- the line came to no request: nothing was printed, and its fault is that of its words, its moment
+-- or its input, or it was left
 pub record IsUnasked (settings : Settings) (line : Line) : Type 0 where
   pub nothing : line.output ≡ []
   pub why : Fault
   pub is : line.result ≡ Err why
   pub told : IsFaultOf settings line.words line.now line.input why ⊎ (why ≡ left_fault)
 
--- What the plain machine tells of the lines from this state on, each in the state that the commands before it left. The replies are those to
--- the lines' commands, one line's after the other's.
+-- What the plain machine tells of the lines from this state on, each in the state that the commands
+-- before it left. The replies are those to the lines' commands, one line's after the other's.
 abbrev pub AreTold : Settings → State → List Reply → List Line → List (Option Request) → Type 0
 AreTold settings s replies [] [] = replies ≡ []
 AreTold settings s replies (line ∷ lines) (None ∷ asked) = IsUnasked settings line × AreTold settings s replies lines asked
@@ -108,9 +114,9 @@ AreTold settings s replies (line ∷ lines) (Some request ∷ asked) =
 AreTold settings s replies [] (request ∷ asked) = ⊥
 AreTold settings s replies (line ∷ lines) [] = ⊥
 
--- The lines are one run of the commands of their requests: what was told of each is what the machine tells, and a stop leaves what the run says.
--- Where the store stopped none of them, every command was answered, and the spool shows the machine's state; so it is where each line goes
--- on.
+-- The lines are one run of the commands of their requests: what was told of each is what the
+-- machine tells, and a stop leaves what the run says. Where the store stopped none of them, every
+-- command was answered, and the spool shows the machine's state; so it is where each line goes on.
 pub record IsOneRun {S : Type 0} {g : Ghosts S} (settings : Settings) (lines : List Line) (old new : Spool S g) : Type 0 where
   pub asked : List (Option Request)
   pub replies : List Reply

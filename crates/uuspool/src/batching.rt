@@ -1,4 +1,5 @@
-//! Many requests in one process: a stream of lines that are served over one spool, and the stream of their answers.
+//! Many requests in one process: a stream of lines that are served over one spool, and the stream
+//! of their answers.
 ghost use Rattle.std.specs.Prelude.{◌≡◌, ◌++◌, ℕ, List, Bool, true, false, [], Option, Err, IfErr, IfOk, IfSome, OnOk, ⊤, map, string_bytes};
 ghost use Rattle.std.specs.Io.KnownBytes.{Appends};
 ghost use Rattle.uu_frame.specs.Frames.{IsCause};
@@ -29,14 +30,16 @@ pub trait Clock {
         ensures { IfSome result (λ second. tells self.old second self.new) };
 }
 
-/// Serves each request of the stream over the spool, and writes its answer, which is flushed before the next one is read. The clock is
-/// asked once for each. Answers the program's status: 0 at the end of the stream, and else that of the last answer, which tells a fault of
-/// the stream. After a fault of the spool, and where memory ran out within a request, no further one is carried out: each is answered that
-/// the spool failed.
+/// Serves each request of the stream over the spool, and writes its answer, which is flushed before
+/// the next one is read. The clock is asked once for each. Answers the program's status: 0 at the
+/// end of the stream, and else that of the last answer, which tells a fault of the stream. After a
+/// fault of the spool, and where memory ran out within a request, no further one is carried out:
+/// each is answered that the spool failed.
 ///
 /// # Errors
-/// `Write` and `Memory` where an answer could not be written or made; then a beginning of it was written, with `Memory` nothing of it, and the
-/// request in hand may have been carried out. `Read` after 2^64 - 1 requests, which were answered.
+/// `Write` and `Memory` where an answer could not be written or made; then a beginning of it was
+/// written, with `Memory` nothing of it, and the request in hand may have been carried out. `Read`
+/// after 2^64 - 1 requests, which were answered.
 pub fn batch<S: Alter, C: Clock, R: BufRead, W: Write>(
     alloc: Global,
     settings: &Settings,
@@ -126,7 +129,8 @@ fn answer_to<S: Alter>(
     Answer { output, end }
 }
 
-// Whether the next request is served after this end. The spool may have failed before memory or the output did.
+// Whether the next request is served after this end. The spool may have failed before memory or the
+// output did.
 fn goes_on(end: &Result<u8, Fault>) -> bool
     ensures { result ≡ goes_on end.now }
 {
@@ -173,7 +177,8 @@ fn told_of(alloc: Global, answer: Answer) -> Result<Told, Fault>
     }
 }
 
-// What is told of a fault behind an output: help stands behind the output, and the line of any other fault among the errors.
+// What is told of a fault behind an output: help stands behind the output, and the line of any
+// other fault among the errors.
 fn told_of_fault(alloc: Global, output: Vec<u8>, fault: &Fault) -> Result<Told, Fault>
     ensures status { IfOk result (λ told. told.status ≡ status_of fault.now) }
     ensures output { IfOk result (λ told. told.output.items ≡ output.items ++ output_of_fault fault.now) }

@@ -18,7 +18,8 @@ use uu_times::TimeFault;
 /// Why a line was not done.
 #[derive(Debug, Drop, Error)]
 pub enum Fault {
-    /// The words are no line of the program, or ask for its help. `text` is what is printed, as it is.
+    /// The words are no line of the program, or ask for its help. `text` is what is printed, as it
+    /// is.
     #[error("{text}")]
     Words {
         /// What is printed, with its line ends.
@@ -74,8 +75,8 @@ impl Fault {
         }
     }
 
-    /// Whether it is help that was asked for: its text is printed on standard output, and the line of
-    /// any other fault on standard error.
+    /// Whether it is help that was asked for: its text is printed on standard output, and the line
+    /// of any other fault on standard error.
     pub fn is_help(&self) -> bool
         ensures { result ≡ is_help self.now }
     {
@@ -136,8 +137,9 @@ impl From<RequestFault> for Fault {
     }
 }
 
-/// The exit status of the program at this fault: 0 for help, 2 for words, settings, names, times, addresses and
-/// input, 3 for the spool, 4 for want of memory wherever it was met, 5 for reading and writing.
+/// The exit status of the program at this fault: 0 for help, 2 for words, settings, names, times,
+/// addresses and input, 3 for the spool, 4 for want of memory wherever it was met, 5 for reading
+/// and writing.
 pub fn fault_status(fault: &Fault) -> u8
     ensures { result ≡ status_of fault.now }
 {

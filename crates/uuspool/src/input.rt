@@ -15,11 +15,13 @@ pub const READ_LIMIT: u32 = 5_000_000;
 
 const CHUNK: usize = 16_384;
 
-/// All bytes of the reader, up to its end. A read that a signal interrupts is tried again, and counts as one.
+/// All bytes of the reader, up to its end. A read that a signal interrupts is tried again, and
+/// counts as one.
 ///
 /// # Errors
-/// `Input` exactly where more than `MAX_TEXT` bytes came, `Read` where a read fails or the reader has not
-/// ended after `READ_LIMIT` reads, and `Memory`, also where it is the reader that found none.
+/// `Input` exactly where more than `MAX_TEXT` bytes came, `Read` where a read fails or the reader
+/// has not ended after `READ_LIMIT` reads, and `Memory`, also where it is the reader that found
+/// none.
 pub fn read_input<R: Read>(alloc: Global, reader: &mut R) -> Result<Vec<u8>, Fault>
     ensures whole { IfOk result (λ bytes. IsWholeInput (R.remaining reader.old) bytes.items) }
     ensures end { OnOk result (IsAtEnd (R.remaining reader.new)) }

@@ -11,8 +11,8 @@ use uu_frame::{FrameFault, write_whole};
 /// Prints an output, where there was memory to make it, and answers this status.
 ///
 /// # Errors
-/// `Memory` where there was none, or the writer found none for the output, and then nothing is written; `Write` where less than the output
-/// was written.
+/// `Memory` where there was none, or the writer found none for the output, and then nothing is
+/// written; `Write` where less than the output was written.
 pub(crate) fn print<E: Drop, W: Write>(
     output: Result<Vec<u8>, E>,
     status: u8,

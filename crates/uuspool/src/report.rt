@@ -27,8 +27,8 @@ pub fn report_jobs(alloc: Global, jobs: &[JobHead], settings: &Settings) -> Resu
     Ok(jobs_report(alloc, jobs, &settings.zone)?)
 }
 
-/// The report of what is due, in the order handed in, a line for each system: `SYSTEM GRADE NUMBER`. The only error is
-/// `Memory`.
+/// The report of what is due, in the order handed in, a line for each system: `SYSTEM GRADE
+/// NUMBER`. The only error is `Memory`.
 pub fn report_due(alloc: Global, dues: &[Due]) -> Result<Vec<u8>, Fault>
     ensures lines { IfOk result (λ report. report.items ≡ flat_map due_text dues.now) }
     ensures memory { IfErr result (λ fault. fault ≡ Fault.Memory) }
@@ -36,9 +36,9 @@ pub fn report_due(alloc: Global, dues: &[Due]) -> Result<Vec<u8>, Fault>
     Ok(due_report(alloc, dues)?)
 }
 
-/// The report of when systems can next be called, in the order handed in, a line for each:
-/// `SYSTEM GRADE NUMBER SECONDS MOMENT WHY`, or `SYSTEM GRADE NUMBER never WHY`, the seconds counted
-/// from this moment on, and the moment as in [`report_jobs`]. The only error is `Memory`.
+/// The report of when systems can next be called, in the order handed in, a line for each: `SYSTEM
+/// GRADE NUMBER SECONDS MOMENT WHY`, or `SYSTEM GRADE NUMBER never WHY`, the seconds counted from
+/// this moment on, and the moment as in [`report_jobs`]. The only error is `Memory`.
 pub fn report_next_calls(
     alloc: Global,
     calls: &[NextCall],
@@ -63,8 +63,9 @@ pub fn report_queues(alloc: Global, queues: &[Queue], settings: &Settings) -> Re
     Ok(queues_report(alloc, queues, &settings.zone)?)
 }
 
-/// The report of these systems, in their order, a line for each: `SYSTEM FAILURES WAIT STATE`, the wait in seconds, the
-/// state as `never`, `done MOMENT` or `failed MOMENT WHY` with the moment as in [`report_jobs`]. The only error is `Memory`.
+/// The report of these systems, in their order, a line for each: `SYSTEM FAILURES WAIT STATE`, the
+/// wait in seconds, the state as `never`, `done MOMENT` or `failed MOMENT WHY` with the moment as
+/// in [`report_jobs`]. The only error is `Memory`.
 pub fn report_status(
     alloc: Global,
     systems: &[SystemRow],
@@ -77,8 +78,9 @@ pub fn report_status(
     Ok(status_report(alloc, systems, &settings.zone)?)
 }
 
-/// The report of a map entry: `NAME COST` or `NAME dead` for each link, then `= ALIAS` for each alias, then
-/// `skipped LINE` for each skipped statement, in the entry's order. The only error is `Memory`.
+/// The report of a map entry: `NAME COST` or `NAME dead` for each link, then `= ALIAS` for each
+/// alias, then `skipped LINE` for each skipped statement, in the entry's order. The only error is
+/// `Memory`.
 pub fn report_links(alloc: Global, entry: &Entry) -> Result<Vec<u8>, Fault>
     ensures lines { IfOk result (λ report. report.items ≡ links_text entry.now) }
     ensures memory { IfErr result (λ fault. fault ≡ Fault.Memory) }

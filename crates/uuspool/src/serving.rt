@@ -28,14 +28,15 @@ use uu_store::{Reply, RunEnd, Spool};
 use uu_times::Moment;
 
 /// Runs the line that the words after the program's name mean, at the second `now` where the line
-/// gives none, with this input. Writes its output to `out` and answers its status: 0 done, 1 where a command was
-/// refused or what is asked for is not there.
+/// gives none, with this input. Writes its output to `out` and answers its status: 0 done, 1 where
+/// a command was refused or what is asked for is not there.
 ///
 /// # Errors
-/// `Words`, `Name`, `TwoSystems`, `Time` and `Input` come before the spool is asked, in this order, but for the `Time` of
-/// a sys file, which comes last; then nothing is written and nothing changes. `Store` comes after the output of the
-/// commands that were answered. After `Write` accepted commands stay accepted; where the store gave a fault, `Write` and `Memory` come in its
-/// place only where less than that output was written. `Settings` and `Read` never come.
+/// `Words`, `Name`, `TwoSystems`, `Time` and `Input` come before the spool is asked, in this order,
+/// but for the `Time` of a sys file, which comes last; then nothing is written and nothing changes.
+/// `Store` comes after the output of the commands that were answered. After `Write` accepted
+/// commands stay accepted; where the store gave a fault, `Write` and `Memory` come in its place
+/// only where less than that output was written. `Settings` and `Read` never come.
 pub fn serve<S: Alter, W: Write>(
     alloc: Global,
     words: &[String],
@@ -109,11 +110,12 @@ fn line_and_moment(
     }
 }
 
-/// Runs this line at this moment on the site's clock, with this input, which it takes. Writes its output to `out` and answers its status,
-/// as [`serve`] does for words that mean the line.
+/// Runs this line at this moment on the site's clock, with this input, which it takes. Writes its
+/// output to `out` and answers its status, as [`serve`] does for words that mean the line.
 ///
 /// # Errors
-/// Those of [`serve`] but for the faults of words and of the moment: `Input`, then the `Time` of a sys file, `Store`, `Write` and `Memory`.
+/// Those of [`serve`] but for the faults of words and of the moment: `Input`, then the `Time` of a
+/// sys file, `Store`, `Write` and `Memory`.
 pub fn serve_line<S: Alter, W: Write>(
     alloc: Global,
     line: CommandLine,
@@ -157,8 +159,8 @@ fn run<S: Alter, W: Write>(
     print_end(alloc, subjects.as_slice(), skipped.as_slice(), &end, out)
 }
 
-// Prints the output of a run, or where it was broken off that of the commands that were answered. Where there is none, no fault of memory or
-// of the output hides the store's.
+// Prints the output of a run, or where it was broken off that of the commands that were answered.
+// Where there is none, no fault of memory or of the output hides the store's.
 fn print_end<W: Write>(
     alloc: Global,
     subjects: &[Subject],

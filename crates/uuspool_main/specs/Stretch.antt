@@ -42,8 +42,8 @@ module _ {D : Type 0} {g : disk.Ghosts D} where
   LetsGo spool (rest.Closed files) = IsClosed spool files
   LetsGo spool (rest.Unclosed it) = IsLetGo over_files (connection_of spool).store it
 
-  -- A stretch of work over files that held this ended so. (Of a store whose files could not be closed the port does not say that each tree
-  -- still has its place in the list of objects.)
+  -- A stretch of work over files that held this ended so. (Of a store whose files could not be
+  -- closed the port does not say that each tree still has its place in the list of objects.)
   abbrev pub EndsStretch : Image → Exchange → Rest D g → Type 0
   EndsStretch before exchange (rest.Store it) = IsStretch before exchange it
   EndsStretch before exchange (rest.Closed files) = IsClosedStretch g before exchange files
@@ -61,8 +61,9 @@ abbrev pub WasGiven : {S : Type 0} {g : Ghosts S} → Spool S g → Spool S g �
 WasGiven old new Is =
     (commands : List Command) × (replies : List Reply) × (stopped : Option StoreFault) × Ran commands old new replies stopped × Is (exchange_of commands replies stopped)
 
--- How a batch of these lines may end: with status 0 or one that a fault of a stream has, and else because an answer could not be written, for
--- want of memory, or since it has no number for a further line.
+-- How a batch of these lines may end: with status 0 or one that a fault of a stream has, and else
+-- because an answer could not be written, for want of memory, or since it has no number for a
+-- further line.
 abbrev pub EndsBatch : List Line → Result ℕ Fault → Type 0
 EndsBatch lines (Ok status) = EndsWith None None (λ last. ⊤) status
 EndsBatch lines (Err fault.Write) = ⊤
@@ -71,8 +72,8 @@ EndsBatch lines (Err fault.Read) = length lines ≡ most_requests
 EndsBatch lines (Err _) = ⊥
 
 module _ {S : Type 0} {g : Ghosts S} (settings : Settings) (begun ended : Spool S g) where
-  -- Such a request was served, and these are its commands and their replies, or nothing was done. (What a terminal or a pipe was given is not
-  -- known.)
+  -- Such a request was served, and these are its commands and their replies, or nothing was done.
+  -- (What a terminal or a pipe was given is not known.)
   abbrev pub IsOfRequest : (Request → Type 0) → Result ℕ Fault → Exchange → Type 0
   IsOfRequest Is result exchange = EndsAs result
       ((request : Request) × Is request
@@ -89,24 +90,25 @@ module _ {S : Type 0} {g : Ghosts S} (settings : Settings) (begun ended : Spool 
   IsOfWords words now input result exchange =
       IsOfRequest (λ request. Ask settings words now input (Ok request)) result exchange × IfErr result (IsFaultOf settings words now input)
 
-  -- Lines of requests were served, and these are the commands of their requests and the replies. (That they are those of standard input, and
-  -- that the stream was at its end or had the fault, is said of `batch` alone.)
+  -- Lines of requests were served, and these are the commands of their requests and the replies.
+  -- (That they are those of standard input, and that the stream was at its end or had the fault, is
+  -- said of `batch` alone.)
   abbrev pub IsOfLines : Result ℕ Fault → Exchange → Type 0
   IsOfLines result exchange =
       (lines : List Line) × AllByRecursion IsRequestLine lines × AreServed settings lines begun ended
       × (it : IsOneRun settings lines begun ended) × (exchange ≡ exchange_of (commands_in it.asked) it.replies it.stopped)
       × EndsBatch lines result
 
-  -- This work was done, and these are the commands and the replies of its line or of its lines. What is said of the line is said of all words that
-  -- mean it at its moment.
+  -- This work was done, and these are the commands and the replies of its line or of its lines.
+  -- What is said of the line is said of all words that mean it at its moment.
   abbrev pub IsOfWork : Work → Result ℕ Fault → Exchange → Type 0
   IsOfWork (work.Line line at input) result exchange =
       IsOfLine line at input.items result exchange
       × ((words : List (List ℕ)) (now : ℕ) → MeansLine words line → IsMomentOf settings (second_of line now) at → IsOfWords words now input.items result exchange)
   IsOfWork work.Requests result exchange = IsOfLines result exchange
 
--- A run over files that held this: a spool was started over them, this work was done over it, and it was let go; that is a stretch of work, of
--- the commands and the replies of this work.
+-- A run over files that held this: a spool was started over them, this work was done over it, and
+-- it was let go; that is a stretch of work, of the commands and the replies of this work.
 pub record IsRun {D : Type 0} {g : disk.Ghosts D} (settings : Settings) (what : Work) (before : Image) (result : Result ℕ Fault) (left : Rest D g) : Type 0 where
   pub begun : Spool (FileStore D g) over_files
   pub ended : Spool (FileStore D g) over_files

@@ -147,7 +147,8 @@ fn input_for(rt: &HostRuntime, takes_input: bool) -> Result<Vec<u8>, Fault> {
     }
 }
 
-// Does the work over the file of the settings, by a function whose clauses speak of all contents. What is left of the files is dropped.
+// Does the work over the file of the settings, by a function whose clauses speak of all contents.
+// What is left of the files is dropped.
 fn run_on_file(rt: &HostRuntime, settings: &Settings, work: Work) -> Result<u8, Fault>
     requires { HasMoment settings.now work }
 {
@@ -164,7 +165,8 @@ fn answer_of<D: Disk + Drop>(worked: (Result<u8, Fault>, Rest<D>)) -> Result<u8,
     answer
 }
 
-// Whether the log of the spool at this path is longer than `LOG_LIMIT`. Where it can't be asked, it is not.
+// Whether the log of the spool at this path is longer than `LOG_LIMIT`. Where it can't be asked, it
+// is not.
 fn is_log_long(rt: &HostRuntime, path: &str) -> bool {
     match log_length(rt, path) {
         Ok(length) => length > LOG_LIMIT,
@@ -180,8 +182,8 @@ fn log_length(rt: &HostRuntime, path: &str) -> io::Result<u64> {
     Ok(fs::metadata(rt, log.as_str())?.len())
 }
 
-// Prints a fault: help on standard output, all else on standard error. Its line takes no memory. Where it cannot be
-// written, the status tells the fault alone.
+// Prints a fault: help on standard output, all else on standard error. Its line takes no memory.
+// Where it cannot be written, the status tells the fault alone.
 fn print_fault(rt: &HostRuntime, fault: &Fault) {
     let line = FaultLine(fault);
     let _ = if fault.is_help() {

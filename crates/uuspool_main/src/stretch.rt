@@ -41,8 +41,8 @@ pub(crate) enum Rest<D: Disk> {
     Unclosed(FileStore<D>),
 }
 
-/// Opens the file of the settings, does the work over the spool in it, and lets it go: a stretch of work, whatever the files held, with the
-/// commands and the replies of this work.
+/// Opens the file of the settings, does the work over the spool in it, and lets it go: a stretch of
+/// work, whatever the files held, with the commands and the replies of this work.
 ///
 /// # Errors
 /// Those of `open_spool`.
@@ -68,8 +68,8 @@ pub(crate) fn work_on_file<T: Start>(
     }
 }
 
-// Does the work over a spool, and lets it go. All is answered by then, so a close that fails changes nothing of it: the log keeps what
-// it has, and the next run tries again.
+// Does the work over a spool, and lets it go. All is answered by then, so a close that fails
+// changes nothing of it: the log keeps what it has, and the next run tries again.
 fn work_on<D: Disk + Drop>(
     rt: &HostRuntime,
     settings: &Settings,

@@ -1,5 +1,5 @@
--- What the entries of a line have that `clap` takes: a subcommand of the program, a text under each entry that has to be
--- given or has a default, and numbers where numbers are asked for.
+-- What the entries of a line have that `clap` takes: a subcommand of the program, a text under each
+-- entry that has to be given or has a default, and numbers where numbers are asked for.
 use Rattle.std.specs.Prelude.{ℕ, List, [], ◌∷◌, Option, Some, None, IsSome, IsTrue, ⊤, codes, find}
 use Rattle.std.specs.List.{list_all}
 use Rattle.std.specs.Option.{option_map_or}

@@ -1,4 +1,5 @@
--- How the code reads an expression: from left to right, token by token, up to the parenthesis that closes it.
+-- How the code reads an expression: from left to right, token by token, up to the parenthesis that
+-- closes it.
 use Rattle.std.specs.Prelude.{ℕ, zero, suc, Bool, true, false, not, List, [], ◌∷◌, Option, Some, None, option_map, option_and_then, reverse, ℤ}
 use Rattle.uu_map.specs.declared.entry.Cost.{Cost}
 use Rattle.uu_map.specs.declared.token.Additive.{Additive}
@@ -12,7 +13,8 @@ use Rattle.uu_map.specs.declared.expression.Stage.{Stage}
 use Rattle.uu_map.specs.declared.expression.Stage.TheVariants.{Operand, Operator, Done}
 use Rattle.uu_map.specs.Expression.{kept, sum_of, product_of, both, negated, cost_of}
 
--- the levels around the one that is read, the innermost first; that level; what comes next; whether `DEAD` was read
+-- the levels around the one that is read, the innermost first; that level; what comes next; whether
+-- `DEAD` was read
 pub record State : Type 0 where
   pub outer : List Level
   pub level : Level

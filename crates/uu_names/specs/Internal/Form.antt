@@ -1,4 +1,5 @@
--- The two forms of a text without blanks: a site name and a word (their bytes and lengths are this project's choice).
+-- The two forms of a text without blanks: a site name and a word (their bytes and lengths are this
+-- project's choice).
 use Rattle.std.specs.Prelude.{ℕ, Bool, List, Result}
 use Rattle.uu_names.specs.declared.fault.NameFault.{NameFault}
 use Rattle.uu_names.specs.declared.fault.NameFault.TheVariants.{BadName, BadWord}

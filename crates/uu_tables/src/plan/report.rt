@@ -49,7 +49,8 @@ fn call_columns(call: CallState) -> CallColumns
     }
 }
 
-// The calls of a system, if it is known, after one that failed: its wait is a year at most, since its retry numbers are.
+// The calls of a system, if it is known, after one that failed: its wait is a year at most, since
+// its retry numbers are.
 fn failed_call(system: Option<&SystemRow>, at: &Moment, why: Word) -> Result<CallState, Refusal>
     ensures call { result ≡ failed_decision (option_copied system.entry) at.now why }
     ensures last { IfOk result (λ call. call.last ≤ last_second) }
@@ -90,8 +91,8 @@ fn remove_jobs<'a>(changes: &mut Vec<Change<'a>>, numbers: &[u32]) -> Result<(),
     Ok(())
 }
 
-// The calls of a system, if it is known, after one in which jobs went through: the jobs that were found decide as all jobs do, and its wait is a
-// year at most.
+// The calls of a system, if it is known, after one in which jobs went through: the jobs that were
+// found decide as all jobs do, and its wait is a year at most.
 fn done_call(
     row: Option<&SystemRow>,
     found: &[JobHead],

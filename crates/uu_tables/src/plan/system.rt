@@ -90,8 +90,8 @@ fn add_success_wait<'a>(changes: &mut Vec<Change<'a>>, def: &'a SystemDef) -> Re
     Ok(())
 }
 
-/// A system that is defined: a new one was never called, a known one keeps its calls, and its lines are those of the
-/// definition alone.
+/// A system that is defined: a new one was never called, a known one keeps its calls, and its lines
+/// are those of the definition alone.
 pub(crate) fn plan_define<'a>(
     alloc: Global,
     facts: &Facts,

@@ -1,4 +1,5 @@
--- Reading a list of simple strings, in lower case, byte by byte. `laws` says what is read and what is refused.
+-- Reading a list of simple strings, in lower case, byte by byte. `laws` says what is read and what
+-- is refused.
 use Rattle.std.specs.Prelude.{ℕ, ◌+◌, ◌-◌, ◌*◌, ◌/◌, ◌%◌, Bool, ◌&&◌, ◌||◌, nat_lt, ◌==◌, if◌then◌else◌, Option, None, Some, option_map, option_and_then, option_to_list, Result, Ok, Err, List, [], ◌∷◌, ◌++◌, codes}
 use Rattle.std.specs.List.{list_any}
 use Rattle.std.specs.Char.{is_ascii_digit}
@@ -103,6 +104,7 @@ unfoldable pub scan : Place → List ℕ → Result (List Simple) ℕ
 scan place [] = ending (simple_at place)
 scan place (letter ∷ letters) = going_on (step place letter) (λ next. scan next letters)
 
--- the simple strings of a text, or the length of its longest front that begins a list of simple strings
+-- the simple strings of a text, or the length of its longest front that begins a list of simple
+-- strings
 abbrev pub list_of : List ℕ → Result (List Simple) ℕ
 list_of text = scan Start (lower text)

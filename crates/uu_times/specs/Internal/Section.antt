@@ -13,7 +13,8 @@ abbrev pub IsWithin : List Line → Option ℕ → Option ℕ → Type 0
 IsWithin lines max_retries success_wait =
     (length lines ≤ most_lines) × All HasRetry lines × IfSome max_retries (λ n. n ≤ most_retries) × IfSome success_wait (λ n. n ≤ most_success_wait)
 
--- the sections so far: the systems that are complete, the name of the present one, its section, and the defaults
+-- the sections so far: the systems that are complete, the name of the present one, its section, and
+-- the defaults
 pub record Parts : Type 0 where
   pub done : List System
   pub name : Option (List ℕ)

@@ -7,7 +7,8 @@ use Rattle.uu_times.specs.declared.days.Simple.{Simple}
 use Rattle.uu_times.specs.Days.{day_minutes, spans, in_hours}
 use Rattle.uu_times.specs.Grammar.{DayWord, word_days, Spelling, bounds_of}
 
--- the first and the last day that a day word of two letters names, in lower case: `wk` is Monday to Friday
+-- the first and the last day that a day word of two letters names, in lower case: `wk` is Monday to
+-- Friday
 abbrev pub two_letters : ℕ → ℕ → Option (ℕ × ℕ)
 two_letters first second =
     if first == byte "s" && second == byte "u" then Some (0, 0)

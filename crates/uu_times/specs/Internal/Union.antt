@@ -28,7 +28,8 @@ days_ranges simple (suc day) = days_ranges simple day ++ ranges_on simple day
 abbrev pub week_ranges : List Simple → List (ℕ × ℕ)
 week_ranges simples = flat_map (λ simple. days_ranges simple 7) simples
 
--- ranges in order of their first minutes, put together where none lies between; the first one is apart already
+-- ranges in order of their first minutes, put together where none lies between; the first one is
+-- apart already
 abbrev pub merged_from : ℕ × ℕ → List (ℕ × ℕ) → List (ℕ × ℕ)
 merged_from run [] = run ∷ []
 merged_from run (range ∷ ranges) =

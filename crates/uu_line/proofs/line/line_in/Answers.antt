@@ -2,7 +2,7 @@ use Rattle.std.proofs.Common.{◌≡◌, ◌∙◌, ⊎_elim, ap, subst, sym, So
 use Rattle.std.specs.Prelude.{IfOk, IfErr}
 use Rattle.std.specs.String.{string_bytes}
 use Rattle.clap.specs.Words.{found_of, rows_of, subcommand_rows_of}
-use Rattle.uu_line.specs.Lines.{Answers, MeansEntered, MeansEntries, UnlessMemory, answered, word_of}
+use Rattle.uu_line.specs.Lines.{Answers, MeansEntered, MeansEntries, UnlessMemory, line_or_fault, word_of}
 use Rattle.uu_line.specs.declared.fault.LineFault.TheVariants as fault
 use Rattle.uu_line.proofs.LineLemmas.{both_are, line_meant, memory_meets, one_fails, task_fault, user_fault}
 use Rattle.uu_line.proofs.line.line_in.Goals as goal
@@ -31,5 +31,5 @@ returns-in-Err c =
     (λ is. task_fault rows entered config user c.second_in-at.result is.0 c.in-Err.fault c.text_in-config.ensures c.text_in.ensures c.second_in-at.ensures
     (subst (λ r. Answers r (word_of user)) is.1 c.word_of-user.ensures) (subst (UnlessMemory (MeansEntered entered)) is.2 c.entered_in.ensures))
     (one_fails c.word_of-user.result c.entered_in.result c.in-Err.fault (sym called ∙ c.both-called.ensures)))
-    (λ is. memory_meets (λ a. MeansEntries rows entered (answered a)) c.in-Err.fault (subst (λ r. IfErr r (λ f. f ≡ fault.Memory)) is.2 c.string_of.ensures.memory))
+    (λ is. memory_meets (λ a. MeansEntries rows entered (line_or_fault a)) c.in-Err.fault (subst (λ r. IfErr r (λ f. f ≡ fault.Memory)) is.2 c.string_of.ensures.memory))
     (one_fails c.both-called.result c.string_of.result c.in-Err.fault c.in-Err.ensures)

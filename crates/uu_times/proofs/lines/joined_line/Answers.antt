@@ -1,7 +1,7 @@
 use Rattle.std.proofs.Common.{◌≡◌, ◌+◌, ◌++◌, ◌∷◌, ℕ, List, true, length, nat_lt, ap, sym, ◌∙◌, arith}
 use Rattle.std.proofs.lemmas.Bool.{and_parts}
 use Rattle.std.specs.Str.Lines.{lines}
-use Rattle.uu_times.specs.Lines.{Numbered, goes_on, kept_part, joined_onto, joined}
+use Rattle.uu_times.specs.Lines.{Numbered, is_continued, kept_part, joined_onto, joined}
 use Rattle.uu_times.proofs.LineLemmas.{joined-start, joined-more, joined-last, free-last}
 use Rattle.uu_times.proofs.lines.joined_line.Goals as goal
 
@@ -23,7 +23,7 @@ loop-line-preserved c =
     let next = c.loop-line.next.now in
     let following = c.first_line-in-loop-line.result.0.now in
     let behind = lines c.first_line-in-loop-line.result.1.now in
-    let on : goes_on next ≡ true = (and_parts (goes_on next) (nat_lt 0 (length c.loop-line.rest.now)) (sym c.is_joined.ensures ∙ c.loop-line-test.true)).0 in (
+    let on : is_continued next ≡ true = (and_parts (is_continued next) (nat_lt 0 (length c.loop-line.rest.now)) (sym c.is_joined.ensures ∙ c.loop-line-test.true)).0 in (
       λ number.
           ap (λ (items : List ℕ). joined_onto number items (joined (number + (before + 1)) (following ∷ behind)))
           (c.in_ok-extend_from_slice.ensures.items ∙ ap (λ kept. front ++ kept) c.kept_part.ensures)

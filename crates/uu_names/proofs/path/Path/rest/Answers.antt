@@ -1,4 +1,5 @@
--- The text may be cut after its first `!`, which is a byte of its own, and what stands there is a word.
+-- The text may be cut after its first `!`, which is a byte of its own, and what stands there is a
+-- word.
 use Rattle.std.proofs.Common.{◌≡◌, ◌+◌, List, ℕ, subst, sym, ap, ◌∙◌, IsCharBoundary, IsUtf8, arith}
 use Rattle.std.proofs.lemmas.Grind.{common_steps}
 use Rattle.uu_names.specs.Name.{is_word}
