@@ -2,10 +2,11 @@
 #
 #   make            proves what the program stands on and leaves it at build/uuspool
 #   make first-run  the main job on a real file, killed inside a write and reopened
-#   make test       the gate: every proof from nothing, every test, every run, the worked lines of tests/, what `when` says beside `due`, streams that
-#                   fail, syncs counted, openings and batches that are killed, files that are damaged, the desk, and memory that is refused
+#   make test       the gate: every proof from nothing, every edit that has to be refused, every
+#                   test and run, and then the scripts below, one after the other
 #   make bench      what calls of the spool cost over a real file
-#   make install    build/uuspool, the desk and what stands behind mailers, man pages and examples below $(DESTDIR)$(PREFIX)
+#   make install    build/uuspool, the desk and what stands behind mailers, man pages and examples
+#                   below $(DESTDIR)$(PREFIX)
 #   make clean      removes build/ and the kept work of every crate
 
 PREFIX = /usr/local

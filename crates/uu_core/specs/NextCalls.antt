@@ -126,7 +126,7 @@ pub record IsMomentAt (zone : Zone) (second : ℕ) (at : Moment) : Type 0 where
 abbrev pub due_by : NextCall → Due
 due_by call = record { system = call.system; grade = call.grade; number = call.number }
 
--- before the second of the call, or at any where none comes
+-- before the second of the next call, or at any where none comes
 abbrev pub IsEarlier : ℕ → Option ℕ → Type 0
 IsEarlier earlier (Some second) = earlier < second
 IsEarlier earlier None = ⊤

@@ -8,7 +8,7 @@ use crate::fault::FrameFault;
 use std::alloc::Global;
 use std::io::{BufRead, Error, ErrorKind};
 
-/// The most bytes of a request's line, without its end: at their limits, the words of a call come
+/// The most bytes of a request's line, without its end: at their limits, the words of a line come
 /// to less than a third.
 pub const MAX_LINE: usize = 65_536;
 

@@ -71,7 +71,7 @@ const SECOND: Entry<'static> = Entry {
     required: false,
     defaults: &[],
     shown: "SECONDS",
-    help: "The second of the call, UTC, in place of the clock's",
+    help: "The second that counts as now, UTC, in place of the clock's",
 };
 
 // `--as USER`
@@ -81,7 +81,7 @@ const USER: Entry<'static> = Entry {
     required: false,
     defaults: &["uucp"],
     shown: "USER",
-    help: "The user who calls",
+    help: "The user who asks",
 };
 
 // `SYSTEM`, of a job

@@ -81,7 +81,7 @@ pub enum Task {
         /// The new grade.
         grade: Grade,
     },
-    /// `rejuvenate JOB`: lets a job count as queued at the second of the call.
+    /// `rejuvenate JOB`: lets a job count as queued now.
     Rejuvenate {
         /// The job's number.
         job: u32,

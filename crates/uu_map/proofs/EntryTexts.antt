@@ -1,20 +1,17 @@
 -- What an entry's statements say is the one entry of the text.
-use Rattle.std.proofs.Common.{◌≡◌, ℕ, ◌≤◌, false, cond, ◌⊎◌, List, [], ◌∷◌, ◌++◌, length, map, Option, Some, None, Result, Ok, Err, refl, sym, ap, ◌∙◌, subst, inl, inr, find, nat_lt, arith}
+use Rattle.std.proofs.Common.{◌≡◌, ℕ, ◌⊎◌, List, [], ◌∷◌, ◌++◌, map, Option, Some, None, Result, Ok, refl, sym, ap, ◌∙◌, subst, inl, inr}
 use Rattle.std.specs.declared.cmp.Ordering.TheVariants.{Less, Equal, Greater}
 use Rattle.std.specs.Ordering.{ordering_reverse}
 use Rattle.std.specs.Cmp.{IsTotalOrder}
 use Rattle.std.specs.List.{AllZip, AllByRecursion, flat_map}
 use Rattle.std.specs.List.Sorted.{IsStrictlySortedBy}
-use Rattle.std.specs.Str.Lines.{lines}
-use Rattle.std.proofs.lemmas.Bool.Decides.{nat_tests}
 use Rattle.std.proofs.lemmas.Cmp.{nat_list_cmp_total, then_total, on_total, tied_itself}
 use Rattle.uu_map.specs.declared.entry.Link.{Link}
 use Rattle.uu_map.specs.declared.entry.Entry.{Entry}
 use Rattle.uu_map.specs.declared.fault.MapFault.{MapFault}
-use Rattle.uu_map.specs.declared.fault.MapFault.TheVariants.{TooLarge}
 use Rattle.uu_map.specs.Statement.{Meaning}
 use Rattle.uu_map.specs.Internal.StatementReading.{statement_of}
-use Rattle.uu_map.specs.Text.{Numbered, is_name_line, host_by, host_of, statements_of}
+use Rattle.uu_map.specs.Text.{Numbered, host_of, statements_of}
 use Rattle.uu_map.specs.Listing.{listing_cmp, IsListing}
 use Rattle.uu_map.specs.Entry.{IsParsed, aliases_in, links_in, skipped_lines, IsEntry}
 use Rattle.uu_map.specs.Internal.Parsing.{of_one, all_said, Says}
@@ -74,14 +71,11 @@ said-skipped : (host : List ℕ) (ss : List Numbered) → (all_said host ss).ski
 said-skipped host [] = refl
 said-skipped host (s ∷ ss) = skipped_more s ss (statement_of host s.text) (meanings host ss) (all_said host ss).skipped (said-skipped host ss)
 
-small_host : (text : List ℕ) → length text ≤ 65536 → host_of text ≡ host_by (find is_name_line (lines text))
-small_host text small = let fits : nat_lt 65536 (length text) ≡ false = grind (arith, nat_tests) in ap (λ b. cond b (Err TooLarge) (host_by (find is_name_line (lines text)))) fits
-
 -- what was said of the host that a text names is the entry of the text
-pub entry_is : (text host : List ℕ) (entry : Entry) → length text ≤ 65536 → Ok host ≡ host_by (find is_name_line (lines text)) → Says (all_said host (statements_of text)) host entry → IsEntry text entry
-entry_is text host entry small eh says = record {
+pub entry_is : (text host : List ℕ) (entry : Entry) → Ok host ≡ host_of text → Says (all_said host (statements_of text)) host entry → IsEntry text entry
+entry_is text host entry eh says = record {
   meanings = meanings host (statements_of text);
-  host = small_host text small ∙ (sym eh ∙ ap Ok (sym says.host_is));
+  host = sym eh ∙ ap Ok (sym says.host_is);
   each = subst (λ (h : List ℕ). AllZip (IsParsed h) (statements_of text) (meanings host (statements_of text))) (sym says.host_is) (each_parsed host (statements_of text));
   aliases = says.aliases ∙ said-aliases host (statements_of text);
   links = subst (λ (ls : List Link). IsListing ls entry.links) (said-links host (statements_of text)) says.links;

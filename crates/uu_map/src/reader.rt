@@ -1,7 +1,7 @@
 // Entries, read line by line.
 ghost use Rattle.std.specs.Prelude.{◌≡◌, ◌≤◌, List, ◌∷◌, ◌++◌, true, length, IfOk, IfSome, MatchOption, Ok, is_err, option_copied, find};
 ghost use Rattle.std.specs.Str.Lines.{lines};
-ghost use Rattle.uu_map.specs.Text.{most_entry, is_name_line, host_by, host_of, Numbered, joined, statements_of};
+ghost use Rattle.uu_map.specs.Text.{most_entry, is_name_line, host_of, Numbered, joined, statements_of};
 ghost use Rattle.uu_map.specs.declared.entry.Entry.{Entry};
 ghost use Rattle.uu_map.specs.Entry.{IsEntry, IsAnswer, AnswersUnlessMemory};
 ghost use Rattle.uu_map.specs.Token.{begins};
@@ -36,10 +36,14 @@ fn name_line(text: &[u8]) -> Option<&[u8]>
     None
 }
 
-// The host of an entry of at most 65,536 bytes.
+// The host of an entry.
 fn host(alloc: Global, text: &[u8]) -> Result<SiteName, MapFault>
-    ensures { AnswersUnlessMemory result (host_by (find is_name_line (lines text.now))) }
+    ensures answer { AnswersUnlessMemory result (host_of text.now) }
+    ensures size { IfOk result (λ _. length text.now ≤ most_entry) }
 {
+    if text.len() > MAX_ENTRY {
+        return Err(MapFault::TooLarge);
+    }
     let Some(line) = name_line(text) else {
         return Err(MapFault::NoName);
     };
@@ -231,9 +235,6 @@ pub fn read_entry(alloc: Global, text: &[u8]) -> Result<Entry, MapFault>
     // No other entry is that of the text.
     ensures only { (entry : Entry) → IsEntry text.now entry → AnswersUnlessMemory result (Ok entry) }
 {
-    if text.len() > MAX_ENTRY {
-        return Err(MapFault::TooLarge);
-    }
     let host = host(alloc, text)?;
     Ok(entry_of(alloc, host, text)?)
 }
@@ -242,8 +243,8 @@ pub fn read_entry(alloc: Global, text: &[u8]) -> Result<Entry, MapFault>
 pub fn entry_host(alloc: Global, text: &[u8]) -> Result<Option<SiteName>, AllocError>
     ensures { IfOk result (λ host. MatchOption host (is_err (host_of text.now) ≡ true) (λ host. host_of text.now ≡ Ok host)) }
 {
-    match read_entry(alloc, text) {
-        Ok(Entry { host, .. }) => Ok(Some(host)),
+    match host(alloc, text) {
+        Ok(host) => Ok(Some(host)),
         Err(MapFault::NoName | MapFault::BadHost | MapFault::TooLarge) => Ok(None),
         Err(MapFault::Memory) => Err(AllocError),
     }

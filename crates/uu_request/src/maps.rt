@@ -11,7 +11,7 @@ use crate::fault::RequestFault;
 use crate::request::{Batch, Request};
 use std::alloc::{AllocError, Global};
 use uu_core::Command;
-use uu_map::{EntryText, Listed, MapFault, read_entry, split};
+use uu_map::{EntryText, Listed, entry_host, split};
 use uu_report::Subject;
 
 /// The entries of a map text, handed in one by one in the order of the text.
@@ -62,10 +62,9 @@ fn subject_at(alloc: Global, text: &[u8], place: &EntryText) -> Result<Subject, 
     requires { spec.IsPlace text.now place.now }
     ensures { IfOk result (λ subject. subject ≡ subject_at text.now place.now) }
 {
-    match read_entry(alloc, bytes_at(text, place)) {
-        Ok(entry) => Ok(Subject::Site(entry.host)),
-        Err(MapFault::Memory) => Err(AllocError),
-        Err(_) => Ok(Subject::Entry(place.line)),
+    match entry_host(alloc, bytes_at(text, place))? {
+        Some(host) => Ok(Subject::Site(host)),
+        None => Ok(Subject::Entry(place.line)),
     }
 }
 

@@ -1,4 +1,4 @@
--- The words of a call for a batch, read one by one.
+-- The words that ask for a batch, read one by one.
 use Rattle.std.proofs.Common.{◌≡◌, ◌∙◌, ◌∷◌, ◌≤◌, ◌<◌, ℕ, Bool, true, List, [], length, arith, ap, nat_eq, slice_index_or, sym}
 use Rattle.std.specs.Cmp.Lexicographic.{pointwise, bytes_decides}
 

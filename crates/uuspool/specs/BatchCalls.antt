@@ -1,4 +1,4 @@
--- The words of a call for a batch. They are this project's choice.
+-- The words that ask for a batch. They are this project's choice.
 use Rattle.std.specs.Prelude.{◌≡◌, ◌⊎◌, ◌∷◌, ℕ, List, [], codes}
 
 -- `batch`, or `-c FILE batch`, with the path of the settings

@@ -1,4 +1,4 @@
--- What the words of a call ask of a spool, what the program prints, and its status. All of it is
+-- What a command line asks of a spool, what the program prints, and its status. All of it is
 -- this project's choice.
 use Rattle.std.specs.Prelude.{◌≡◌, ◌≢◌, ◌↔◌, ◌⊎◌, ℕ, pos, Bool, true, false, IsTrue, Option, Some, None, MatchOption, List, [], Result, Ok, Err, IfErr, ⊤, unwrap_or, length}
 use Rattle.sqlite.specs.Store.{Ghosts}

@@ -111,7 +111,8 @@ fn line_and_moment(
 }
 
 /// Runs this line at this moment on the site's clock, with this input, which it takes. Writes its
-/// output to `out` and answers its status, as [`serve`] does for words that mean the line.
+/// output to `out` and answers its status, as [`serve`] does for words that mean the line. The
+/// moment is the caller's: the line's own second is not looked at.
 ///
 /// # Errors
 /// Those of [`serve`] but for the faults of words and of the moment: `Input`, then the `Time` of a
