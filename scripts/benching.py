@@ -1,5 +1,6 @@
 #!/usr/bin/env python3
-"""What the scripts of `make bench` share: spools with many jobs, batches, and times of processes."""
+"""What the scripts of `make bench` share: spools with many jobs, batches, and times of
+processes."""
 
 import itertools
 import os

@@ -74,9 +74,9 @@ fn append(bytes: &mut Vec<u8>, pieces: &[&[u8]]) -> Result<(), AllocError>
     Ok(())
 }
 
-/// The message as `rmail` hands it on: the line `From USER Www Mmm dd hh:mm:ss yyyy remote from
-/// SITE`, with the local date and time in the form of C's `ctime`, and then the message, with a `>`
-/// before it where it begins with `From `. The year is 1000 to 9999. Fails only by
+/// The message as `rmail` hands it on: the line
+/// `From USER Www Mmm dd hh:mm:ss yyyy remote from SITE`, with the local date and time in the form
+/// of C's `ctime`, and then the message, with a `>` before it where it begins with `From `. The year is 1000 to 9999. Fails only by
 /// [`NameFault::Memory`]. (RFC 976; the date's form is this project's choice.)
 pub fn envelope(
     alloc: Global,

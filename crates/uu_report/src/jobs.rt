@@ -11,8 +11,8 @@ use uu_names::{Grade, Word};
 use uu_times::Zone;
 use uu_times::moment::LAST_SECOND;
 
-/// The report of these jobs, in their order, a line for each: `NUMBER SYSTEM USER GRADE MOMENT SIZE
-/// KIND WORDS`, the moment as `yyyy-mm-dd hh:mm:ss` on the site's clock.
+/// The report of these jobs, in their order, a line for each:
+/// `NUMBER SYSTEM USER GRADE MOMENT SIZE KIND WORDS`, the moment as `yyyy-mm-dd hh:mm:ss` on the site's clock.
 pub fn jobs_report(alloc: Global, jobs: &[JobHead], zone: &Zone) -> Result<Vec<u8>, AllocError>
     requires seconds { All (λ job. job.queued ≤ LAST_SECOND) jobs.now }
     ensures { IfOk result (λ report. IsJobsReport zone.now jobs.now report.items) }

@@ -12,9 +12,9 @@ use uu_core::{NextCall, Why};
 use uu_times::Zone;
 use uu_times::moment::LAST_SECOND;
 
-/// The report of these calls, in their order, a line for each: `SYSTEM GRADE NUMBER SECONDS MOMENT
-/// WHY`, or `SYSTEM GRADE NUMBER never WHY`, the seconds counted from the second `now` on, the
-/// moment on the site's clock.
+/// The report of these calls, in their order, a line for each:
+/// `SYSTEM GRADE NUMBER SECONDS MOMENT WHY`, or `SYSTEM GRADE NUMBER never WHY`, the seconds counted
+/// from the second `now` on, the moment on the site's clock.
 pub fn next_calls_report(
     alloc: Global,
     calls: &[NextCall],

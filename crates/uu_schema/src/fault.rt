@@ -30,7 +30,7 @@ pub enum StoreFault {
     #[error("out of memory")]
     Memory,
     /// The database failed. The command in hand may stand in the file or not; from then on every
-    /// call but `release` answers `Failed`.
+    /// command and question answers `Failed`, and so does a close.
     #[error("the store failed")]
     Store(StoreKind),
     /// An earlier call answered `Store`. The file is to be opened again.

@@ -24,7 +24,7 @@ AreFacts facts s (Failed system at why) = facts.system ≡ system_at s system
 AreFacts facts s (Done system at jobs) = (facts.system ≡ system_at s system) × AreFound jobs (map head_of s.jobs) facts.found.items
 AreFacts facts s (Entry bytes) = ⊤
 
--- the answer is the machine's, the changes make the tables of the state after the command, and a
+-- the reply is the machine's, the changes make the tables of the state after the command, and a
 -- refused command makes none
 pub record IsPlan (s : State) (command : Command) (plan : Plan) : Type 0 where
   pub reply : plan.reply ≡ (after s command).1

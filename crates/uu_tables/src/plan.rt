@@ -23,7 +23,7 @@ use uu_core::{Command, Refusal, Reply};
 /// What a command answers, and what it changes.
 #[derive(Drop)]
 pub struct Plan<'a> {
-    /// The answer, once the changes are made.
+    /// The reply, once the changes are made.
     pub reply: Reply,
     /// The changes, one after the other; none, where the command is refused.
     pub changes: Vec<Change<'a>>,

@@ -3,8 +3,8 @@
 ghost use Rattle.std.specs.Prelude.{◌≡◌, ◌∷◌, List, MatchOption, map, string_bytes};
 ghost use Rattle.uuspool.specs.BatchCalls.{IsBatchCall};
 
-/// The path of the settings where the words after the program's name are `batch` or `-c FILE
-/// batch`, and else none.
+/// The path of the settings where the words after the program's name are `batch` or
+/// `-c FILE batch`, and else none.
 pub fn batch_settings(words: &[String]) -> Option<&str>
     ensures { MatchOption result (¬ ((file : _) × IsBatchCall (map string_bytes words.now) file)) (λ file. IsBatchCall (map string_bytes words.now) file.now) }
 {

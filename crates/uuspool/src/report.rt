@@ -27,8 +27,8 @@ pub fn report_jobs(alloc: Global, jobs: &[JobHead], settings: &Settings) -> Resu
     Ok(jobs_report(alloc, jobs, &settings.zone)?)
 }
 
-/// The report of what is due, in the order handed in, a line for each system: `SYSTEM GRADE
-/// NUMBER`. The only error is `Memory`.
+/// The report of what is due, in the order handed in, a line for each system:
+/// `SYSTEM GRADE NUMBER`. The only error is `Memory`.
 pub fn report_due(alloc: Global, dues: &[Due]) -> Result<Vec<u8>, Fault>
     ensures lines { IfOk result (λ report. report.items ≡ flat_map due_text dues.now) }
     ensures memory { IfErr result (λ fault. fault ≡ Fault.Memory) }
@@ -36,9 +36,9 @@ pub fn report_due(alloc: Global, dues: &[Due]) -> Result<Vec<u8>, Fault>
     Ok(due_report(alloc, dues)?)
 }
 
-/// The report of when systems can next be called, in the order handed in, a line for each: `SYSTEM
-/// GRADE NUMBER SECONDS MOMENT WHY`, or `SYSTEM GRADE NUMBER never WHY`, the seconds counted from
-/// this moment on, and the moment as in [`report_jobs`]. The only error is `Memory`.
+/// The report of when systems can next be called, in the order handed in, a line for each:
+/// `SYSTEM GRADE NUMBER SECONDS MOMENT WHY`, or `SYSTEM GRADE NUMBER never WHY`, the seconds counted
+/// from this moment on, and the moment as in [`report_jobs`]. The only error is `Memory`.
 pub fn report_next_calls(
     alloc: Global,
     calls: &[NextCall],
