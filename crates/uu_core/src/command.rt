@@ -1,4 +1,4 @@
-// What a spool is told, and what it answers.
+// What a spool is told, and the reply.
 use crate::job::{By, NewJob};
 use crate::refusal::Refusal;
 use uu_names::{Grade, Listed, SiteName, Word};
@@ -60,7 +60,7 @@ pub enum Command {
     Entry(Listed<u8>),
 }
 
-/// What a spool answers.
+/// What is said to a command.
 #[derive(Clone, Copy, Debug, PartialEq, Eq)]
 pub enum Reply {
     /// The command was carried out.

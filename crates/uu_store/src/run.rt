@@ -61,6 +61,7 @@ impl<S: Alter> Spool<S> {
         ensures failed { IsTrue (has_failed self.old) → (result.stopped ≡ Some StoreFault.Failed) × (result.replies.items ≡ []) × (self.new ≡ self.old) }
     {
         runs_follow_one_another();
+        // Asked here too, for a run of no commands, and before there is room for replies.
         if self.is_failed() {
             return RunEnd {
                 replies: Vec::new(alloc),
@@ -91,7 +92,7 @@ impl<S: Alter> Spool<S> {
     }
 
     /// Takes the database as a spool, gives it the commands, and gives back the store: one stretch
-    /// of work, from an opening to a stop.
+    /// of work, until the spool is let go or a stop comes before.
     ///
     /// # Errors
     /// Those of [`Spool::adopt`], with the store. No command was given then.

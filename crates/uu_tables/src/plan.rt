@@ -1,4 +1,4 @@
-// What a command answers, and what it changes in the tables.
+// The reply to a command, and what it changes in the tables.
 ghost use Rattle.std.specs.Prelude.{◌≡◌, [], ◌∷◌, IfOk};
 ghost use Rattle.uu_core.specs.State.{State, IsWellFormed};
 ghost use Rattle.uu_tables.specs.Plans.{AreFacts, IsPlan};
@@ -20,7 +20,7 @@ use std::alloc::{AllocError, Global};
 use system::{plan_define, plan_remove};
 use uu_core::{Command, Refusal, Reply};
 
-/// What a command answers, and what it changes.
+/// The reply to a command, and what it changes.
 #[derive(Drop)]
 pub struct Plan<'a> {
     /// The reply, once the changes are made.
@@ -51,7 +51,7 @@ fn one_change<'a>(alloc: Global, change: Change<'a>) -> Result<Plan<'a>, AllocEr
     })
 }
 
-/// What a command answers and changes, where these facts were asked for it.
+/// The reply to a command, and its changes, where these facts were asked for it.
 pub fn make_plan<'a>(
     alloc: Global,
     facts: &Facts,

@@ -27,7 +27,7 @@ use uu_settings::Settings;
 use uu_store::{Reply, RunEnd, Spool};
 use uu_times::Moment;
 
-/// Runs the line that the words after the program's name mean, at the second `now` where the line
+/// Serves the line that the words after the program's name mean, at the second `now` where the line
 /// gives none, with this input. Writes its output to `out` and answers its status: 0 done, 1 where
 /// a command was refused or what is asked for is not there.
 ///
@@ -62,7 +62,7 @@ pub fn serve<S: Alter, W: Write>(
     }
 }
 
-/// Runs the line that the words mean as [`serve`] does, and takes the input.
+/// Serves the line that the words mean as [`serve`] does, and takes the input.
 pub(crate) fn serve_words<S: Alter, W: Write>(
     alloc: Global,
     words: &[String],
@@ -110,7 +110,7 @@ fn line_and_moment(
     }
 }
 
-/// Runs this line at this moment on the site's clock, with this input, which it takes. Writes its
+/// Serves this line at this moment on the site's clock, with this input, which it takes. Writes its
 /// output to `out` and answers its status, as [`serve`] does for words that mean the line. The
 /// moment is the caller's: the line's own second is not looked at.
 ///

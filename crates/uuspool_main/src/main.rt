@@ -1,5 +1,5 @@
 //! The program `uuspool`: asks the words, the clock, the input and the spool of the system, and has
-//! the library run the line.
+//! the library serve the line.
 #![tactic(auto)]
 
 mod batching;
@@ -51,7 +51,7 @@ fn run_batch(rt: &HostRuntime, path: &str) -> Result<u8, Fault> {
     run_on_file(rt, &settings, Work::Requests)
 }
 
-// Runs the line that these words mean.
+// Serves the line that these words mean.
 fn run_line(rt: &HostRuntime, words: &[String]) -> Result<u8, Fault> {
     let line = line_of(rt.alloc(), words)?;
     match given_for(rt, &line) {
@@ -153,16 +153,16 @@ fn run_on_file(rt: &HostRuntime, settings: &Settings, work: Work) -> Result<u8, 
     requires { HasMoment settings.now work }
 {
     match work_on_file(rt, settings, work, Wary) {
-        Ok(worked) => answer_of(worked),
+        Ok(worked) => end_of(worked),
         Err(failed) => Err(Fault::Store(failed.fault)),
     }
 }
 
-// The answer; the rest is dropped.
-fn answer_of<D: Disk + Drop>(worked: (Result<u8, Fault>, Rest<D>)) -> Result<u8, Fault> {
-    let (answer, rest) = worked;
+// How the work ended; the rest is dropped.
+fn end_of<D: Disk + Drop>(worked: (Result<u8, Fault>, Rest<D>)) -> Result<u8, Fault> {
+    let (end, rest) = worked;
     drop(rest);
-    answer
+    end
 }
 
 // Whether the log of the spool at this path is longer than `LOG_LIMIT`. Where it can't be asked, it

@@ -81,14 +81,14 @@ fn work_on<D: Disk + Drop>(
 {
     calls_make_a_stretch::<D>();
     let mut spool = spool;
-    let answer = answer_on(rt, settings, work, &mut spool);
-    let closes = answer.is_ok() && is_log_long(rt, settings.spool.as_str());
+    let end = do_work(rt, settings, work, &mut spool);
+    let closes = end.is_ok() && is_log_long(rt, settings.spool.as_str());
     let rest = let_go(spool, closes);
-    (answer, rest)
+    (end, rest)
 }
 
 // Does the work over a spool.
-fn answer_on<S: Alter>(
+fn do_work<S: Alter>(
     rt: &HostRuntime,
     settings: &Settings,
     work: Work,

@@ -6,7 +6,7 @@ use Rattle.uuspool_main.specs.Stretch.{HasMoment, IsOfLine, IsOfWork, WasGiven}
 use Rattle.uuspool_main.specs.declared.stretch.Work.{Work}
 use Rattle.uuspool_main.specs.declared.stretch.Work.TheVariants as work
 use Rattle.uuspool_main.proofs.StretchLemmas.{line_given, of_words}
-use Rattle.uuspool_main.proofs.stretch.answer_on.Goals as goal
+use Rattle.uuspool_main.proofs.stretch.do_work.Goals as goal
 
 pub serve_line-requires : goal.serve_line-requires
 serve_line-requires g c =
