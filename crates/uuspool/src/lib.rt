@@ -1,4 +1,4 @@
-//! The spool program of a UUCP site as a library: one line is read, run over a spool and answered,
+//! The spool program of a UUCP site as a library: one line is served over a spool,
 //! or a stream of requests is, and each fault has its line and status. Its command line, settings,
 //! requests and reports are crates below; the program itself is a thin crate over this one.
 #![tactic(auto)]

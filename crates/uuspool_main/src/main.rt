@@ -23,7 +23,7 @@ use uuspool::{
     read_input,
 };
 
-/// The most bytes of a log that a run leaves beside the spool's file: an opening reads it whole.
+/// The most bytes of a log that a line leaves beside the spool's file: an opening reads it whole.
 const LOG_LIMIT: u64 = 262_144;
 
 fn main(rt: HostRuntime) -> ExitCode {
@@ -147,7 +147,8 @@ fn input_for(rt: &HostRuntime, takes_input: bool) -> Result<Vec<u8>, Fault> {
     }
 }
 
-// Does the work over the file of the settings, by a function whose clauses speak of all contents.
+// Does the work over the spool's file that the settings name, by a function whose clauses speak of
+// all contents.
 // What is left of the files is dropped.
 fn run_on_file(rt: &HostRuntime, settings: &Settings, work: Work) -> Result<u8, Fault>
     requires { HasMoment settings.now work }

@@ -41,8 +41,8 @@ pub(crate) enum Rest<D: Disk> {
     Unclosed(FileStore<D>),
 }
 
-/// Opens the file of the settings, does the work over the spool in it, and lets it go: a stretch of
-/// work, whatever the files held, with the commands and the replies of this work.
+/// Opens the spool's file that the settings name, does the work over the spool in it, and lets it
+/// go: a stretch of work, whatever the files held, with the commands and the replies of this work.
 ///
 /// # Errors
 /// Those of `open_spool`.
@@ -69,7 +69,7 @@ pub(crate) fn work_on_file<T: Start>(
 }
 
 // Does the work over a spool, and lets it go. All is answered by then, so a close that fails
-// changes nothing of it: the log keeps what it has, and the next run tries again.
+// changes nothing of it: the log keeps what it has, and the next line tries again.
 fn work_on<D: Disk + Drop>(
     rt: &HostRuntime,
     settings: &Settings,
