@@ -2,8 +2,9 @@
 #
 #   make            proves what the program stands on and leaves it at build/uuspool
 #   make first-run  the main job on a real file, killed inside a write and reopened
-#   make test       the gate: every proof from nothing, every edit that has to be refused, every
-#                   test and run, and then the scripts below, one after the other
+#   make test       the gate: every proof from nothing (but for what the kit kept of a gate that
+#                   passed here), every edit that has to be refused, every test and run, and then
+#                   the scripts below, one after the other
 #   make bench      what calls of the spool cost over a real file
 #   make install    build/uuspool, the desk and what stands behind mailers, man pages and examples
 #                   below $(DESTDIR)$(PREFIX)

@@ -4,20 +4,22 @@
 #![tactic(auto)]
 
 #[cfg(test)]
-mod adopting;
+mod acts;
 #[cfg(test)]
-mod calls;
+mod files;
 #[cfg(test)]
 mod leaves;
 #[cfg(test)]
+mod library;
+#[cfg(test)]
 mod none;
-#[cfg(test)]
-mod places;
-#[cfg(test)]
-mod program;
 #[cfg(test)]
 mod readers;
 #[cfg(test)]
 mod refusing;
+#[cfg(test)]
+mod spools;
+#[cfg(test)]
+mod trials;
 #[cfg(test)]
 mod values;

@@ -97,22 +97,31 @@ fn reads_that_fail(rt: HostRuntime) {
     }
 }
 
-/// A read that is interrupted is tried again, and counts.
+/// A read that is interrupted is tried again.
 #[test]
 fn interrupted_reads(rt: HostRuntime) {
     let alloc = rt.alloc();
-    for letters in [0u32, 1, 2, 20_000, 2_000_000] {
-        let mut reader = Letters::new(letters, End::Ends);
+    for letters in LETTERS {
+        let mut reader = Letters::new(*letters, End::Ends);
         reader.stutters = true;
-        expect_end(&rt, alloc, reader, Ok(letters as usize));
+        expect_end(&rt, alloc, reader, Ok(*letters as usize));
     }
-    for letters in [0, 1, MOST] {
-        let mut reader = Letters::new(letters, End::Interrupts);
-        assert_eq!(rt; ending(alloc, &mut reader), Err(Fault::Read.code()));
-        assert_eq!(rt; reader.reads, MOST_READS);
-    }
-    let mut reader = Letters::new(MOST, End::Ends);
-    reader.stutters = true;
+}
+
+const LETTERS: &[u32] = &[0, 1, 2, 20_000, 2_000_000];
+
+/// It counts, too.
+fn expect_most_reads(rt: &impl Abort, alloc: Global, letters: u32, end: End, stutters: bool) {
+    let mut reader = Letters::new(letters, end);
+    reader.stutters = stutters;
     assert_eq!(rt; ending(alloc, &mut reader), Err(Fault::Read.code()));
     assert_eq!(rt; reader.reads, MOST_READS);
+}
+
+#[test]
+fn too_many_reads(rt: HostRuntime) {
+    for letters in [0, 1, MOST] {
+        expect_most_reads(&rt, rt.alloc(), letters, End::Interrupts, false);
+    }
+    expect_most_reads(&rt, rt.alloc(), MOST, End::Ends, true);
 }

@@ -14,40 +14,48 @@ const ONWARDS: usize = 0x0a00_0000;
 const ENOUGH: usize = 0x0c00_0000;
 
 /// More requests than any call makes.
-pub(crate) const MOST: usize = 100_000;
+const MOST: usize = 100_000;
 
 /// What is refused from a request on.
-#[derive(Clone, Copy)]
-pub(crate) enum Short {
+#[derive(Clone, Copy, PartialEq, Eq)]
+enum Short {
     /// That request alone.
     Alone,
     /// That one and every later one.
     Onwards,
 }
 
-pub(crate) const BOTH: [Short; 2] = [Short::Alone, Short::Onwards];
+/// Which requests of a call are refused.
+#[derive(Clone, Copy)]
+pub(crate) struct Refusing {
+    n: usize,
+    short: Short,
+}
 
-impl Short {
-    /// Whether the nth request of a call of a spool is tried: each one alone, and each seventh with
-    /// all later ones.
-    pub(crate) fn is_tried(self, n: usize) -> bool {
-        match self {
-            Short::Alone => true,
-            Short::Onwards => n % 7 == 1,
-        }
+/// No request.
+pub(crate) const NONE: Refusing = Refusing {
+    n: 0,
+    short: Short::Alone,
+};
+
+/// Each request.
+pub(crate) const ALL: Refusing = Refusing {
+    n: 1,
+    short: Short::Onwards,
+};
+
+impl Refusing {
+    /// The requests are counted, and refused, from here on.
+    pub(crate) fn begin(self, alloc: Global) {
+        let size = match self.short {
+            Short::Alone => ALONE,
+            Short::Onwards => ONWARDS,
+        };
+        let _told = Vec::<u8>::with_capacity(alloc, size.saturating_add(self.n));
     }
 }
 
-/// From here on the nth request is refused.
-pub(crate) fn refuse(alloc: Global, n: usize, short: Short) {
-    let size = match short {
-        Short::Alone => ALONE,
-        Short::Onwards => ONWARDS,
-    };
-    let _told = Vec::<u8>::with_capacity(alloc, size.saturating_add(n));
-}
-
-/// Ends that, and tells whether a request was refused.
+/// No request is refused any more. Tells whether one was.
 pub(crate) fn was_refused(alloc: Global) -> bool {
     Vec::<u8>::with_capacity(alloc, ENOUGH).is_err()
 }
@@ -65,72 +73,86 @@ pub(crate) enum Outcome {
     Wrong,
 }
 
-/// What follows on a request.
-#[derive(Clone, Copy, PartialEq, Eq)]
-pub(crate) enum Next {
-    /// The call came to it, and the next one is to be refused.
-    Request,
-    /// The call did not come to it, and gave its answer.
-    End,
-    /// The call did what it must not, or told a fault where no request was refused.
-    Wrong,
+/// The outcome, where the call did what it has to do.
+pub(crate) fn outcome_if(is_right: bool, outcome: Outcome) -> Outcome {
+    if is_right { outcome } else { Outcome::Wrong }
+}
+
+/// A call that is made again and again.
+pub(crate) trait Call {
+    /// Makes the call while requests are refused, and tells whether one was, and what the call made
+    /// of it.
+    fn made<R: Abort>(&mut self, rt: &R, alloc: Global, refusing: Refusing) -> (bool, Outcome);
 }
 
 /// What came of the requests of a call.
 #[derive(Clone, Copy)]
-pub(crate) struct Count {
+struct Count {
     refused: usize,
     answers: usize,
     stores: usize,
 }
 
-impl Count {
-    pub(crate) fn new() -> Count {
-        Count {
-            refused: 0,
-            answers: 0,
-            stores: 0,
-        }
-    }
-
-    /// Notes what a call made of a request, and tells whether it came to that one, or what it did
-    /// is wrong.
-    pub(crate) fn note(&mut self, refused: bool, outcome: Outcome) -> Next {
+/// Makes a call with its first request refused, then with its second, and so on until none was:
+/// what came of them, or the first request at which the call did what it must not. A call tells a
+/// fault only where a request was refused.
+fn counted<R: Abort, C: Call>(
+    rt: &R,
+    alloc: Global,
+    call: &mut C,
+    short: Short,
+    step: usize,
+) -> Result<Count, usize> {
+    let mut count = Count {
+        refused: 0,
+        answers: 0,
+        stores: 0,
+    };
+    for turn in 0..MOST {
+        let n = turn.saturating_mul(step).saturating_add(1);
+        let (refused, outcome) = call.made(rt, alloc, Refusing { n, short });
         if outcome == Outcome::Wrong || (!refused && outcome != Outcome::Answer) {
-            return Next::Wrong;
+            return Err(n);
         }
         if !refused {
-            return Next::End;
+            return Ok(count);
         }
-        self.refused = self.refused.saturating_add(1);
-        match outcome {
-            Outcome::Answer => self.answers = self.answers.saturating_add(1),
-            Outcome::Store => self.stores = self.stores.saturating_add(1),
-            Outcome::Memory | Outcome::Wrong => {}
-        }
-        Next::Request
+        count.refused = count.refused.saturating_add(1);
+        count.answers = count
+            .answers
+            .saturating_add(usize::from(outcome == Outcome::Answer));
+        count.stores = count
+            .stores
+            .saturating_add(usize::from(outcome == Outcome::Store));
     }
+    Err(MOST)
+}
 
-    /// The same of a call that does nothing wrong: whether it came to that request.
-    pub(crate) fn goes_on(&mut self, rt: &impl Abort, refused: bool, outcome: Outcome) -> bool {
-        let place = self.refused.saturating_add(1);
-        let next = self.note(refused, outcome);
-        assert!(rt; next != Next::Wrong, "a wrong answer at request {place}");
-        next == Next::Request
-    }
+/// Whether a call does what it must not, with some request refused or with none.
+pub(crate) fn is_wrong<R: Abort, C: Call>(rt: &R, alloc: Global, call: &mut C) -> bool {
+    counted(rt, alloc, call, Short::Alone, 1).is_err()
+}
 
-    /// Tells what came of the requests of the call of this name, which `scripts/refused-memory`
-    /// reads.
-    pub(crate) fn tell<R: Abort + Print>(&self, rt: &R, name: &str, short: Short) {
-        let which = match short {
-            Short::Alone => "refused",
-            Short::Onwards => "refused with all later ones",
-        };
+/// Makes the call of this name with each of its requests refused alone, and with each, or each of
+/// so many, refused with all later ones. Tells what came of them, which `scripts/refused-memory`
+/// reads.
+pub(crate) fn refuse_each<R: Abort + Print, C: Call>(
+    rt: &R,
+    alloc: Global,
+    name: &str,
+    step: usize,
+    call: &mut C,
+) {
+    for (short, step, which) in [
+        (Short::Alone, 1, "refused"),
+        (Short::Onwards, step, "refused with all later ones"),
+    ] {
+        let counted = counted(rt, alloc, call, short, step);
         let Count {
             refused,
             answers,
             stores,
-        } = *self;
+        } = counted.expect(rt, name);
         println!(rt; "{name}: {refused} {which}, {answers} answered, {stores} store").expect(
             rt,
             "an output",
@@ -138,60 +160,76 @@ impl Count {
     }
 }
 
-/// The call of this name takes no memory.
-pub(crate) fn tell_none<R: Abort + Print>(rt: &R, name: &str) {
-    println!(rt; "{name}: none").expect(rt, "an output");
-}
-
 /// A value as text.
 pub(crate) fn text_of<T: Debug>(rt: &impl Abort, alloc: Global, value: &T) -> String {
     (format!(in alloc; "{value:?}")).expect(rt, "memory")
 }
 
-/// Whether the text is that of an answer of want of memory.
-pub(crate) fn is_memory(text: &str) -> bool {
-    let end = text.trim_end_matches(')');
-    text.contains("Err(") && (end.ends_with("Memory") || end.ends_with("AllocError"))
+/// What a call answered, as text, and whether a request was refused meanwhile.
+#[derive(Drop)]
+pub(crate) struct Said {
+    pub(crate) refused: bool,
+    pub(crate) text: String,
 }
 
-/// What an answer is beside the one with ample memory.
-pub(crate) fn outcome_of(text: &str, ample: &str) -> Outcome {
-    if text == ample {
-        Outcome::Answer
-    } else if is_memory(text) {
-        Outcome::Memory
-    } else {
-        Outcome::Wrong
+/// What was just answered. No request is refused any more.
+pub(crate) fn note<T: Debug>(rt: &impl Abort, alloc: Global, answer: &T) -> Said {
+    Said {
+        refused: was_refused(alloc),
+        text: text_of(rt, alloc, answer),
     }
 }
 
-/// A call, with what it is given.
-pub(crate) trait Call {
-    /// What it answers.
-    type Answer: Debug + Drop;
-
-    /// The call alone.
-    fn made(&self, alloc: Global) -> Self::Answer;
+/// A call that changes nothing.
+pub(crate) trait Ask {
+    /// Makes the call while requests are refused.
+    fn said<R: Abort>(&self, rt: &R, alloc: Global, refusing: Refusing) -> Said;
 }
 
-/// Makes a call with ample memory, then with its first request refused, with its second, and so on
-/// until none was; and the same with all later ones refused, too. Each time it gives its answer or
-/// tells want of memory.
-pub(crate) fn each_refused<R: Abort + Print, C: Call>(rt: &R, alloc: Global, name: &str, call: &C) {
-    let ample = text_of(rt, alloc, &call.made(alloc));
+/// Such a call, with its answer where memory is ample.
+#[derive(Drop)]
+struct Asking<'a, A: Ask> {
+    ask: &'a A,
+    ample: String,
+}
+
+impl<A: Ask> Call for Asking<'_, A> {
+    fn made<R: Abort>(&mut self, rt: &R, alloc: Global, refusing: Refusing) -> (bool, Outcome) {
+        let Said { refused, text } = self.ask.said(rt, alloc, refusing);
+        let is_answer = text.as_str() == self.ample.as_str();
+        let fault = outcome_if(is_memory(text.as_str()), Outcome::Memory);
+        let outcome = if is_answer { Outcome::Answer } else { fault };
+        (refused, outcome)
+    }
+}
+
+/// Whether an answer, or the fault of one that is not looked at, tells want of memory.
+fn is_memory(text: &str) -> bool {
+    let is_fault = text.contains("Err(") || text.starts_with("Some(");
+    let end = text.trim_end_matches(')');
+    is_fault && (end.ends_with("(Memory") || end.ends_with("(AllocError"))
+}
+
+/// Makes a call that changes nothing with ample memory, which it answers, and then with each of its
+/// requests refused.
+pub(crate) fn refuse_each_of<R: Abort + Print, A: Ask>(rt: &R, alloc: Global, name: &str, ask: &A) {
+    let ample = ask.said(rt, alloc, NONE).text;
     assert!(rt; !is_memory(ample.as_str()), "no answer with ample memory");
-    for short in BOTH {
-        let mut count = Count::new();
-        for n in 1..MOST {
-            refuse(alloc, n, short);
-            let got = call.made(alloc);
-            let refused = was_refused(alloc);
-            let text = text_of(rt, alloc, &got);
-            let outcome = outcome_of(text.as_str(), ample.as_str());
-            if !count.goes_on(rt, refused, outcome) {
-                count.tell(rt, name, short);
-                break;
-            }
-        }
+    refuse_each(rt, alloc, name, 1, &mut Asking { ask, ample });
+}
+
+/// The calls of these names asked for no memory, and gave what they had to give.
+pub(crate) fn expect_none<R: Abort + Print, T: Debug>(
+    rt: &R,
+    alloc: Global,
+    names: &[&str],
+    answers: &T,
+    want: &str,
+) {
+    let said = note(rt, alloc, answers);
+    assert!(rt; !said.refused, "memory is asked for");
+    assert_eq!(rt; said.text.as_str(), want);
+    for name in names {
+        println!(rt; "{name}: none").expect(rt, "an output");
     }
 }

@@ -4,6 +4,7 @@ use std::process::Abort;
 use uu_core::{By, Command, Kind, NewJob};
 use uu_names::{Grade, Listed, SiteName, Word};
 use uu_times::{Moment, SystemDef, Zone, read_sys};
+use uuspool::Settings;
 
 /// 2001-09-09 01:46:40, a Sunday.
 pub(crate) const SUNDAY: u64 = 1_000_000_000;
@@ -32,6 +33,23 @@ pub(crate) const HANDED_ON: &[u8] =
 
 /// Two systems, the first for grades up to C.
 pub(crate) const TWO_SYSTEMS: &[u8] = b"system duke\ntimegrade C Any\nsystem unc\ntime Any\n";
+
+pub(crate) const SETTINGS: &str =
+    "name = \"mysite\"\noffset = 0\nspool = \"spool.db\"\nadmins = [\"root\"]\n";
+
+pub(crate) fn settings(rt: &impl Abort, alloc: Global) -> Settings {
+    Settings::read(alloc, SETTINGS).expect(rt, "settings")
+}
+
+/// The words of a line, with single spaces between them.
+pub(crate) fn words_of(rt: &impl Abort, alloc: Global, line: &str) -> Vec<String> {
+    let mut words = Vec::new(alloc);
+    for word in line.split(' ') {
+        let word = String::from_str(alloc, word).expect(rt, "memory");
+        words.push(word).expect(rt, "memory");
+    }
+    words
+}
 
 pub(crate) fn site(rt: &impl Abort, alloc: Global, text: &str) -> SiteName {
     SiteName::parse(alloc, text).expect(rt, "a site name")
@@ -62,6 +80,7 @@ pub(crate) fn system(rt: &impl Abort, alloc: Global, text: &[u8]) -> SystemDef {
 #[derive(Clone, Copy)]
 pub(crate) enum Work {
     Send,
+    Request,
     /// A command with so many arguments.
     Execute(usize),
 }
@@ -103,6 +122,10 @@ fn kind(rt: &impl Abort, alloc: Global, work: Work) -> Kind {
     let first = word(rt, alloc, "/tmp/news");
     match work {
         Work::Send => Kind::Send {
+            source: first,
+            target: word(rt, alloc, "~/news"),
+        },
+        Work::Request => Kind::Request {
             source: first,
             target: word(rt, alloc, "~/news"),
         },

@@ -1,0 +1,434 @@
+// What a spool is given or asked while memory is short, as plain data: its calls, lines of the
+// program and batches.
+use crate::refusing::{ALL, NONE, Refusing, text_of, was_refused};
+use crate::values::{Order, SUNDAY, command, commands, moment, settings, site, words_of};
+use sqlite::Alter;
+use std::alloc::Global;
+use std::fmt::Debug;
+use std::process::Abort;
+use uu_core::Filter;
+use uu_store::{RunEnd, Spool, StoreFault};
+use uuspool::{Clock, Fault, batch, serve};
+
+/// What is given or asked.
+#[derive(Clone, Copy)]
+pub(crate) enum Act {
+    Command(Order),
+    Run(&'static [Order]),
+    Jobs,
+    Job(u32),
+    Systems,
+    Due(u64),
+    Entry(&'static str),
+    Next,
+    /// A line of the program: its words with single spaces between them, and its input.
+    Line(&'static str, &'static [u8]),
+    /// The first requests of a batch, so many.
+    Batch(usize),
+    /// No call of a spool: a fault that is told without a cause.
+    Tell(StoreFault),
+    /// A run that goes on after a command that found no memory, and tells the replies behind it or
+    /// keeps them to itself.
+    GoOn(&'static [Order], bool),
+}
+
+/// How a call ended.
+#[derive(Clone, Copy, PartialEq, Eq)]
+pub(crate) enum End {
+    /// It gave its answer. A line did, with status 0.
+    Whole,
+    /// A line gave its answer, with status 1.
+    Refused,
+    /// The spool found no memory, or a batch told so and ended with status 4.
+    Memory,
+    /// A line or a batch found no memory for something of its own.
+    OwnMemory,
+    /// The store failed.
+    Store,
+    /// The store failed before.
+    Failed,
+    /// It told another fault.
+    Other,
+}
+
+/// What a call answered: whether a request was refused meanwhile, how it ended, and the answer, the
+/// replies or the output so far as text.
+#[derive(Drop)]
+pub(crate) struct Answered {
+    pub(crate) refused: bool,
+    pub(crate) end: End,
+    pub(crate) text: String,
+}
+
+pub(crate) fn end_of(fault: StoreFault) -> End {
+    match fault {
+        StoreFault::Memory => End::Memory,
+        StoreFault::Store(_) => End::Store,
+        StoreFault::Failed => End::Failed,
+        StoreFault::Foreign | StoreFault::Newer => End::Other,
+    }
+}
+
+fn end_of_run(stopped: Option<StoreFault>) -> End {
+    match stopped {
+        Some(fault) => end_of(fault),
+        None => End::Whole,
+    }
+}
+
+fn end_of_line(ended: Result<u8, Fault>) -> End {
+    match ended {
+        Ok(0) => End::Whole,
+        Ok(1) => End::Refused,
+        Err(Fault::Memory) => End::OwnMemory,
+        Err(Fault::Store(fault)) => end_of(fault),
+        _ => End::Other,
+    }
+}
+
+fn end_of_batch(ended: Result<u8, Fault>) -> End {
+    match ended {
+        Ok(0) => End::Whole,
+        Ok(4) => End::Memory,
+        Err(Fault::Memory) => End::OwnMemory,
+        _ => End::Other,
+    }
+}
+
+/// What was just answered. No request is refused any more.
+fn answer_of<T: Debug + Drop>(
+    rt: &impl Abort,
+    alloc: Global,
+    got: Result<T, StoreFault>,
+) -> Answered {
+    let refused = was_refused(alloc);
+    match got {
+        Ok(answer) => Answered {
+            refused,
+            end: End::Whole,
+            text: text_of(rt, alloc, &answer),
+        },
+        Err(fault) => Answered {
+            refused,
+            end: end_of(fault),
+            text: String::new(alloc),
+        },
+    }
+}
+
+/// The same of a run.
+pub(crate) fn run_answered(rt: &impl Abort, alloc: Global, end: RunEnd) -> Answered {
+    Answered {
+        refused: was_refused(alloc),
+        end: end_of_run(end.stopped),
+        text: text_of(rt, alloc, &end.replies),
+    }
+}
+
+/// What was written, as text.
+fn written(rt: &impl Abort, out: Vec<u8>) -> String {
+    String::from_utf8(out).ok().expect(rt, "a text")
+}
+
+// ---- each call alone
+
+fn give_command<S: Alter>(
+    rt: &impl Abort,
+    alloc: Global,
+    spool: &mut Spool<S>,
+    order: Order,
+    refusing: Refusing,
+) -> Answered {
+    let command = command(rt, alloc, order);
+    refusing.begin(alloc);
+    answer_of(rt, alloc, spool.command(alloc, command))
+}
+
+fn give_run<S: Alter>(
+    rt: &impl Abort,
+    alloc: Global,
+    spool: &mut Spool<S>,
+    orders: &[Order],
+    refusing: Refusing,
+) -> Answered {
+    let commands = commands(rt, alloc, orders);
+    refusing.begin(alloc);
+    run_answered(rt, alloc, spool.run(alloc, commands))
+}
+
+fn ask_jobs<S: Alter>(
+    rt: &impl Abort,
+    alloc: Global,
+    spool: &mut Spool<S>,
+    refusing: Refusing,
+) -> Answered {
+    let filter = Filter::all();
+    refusing.begin(alloc);
+    answer_of(rt, alloc, spool.jobs(alloc, &filter))
+}
+
+fn ask_job<S: Alter>(
+    rt: &impl Abort,
+    alloc: Global,
+    spool: &mut Spool<S>,
+    number: u32,
+    refusing: Refusing,
+) -> Answered {
+    refusing.begin(alloc);
+    match spool.job(alloc, number) {
+        Ok(Some((head, bytes))) => answer_of(rt, alloc, Ok((&head, str::from_utf8(&bytes)))),
+        Ok(None) => answer_of(rt, alloc, Ok("no job")),
+        Err(fault) => answer_of::<()>(rt, alloc, Err(fault)),
+    }
+}
+
+fn ask_systems<S: Alter>(
+    rt: &impl Abort,
+    alloc: Global,
+    spool: &mut Spool<S>,
+    refusing: Refusing,
+) -> Answered {
+    refusing.begin(alloc);
+    answer_of(rt, alloc, spool.systems(alloc))
+}
+
+fn ask_next<S: Alter>(
+    rt: &impl Abort,
+    alloc: Global,
+    spool: &mut Spool<S>,
+    refusing: Refusing,
+) -> Answered {
+    refusing.begin(alloc);
+    answer_of(rt, alloc, spool.next())
+}
+
+fn ask_due<S: Alter>(
+    rt: &impl Abort,
+    alloc: Global,
+    spool: &mut Spool<S>,
+    second: u64,
+    refusing: Refusing,
+) -> Answered {
+    let at = moment(rt, second);
+    refusing.begin(alloc);
+    answer_of(rt, alloc, spool.due(alloc, &at))
+}
+
+fn ask_entry<S: Alter>(
+    rt: &impl Abort,
+    alloc: Global,
+    spool: &mut Spool<S>,
+    host: &str,
+    refusing: Refusing,
+) -> Answered {
+    let host = site(rt, alloc, host);
+    refusing.begin(alloc);
+    answer_of(rt, alloc, spool.entry(alloc, &host))
+}
+
+fn serve_words<S: Alter>(
+    rt: &impl Abort,
+    alloc: Global,
+    spool: &mut Spool<S>,
+    line: &str,
+    input: &[u8],
+    refusing: Refusing,
+) -> Answered {
+    let settings = settings(rt, alloc);
+    let words = words_of(rt, alloc, line);
+    let mut out = Vec::with_capacity(alloc, 4096).expect(rt, "memory");
+    refusing.begin(alloc);
+    let ended = serve(alloc, &words, &settings, SUNDAY, input, spool, &mut out);
+    Answered {
+        refused: was_refused(alloc),
+        end: end_of_line(ended),
+        text: written(rt, out),
+    }
+}
+
+/// The requests of a batch.
+pub(crate) const REQUESTS: [&[u8]; 4] = [
+    b"24 load\nsystem duke\ntime Any 30\n",
+    b"3 --as ann send duke a b\nxyz",
+    b"0 --as ann regrade 1 A\n",
+    b"0 list\n",
+];
+
+/// A clock that stands still.
+#[derive(Drop)]
+struct Standing;
+
+impl Clock for Standing {
+    fn second(&mut self) -> Option<u64> {
+        Some(SUNDAY)
+    }
+}
+
+fn requests(rt: &impl Abort, alloc: Global, count: usize) -> Vec<u8> {
+    let mut stream = Vec::new(alloc);
+    for request in REQUESTS.iter().take(count) {
+        stream.extend_from_slice(request).expect(rt, "memory");
+    }
+    stream
+}
+
+fn answer_batch<S: Alter>(
+    rt: &impl Abort,
+    alloc: Global,
+    spool: &mut Spool<S>,
+    count: usize,
+    refusing: Refusing,
+) -> Answered {
+    let settings = settings(rt, alloc);
+    let stream = requests(rt, alloc, count);
+    let mut out = Vec::with_capacity(alloc, 4096).expect(rt, "memory");
+    refusing.begin(alloc);
+    let ended = batch(
+        alloc,
+        &settings,
+        &mut Standing,
+        &mut stream.as_slice(),
+        spool,
+        &mut out,
+    );
+    Answered {
+        refused: was_refused(alloc),
+        end: end_of_batch(ended),
+        text: written(rt, out),
+    }
+}
+
+fn go_on<S: Alter>(
+    rt: &impl Abort,
+    alloc: Global,
+    spool: &mut Spool<S>,
+    orders: &[Order],
+    tells: bool,
+    refusing: Refusing,
+) -> Answered {
+    let commands = commands(rt, alloc, orders);
+    let mut replies = Vec::with_capacity(alloc, commands.len()).expect(rt, "memory");
+    let mut stopped = None;
+    refusing.begin(alloc);
+    for command in commands {
+        match spool.command(alloc, command) {
+            Ok(reply) => {
+                if tells || stopped.is_none() {
+                    replies.push(reply).expect(rt, "memory");
+                }
+            }
+            Err(fault) => stopped = Some(fault),
+        }
+    }
+    run_answered(rt, alloc, RunEnd { replies, stopped })
+}
+
+/// A fault that is told without a call.
+fn tell(rt: &impl Abort, alloc: Global, fault: StoreFault, refusing: Refusing) -> Answered {
+    refusing.begin(alloc);
+    answer_of::<()>(rt, alloc, Err(fault))
+}
+
+/// Does what is given or asked while requests are refused.
+pub(crate) fn perform<S: Alter>(
+    rt: &impl Abort,
+    alloc: Global,
+    spool: &mut Spool<S>,
+    act: Act,
+    refusing: Refusing,
+) -> Answered {
+    match act {
+        Act::Command(order) => give_command(rt, alloc, spool, order, refusing),
+        Act::Run(orders) => give_run(rt, alloc, spool, orders, refusing),
+        Act::Line(line, input) => serve_words(rt, alloc, spool, line, input, refusing),
+        Act::Batch(count) => answer_batch(rt, alloc, spool, count, refusing),
+        Act::GoOn(orders, tells) => go_on(rt, alloc, spool, orders, tells, refusing),
+        Act::Tell(fault) => tell(rt, alloc, fault, refusing),
+        Act::Jobs | Act::Job(_) | Act::Systems | Act::Due(_) | Act::Entry(_) | Act::Next => {
+            ask(rt, alloc, spool, act, refusing)
+        }
+    }
+}
+
+/// Asks a question while requests are refused.
+fn ask<S: Alter>(
+    rt: &impl Abort,
+    alloc: Global,
+    spool: &mut Spool<S>,
+    question: Act,
+    refusing: Refusing,
+) -> Answered {
+    match question {
+        Act::Jobs => ask_jobs(rt, alloc, spool, refusing),
+        Act::Job(number) => ask_job(rt, alloc, spool, number, refusing),
+        Act::Systems => ask_systems(rt, alloc, spool, refusing),
+        Act::Due(second) => ask_due(rt, alloc, spool, second, refusing),
+        Act::Entry(host) => ask_entry(rt, alloc, spool, host, refusing),
+        Act::Next => ask_next(rt, alloc, spool, refusing),
+        _ => panic!(rt; "no question"),
+    }
+}
+
+// ---- what is shown
+
+/// Everything that a spool shows: the next number, the systems with their calls, what is due, a map
+/// entry, and the jobs with their bytes, of which there are four at most.
+const LOOKS: &[Act] = &[
+    Act::Next,
+    Act::Systems,
+    Act::Due(SUNDAY),
+    Act::Entry("unc"),
+    Act::Jobs,
+    Act::Job(1),
+    Act::Job(2),
+    Act::Job(3),
+    Act::Job(4),
+];
+
+pub(crate) fn picture<S: Alter>(rt: &impl Abort, alloc: Global, spool: &mut Spool<S>) -> String {
+    let mut text = String::new(alloc);
+    for look in LOOKS {
+        let answered = perform(rt, alloc, spool, *look, NONE);
+        assert!(rt; answered.end == End::Whole, "a question is not answered");
+        text.push_str(answered.text.as_str()).expect(rt, "memory");
+    }
+    text
+}
+
+/// Has a spool do each, which it does with ample memory, and refuses none.
+pub(crate) fn play<S: Alter>(rt: &impl Abort, alloc: Global, spool: &mut Spool<S>, acts: &[Act]) {
+    for act in acts {
+        let Answered {
+            refused: _,
+            end,
+            text,
+        } = perform(rt, alloc, spool, *act, NONE);
+        assert!(rt; end == End::Whole, "what comes before is not answered");
+        assert!(rt;
+            !text.as_str().contains("Refused"),
+            "what comes before is refused"
+        );
+    }
+}
+
+/// A call of each method of a spool.
+const EACH: &[Act] = &[
+    Act::Command(Order::Remove("duke")),
+    Act::Run(&[]),
+    Act::Jobs,
+    Act::Job(1),
+    Act::Systems,
+    Act::Due(SUNDAY),
+    Act::Entry("duke"),
+    Act::Next,
+];
+
+/// Whether each call answers that the spool failed, and asks for no memory.
+pub(crate) fn is_failed<S: Alter>(rt: &impl Abort, alloc: Global, spool: &mut Spool<S>) -> bool {
+    let mut is_failed = true;
+    for call in EACH {
+        let answered = perform(rt, alloc, spool, *call, ALL);
+        is_failed = is_failed && !answered.refused && answered.end == End::Failed;
+    }
+    is_failed
+}

@@ -1,0 +1,529 @@
+// The calls of a spool, lines of the program and batches while memory is short: over a database in
+// memory and over files, both freshly opened and with statements kept.
+use crate::acts::{Act, REQUESTS};
+use crate::files::{FEW_PAGES, MANY_PAGES, nothing};
+use crate::refusing::{ALL, expect_none, is_wrong, refuse_each};
+use crate::trials::{Deed, InFiles, InMemory, begun, only_stage, prepared, stages_of};
+use crate::values::{MAP, MESSAGE, Order, SUNDAY, SYS_FILE, SYS_FILE_DUKE, TWO_SYSTEMS, Work};
+use sqlite::Connection;
+use std::alloc::Global;
+use std::io::Print;
+use std::process::Abort;
+use uu_store::{StoreFault, StoreKind};
+
+/// A call: its name, what was done before, the call itself, and what its first commands do alone.
+type Case = (&'static str, &'static [Act], Act, &'static [Act]);
+
+const DUKE: &[Act] = &[Act::Command(Order::Define(b"system duke\ntime Any\n"))];
+
+const FOUR_JOBS: &[Act] = &[
+    Act::Command(Order::Define(b"system duke\ntimegrade C Any\n")),
+    Act::Command(Order::Define(b"system unc\ntime Any\n")),
+    Act::Command(Order::Queue("duke", b'a', Work::Send, 0)),
+    Act::Command(Order::Queue("duke", b'B', Work::Send, 0)),
+    Act::Command(Order::Queue("unc", b'z', Work::Send, 0)),
+    Act::Command(Order::Queue("unc", b'9', Work::Send, 0)),
+];
+
+/// Two systems, two jobs, a map entry and a call that failed.
+const ORDERS: &[Order] = &[
+    Order::Define(b"system duke\ntime Any\n"),
+    Order::Define(b"system unc\ntime Wk2305-0755 20\nmax-retries 2\nsuccess-wait 600\n"),
+    Order::Queue("duke", b'N', Work::Send, 20_000),
+    Order::Queue("duke", b'A', Work::Execute(3), 100),
+    Order::Entry(b"#N unc\nunc duke(5)\n"),
+    Order::Failed("unc"),
+];
+
+const FULL: &[Act] = &[Act::Run(ORDERS)];
+
+const CALLS: &[Case] = &[
+    (
+        "Spool::command (define)",
+        DUKE,
+        Act::Command(Order::Define(b"system unc\ntime Wk0900-1700 5\n")),
+        &[],
+    ),
+    (
+        "Spool::command (define again)",
+        FULL,
+        Act::Command(Order::Define(b"system duke\ntime Any 5\n")),
+        &[],
+    ),
+    (
+        "Spool::command (remove)",
+        FULL,
+        Act::Command(Order::Remove("unc")),
+        &[],
+    ),
+    (
+        "Spool::command (remove, refused)",
+        FULL,
+        Act::Command(Order::Remove("duke")),
+        &[],
+    ),
+    (
+        "Spool::command (queue, no bytes)",
+        DUKE,
+        Act::Command(Order::Queue("duke", b'N', Work::Send, 0)),
+        &[],
+    ),
+    (
+        "Spool::command (queue)",
+        DUKE,
+        Act::Command(Order::Queue("duke", b'N', Work::Execute(3), 40_000)),
+        &[],
+    ),
+    (
+        "Spool::command (queue, refused)",
+        DUKE,
+        Act::Command(Order::Queue("unc", b'N', Work::Send, 0)),
+        &[],
+    ),
+    (
+        "Spool::command (kill)",
+        FULL,
+        Act::Command(Order::Kill(1, "root", true)),
+        &[],
+    ),
+    (
+        "Spool::command (kill, refused)",
+        FULL,
+        Act::Command(Order::Kill(1, "bob", false)),
+        &[],
+    ),
+    (
+        "Spool::command (regrade)",
+        FULL,
+        Act::Command(Order::Regrade(1, b'A')),
+        &[],
+    ),
+    (
+        "Spool::command (rejuvenate)",
+        FULL,
+        Act::Command(Order::Rejuvenate(1)),
+        &[],
+    ),
+    (
+        "Spool::command (failed)",
+        FULL,
+        Act::Command(Order::Failed("duke")),
+        &[],
+    ),
+    (
+        "Spool::command (done)",
+        FULL,
+        Act::Command(Order::Called("duke", &[1, 2])),
+        &[],
+    ),
+    (
+        "Spool::command (done, no jobs)",
+        FULL,
+        Act::Command(Order::Called("unc", &[])),
+        &[],
+    ),
+    (
+        "Spool::command (entry)",
+        DUKE,
+        Act::Command(Order::Entry(b"#N unc\nunc duke(5), phs\n")),
+        &[],
+    ),
+    (
+        "Spool::command (entry again)",
+        FULL,
+        Act::Command(Order::Entry(b"#N unc\nunc phs\n")),
+        &[],
+    ),
+    (
+        "Spool::command (entry, refused)",
+        FULL,
+        Act::Command(Order::Entry(b"#N unc, a\n a*b\n")),
+        &[],
+    ),
+    (
+        "Spool::run",
+        DUKE,
+        Act::Run(&[
+            Order::Queue("duke", b'N', Work::Send, 40_000),
+            Order::Kill(9, "root", true),
+            Order::Regrade(1, b'A'),
+        ]),
+        &[
+            Act::Run(&[]),
+            Act::Run(&[Order::Queue("duke", b'N', Work::Send, 40_000)]),
+            Act::Run(&[
+                Order::Queue("duke", b'N', Work::Send, 40_000),
+                Order::Kill(9, "root", true),
+            ]),
+        ],
+    ),
+    ("Spool::jobs", FULL, Act::Jobs, &[]),
+    ("Spool::job", FULL, Act::Job(1), &[]),
+    ("Spool::job (none)", FULL, Act::Job(9), &[]),
+    ("Spool::systems", FULL, Act::Systems, &[]),
+    ("Spool::due", FOUR_JOBS, Act::Due(SUNDAY), &[]),
+    ("Spool::entry", FULL, Act::Entry("unc"), &[]),
+    ("Spool::entry (none)", FULL, Act::Entry("duke"), &[]),
+    ("Spool::next", FULL, Act::Next, &[]),
+];
+
+const LOAD: Act = Act::Line("load", TWO_SYSTEMS);
+
+const SEND: Act = Act::Line("--at 1000000000 --as ann send duke a b -g B", b"xyz");
+
+const REQUEST: Act = Act::Line("--at 1000000000 --as ann request unc a b -g 9", b"");
+
+/// Lines of the program: their names, what was done before, their words and input, and what they
+/// print.
+type LineCase = (
+    &'static str,
+    &'static [Act],
+    (&'static str, &'static [u8]),
+    &'static str,
+);
+
+const LINES: &[LineCase] = &[
+    (
+        "serve (load)",
+        &[],
+        ("load", SYS_FILE),
+        "duke done\nunc done\nskipped 7\nskipped 8\n",
+    ),
+    ("serve (drop)", &[LOAD], ("drop unc", b""), "done\n"),
+    (
+        "serve (send)",
+        &[LOAD],
+        ("--at 1000000000 --as ann send duke /tmp/a ~/a", SYS_FILE),
+        "job 1\n",
+    ),
+    (
+        "serve (request)",
+        &[LOAD],
+        ("--at 1000000000 request duke /tmp/a ~/a -g A", b""),
+        "job 1\n",
+    ),
+    (
+        "serve (exec)",
+        &[LOAD],
+        ("exec -g A duke lp laser", b"xyz"),
+        "job 1\n",
+    ),
+    (
+        "serve (mail)",
+        &[LOAD],
+        (
+            "--at 1000000000 --as ann mail duke!unc!ann duke!bob",
+            MESSAGE,
+        ),
+        "job 1\n",
+    ),
+    (
+        "serve (list)",
+        &[LOAD, SEND, REQUEST],
+        ("list", b""),
+        "2 unc ann 9 2001-09-09 01:46:40 0 request a b\n1 duke ann B 2001-09-09 01:46:40 3 send a b\n",
+    ),
+    (
+        "serve (show)",
+        &[LOAD, SEND],
+        ("show 1", b""),
+        "1 duke ann B 2001-09-09 01:46:40 3 send a b\nxyz",
+    ),
+    ("serve (show, no job)", &[LOAD], ("show 1", b""), "no job\n"),
+    (
+        "serve (kill)",
+        &[LOAD, SEND],
+        ("--as root kill 1", b""),
+        "done\n",
+    ),
+    (
+        "serve (kill, refused)",
+        &[LOAD, SEND],
+        ("--as bob kill 1", b""),
+        "refused NotYours\n",
+    ),
+    (
+        "serve (regrade)",
+        &[LOAD, SEND],
+        ("--as ann regrade 1 A", b""),
+        "done\n",
+    ),
+    (
+        "serve (rejuvenate)",
+        &[LOAD, SEND],
+        ("--as ann rejuvenate 1", b""),
+        "done\n",
+    ),
+    (
+        "serve (due)",
+        &[LOAD, SEND, REQUEST],
+        ("due", b""),
+        "unc 9 2\nduke B 1\n",
+    ),
+    (
+        "serve (when)",
+        &[LOAD, SEND, REQUEST],
+        ("--at 1000000000 when", b""),
+        "unc 9 2 0 2001-09-09 01:46:40 due\nduke B 1 0 2001-09-09 01:46:40 due\n",
+    ),
+    (
+        "serve (queues)",
+        &[LOAD, SEND, REQUEST],
+        ("queues", b""),
+        "duke 1 3 B 2001-09-09 01:46:40\nunc 1 0 9 2001-09-09 01:46:40\n",
+    ),
+    (
+        "serve (status)",
+        &[LOAD, Act::Line("failed unc busy", b"")],
+        ("status", b""),
+        "duke 0 0 never\nunc 1 600 failed 2001-09-09 01:46:40 busy\n",
+    ),
+    (
+        "serve (failed)",
+        &[LOAD],
+        ("failed unc busy", b""),
+        "done\n",
+    ),
+    (
+        "serve (done)",
+        &[LOAD, SEND],
+        ("done duke 1", b""),
+        "done\n",
+    ),
+    ("serve (map)", &[], ("map", MAP), "unc done\n"),
+    (
+        "serve (neighbours)",
+        &[Act::Line("map", MAP)],
+        ("neighbours unc", b""),
+        "duke 495\nmcnc 4000\nphs 20000\nold dead\n= unc-ch\nskipped 5\n",
+    ),
+];
+
+/// The lines of the program. Each function that names a large table is dear to prove.
+pub(crate) fn lines() -> &'static [LineCase] {
+    LINES
+}
+
+/// The load of two systems, of which the first alone is a part.
+const LOAD_TWO: Case = (
+    "serve (load)",
+    &[],
+    Act::Line("load", SYS_FILE),
+    &[Act::Line("load", SYS_FILE_DUKE)],
+);
+
+/// A batch of all requests.
+const BATCH: Case = (
+    "batch",
+    &[],
+    Act::Batch(REQUESTS.len()),
+    &[Act::Batch(1), Act::Batch(2), Act::Batch(3)],
+);
+
+/// Each request is refused alone, and each seventh with all later ones.
+const LATER: usize = 7;
+
+fn in_memory<R: Abort + Print>(rt: &R, alloc: Global, (name, before, act, parts): Case) {
+    let stages = stages_of(rt, alloc, before, parts, act);
+    let deed = Deed::Call(before, act);
+    refuse_each(rt, alloc, name, LATER, &mut InMemory { deed, stages });
+}
+
+/// Over files of a spool that were just opened.
+fn in_opened_files<R: Abort + Print>(rt: &R, alloc: Global, (name, before, act, parts): Case) {
+    let name = (format!(in alloc; "{name}, in opened files")).expect(rt, "memory");
+    let stages = stages_of(rt, alloc, before, parts, act);
+    let contents = prepared(rt, alloc, MANY_PAGES, before);
+    let deed = Deed::Call(&[], act);
+    let mut trial = InFiles::new(rt, alloc, contents, MANY_PAGES, deed, stages);
+    refuse_each(rt, alloc, name.as_str(), LATER, &mut trial);
+}
+
+/// Over new files, in which what comes before is done first.
+fn in_new_files<R: Abort + Print>(rt: &R, alloc: Global, (name, before, act, parts): Case) {
+    let name = (format!(in alloc; "{name}, in new files")).expect(rt, "memory");
+    let stages = stages_of(rt, alloc, before, parts, act);
+    let deed = Deed::Call(before, act);
+    let mut trial = InFiles::new(rt, alloc, nothing(alloc), FEW_PAGES, deed, stages);
+    refuse_each(rt, alloc, name.as_str(), LATER, &mut trial);
+}
+
+/// What the first command of a line does, where it has more than one.
+fn parts_of(words: &str) -> &'static [Act] {
+    match words {
+        "load" => LOAD_TWO.3,
+        _ => &[],
+    }
+}
+
+/// A line, which prints this.
+fn served<R: Abort + Print>(rt: &R, alloc: Global, (name, before, line, output): LineCase) {
+    let act = Act::Line(line.0, line.1);
+    let stages = stages_of(rt, alloc, before, parts_of(line.0), act);
+    let printed = stages.last().expect(rt, "a stage").text.as_str();
+    assert_eq!(rt; printed, output);
+    let deed = Deed::Call(before, act);
+    refuse_each(rt, alloc, name, LATER, &mut InMemory { deed, stages });
+}
+
+/// The calls of a spool.
+fn calls() -> &'static [Case] {
+    CALLS
+}
+
+#[test]
+fn calls_in_memory(rt: HostRuntime) {
+    for case in calls() {
+        in_memory(&rt, rt.alloc(), *case);
+    }
+}
+
+#[test]
+fn calls_in_opened_files(rt: HostRuntime) {
+    for case in calls().iter().take(9) {
+        in_opened_files(&rt, rt.alloc(), *case);
+    }
+}
+
+#[test]
+fn other_calls_in_opened_files(rt: HostRuntime) {
+    for case in calls().iter().skip(9) {
+        in_opened_files(&rt, rt.alloc(), *case);
+    }
+}
+
+#[test]
+fn calls_in_new_files(rt: HostRuntime) {
+    for case in calls() {
+        in_new_files(&rt, rt.alloc(), *case);
+    }
+}
+
+#[test]
+fn lines_are_served(rt: HostRuntime) {
+    for case in lines() {
+        served(&rt, rt.alloc(), *case);
+    }
+    in_new_files(&rt, rt.alloc(), LOAD_TWO);
+}
+
+#[test]
+fn batches(rt: HostRuntime) {
+    in_memory(&rt, rt.alloc(), BATCH);
+}
+
+// ---- databases that are taken, stretches of work, and a close
+
+/// Files are taken as a spool: new ones, or those in which these were done.
+fn adopted<R: Abort + Print>(rt: &R, alloc: Global, name: &str, acts: &'static [Act]) {
+    let contents = if acts.is_empty() {
+        nothing(alloc)
+    } else {
+        prepared(rt, alloc, MANY_PAGES, acts)
+    };
+    let stages = only_stage(rt, alloc, acts);
+    let mut trial = InFiles::new(rt, alloc, contents, MANY_PAGES, Deed::Adopt(&[]), stages);
+    refuse_each(rt, alloc, name, LATER, &mut trial);
+}
+
+#[test]
+fn files_are_taken(rt: HostRuntime) {
+    adopted(&rt, rt.alloc(), "Spool::adopt (empty files)", &[]);
+    adopted(&rt, rt.alloc(), "Spool::adopt (files)", FULL);
+}
+
+/// Databases in memory that are taken, each with what was done in it.
+const IN_MEMORY: &[(&str, &[Act])] = &[
+    ("Spool::adopt (empty, in memory)", &[]),
+    ("Spool::adopt (in memory)", FULL),
+];
+
+#[test]
+fn databases_in_memory_are_taken(rt: HostRuntime) {
+    let alloc = rt.alloc();
+    for (name, acts) in IN_MEMORY {
+        let stages = only_stage(&rt, alloc, acts);
+        let deed = Deed::Adopt(acts);
+        refuse_each(&rt, alloc, name, LATER, &mut InMemory { deed, stages });
+    }
+}
+
+#[test]
+fn closes(rt: HostRuntime) {
+    let alloc = rt.alloc();
+    let stages = only_stage(&rt, alloc, FULL);
+    let deed = Deed::Close(FULL);
+    let mut trial = InFiles::new(&rt, alloc, nothing(alloc), FEW_PAGES, deed, stages);
+    refuse_each(&rt, alloc, "Spool::close", LATER, &mut trial);
+}
+
+#[test]
+fn stretches_of_work(rt: HostRuntime) {
+    let alloc = rt.alloc();
+    let mut parts = Vec::new(alloc);
+    for count in 0..ORDERS.len() {
+        let part = Act::Run(ORDERS.get(..count).unwrap_or(&[]));
+        parts.push(part).expect(&rt, "memory");
+    }
+    let stages = stages_of(&rt, alloc, &[], &parts, Act::Run(ORDERS));
+    let deed = Deed::AdoptAndRun(ORDERS);
+    let mut trial = InFiles::new(&rt, alloc, nothing(alloc), FEW_PAGES, deed, stages);
+    refuse_each(&rt, alloc, "Spool::adopt_and_run", LATER, &mut trial);
+}
+
+/// A spool is given back, or its store is, without memory.
+#[test]
+fn spools_are_given_back(rt: HostRuntime) {
+    let alloc = rt.alloc();
+    let conn = Connection::open_in_memory(alloc).expect(&rt, "memory");
+    let spool = begun(&rt, alloc, conn, FULL);
+    ALL.begin(alloc);
+    let conn = spool.release();
+    expect_none(
+        &rt,
+        alloc,
+        &["Spool::release"],
+        &conn.is_autocommit(),
+        "true",
+    );
+    let spool = begun(&rt, alloc, conn, &[]);
+    ALL.begin(alloc);
+    let _store = spool.into_store();
+    expect_none(&rt, alloc, &["Spool::into_store"], &(), "()");
+}
+
+// ---- calls that are wrong
+
+const TWO_ORDERS: &[Order] = &[Order::Regrade(1, b'A'), Order::Kill(2, "root", true)];
+
+/// Calls that drop a job where memory is short, that go on after a command that found none, and
+/// that tell want of memory or a fault of the store without a cause.
+const WRONG: &[Act] = &[
+    Act::GoOn(TWO_ORDERS, false),
+    Act::GoOn(TWO_ORDERS, true),
+    Act::Tell(StoreFault::Memory),
+    Act::Tell(StoreFault::Store(StoreKind::Disk)),
+];
+
+/// Whether a call is found to be no run of the two orders.
+fn is_found_wrong(rt: &impl Abort, alloc: Global, act: Act) -> bool {
+    let parts = [Act::Run(&[]), Act::Run(&[Order::Regrade(1, b'A')])];
+    let stages = stages_of(rt, alloc, FULL, &parts, Act::Run(TWO_ORDERS));
+    let deed = Deed::Call(FULL, act);
+    is_wrong(rt, alloc, &mut InMemory { deed, stages })
+}
+
+/// Calls that are wrong are found: `scripts/refused-memory` wants all of them.
+#[test]
+fn wrong_calls(rt: HostRuntime) {
+    let alloc = rt.alloc();
+    let is_found = is_found_wrong(&rt, alloc, Act::Run(TWO_ORDERS));
+    assert!(rt; !is_found, "a right run is found to be wrong");
+    let mut found = 0u32;
+    for act in WRONG {
+        if is_found_wrong(&rt, alloc, *act) {
+            found = found.saturating_add(1);
+        }
+    }
+    println!(rt; "wrong calls: {found} of 4 found").expect(&rt, "an output");
+}
