@@ -6,6 +6,7 @@ pub mod Heads
 pub mod Lines
 pub mod Callers
 pub mod Waits
+pub mod LinkRows
 pub mod Verdict
 pub mod Rising
 pub mod Search

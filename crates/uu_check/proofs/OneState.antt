@@ -1,25 +1,26 @@
 -- Two states with the same tables are one.
-use Rattle.std.proofs.Common.{◌≡◌, ℕ, zero, suc, ◌+◌, ◌*◌, ◌<◌, ◌≤◌, Bool, true, false, List, [], ◌∷◌, ◌++◌, map, length, take, drop, Option, None, Some, refl, sym, ap, ◌∙◌, arith}
+use Rattle.std.proofs.Common.{◌≡◌, ℕ, zero, suc, ◌+◌, ◌*◌, ◌<◌, ◌≤◌, Bool, true, false, List, [], ◌∷◌, ◌++◌, map, length, take, drop, IsTrue, subst, Option, None, Some, refl, sym, ap, ◌∙◌, arith}
 use Rattle.std.specs.List.{AllByRecursion, flat_map, prefix_len}
 use Rattle.std.proofs.lemmas.List.{length-drop}
 use Rattle.uu_times.specs.declared.system.Line.{Line}
 use Rattle.uu_core.specs.declared.system.Outcome.{Outcome}
 use Rattle.uu_core.specs.declared.system.Outcome.TheVariants.{Never, Failed, Done}
 use Rattle.uu_core.specs.declared.system.SystemRow.{SystemRow}
-use Rattle.uu_core.specs.State.{State, Job, MapEntry, IsJob, IsWellFormed, ComesBefore, head_of}
+use Rattle.uu_core.specs.State.{State, Job, MapEntry, Link, IsLink, says_nothing, IsJob, IsWellFormed, ComesBefore, head_of}
 use Rattle.uu_tables.specs.Tables.{Tables, PlacedLine, tables_of, system_columns, line_columns, range_columns, entry_columns, placed, placed_from, ranges_of, waits_from, waits_of, pieces_of, piece_count, outcome_number, reason_of}
 use Rattle.uu_tables.specs.declared.rows.EntryColumns.{EntryColumns}
 use Rattle.uu_tables.specs.declared.rows.WaitColumns.{WaitColumns}
 use Rattle.uu_tables.specs.declared.rows.SystemColumns.{SystemColumns}
 use Rattle.uu_check.specs.Tests.{owns_range, fits_line, owns_wait, fits_wait}
 use Rattle.uu_check.proofs.Walks.{AllPairsByRecursion, Apart, own_front, all_flat, take_front, drop_front, take_drop}
-use Rattle.uu_check.proofs.Lists.{pairs_by_recursion, weaker_pairs, flat_pairs}
+use Rattle.uu_check.proofs.Lists.{by_recursion, weaker, pairs_by_recursion, weaker_pairs, flat_pairs}
 use Rattle.uu_check.proofs.Meanings.{eq_not, eq_to, text_to, text_not}
 use Rattle.uu_check.proofs.Cuts.{pieces_from, as_from, bytes_of}
 use Rattle.uu_check.proofs.Heads as job
 use Rattle.uu_check.proofs.Lines as line
 use Rattle.uu_check.proofs.Callers as system
 use Rattle.uu_check.proofs.Waits as wait
+use Rattle.uu_check.proofs.LinkRows as link
 
 -- Items with the same rows, each told by its own row and by those that belong to it.
 module _ {X P C : Type 0} (owns : P → C → Bool) (fits : P → List C → Bool) (head : X → P) (kids : X → List C) (Good : X → Type 0) where
@@ -204,10 +205,23 @@ same_jobs jobs others rise up heads pieces =
 abbrev entry_from : EntryColumns → MapEntry
 entry_from e = record { host = e.host; bytes = e.bytes }
 
+of_systems : (s : State) → IsWellFormed s → (rows : List SystemRow) (up : AllPairsByRecursion NameBefore rows) → s.systems ≡ rows → link.Good rows up s.links
+of_systems s good rows up same = record {
+  rise = pairs_by_recursion link.LinkBefore s.links good.by_link;
+  known = subst (λ rows. AllByRecursion (λ (l : Link). IsTrue (link.knows rows l.name)) s.links) same (by_recursion _ s.links good.linked);
+  says = weaker IsLink (λ l. says_nothing l ≡ false) (λ l h. h.says) s.links (by_recursion _ s.links good.links);
+}
+
+good_links : (s : State) (good : IsWellFormed s) → link.Good s.systems (pairs_by_recursion NameBefore s.systems good.by_name) s.links
+good_links s good = of_systems s good s.systems (pairs_by_recursion NameBefore s.systems good.by_name) refl
+
 pub one_state : (s t : State) → IsWellFormed s → IsWellFormed t → tables_of s ≡ tables_of t → s ≡ t
 one_state s t good fine same =
     let systems = same_systems s.systems t.systems (pairs_by_recursion NameBefore s.systems good.by_name) (pairs_by_recursion NameBefore t.systems fine.by_name)
     (ap (λ (r : Tables). r.systems) same) (ap (λ (r : Tables). r.lines) same) (ap (λ (r : Tables). r.ranges) same) (ap (λ (r : Tables). r.success_waits) same) in
     let jobs = same_jobs s.jobs t.jobs (pairs_by_recursion NumberBefore s.jobs good.rising) (pairs_by_recursion NumberBefore t.jobs fine.rising) (ap (λ (r : Tables). r.jobs) same) (ap (λ (r : Tables). r.pieces) same) in
     let entries : s.entries ≡ t.entries = sym (mapped_back entry_columns entry_from (λ e. refl) s.entries) ∙ ap (λ (r : Tables). map entry_from r.entries) same ∙ mapped_back entry_columns entry_from (λ e. refl) t.entries in
-    λ i. record { jobs = jobs i; systems = systems i; entries = entries i; next = (same i).next }
+    let mine = good_links s good in
+    let other : link.Good s.systems (pairs_by_recursion NameBefore s.systems good.by_name) t.links = of_systems t fine s.systems (pairs_by_recursion NameBefore s.systems good.by_name) (sym systems) in
+    let links = link.same_links s.systems (pairs_by_recursion NameBefore s.systems good.by_name) s.links t.links mine other (ap (λ (r : Tables). r.links) same) (ap (λ (r : Tables). r.taken) same) in
+    λ i. record { jobs = jobs i; systems = systems i; entries = entries i; next = (same i).next; links = links i }

@@ -14,13 +14,19 @@ use Rattle.uu_core.specs.declared.system.Outcome.{Outcome}
 use Rattle.uu_core.specs.declared.system.Outcome.TheVariants.{Never, Failed, Done}
 use Rattle.uu_core.specs.declared.system.CallState.{CallState}
 use Rattle.uu_core.specs.declared.system.SystemRow.{SystemRow}
-use Rattle.uu_core.specs.State.{State, Job, MapEntry, IsJob, IsCall, IsOutcome, IsDefinition, IsWellFormed, head_of, numbers_end}
-use Rattle.uu_tables.specs.Tables.{waits_from, waits_of, PlacedLine, tables_of, system_columns, line_columns, range_columns, entry_columns, placed, placed_from, ranges_of, pieces_of, piece_count, outcome_number, reason_of}
-use Rattle.uu_check.specs.Readable.{IsWaitRow, IsSystemRow, IsLineRow, IsRangeRow, IsJobRow, IsPieceRow, IsEntryRow, AreReadable}
+use Rattle.uu_core.specs.State.{State, Job, MapEntry, Link, IsLink, IsJob, IsCall, IsOutcome, IsDefinition, IsWellFormed, head_of, numbers_end}
+use Rattle.std.specs.List.{list_any}
+use Rattle.uu_core.specs.declared.custody.Taken.{Taken}
+use Rattle.uu_core.specs.Marks.{marks_end}
+use Rattle.uu_core.specs.State.{same_text}
+use Rattle.uu_tables.specs.Tables.{links_from, links_of, taken_columns, taken_rows, waits_from, waits_of, PlacedLine, tables_of, system_columns, line_columns, range_columns, entry_columns, placed, placed_from, ranges_of, pieces_of, piece_count, outcome_number, reason_of}
+use Rattle.uu_check.specs.Readable.{IsLinkRow, IsTakenRow, IsWaitRow, IsSystemRow, IsLineRow, IsRangeRow, IsJobRow, IsPieceRow, IsEntryRow, AreReadable}
 use Rattle.uu_check.proofs.Lists.{by_recursion, weaker, both, mapped_all}
 use Rattle.uu_check.proofs.Cuts.{pieces_from, as_from}
 use Rattle.uu_check.proofs.Heads.{job_to}
 use Rattle.uu_check.proofs.Lines.{IsGoodLine}
+use Rattle.uu_check.proofs.LinkRows.{knows, known_later}
+use Rattle.uu_check.proofs.Meanings.{text_from}
 use Rattle.uu_check.proofs.Verdict.{good_lines, all_flat}
 
 -- ---- systems
@@ -120,6 +126,36 @@ entry_row e h = go (nat_lt 65536 (length e.bytes)) refl h
     go true k is = absurd (cc)
     go false k is = record { host = host_found (find is_name_line (lines e.bytes)) e.host is; size = small (length e.bytes) k }
 
+-- ---- links
+
+-- a name that is known is one of a system
+known_name : (rows : List SystemRow) → AllByRecursion (λ (row : SystemRow). IsDefinition row.def) rows → (name : List ℕ) → IsTrue (knows rows name) → IsTrue (is_site_name name)
+known_name [] h name k = absurd (let no : IsTrue false = k in cc)
+known_name (x ∷ xs) h name k = by_test (same_text x.def.name name) refl (known_name xs h.1 name)
+  where
+    by_test : (t : Bool) → same_text x.def.name name ≡ t → (IsTrue (knows xs name) → IsTrue (is_site_name name)) → IsTrue (is_site_name name)
+    by_test true e rest = subst (λ n. IsTrue (is_site_name n)) (text_from x.def.name name e) h.0.name
+    by_test false e rest = rest (known_later x xs name e k)
+
+record IsNamed (next : ℕ) (l : Link) : Type 0 where
+  name : IsTrue (is_site_name l.name)
+  good : IsLink l
+  given : AllByRecursion (λ (t : Taken). t.job < next) l.taken
+
+link_rows : (next : ℕ) (l : Link) → IsNamed next l → AllByRecursion IsLinkRow (links_of l)
+link_rows next l it = go l.below it.good.below
+  where
+    go : (n : ℕ) → n ≤ numbers_end → AllByRecursion IsLinkRow (links_from l.name n)
+    go zero few = tt
+    go (suc n) few = (record { system = it.name; below = few }, tt)
+
+taken_in_rows : (next : ℕ) → next ≤ numbers_end → (l : Link) → IsNamed next l → AllByRecursion IsTakenRow (taken_rows l)
+taken_in_rows next last l it = go l.taken (by_recursion _ l.taken it.good.numbers) it.given
+  where
+    go : (ts : List Taken) → AllByRecursion (λ (t : Taken). (t.number ≤ numbers_end) × (t.mark < marks_end)) ts → AllByRecursion (λ (t : Taken). t.job < next) ts → AllByRecursion IsTakenRow (map (taken_columns l.name) ts)
+    go [] h k = tt
+    go (t ∷ ts) h k = (record { system = it.name; number = h.0.0; mark = h.0.1; job = (let low = k.0 in omega (arith, low, last)) }, go ts h.1 k.1)
+
 -- ---- all of them
 
 pub readable : (s : State) → IsWellFormed s → AreReadable (tables_of s)
@@ -127,6 +163,8 @@ readable s good =
     let rows = both (λ (row : SystemRow). IsDefinition row.def) (λ (row : SystemRow). IsCall row.call) (λ (row : SystemRow). IsDefinition row.def × IsCall row.call) (λ row h k. (h, k)) s.systems (by_recursion _ s.systems good.definitions) (by_recursion _ s.systems good.calls) in
     let last = good.next in
     let jobs = both IsJob (λ (j : Job). j.number < s.next) (λ (j : Job). IsJob j × (j.number < numbers_end)) (λ j h k. (h, omega (arith, k, last))) s.jobs (by_recursion IsJob s.jobs good.jobs) (by_recursion (λ (j : Job). j.number < s.next) s.jobs good.below_next) in
+    let names = both (λ (l : Link). IsTrue (knows s.systems l.name)) IsLink (λ (l : Link). IsTrue (is_site_name l.name) × IsLink l) (λ l k g. (known_name s.systems (by_recursion _ s.systems good.definitions) l.name k, g)) s.links (by_recursion _ s.links good.linked) (by_recursion IsLink s.links good.links) in
+    let named = both (λ (l : Link). IsTrue (is_site_name l.name) × IsLink l) (λ (l : Link). AllByRecursion (λ (t : Taken). t.job < s.next) l.taken) (IsNamed s.next) (λ l p g. record { name = p.0; good = p.1; given = g }) s.links names (weaker _ _ (λ (l : Link) h. by_recursion _ l.taken h) s.links (by_recursion _ s.links good.taken)) in
     let fine = all_flat IsPlaced _ placed placed_lines s.systems rows in
     record {
       next = good.next;
@@ -136,5 +174,7 @@ readable s good =
       jobs = mapped_all IsJobRow head_of s.jobs (weaker _ _ (λ j h. record { number = h.1; good = job_to j h.0 }) s.jobs jobs);
       pieces = all_flat IsPieceRow _ pieces_of job_pieces s.jobs jobs;
       success_waits = all_flat IsWaitRow _ waits_of wait_rows s.systems rows;
+      links = all_flat IsLinkRow _ links_of (link_rows s.next) s.links named;
+      taken = all_flat IsTakenRow _ taken_rows (taken_in_rows s.next last) s.links named;
       entries = mapped_all IsEntryRow entry_columns s.entries (weaker _ _ entry_row s.entries (by_recursion (λ (e : MapEntry). host_of e.bytes ≡ Ok e.host) s.entries good.hosts));
     }

@@ -10,16 +10,21 @@ use Rattle.uu_times.specs.declared.system.Line.{Line}
 use Rattle.uu_times.specs.Ranges.{AreRunsFrom}
 use Rattle.uu_core.specs.declared.job.JobHead.{JobHead}
 use Rattle.uu_core.specs.declared.system.SystemRow.{SystemRow}
-use Rattle.uu_core.specs.State.{State, Job, MapEntry, IsCall, IsDefinition, IsWellFormed, ComesBefore, head_of}
+use Rattle.uu_core.specs.State.{State, Job, MapEntry, Link, IsLink, IsCall, IsDefinition, IsWellFormed, ComesBefore, head_of}
 use Rattle.uu_tables.specs.declared.rows.RangeColumns.{RangeColumns}
 use Rattle.uu_tables.specs.declared.rows.WaitColumns.{WaitColumns}
-use Rattle.uu_tables.specs.Tables.{waits_from, waits_of, Piece, PlacedLine, tables_of, system_columns, line_columns, range_columns, placed, placed_from, ranges_of, pieces_of, piece_count, entry_columns}
-use Rattle.uu_tables.specs.Order.{line_cmp, range_cmp, piece_cmp}
+use Rattle.uu_core.specs.declared.custody.Taken.{Taken}
+use Rattle.uu_tables.specs.declared.rows.LinkColumns.{LinkColumns}
+use Rattle.uu_tables.specs.declared.rows.TakenColumns.{TakenColumns}
+use Rattle.uu_tables.proofs.SystemLemmas.{each_link}
+use Rattle.uu_tables.specs.Tables.{links_from, links_of, taken_columns, taken_rows, waits_from, waits_of, Piece, PlacedLine, tables_of, system_columns, line_columns, range_columns, placed, placed_from, ranges_of, pieces_of, piece_count, entry_columns}
+use Rattle.uu_tables.specs.Order.{line_cmp, range_cmp, piece_cmp, taken_cmp}
 use Rattle.uu_check.specs.Order.{AreInOrder}
 use Rattle.uu_check.proofs.Walks.{AllPairsByRecursion}
 use Rattle.uu_check.proofs.Lists.{by_recursion, pairs_by_place, pairs_by_recursion, weaker, weaker_pairs, both, flat_pairs, Across, mapped_pairs}
 use Rattle.uu_check.proofs.Cuts.{pieces_from, as_from}
 use Rattle.uu_check.proofs.Lines.{IsGoodLine}
+use Rattle.uu_check.proofs.LinkRows.{LinkBefore}
 use Rattle.uu_check.proofs.Verdict.{good_lines, all_flat}
 
 -- ---- comparisons
@@ -138,6 +143,34 @@ across_waits a b zero m before = tt
 across_waits a b (suc n) zero before = (tt, tt)
 across_waits a b (suc n) (suc m) before = ((before, tt), tt)
 
+-- ---- links, and what was taken by them
+
+abbrev RowBefore : LinkColumns → LinkColumns → Type 0
+RowBefore a b = ComesBefore a.system b.system
+
+own_link : (name : List ℕ) (n : ℕ) → AllPairsByRecursion RowBefore (links_from name n)
+own_link name zero = tt
+own_link name (suc n) = (tt, tt)
+
+across_links : (a b : List ℕ) (n m : ℕ) → ComesBefore a b → Across RowBefore (links_from a n) (links_from b m)
+across_links a b zero m before = tt
+across_links a b (suc n) zero before = (tt, tt)
+across_links a b (suc n) (suc m) before = ((before, tt), tt)
+
+abbrev TakenBefore : TakenColumns → TakenColumns → Type 0
+TakenBefore a b = taken_cmp a b ≡ Less
+
+own_taken : (name : List ℕ) (ts : List Taken) → AllPairsByRecursion (λ (a b : Taken). a.number < b.number) ts → AllPairsByRecursion TakenBefore (map (taken_columns name) ts)
+own_taken name ts rise = mapped_pairs TakenBefore (taken_columns name) ts (weaker_pairs (λ (a b : Taken). a.number < b.number) (λ a b. TakenBefore (taken_columns name a) (taken_columns name b)) (λ a b below. rw (same_name name) (lower a.number b.number below)) ts rise)
+
+across_taken : (a b : List ℕ) (ts us : List Taken) → ComesBefore a b → Across TakenBefore (map (taken_columns a) ts) (map (taken_columns b) us)
+across_taken a b [] us before = tt
+across_taken a b (t ∷ ts) us before = (each us, across_taken a b ts us before)
+  where
+    each : (us : List Taken) → AllByRecursion (TakenBefore (taken_columns a t)) (map (taken_columns b) us)
+    each [] = tt
+    each (u ∷ us) = (rw before refl, each us)
+
 -- ---- all of them
 
 pub in_order : (s : State) → IsWellFormed s → AreInOrder (tables_of s)
@@ -154,5 +187,7 @@ in_order s good =
       jobs = pairs_by_place _ (map head_of s.jobs) (mapped_pairs (λ (a b : JobHead). a.number < b.number) head_of s.jobs numbers);
       pieces = pairs_by_place _ (flat_map pieces_of s.jobs) (flat_pairs PieceBefore pieces_of (λ _. Unit {0}) (λ j g. subst (AllPairsByRecursion PieceBefore) (sym (as_pieces j)) (own_pieces j.number 0 _ j.bytes)) s.jobs (weaker _ _ (λ x h. tt) s.jobs (by_recursion (λ _. Unit {0}) s.jobs (λ k d inside. tt))) (weaker_pairs _ _ across_pieces s.jobs numbers));
       success_waits = pairs_by_place _ (flat_map waits_of s.systems) (flat_pairs WaitBefore waits_of (λ _. Unit {0}) (λ x g. own_wait x.def.name x.def.success_wait) s.systems (weaker _ _ (λ x h. tt) s.systems rows) (weaker_pairs _ _ (λ x y before. across_waits x.def.name y.def.name x.def.success_wait y.def.success_wait before) s.systems names));
+      links = pairs_by_place _ (flat_map links_of s.links) (flat_pairs RowBefore links_of IsLink (λ l g. own_link l.name l.below) s.links (by_recursion IsLink s.links good.links) (weaker_pairs LinkBefore _ (λ x y before. across_links x.name y.name x.below y.below before) s.links (pairs_by_recursion LinkBefore s.links good.by_link)));
+      taken = pairs_by_place _ (flat_map taken_rows s.links) (flat_pairs TakenBefore taken_rows IsLink (λ l g. own_taken l.name l.taken (pairs_by_recursion _ l.taken g.rising)) s.links (by_recursion IsLink s.links good.links) (weaker_pairs LinkBefore _ (λ x y before. across_taken x.name y.name x.taken y.taken before) s.links (pairs_by_recursion LinkBefore s.links good.by_link)));
       entries = pairs_by_place _ (map entry_columns s.entries) (mapped_pairs (λ a b. ComesBefore a.host b.host) entry_columns s.entries (pairs_by_recursion (λ (a b : MapEntry). ComesBefore a.host b.host) s.entries good.by_host));
     }

@@ -9,7 +9,7 @@ use Rattle.uu_times.specs.System.{HasRetry, most_success_wait}
 use Rattle.uu_times.specs.declared.system.Line.{Line}
 use Rattle.uu_core.specs.declared.job.JobHead.{JobHead}
 use Rattle.uu_core.specs.declared.system.SystemRow.{SystemRow}
-use Rattle.uu_core.specs.State.{State, Job, MapEntry, IsJob, IsLine, IsCall, IsDefinition, IsWellFormed, ComesBefore, head_of, same_text, numbers_end}
+use Rattle.uu_core.specs.State.{State, Job, MapEntry, Link, IsLink, IsJob, IsLine, IsCall, IsDefinition, IsWellFormed, ComesBefore, head_of, same_text, numbers_end}
 use Rattle.uu_tables.specs.declared.rows.SystemColumns.{SystemColumns}
 use Rattle.uu_tables.specs.declared.rows.EntryColumns.{EntryColumns}
 use Rattle.uu_tables.specs.declared.rows.WaitColumns.{WaitColumns}
@@ -21,7 +21,7 @@ use Rattle.uu_check.specs.Walk.{walk, rises}
 use Rattle.uu_check.specs.declared.spool.Rows.{Rows}
 use Rattle.uu_tables.specs.Tables.{Tables, Piece, PlacedLine, tables_of, size_of, system_columns, line_columns, entry_columns, placed, placed_from, ranges_of, waits_of, pieces_of}
 use Rattle.uu_check.specs.OfState.{AreTables, AreRowsOf}
-use Rattle.uu_check.specs.Tests.{is_spool, are_systems, are_jobs, is_below, is_known, job_before, system_before, owns_line, fits_system, owns_wait, fits_wait, owns_range, fits_line, owns_piece, fits_job, is_host, is_entry, entry_before, are_entries}
+use Rattle.uu_check.specs.Tests.{is_spool, are_systems, are_jobs, are_links, is_below, is_known, job_before, system_before, owns_line, fits_system, owns_wait, fits_wait, owns_range, fits_line, owns_piece, fits_job, is_host, is_entry, entry_before, are_entries}
 use Rattle.uu_check.proofs.Walks.{items_of, walked, walk_mapped, AllPairsByRecursion, Apart, all_append}
 use Rattle.uu_check.proofs.Lists.{by_place, by_recursion, pairs_by_place, pairs_by_recursion, weaker, weaker_pairs, both, unflat, flat_pairs, risen, does_rise}
 use Rattle.uu_check.proofs.Meanings.{le_from, le_to, lt_from, lt_to, less_is, eq_not, eq_to, text_to, text_from, text_not}
@@ -29,6 +29,7 @@ use Rattle.uu_check.proofs.Heads as job
 use Rattle.uu_check.proofs.Lines as line
 use Rattle.uu_check.proofs.Callers as system
 use Rattle.uu_check.proofs.Waits as wait
+use Rattle.uu_check.proofs.LinkRows as link
 
 -- ---- tests of each
 
@@ -239,19 +240,22 @@ entries_to entries hosts rise = rw (does_rise entry_columns entry_before HostBef
 -- ---- the whole
 
 abbrev pub passes : Tables → Bool
-passes t = is_spool t.next t.systems t.lines t.ranges t.success_waits t.jobs (map size_of t.pieces) t.entries
+passes t = is_spool t.next t.systems t.lines t.ranges t.success_waits t.jobs (map size_of t.pieces) t.entries t.links t.taken
 
 pub tables_from : (t : Tables) → passes t ≡ true → AreTables t
 tables_from t h =
     let d = and_parts _ _ h in
-    let c = and_parts _ _ d.0 in
+    let f = and_parts _ _ d.0 in
+    let c = and_parts _ _ f.0 in
     let b = and_parts _ _ c.0 in
     let a = and_parts _ _ b.0 in
     let s = systems_from t.systems t.lines t.ranges t.success_waits b.1 in
     let j = jobs_from t.next s.items t.jobs t.pieces (ap (λ l. are_jobs t.next l t.jobs (map size_of t.pieces)) s.systems_are ∙ c.1) in
+    let rises_systems = and_parts _ _ (and_parts _ _ (and_parts _ _ b.1).0).0 in
+    let l = link.links_from_rows t.next s.items t.links t.taken (ap (rises system_before) s.systems_are ∙ rises_systems.0) (ap (λ rows. are_links t.next rows t.links t.taken) s.systems_are ∙ f.1) in
     let e = entries_from t.entries d.1 in
     record {
-      state = record { jobs = j.items; systems = s.items; entries = e.items; next = t.next };
+      state = record { jobs = j.items; systems = s.items; entries = e.items; next = t.next; links = l.items };
       good = record {
         some_next = le_from _ _ a.0;
         next = le_from _ _ a.1;
@@ -264,8 +268,12 @@ tables_from t h =
         by_name = pairs_by_place Before s.items s.rise;
         hosts = by_place Names e.items e.hosts;
         by_host = pairs_by_place HostBefore e.items e.rise;
+        links = by_place IsLink l.items l.good;
+        linked = by_place (λ (k : Link). IsTrue (knows s.items k.name)) l.items l.known;
+        taken = by_place _ l.items l.given;
+        by_link = pairs_by_place link.LinkBefore l.items l.rise;
       };
-      same = λ i. record { next = t.next; systems = s.systems_are i; lines = s.lines_are i; ranges = s.ranges_are i; jobs = j.heads_are i; pieces = j.pieces_are i; entries = e.rows_are i; success_waits = s.waits_are i };
+      same = λ i. record { next = t.next; systems = s.systems_are i; lines = s.lines_are i; ranges = s.ranges_are i; jobs = j.heads_are i; pieces = j.pieces_are i; entries = e.rows_are i; success_waits = s.waits_are i; links = l.links_are i; taken = l.taken_are i };
     }
 
 pub tables_to : (s : State) → IsWellFormed s → passes (tables_of s) ≡ true
@@ -273,16 +281,18 @@ tables_to s good =
     let both_good = both (λ (row : SystemRow). IsDefinition row.def) (λ (row : SystemRow). IsCall row.call) (λ (row : SystemRow). IsDefinition row.def × IsCall row.call) (λ row h k. (h, k)) s.systems (by_recursion _ s.systems good.definitions) (by_recursion _ s.systems good.calls) in
     let systems = systems_to s.systems both_good (pairs_by_recursion Before s.systems good.by_name) in
     let jobs = jobs_to s.next s.systems s.jobs (by_recursion IsJob s.jobs good.jobs) (pairs_by_recursion Lower s.jobs good.rising) (by_recursion (λ (j : Job). j.number < s.next) s.jobs good.below_next) (by_recursion (λ (j : Job). IsTrue (knows s.systems j.system)) s.jobs good.placed) in
+    let links = link.links_to_rows s.next s.systems s.links (pairs_by_recursion Before s.systems good.by_name) (pairs_by_recursion link.LinkBefore s.links good.by_link) (by_recursion (λ (k : Link). IsTrue (knows s.systems k.name)) s.links good.linked) (by_recursion IsLink s.links good.links)
+    (weaker _ _ (λ (k : Link) h. by_recursion _ k.taken h) s.links (by_recursion _ s.links good.taken)) in
     let entries = entries_to s.entries (by_recursion Names s.entries good.hosts) (pairs_by_recursion HostBefore s.entries good.by_host) in
-    rw (le_to 1 s.next good.some_next, le_to s.next numbers_end good.next, systems, jobs, entries) refl
+    rw (le_to 1 s.next good.some_next, le_to s.next numbers_end good.next, systems, jobs, links, entries) refl
 
 pub passes_to : (t : Tables) → AreTables t → passes t ≡ true
 passes_to t it = ap passes (sym it.same) ∙ tables_to it.state it.good
 
-pub same_test : (rows : Rows) (t : Tables) → AreRowsOf rows t → is_spool rows.next rows.systems.now rows.lines.now rows.ranges.now rows.success_waits.now rows.jobs.now rows.pieces.now rows.entries.now ≡ passes t
-same_test rows t h = λ i. is_spool (h.next i) (h.systems i) (h.lines i) (h.ranges i) (h.success_waits i) (h.jobs i) (h.pieces i) (h.entries i)
+pub same_test : (rows : Rows) (t : Tables) → AreRowsOf rows t → is_spool rows.next rows.systems.now rows.lines.now rows.ranges.now rows.success_waits.now rows.jobs.now rows.pieces.now rows.entries.now rows.links.now rows.taken.now ≡ passes t
+same_test rows t h = λ i. is_spool (h.next i) (h.systems i) (h.lines i) (h.ranges i) (h.success_waits i) (h.jobs i) (h.pieces i) (h.entries i) (h.links i) (h.taken i)
 
 pub told : {E : Type 0} (r : Result Bool E) (rows : Rows) (t : Tables) → AreRowsOf rows t
-    → IfOk r (λ good. good ≡ is_spool rows.next rows.systems.now rows.lines.now rows.ranges.now rows.success_waits.now rows.jobs.now rows.pieces.now rows.entries.now) → IfOk r (λ good. (good ≡ true) ↔ AreTables t)
+    → IfOk r (λ good. good ≡ is_spool rows.next rows.systems.now rows.lines.now rows.ranges.now rows.success_waits.now rows.jobs.now rows.pieces.now rows.entries.now rows.links.now rows.taken.now) → IfOk r (λ good. (good ≡ true) ↔ AreTables t)
 told (Ok good) rows t are h = let same = h ∙ same_test rows t are in (λ yes. tables_from t (sym same ∙ yes), λ it. same ∙ passes_to t it)
 told (Err fault) rows t are h = tt

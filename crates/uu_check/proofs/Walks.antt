@@ -16,7 +16,7 @@ take_drop zero xs = refl
 take_drop (suc n) [] = refl
 take_drop (suc n) (x ∷ xs) = ap (λ l. x ∷ l) (take_drop n xs)
 
-is_nil : {X : Type 0} (xs : List X) → (length xs == 0) ≡ true → xs ≡ []
+pub is_nil : {X : Type 0} (xs : List X) → (length xs == 0) ≡ true → xs ≡ []
 is_nil [] h = refl
 is_nil (x ∷ xs) h = absurd (let e : length (x ∷ xs) ≡ 0 = grind (arith, nat_tests, h) in omega (arith, e))
 
@@ -117,3 +117,31 @@ walk_mapped owns fits f (p ∷ ps) cs =
     drop_of f zero cs = refl
     drop_of f (suc n) [] = refl
     drop_of f (suc n) (c ∷ cs) = drop_of f n cs
+
+-- Items with the same rows, each told by its own row and by those that belong to it.
+module _ {X P C : Type 0} (owns : P → C → Bool) (fits : P → List C → Bool) (head : X → P) (kids : X → List C) (Good : X → Type 0) where
+  abbrev Others : X → X → Type 0
+  Others = Apart owns fits head kids Good
+
+  module _ (own : (x : X) → AllByRecursion (λ c. owns (head x) c ≡ true) (kids x)) (one : (x y : X) → head x ≡ head y → kids x ≡ kids y → x ≡ y) where
+    count : (x : X) (xs : List X) → AllByRecursion (Others x) xs → prefix_len (owns (head x)) (kids x ++ flat_map kids xs) ≡ length (kids x)
+    count x xs none = own_front (owns (head x)) (kids x) (flat_map kids xs) (own x) (all_flat _ kids xs none)
+
+    first : (x : X) (xs : List X) → AllByRecursion (Others x) xs → take (prefix_len (owns (head x)) (kids x ++ flat_map kids xs)) (kids x ++ flat_map kids xs) ≡ kids x
+    first x xs none = ap (λ n. take n (kids x ++ flat_map kids xs)) (count x xs none) ∙ take_front (kids x) (flat_map kids xs)
+
+    rest : (x : X) (xs : List X) → AllByRecursion (Others x) xs → drop (prefix_len (owns (head x)) (kids x ++ flat_map kids xs)) (kids x ++ flat_map kids xs) ≡ flat_map kids xs
+    rest x xs none = ap (λ n. drop n (kids x ++ flat_map kids xs)) (count x xs none) ∙ drop_front (kids x) (flat_map kids xs)
+
+    pub same_items : (xs ys : List X) → AllPairsByRecursion Others xs → AllPairsByRecursion Others ys → map head xs ≡ map head ys → flat_map kids xs ≡ flat_map kids ys → xs ≡ ys
+    same_items [] [] up vp heads children = refl
+    same_items [] (y ∷ ys) up vp heads children = absurd (cc)
+    same_items (x ∷ xs) [] up vp heads children = absurd (cc)
+    same_items (x ∷ xs) (y ∷ ys) up vp heads children =
+        let row : head x ≡ head y = cc in
+        let rows : map head xs ≡ map head ys = cc in
+        let mine : kids x ≡ kids y = sym (first x xs up.0) ∙ (λ i. take (prefix_len (owns (row i)) (children i)) (children i)) ∙ first y ys vp.0 in
+        let others : flat_map kids xs ≡ flat_map kids ys = sym (rest x xs up.0) ∙ (λ i. drop (prefix_len (owns (row i)) (children i)) (children i)) ∙ rest y ys vp.0 in
+        let same = one x y row mine in
+        let more = same_items xs ys up.1 vp.1 rows others in
+        λ i. same i ∷ more i

@@ -20,3 +20,5 @@ pub record AreRowsOf (rows : Rows) (t : Tables) : Type 0 where
   pub pieces : rows.pieces.now ≡ map size_of t.pieces
   pub entries : rows.entries.now ≡ t.entries
   pub success_waits : rows.success_waits.now ≡ t.success_waits
+  pub links : rows.links.now ≡ t.links
+  pub taken : rows.taken.now ≡ t.taken

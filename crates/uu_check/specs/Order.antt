@@ -4,7 +4,7 @@ use Rattle.std.specs.Prelude.{◌≡◌, ◌<◌, AllPairs}
 use Rattle.std.specs.declared.cmp.Ordering.TheVariants.{Less}
 use Rattle.uu_core.specs.State.{ComesBefore}
 use Rattle.uu_core.specs.declared.job.JobHead.{JobHead}
-use Rattle.uu_tables.specs.Order.{line_cmp, range_cmp, piece_cmp}
+use Rattle.uu_tables.specs.Order.{line_cmp, range_cmp, piece_cmp, taken_cmp}
 use Rattle.uu_tables.specs.Tables.{Tables}
 
 pub record AreInOrder (t : Tables) : Type 0 where
@@ -15,3 +15,5 @@ pub record AreInOrder (t : Tables) : Type 0 where
   pub pieces : AllPairs (λ a b. piece_cmp a b ≡ Less) t.pieces
   pub entries : AllPairs (λ a b. ComesBefore a.host b.host) t.entries
   pub success_waits : AllPairs (λ a b. ComesBefore a.system b.system) t.success_waits
+  pub links : AllPairs (λ a b. ComesBefore a.system b.system) t.links
+  pub taken : AllPairs (λ a b. taken_cmp a b ≡ Less) t.taken

@@ -7,12 +7,15 @@ use Rattle.uu_times.specs.Ranges.{week_minutes}
 use Rattle.uu_times.specs.System.{IsRetry, most_lines, most_retries, most_success_wait}
 use Rattle.uu_map.specs.Text.{most_entry}
 use Rattle.uu_core.specs.declared.job.JobHead.{JobHead}
+use Rattle.uu_core.specs.Marks.{marks_end}
 use Rattle.uu_core.specs.State.{last_second, most_failures, most_wait, numbers_end}
 use Rattle.uu_tables.specs.declared.rows.SystemColumns.{SystemColumns}
 use Rattle.uu_tables.specs.declared.rows.LineColumns.{LineColumns}
 use Rattle.uu_tables.specs.declared.rows.RangeColumns.{RangeColumns}
 use Rattle.uu_tables.specs.declared.rows.EntryColumns.{EntryColumns}
 use Rattle.uu_tables.specs.declared.rows.WaitColumns.{WaitColumns}
+use Rattle.uu_tables.specs.declared.rows.LinkColumns.{LinkColumns}
+use Rattle.uu_tables.specs.declared.rows.TakenColumns.{TakenColumns}
 use Rattle.uu_tables.specs.Tables.{Tables, Piece, piece_bytes, most_pieces}
 use Rattle.uu_check.specs.Tests.{is_head}
 
@@ -54,6 +57,16 @@ pub record IsWaitRow (w : WaitColumns) : Type 0 where
   pub system : IsTrue (is_site_name w.system)
   pub wait : w.wait ≤ most_success_wait
 
+pub record IsLinkRow (l : LinkColumns) : Type 0 where
+  pub system : IsTrue (is_site_name l.system)
+  pub below : l.below ≤ numbers_end
+
+pub record IsTakenRow (t : TakenColumns) : Type 0 where
+  pub system : IsTrue (is_site_name t.system)
+  pub number : t.taken.number ≤ numbers_end
+  pub mark : t.taken.mark < marks_end
+  pub job : t.taken.job < numbers_end
+
 pub record AreReadable (t : Tables) : Type 0 where
   pub next : t.next ≤ numbers_end
   pub systems : AllByRecursion IsSystemRow t.systems
@@ -63,3 +76,5 @@ pub record AreReadable (t : Tables) : Type 0 where
   pub pieces : AllByRecursion IsPieceRow t.pieces
   pub entries : AllByRecursion IsEntryRow t.entries
   pub success_waits : AllByRecursion IsWaitRow t.success_waits
+  pub links : AllByRecursion IsLinkRow t.links
+  pub taken : AllByRecursion IsTakenRow t.taken

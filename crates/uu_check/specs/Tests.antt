@@ -1,5 +1,5 @@
 -- What is asked of the rows, one after the other.
-use Rattle.std.specs.Prelude.{ℕ, ◌+◌, ◌-◌, min, Bool, true, false, ◌&&◌, ◌||◌, ◌==◌, nat_le, nat_lt, List, [], ◌∷◌, length, Option, None, Some, Result, Ok, Err}
+use Rattle.std.specs.Prelude.{ℕ, ◌+◌, ◌-◌, min, Bool, true, false, not, ◌&&◌, ◌||◌, ◌==◌, nat_le, nat_lt, List, [], ◌∷◌, length, Option, None, Some, Result, Ok, Err}
 use Rattle.std.specs.List.{list_all, list_any}
 use Rattle.std.specs.Ordering.{is_lt, nat_cmp}
 use Rattle.std.specs.Cmp.Lexicographic.{slice_cmp}
@@ -10,6 +10,7 @@ use Rattle.uu_times.specs.System.{most_lines, most_retry_minutes, most_retries, 
 use Rattle.uu_core.specs.declared.job.Kind.{Kind}
 use Rattle.uu_core.specs.declared.job.Kind.TheVariants.{Send, Request, Execute}
 use Rattle.uu_core.specs.declared.job.JobHead.{JobHead}
+use Rattle.uu_core.specs.Marks.{marks_end}
 use Rattle.uu_core.specs.State.{same_text, last_second, most_bytes, most_arguments, most_failures, most_wait, numbers_end}
 use Rattle.uu_tables.specs.declared.rows.SystemColumns.{SystemColumns}
 use Rattle.uu_tables.specs.declared.rows.LineColumns.{LineColumns}
@@ -17,6 +18,8 @@ use Rattle.uu_tables.specs.declared.rows.RangeColumns.{RangeColumns}
 use Rattle.uu_tables.specs.declared.rows.PieceSize.{PieceSize}
 use Rattle.uu_tables.specs.declared.rows.EntryColumns.{EntryColumns}
 use Rattle.uu_tables.specs.declared.rows.WaitColumns.{WaitColumns}
+use Rattle.uu_tables.specs.declared.rows.LinkColumns.{LinkColumns}
+use Rattle.uu_tables.specs.declared.rows.TakenColumns.{TakenColumns}
 use Rattle.uu_map.specs.declared.fault.MapFault.{MapFault}
 use Rattle.uu_map.specs.Text.{host_of}
 use Rattle.uu_tables.specs.Tables.{piece_bytes}
@@ -101,6 +104,38 @@ fits_wait s (w ∷ other ∷ more) = false
 abbrev pub system_before : SystemColumns → SystemColumns → Bool
 system_before a b = is_lt (slice_cmp nat_cmp a.name b.name)
 
+-- ---- systems, and the links of those that hand on jobs
+
+abbrev pub owns_link : SystemColumns → LinkColumns → Bool
+owns_link s l = same_text s.name l.system
+
+-- at most one, and none of 0
+abbrev pub fits_link : SystemColumns → List LinkColumns → Bool
+fits_link s [] = true
+fits_link s (l ∷ []) = nat_le 1 l.below && nat_le l.below numbers_end
+fits_link s (l ∷ other ∷ more) = false
+
+abbrev pub owns_taken : SystemColumns → TakenColumns → Bool
+owns_taken s t = same_text s.name t.system
+
+abbrev pub taken_before : TakenColumns → TakenColumns → Bool
+taken_before a b = nat_lt a.taken.number b.taken.number
+
+-- what was taken from one stands by the numbers there
+abbrev pub fits_taken : SystemColumns → List TakenColumns → Bool
+fits_taken s ts = rises taken_before ts
+
+-- the number here was given, and the key is one
+abbrev pub is_given : ℕ → TakenColumns → Bool
+is_given next t = nat_lt t.taken.job next && nat_le t.taken.number numbers_end && nat_lt t.taken.mark marks_end
+
+-- the neighbour may still ask for its number
+abbrev pub is_late : List LinkColumns → TakenColumns → Bool
+is_late links t = list_all (λ (l : LinkColumns). not (same_text l.system t.system) || nat_le l.below t.taken.number) links
+
+abbrev pub are_links : ℕ → List SystemColumns → List LinkColumns → List TakenColumns → Bool
+are_links next systems links taken = walk owns_link fits_link systems links && walk owns_taken fits_taken systems taken && list_all (is_given next) taken && list_all (is_late links) taken
+
 -- ---- entries
 
 abbrev pub is_host : Result (List ℕ) MapFault → List ℕ → Bool
@@ -128,5 +163,6 @@ are_systems systems lines ranges waits = rises system_before systems && walk own
 abbrev pub are_jobs : ℕ → List SystemColumns → List JobHead → List PieceSize → Bool
 are_jobs next systems jobs pieces = rises job_before jobs && list_all (is_below next) jobs && list_all (is_known systems) jobs && walk owns_piece fits_job jobs pieces
 
-abbrev pub is_spool : ℕ → List SystemColumns → List LineColumns → List RangeColumns → List WaitColumns → List JobHead → List PieceSize → List EntryColumns → Bool
-is_spool next systems lines ranges waits jobs pieces entries = nat_le 1 next && nat_le next numbers_end && are_systems systems lines ranges waits && are_jobs next systems jobs pieces && are_entries entries
+abbrev pub is_spool : ℕ → List SystemColumns → List LineColumns → List RangeColumns → List WaitColumns → List JobHead → List PieceSize → List EntryColumns → List LinkColumns → List TakenColumns → Bool
+is_spool next systems lines ranges waits jobs pieces entries links taken =
+    nat_le 1 next && nat_le next numbers_end && are_systems systems lines ranges waits && are_jobs next systems jobs pieces && are_links next systems links taken && are_entries entries

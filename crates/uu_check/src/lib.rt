@@ -1,10 +1,11 @@
-//! Which rows of the eight tables are those of a state of the spool: what is asked of a database
+//! Which rows of the ten tables are those of a state of the spool: what is asked of a database
 //! before it is taken as one.
 #![tactic(auto)]
 
 mod entries;
 mod jobs;
 pub mod laws;
+mod links;
 mod spool;
 mod systems;
 mod walk;

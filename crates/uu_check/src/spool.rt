@@ -4,15 +4,19 @@ ghost use Rattle.std.specs.List.{list_all};
 ghost use Rattle.uu_core.specs.State.{numbers_end};
 ghost use Rattle.uu_tables.specs.Tables.{Tables};
 ghost use Rattle.uu_check.specs.OfState.{AreTables, AreRowsOf};
-ghost use Rattle.uu_check.specs.Tests.{is_below, is_known, is_spool, are_systems, are_jobs, system_before};
+ghost use Rattle.uu_check.specs.Tests.{is_below, is_known, is_spool, are_systems, are_jobs, are_links, system_before};
 ghost use Rattle.uu_check.specs.Walk.{rises};
 
 use crate::entries::are_entries;
+use crate::links::are_links;
 use crate::walk::{rise, walk_owners};
 use std::alloc::{AllocError, Global};
 use uu_core::JobHead;
 use uu_core::limits::NUMBERS_END;
-use uu_tables::{EntryColumns, LineColumns, PieceSize, RangeColumns, SystemColumns, WaitColumns};
+use uu_tables::{
+    EntryColumns, LineColumns, LinkColumns, PieceSize, RangeColumns, SystemColumns, TakenColumns,
+    WaitColumns,
+};
 
 fn are_below(next: u32, jobs: &[JobHead]) -> bool
     ensures { result ≡ list_all (is_below next) jobs.now }
@@ -82,19 +86,24 @@ pub struct Rows<'a> {
     pub entries: &'a [EntryColumns],
     /// The success waits of the systems.
     pub success_waits: &'a [WaitColumns],
+    /// The links of the systems.
+    pub links: &'a [LinkColumns],
+    /// What was taken by them.
+    pub taken: &'a [TakenColumns],
 }
 
 fn tested(rows: &Rows<'_>) -> bool
-    ensures { result ≡ (nat_le 1 rows.now.next && nat_le rows.now.next numbers_end && are_systems rows.now.systems.now rows.now.lines.now rows.now.ranges.now rows.now.success_waits.now && are_jobs rows.now.next rows.now.systems.now rows.now.jobs.now rows.now.pieces.now) }
+    ensures { result ≡ (nat_le 1 rows.now.next && nat_le rows.now.next numbers_end && are_systems rows.now.systems.now rows.now.lines.now rows.now.ranges.now rows.now.success_waits.now && are_jobs rows.now.next rows.now.systems.now rows.now.jobs.now rows.now.pieces.now && are_links rows.now.next rows.now.systems.now rows.now.links.now rows.now.taken.now) }
 {
     rows.next >= 1
         && rows.next <= NUMBERS_END
         && are_systems(rows.systems, rows.lines, rows.ranges, rows.success_waits)
         && are_jobs(rows.next, rows.systems, rows.jobs, rows.pieces)
+        && are_links(rows.next, rows.systems, rows.links, rows.taken)
 }
 
 fn pass(alloc: Global, rows: &Rows<'_>) -> Result<bool, AllocError>
-    ensures { IfOk result (λ good. good ≡ is_spool rows.now.next rows.now.systems.now rows.now.lines.now rows.now.ranges.now rows.now.success_waits.now rows.now.jobs.now rows.now.pieces.now rows.now.entries.now) }
+    ensures { IfOk result (λ good. good ≡ is_spool rows.now.next rows.now.systems.now rows.now.lines.now rows.now.ranges.now rows.now.success_waits.now rows.now.jobs.now rows.now.pieces.now rows.now.entries.now rows.now.links.now rows.now.taken.now) }
 {
     if tested(rows) {
         are_entries(alloc, rows.entries)

@@ -2,14 +2,18 @@
 use Rattle.std.proofs.Common.{◌≡◌, ℕ, Bool, true, false, not, cond, List, [], ◌∷◌, map, Contains, All, Option, Some, None, refl, ap, sym, subst, ◌∙◌, inl, inr, ◌⊎◌}
 use Rattle.std.proofs.lemmas.List.Elements.{Contains-append_left, Contains-append_right, Contains-push_cases, All-head, All-tail}
 use Rattle.uu_core.specs.declared.command.Command.{Command}
-use Rattle.uu_core.specs.declared.command.Command.TheVariants.{Define, Remove, Queue, Kill, Regrade, Rejuvenate, Failed, Done, Entry}
+use Rattle.uu_core.specs.declared.command.Command.TheVariants.{Define, Remove, Queue, QueueOnce, Kill, Regrade, Rejuvenate, Failed, Done, Entry, Forget}
 use Rattle.uu_core.specs.declared.refusal.Refusal.{Refusal}
+use Rattle.uu_core.specs.declared.custody.HandIn.{HandIn}
+use Rattle.uu_core.specs.declared.custody.HandIn.TheVariants.{First, Again}
+use Rattle.uu_core.specs.declared.custody.Key.{Key}
 use Rattle.uu_core.specs.declared.job.NewJob.{NewJob}
 use Rattle.uu_core.specs.State.{State, Job, is_job}
-use Rattle.uu_core.specs.Verdict.{verdict}
-use Rattle.uu_core.specs.After.{after, after_verdict, accept, change_job, job_of, is_among}
+use Rattle.uu_core.specs.Verdict.{verdict, taken_of}
+use Rattle.uu_core.specs.After.{after, after_verdict, accept, hand_in, take_in, with_job, change_job, job_of, is_among}
 use Rattle.uu_core.specs.Run.{state_after}
-use Rattle.uu_core.specs.Laws.{accepted_of, unless_refused, lets_go, IsSameJob, IsAmong, IsHandedIn, IsOfRun}
+use Rattle.uu_core.specs.Laws.{accepted_of, unless_refused, lets_go, IsSameJob, IsAmong, IsHandedIn, IsOfRun, handed_by, is_repeat}
+use Rattle.uu_core.proofs.KeyLemmas.{by_hand_in, first_where}
 use Rattle.uu_core.proofs.Members.{first_of, kept, from_filter, mapped, from_map}
 
 same_job : (job : Job) → IsSameJob job job
@@ -34,6 +38,10 @@ stays_changed jobs number change job little h = by-test (is_job number job) refl
         ap-there : f job ≡ job → Contains (map f jobs) (f job) → Contains (map f jobs) job
         ap-there q c = rw q at c
 
+stays_added : (state : State) (key : Key) (new : NewJob) (job : Job) (comes : HandIn) → Contains state.jobs job → IsAmong (take_in comes key new state).jobs job
+stays_added state key new job (First number) h = itself _ job (Contains-append_left state.jobs (job_of state.next new ∷ []) job h)
+stays_added state key new job (Again number) h = itself state.jobs job h
+
 not-true : (t : Bool) → t ≡ false → not t ≡ true
 not-true t e = rw e
 
@@ -41,12 +49,14 @@ pub stays-accept : (state : State) (command : Command) (job : Job) → Contains 
 stays-accept state (Define def) job h e = itself state.jobs job h
 stays-accept state (Remove name) job h e = itself state.jobs job h
 stays-accept state (Queue new) job h e = itself _ job (Contains-append_left state.jobs (job_of state.next new ∷ []) job h)
+stays-accept state (QueueOnce key new) job h e = stays_added state key new job (hand_in state key) h
 stays-accept state (Kill number by) job h e = itself _ job (kept (λ other. not (is_job number other)) state.jobs job h (not-true (is_job number job) e))
 stays-accept state (Regrade number grade by) job h e = stays_changed state.jobs number (λ other. record other { grade = grade }) job (λ j. record { number = refl; system = refl; user = refl; kind = refl; bytes = refl }) h
 stays-accept state (Rejuvenate number at by) job h e = stays_changed state.jobs number (λ other. record other { queued = at.second }) job (λ j. record { number = refl; system = refl; user = refl; kind = refl; bytes = refl }) h
 stays-accept state (Failed system at why) job h e = itself state.jobs job h
 stays-accept state (Done system at jobs) job h e = itself _ job (kept (λ j. not (is_among jobs j)) state.jobs job h (not-true (is_among jobs job) e))
 stays-accept state (Entry bytes) job h e = itself state.jobs job h
+stays-accept state (Forget system below) job h e = itself state.jobs job h
 
 pub stays : (state : State) (command : Command) (job : Job) → Contains state.jobs job → lets_go command job.number ≡ false → IsAmong (after state command).0.jobs job
 stays state command job h e = by-verdict (verdict state command)
@@ -69,19 +79,28 @@ was_changed jobs number change later little h =
     by-test {job} true e = rw (← e) (little job)
     by-test {job} false e = rw (← e) (same_job job)
 
+-- one that was added is the new one
+was_added : (state : State) (new : NewJob) (command : Command) (later : Job) → handed_by command ≡ Some new → is_repeat state command ≡ false → verdict state command ≡ None → Contains (with_job new state).jobs later → IsAmong state.jobs later ⊎ IsHandedIn state command later
+was_added state new command later is first e h = elim (Contains-push_cases state.jobs (job_of state.next new) later h) [
+  | inl there ↦ inl (itself state.jobs later there)
+  | inr same ↦ inr (record { new = new; command_is = is; accepted = e; first = first; job_is = sym same })
+]
+
 pub handed_in-accept : (state : State) (command : Command) (later : Job) → verdict state command ≡ None → Contains (accept state command).jobs later → IsAmong state.jobs later ⊎ IsHandedIn state command later
 handed_in-accept state (Define def) later e h = inl (itself state.jobs later h)
 handed_in-accept state (Remove name) later e h = inl (itself state.jobs later h)
-handed_in-accept state (Queue new) later e h = elim (Contains-push_cases state.jobs (job_of state.next new) later h) [
-  | inl there ↦ inl (itself state.jobs later there)
-  | inr same ↦ inr (record { new = new; command_is = refl; accepted = e; job_is = sym same })
-]
+handed_in-accept state (Queue new) later e h = was_added state new (Queue new) later refl refl e h
+handed_in-accept state (QueueOnce key new) later e h = by_hand_in P (taken_of state key) key state.next (λ first h. was_added state new (QueueOnce key new) later refl first e h) (λ row is same repeat h. inl (itself state.jobs later h)) refl h
+  where
+    P : Bool → HandIn → Type 0
+    P again comes = is_repeat state (QueueOnce key new) ≡ again → Contains (take_in comes key new state).jobs later → IsAmong state.jobs later ⊎ IsHandedIn state (QueueOnce key new) later
 handed_in-accept state (Kill number by) later e h = inl (itself state.jobs later (from_filter (λ other. not (is_job number other)) state.jobs later h).0)
 handed_in-accept state (Regrade number grade by) later e h = inl (was_changed state.jobs number (λ other. record other { grade = grade }) later (λ j. record { number = refl; system = refl; user = refl; kind = refl; bytes = refl }) h)
 handed_in-accept state (Rejuvenate number at by) later e h = inl (was_changed state.jobs number (λ other. record other { queued = at.second }) later (λ j. record { number = refl; system = refl; user = refl; kind = refl; bytes = refl }) h)
 handed_in-accept state (Failed system at why) later e h = inl (itself state.jobs later h)
 handed_in-accept state (Done system at jobs) later e h = inl (itself state.jobs later (from_filter (λ j. not (is_among jobs j)) state.jobs later h).0)
 handed_in-accept state (Entry bytes) later e h = inl (itself state.jobs later h)
+handed_in-accept state (Forget system below) later e h = inl (itself state.jobs later h)
 
 pub handed_in : (state : State) (command : Command) (later : Job) → Contains (after state command).0.jobs later → IsAmong state.jobs later ⊎ IsHandedIn state command later
 handed_in state command later h = by-verdict (verdict state command) refl h
@@ -115,11 +134,12 @@ earlier state command commands last among = elim (handed_in state command among.
   | inl before ↦ inl (record { later = before.later; there = before.there; same = same_later last among.later before.later among.same before.same })
   | inr made ↦ inr (record {
     before = [];
-    new = made.new;
+    command = command;
     behind = commands;
-    run_is = ap (λ c. c ∷ commands) made.command_is;
-    accepted = made.accepted;
-    same = subst (λ j. IsSameJob j last) made.job_is (back last among.later among.same);
+    run_is = refl;
+    job = among.later;
+    made = made;
+    same = back last among.later among.same;
   })
 ]
 
@@ -129,13 +149,19 @@ handed_in-run state (command ∷ commands) last h = elim (handed_in-run (after s
   | inl among ↦ earlier state command commands last among
   | inr made ↦ inr (record {
     before = command ∷ made.before;
-    new = made.new;
+    command = made.command;
     behind = made.behind;
     run_is = ap (λ rest. command ∷ rest) made.run_is;
-    accepted = made.accepted;
+    job = made.job;
+    made = made.made;
     same = made.same;
   })
 ]
 
 pub queued : (state : State) (job : NewJob) → verdict state (Queue job) ≡ None → Contains (after state (Queue job)).0.jobs (job_of state.next job)
 queued state job e = subst (λ (s : State). Contains s.jobs (job_of state.next job)) (sym (ap (λ v. (after_verdict v state (Queue job)).0) e)) (Contains-append_right state.jobs (job_of state.next job ∷ []) (job_of state.next job) (first_of (job_of state.next job) []))
+
+pub queued_once : (state : State) (key : Key) (job : NewJob) → verdict state (QueueOnce key job) ≡ None → is_repeat state (QueueOnce key job) ≡ false → Contains (after state (QueueOnce key job)).0.jobs (job_of state.next job)
+queued_once state key job e first =
+    subst (λ (s : State). Contains s.jobs (job_of state.next job)) (sym (ap (λ v. (after_verdict v state (QueueOnce key job)).0) e ∙ ap (λ comes. take_in comes key job state) (first_where (taken_of state key) key state.next first)))
+    (Contains-append_right state.jobs (job_of state.next job ∷ []) (job_of state.next job) (first_of (job_of state.next job) []))

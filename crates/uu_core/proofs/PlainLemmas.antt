@@ -1,5 +1,5 @@
 -- What the plain machine does to its lists.
-use Rattle.std.proofs.Common.{◌≡◌, ℕ, zero, suc, ◌+◌, ◌-◌, ◌<◌, ◌≤◌, Bool, true, false, not, cond, ◌==◌, ◌||◌, List, [], ◌∷◌, ◌++◌, map, filter, find, length, take, drop, set, All, AllPairs, Option, Some, None, Result, Ok, Err, get_or, nat_cmp, nat_eq, is_err, OnErr, refl, ap, sym, ◌∙◌, subst, arith, is_some}
+use Rattle.std.proofs.Common.{◌≡◌, ℕ, zero, suc, ◌+◌, ◌-◌, ◌<◌, ◌≤◌, Bool, true, false, not, cond, ◌==◌, ◌||◌, List, [], ◌∷◌, ◌++◌, map, filter, find, length, take, drop, set, All, AllPairs, Option, Some, None, Result, Ok, Err, get_or, nat_cmp, nat_eq, is_err, OnErr, MatchResult, refl, ap, sym, ◌∙◌, subst, arith, is_some}
 use Rattle.std.specs.declared.cmp.Ordering.TheVariants.{Less, Equal, Greater}
 use Rattle.std.specs.declared.cmp.Ordering.{Ordering}
 use Rattle.std.specs.Ordering.{is_lt, ordering_reverse}
@@ -17,24 +17,29 @@ use Rattle.std.proofs.lemmas.List.{length-map}
 use Rattle.uu_map.specs.Text.{host_of}
 use Rattle.uu_times.specs.declared.moment.Moment.{Moment}
 use Rattle.uu_core.specs.declared.job.JobHead.{JobHead}
+use Rattle.uu_core.specs.declared.custody.HandIn.{HandIn}
+use Rattle.uu_core.specs.declared.custody.HandIn.TheVariants.{First, Again}
+use Rattle.uu_core.specs.declared.custody.Key.{Key}
+use Rattle.uu_core.specs.declared.custody.Taken.{Taken}
 use Rattle.uu_core.specs.declared.job.NewJob.{NewJob}
 use Rattle.uu_core.specs.declared.command.Command.{Command}
-use Rattle.uu_core.specs.declared.command.Command.TheVariants.{Define, Remove, Queue, Kill, Regrade, Rejuvenate, Failed, Done, Entry}
+use Rattle.uu_core.specs.declared.command.Command.TheVariants.{Define, Remove, Queue, QueueOnce, Kill, Regrade, Rejuvenate, Failed, Done, Entry, Forget}
 use Rattle.uu_core.specs.declared.command.Reply.{Reply}
-use Rattle.uu_core.specs.declared.command.Reply.TheVariants.{Done as Carried, Refused}
+use Rattle.uu_core.specs.declared.command.Reply.TheVariants.{Done as Carried, Number, Refused}
 use Rattle.uu_core.specs.declared.refusal.Refusal.{Refusal}
 use Rattle.uu_core.specs.declared.refusal.Refusal.TheVariants.{NoSystem, BadEntry}
 use Rattle.uu_core.specs.declared.system.CallState.{CallState}
 use Rattle.uu_core.specs.declared.system.SystemRow.{SystemRow}
-use Rattle.uu_core.specs.Refusal.{decided}
-use Rattle.uu_core.specs.State.{State, Job, MapEntry, ComesBefore, is_job, is_system, system_at, has_system, head_of, numbers_end, most_bytes}
-use Rattle.uu_core.specs.Verdict.{verdict, queue_refusal, done_refusal, is_too_large, has_many_arguments}
-use Rattle.uu_core.specs.After.{after, after_verdict, accept, reply_to, is_before, put_by, change_job, change_call, keep_entry, job_of, is_among, failed_call, failed_decision, done_call, done_call_of, call_of}
+use Rattle.uu_core.specs.Refusal.{decided, first_reason}
+use Rattle.uu_core.specs.State.{State, Job, MapEntry, Link, is_link, link_of, taken_at, says_nothing, ComesBefore, is_job, is_system, system_at, has_system, head_of, numbers_end, most_bytes}
+use Rattle.uu_core.specs.Verdict.{verdict, queue_refusal, fresh_reasons, once_refusal, is_other, are_known, taken_of, done_refusal, is_too_large, has_many_arguments}
+use Rattle.uu_core.specs.After.{after, after_verdict, accept, reply_to, hand_in, hand_in_of, number_of, take_in, with_job, with_taken, forgotten, put_link, is_before, put_by, change_job, change_call, keep_entry, job_of, is_among, failed_call, failed_decision, done_call, done_call_of, call_of}
 use Rattle.uu_core.specs.Due.{HaveNumbers}
 use Rattle.uu_core.specs.Run.{state_after, replies_to}
 use Rattle.uu_core.specs.Plain.{AreByName, IsInOrder, IsGiven}
+use Rattle.uu_core.proofs.KeyLemmas.{first_is}
 use Rattle.uu_core.proofs.RunLemmas.{states_append, replies_append}
-use Rattle.uu_core.proofs.WellFormedLemmas.{within, or_false, none_first, pairs-first, pairs-rest, pairs-push, put-in_order, jobs-changed, jobs-rise, calls-in_order, entries-in_order}
+use Rattle.uu_core.proofs.WellFormedLemmas.{within, or_false, none_first, once_accepted, pairs-first, pairs-rest, pairs-push, put-in_order, jobs-changed, jobs-rise, calls-in_order, entries-in_order}
 
 -- ---- decisions
 
@@ -66,16 +71,36 @@ some_decided (Some other) value refusal e = ap Some same
 
 -- ---- the order is kept
 
+-- a link in its place
+link-in_order : (link : Link) (links : List Link) → AllPairs (λ (a b : Link). ComesBefore a.name b.name) links → AllPairs (λ (a b : Link). ComesBefore a.name b.name) (put_link link links)
+link-in_order link links h = by-test (says_nothing link)
+  where
+    by-test : (t : Bool) → AllPairs (λ (a b : Link). ComesBefore a.name b.name) (cond t links (put_by (λ (other : Link). other.name) link links))
+    by-test true = h
+    by-test false = put-in_order (λ (other : Link). other.name) link links h
+
+order-link : (state : State) → IsInOrder state → (link : Link) → IsInOrder (record state { links = put_link link state.links })
+order-link state h link = record { rising = h.rising; below_next = h.below_next; by_name = h.by_name; by_host = h.by_host; by_link = link-in_order link state.links h.by_link }
+
 module _ (state : State) (h : IsInOrder state) where
-  order-accept : (command : Command) → IsInOrder (accept state command)
-  order-accept (Define def) = record { rising = h.rising; below_next = h.below_next; by_name = put-in_order (λ (row : SystemRow). row.def.name) (record { def = def; call = call_of (system_at state def.name) }) state.systems h.by_name; by_host = h.by_host }
-  order-accept (Remove name) = record { rising = h.rising; below_next = h.below_next; by_name = AllPairs-filter (λ (a b : SystemRow). ComesBefore a.def.name b.def.name) (λ (row : SystemRow). not (is_system name row)) state.systems h.by_name; by_host = h.by_host }
-  order-accept (Queue job) = record {
+  order-queue : (job : NewJob) → IsInOrder (with_job job state)
+  order-queue job = record {
     rising = pairs-push (λ (a b : Job). a.number < b.number) state.jobs (job_of state.next job) h.below_next h.rising;
     below_next = All-push (λ (j : Job). j.number < state.next + 1) state.jobs (job_of state.next job) (All-weaker (λ (j : Job). j.number < state.next) (λ (j : Job). j.number < state.next + 1) (λ j l. omega (arith, l)) state.jobs h.below_next) (omega arith);
     by_name = h.by_name;
     by_host = h.by_host;
+    by_link = h.by_link;
   }
+
+  order-accept : (command : Command) → IsInOrder (accept state command)
+  order-accept (Define def) = record { rising = h.rising; below_next = h.below_next; by_name = put-in_order (λ (row : SystemRow). row.def.name) (record { def = def; call = call_of (system_at state def.name) }) state.systems h.by_name; by_host = h.by_host; by_link = h.by_link }
+  order-accept (Remove name) = record { rising = h.rising; below_next = h.below_next; by_name = AllPairs-filter (λ (a b : SystemRow). ComesBefore a.def.name b.def.name) (λ (row : SystemRow). not (is_system name row)) state.systems h.by_name; by_host = h.by_host; by_link = AllPairs-filter (λ (a b : Link). ComesBefore a.name b.name) (λ (link : Link). not (is_link name link)) state.links h.by_link }
+  order-accept (Queue job) = order-queue job
+  order-accept (QueueOnce key job) = order-once (hand_in state key)
+    where
+      order-once : (comes : HandIn) → IsInOrder (take_in comes key job state)
+      order-once (First number) = order-link (with_job job state) (order-queue job) (with_taken (record { number = key.number; mark = key.mark; job = number }) (link_of state key.from))
+      order-once (Again number) = h
   order-accept (Kill job by) = order-filter (λ (other : Job). not (is_job job other))
     where
       order-filter : (p : Job → Bool) → IsInOrder (record state { jobs = filter p state.jobs })
@@ -84,27 +109,32 @@ module _ (state : State) (h : IsInOrder state) where
         below_next = All-filter p (λ (j : Job). j.number < state.next) state.jobs h.below_next;
         by_name = h.by_name;
         by_host = h.by_host;
+        by_link = h.by_link;
       }
   order-accept (Regrade job grade by) = record {
     rising = jobs-rise job (λ other. record other { grade = grade }) state.jobs (λ j. refl) h.rising;
     below_next = jobs-changed (λ (j : Job). j.number < state.next) job (λ other. record other { grade = grade }) state.jobs (λ j l. l) h.below_next;
     by_name = h.by_name;
     by_host = h.by_host;
+    by_link = h.by_link;
   }
   order-accept (Rejuvenate job at by) = record {
     rising = jobs-rise job (λ other. record other { queued = at.second }) state.jobs (λ j. refl) h.rising;
     below_next = jobs-changed (λ (j : Job). j.number < state.next) job (λ other. record other { queued = at.second }) state.jobs (λ j l. l) h.below_next;
     by_name = h.by_name;
     by_host = h.by_host;
+    by_link = h.by_link;
   }
-  order-accept (Failed system at why) = record { rising = h.rising; below_next = h.below_next; by_name = calls-in_order system (λ row. failed_call row at why) state.systems h.by_name; by_host = h.by_host }
+  order-accept (Failed system at why) = record { rising = h.rising; below_next = h.below_next; by_name = calls-in_order system (λ row. failed_call row at why) state.systems h.by_name; by_host = h.by_host; by_link = h.by_link }
   order-accept (Done system at jobs) = record {
     rising = AllPairs-filter (λ (a b : Job). a.number < b.number) (λ (job : Job). not (is_among jobs job)) state.jobs h.rising;
     below_next = All-filter (λ (job : Job). not (is_among jobs job)) (λ (j : Job). j.number < state.next) state.jobs h.below_next;
     by_name = calls-in_order system (λ row. done_call row at) state.systems h.by_name;
     by_host = h.by_host;
+    by_link = h.by_link;
   }
-  order-accept (Entry bytes) = record { rising = h.rising; below_next = h.below_next; by_name = h.by_name; by_host = entries-in_order (host_of bytes) bytes state.entries h.by_host }
+  order-accept (Entry bytes) = record { rising = h.rising; below_next = h.below_next; by_name = h.by_name; by_host = entries-in_order (host_of bytes) bytes state.entries h.by_host; by_link = h.by_link }
+  order-accept (Forget system below) = order-link state h (forgotten below (link_of state system))
 
 pub still_in_order : (state : State) (command : Command) → IsInOrder state → IsInOrder (after state command).0
 still_in_order state command h = by-verdict (verdict state command)
@@ -162,7 +192,7 @@ keeps_all p [] h = refl
 keeps_all p (x ∷ xs) h =
     ap (λ t. cond t (x ∷ filter p xs) (filter p xs)) (All-head (λ y. p y ≡ true) x xs h) ∙ ap (λ rest. x ∷ rest) (keeps_all p xs (All-tail (λ y. p y ≡ true) x xs h))
 
-keeps_none : {X : Type 0} (p : X → Bool) (xs : List X) → All (λ x. p x ≡ false) xs → filter p xs ≡ []
+pub keeps_none : {X : Type 0} (p : X → Bool) (xs : List X) → All (λ x. p x ≡ false) xs → filter p xs ≡ []
 keeps_none p [] h = refl
 keeps_none p (x ∷ xs) h =
     ap (λ t. cond t (x ∷ filter p xs) (filter p xs)) (All-head (λ y. p y ≡ false) x xs h) ∙ keeps_none p xs (All-tail (λ y. p y ≡ false) x xs h)
@@ -289,9 +319,52 @@ pub queue_refused : (state : State) (job : NewJob) (known : Bool) (refusal : Ref
 queue_refused state job known refusal k e =
     sym (turned_down state (Queue job) refusal (ap (λ b. queue_refusal b state.next job) (sym k) ∙ some_decided (queue_refusal known state.next job) state.next refusal (sym e)))
 
+-- ---- a job that is handed in under a key
+
+-- what was decided on what was found is what the definitions decide
+module _ (state : State) (key : Key) (job : NewJob) (known : Bool) (link : Link) (below : ℕ) (taken : Option Taken) (k : known ≡ are_known state key job) (l : link ≡ link_of state key.from) (b : below ≡ link.below) (t : taken ≡ taken_at link key.number) where
+  pub once_found : (hand_in_of taken key state.next ≡ hand_in state key) × (once_refusal known state.next below taken key job ≡ verdict state (QueueOnce key job))
+  once_found =
+      let same : taken ≡ taken_of state key = t ∙ ap (λ (x : Link). taken_at x key.number) l in (
+        ap (λ row. hand_in_of row key state.next) same,
+        ap (λ known. once_refusal known state.next below taken key job) k
+            ∙ ap (λ n. once_refusal (are_known state key job) state.next n taken key job) (b ∙ ap (λ (x : Link). x.below) l)
+            ∙ ap (λ row. once_refusal (are_known state key job) state.next (link_of state key.from).below row key job) same,
+      )
+
+  pub once_accepts : (comes : HandIn) → Ok comes ≡ decided (once_refusal known state.next below taken key job) (hand_in_of taken key state.next) → (hand_in state key ≡ comes) × (verdict state (QueueOnce key job) ≡ None)
+  once_accepts comes e =
+      let d = none_decided (once_refusal known state.next below taken key job) (hand_in_of taken key state.next) comes (sym e) in
+      (sym once_found.0 ∙ d.1, sym once_found.1 ∙ d.0)
+
+  pub once_refused : (refusal : Refusal) → Err refusal ≡ decided (once_refusal known state.next below taken key job) (hand_in_of taken key state.next) → (state, Refused refusal) ≡ after state (QueueOnce key job)
+  once_refused refusal e =
+      sym (turned_down state (QueueOnce key job) refusal (sym once_found.1 ∙ some_decided (once_refusal known state.next below taken key job) (hand_in_of taken key state.next) refusal (sym e)))
+
+  pub once_again : (number : ℕ) → Ok (Again number) ≡ decided (once_refusal known state.next below taken key job) (hand_in_of taken key state.next) → (state, Number number) ≡ after state (QueueOnce key job)
+  once_again number e =
+      let d = once_accepts (Again number) e in
+      sym (carried state (QueueOnce key job) d.1 ∙ ap (λ comes. (take_in comes key job state, Number (number_of comes))) d.0)
+
+  pub once_first : {E : Type 0} (number : ℕ) (result : Result Reply E) (new : State) → Ok (First number) ≡ decided (once_refusal known state.next below taken key job) (hand_in_of taken key state.next)
+      → MatchResult result (λ reply. (new ≡ take_in (First number) key job state) × (reply ≡ Number number)) (λ _. new ≡ state) → IsGiven state (QueueOnce key job) result new
+  once_first number (Ok reply) new e m =
+      let d = once_accepts (First number) e in
+      ap (λ s. (s, reply)) m.0 ∙ ap (λ r. (take_in (First number) key job state, r)) m.1
+      ∙ sym (carried state (QueueOnce key job) d.1 ∙ ap (λ comes. (take_in comes key job state, Number (number_of comes))) d.0)
+  once_first number (Err fault) new e m = m
+
+-- why a job that comes for the first time is accepted: it is small enough, and a number is left
+pub first_accepted : (known : Bool) (next below : ℕ) (taken : Option Taken) (key : Key) (job : NewJob) (number : ℕ) → Ok (First number) ≡ decided (once_refusal known next below taken key job) (hand_in_of taken key next) → (length job.bytes ≤ most_bytes) × ((next == numbers_end) ≡ false) × (next ≡ number)
+first_accepted known next below taken key job number e =
+    let d = none_decided (once_refusal known next below taken key job) (hand_in_of taken key next) (First number) (sym e) in
+    let first = first_is taken key next number d.1 in
+    let why = once_accepted known next below (is_other taken key) key job (ap (λ again. first_reason (cond again [] (fresh_reasons known next below (is_other taken key) key job))) (sym first.0) ∙ d.0) in
+    (within most_bytes (length job.bytes) (or_false _ (has_many_arguments job.kind) why.0).0, why.2, first.1)
+
 -- ---- reports of calls
 
-find-any : {X : Type 0} (p : X → Bool) (xs : List X) (x : X) → find p xs ≡ Some x → list_any p xs ≡ true
+pub find-any : {X : Type 0} (p : X → Bool) (xs : List X) (x : X) → find p xs ≡ Some x → list_any p xs ≡ true
 find-any p [] x e = absurd apart
   where
     apart : ⊥
@@ -302,7 +375,7 @@ find-any p (y ∷ xs) x e = by-test (p y) e (find-any p xs x)
     by-test true e again = refl
     by-test false e again = again e
 
-find-none : {X : Type 0} (p : X → Bool) (xs : List X) → find p xs ≡ None → list_any p xs ≡ false
+pub find-none : {X : Type 0} (p : X → Bool) (xs : List X) → find p xs ≡ None → list_any p xs ≡ false
 find-none p [] e = refl
 find-none p (y ∷ xs) e = by-test (p y) e (find-none p xs)
   where

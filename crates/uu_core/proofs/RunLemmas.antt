@@ -1,19 +1,23 @@
 -- Runs of commands.
-use Rattle.std.proofs.Common.{◌≡◌, ℕ, ◌+◌, ◌≤◌, ◌<◌, List, [], ◌∷◌, ◌++◌, All, AllPairs, Option, Some, None, refl, ap, sym, ◌∙◌, arith}
-use Rattle.std.proofs.lemmas.List.Elements.{All-cons, All-nil, All-weaker}
+use Rattle.std.proofs.Common.{◌≡◌, ℕ, ◌+◌, ◌≤◌, ◌<◌, Bool, true, false, cond, List, [], ◌∷◌, ◌++◌, All, AllPairs, Option, Some, None, refl, ap, sym, ◌∙◌, arith}
+use Rattle.std.proofs.lemmas.List.Elements.{All-cons, All-nil, All-head, All-tail, All-weaker}
 use Rattle.std.proofs.lemmas.List.Kept.{AllPairs-cons}
 use Rattle.uu_core.proofs.WellFormedLemmas.{pairs-nil}
 use Rattle.uu_core.specs.declared.command.Command.{Command}
-use Rattle.uu_core.specs.declared.command.Command.TheVariants.{Define, Remove, Queue, Kill, Regrade, Rejuvenate, Failed, Done, Entry}
+use Rattle.uu_core.specs.declared.command.Command.TheVariants.{Define, Remove, Queue, QueueOnce, Kill, Regrade, Rejuvenate, Failed, Done, Entry, Forget}
 use Rattle.uu_core.specs.declared.command.Reply.{Reply}
-use Rattle.uu_core.specs.declared.command.Reply.TheVariants.{Number, Refused}
+use Rattle.uu_core.specs.declared.command.Reply.TheVariants.{Done as Carried, Number, Refused}
 use Rattle.uu_core.specs.declared.refusal.Refusal.{Refusal}
+use Rattle.uu_core.specs.declared.custody.HandIn.{HandIn}
+use Rattle.uu_core.specs.declared.custody.HandIn.TheVariants.{First, Again}
+use Rattle.uu_core.specs.declared.custody.Key.{Key}
 use Rattle.uu_core.specs.declared.job.NewJob.{NewJob}
-use Rattle.uu_core.specs.State.{State}
-use Rattle.uu_core.specs.Verdict.{verdict}
-use Rattle.uu_core.specs.After.{after, after_verdict, accept, reply_to}
+use Rattle.uu_core.specs.State.{State, Job}
+use Rattle.uu_core.specs.Verdict.{verdict, taken_of}
+use Rattle.uu_core.specs.After.{after, after_verdict, accept, reply_to, hand_in, take_in, number_of}
 use Rattle.uu_core.specs.Run.{state_after, replies_to}
-use Rattle.uu_core.specs.Laws.{accepted_of, unless_refused, numbers_in}
+use Rattle.uu_core.specs.Laws.{accepted_of, unless_refused, numbers_in, new_numbers, is_repeat, has_key, handed_by, IsHandedIn}
+use Rattle.uu_core.proofs.KeyLemmas.{by_hand_in, first_where}
 
 pub refused : (state : State) (command : Command) (refusal : Refusal) → verdict state command ≡ Some refusal → after state command ≡ (state, Refused refusal)
 refused state command refusal e = ap (λ v. after_verdict v state command) e
@@ -52,16 +56,22 @@ accepted_twice state (command ∷ commands) = by-verdict (verdict state command)
 
 -- ---- numbers
 
+next-taken : (state : State) (key : Key) (job : NewJob) (comes : HandIn) → state.next ≤ (take_in comes key job state).next
+next-taken state key job (First number) = omega arith
+next-taken state key job (Again number) = omega arith
+
 next-accept : (state : State) (command : Command) → state.next ≤ (accept state command).next
 next-accept state (Define def) = omega arith
 next-accept state (Remove name) = omega arith
 next-accept state (Queue job) = omega arith
+next-accept state (QueueOnce key job) = next-taken state key job (hand_in state key)
 next-accept state (Kill job by) = omega arith
 next-accept state (Regrade job grade by) = omega arith
 next-accept state (Rejuvenate job at by) = omega arith
 next-accept state (Failed system at why) = omega arith
 next-accept state (Done system at jobs) = omega arith
 next-accept state (Entry bytes) = omega arith
+next-accept state (Forget system below) = omega arith
 
 next-after : (state : State) (command : Command) → state.next ≤ (after state command).0.next
 next-after state command = by-verdict (verdict state command)
@@ -98,22 +108,82 @@ with-first low numbers r = record {
   once = AllPairs-cons (λ earlier later. earlier < later) low numbers (All-weaker (λ n. low + 1 ≤ n) (λ n. low < n) (λ n above. omega (arith, above)) numbers r.fresh) r.once;
 }
 
--- behind the answer to an accepted command
-behind-accept : (state : State) (command : Command) (replies : List Reply) → Rising (accept state command).next (numbers_in replies) → Rising state.next (numbers_in (reply_to state command ∷ replies))
-behind-accept state (Define def) replies r = r
-behind-accept state (Remove name) replies r = r
-behind-accept state (Queue job) replies r = with-first state.next (numbers_in replies) r
-behind-accept state (Kill job by) replies r = r
-behind-accept state (Regrade job grade by) replies r = r
-behind-accept state (Rejuvenate job at by) replies r = r
-behind-accept state (Failed system at why) replies r = r
-behind-accept state (Done system at jobs) replies r = r
-behind-accept state (Entry bytes) replies r = r
+-- in front of others: the numbers that the answer to a command gives, which is no repeat
+abbrev pub with_reply : Bool → Reply → List ℕ → List ℕ
+with_reply again reply numbers = cond again [] (numbers_in (reply ∷ [])) ++ numbers
 
-behind : (v : Option Refusal) (state : State) (command : Command) (replies : List Reply) → Rising (after_verdict v state command).0.next (numbers_in replies) → Rising state.next (numbers_in ((after_verdict v state command).1 ∷ replies))
-behind None state command replies r = behind-accept state command replies r
-behind (Some refusal) state command replies r = r
+behind-accept : (state : State) (command : Command) (numbers : List ℕ) → Rising (accept state command).next numbers → Rising state.next (with_reply (is_repeat state command) (reply_to state command) numbers)
+behind-accept state (Define def) numbers r = r
+behind-accept state (Remove name) numbers r = r
+behind-accept state (Queue job) numbers r = with-first state.next numbers r
+behind-accept state (QueueOnce key job) numbers r =
+    by_hand_in (λ again comes. Rising (take_in comes key job state).next numbers → Rising state.next (with_reply again (Number (number_of comes)) numbers)) (taken_of state key) key state.next
+    (λ r. with-first state.next numbers r) (λ row is same r. r) r
+behind-accept state (Kill job by) numbers r = r
+behind-accept state (Regrade job grade by) numbers r = r
+behind-accept state (Rejuvenate job at by) numbers r = r
+behind-accept state (Failed system at why) numbers r = r
+behind-accept state (Done system at jobs) numbers r = r
+behind-accept state (Entry bytes) numbers r = r
+behind-accept state (Forget system below) numbers r = r
 
-pub numbers-run : (state : State) (commands : List Command) → Rising state.next (numbers_in (replies_to state commands))
+behind : (v : Option Refusal) (state : State) (command : Command) (numbers : List ℕ) → Rising (after_verdict v state command).0.next numbers → Rising state.next (with_reply (is_repeat state command) (after_verdict v state command).1 numbers)
+behind None state command numbers r = behind-accept state command numbers r
+behind (Some refusal) state command numbers r = by-test (is_repeat state command)
+  where
+    by-test : (t : Bool) → Rising state.next (with_reply t (Refused refusal) numbers)
+    by-test true = r
+    by-test false = r
+
+pub numbers-run : (state : State) (commands : List Command) → Rising state.next (new_numbers state commands)
 numbers-run state [] = record { fresh = All-nil (λ n. state.next ≤ n); once = pairs-nil (λ earlier later. earlier < later) }
-numbers-run state (command ∷ commands) = behind (verdict state command) state command (replies_to (after state command).0 commands) (numbers-run (after state command).0 commands)
+numbers-run state (command ∷ commands) = behind (verdict state command) state command (new_numbers (after state command).0 commands) (numbers-run (after state command).0 commands)
+
+-- without keys these are all the numbers that the replies give
+no_repeat : (state : State) (command : Command) → has_key command ≡ false → is_repeat state command ≡ false
+no_repeat state (Define def) e = refl
+no_repeat state (Remove name) e = refl
+no_repeat state (Queue job) e = refl
+no_repeat state (QueueOnce key job) e = absurd (cc)
+no_repeat state (Kill job by) e = refl
+no_repeat state (Regrade job grade by) e = refl
+no_repeat state (Rejuvenate job at by) e = refl
+no_repeat state (Failed system at why) e = refl
+no_repeat state (Done system at jobs) e = refl
+no_repeat state (Entry bytes) e = refl
+no_repeat state (Forget system below) e = refl
+
+numbers-cons : (reply : Reply) (replies : List Reply) → numbers_in (reply ∷ []) ++ numbers_in replies ≡ numbers_in (reply ∷ replies)
+numbers-cons Carried replies = refl
+numbers-cons (Number number) replies = refl
+numbers-cons (Refused refusal) replies = refl
+
+pub numbers-all : (state : State) (commands : List Command) → All (λ command. has_key command ≡ false) commands → new_numbers state commands ≡ numbers_in (replies_to state commands)
+numbers-all state [] h = refl
+numbers-all state (command ∷ commands) h =
+    ap (λ t. with_reply t (after state command).1 (new_numbers (after state command).0 commands)) (no_repeat state command (All-head (λ (c : Command). has_key c ≡ false) command commands h))
+    ∙ ap (λ numbers. numbers_in ((after state command).1 ∷ []) ++ numbers) (numbers-all (after state command).0 commands (All-tail (λ (c : Command). has_key c ≡ false) command commands h))
+    ∙ numbers-cons (after state command).1 (replies_to (after state command).0 commands)
+
+-- the number of a job that is handed in is the next one
+pub number_handed : (state : State) (command : Command) (job : Job) → IsHandedIn state command job → (job.number ≡ state.next) × ((after state command).0.next ≡ job.number + 1) × ((after state command).1 ≡ Number job.number)
+number_handed state command job it =
+    let number : job.number ≡ state.next = ap (λ (j : Job). j.number) it.job_is in
+    let both = by-command command it.command_is it.first in
+    let now = ap (λ v. after_verdict v state command) it.accepted in
+    (number, ap (λ (p : State × Reply). p.0.next) now ∙ both.0 ∙ ap (λ n. n + 1) (sym number), ap (λ (p : State × Reply). p.1) now ∙ both.1 ∙ ap Number (sym number))
+  where
+    by-command : (c : Command) → handed_by c ≡ Some it.new → is_repeat state c ≡ false → ((accept state c).next ≡ state.next + 1) × (reply_to state c ≡ Number state.next)
+    by-command (Queue job) is first = (refl, refl)
+    by-command (QueueOnce key job) is first =
+        let comes = first_where (taken_of state key) key state.next first in
+        (ap (λ h. (take_in h key job state).next) comes, ap (λ h. Number (number_of h)) comes)
+    by-command (Define def) is first = absurd (cc)
+    by-command (Remove name) is first = absurd (cc)
+    by-command (Kill job by) is first = absurd (cc)
+    by-command (Regrade job grade by) is first = absurd (cc)
+    by-command (Rejuvenate job at by) is first = absurd (cc)
+    by-command (Failed system at why) is first = absurd (cc)
+    by-command (Done system at jobs) is first = absurd (cc)
+    by-command (Entry bytes) is first = absurd (cc)
+    by-command (Forget system below) is first = absurd (cc)

@@ -5,14 +5,16 @@ use Rattle.std.proofs.lemmas.Bool.{ltb-true}
 use Rattle.std.proofs.lemmas.List.Kept.{AllPairs-cons}
 use Rattle.std.proofs.lemmas.List.Sums.{AllPass-from_list_all}
 use Rattle.uu_core.specs.declared.command.Command.{Command}
-use Rattle.uu_core.specs.declared.command.Command.TheVariants.{Define, Remove, Queue, Kill, Regrade, Rejuvenate, Failed, Done, Entry}
+use Rattle.uu_core.specs.declared.command.Command.TheVariants.{Define, Remove, Queue, QueueOnce, Kill, Regrade, Rejuvenate, Failed, Done, Entry, Forget}
+use Rattle.uu_core.specs.declared.custody.Key.{Key}
 use Rattle.uu_core.specs.declared.job.By.{By}
+use Rattle.uu_core.specs.declared.job.NewJob.{NewJob}
 use Rattle.uu_core.specs.declared.job.JobHead.{JobHead}
 use Rattle.uu_core.specs.declared.refusal.Refusal.{Refusal}
 use Rattle.uu_core.specs.declared.refusal.Refusal.TheVariants.{NotYours}
 use Rattle.uu_core.specs.Refusal.{turn_of, AreInTurn, first_reason}
-use Rattle.uu_core.specs.State.{State, job_at, head_of}
-use Rattle.uu_core.specs.Verdict.{may_touch, job_refusal, job_reasons, verdict, reasons}
+use Rattle.uu_core.specs.State.{State, job_at, head_of, link_of}
+use Rattle.uu_core.specs.Verdict.{may_touch, job_refusal, job_reasons, verdict, reasons, is_again, is_other, taken_of, are_known, fresh_reasons}
 
 abbrev rises : List (Bool × Refusal) → Bool
 rises [] = true
@@ -37,16 +39,25 @@ job_in_turn : (job : Option JobHead) (by : By) → AreInTurn (job_reasons job by
 job_in_turn None by = in_turn (job_reasons None by) refl
 job_in_turn (Some job) by = in_turn (job_reasons (Some job) by) refl
 
+once_in_turn : (state : State) (key : Key) (job : NewJob) → AreInTurn (reasons state (QueueOnce key job))
+once_in_turn state key job = by-test (is_again (taken_of state key) key)
+  where
+    by-test : (t : Bool) → AreInTurn (cond t [] (fresh_reasons (are_known state key job) state.next (link_of state key.from).below (is_other (taken_of state key) key) key job))
+    by-test true = in_turn [] refl
+    by-test false = in_turn (fresh_reasons (are_known state key job) state.next (link_of state key.from).below (is_other (taken_of state key) key) key job) refl
+
 pub reasons_in_turn : (state : State) (command : Command) → AreInTurn (reasons state command)
 reasons_in_turn state (Define def) = in_turn (reasons state (Define def)) refl
 reasons_in_turn state (Remove name) = in_turn (reasons state (Remove name)) refl
 reasons_in_turn state (Queue job) = in_turn (reasons state (Queue job)) refl
+reasons_in_turn state (QueueOnce key job) = once_in_turn state key job
 reasons_in_turn state (Kill job by) = job_in_turn (option_map head_of (job_at state job)) by
 reasons_in_turn state (Regrade job grade by) = job_in_turn (option_map head_of (job_at state job)) by
 reasons_in_turn state (Rejuvenate job at by) = job_in_turn (option_map head_of (job_at state job)) by
 reasons_in_turn state (Failed system at why) = in_turn (reasons state (Failed system at why)) refl
 reasons_in_turn state (Done system at jobs) = in_turn (reasons state (Done system at jobs)) refl
 reasons_in_turn state (Entry bytes) = in_turn (reasons state (Entry bytes)) refl
+reasons_in_turn state (Forget system below) = in_turn (reasons state (Forget system below)) refl
 
 job_told : (job : Option JobHead) (by : By) → job_refusal job by ≡ first_reason (job_reasons job by)
 job_told None by = refl
@@ -60,9 +71,11 @@ pub reasons_told : (state : State) (command : Command) → verdict state command
 reasons_told state (Define def) = refl
 reasons_told state (Remove name) = refl
 reasons_told state (Queue job) = refl
+reasons_told state (QueueOnce key job) = refl
 reasons_told state (Kill job by) = job_told (option_map head_of (job_at state job)) by
 reasons_told state (Regrade job grade by) = job_told (option_map head_of (job_at state job)) by
 reasons_told state (Rejuvenate job at by) = job_told (option_map head_of (job_at state job)) by
 reasons_told state (Failed system at why) = refl
 reasons_told state (Done system at jobs) = refl
 reasons_told state (Entry bytes) = refl
+reasons_told state (Forget system below) = refl

@@ -1,11 +1,11 @@
 -- Each command keeps a state well-formed.
-use Rattle.std.proofs.Common.{◌≡◌, ℕ, suc, ◌+◌, ◌<◌, ◌≤◌, ◌*◌, max, Bool, true, false, not, cond, leb, ltb, ◌==◌, ◌||◌, List, [], ◌∷◌, ◌++◌, map, filter, find, length, All, AllPairs, Contains, IfSome, IsTrue, Option, Some, None, Result, Ok, Err, get_or, option_and_then, unwrap_or, nat_cmp, refl, ap, sym, ◌∙◌, subst, arith}
+use Rattle.std.proofs.Common.{◌≡◌, ℕ, suc, ◌+◌, ◌<◌, ◌≤◌, ◌*◌, max, Bool, true, false, not, cond, leb, ltb, ◌==◌, ◌||◌, ◌&&◌, List, [], ◌∷◌, ◌++◌, map, filter, find, length, All, AllPairs, Contains, IfSome, IsTrue, Option, Some, None, Result, Ok, Err, get_or, option_and_then, unwrap_or, nat_cmp, refl, ap, sym, ◌∙◌, subst, arith}
 use Rattle.std.specs.List.{list_any}
 use Rattle.std.specs.declared.cmp.Ordering.{Ordering}
 use Rattle.std.specs.declared.cmp.Ordering.TheVariants.{Less, Equal, Greater}
 use Rattle.std.specs.Ordering.{is_lt, ordering_reverse}
 use Rattle.std.specs.Cmp.Lexicographic.{slice_cmp, bytes_decides}
-use Rattle.std.proofs.lemmas.Bool.{cond_both}
+use Rattle.std.proofs.lemmas.Bool.{cond_both, ltb-true}
 use Rattle.std.proofs.lemmas.Bool.Decides.{nat_tests}
 use Rattle.std.proofs.lemmas.Cmp.{nat_list_cmp_total}
 use Rattle.std.proofs.lemmas.Map.Lookups.{exact_bytes}
@@ -17,19 +17,24 @@ use Rattle.uu_times.specs.System.{System, HasRetry, IsRetry}
 use Rattle.uu_times.specs.declared.moment.Moment.{Moment}
 use Rattle.uu_times.specs.declared.system.Line.{Line}
 use Rattle.uu_core.specs.declared.command.Command.{Command}
-use Rattle.uu_core.specs.declared.command.Command.TheVariants.{Define, Remove, Queue, Kill, Regrade, Rejuvenate, Failed, Done, Entry}
+use Rattle.uu_core.specs.declared.command.Command.TheVariants.{Define, Remove, Queue, QueueOnce, Kill, Regrade, Rejuvenate, Failed, Done, Entry, Forget}
+use Rattle.uu_core.specs.declared.custody.HandIn.TheVariants.{First, Again}
+use Rattle.uu_core.specs.declared.custody.Key.{Key}
+use Rattle.uu_core.specs.declared.custody.Taken.{Taken}
 use Rattle.uu_core.specs.declared.job.Kind.{Kind}
 use Rattle.uu_core.specs.declared.job.Kind.TheVariants.{Send, Request, Execute}
 use Rattle.uu_core.specs.declared.job.NewJob.{NewJob}
 use Rattle.uu_core.specs.declared.refusal.Refusal.{Refusal}
 use Rattle.uu_core.specs.declared.system.CallState.{CallState}
 use Rattle.uu_core.specs.declared.system.SystemRow.{SystemRow}
-use Rattle.uu_core.specs.State.{State, Job, MapEntry, IsWellFormed, IsJob, IsKind, IsCall, IsDefinition, ComesBefore, same_text, has_system, is_waiting, is_system, system_at, is_job, numbers_end, most_bytes, empty}
+use Rattle.uu_core.specs.Marks.{marks_end}
+use Rattle.uu_core.specs.Refusal.{first_reason}
+use Rattle.uu_core.specs.State.{State, Job, MapEntry, Link, IsLink, is_link, link_of, new_link, says_nothing, IsWellFormed, IsJob, IsKind, IsCall, IsDefinition, ComesBefore, same_text, has_system, is_waiting, is_system, system_at, is_job, numbers_end, most_bytes, empty}
 use Rattle.uu_core.specs.Waiting.{one_more, lines_at, limit_at, line_at, retry_minutes, growing_minutes, wait_after}
-use Rattle.uu_core.specs.Verdict.{verdict, is_too_large, has_many_arguments}
-use Rattle.uu_core.specs.After.{after, after_verdict, accept, is_before, put_by, put_system, call_of, change_job, change_call, job_of, failed_call, done_call, keep_entry, is_among}
+use Rattle.uu_core.specs.Verdict.{verdict, is_too_large, has_many_arguments, are_known, taken_of, once_reasons, fresh_reasons, fresh_refusal}
+use Rattle.uu_core.specs.After.{after, after_verdict, accept, take_in, hand_in_of, with_job, with_taken, forgotten, put_link, is_before, put_by, put_system, call_of, change_job, change_call, job_of, failed_call, done_call, keep_entry, is_among}
 use Rattle.uu_core.specs.Run.{state_after}
-use Rattle.uu_core.specs.WellFormed.{IsCommand, IsNewJob, HasWords}
+use Rattle.uu_core.specs.WellFormed.{IsCommand, IsKey, IsNewJob, HasWords}
 use Rattle.uu_core.proofs.Members.{first_of, later_of, kept, mapped, some_passes, passing_one}
 
 -- ---- pairs of a list
@@ -187,6 +192,19 @@ or_false true b e = absurd (apart e)
 pub within : (most n : ℕ) → ltb most n ≡ false → n ≤ most
 within most n e = grind (arith, nat_tests)
 
+pub and_true : (a b : Bool) → a && b ≡ true → (a ≡ true) × (b ≡ true)
+and_true true b e = (refl, e)
+and_true false b e = absurd (cc)
+
+-- why a job that comes for the first time under a key is accepted
+pub once_accepted : (known : Bool) (next below : ℕ) (other : Bool) (key : Key) (job : NewJob) → fresh_refusal known next below other key job ≡ None → (is_too_large job ≡ false) × (known ≡ true) × ((next == numbers_end) ≡ false) × (below ≤ key.number) × (other ≡ false)
+once_accepted known next below other key job e =
+    let first = none_first (is_too_large job) _ _ e in
+    let second = none_first (not known) _ _ first.1 in
+    let third = none_first (next == numbers_end) _ _ second.1 in
+    let fourth = none_first (ltb key.number below) _ _ third.1 in
+    (first.0, not_false known second.0, third.0, within key.number below fourth.0, (none_first other _ _ fourth.1).0)
+
 kind_within : (kind : Kind) → HasWords kind → has_many_arguments kind ≡ false → IsKind kind
 kind_within (Send source target) h e = h
 kind_within (Request source target) h e = h
@@ -234,6 +252,87 @@ pub entries-in_order : (answer : Result (List ℕ) MapFault) (bytes : List ℕ) 
 entries-in_order (Ok host) bytes entries h = put-in_order (λ (entry : MapEntry). entry.host) (record { host = host; bytes = bytes }) entries h
 entries-in_order (Err fault) bytes entries h = h
 
+-- ---- links
+
+-- what a link holds, but that it says something
+record Holds (next : ℕ) (link : Link) : Type 0 where
+  below : link.below ≤ numbers_end
+  numbers : All (λ (row : Taken). (row.number ≤ numbers_end) × (row.mark < marks_end)) link.taken
+  rising : AllPairs (λ (a b : Taken). a.number < b.number) link.taken
+  at_least : All (λ (row : Taken). link.below ≤ row.number) link.taken
+  jobs : All (λ (row : Taken). row.job < next) link.taken
+
+unwrap-has : {X : Type 0} (P : X → Type 0) (o : Option X) (d : X) → IfSome o P → P d → P (unwrap_or o d)
+unwrap-has P None d h p = p
+unwrap-has P (Some x) d h p = h
+
+new-holds : (next : ℕ) (name : List ℕ) → Holds next (new_link name)
+new-holds next name = record {
+  below = omega arith;
+  numbers = All-nil (λ (row : Taken). (row.number ≤ numbers_end) × (row.mark < marks_end));
+  rising = pairs-nil (λ (a b : Taken). a.number < b.number);
+  at_least = All-nil (λ (row : Taken). 0 ≤ row.number);
+  jobs = All-nil (λ (row : Taken). row.job < next);
+}
+
+find-named : (name : List ℕ) (links : List Link) → IfSome (find (is_link name) links) (λ (link : Link). link.name ≡ name)
+find-named name [] = tt
+find-named name (link ∷ links) = by-test (is_link name link) refl (find-named name links)
+  where
+    by-test : (t : Bool) → is_link name link ≡ t → IfSome (find (is_link name) links) (λ (l : Link). l.name ≡ name) → IfSome (cond t (Some link) (find (is_link name) links)) (λ (l : Link). l.name ≡ name)
+    by-test true e again = (bytes_decides link.name name).0 e
+    by-test false e again = again
+
+-- the link of a name has it
+pub link-named : (links : List Link) (name : List ℕ) → (unwrap_or (find (is_link name) links) (new_link name)).name ≡ name
+link-named links name = unwrap-has (λ (link : Link). link.name ≡ name) (find (is_link name) links) (new_link name) (find-named name links) refl
+
+holds-more : (next later : ℕ) (link : Link) (row : Taken) → next ≤ later → Holds next link → row.number ≤ numbers_end → row.mark < marks_end → link.below ≤ row.number → row.job < later → Holds later (with_taken row link)
+holds-more next later link row up h number mark least job = record {
+  below = h.below;
+  numbers = among (λ (other : Taken). (other.number ≤ numbers_end) × (other.mark < marks_end)) (number, mark) h.numbers;
+  rising = pairs-append R first (row ∷ rest) (AllPairs-filter R (λ (other : Taken). ltb other.number row.number) link.taken h.rising)
+      (AllPairs-cons R row rest after (AllPairs-filter R (λ (other : Taken). ltb row.number other.number) link.taken h.rising))
+      (All-weaker (λ (other : Taken). ltb other.number row.number ≡ true) (λ other. All (R other) (row ∷ rest)) before first (filter_passes (λ (other : Taken). ltb other.number row.number) link.taken));
+  at_least = among (λ (other : Taken). link.below ≤ other.number) least h.at_least;
+  jobs = among (λ (other : Taken). other.job < later) job (All-weaker (λ (other : Taken). other.job < next) (λ (other : Taken). other.job < later) (λ other l. omega (arith, up, l)) link.taken h.jobs);
+}
+  where
+    R : Taken → Taken → Type 0
+    R a b = a.number < b.number
+
+    first : List Taken
+    first = filter (λ (other : Taken). ltb other.number row.number) link.taken
+
+    rest : List Taken
+    rest = filter (λ (other : Taken). ltb row.number other.number) link.taken
+
+    among : (P : Taken → Type 0) → P row → All P link.taken → All P (first ++ row ∷ rest)
+    among P p all = All-append P first (row ∷ rest) (All-filter (λ (other : Taken). ltb other.number row.number) P link.taken all) (All-cons P row rest p (All-filter (λ (other : Taken). ltb row.number other.number) P link.taken all))
+
+    after : All (R row) rest
+    after = All-weaker (λ (other : Taken). ltb row.number other.number ≡ true) (R row) (λ other e. ltb-true row.number other.number e) rest (filter_passes (λ (other : Taken). ltb row.number other.number) link.taken)
+
+    before : (other : Taken) → ltb other.number row.number ≡ true → All (R other) (row ∷ rest)
+    before other e =
+        let less : other.number < row.number = ltb-true other.number row.number e in
+        All-cons (R other) row rest less (All-weaker (R row) (R other) (λ third l. omega (arith, less, l)) rest after)
+
+holds-fewer : (next below : ℕ) (link : Link) → Holds next link → below ≤ numbers_end → Holds next (forgotten below link)
+holds-fewer next below link h within = record {
+  below = omega (arith, h.below, within);
+  numbers = All-filter p (λ (row : Taken). (row.number ≤ numbers_end) × (row.mark < marks_end)) link.taken h.numbers;
+  rising = AllPairs-filter (λ (a b : Taken). a.number < b.number) p link.taken h.rising;
+  at_least = λ k d inside. both link.below below (get_or (filter p link.taken) k d).number (All-filter p (λ (row : Taken). link.below ≤ row.number) link.taken h.at_least k d inside) (filter_passes p link.taken k d inside);
+  jobs = All-filter p (λ (row : Taken). row.job < next) link.taken h.jobs;
+}
+  where
+    p : Taken → Bool
+    p row = leb below row.number
+
+    both : (a b n : ℕ) → a ≤ n → leb b n ≡ true → max a b ≤ n
+    both a b n l e = grind (arith, nat_tests)
+
 -- ---- the commands
 
 module _ (state : State) (h : IsWellFormed state) where
@@ -252,6 +351,10 @@ module _ (state : State) (h : IsWellFormed state) where
         by_name = put-in_order (λ (row : SystemRow). row.def.name) item state.systems h.by_name;
         hosts = h.hosts;
         by_host = h.by_host;
+        links = h.links;
+        linked = All-weaker (λ (link : Link). IsTrue (has_system state link.name)) (λ (link : Link). IsTrue (list_any (is_system link.name) (put_system item state.systems))) (λ link p. put-any (λ (row : SystemRow). row.def.name) item (λ n. same_text n link.name) state.systems p) state.links h.linked;
+        taken = h.taken;
+        by_link = h.by_link;
       }
 
   still-remove : (name : List ℕ) → is_waiting state name ≡ false → IsWellFormed (accept state (Remove name))
@@ -267,6 +370,10 @@ module _ (state : State) (h : IsWellFormed state) where
     by_name = AllPairs-filter (λ (a b : SystemRow). ComesBefore a.def.name b.def.name) (λ (row : SystemRow). not (is_system name row)) state.systems h.by_name;
     hosts = h.hosts;
     by_host = h.by_host;
+    links = All-filter (λ (link : Link). not (is_link name link)) IsLink state.links h.links;
+    linked = λ k d inside. goes-on (get_or _ k d) (All-filter (λ (link : Link). not (is_link name link)) (λ (link : Link). IsTrue (has_system state link.name)) state.links h.linked k d inside) (filter_passes (λ (link : Link). not (is_link name link)) state.links k d inside);
+    taken = All-filter (λ (link : Link). not (is_link name link)) (λ (link : Link). All (λ (row : Taken). row.job < state.next) link.taken) state.links h.taken;
+    by_link = AllPairs-filter (λ (a b : Link). ComesBefore a.name b.name) (λ (link : Link). not (is_link name link)) state.links h.by_link;
   }
     where
       apart : {t : Bool} → t ≡ true → t ≡ false → ⊥
@@ -283,6 +390,22 @@ module _ (state : State) (h : IsWellFormed state) where
           let r = passing_one (is_system job.system) state.systems p in
           let left : not (is_system name r.0) ≡ true = other (is_system name r.0) job r.0 refl there r.2 in
           some_passes (is_system job.system) (filter (λ (row : SystemRow). not (is_system name row)) state.systems) r.0 (kept (λ (row : SystemRow). not (is_system name row)) state.systems r.0 r.1 left) r.2
+
+      -- a link that stays has another system
+      goes-on : (link : Link) → IsTrue (has_system state link.name) → not (is_link name link) ≡ true → IsTrue (list_any (is_system link.name) (filter (λ (row : SystemRow). not (is_system name row)) state.systems))
+      goes-on link p other_name =
+          let r = passing_one (is_system link.name) state.systems p in
+          some_passes (is_system link.name) (filter (λ (row : SystemRow). not (is_system name row)) state.systems) r.0 (kept (λ (row : SystemRow). not (is_system name row)) state.systems r.0 r.1 (left (is_system name r.0) r.0 refl r.2)) r.2
+        where
+          turned : (t : Bool) → t ≡ true → not t ≡ true → ⊥
+          turned true e q = cc
+          turned false e q = cc
+
+          left : (t : Bool) → (row : SystemRow) → is_system name row ≡ t → is_system link.name row ≡ true → not t ≡ true
+          left false row e own = refl
+          left true row e own =
+              let named : row.def.name ≡ link.name = (bytes_decides row.def.name link.name).0 own in
+              absurd (turned (is_link name link) (ap (λ n. same_text n name) (sym named) ∙ e) other_name)
 
   still-queue : (job : NewJob) → IsNewJob job → is_too_large job ≡ false → has_system state job.system ≡ true → (state.next == numbers_end) ≡ false → IsWellFormed (accept state (Queue job))
   still-queue job good small known free =
@@ -309,6 +432,10 @@ module _ (state : State) (h : IsWellFormed state) where
         by_name = h.by_name;
         hosts = h.hosts;
         by_host = h.by_host;
+        links = h.links;
+        linked = h.linked;
+        taken = All-weaker (λ (link : Link). All (λ (row : Taken). row.job < state.next) link.taken) (λ (link : Link). All (λ (row : Taken). row.job < state.next + 1) link.taken) (λ link l. All-weaker (λ (row : Taken). row.job < state.next) (λ (row : Taken). row.job < state.next + 1) (λ row m. omega (arith, m)) link.taken l) state.links h.taken;
+        by_link = h.by_link;
       }
     where
       below : (n : ℕ) → n ≤ numbers_end → (n == numbers_end) ≡ false → n + 1 ≤ numbers_end
@@ -327,6 +454,10 @@ module _ (state : State) (h : IsWellFormed state) where
     by_name = h.by_name;
     hosts = h.hosts;
     by_host = h.by_host;
+    links = h.links;
+    linked = h.linked;
+    taken = h.taken;
+    by_link = h.by_link;
   }
 
   still-changed : (number : ℕ) (change : Job → Job) → ((j : Job) → IsJob j → IsJob (change j)) → ((j : Job) → (change j).number ≡ j.number) → ((j : Job) → (change j).system ≡ j.system) → IsWellFormed (record state { jobs = change_job number change state.jobs })
@@ -342,6 +473,10 @@ module _ (state : State) (h : IsWellFormed state) where
     by_name = h.by_name;
     hosts = h.hosts;
     by_host = h.by_host;
+    links = h.links;
+    linked = h.linked;
+    taken = h.taken;
+    by_link = h.by_link;
   }
 
   still-called : (name : List ℕ) (change : SystemRow → CallState) → ((row : SystemRow) → IsDefinition row.def → IsCall row.call → IsCall (change row)) → IsWellFormed (record state { systems = change_call name change state.systems })
@@ -357,6 +492,10 @@ module _ (state : State) (h : IsWellFormed state) where
     by_name = calls-in_order name change state.systems h.by_name;
     hosts = h.hosts;
     by_host = h.by_host;
+    links = h.links;
+    linked = All-weaker (λ (link : Link). IsTrue (has_system state link.name)) (λ (link : Link). IsTrue (list_any (is_system link.name) (change_call name change state.systems))) (λ link p. calls-any name change state.systems link.name p) state.links h.linked;
+    taken = h.taken;
+    by_link = h.by_link;
   }
 
   still-entry : (bytes : List ℕ) → IsWellFormed (accept state (Entry bytes))
@@ -372,7 +511,60 @@ module _ (state : State) (h : IsWellFormed state) where
     by_name = h.by_name;
     hosts = entry-kept (host_of bytes) bytes state.entries refl h.hosts;
     by_host = entries-in_order (host_of bytes) bytes state.entries h.by_host;
+    links = h.links;
+    linked = h.linked;
+    taken = h.taken;
+    by_link = h.by_link;
   }
+
+  -- ---- links
+
+  holds-all : All (Holds state.next) state.links
+  holds-all k d inside =
+      let good = h.links k d inside in
+      record { below = good.below; numbers = good.numbers; rising = good.rising; at_least = good.at_least; jobs = h.taken k d inside }
+
+  holds : (name : List ℕ) → Holds state.next (link_of state name)
+  holds name = unwrap-has (Holds state.next) (find (is_link name) state.links) (new_link name) (find-has (Holds state.next) (is_link name) state.links holds-all) (new-holds state.next name)
+
+  still-link : (link : Link) → Holds state.next link → IsTrue (has_system state link.name) → IsWellFormed (record state { links = put_link link state.links })
+  still-link link good known = by-test (says_nothing link) refl
+    where
+      name : Link → List ℕ
+      name other = other.name
+
+      by-test : (t : Bool) → says_nothing link ≡ t → IsWellFormed (record state { links = cond t state.links (put_by (λ (other : Link). other.name) link state.links) })
+      by-test true e = h
+      by-test false e = record {
+        some_next = h.some_next;
+        next = h.next;
+        jobs = h.jobs;
+        rising = h.rising;
+        below_next = h.below_next;
+        placed = h.placed;
+        definitions = h.definitions;
+        calls = h.calls;
+        by_name = h.by_name;
+        hosts = h.hosts;
+        by_host = h.by_host;
+        links = put-all (λ (other : Link). other.name) link IsLink state.links (record { below = good.below; says = e; numbers = good.numbers; rising = good.rising; at_least = good.at_least }) h.links;
+        linked = put-all (λ (other : Link). other.name) link (λ (other : Link). IsTrue (has_system state other.name)) state.links known h.linked;
+        taken = put-all (λ (other : Link). other.name) link (λ (other : Link). All (λ (row : Taken). row.job < state.next) other.taken) state.links good.jobs h.taken;
+        by_link = put-in_order (λ (other : Link). other.name) link state.links h.by_link;
+      }
+
+  link-known : (name : List ℕ) → has_system state name ≡ true → IsTrue (has_system state (link_of state name).name)
+  link-known name e = ap (λ n. has_system state n) (link-named state.links name) ∙ e
+
+still-once : (state : State) (key : Key) (job : NewJob) (other : Bool) → IsWellFormed state → IsKey key → IsNewJob job → fresh_refusal (are_known state key job) state.next (link_of state key.from).below other key job ≡ None → IsWellFormed (take_in (First state.next) key job state)
+still-once state key job other h good fine e =
+    let why = once_accepted (are_known state key job) state.next (link_of state key.from).below other key job e in
+    let both = and_true (has_system state key.from) (has_system state job.system) why.1 in
+    let then = still-queue state h job fine why.0 both.1 why.2 in
+    let old = holds state h key.from in
+    let row : Taken = record { number = key.number; mark = key.mark; job = state.next } in
+    let more = holds-more state.next (state.next + 1) (link_of state key.from) row (omega arith) old good.number good.mark why.3 (omega arith) in
+    still-link (with_job job state) then (with_taken row (link_of state key.from)) more (link-known state h key.from both.0)
 
 failed-call : (row : SystemRow) (at : Moment) (why : List ℕ) → IsCommand (Failed row.def.name at why) → IsDefinition row.def → IsCall row.call → IsCall (failed_call row at why)
 failed-call row at why good def call =
@@ -388,6 +580,15 @@ still-accepted state (Queue job) h good e =
     let first = none_first (is_too_large job) _ _ e in
     let second = none_first (not (has_system state job.system)) _ _ first.1 in
     still-queue state h job good first.0 (not_false (has_system state job.system) second.0) (none_first (state.next == numbers_end) _ _ second.1).0
+still-accepted state (QueueOnce key job) h good e = by-taken (taken_of state key) e
+  where
+    by-taken : (taken : Option Taken) → first_reason (once_reasons (are_known state key job) state.next (link_of state key.from).below taken key job) ≡ None → IsWellFormed (take_in (hand_in_of taken key state.next) key job state)
+    by-taken None e = still-once state key job false h good.0 good.1 e
+    by-taken (Some row) e = by-test (row.mark == key.mark) e
+      where
+        by-test : (t : Bool) → first_reason (cond t [] (fresh_reasons (are_known state key job) state.next (link_of state key.from).below (not t) key job)) ≡ None → IsWellFormed (take_in (cond t (Again row.job) (First state.next)) key job state)
+        by-test true e = h
+        by-test false e = still-once state key job true h good.0 good.1 e
 still-accepted state (Kill job by) h good e = still-filtered state h (λ (other : Job). not (is_job job other))
 still-accepted state (Regrade job grade by) h good e =
     still-changed state h job (λ other. record other { grade = grade }) (λ j p. record { number = p.number; system = p.system; grade = good; user = p.user; kind = p.kind; queued = p.queued; bytes = p.bytes }) (λ j. refl) (λ j. refl)
@@ -397,6 +598,9 @@ still-accepted state (Failed system at why) h good e = still-called state h syst
 still-accepted state (Done system at jobs) h good e =
     still-called (record state { jobs = filter (λ (job : Job). not (is_among jobs job)) state.jobs }) (still-filtered state h (λ (job : Job). not (is_among jobs job))) system (λ row. done_call row at) (λ row def call. done-call row at good def)
 still-accepted state (Entry bytes) h good e = still-entry state h bytes
+still-accepted state (Forget system below) h good e =
+    let known = not_false (has_system state system) (none_first (not (has_system state system)) _ _ e).0 in
+    still-link state h (forgotten below (link_of state system)) (holds-fewer state.next below (link_of state system) (holds state h system) good) (link-known state h system known)
 
 pub still : (state : State) (command : Command) → IsCommand command → IsWellFormed state → IsWellFormed (after state command).0
 still state command good h = by-verdict (verdict state command) refl
@@ -423,4 +627,8 @@ still-empty = record {
   by_name = pairs-nil (λ (a b : SystemRow). ComesBefore a.def.name b.def.name);
   hosts = All-nil (λ (entry : MapEntry). host_of entry.bytes ≡ Ok entry.host);
   by_host = pairs-nil (λ (a b : MapEntry). ComesBefore a.host b.host);
+  links = All-nil IsLink;
+  linked = All-nil (λ (link : Link). IsTrue (has_system empty link.name));
+  taken = All-nil (λ (link : Link). All (λ (row : Taken). row.job < 1) link.taken);
+  by_link = pairs-nil (λ (a b : Link). ComesBefore a.name b.name);
 }

@@ -1,6 +1,6 @@
 -- What a command makes of a state, and what it answers. (Killing and rejuvenating jobs: Taylor UUCP
 -- 1.07 manual, on uustat; the rest is this project's choice.)
-use Rattle.std.specs.Prelude.{ℕ, ◌+◌, Bool, not, ◌==◌, List, [], ◌∷◌, ◌++◌, map, filter, Option, Some, None, Result, Ok, Err, if◌then◌else◌}
+use Rattle.std.specs.Prelude.{ℕ, ◌+◌, max, Bool, not, ◌==◌, nat_lt, nat_le, List, [], ◌∷◌, ◌++◌, map, filter, Option, Some, None, Result, Ok, Err, if◌then◌else◌}
 use Rattle.std.specs.Ordering.{is_lt, nat_cmp}
 use Rattle.std.specs.Cmp.Lexicographic.{slice_cmp}
 use Rattle.std.specs.List.{list_any}
@@ -8,18 +8,22 @@ use Rattle.uu_times.specs.declared.moment.Moment.{Moment}
 use Rattle.uu_map.specs.Text.{host_of}
 use Rattle.uu_map.specs.declared.fault.MapFault.{MapFault}
 use Rattle.uu_core.specs.declared.command.Command.{Command}
-use Rattle.uu_core.specs.declared.command.Command.TheVariants.{Define, Remove, Queue, Kill, Regrade, Rejuvenate, Failed, Done, Entry}
+use Rattle.uu_core.specs.declared.command.Command.TheVariants.{Define, Remove, Queue, QueueOnce, Kill, Regrade, Rejuvenate, Failed, Done, Entry, Forget}
 use Rattle.uu_core.specs.declared.command.Reply.{Reply}
 use Rattle.uu_core.specs.declared.command.Reply.TheVariants.{Done as Carried, Number, Refused}
+use Rattle.uu_core.specs.declared.custody.HandIn.{HandIn}
+use Rattle.uu_core.specs.declared.custody.HandIn.TheVariants.{First, Again}
+use Rattle.uu_core.specs.declared.custody.Key.{Key}
+use Rattle.uu_core.specs.declared.custody.Taken.{Taken}
 use Rattle.uu_core.specs.declared.job.NewJob.{NewJob}
 use Rattle.uu_core.specs.declared.system.Outcome.TheVariants.{Never, Failed as FailedFor, Done as WasDone}
 use Rattle.uu_core.specs.declared.system.CallState.{CallState}
 use Rattle.uu_core.specs.declared.system.SystemRow.{SystemRow}
 use Rattle.uu_core.specs.declared.refusal.Refusal.{Refusal}
 use Rattle.uu_core.specs.declared.refusal.Refusal.TheVariants.{NoSystem}
-use Rattle.uu_core.specs.State.{State, Job, MapEntry, is_job, is_system, system_at}
+use Rattle.uu_core.specs.State.{State, Job, MapEntry, Link, is_job, is_system, is_link, system_at, link_of, says_nothing}
 use Rattle.uu_core.specs.Waiting.{one_more, wait_after}
-use Rattle.uu_core.specs.Verdict.{verdict}
+use Rattle.uu_core.specs.Verdict.{verdict, taken_of}
 
 -- ---- calls
 
@@ -62,6 +66,10 @@ put_system = put_by (λ row. row.def.name)
 abbrev pub put_entry : MapEntry → List MapEntry → List MapEntry
 put_entry = put_by (λ entry. entry.host)
 
+-- a link that says something
+abbrev pub put_link : Link → List Link → List Link
+put_link link links = if says_nothing link then links else put_by (λ other. other.name) link links
+
 -- the calls of a system so far, and those of a new one where it isn't known
 abbrev pub call_of : Option SystemRow → CallState
 call_of None = never_called
@@ -73,6 +81,46 @@ call_of (Some row) = row.call
 abbrev pub job_of : ℕ → NewJob → Job
 job_of number job =
     record { number = number; system = job.system; grade = job.grade; user = job.user; kind = job.kind; queued = job.at.second; bytes = job.bytes }
+
+-- a job that is handed in gets the next number
+abbrev pub with_job : NewJob → State → State
+with_job job state = record state { jobs = state.jobs ++ job_of state.next job ∷ []; next = state.next + 1 }
+
+-- ---- keys
+
+-- what a job comes to that is handed in under a key, where `next` is the next number: it was taken
+-- before, or it comes for the first time
+abbrev pub hand_in_of : Option Taken → Key → ℕ → HandIn
+hand_in_of None key next = First next
+hand_in_of (Some taken) key next = if taken.mark == key.mark then Again taken.job else First next
+
+abbrev pub hand_in : State → Key → HandIn
+hand_in state key = hand_in_of (taken_of state key) key state.next
+
+abbrev pub number_of : HandIn → ℕ
+number_of (First number) = number
+number_of (Again number) = number
+
+-- the link with one more that was taken, and none other of its number
+abbrev pub with_taken : Taken → Link → Link
+with_taken taken link =
+    record link { taken = filter (λ other. nat_lt other.number taken.number) link.taken ++ taken ∷ filter (λ other. nat_lt taken.number other.number) link.taken }
+
+-- the link of a neighbour that won't ask again for a number below this one
+abbrev pub forgotten : ℕ → Link → Link
+forgotten below link = record link { below = max link.below below; taken = filter (λ taken. nat_le below taken.number) link.taken }
+
+-- the key is kept, with the number of its job here
+abbrev pub with_key : Key → ℕ → State → State
+with_key key number state =
+    record state { links = put_link (with_taken (record { number = key.number; mark = key.mark; job = number }) (link_of state key.from)) state.links }
+
+-- a job that comes for the first time is queued, and its key is kept
+abbrev pub take_in : HandIn → Key → NewJob → State → State
+take_in (First number) key job state = with_key key number (with_job job state)
+take_in (Again number) key job state = state
+
+-- ---- one of several
 
 -- one job changes, the others stay
 abbrev pub change_job : ℕ → (Job → Job) → List Job → List Job
@@ -93,8 +141,10 @@ keep_entry (Err fault) bytes entries = entries
 abbrev pub accept : State → Command → State
 accept state (Define def) =
     record state { systems = put_system (record { def = def; call = call_of (system_at state def.name) }) state.systems }
-accept state (Remove name) = record state { systems = filter (λ row. not (is_system name row)) state.systems }
-accept state (Queue job) = record state { jobs = state.jobs ++ job_of state.next job ∷ []; next = state.next + 1 }
+accept state (Remove name) =
+    record state { systems = filter (λ row. not (is_system name row)) state.systems; links = filter (λ link. not (is_link name link)) state.links }
+accept state (Queue job) = with_job job state
+accept state (QueueOnce key job) = take_in (hand_in state key) key job state
 accept state (Kill job by) = record state { jobs = filter (λ other. not (is_job job other)) state.jobs }
 accept state (Regrade job grade by) = record state { jobs = change_job job (λ other. record other { grade = grade }) state.jobs }
 accept state (Rejuvenate job at by) = record state { jobs = change_job job (λ other. record other { queued = at.second }) state.jobs }
@@ -102,10 +152,12 @@ accept state (Failed system at why) = record state { systems = change_call syste
 accept state (Done system at jobs) =
     record state { jobs = filter (λ job. not (is_among jobs job)) state.jobs; systems = change_call system (λ row. done_call row at) state.systems }
 accept state (Entry bytes) = record state { entries = keep_entry (host_of bytes) bytes state.entries }
+accept state (Forget system below) = record state { links = put_link (forgotten below (link_of state system)) state.links }
 
--- the answer to an accepted command: the number of a job that was added
+-- the answer to an accepted command: the number of a job that was added, now or under this key
 abbrev pub reply_to : State → Command → Reply
 reply_to state (Queue job) = Number state.next
+reply_to state (QueueOnce key job) = Number (number_of (hand_in state key))
 reply_to state (Define def) = Carried
 reply_to state (Remove name) = Carried
 reply_to state (Kill job by) = Carried
@@ -114,6 +166,7 @@ reply_to state (Rejuvenate job at by) = Carried
 reply_to state (Failed system at why) = Carried
 reply_to state (Done system at jobs) = Carried
 reply_to state (Entry bytes) = Carried
+reply_to state (Forget system below) = Carried
 
 -- the state after a command and its reply; a refused command leaves the state
 abbrev pub after_verdict : Option Refusal → State → Command → State × Reply

@@ -1,15 +1,16 @@
 -- What follows from the definitions of the machine.
-use Rattle.std.specs.Prelude.{◌≡◌, ℕ, Bool, ◌==◌, List, [], ◌∷◌, ◌++◌, Option, Some, None, Contains, true, false}
+use Rattle.std.specs.Prelude.{◌≡◌, ℕ, Bool, ◌==◌, ◌&&◌, nat_lt, List, [], ◌∷◌, ◌++◌, Option, Some, None, Contains, true, false, if◌then◌else◌}
 use Rattle.std.specs.List.{list_any}
 use Rattle.uu_core.specs.declared.command.Command.{Command}
-use Rattle.uu_core.specs.declared.command.Command.TheVariants.{Define, Remove, Queue, Kill, Regrade, Rejuvenate, Failed, Done, Entry}
+use Rattle.uu_core.specs.declared.command.Command.TheVariants.{Define, Remove, Queue, QueueOnce, Kill, Regrade, Rejuvenate, Failed, Done, Entry, Forget}
 use Rattle.uu_core.specs.declared.command.Reply.{Reply}
 use Rattle.uu_core.specs.declared.command.Reply.TheVariants.{Done as Carried, Number, Refused}
 use Rattle.uu_core.specs.declared.refusal.Refusal.{Refusal}
+use Rattle.uu_core.specs.declared.custody.Key.{Key}
 use Rattle.uu_core.specs.declared.job.JobHead.{JobHead}
 use Rattle.uu_core.specs.declared.job.NewJob.{NewJob}
-use Rattle.uu_core.specs.State.{State, Job}
-use Rattle.uu_core.specs.Verdict.{verdict}
+use Rattle.uu_core.specs.State.{State, Job, same_text}
+use Rattle.uu_core.specs.Verdict.{verdict, is_again, taken_of}
 use Rattle.uu_core.specs.After.{after, job_of}
 use Rattle.uu_core.specs.Run.{state_after}
 
@@ -31,6 +32,35 @@ numbers_in (Carried ∷ replies) = numbers_in replies
 numbers_in (Number number ∷ replies) = number ∷ numbers_in replies
 numbers_in (Refused refusal ∷ replies) = numbers_in replies
 
+-- the job that a command hands in, if it does
+abbrev pub handed_by : Command → Option NewJob
+handed_by (Queue job) = Some job
+handed_by (QueueOnce key job) = Some job
+handed_by command = None
+
+-- it hands it in under a key
+abbrev pub has_key : Command → Bool
+has_key (QueueOnce key job) = true
+has_key command = false
+
+-- a neighbour hands on a job again that was taken under this key
+abbrev pub is_repeat : State → Command → Bool
+is_repeat state (QueueOnce key job) = is_again (taken_of state key) key
+is_repeat state command = false
+
+-- the command makes the spool forget the key, where it is accepted: the neighbour goes, or won't
+-- ask for its number again
+abbrev pub lets_forget : Command → Key → Bool
+lets_forget (Remove name) key = same_text name key.from
+lets_forget (Forget system below) key = same_text system key.from && nat_lt key.number below
+lets_forget command key = false
+
+-- the numbers that the replies to a run give to jobs, in order, without those that are said again
+abbrev pub new_numbers : State → List Command → List ℕ
+new_numbers state [] = []
+new_numbers state (command ∷ commands) =
+    (if is_repeat state command then [] else numbers_in ((after state command).1 ∷ [])) ++ new_numbers (after state command).0 commands
+
 -- the command makes the job of this number go, where it is accepted
 abbrev pub lets_go : Command → ℕ → Bool
 lets_go (Kill job by) number = number == job
@@ -38,10 +68,12 @@ lets_go (Done system at jobs) number = list_any (λ other. other == number) jobs
 lets_go (Define def) number = false
 lets_go (Remove name) number = false
 lets_go (Queue job) number = false
+lets_go (QueueOnce key job) number = false
 lets_go (Regrade job grade by) number = false
 lets_go (Rejuvenate job at by) number = false
 lets_go (Failed system at why) number = false
 lets_go (Entry bytes) number = false
+lets_go (Forget system below) number = false
 
 -- the same job, whose grade and time of queueing may have changed
 pub record IsSameJob (job later : Job) : Type 0 where
@@ -57,22 +89,24 @@ pub record IsAmong (jobs : List Job) (job : Job) : Type 0 where
   pub there : Contains jobs later
   pub same : IsSameJob job later
 
--- the job is what an accepted command hands in, under the next number
+-- the job is what an accepted command hands in, which is no repeat, under the next number
 pub record IsHandedIn (state : State) (command : Command) (job : Job) : Type 0 where
   pub new : NewJob
-  pub command_is : command ≡ Queue new
-  pub accepted : verdict state (Queue new) ≡ None
+  pub command_is : handed_by command ≡ Some new
+  pub accepted : verdict state command ≡ None
+  pub first : is_repeat state command ≡ false
   pub job_is : job ≡ job_of state.next new
 
 -- the job is what an accepted command of a run handed in, with perhaps another grade or time of
 -- queueing by then
 pub record IsOfRun (state : State) (commands : List Command) (later : Job) : Type 0 where
   pub before : List Command
-  pub new : NewJob
+  pub command : Command
   pub behind : List Command
-  pub run_is : commands ≡ before ++ Queue new ∷ behind
-  pub accepted : verdict (state_after state before) (Queue new) ≡ None
-  pub same : IsSameJob (job_of (state_after state before).next new) later
+  pub run_is : commands ≡ before ++ command ∷ behind
+  pub job : Job
+  pub made : IsHandedIn (state_after state before) command job
+  pub same : IsSameJob job later
 
 -- the job's number is among these
 abbrev pub is_named : List ℕ → JobHead → Bool

@@ -1,6 +1,9 @@
 pub mod After
+pub mod Custody
 pub mod Due
 pub mod Laws
+pub mod Marks
+pub mod Network
 pub mod NextCalls
 pub mod Plain
 pub mod Queues

@@ -1,7 +1,7 @@
 -- Why a command is refused, and in which order the reasons are told.
 use Rattle.std.specs.Prelude.{ℕ, ◌<◌, Bool, List, [], ◌∷◌, codes, AllPairs, Option, Some, None, Result, Ok, Err, if◌then◌else◌}
 use Rattle.uu_core.specs.declared.refusal.Refusal.{Refusal}
-use Rattle.uu_core.specs.declared.refusal.Refusal.TheVariants.{NoSystem, NoJob, NotYours, JobTwice, OtherSystem, Busy, TooLarge, NumbersOut, BadEntry}
+use Rattle.uu_core.specs.declared.refusal.Refusal.TheVariants.{NoSystem, NoJob, NotYours, JobTwice, OtherSystem, Busy, TooLarge, NumbersOut, BadEntry, Stale, Differs}
 
 -- the number of a refusal (this project's choice)
 abbrev pub refusal_code : Refusal → ℕ
@@ -14,6 +14,8 @@ refusal_code Busy = 6
 refusal_code TooLarge = 7
 refusal_code NumbersOut = 8
 refusal_code BadEntry = 9
+refusal_code Stale = 10
+refusal_code Differs = 11
 
 -- the name of a refusal, which is that of its variant
 abbrev pub refusal_name : Refusal → List ℕ
@@ -26,6 +28,8 @@ refusal_name Busy = codes "Busy"
 refusal_name TooLarge = codes "TooLarge"
 refusal_name NumbersOut = codes "NumbersOut"
 refusal_name BadEntry = codes "BadEntry"
+refusal_name Stale = codes "Stale"
+refusal_name Differs = codes "Differs"
 
 -- How early a refusal is told where several apply: `TooLarge` first, since it needs no look at the
 -- spool, and then by number (this project's choice).

@@ -1,5 +1,5 @@
 -- What a spool holds.
-use Rattle.std.specs.Prelude.{◌≡◌, ℕ, ◌<◌, ◌≤◌, Bool, ◌==◌, List, [], length, Option, Ok, IsTrue, All, AllPairs, find, nat_eq, ⊤}
+use Rattle.std.specs.Prelude.{◌≡◌, ℕ, ◌<◌, ◌≤◌, Bool, false, ◌==◌, ◌&&◌, List, [], length, Option, unwrap_or, Ok, IsTrue, All, AllPairs, find, nat_eq, ⊤}
 use Rattle.std.specs.declared.cmp.Ordering.TheVariants.{Less}
 use Rattle.std.specs.Ordering.{nat_cmp}
 use Rattle.std.specs.Cmp.Lexicographic.{pointwise, slice_cmp}
@@ -11,6 +11,7 @@ use Rattle.uu_times.specs.System.{System, AreWithinLimits}
 use Rattle.uu_times.specs.Ranges.{AreRuns}
 use Rattle.uu_times.specs.declared.system.Line.{Line}
 use Rattle.uu_map.specs.Text.{host_of}
+use Rattle.uu_core.specs.declared.custody.Taken.{Taken}
 use Rattle.uu_core.specs.declared.job.Kind.{Kind}
 use Rattle.uu_core.specs.declared.job.Kind.TheVariants.{Send, Request, Execute}
 use Rattle.uu_core.specs.declared.job.JobHead.{JobHead}
@@ -18,6 +19,7 @@ use Rattle.uu_core.specs.declared.system.Outcome.{Outcome}
 use Rattle.uu_core.specs.declared.system.Outcome.TheVariants.{Never, Failed, Done}
 use Rattle.uu_core.specs.declared.system.CallState.{CallState}
 use Rattle.uu_core.specs.declared.system.SystemRow.{SystemRow}
+use Rattle.uu_core.specs.Marks.{marks_end}
 
 -- a job with all its bytes
 pub record Job : Type 0 where
@@ -34,17 +36,27 @@ pub record MapEntry : Type 0 where
   pub host : List ℕ
   pub bytes : List ℕ
 
+-- What is kept of the jobs that a neighbour hands on with a key: the number below which it asks for
+-- none again, and those that were taken, each with its number there, by these numbers. (Custody is
+-- the word of RFC 5050, 5.10; the key and what is kept of it are this project's choice.)
+pub record Link : Type 0 where
+  pub name : List ℕ
+  pub below : ℕ
+  pub taken : List Taken
+
 -- The jobs in the order in which they were accepted, the systems in the order of their names, the
--- entries in that of their hosts, and the number of the next job.
+-- entries in that of their hosts, the number of the next job, and the links that say something, in
+-- the order of their systems' names.
 pub record State : Type 0 where
   pub jobs : List Job
   pub systems : List SystemRow
   pub entries : List MapEntry
   pub next : ℕ
+  pub links : List Link
 
 -- a spool that holds nothing
 abbrev pub empty : State
-empty = record { jobs = []; systems = []; entries = []; next = 1 }
+empty = record { jobs = []; systems = []; entries = []; next = 1; links = [] }
 
 -- two names, users or hosts are the same, byte for byte
 abbrev pub same_text : List ℕ → List ℕ → Bool
@@ -59,6 +71,12 @@ is_system name row = same_text row.def.name name
 abbrev pub is_entry : List ℕ → MapEntry → Bool
 is_entry host entry = same_text entry.host host
 
+abbrev pub is_link : List ℕ → Link → Bool
+is_link name link = same_text link.name name
+
+abbrev pub is_taken : ℕ → Taken → Bool
+is_taken number taken = taken.number == number
+
 -- the job of a number, the system of a name, the entry of a host
 abbrev pub job_at : State → ℕ → Option Job
 job_at state number = find (is_job number) state.jobs
@@ -71,6 +89,22 @@ entry_at state host = find (is_entry host) state.entries
 
 abbrev pub has_system : State → List ℕ → Bool
 has_system state name = list_any (is_system name) state.systems
+
+-- the link of a neighbour of which nothing is kept
+abbrev pub new_link : List ℕ → Link
+new_link name = record { name = name; below = 0; taken = [] }
+
+-- the link of a neighbour
+abbrev pub link_of : State → List ℕ → Link
+link_of state name = unwrap_or (find (is_link name) state.links) (new_link name)
+
+-- what was taken from a neighbour under a number of its own
+abbrev pub taken_at : Link → ℕ → Option Taken
+taken_at link number = find (is_taken number) link.taken
+
+-- the link says nothing, as a new one
+abbrev pub says_nothing : Link → Bool
+says_nothing link = link.below == 0 && length link.taken == 0
 
 -- whether a job waits for the system
 abbrev pub is_waiting : State → List ℕ → Bool
@@ -144,6 +178,15 @@ pub record IsDefinition (def : System) : Type 0 where
   pub lines : All IsLine def.lines
   pub limits : AreWithinLimits def.lines def.max_retries def.success_wait
 
+-- its numbers are those of jobs and marks, and what was taken stands by the numbers there, none of
+-- which the neighbour said that it won't ask for again
+pub record IsLink (link : Link) : Type 0 where
+  pub below : link.below ≤ numbers_end
+  pub says : says_nothing link ≡ false
+  pub numbers : All (λ taken. (taken.number ≤ numbers_end) × (taken.mark < marks_end)) link.taken
+  pub rising : AllPairs (λ a b. a.number < b.number) link.taken
+  pub at_least : All (λ taken. link.below ≤ taken.number) link.taken
+
 -- one text comes before another in the order of their bytes
 abbrev pub ComesBefore : List ℕ → List ℕ → Type 0
 ComesBefore a b = slice_cmp nat_cmp a b ≡ Less
@@ -160,3 +203,7 @@ pub record IsWellFormed (state : State) : Type 0 where
   pub by_name : AllPairs (λ a b. ComesBefore a.def.name b.def.name) state.systems
   pub hosts : All (λ entry. host_of entry.bytes ≡ Ok entry.host) state.entries
   pub by_host : AllPairs (λ a b. ComesBefore a.host b.host) state.entries
+  pub links : All IsLink state.links
+  pub linked : All (λ link. IsTrue (has_system state link.name)) state.links
+  pub taken : All (λ link. All (λ taken. taken.job < state.next) link.taken) state.links
+  pub by_link : AllPairs (λ a b. ComesBefore a.name b.name) state.links

@@ -1,21 +1,23 @@
 -- Which commands are refused, and why. (That a job is killed or rejuvenated by its owner or by an
 -- administrator is the Taylor UUCP 1.07 manual's, on uustat; regrading, the limits and the order of
 -- the reasons are this project's choice.)
-use Rattle.std.specs.Prelude.{ℕ, Bool, true, false, not, ◌==◌, ◌||◌, ◌&&◌, nat_eq, nat_lt, List, [], ◌∷◌, length, map, Option, Some, None, is_err, option_map, if◌then◌else◌}
+use Rattle.std.specs.Prelude.{ℕ, Bool, true, false, not, ◌==◌, ◌||◌, ◌&&◌, nat_eq, nat_lt, List, [], ◌∷◌, ◌++◌, length, map, Option, Some, None, is_err, option_map, if◌then◌else◌}
 use Rattle.std.specs.List.{list_any}
 use Rattle.std.specs.Set.{distinct_count}
 use Rattle.uu_map.specs.Text.{host_of}
 use Rattle.uu_core.specs.declared.command.Command.{Command}
-use Rattle.uu_core.specs.declared.command.Command.TheVariants.{Define, Remove, Queue, Kill, Regrade, Rejuvenate, Failed, Done, Entry}
+use Rattle.uu_core.specs.declared.command.Command.TheVariants.{Define, Remove, Queue, QueueOnce, Kill, Regrade, Rejuvenate, Failed, Done, Entry, Forget}
+use Rattle.uu_core.specs.declared.custody.Key.{Key}
+use Rattle.uu_core.specs.declared.custody.Taken.{Taken}
 use Rattle.uu_core.specs.declared.job.By.{By}
 use Rattle.uu_core.specs.declared.job.JobHead.{JobHead}
 use Rattle.uu_core.specs.declared.job.NewJob.{NewJob}
 use Rattle.uu_core.specs.declared.job.Kind.{Kind}
 use Rattle.uu_core.specs.declared.job.Kind.TheVariants.{Send, Request, Execute}
 use Rattle.uu_core.specs.declared.refusal.Refusal.{Refusal}
-use Rattle.uu_core.specs.declared.refusal.Refusal.TheVariants.{NoSystem, NoJob, NotYours, JobTwice, OtherSystem, Busy, TooLarge, NumbersOut, BadEntry}
+use Rattle.uu_core.specs.declared.refusal.Refusal.TheVariants.{NoSystem, NoJob, NotYours, JobTwice, OtherSystem, Busy, TooLarge, NumbersOut, BadEntry, Stale, Differs}
 use Rattle.uu_core.specs.Refusal.{first_reason}
-use Rattle.uu_core.specs.State.{State, same_text, has_system, is_waiting, job_at, head_of, most_bytes, most_arguments, most_done, numbers_end}
+use Rattle.uu_core.specs.State.{State, same_text, has_system, is_waiting, job_at, head_of, link_of, taken_at, most_bytes, most_arguments, most_done, numbers_end}
 
 -- ---- the reasons against a command, each with whether it applies, and the one that is told
 
@@ -31,6 +33,13 @@ has_many_arguments (Send source target) = false
 has_many_arguments (Request source target) = false
 has_many_arguments (Execute command arguments) = nat_lt most_arguments (length arguments)
 
+-- what is said of a system may be noted where the system is known
+abbrev pub known_reasons : Bool → List (Bool × Refusal)
+known_reasons known = (not known, NoSystem) ∷ []
+
+abbrev pub known_refusal : Bool → Option Refusal
+known_refusal known = first_reason (known_reasons known)
+
 -- too many bytes or arguments
 abbrev pub is_too_large : NewJob → Bool
 is_too_large job = nat_lt most_bytes (length job.bytes) || has_many_arguments job.kind
@@ -41,6 +50,48 @@ queue_reasons known next job = (is_too_large job, TooLarge) ∷ (not known, NoSy
 
 abbrev pub queue_refusal : Bool → ℕ → NewJob → Option Refusal
 queue_refusal known next job = first_reason (queue_reasons known next job)
+
+-- ---- a job that a neighbour hands on under a key; `taken` is what was taken under its number
+
+-- this very job was handed in before
+abbrev pub is_again : Option Taken → Key → Bool
+is_again None key = false
+is_again (Some taken) key = taken.mark == key.mark
+
+-- another job was
+abbrev pub is_other : Option Taken → Key → Bool
+is_other None key = false
+is_other (Some taken) key = not (taken.mark == key.mark)
+
+-- A job that comes for the first time may be handed in as any, where the neighbour is known too,
+-- may still ask for its number, and handed in no other job under it.
+abbrev pub fresh_reasons : Bool → ℕ → ℕ → Bool → Key → NewJob → List (Bool × Refusal)
+fresh_reasons known next below other key job = queue_reasons known next job ++ (nat_lt key.number below, Stale) ∷ (other, Differs) ∷ []
+
+abbrev pub fresh_refusal : Bool → ℕ → ℕ → Bool → Key → NewJob → Option Refusal
+fresh_refusal known next below other key job = first_reason (fresh_reasons known next below other key job)
+
+-- to a neighbour that asks again nothing stands in the way, whatever became of its systems since
+abbrev pub once_reasons : Bool → ℕ → ℕ → Option Taken → Key → NewJob → List (Bool × Refusal)
+once_reasons known next below taken key job =
+    if is_again taken key then [] else fresh_reasons known next below (is_other taken key) key job
+
+abbrev pub once_refusal : Bool → ℕ → ℕ → Option Taken → Key → NewJob → Option Refusal
+once_refusal known next below taken key job = first_reason (once_reasons known next below taken key job)
+
+-- the neighbour and the job's system are known
+abbrev pub are_known : State → Key → NewJob → Bool
+are_known state key job = has_system state key.from && has_system state job.system
+
+-- what was taken from the key's neighbour under its number
+abbrev pub taken_of : State → Key → Option Taken
+taken_of state key = taken_at (link_of state key.from) key.number
+
+abbrev pub once_reasons_in : State → Key → NewJob → List (Bool × Refusal)
+once_reasons_in state key job =
+    once_reasons (are_known state key job) state.next (link_of state key.from).below (taken_of state key) key job
+
+-- ---- jobs that are there
 
 -- an administrator may touch each job, anybody else the own ones
 abbrev pub may_touch : By → JobHead → Bool
@@ -85,21 +136,25 @@ abbrev pub verdict : State → Command → Option Refusal
 verdict state (Define def) = None
 verdict state (Remove name) = drop_refusal (has_system state name) (is_waiting state name)
 verdict state (Queue job) = queue_refusal (has_system state job.system) state.next job
+verdict state (QueueOnce key job) = first_reason (once_reasons_in state key job)
 verdict state (Kill job by) = job_refusal (option_map head_of (job_at state job)) by
 verdict state (Regrade job grade by) = job_refusal (option_map head_of (job_at state job)) by
 verdict state (Rejuvenate job at by) = job_refusal (option_map head_of (job_at state job)) by
 verdict state (Failed system at why) = first_reason ((not (has_system state system), NoSystem) ∷ [])
 verdict state (Done system at jobs) = done_refusal (has_system state system) system jobs (map head_of state.jobs)
 verdict state (Entry bytes) = first_reason ((is_err (host_of bytes), BadEntry) ∷ [])
+verdict state (Forget system below) = known_refusal (has_system state system)
 
 -- each reason for which a command may be refused, with whether it applies in a state
 abbrev pub reasons : State → Command → List (Bool × Refusal)
 reasons state (Define def) = []
 reasons state (Remove name) = drop_reasons (has_system state name) (is_waiting state name)
 reasons state (Queue job) = queue_reasons (has_system state job.system) state.next job
+reasons state (QueueOnce key job) = once_reasons_in state key job
 reasons state (Kill job by) = job_reasons (option_map head_of (job_at state job)) by
 reasons state (Regrade job grade by) = job_reasons (option_map head_of (job_at state job)) by
 reasons state (Rejuvenate job at by) = job_reasons (option_map head_of (job_at state job)) by
 reasons state (Failed system at why) = (not (has_system state system), NoSystem) ∷ []
 reasons state (Done system at jobs) = done_reasons (has_system state system) system jobs (map head_of state.jobs)
 reasons state (Entry bytes) = (is_err (host_of bytes), BadEntry) ∷ []
+reasons state (Forget system below) = known_reasons (has_system state system)

@@ -1,4 +1,5 @@
 // What a spool is told, and the reply.
+use crate::custody::Key;
 use crate::job::{By, NewJob};
 use crate::refusal::Refusal;
 use uu_names::{Grade, Listed, SiteName, Word};
@@ -13,6 +14,10 @@ pub enum Command {
     Remove(SiteName),
     /// The job is added under the next number.
     Queue(NewJob),
+    /// A neighbour hands the job on under this key: it is added under the next number, and the key
+    /// is kept with it; to a key that is kept the number of the first time is said again, and
+    /// nothing changes.
+    QueueOnce(Key, NewJob),
     /// The job goes.
     Kill {
         /// Its number.
@@ -58,6 +63,14 @@ pub enum Command {
     },
     /// The bytes of a map entry replace those of its host.
     Entry(Listed<u8>),
+    /// The system won't ask again for a job of its own below this number: no key of it with such a
+    /// number is kept or taken any more.
+    Forget {
+        /// The system.
+        system: SiteName,
+        /// The least number that it may still ask for.
+        below: u32,
+    },
 }
 
 /// What is said to a command.
@@ -65,7 +78,7 @@ pub enum Command {
 pub enum Reply {
     /// The command was carried out.
     Done,
-    /// The job was added under this number.
+    /// The job was added under this number, now or, to a key that was kept, before.
     Number(u32),
     /// The command was refused, and nothing changed.
     Refused(Refusal),

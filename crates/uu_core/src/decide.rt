@@ -2,9 +2,10 @@
 ghost use Rattle.std.specs.Prelude.{◌≡◌, ◌==◌, is_some, option_copied};
 ghost use Rattle.std.specs.List.{list_any};
 ghost use Rattle.uu_core.specs.Refusal.{decided};
-ghost use Rattle.uu_core.specs.Verdict.{drop_refusal, queue_refusal, job_refusal, has_many_arguments, is_too_large, may_touch, has_repeat, has_number, is_missing_one, has_other, done_refusal};
-ghost use Rattle.uu_core.specs.After.{failed_decision, done_call_of};
+ghost use Rattle.uu_core.specs.Verdict.{drop_refusal, queue_refusal, once_refusal, fresh_refusal, known_refusal, job_refusal, has_many_arguments, is_too_large, may_touch, has_repeat, has_number, is_missing_one, has_other, done_refusal};
+ghost use Rattle.uu_core.specs.After.{failed_decision, done_call_of, hand_in_of};
 
+use crate::custody::{HandIn, Key, Taken};
 use crate::job::{By, JobHead, Kind, NewJob};
 use crate::limits::{MAX_ARGUMENTS, MAX_BYTES, MAX_DONE, NUMBERS_END};
 use crate::refusal::Refusal;
@@ -63,6 +64,64 @@ pub fn decide_queue(known: bool, next: u32, job: &NewJob) -> Result<u32, Refusal
         Err(Refusal::NumbersOut)
     } else {
         Ok(next)
+    }
+}
+
+/// What a job comes to that a neighbour hands on under a key, where the neighbour and the job's
+/// system are both known or not, `next` is the next number, the neighbour asks for none `below` a
+/// number again, and `taken` is what was taken from it under the key's number.
+///
+/// # Errors
+/// None where the same was taken. Else, in this order: those of [`decide_queue`],
+/// [`Refusal::Stale`] where the key's number is below `below`, and [`Refusal::Differs`] where
+/// something else was taken.
+pub fn decide_queue_once(
+    known: bool,
+    next: u32,
+    below: u32,
+    taken: Option<Taken>,
+    key: &Key,
+    job: &NewJob,
+) -> Result<HandIn, Refusal>
+    ensures { result ≡ decided (once_refusal known next below taken key.now job.now) (hand_in_of taken key.now next) }
+{
+    match taken {
+        Some(taken) if taken.mark == key.mark => Ok(HandIn::Again(taken.job)),
+        Some(_) => decide_first(known, next, below, true, key, job),
+        None => decide_first(known, next, below, false, key, job),
+    }
+}
+
+// The same, where the job comes for the first time, and another was taken or not.
+fn decide_first(
+    known: bool,
+    next: u32,
+    below: u32,
+    other: bool,
+    key: &Key,
+    job: &NewJob,
+) -> Result<HandIn, Refusal>
+    ensures { result ≡ decided (fresh_refusal known next below other key.now job.now) (HandIn.First next) }
+{
+    match decide_queue(known, next, job) {
+        Err(refusal) => Err(refusal),
+        Ok(_) if key.number < below => Err(Refusal::Stale),
+        Ok(_) if other => Err(Refusal::Differs),
+        Ok(number) => Ok(HandIn::First(number)),
+    }
+}
+
+/// Whether a system, which is known or not, may be heard that it won't ask again for some jobs.
+///
+/// # Errors
+/// [`Refusal::NoSystem`] where it is not known.
+pub fn decide_forget(known: bool) -> Result<(), Refusal>
+    ensures { result ≡ decided (known_refusal known) tt }
+{
+    if known {
+        Ok(())
+    } else {
+        Err(Refusal::NoSystem)
     }
 }
 

@@ -1,7 +1,8 @@
 //! Laws of the machine that the contracts of this crate speak of.
 ghost use Rattle.std.specs.Prelude.{◌≡◌, ◌++◌, ◌+◌, ◌≤◌, ◌⊎◌, ◌<◌, ℕ, List, Some, None, Contains, Bool, false, All, AllPairs, IsPermutation, [], ◌∷◌, ◌↔◌, true, length, sum_by};
 ghost use Rattle.uu_core.specs.declared.command.Command.{Command};
-ghost use Rattle.uu_core.specs.declared.command.Command.TheVariants.{Queue};
+ghost use Rattle.uu_core.specs.declared.command.Command.TheVariants.{Queue, QueueOnce};
+ghost use Rattle.uu_core.specs.declared.custody.Key.{Key};
 ghost use Rattle.uu_core.specs.declared.queue.Queue.{Queue as SystemQueue};
 ghost use Rattle.uu_core.specs.declared.due.Due.{Due};
 ghost use Rattle.uu_core.specs.declared.next_call.NextCall.{NextCall};
@@ -17,13 +18,15 @@ ghost use Rattle.uu_core.specs.declared.job.JobHead.{JobHead};
 ghost use Rattle.uu_core.specs.declared.job.NewJob.{NewJob};
 ghost use Rattle.uu_core.specs.declared.refusal.Refusal.{Refusal};
 ghost use Rattle.uu_core.specs.declared.system.SystemRow.{SystemRow};
-ghost use Rattle.uu_core.specs.State.{State, Job, IsWellFormed, empty};
+ghost use Rattle.uu_core.specs.State.{State, Job, IsWellFormed, empty, has_system};
+ghost use Rattle.uu_core.specs.Custody.{Crossing, World, Parcel, Handed, Step, parcel_of, key_of, MayGoOn, world_after, IsReached, IsOf, IsQueued, IsNotLost, IsFree, IsLeast, least_of, MayCross};
+ghost use Rattle.uu_core.specs.Network.{Chart, Network, Move, world_of, MayMoveOn, network_after, IsReachedNetwork, IsRoute, GoesBy, ComesTo, IsMadeOf, Stands, AreNamedApart, by_line, IsWelcome, next_of, IsWelcomeOn, IsAcross, MayArrive};
 ghost use Rattle.uu_core.specs.Refusal.{first_reason, AreInTurn};
-ghost use Rattle.uu_core.specs.Verdict.{verdict, reasons, done_refusal};
+ghost use Rattle.uu_core.specs.Verdict.{verdict, reasons, done_refusal, queue_refusal, are_known, taken_of};
 ghost use Rattle.uu_core.specs.Due.{AreDue, AreInOrder, is_listed, walk, with_next};
 ghost use Rattle.uu_core.specs.After.{after, job_of};
 ghost use Rattle.uu_core.specs.Run.{state_after, replies_to};
-ghost use Rattle.uu_core.specs.Laws.{accepted_of, lets_go, numbers_in, IsAmong, IsHandedIn, IsOfRun, AreFound};
+ghost use Rattle.uu_core.specs.Laws.{accepted_of, lets_go, lets_forget, numbers_in, new_numbers, has_key, is_repeat, IsAmong, IsHandedIn, IsOfRun, AreFound};
 ghost use Rattle.uu_core.specs.WellFormed.{IsCommand};
 
 pub use crate::sound::commands_are_sound;
@@ -56,12 +59,16 @@ pub fn accepted_commands_alone()
 {}
 
 /// A number that a job got is below the next number from then on, and no job gets it again: the
-/// numbers that a run gives begin at the next one and rise.
+/// numbers that a run gives begin at the next one and rise. These are all the numbers of its
+/// replies but for those that are said again to a key that was kept.
 pub fn numbers_are_not_used_again()
     ensures rise { (state : State) (commands : List Command) → state.next ≤ (state_after state commands).next }
     ensures used { (state : State) (job : NewJob) (number : ℕ) → (after state (Queue job)).1 ≡ Number number → (number ≡ state.next) × ((after state (Queue job)).0.next ≡ number + 1) }
-    ensures fresh { (state : State) (commands : List Command) → All (λ number. state.next ≤ number) (numbers_in (replies_to state commands)) }
-    ensures once { (state : State) (commands : List Command) → AllPairs (λ earlier later. earlier < later) (numbers_in (replies_to state commands)) }
+    ensures handed_in { (state : State) (command : Command) (job : Job) → IsHandedIn state command job
+        → (job.number ≡ state.next) × ((after state command).0.next ≡ job.number + 1) × ((after state command).1 ≡ Number job.number) }
+    ensures fresh { (state : State) (commands : List Command) → All (λ number. state.next ≤ number) (new_numbers state commands) }
+    ensures once { (state : State) (commands : List Command) → AllPairs (λ earlier later. earlier < later) (new_numbers state commands) }
+    ensures all { (state : State) (commands : List Command) → All (λ command. has_key command ≡ false) commands → new_numbers state commands ≡ numbers_in (replies_to state commands) }
 {}
 
 /// Nothing is lost: a job stays until an accepted command names it and lets it go.
@@ -73,6 +80,8 @@ pub fn jobs_stay_until_they_go()
 /// command lets it go.
 pub fn jobs_stay_through_runs()
     ensures queued { (state : State) (job : NewJob) → verdict state (Queue job) ≡ None → Contains (after state (Queue job)).0.jobs (job_of state.next job) }
+    ensures queued_once { (state : State) (key : Key) (job : NewJob) → verdict state (QueueOnce key job) ≡ None → is_repeat state (QueueOnce key job) ≡ false
+        → Contains (after state (QueueOnce key job)).0.jobs (job_of state.next job) }
     ensures stays { (state : State) (commands : List Command) (job : Job) → Contains state.jobs job
         → All (λ command. lets_go command job.number ≡ false) (accepted_of state commands) → IsAmong (state_after state commands).jobs job }
 {}
@@ -89,6 +98,86 @@ pub fn states_stay_well_formed()
     ensures empty { IsWellFormed empty }
     ensures step { (state : State) (command : Command) → IsCommand command → IsWellFormed state → IsWellFormed (after state command).0 }
     ensures run { (state : State) (commands : List Command) → All IsCommand commands → IsWellFormed state → IsWellFormed (state_after state commands) }
+{}
+
+/// A key that got a number is kept with it (`kept`), and gets the same number again, whereupon
+/// nothing changes, after any run in which no accepted command lets the key be forgotten (`run`).
+pub fn keys_are_answered_again()
+    ensures kept { (state : State) (key : Key) (job : NewJob) (number : ℕ) → (after state (QueueOnce key job)).1 ≡ Number number
+        → taken_of (after state (QueueOnce key job)).0 key ≡ Some (record { number = key.number; mark = key.mark; job = number }) }
+    ensures run { (state : State) (key : Key) (first again : NewJob) (number : ℕ) (commands : List Command) → (after state (QueueOnce key first)).1 ≡ Number number
+        → All (λ command. lets_forget command key ≡ false) (accepted_of (after state (QueueOnce key first)).0 commands)
+        → let later = state_after (after state (QueueOnce key first)).0 commands in after later (QueueOnce key again) ≡ (later, Number number) }
+{}
+
+/// Custody: jobs are handed on under keys, over a wire that keeps all, repeats it and mixes it up,
+/// while both sites run what other commands they like and serve their other neighbours. In each
+/// world that is reached no number of the sender's was queued twice (`never_twice`), the jobs that
+/// were queued have numbers of their own (`apart`), and a parcel that was queued changes nothing
+/// any more (`unchanged`). A job that waits for the receiver does so later too, or was killed, or
+/// was queued (`never_lost`). What was answered was queued (`answered`), and what was queued was
+/// made of a parcel with its number (`same`). Where the receiver forgot only what the sender had
+/// said, no key stands in the way of a job that waits (`gets_through`); the number of the first
+/// such job may be said at any time (`may_say`). And where the receiver accepts the job, steps may
+/// follow after which it has queued it and the job waits no more (`crosses`).
+pub fn handed_on_jobs_come_once()
+    ensures never_twice { (crossing : Crossing) (world : World) → IsReached crossing world → AllPairs (λ one other. ¬ (one.number ≡ other.number)) world.handed }
+    ensures apart { (crossing : Crossing) (world : World) → IsReached crossing world → AllPairs (λ one other. one.job.number < other.job.number) world.handed }
+    ensures unchanged { (crossing : Crossing) (world : World) (parcel : Parcel) (new : NewJob) → IsReached crossing world → IsQueued crossing world parcel
+        → (after world.receiver (QueueOnce (key_of crossing parcel) new)).0 ≡ world.receiver }
+    ensures never_lost { (crossing : Crossing) (world : World) (steps : List Step) (job : Job) → IsReached crossing world → MayGoOn crossing world steps
+        → Contains world.sender.jobs job → job.system ≡ crossing.to → IsNotLost crossing (world_after crossing world steps) job }
+    ensures answered { (crossing : Crossing) (world : World) (number : ℕ) → IsReached crossing world → Contains world.answered number
+        → (handed : Handed) × Contains world.handed handed × (handed.number ≡ number) }
+    ensures same { (crossing : Crossing) (world : World) (handed : Handed) → IsReached crossing world → Contains world.handed handed
+        → (parcel : Parcel) × Contains world.shown parcel × IsOf crossing parcel handed }
+    ensures gets_through { (crossing : Crossing) (world : World) (job : Job) (new : NewJob) → IsReached crossing world → world.is_heard ≡ true
+        → Contains world.sender.jobs job → job.system ≡ crossing.to → IsFree crossing world job new }
+    ensures may_say { (crossing : Crossing) (sender : State) → IsWellFormed sender → IsLeast crossing sender (least_of crossing sender) }
+    ensures crosses { (crossing : Crossing) (world : World) (job : Job) (new : NewJob) (at : Moment) → IsReached crossing world
+        → Contains world.sender.jobs job → job.system ≡ crossing.to → crossing.makes (parcel_of job) new ≡ true
+        → verdict world.receiver (QueueOnce (key_of crossing (parcel_of job)) new) ≡ None → has_system world.sender crossing.to ≡ true → MayCross crossing world job }
+{}
+
+/// A message over several sites: lines from site to site, each a crossing under keys, so each line
+/// of a network that is reached is a world of two spools that is reached (`each_line`), and all
+/// that [`handed_on_jobs_come_once`] says holds there. By a list of lines a job comes to one last
+/// job at most (`never_twice`), and two of one number at the end come from one number at the
+/// beginning (`apart`). It goes one way: of two routes by which it came, one is the beginning of
+/// the other (`one_way`), and jobs that lines queued at one site have one number only where they
+/// are one, of one line (`one_origin`). What it came to it came to for good (`onward`). A job that
+/// a site had for a route stands later at one place of it: the furthest job that was made of it
+/// waits or was killed, or was queued at the last site (`never_lost`, `one_place`), and what was
+/// killed doesn't wait (`killed`). What comes to the end is what the programs on the way make of
+/// it, one after the other (`made`). And where the end of a line accepts what it makes of a job,
+/// three moves bring it there (`crosses`), and so along any route whose sites accept it
+/// (`arrives`).
+pub fn messages_cross_sites_once()
+    ensures each_line { (chart : Chart) (network : Network) (line : ℕ) → IsReachedNetwork chart network → IsReached (chart.crossing line) (world_of chart network line) }
+    ensures never_twice { (chart : Chart) (network : Network) (lines : List ℕ) (job one other : Job) → IsReachedNetwork chart network
+        → ComesTo network lines job one → ComesTo network lines job other → one ≡ other }
+    ensures apart { (chart : Chart) (network : Network) (lines : List ℕ) (one other first second : Job) → IsReachedNetwork chart network
+        → ComesTo network lines one first → ComesTo network lines other second → first.number ≡ second.number → one.number ≡ other.number }
+    ensures one_way { (chart : Chart) (network : Network) (site : ℕ) (lines others : List ℕ) (job one other : Job) → IsReachedNetwork chart network → AreNamedApart chart
+        → IsRoute chart site lines → IsRoute chart site others → ComesTo network lines job one → ComesTo network others job other
+        → (more : List ℕ) × ((lines ++ more ≡ others) ⊎ (others ++ more ≡ lines)) }
+    ensures one_origin { (chart : Chart) (network : Network) (line next : ℕ) (one other : Handed) → IsReachedNetwork chart network → chart.ends line ≡ chart.ends next
+        → Contains (network.wire line).handed one → Contains (network.wire next).handed other → one.job.number ≡ other.job.number → (line ≡ next) × (one.number ≡ other.number) }
+    ensures onward { (chart : Chart) (network : Network) (moves : List Move) (lines : List ℕ) (job last : Job)
+        → ComesTo network lines job last → ComesTo (network_after chart network moves) lines job last }
+    ensures never_lost { (chart : Chart) (network : Network) (moves : List Move) (site : ℕ) (lines : List ℕ) (job : Job) → IsReachedNetwork chart network → MayMoveOn chart network moves
+        → IsRoute chart site lines → Contains (network.site site).jobs job → GoesBy chart lines job → Stands chart (network_after chart network moves) lines job }
+    ensures one_place { (chart : Chart) (network : Network) (lines : List ℕ) (job : Job) (one other : Stands chart network lines job) → IsReachedNetwork chart network
+        → (one.crossed ≡ other.crossed) × (one.last ≡ other.last) }
+    ensures killed { (chart : Chart) (network : Network) (line : ℕ) (job : Job) → IsReachedNetwork chart network → Contains (network.wire line).killed job.number
+        → ¬ IsAmong (network.site (chart.begins line)).jobs job }
+    ensures made { (chart : Chart) (network : Network) (moves : List Move) (site : ℕ) (lines : List ℕ) (job last : Job) → IsReachedNetwork chart network → MayMoveOn chart network moves
+        → IsRoute chart site lines → Contains (network.site site).jobs job → ComesTo (network_after chart network moves) lines job last → IsMadeOf chart lines job last }
+    ensures crosses { (chart : Chart) (network : Network) (line : ℕ) (job : Job) (new : NewJob) (at : Moment) → IsReachedNetwork chart network → AreNamedApart chart
+        → Contains (network.site (chart.begins line)).jobs job → job.system ≡ (chart.crossing line).to → IsWelcome chart network line job new
+        → IsAcross chart network (by_line chart line job new at) line job (next_of chart network line new) }
+    ensures arrives { (chart : Chart) (network : Network) (site : ℕ) (lines : List ℕ) (job : Job) → IsReachedNetwork chart network → AreNamedApart chart
+        → IsRoute chart site lines → Contains (network.site site).jobs job → GoesBy chart lines job → IsWelcomeOn chart network lines job → MayArrive chart network site lines job }
 {}
 
 /// What is due is what a walk along the jobs by grade and number lists.

@@ -5,6 +5,7 @@
 
 pub mod callable;
 mod command;
+mod custody;
 mod decide;
 mod due;
 mod filter;
@@ -21,7 +22,11 @@ mod waiting;
 mod weeks;
 
 pub use command::{Command, Reply};
-pub use decide::{decide_done, decide_drop, decide_failed, decide_job, decide_queue};
+pub use custody::{HandIn, Key, Mark, Taken};
+pub use decide::{
+    decide_done, decide_drop, decide_failed, decide_forget, decide_job, decide_queue,
+    decide_queue_once,
+};
 pub use due::{Due, choose};
 pub use filter::Filter;
 pub use job::{By, JobHead, Kind, NewJob};

@@ -9,6 +9,7 @@ ghost use Rattle.uu_core.specs.Plain.{IsGiven};
 mod copy;
 mod entry;
 mod job;
+mod link;
 mod lists;
 mod rows;
 
@@ -19,6 +20,7 @@ use crate::system::SystemRow;
 use copy::heads_of;
 pub use entry::PlainEntry;
 pub use job::PlainJob;
+pub use link::PlainLink;
 use lists::Lists;
 use rows::{entry_at, job_at};
 use std::alloc::{AllocError, Global};
@@ -26,8 +28,8 @@ use std::marker::Model;
 use uu_names::SiteName;
 use uu_times::Moment;
 
-/// A spool in memory, seen as its state. It never holds two jobs of one number, two systems of one
-/// name or two entries of one host.
+/// A spool in memory, seen as its state. It never holds two jobs of one number, two systems or
+/// links of one name or two entries of one host.
 #[derive(Drop)]
 pub struct Machine {
     lists: Lists,
@@ -56,6 +58,7 @@ impl Machine {
                 systems: Vec::new(alloc),
                 entries: Vec::new(alloc),
                 next: 1,
+                links: Vec::new(alloc),
             },
         }
     }
@@ -116,6 +119,13 @@ impl Machine {
         ensures { option_copied result ≡ entry_at self.now host.now }
     {
         entry_at(self.lists.entries.as_slice(), host)
+    }
+
+    /// What is kept of each neighbour that hands jobs on, in the order of their names' bytes.
+    pub fn links(&self) -> &[PlainLink]
+        ensures { result.now ≡ self.now.links }
+    {
+        self.lists.links.as_slice()
     }
 
     /// The number of the next job.

@@ -35,10 +35,16 @@ pub enum Refusal {
     /// The map entry can't be read.
     #[error("the map entry cannot be read")]
     BadEntry,
+    /// The neighbour said that it won't ask for this number again.
+    #[error("a number that the neighbour was done with")]
+    Stale,
+    /// Another job of the neighbour's came under this number.
+    #[error("another job came under this number")]
+    Differs,
 }
 
 impl Refusal {
-    /// The refusal's number, from 1 for [`Refusal::NoSystem`] to 9 for [`Refusal::BadEntry`], in
+    /// The refusal's number, from 1 for [`Refusal::NoSystem`] to 11 for [`Refusal::Differs`], in
     /// the order of the variants.
     pub fn code(&self) -> u8
         ensures { result ≡ refusal_code self.now }
@@ -53,6 +59,8 @@ impl Refusal {
             Refusal::TooLarge => 7,
             Refusal::NumbersOut => 8,
             Refusal::BadEntry => 9,
+            Refusal::Stale => 10,
+            Refusal::Differs => 11,
         }
     }
 
@@ -70,6 +78,8 @@ impl Refusal {
             Refusal::TooLarge => "TooLarge",
             Refusal::NumbersOut => "NumbersOut",
             Refusal::BadEntry => "BadEntry",
+            Refusal::Stale => "Stale",
+            Refusal::Differs => "Differs",
         }
     }
 }

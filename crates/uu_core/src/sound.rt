@@ -2,9 +2,10 @@
 ghost use Rattle.std.specs.Prelude.{All, IsTrue};
 ghost use Rattle.uu_names.specs.Name.{is_word};
 ghost use Rattle.uu_core.specs.State.{IsDefinition, IsLine};
-ghost use Rattle.uu_core.specs.WellFormed.{IsCommand, IsNewJob, HasWords};
+ghost use Rattle.uu_core.specs.WellFormed.{IsCommand, IsKey, IsNewJob, HasWords};
 
 use crate::command::Command;
+use crate::custody::Key;
 use crate::job::{Kind, NewJob};
 use uu_names::Word;
 use uu_times::{Line, SystemDef};
@@ -57,19 +58,34 @@ fn job_is_sound(job: &NewJob)
     kind_is_sound(&job.kind);
 }
 
-/// The names, words, grades and moments of each command are such, as its types see to it: a command
-/// of this type keeps a spool well-formed.
+fn key_is_sound(key: &Key)
+    ensures { IsKey key.now }
+{
+    let _ = key.from.as_str();
+    let _number = key.number;
+    let _ = key.mark.number();
+}
+
+/// The names, words, grades, moments and numbers of each command are such, as its types see to it:
+/// a command of this type keeps a spool well-formed.
 pub fn commands_are_sound(command: &Command)
     ensures { IsCommand command.now }
 {
     match command {
         Command::Define(def) => definition_is_sound(def),
         Command::Queue(job) => job_is_sound(job),
+        Command::QueueOnce(key, job) => {
+            key_is_sound(key);
+            job_is_sound(job);
+        }
         Command::Regrade { grade, .. } => {
             let _ = grade.rank();
         }
         Command::Failed { why, .. } => {
             let _ = why.as_str();
+        }
+        Command::Forget { below, .. } => {
+            let _below = *below;
         }
         Command::Remove(_)
         | Command::Kill { .. }

@@ -1,5 +1,5 @@
--- How a database becomes one of another schema: that of an empty spool is made, and that of version
--- 1 made one of version 2.
+-- How a database becomes one of another schema: that of an empty spool is made, and that of an
+-- earlier version made one of the version that is written.
 use Rattle.std.proofs.Common.{◌≡◌, inl, inr, false, Result, Ok, Err, refl, sym, subst, ◌∙◌, arith}
 use Rattle.std.specs.Prelude.{IsTrue, IsOk, IsErr, OnOk, IfErr}
 use Rattle.sqlite.specs.Schema.{Schema}
@@ -10,8 +10,8 @@ use Rattle.uu_sql.specs.Steps.{Stands, Rests, Whole, Did, Undid, Ends}
 use Rattle.uu_core.specs.State.{State, IsWellFormed, empty}
 use Rattle.uu_tables.specs.Tables.{tables_of}
 use Rattle.uu_schema.specs.Held.{MakesEmpty, Migrates}
-use Rattle.uu_schema.specs.Schema.{first_site, site}
-use Rattle.uu_schema.specs.declared.version.Version.TheVariants.{First}
+use Rattle.uu_schema.specs.Schema.{site, site_of}
+use Rattle.uu_schema.specs.declared.version.Version.{Version}
 use Rattle.uu_schema.specs.Faults.{IsFresh, kind_of_error}
 use Rattle.sqlite.specs.declared.error.Error.{Error}
 use Rattle.uu_schema.specs.declared.fault.Halt.{Halt}
@@ -57,8 +57,8 @@ module _ (from to : Schema) (Step Wanted : Trees → Trees → Type 0) (means : 
 pub makes_empty : IsWellFormed empty → (old new : Trees) → MakesEmpty old new → HoldsState new empty
 makes_empty good old new step = record { tables = step; good = good }
 
-pub migrates_states : (old new : Trees) → Migrates old new → HoldsAgain old new
-migrates_states old new step s held = record { tables = step (tables_of s) held.tables; good = held.good }
+pub migrates_states : (v : Version) (old new : Trees) → Migrates v old new → HoldsAgain v old new
+migrates_states v old new step s held = record { tables = step (tables_of s) held.tables; good = held.good }
 
 -- ---- where want of memory was told, nothing can have been committed
 
@@ -81,21 +81,21 @@ unless_weaker Failed step h = step h
 unless_weaker ForeignFault step h = step h
 unless_weaker Newer step h = step h
 
--- ---- version 1: looked at, and then made version 2
+-- ---- an earlier version: looked at, and then made the one that is written
 
-module _ (a b d : db.State) (first : IsInspected First a b (Ok tt)) (spared : IsSpared a b (Ok tt)) (early : db.HasCleanDisk d → db.HasCleanDisk b) where
-  held : db.HasCleanDisk d → Stands first_site a.now → (s : State) × HoldsStateAs First a.now.trees s
+module _ (v : Version) (a b d : db.State) (first : IsInspected v a b (Ok tt)) (spared : IsSpared a b (Ok tt)) (early : db.HasCleanDisk d → db.HasCleanDisk b) where
+  held : db.HasCleanDisk d → Stands (site_of v) a.now → (s : State) × HoldsStateAs v a.now.trees s
   held clean stands = first.ok (early clean) stands
 
-  stands_on : db.HasCleanDisk d → Rests a → Stands first_site a.now → Stands first_site b.now
-  stands_on clean rests stands = subst (Stands first_site) (sym (spared.same (early clean) rests).1) stands
+  stands_on : db.HasCleanDisk d → Rests a → Stands (site_of v) a.now → Stands (site_of v) b.now
+  stands_on clean rests stands = subst (Stands (site_of v)) (sym (spared.same (early clean) rests).1) stands
 
-  migrated : db.HasCleanDisk d → Rests a → Stands first_site a.now → (trees : Trees) → HoldsAgain b.now.trees trees → Migrated a.now.trees trees
+  migrated : db.HasCleanDisk d → Rests a → Stands (site_of v) a.now → (trees : Trees) → HoldsAgain v b.now.trees trees → Migrated v a.now.trees trees
   migrated clean rests stands trees again =
       let it = held clean stands in
-      record { state = it.0; held = it.1; again = subst (λ (now : Database). HoldsAgain now.trees trees) (spared.same (early clean) rests).1 again }
+      record { state = it.0; held = it.1; again = subst (λ (now : Database). HoldsAgain v now.trees trees) (spared.same (early clean) rests).1 again }
 
-  pub migrated_then : (r : Result (Unit {0}) StoreFault) → Becomes first_site site HoldsAgain b d r → MigratesState a d r
+  pub migrated_then : (r : Result (Unit {0}) StoreFault) → Becomes (site_of v) site (HoldsAgain v) b d r → MigratesState v a d r
   migrated_then r h = record {
     ok = λ clean rests stands. done clean rests stands r (h.ok clean (spared.same (early clean) rests).0 (stands_on clean rests stands));
     memory = λ clean rests stands is. let same = spared.same (early clean) rests in let m = h.memory clean same.0 (stands_on clean rests stands) is in (m.0, m.1 ∙ same.1);
@@ -105,11 +105,11 @@ module _ (a b d : db.State) (first : IsInspected First a b (Ok tt)) (spared : Is
     ];
   }
     where
-      done : db.HasCleanDisk d → Rests a → Stands first_site a.now → (r : Result (Unit {0}) StoreFault) → OnOk r (Rests d × Stands site d.now × HoldsAgain b.now.trees d.now.trees) → OnOk r (Rests d × Stands site d.now × Migrated a.now.trees d.now.trees)
+      done : db.HasCleanDisk d → Rests a → Stands (site_of v) a.now → (r : Result (Unit {0}) StoreFault) → OnOk r (Rests d × Stands site d.now × HoldsAgain v b.now.trees d.now.trees) → OnOk r (Rests d × Stands site d.now × Migrated v a.now.trees d.now.trees)
       done clean rests stands (Ok x) it = (it.0, it.1, migrated clean rests stands d.now.trees it.2)
       done clean rests stands (Err e) it = tt
 
-  pub inspected_then : (r : Result (Unit {0}) StoreFault) → IfErr r IsFresh → IsInspected First a d r
+  pub inspected_then : (r : Result (Unit {0}) StoreFault) → IfErr r IsFresh → IsInspected v a d r
   inspected_then (Ok x) fresh = record { ok = λ clean stands. held clean stands; newer = λ clean stands is. absurd (cc); foreign = λ clean stands is. absurd (cc) }
   inspected_then (Err fault) fresh = record {
     ok = λ clean stands. tt;
@@ -158,8 +158,8 @@ spared_then a b d r first early then = record {
     after (Err Newer) same it = (it.0, it.1 ∙ same)
 
 -- an error of a database that was only looked at
-pub spared_migrates : (a b : db.State) (fault : StoreFault) → IsSpared a b (Err fault) → MigratesState a b (Err fault)
-spared_migrates a b fault spared = record {
+pub spared_migrates : (v : Version) (a b : db.State) (fault : StoreFault) → IsSpared a b (Err fault) → MigratesState v a b (Err fault)
+spared_migrates v a b fault spared = record {
   ok = λ clean rests stands. tt;
   memory = λ clean rests stands is. memory fault (is_memory fault is) (spared.same clean rests);
   stop = λ clean rests stands trees may. inl (spared.stop clean trees may);

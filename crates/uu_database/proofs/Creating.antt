@@ -6,24 +6,29 @@ use Rattle.sqlite.specs.Effect.{Database}
 use Rattle.sqlite.specs.State as db
 use Rattle.sqlite_schema.specs.Names.{same_name}
 use Rattle.uu_sql.specs.Steps.{Stands}
-use Rattle.uu_schema.specs.Schema.{site, first_site, no_schema, site_of}
+use Rattle.uu_schema.specs.Schema.{site, first_site, second_site, no_schema, site_of}
 use Rattle.uu_schema.specs.declared.version.Version.{Version}
-use Rattle.uu_schema.specs.declared.version.Version.TheVariants.{First, Second}
+use Rattle.uu_schema.specs.declared.version.Version.TheVariants.{First, Second, Third}
 use Rattle.uu_database.specs.declared.tables.Found.{Found}
 use Rattle.uu_database.specs.declared.tables.Found.TheVariants.{Nothing, Spool, Other}
-use Rattle.uu_database.specs.FoundTables.{found_of, HasNone, HasAllOf, HasFirst, HasNoneOrAll, HasOther}
+use Rattle.uu_database.specs.FoundTables.{found_of, HasNone, HasAllOf, HasEarlier, IsEarlier, HasNoneOrAll, HasOther}
 
 found_first : found_of first_site ≡ Spool (Some First)
 unfolding same_name
 found_first = refl
 
-found_site : found_of site ≡ Spool (Some Second)
+found_second : found_of second_site ≡ Spool (Some Second)
+unfolding same_name
+found_second = refl
+
+found_site : found_of site ≡ Spool (Some Third)
 unfolding same_name
 found_site = refl
 
 found_version : (v : Version) → found_of (site_of v) ≡ Spool (Some v)
 found_version First = found_first
-found_version Second = found_site
+found_version Second = found_second
+found_version Third = found_site
 
 -- of a database that has the tables of a version every one is found
 pub tables_found : (v : Version) (a : db.State) (schema : Schema) (found : Found) → schema ≡ a.now.schema → found ≡ found_of schema → Stands (site_of v) a.now → found ≡ Spool (Some v)
@@ -55,9 +60,18 @@ all_of_version v d stands = ap found_of stands.schema ∙ found_version v
 pub all_found : (v : Version) (d : Database) → Stands (site_of v) d → ¬ HasNone d.schema
 all_found v d stands none = let all = all_of_version v d stands in cc
 
--- version 2 isn't version 1
-pub second_found : (d : Database) → Stands site d → ¬ HasFirst d.schema
-second_found d stands first = let all = all_of_version Second d stands in let same : Spool (Some First) ≡ Spool (Some Second) = sym first ∙ all in cc
+-- the last version is none before it
+not_last : (v : Version) → IsEarlier v → v ≡ Third → ⊥
+not_last First early is = cc
+not_last Second early is = cc
+not_last Third early is = early
+
+pub last_found : (d : Database) → Stands site d → ¬ HasEarlier d.schema
+last_found d stands earlier =
+    let all = all_of_version Third d stands in
+    let same : Spool (Some earlier.0) ≡ Spool (Some Third) = sym earlier.2 ∙ all in
+    let is : earlier.0 ≡ Third = cc in
+    not_last earlier.0 earlier.1 is
 
 pub none_or_other : (schema : Schema) → HasNone schema → HasOther schema → ⊥
 none_or_other schema none other = cc

@@ -2,17 +2,18 @@
 use Rattle.std.proofs.Common.{◌≡◌, ℕ, Bool, true, false, ◌||◌, ◌&&◌, cond, List, [], ◌∷◌, map, Option, Some, None, codes, find, is_some, refl, sym, ap, ◌∙◌}
 use Rattle.std.specs.List.{AllByRecursion, list_any, list_all}
 use Rattle.std.specs.Option.{option_map_or}
+use Rattle.std.proofs.lemmas.Bool.{or_parts}
 use Rattle.sqlite.specs.Schema.{Schema}
 use Rattle.sqlite.specs.Table.{Table}
 use Rattle.sqlite_rules.proofs.ListLemmas.{some_has, some_from}
 use Rattle.sqlite_schema.specs.Names.{same_name}
 use Rattle.sqlite_schema.specs.declared.schema.Column.{Column}
-use Rattle.uu_schema.specs.Schema.{first_site, spool, systems, lines, ranges, jobs, pieces, entries, success_waits}
+use Rattle.uu_schema.specs.Schema.{first_site, spool, systems, lines, ranges, jobs, pieces, entries, success_waits, links, taken}
 use Rattle.uu_schema.specs.declared.version.Version.{Version}
-use Rattle.uu_schema.specs.declared.version.Version.TheVariants.{First, Second}
+use Rattle.uu_schema.specs.declared.version.Version.TheVariants.{First, Second, Third}
 use Rattle.uu_database.specs.declared.tables.Found.{Found}
 use Rattle.uu_database.specs.declared.tables.Found.TheVariants.{Nothing, Spool, Other}
-use Rattle.uu_database.specs.FoundTables.{system_columns, line_columns, range_columns, job_columns, piece_columns, entry_columns, wait_columns, table_of, has_column, has_table, has_systems, has_jobs, has_waits, is_whole, is_taken, is_any_taken, tables_with, found_beside, found_of, HasNone, HasAllOf, HasOther}
+use Rattle.uu_database.specs.FoundTables.{system_columns, line_columns, range_columns, job_columns, piece_columns, entry_columns, wait_columns, link_columns, taken_columns, table_of, has_column, has_table, has_systems, has_jobs, has_waits, has_links, is_whole, is_taken, is_link_taken, is_any_taken, added_with, tables_with, found_beside, found_of, HasNone, HasAllOf, HasOther}
 use Rattle.uu_database.specs.Format.{IsFree, HasColumn, HasTable, HasTableOf, HasNoName, HasTablesOf, TellsVersion}
 
 -- ---- a name
@@ -114,19 +115,39 @@ none_of_seven false false false false true f g p q r s t u v = absurd (cc)
 none_of_seven false false false false false true g p q r s t u v = absurd (cc)
 none_of_seven false false false false false false true p q r s t u v = absurd (cc)
 
+-- eight, of which the last is one of two
+nine : (a b c d e f g h i : Bool) → (a || b || c || d || e || f || g || (h || i)) ≡ false → (a ≡ false) × (b ≡ false) × (c ≡ false) × (d ≡ false) × (e ≡ false) × (f ≡ false) × (g ≡ false) × (h ≡ false) × (i ≡ false)
+nine a b c d e f g h i is =
+    let parts = or_parts (a || b || c || d || e || f || g) (h || i) is in
+    let first = seven a b c d e f g parts.0 in
+    let last = or_parts h i parts.1 in
+    (first.0, first.1, first.2, first.3, first.4, first.5, first.6, last.0, last.1)
+
+neither : (a b : Bool) → a ≡ false → b ≡ false → (a || b) ≡ false
+neither false false x y = refl
+neither true b x y = absurd (cc)
+neither false true x y = absurd (cc)
+
 -- ---- none of the tables
 
 module _ (schema : Schema) where
+  links_free : IsFree schema (codes "links") → IsFree schema (codes "taken") → is_link_taken schema ≡ false
+  links_free a b = neither (is_taken schema (codes "links")) (is_taken schema (codes "taken")) (not_taken schema (codes "links") a) (not_taken schema (codes "taken") b)
+
+  free_links : is_link_taken schema ≡ false → IsFree schema (codes "links") × IsFree schema (codes "taken")
+  free_links is = let it = or_parts (is_taken schema (codes "links")) (is_taken schema (codes "taken")) is in (free schema (codes "links") it.0, free schema (codes "taken") it.1)
+
   names_free : table_of schema (codes "spool") ≡ None → is_any_taken schema ≡ false → HasNoName schema
   names_free none is =
-      let it = seven (is_taken schema (codes "systems")) (is_taken schema (codes "lines")) (is_taken schema (codes "ranges")) (is_taken schema (codes "jobs")) (is_taken schema (codes "pieces")) (is_taken schema (codes "entries")) (is_taken schema (codes "success_waits")) is in
-      (none_free (codes "spool") schema.tables none, (free schema (codes "systems") it.0, (free schema (codes "lines") it.1, (free schema (codes "ranges") it.2, (free schema (codes "jobs") it.3, (free schema (codes "pieces") it.4, (free schema (codes "entries") it.5, (free schema (codes "success_waits") it.6, tt))))))))
+      let it = nine (is_taken schema (codes "systems")) (is_taken schema (codes "lines")) (is_taken schema (codes "ranges")) (is_taken schema (codes "jobs")) (is_taken schema (codes "pieces")) (is_taken schema (codes "entries")) (is_taken schema (codes "success_waits")) (is_taken schema (codes "links")) (is_taken schema (codes "taken")) is in
+      (none_free (codes "spool") schema.tables none, (free schema (codes "systems") it.0, (free schema (codes "lines") it.1, (free schema (codes "ranges") it.2, (free schema (codes "jobs") it.3, (free schema (codes "pieces") it.4, (free schema (codes "entries") it.5, (free schema (codes "success_waits") it.6, (free schema (codes "links") it.7, (free schema (codes "taken") it.8, tt))))))))))
 
   any_free : HasNoName schema → is_any_taken schema ≡ false
   any_free it =
-      none_of_seven (is_taken schema (codes "systems")) (is_taken schema (codes "lines")) (is_taken schema (codes "ranges")) (is_taken schema (codes "jobs")) (is_taken schema (codes "pieces")) (is_taken schema (codes "entries")) (is_taken schema (codes "success_waits"))
+      neither _ (is_link_taken schema) (none_of_seven (is_taken schema (codes "systems")) (is_taken schema (codes "lines")) (is_taken schema (codes "ranges")) (is_taken schema (codes "jobs")) (is_taken schema (codes "pieces")) (is_taken schema (codes "entries")) (is_taken schema (codes "success_waits"))
       (not_taken schema (codes "systems") it.1.0) (not_taken schema (codes "lines") it.1.1.0) (not_taken schema (codes "ranges") it.1.1.1.0) (not_taken schema (codes "jobs") it.1.1.1.1.0) (not_taken schema (codes "pieces") it.1.1.1.1.1.0)
-      (not_taken schema (codes "entries") it.1.1.1.1.1.1.0) (not_taken schema (codes "success_waits") it.1.1.1.1.1.1.1.0)
+      (not_taken schema (codes "entries") it.1.1.1.1.1.1.0) (not_taken schema (codes "success_waits") it.1.1.1.1.1.1.1.0))
+      (links_free it.1.1.1.1.1.1.1.1.0 it.1.1.1.1.1.1.1.1.1.0)
 
   pub none_is : HasNone schema → HasNoName schema
   none_is none = go (table_of schema (codes "spool")) refl none
@@ -210,47 +231,86 @@ module _ (schema : Schema) where
       (all_three (has_table schema (codes "jobs") job_columns) (has_table schema (codes "pieces") piece_columns) (has_table schema (codes "entries") entry_columns)
       (table_found schema (codes "jobs") job_columns d) (table_found schema (codes "pieces") piece_columns e) (table_found schema (codes "entries") entry_columns f))
 
-  abbrev chosen : Bool → Bool → Bool → Option Version
-  chosen whole waits taken = cond whole (cond waits (Some Second) (cond taken None (Some First))) None
+  abbrev chosen : Bool → Bool → Bool → Bool → Bool → Option Version
+  chosen whole waits links waits_taken link_taken = cond whole (cond waits (cond links (Some Third) (cond link_taken None (Some Second))) (cond (waits_taken || link_taken) None (Some First))) None
 
-  second_chosen : (w h t : Bool) → chosen w h t ≡ Some Second → (w ≡ true) × (h ≡ true)
-  second_chosen true true t is = (refl, refl)
-  second_chosen true false true is = absurd (cc)
-  second_chosen true false false is = absurd (let same : First ≡ Second = cc in cc)
-  second_chosen false h t is = absurd (cc)
+  third_chosen : (w h l t n : Bool) → chosen w h l t n ≡ Some Third → (w ≡ true) × (h ≡ true) × (l ≡ true)
+  third_chosen true true true t n is = (refl, refl, refl)
+  third_chosen true true false t true is = absurd (cc)
+  third_chosen true true false t false is = absurd (let same : Second ≡ Third = cc in cc)
+  third_chosen true false l true n is = absurd (cc)
+  third_chosen true false l false true is = absurd (cc)
+  third_chosen true false l false false is = absurd (let same : First ≡ Third = cc in cc)
+  third_chosen false h l t n is = absurd (cc)
 
-  first_chosen : (w h t : Bool) → chosen w h t ≡ Some First → (w ≡ true) × (t ≡ false)
-  first_chosen true true t is = absurd (let same : Second ≡ First = cc in cc)
-  first_chosen true false true is = absurd (cc)
-  first_chosen true false false is = (refl, refl)
-  first_chosen false h t is = absurd (cc)
+  second_chosen : (w h l t n : Bool) → chosen w h l t n ≡ Some Second → (w ≡ true) × (h ≡ true) × (n ≡ false)
+  second_chosen true true true t n is = absurd (let same : Third ≡ Second = cc in cc)
+  second_chosen true true false t true is = absurd (cc)
+  second_chosen true true false t false is = (refl, refl, refl)
+  second_chosen true false l true n is = absurd (cc)
+  second_chosen true false l false true is = absurd (cc)
+  second_chosen true false l false false is = absurd (let same : First ≡ Second = cc in cc)
+  second_chosen false h l t n is = absurd (cc)
 
-  choose_second : (w h t : Bool) → w ≡ true → h ≡ true → chosen w h t ≡ Some Second
-  choose_second w h t whole waits = rw (whole, waits) refl
+  first_chosen : (w h l t n : Bool) → chosen w h l t n ≡ Some First → (w ≡ true) × (t ≡ false) × (n ≡ false)
+  first_chosen true true true t n is = absurd (let same : Third ≡ First = cc in cc)
+  first_chosen true true false t true is = absurd (cc)
+  first_chosen true true false t false is = absurd (let same : Second ≡ First = cc in cc)
+  first_chosen true false l true n is = absurd (cc)
+  first_chosen true false l false true is = absurd (cc)
+  first_chosen true false l false false is = (refl, refl, refl)
+  first_chosen false h l t n is = absurd (cc)
 
-  choose_first : (w h t : Bool) → w ≡ true → h ≡ false → t ≡ false → chosen w h t ≡ Some First
-  choose_first w h t whole waits taken = rw (whole, waits, taken) refl
+  choose_third : (w h l t n : Bool) → w ≡ true → h ≡ true → l ≡ true → chosen w h l t n ≡ Some Third
+  choose_third w h l t n whole waits links = rw (whole, waits, links) refl
+
+  choose_second : (w h l t n : Bool) → w ≡ true → h ≡ true → l ≡ false → n ≡ false → chosen w h l t n ≡ Some Second
+  choose_second w h l t n whole waits links named = rw (whole, waits, links, named) refl
+
+  choose_first : (w h l t n : Bool) → w ≡ true → h ≡ false → t ≡ false → n ≡ false → chosen w h l t n ≡ Some First
+  choose_first w h l t n whole waits taken named = rw (whole, waits, taken, named) refl
+
+  links_there : has_links schema ≡ true → HasTableOf schema links × HasTableOf schema taken
+  links_there is = let it = two (has_table schema (codes "links") link_columns) (has_table schema (codes "taken") taken_columns) is in (table_there schema (codes "links") link_columns it.0, table_there schema (codes "taken") taken_columns it.1)
+
+  links_found : HasTableOf schema links → HasTableOf schema taken → has_links schema ≡ true
+  links_found a b = both (has_table schema (codes "links") link_columns) (has_table schema (codes "taken") taken_columns) (table_found schema (codes "links") link_columns a) (table_found schema (codes "taken") taken_columns b)
+
+  no_links : IsFree schema (codes "links") → has_links schema ≡ false
+  no_links it = ap (λ b. b && has_table schema (codes "taken") taken_columns) (lacks schema (codes "links") link_columns it)
 
   pub all_are : (v : Version) → HasAllOf v schema → HasTablesOf v schema
   all_are First all =
       let found = with_spool (Some First) all in
-      let is = first_chosen (is_whole schema found.it.table) (has_waits schema) (is_taken schema (codes "success_waits")) found.with_tables in
-      record { all = first_there found.it is.0; none_later = (free schema (codes "success_waits") is.1, tt) }
+      let is = first_chosen (is_whole schema found.it.table) (has_waits schema) (has_links schema) (is_taken schema (codes "success_waits")) (is_link_taken schema) found.with_tables in
+      let rest = free_links is.2 in
+      record { all = first_there found.it is.0; none_later = (free schema (codes "success_waits") is.1, (rest.0, (rest.1, tt))) }
   all_are Second all =
       let found = with_spool (Some Second) all in
-      let is = second_chosen (is_whole schema found.it.table) (has_waits schema) (is_taken schema (codes "success_waits")) found.with_tables in
+      let is = second_chosen (is_whole schema found.it.table) (has_waits schema) (has_links schema) (is_taken schema (codes "success_waits")) (is_link_taken schema) found.with_tables in
       let first = first_there found.it is.0 in
-      record { all = (first.0, (first.1.0, (first.1.1.0, (first.1.1.1.0, (first.1.1.1.1.0, (first.1.1.1.1.1.0, (first.1.1.1.1.1.1.0, (table_there schema (codes "success_waits") wait_columns is.1, tt)))))))); none_later = tt }
+      let rest = free_links is.2 in
+      record { all = (first.0, (first.1.0, (first.1.1.0, (first.1.1.1.0, (first.1.1.1.1.0, (first.1.1.1.1.1.0, (first.1.1.1.1.1.1.0, (table_there schema (codes "success_waits") wait_columns is.1, tt)))))))); none_later = (rest.0, (rest.1, tt)) }
+  all_are Third all =
+      let found = with_spool (Some Third) all in
+      let is = third_chosen (is_whole schema found.it.table) (has_waits schema) (has_links schema) (is_taken schema (codes "success_waits")) (is_link_taken schema) found.with_tables in
+      let first = first_there found.it is.0 in
+      let rest = links_there is.2 in
+      record { all = (first.0, (first.1.0, (first.1.1.0, (first.1.1.1.0, (first.1.1.1.1.0, (first.1.1.1.1.1.0, (first.1.1.1.1.1.1.0, (table_there schema (codes "success_waits") wait_columns is.1, (rest.0, (rest.1, tt)))))))))); none_later = tt }
 
   pub are_all : (v : Version) → HasTablesOf v schema → HasAllOf v schema
   are_all First it =
       tells (told_by it.all.0)
-      ∙ ap Spool (choose_first (is_whole schema it.all.0.table) (has_waits schema) (is_taken schema (codes "success_waits")) (first_found it.all.0 it.all.1.0 it.all.1.1.0 it.all.1.1.1.0 it.all.1.1.1.1.0 it.all.1.1.1.1.1.0 it.all.1.1.1.1.1.1.0)
-      (lacks schema (codes "success_waits") wait_columns it.none_later.0) (not_taken schema (codes "success_waits") it.none_later.0))
+      ∙ ap Spool (choose_first (is_whole schema it.all.0.table) (has_waits schema) (has_links schema) (is_taken schema (codes "success_waits")) (is_link_taken schema) (first_found it.all.0 it.all.1.0 it.all.1.1.0 it.all.1.1.1.0 it.all.1.1.1.1.0 it.all.1.1.1.1.1.0 it.all.1.1.1.1.1.1.0)
+      (lacks schema (codes "success_waits") wait_columns it.none_later.0) (not_taken schema (codes "success_waits") it.none_later.0) (links_free it.none_later.1.0 it.none_later.1.1.0))
   are_all Second it =
       tells (told_by it.all.0)
-      ∙ ap Spool (choose_second (is_whole schema it.all.0.table) (has_waits schema) (is_taken schema (codes "success_waits")) (first_found it.all.0 it.all.1.0 it.all.1.1.0 it.all.1.1.1.0 it.all.1.1.1.1.0 it.all.1.1.1.1.1.0 it.all.1.1.1.1.1.1.0)
-      (table_found schema (codes "success_waits") wait_columns it.all.1.1.1.1.1.1.1.0))
+      ∙ ap Spool (choose_second (is_whole schema it.all.0.table) (has_waits schema) (has_links schema) (is_taken schema (codes "success_waits")) (is_link_taken schema) (first_found it.all.0 it.all.1.0 it.all.1.1.0 it.all.1.1.1.0 it.all.1.1.1.1.0 it.all.1.1.1.1.1.0 it.all.1.1.1.1.1.1.0)
+      (table_found schema (codes "success_waits") wait_columns it.all.1.1.1.1.1.1.1.0) (no_links it.none_later.0) (links_free it.none_later.0 it.none_later.1.0))
+  are_all Third it =
+      tells (told_by it.all.0)
+      ∙ ap Spool (choose_third (is_whole schema it.all.0.table) (has_waits schema) (has_links schema) (is_taken schema (codes "success_waits")) (is_link_taken schema) (first_found it.all.0 it.all.1.0 it.all.1.1.0 it.all.1.1.1.0 it.all.1.1.1.1.0 it.all.1.1.1.1.1.0 it.all.1.1.1.1.1.1.0)
+      (table_found schema (codes "success_waits") wait_columns it.all.1.1.1.1.1.1.1.0) (links_found it.all.1.1.1.1.1.1.1.1.0 it.all.1.1.1.1.1.1.1.1.1.0))
 
   -- ---- something else
 

@@ -10,7 +10,7 @@ use Rattle.uu_schema.specs.declared.fault.StoreFault.TheVariants.{Memory, Store,
 use Rattle.sqlite.specs.Effect.{Database}
 use Rattle.uu_schema.specs.Schema.{site_of}
 use Rattle.uu_schema.specs.declared.version.Version.{Version}
-use Rattle.uu_schema.specs.declared.version.Version.TheVariants.{First, Second}
+use Rattle.uu_schema.specs.declared.version.Version.TheVariants.{First, Second, Third}
 use Rattle.uu_tables.specs.Tables.{tables_of}
 use Rattle.sqlite.specs.Tree.{Trees}
 use Rattle.sqlite.specs.Schema.{Schema}
@@ -18,11 +18,11 @@ use Rattle.uu_core.specs.State.{State}
 use Rattle.uu_schema.specs.Faults.{IsFresh}
 use Rattle.uu_database.specs.Encoded.{HoldsStateAs, Encodes, EncodesAs}
 use Rattle.uu_database.specs.Calls.{Becomes, CreatesTables, MigratesState}
-use Rattle.uu_database.specs.FoundTables.{HasNone, HasFirst}
+use Rattle.uu_database.specs.FoundTables.{HasNone, HasEarlier, IsEarlier}
 use Rattle.uu_taking.specs.Version.{IsLater}
 use Rattle.uu_database.specs.Adoption.{IsOfNone, IsInspected, IsRefused, IsSpared, LeavesNoMore, UnlessStore, UnlessFailed, IsAsBefore, StopsAs}
 use Rattle.uu_database.proofs.Resting.{moved}
-use Rattle.uu_database.proofs.Creating.{none_found, all_found, second_found}
+use Rattle.uu_database.proofs.Creating.{none_found, all_found, last_found}
 use Rattle.uu_database.proofs.Becoming.{unless_weaker}
 use Rattle.uu_database.proofs.Settling.{Settles, leaves}
 use Rattle.uu_taking.proofs.Later.{not_later}
@@ -112,10 +112,11 @@ spared_self a r = record { same = λ clean rests. unless r (Rests a × (a.now �
 -- ---- taking a database
 
 module _ (a b : db.State) where
-  pub kept_as : (¬ HasNone a.now.schema → (HasFirst a.now.schema → IsRefused (Ok tt)) → IsSpared a b (Ok tt)) → MigratesState a b (Ok tt) → db.HasCleanDisk b → (v : Version) (s : State) → Rests a → EncodesAs v a.now s → Rests b × Encodes b.now s
-  kept_as spared migrates clean First s rests enc = let it = migrates.ok clean rests enc.stands in (it.0, record { stands = it.1; holds = it.2.again s enc.holds })
-  kept_as spared migrates clean Second s rests enc =
-      let it = (spared (all_found Second a.now enc.stands) (λ first. absurd (second_found a.now enc.stands first))).same clean rests in (it.0, moved s a.now b.now it.1 enc)
+  pub kept_as : (¬ HasNone a.now.schema → (HasEarlier a.now.schema → IsRefused (Ok tt)) → IsSpared a b (Ok tt)) → ((v : Version) → IsEarlier v → MigratesState v a b (Ok tt)) → db.HasCleanDisk b → (v : Version) (s : State) → Rests a → EncodesAs v a.now s → Rests b × Encodes b.now s
+  kept_as spared migrates clean First s rests enc = let it = (migrates First tt).ok clean rests enc.stands in (it.0, record { stands = it.1; holds = it.2.again s enc.holds })
+  kept_as spared migrates clean Second s rests enc = let it = (migrates Second tt).ok clean rests enc.stands in (it.0, record { stands = it.1; holds = it.2.again s enc.holds })
+  kept_as spared migrates clean Third s rests enc =
+      let it = (spared (all_found Third a.now enc.stands) (λ earlier. absurd (last_found a.now enc.stands earlier))).same clean rests in (it.0, moved s a.now b.now it.1 enc)
 
   pub read_as : (v : Version) → IsInspected v a b (Ok tt) → db.HasCleanDisk b → Stands (site_of v) a.now → (s : State) × EncodesAs v a.now s
   read_as v inspected clean stands = let it = inspected.ok clean stands in (it.0, record { stands = stands; holds = it.1 })
@@ -127,7 +128,7 @@ module _ (a b : db.State) where
   pub refused_as : (v : Version) (fault : StoreFault) → IsInspected v a b (Err fault) → db.HasCleanDisk b → Stands (site_of v) a.now → fault ≡ ForeignFault → (IsLater a.now.trees → ⊥) × ((s : State) → EncodesAs v a.now s → ⊥)
   refused_as v fault inspected clean stands is = let it = inspected.foreign clean stands (ap Err is) in (it.0, λ s enc. it.1 s enc.holds)
 
-  pub same_as : (fault : StoreFault) → (¬ HasNone a.now.schema → (HasFirst a.now.schema → IsRefused (Err fault)) → IsSpared a b (Err fault)) → CreatesTables a b (Err fault) → (HasNone a.now.schema → (fault ≢ ForeignFault) × (fault ≢ Newer)) → fault ≢ Failed
+  pub same_as : (fault : StoreFault) → (¬ HasNone a.now.schema → (HasEarlier a.now.schema → IsRefused (Err fault)) → IsSpared a b (Err fault)) → CreatesTables a b (Err fault) → (HasNone a.now.schema → (fault ≢ ForeignFault) × (fault ≢ Newer)) → fault ≢ Failed
       → db.HasCleanDisk b → Rests a → UnlessFailed fault (IsAsBefore a b)
   same_as Memory spared creates welcome not_failed clean rests = record { some = λ some. (spared some (λ first. tt)).same clean rests; none = λ stands. creates.memory clean rests stands refl }
   same_as (Store kind) spared creates welcome not_failed clean rests = tt
@@ -135,11 +136,11 @@ module _ (a b : db.State) where
   same_as ForeignFault spared creates welcome not_failed clean rests = record { some = λ some. (spared some (λ first. tt)).same clean rests; none = λ stands. absurd ((welcome (none_found a.now stands)).0 refl) }
   same_as Newer spared creates welcome not_failed clean rests = record { some = λ some. (spared some (λ first. tt)).same clean rests; none = λ stands. absurd ((welcome (none_found a.now stands)).1 refl) }
 
-  pub stops_as : (r : Result (Unit {0}) StoreFault) → Settles a → db.HasCleanDisk b → Rests a → (¬ HasNone a.now.schema → (HasFirst a.now.schema → IsRefused r) → IsSpared a b r) → MigratesState a b r → CreatesTables a b r → StopsAs a b
+  pub stops_as : (r : Result (Unit {0}) StoreFault) → Settles a → db.HasCleanDisk b → Rests a → (¬ HasNone a.now.schema → (HasEarlier a.now.schema → IsRefused r) → IsSpared a b r) → ((v : Version) → IsEarlier v → MigratesState v a b r) → CreatesTables a b r → StopsAs a b
   stops_as r settles clean rests spared migrates creates = record {
     some = λ some other trees may. stays trees ((spared some (λ first. absurd (other first))).stop clean trees may);
-    state = λ s enc trees may. leaves s a settles rests enc trees ((spared (all_found Second a.now enc.stands) (λ first. absurd (second_found a.now enc.stands first))).stop clean trees may);
-    first = λ stands trees may. elim (migrates.stop clean rests stands trees may) [ inl was ↦ inl (stays trees was) | inr made ↦ inr made ];
+    state = λ s enc trees may. leaves s a settles rests enc trees ((spared (all_found Third a.now enc.stands) (λ earlier. absurd (last_found a.now enc.stands earlier))).stop clean trees may);
+    earlier = λ v early stands trees may. elim ((migrates v early).stop clean rests stands trees may) [ inl was ↦ inl (stays trees was) | inr made ↦ inr made ];
     none = λ stands trees may. elim (creates.stop clean rests stands trees may) [ inl was ↦ inl (stays trees was) | inr made ↦ inr made ];
   }
     where

@@ -13,15 +13,17 @@ use Rattle.uu_tables.specs.declared.rows.LineColumns.{LineColumns}
 use Rattle.uu_tables.specs.declared.rows.RangeColumns.{RangeColumns}
 use Rattle.uu_tables.specs.declared.rows.EntryColumns.{EntryColumns}
 use Rattle.uu_tables.specs.declared.rows.WaitColumns.{WaitColumns}
+use Rattle.uu_tables.specs.declared.rows.LinkColumns.{LinkColumns}
+use Rattle.uu_tables.specs.declared.rows.TakenColumns.{TakenColumns}
 use Rattle.uu_tables.specs.Tables.{Piece, tables_of, size_of}
 use Rattle.uu_check.specs.Order.{AreInOrder as AreTablesInOrder}
-use Rattle.uu_check.specs.Readable.{AreReadable, IsSystemRow, IsLineRow, IsRangeRow, IsPieceRow, IsEntryRow, IsWaitRow}
+use Rattle.uu_check.specs.Readable.{AreReadable, IsSystemRow, IsLineRow, IsRangeRow, IsPieceRow, IsEntryRow, IsWaitRow, IsLinkRow, IsTakenRow}
 use Rattle.uu_check.proofs.Rising.{in_order}
 use Rattle.uu_check.proofs.Reading.{readable}
 use Rattle.uu_schema.specs.Keyed.{Keyed}
-use Rattle.uu_schema.specs.Held.{system_key, line_key, range_key, job_key, piece_key, entry_key, wait_key}
-use Rattle.uu_rows.specs.Readable.{IsSmall, IsSystem, IsLine, IsRange, IsHead, IsSize, IsEntry, IsWait}
-use Rattle.uu_rows.specs.Order.{system_cmp, line_cmp, range_cmp, head_cmp, piece_cmp, entry_cmp, wait_cmp}
+use Rattle.uu_schema.specs.Held.{system_key, line_key, range_key, job_key, piece_key, entry_key, wait_key, link_key, taken_key}
+use Rattle.uu_rows.specs.Readable.{IsSmall, IsSystem, IsLine, IsRange, IsHead, IsSize, IsEntry, IsWait, IsLink, IsTaken}
+use Rattle.uu_rows.specs.Order.{system_cmp, line_cmp, range_cmp, head_cmp, piece_cmp, entry_cmp, wait_cmp, link_cmp, taken_cmp}
 use Rattle.uu_taking.specs.Taking.{AreInOrder, AreRows}
 use Rattle.uu_questions.proofs.InOrder.{ascending_pairs}
 use Rattle.uu_questions.proofs.OfState.{heads_good}
@@ -59,6 +61,12 @@ entry_read e h = record { host = h.host }
 wait_read : (w : WaitColumns) → IsWaitRow w → IsWait w
 wait_read w h = record { system = h.system; wait = (let k = h.wait in omega (arith, k)) }
 
+link_read : (l : LinkColumns) → IsLinkRow l → IsLink l
+link_read l h = record { system = h.system; below = (let k = h.below in omega (arith, k)) }
+
+taken_read : (t : TakenColumns) → IsTakenRow t → IsTaken t
+taken_read t h = record { system = h.system; number = (let k = h.number in omega (arith, k)); mark = h.mark; job = (let k = h.job in omega (arith, k)) }
+
 -- ---- keys in strict order differ
 
 less_not_equal : (r : Ordering) → r ≡ Less → r ≡ Equal → ⊥
@@ -94,6 +102,15 @@ entries_apart a b h e = less_not_equal _ h (rw e (same_name b.host))
 
 pub waits_apart : (a b : WaitColumns) → wait_cmp a b ≡ Less → wait_key a ≡ wait_key b → ⊥
 waits_apart a b h e = less_not_equal _ h (rw e (same_name b.system))
+
+pub links_apart : (a b : LinkColumns) → link_cmp a b ≡ Less → link_key a ≡ link_key b → ⊥
+links_apart a b h e = less_not_equal _ h (rw e (same_name b.system))
+
+pub taken_apart : (a b : TakenColumns) → taken_cmp a b ≡ Less → taken_key a ≡ taken_key b → ⊥
+taken_apart a b h e =
+    let name : a.system ≡ b.system = ap (λ (k : List ℕ × ℕ). k.0) e in
+    let number : a.taken.number ≡ b.taken.number = ap (λ (k : List ℕ × ℕ). k.1) e in
+    less_not_equal _ h (rw (name, number, same_name b.system, same_number b.taken.number) refl)
 
 -- rows of a list in strict order show it by its key
 pub keyed : {K X : Type 0} (key : X → K) (cells : X → Row) (places : List ℕ) (cmp : X → X → Ordering) (xs : List X) (rows : List Row) → ((a b : X) → cmp a b ≡ Less → key a ≡ key b → ⊥)
@@ -138,3 +155,9 @@ module _ (s : State) (good : IsWellFormed s) where
 
   pub waits_in_order : AreInOrder IsWait wait_cmp (tables_of s).success_waits
   waits_in_order = record { readable = all_weaker _ _ wait_read _ fits.success_waits; rise = ascending_pairs _ _ order.success_waits }
+
+  pub links_in_order : AreInOrder IsLink link_cmp (tables_of s).links
+  links_in_order = record { readable = all_weaker _ _ link_read _ fits.links; rise = ascending_pairs _ _ order.links }
+
+  pub taken_in_order : AreInOrder IsTaken taken_cmp (tables_of s).taken
+  taken_in_order = record { readable = all_weaker _ _ taken_read _ fits.taken; rise = ascending_pairs _ _ order.taken }

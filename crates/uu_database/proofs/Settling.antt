@@ -8,7 +8,7 @@ use Rattle.sqlite_catalog.specs.Listing.{IsSound}
 use Rattle.uu_sql.specs.Steps.{Rests, Stands}
 use Rattle.uu_core.specs.State.{State, empty}
 use Rattle.uu_schema.specs.Schema.{site, no_schema}
-use Rattle.uu_schema.specs.declared.version.Version.TheVariants.{First}
+use Rattle.uu_schema.specs.declared.version.Version.{Version}
 use Rattle.uu_database.specs.Encoded.{Encodes, EncodesAs, HoldsState, Leaves, LeavesEither}
 use Rattle.uu_database.specs.Calls.{CreatesTables, MigratesState}
 
@@ -33,6 +33,6 @@ leaves_either s t a b settles rests enc stop trees may = elim (stop trees may) [
 pub adopt_creates : (a b : db.State) → Settles b → db.HasCleanDisk b → Rests a → CreatesTables a b (Ok tt) → Stands no_schema a.now → Leaves b empty
 adopt_creates a b settles clean rests creates stands = let it = creates.ok clean rests stands in leaves empty b settles it.0 (record { stands = it.1; holds = it.2 })
 
-pub adopt_migrates : (a b : db.State) → Settles b → db.HasCleanDisk b → Rests a → MigratesState a b (Ok tt) → (s : State) → EncodesAs First a.now s → Leaves b s
-adopt_migrates a b settles clean rests migrates s enc =
+pub adopt_migrates : (v : Version) (a b : db.State) → Settles b → db.HasCleanDisk b → Rests a → MigratesState v a b (Ok tt) → (s : State) → EncodesAs v a.now s → Leaves b s
+adopt_migrates v a b settles clean rests migrates s enc =
     let it = migrates.ok clean rests enc.stands in leaves s b settles it.0 (record { stands = it.1; holds = it.2.again s enc.holds })

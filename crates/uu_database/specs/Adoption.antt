@@ -5,7 +5,7 @@ use Rattle.sqlite.specs.State as db
 use Rattle.sqlite_catalog.specs.Listing.{IsSound}
 use Rattle.uu_sql.specs.Steps.{Stands, Rests}
 use Rattle.uu_core.specs.State.{State, empty}
-use Rattle.uu_schema.specs.Schema.{site, first_site, no_schema, site_of}
+use Rattle.uu_schema.specs.Schema.{site, no_schema, site_of}
 use Rattle.uu_schema.specs.declared.version.Version.{Version}
 use Rattle.uu_schema.specs.declared.fault.StoreFault.{StoreFault}
 use Rattle.uu_schema.specs.declared.fault.StoreFault.TheVariants.{Store, Newer, Foreign as ForeignFault}
@@ -13,7 +13,7 @@ use Rattle.uu_taking.specs.Version.{IsLater}
 use Rattle.uu_database.specs.declared.inspection.Finding.{Finding}
 use Rattle.uu_database.specs.declared.inspection.Finding.TheVariants.{Spool, Foreign, Later}
 use Rattle.uu_database.specs.Encoded.{Encodes, HoldsState, HoldsStateAs, Leaves, Migrated}
-use Rattle.uu_database.specs.FoundTables.{HasNone, HasFirst}
+use Rattle.uu_database.specs.FoundTables.{HasNone, HasEarlier, IsEarlier}
 
 -- no state has these rows in the tables of this version
 abbrev pub IsOfNone : Version → Trees → Type 0
@@ -63,10 +63,10 @@ pub record IsAsBefore (old new : db.State) : Type 0 where
   pub none : Stands no_schema old.now → Rests new × (new.now ≡ old.now)
 
 -- A stop leaves the state that a database encodes, of one with any of the spool's tables but those
--- of version 1 what it was, of version 1 that or version 2 of the same state, and of one without
--- tables that or an empty spool.
+-- of an earlier version what it was, of an earlier version that or the one that is written of the
+-- same state, and of one without tables that or an empty spool.
 pub record StopsAs (old new : db.State) : Type 0 where
-  pub some : ¬ HasNone old.now.schema → ¬ HasFirst old.now.schema → (trees : Trees) → new.may_leave trees → trees ≡ old.now.trees
+  pub some : ¬ HasNone old.now.schema → ¬ HasEarlier old.now.schema → (trees : Trees) → new.may_leave trees → trees ≡ old.now.trees
   pub state : (s : State) → Encodes old.now s → Leaves new s
-  pub first : Stands first_site old.now → (trees : Trees) → new.may_leave trees → (trees ≡ old.now.trees) ⊎ (IsSound site trees × Migrated old.now.trees trees)
+  pub earlier : (v : Version) → IsEarlier v → Stands (site_of v) old.now → (trees : Trees) → new.may_leave trees → (trees ≡ old.now.trees) ⊎ (IsSound site trees × Migrated v old.now.trees trees)
   pub none : Stands no_schema old.now → (trees : Trees) → new.may_leave trees → (trees ≡ old.now.trees) ⊎ (IsSound site trees × HoldsState trees empty)

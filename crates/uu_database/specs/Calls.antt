@@ -12,7 +12,8 @@ use Rattle.uu_core.specs.After.{after}
 use Rattle.uu_schema.specs.declared.fault.StoreFault.{StoreFault}
 use Rattle.uu_schema.specs.declared.fault.StoreFault.TheVariants.{Memory}
 use Rattle.sqlite.specs.Schema.{Schema}
-use Rattle.uu_schema.specs.Schema.{site, first_site, no_schema}
+use Rattle.uu_schema.specs.declared.version.Version.{Version}
+use Rattle.uu_schema.specs.Schema.{site, site_of, no_schema}
 use Rattle.uu_database.specs.Encoded.{Encodes, HoldsState, Migrated}
 
 -- a store that was found unclean stays so
@@ -45,6 +46,6 @@ pub record Becomes (from to : Schema) (Step : Trees → Trees → Type 0) (old n
 abbrev pub CreatesTables : db.State → db.State → Result (Unit {0}) StoreFault → Type 0
 CreatesTables = Becomes no_schema site (λ old new. HoldsState new empty)
 
--- the tables of version 1 become those of version 2, where they held a state
-abbrev pub MigratesState : db.State → db.State → Result (Unit {0}) StoreFault → Type 0
-MigratesState = Becomes first_site site Migrated
+-- the tables of a version become those of the one that is written, where they held a state
+abbrev pub MigratesState : Version → db.State → db.State → Result (Unit {0}) StoreFault → Type 0
+MigratesState v = Becomes (site_of v) site (Migrated v)

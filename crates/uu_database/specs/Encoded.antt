@@ -8,7 +8,7 @@ use Rattle.uu_sql.specs.Steps.{Stands}
 use Rattle.uu_core.specs.State.{State, IsWellFormed}
 use Rattle.uu_tables.specs.Tables.{tables_of}
 use Rattle.uu_schema.specs.declared.version.Version.{Version}
-use Rattle.uu_schema.specs.declared.version.Version.TheVariants.{First, Second}
+use Rattle.uu_schema.specs.declared.version.Version.TheVariants.{Third}
 use Rattle.uu_schema.specs.Schema.{site, site_of}
 use Rattle.uu_schema.specs.Held.{HoldsAs}
 
@@ -19,7 +19,7 @@ pub record HoldsStateAs (v : Version) (trees : Trees) (s : State) : Type 0 where
 
 -- the same of the version that is written
 abbrev pub HoldsState : Trees → State → Type 0
-HoldsState = HoldsStateAs Second
+HoldsState = HoldsStateAs Third
 
 -- the database has the tables of a version, and their rows are those of the state
 pub record EncodesAs (v : Version) (database : Database) (s : State) : Type 0 where
@@ -28,17 +28,17 @@ pub record EncodesAs (v : Version) (database : Database) (s : State) : Type 0 wh
 
 -- the same of the version that is written
 abbrev pub Encodes : Database → State → Type 0
-Encodes = EncodesAs Second
+Encodes = EncodesAs Third
 
--- what version 1 held of a state, version 2 holds of it
-abbrev pub HoldsAgain : Trees → Trees → Type 0
-HoldsAgain old new = (s : State) → HoldsStateAs First old s → HoldsState new s
+-- what a version held of a state, the one that is written holds of it
+abbrev pub HoldsAgain : Version → Trees → Trees → Type 0
+HoldsAgain v old new = (s : State) → HoldsStateAs v old s → HoldsState new s
 
--- version 1 held a state, and version 2 holds the same
-pub record Migrated (old new : Trees) : Type 0 where
+-- a version held a state, and the one that is written holds the same
+pub record Migrated (v : Version) (old new : Trees) : Type 0 where
   pub state : State
-  pub held : HoldsStateAs First old state
-  pub again : HoldsAgain old new
+  pub held : HoldsStateAs v old state
+  pub again : HoldsAgain v old new
 
 -- a stop may leave only what encodes the state
 abbrev pub Leaves : db.State → State → Type 0

@@ -8,9 +8,9 @@ use Rattle.sqlite.specs.Table.{Table}
 use Rattle.sqlite_rules.specs.Lists.{Has}
 use Rattle.sqlite_schema.specs.Names.{same_name}
 use Rattle.sqlite_schema.specs.declared.schema.Column.{Column}
-use Rattle.uu_schema.specs.Schema.{site, site_of, spool, success_waits}
+use Rattle.uu_schema.specs.Schema.{site, site_of, spool, success_waits, links, taken}
 use Rattle.uu_schema.specs.declared.version.Version.{Version}
-use Rattle.uu_schema.specs.declared.version.Version.TheVariants.{First, Second}
+use Rattle.uu_schema.specs.declared.version.Version.TheVariants.{First, Second, Third}
 
 -- no table has this name
 abbrev pub IsFree : Schema → List ℕ → Type 0
@@ -36,8 +36,9 @@ HasNoName schema = AllByRecursion (λ (table : Table). IsFree schema table.name)
 
 -- the tables that were added after a version
 abbrev pub later_tables : Version → List Table
-later_tables First = success_waits ∷ []
-later_tables Second = []
+later_tables First = success_waits ∷ links ∷ taken ∷ []
+later_tables Second = links ∷ taken ∷ []
+later_tables Third = []
 
 -- every table of a version is there with its columns, and none has the name of a table that was
 -- added later

@@ -1,13 +1,13 @@
 -- Which of the spool's tables a database has, by their names and those of their columns, compared
 -- without regard to ASCII case as SQLite does.
-use Rattle.std.specs.Prelude.{◌≡◌, ◌⊎◌, ℕ, Bool, false, ◌&&◌, ◌||◌, if◌then◌else◌, List, [], ◌∷◌, codes, find, Option, Some, None, is_some}
+use Rattle.std.specs.Prelude.{◌≡◌, ◌⊎◌, ℕ, Bool, false, ◌&&◌, ◌||◌, if◌then◌else◌, List, [], ◌∷◌, codes, find, Option, Some, None, is_some, ⊤}
 use Rattle.std.specs.List.{list_any, list_all}
 use Rattle.std.specs.Option.{option_map_or}
 use Rattle.sqlite.specs.Schema.{Schema}
 use Rattle.sqlite.specs.Table.{Table}
 use Rattle.sqlite_schema.specs.Names.{same_name}
 use Rattle.uu_schema.specs.declared.version.Version.{Version}
-use Rattle.uu_schema.specs.declared.version.Version.TheVariants.{First, Second}
+use Rattle.uu_schema.specs.declared.version.Version.TheVariants.{First, Second, Third}
 use Rattle.uu_database.specs.declared.tables.Found.{Found}
 use Rattle.uu_database.specs.declared.tables.Found.TheVariants.{Nothing, Spool, Other}
 
@@ -44,6 +44,12 @@ entry_columns = codes "host" ∷ codes "bytes" ∷ []
 abbrev pub wait_columns : List (List ℕ)
 wait_columns = codes "system" ∷ codes "wait" ∷ []
 
+abbrev pub link_columns : List (List ℕ)
+link_columns = codes "system" ∷ codes "below" ∷ []
+
+abbrev pub taken_columns : List (List ℕ)
+taken_columns = codes "system" ∷ codes "number" ∷ codes "mark" ∷ codes "job" ∷ []
+
 -- ---- what is there
 
 -- the tables of the systems with all their columns
@@ -58,6 +64,10 @@ has_jobs schema = has_table schema (codes "jobs") job_columns && has_table schem
 abbrev pub has_waits : Schema → Bool
 has_waits schema = has_table schema (codes "success_waits") wait_columns
 
+-- those of the links, and of what was taken by them
+abbrev pub has_links : Schema → Bool
+has_links schema = has_table schema (codes "links") link_columns && has_table schema (codes "taken") taken_columns
+
 -- the rest of the columns and tables of version 1 is there
 abbrev pub is_whole : Schema → Table → Bool
 is_whole schema spool = has_column spool (codes "next") && has_systems schema && has_jobs schema
@@ -66,17 +76,25 @@ is_whole schema spool = has_column spool (codes "next") && has_systems schema &&
 abbrev pub is_taken : Schema → List ℕ → Bool
 is_taken schema name = is_some (table_of schema name)
 
+-- a table under one of the names of these two
+abbrev pub is_link_taken : Schema → Bool
+is_link_taken schema = is_taken schema (codes "links") || is_taken schema (codes "taken")
+
 -- a table under one of the names but `spool`
 abbrev pub is_any_taken : Schema → Bool
-is_any_taken schema = is_taken schema (codes "systems") || is_taken schema (codes "lines") || is_taken schema (codes "ranges") || is_taken schema (codes "jobs") || is_taken schema (codes "pieces") || is_taken schema (codes "entries") || is_taken schema (codes "success_waits")
+is_any_taken schema = is_taken schema (codes "systems") || is_taken schema (codes "lines") || is_taken schema (codes "ranges") || is_taken schema (codes "jobs") || is_taken schema (codes "pieces") || is_taken schema (codes "entries") || is_taken schema (codes "success_waits") || is_link_taken schema
 
--- the version whose tables are there with all their columns: version 1 has no table of the success
--- waits
+-- the version that the tables tell that were added after version 1: it has all of its own, and of
+-- those of later ones no name is taken
+abbrev pub added_with : Schema → Option Version
+added_with schema =
+    if has_waits schema
+    then (if has_links schema then Some Third else (if is_link_taken schema then None else Some Second))
+    else (if is_taken schema (codes "success_waits") || is_link_taken schema then None else Some First)
+
+-- the version whose tables are there with all their columns
 abbrev pub tables_with : Schema → Table → Option Version
-tables_with schema spool =
-    if is_whole schema spool
-    then (if has_waits schema then Some Second else (if is_taken schema (codes "success_waits") then None else Some First))
-    else None
+tables_with schema spool = if is_whole schema spool then added_with schema else None
 
 -- what is found of a table `spool`, and beside it
 abbrev pub found_beside : Schema → Option Table → Found
@@ -99,9 +117,15 @@ HasNone schema = found_of schema ≡ Nothing
 abbrev pub HasAllOf : Version → Schema → Type 0
 HasAllOf v schema = found_of schema ≡ Spool (Some v)
 
--- those of version 1, so that the rest is to be made
-abbrev pub HasFirst : Schema → Type 0
-HasFirst = HasAllOf First
+-- a version before the one that is written
+abbrev pub IsEarlier : Version → Type 0
+IsEarlier First = ⊤
+IsEarlier Second = ⊤
+IsEarlier Third = ⊥
+
+-- those of an earlier version, so that the rest is to be made
+abbrev pub HasEarlier : Schema → Type 0
+HasEarlier schema = (v : Version) × IsEarlier v × HasAllOf v schema
 
 -- none is, or all of a version
 abbrev pub HasNoneOrAll : Schema → Type 0

@@ -15,10 +15,11 @@ use Rattle.uu_schema.specs.Held.{system_key, line_key, range_key, job_key, entry
 use Rattle.uu_schema.specs.Cells.{system_cells, line_cells, range_cells, job_cells, entry_cells}
 use Rattle.uu_rows.specs.Readable.{IsSmall, IsSystem, IsLine, IsRange, IsHead, IsEntry}
 use Rattle.uu_rows.specs.Order.{system_cmp, line_cmp, range_cmp, head_cmp, entry_cmp}
-use Rattle.uu_taking.specs.Taking.{FindsRows, FindsSizes, FindsWaits}
+use Rattle.uu_taking.specs.Taking.{FindsRows, FindsSizes, FindsWaits, FindsLinks, FindsTaken}
 use Rattle.uu_database.specs.Adoption.{IsOfNone}
 use Rattle.uu_database.specs.declared.reading.Callers.{Callers}
 use Rattle.uu_database.specs.declared.reading.Waiting.{Waiting}
+use Rattle.uu_database.specs.declared.reading.Added.{Added}
 use Rattle.uu_database.specs.declared.reading.Rest.{Rest}
 use Rattle.uu_database.specs.declared.reading.AllRows.{AllRows}
 
@@ -57,11 +58,17 @@ pub record AreWaiting (trees : Trees) (all : Waiting) : Type 0 where
   pub jobs : FindsJobs trees (Some all.jobs)
   pub pieces : FindsPieces trees (Some all.pieces)
 
+-- those of the tables that versions after the first added
+pub record AreAdded (v : Version) (trees : Trees) (all : Added) : Type 0 where
+  pub success_waits : FindsWaits v trees (Some all.success_waits)
+  pub links : FindsLinks v trees (Some all.links)
+  pub taken : FindsTaken v trees (Some all.taken)
+
 -- those that a version tells by
 pub record AreTheRest (v : Version) (trees : Trees) (all : Rest) : Type 0 where
   pub next : FindsNext v trees (Some all.next)
   pub entries : FindsEntries trees (Some all.entries)
-  pub success_waits : FindsWaits v trees (Some all.success_waits)
+  pub added : AreAdded v trees all.added
 
 pub record AreAllRows (v : Version) (trees : Trees) (all : AllRows) : Type 0 where
   pub callers : AreCallers trees all.callers

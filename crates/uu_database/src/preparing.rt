@@ -4,13 +4,12 @@ ghost use Rattle.std.specs.Prelude.{◌≡◌, ◌≢◌, false, Some, None, Err
 ghost use Rattle.sqlite.specs.Held.{state};
 ghost use Rattle.sqlite.specs.State.{HasCleanDisk};
 ghost use Rattle.uu_schema.specs.Faults.{IsFresh};
-ghost use Rattle.uu_schema.specs.Schema.{first_site, site};
+ghost use Rattle.uu_schema.specs.Schema.{site, site_of};
 ghost use Rattle.uu_schema.specs.declared.version.Version.{Version};
-ghost use Rattle.uu_schema.specs.declared.version.Version.TheVariants.{First};
 ghost use Rattle.uu_database.specs.Encoded.{HoldsAgain};
 ghost use Rattle.uu_database.specs.Calls.{Becomes, CreatesTables, MigratesState, StaysUnclean};
 ghost use Rattle.uu_database.specs.Adoption.{IsInspected, IsRefused, IsSpared, LeavesNoMore, UnlessFailed};
-ghost use Rattle.uu_database.specs.FoundTables.{HasFirst, HasNone, HasNoneOrAll, HasOther};
+ghost use Rattle.uu_database.specs.FoundTables.{HasEarlier, HasNone, HasNoneOrAll, HasOther, IsEarlier};
 
 use crate::inspection::inspect;
 use crate::tables::{Found, found_in};
@@ -35,24 +34,24 @@ fn create_tables<S: Alter>(conn: &mut Connection<S>) -> Result<(), StoreFault>
     }
 }
 
-// The tables of version 2 in a database that has those of version 1.
-fn migrate_tables<S: Alter>(conn: &mut Connection<S>) -> Result<(), StoreFault>
+// The tables of version 3 in a database that has those of this version.
+fn migrate_tables<S: Alter>(conn: &mut Connection<S>, from: Version) -> Result<(), StoreFault>
     requires { conn.old.in_transaction ≡ false }
     ensures fresh { IfErr result IsFresh }
     ensures idle { conn.new.in_transaction ≡ false }
-    ensures migrates { Becomes first_site site HoldsAgain (state S.Store conn.old) (state S.Store conn.new) result }
+    ensures migrates { Becomes (site_of from) site (HoldsAgain from) (state S.Store conn.old) (state S.Store conn.new) result }
     ensures spared { IsRefused result → IsSpared (state S.Store conn.old) (state S.Store conn.new) result }
     ensures unmade { IfErr result (λ fault. UnlessFailed fault (HasCleanDisk (state S.Store conn.new) → LeavesNoMore (state S.Store conn.old) (state S.Store conn.new))) }
     ensures clean { StaysUnclean (state S.Store conn.old) (state S.Store conn.new) }
 {
-    match migrate(conn) {
+    match migrate(conn, from) {
         Ok(()) => Ok(()),
         Err(halt) => Err(halt_fault(conn, &halt)),
     }
 }
 
-// A database with a table `spool`, looked at. One that has the tables of version 1, and was taken,
-// gets those of version 2.
+// A database with a table `spool`, looked at. One that has the tables of an earlier version,
+// and was taken, gets those of version 3.
 fn take_up<S: Alter>(
     alloc: Global,
     conn: &mut Connection<S>,
@@ -63,14 +62,15 @@ fn take_up<S: Alter>(
     ensures idle { conn.new.in_transaction ≡ false }
     ensures inspected { (v : Version) → tables ≡ Some v → IsInspected v (state S.Store conn.old) (state S.Store conn.new) result }
     ensures half { tables ≡ None → IsErr result }
-    ensures spared { (tables ≡ Some First → IsRefused result) → IsSpared (state S.Store conn.old) (state S.Store conn.new) result }
-    ensures migrates { tables ≡ Some First → MigratesState (state S.Store conn.old) (state S.Store conn.new) result }
+    ensures spared { ((v : Version) → IsEarlier v → tables ≡ Some v → IsRefused result) → IsSpared (state S.Store conn.old) (state S.Store conn.new) result }
+    ensures migrates { (v : Version) → IsEarlier v → tables ≡ Some v → MigratesState v (state S.Store conn.old) (state S.Store conn.new) result }
     ensures unmade { IfErr result (λ fault. UnlessFailed fault (HasCleanDisk (state S.Store conn.new) → LeavesNoMore (state S.Store conn.old) (state S.Store conn.new))) }
     ensures clean { StaysUnclean (state S.Store conn.old) (state S.Store conn.new) }
 {
     match inspect(alloc, conn, tables) {
         Ok(()) => match tables {
-            Some(Version::First) => migrate_tables(conn),
+            Some(Version::First) => migrate_tables(conn, Version::First),
+            Some(Version::Second) => migrate_tables(conn, Version::Second),
             _ => Ok(()),
         },
         Err(fault) => Err(fault),
@@ -78,7 +78,8 @@ fn take_up<S: Alter>(
 }
 
 /// Makes a spool's database of one that has none of the tables, and looks at any other, which stays
-/// as it is, but that the tables of version 1 become those of version 2, in one transaction.
+/// as it is, but that the tables of an earlier version become those of version 3, in one
+/// transaction.
 ///
 /// # Errors
 /// `Foreign` where a table stands under one of the names and no table `spool` tells a version: then
@@ -89,8 +90,8 @@ pub fn prepare<S: Alter>(alloc: Global, conn: &mut Connection<S>) -> Result<(), 
     ensures never_failed { IfErr result (λ fault. fault ≢ StoreFault.Failed) }
     ensures idle { conn.new.in_transaction ≡ false }
     ensures inspected { (v : Version) → IsInspected v (state S.Store conn.old) (state S.Store conn.new) result }
-    ensures spared { ¬ HasNone (state S.Store conn.old).now.schema → (HasFirst (state S.Store conn.old).now.schema → IsRefused result) → IsSpared (state S.Store conn.old) (state S.Store conn.new) result }
-    ensures migrates { MigratesState (state S.Store conn.old) (state S.Store conn.new) result }
+    ensures spared { ¬ HasNone (state S.Store conn.old).now.schema → (HasEarlier (state S.Store conn.old).now.schema → IsRefused result) → IsSpared (state S.Store conn.old) (state S.Store conn.new) result }
+    ensures migrates { (v : Version) → IsEarlier v → MigratesState v (state S.Store conn.old) (state S.Store conn.new) result }
     ensures creates { CreatesTables (state S.Store conn.old) (state S.Store conn.new) result }
     ensures unmade { IfErr result (λ fault. UnlessFailed fault (HasCleanDisk (state S.Store conn.new) → LeavesNoMore (state S.Store conn.old) (state S.Store conn.new))) }
     ensures taken { OnOk result (HasNoneOrAll (state S.Store conn.old).now.schema) }

@@ -7,20 +7,23 @@ ghost use Rattle.sqlite.specs.Held.{state};
 ghost use Rattle.uu_core.specs.State.{State};
 ghost use Rattle.uu_taking.specs.Taking.{Takes, Tells};
 ghost use Rattle.uu_schema.specs.declared.version.Version.{Version};
-ghost use Rattle.uu_taking.specs.Taking.{FindsWaits};
+ghost use Rattle.uu_taking.specs.Taking.{FindsWaits, FindsLinks, FindsTaken};
 ghost use Rattle.uu_database.specs.Encoded.{HoldsStateAs};
 ghost use Rattle.uu_database.specs.Adoption.{IsOfNone};
-ghost use Rattle.uu_database.specs.Reading.{FindsSystems, FindsLines, FindsRanges, FindsJobs, FindsPieces, FindsEntries, FindsNext, AreCallers, AreWaiting, AreTheRest, AreAllRows, OrNone};
+ghost use Rattle.uu_database.specs.Reading.{FindsSystems, FindsLines, FindsRanges, FindsJobs, FindsPieces, FindsEntries, FindsNext, AreCallers, AreWaiting, AreAdded, AreTheRest, AreAllRows, OrNone};
 
 use sqlite::{Alter, Connection, Error, ErrorCode};
 use std::alloc::{AllocError, Global};
 use uu_check::{Rows, are_tables};
 use uu_core::JobHead;
 use uu_schema::Version;
-use uu_tables::{EntryColumns, LineColumns, PieceSize, RangeColumns, SystemColumns, WaitColumns};
+use uu_tables::{
+    EntryColumns, LineColumns, LinkColumns, PieceSize, RangeColumns, SystemColumns, TakenColumns,
+    WaitColumns,
+};
 use uu_taking::{
-    take_entries, take_heads, take_lines, take_next, take_ranges, take_sizes, take_systems,
-    take_waits,
+    take_entries, take_heads, take_lines, take_links, take_next, take_ranges, take_sizes,
+    take_systems, take_taken, take_waits,
 };
 
 /// The rows that say who is called, and when.
@@ -38,12 +41,20 @@ struct Waiting {
     pieces: Vec<PieceSize>,
 }
 
-/// The next number, the map entries, and the success waits.
+/// The rows of the tables that versions after the first added.
+#[derive(Drop)]
+struct Added {
+    success_waits: Vec<WaitColumns>,
+    links: Vec<LinkColumns>,
+    taken: Vec<TakenColumns>,
+}
+
+/// The next number, the map entries, and the rows of the tables that were added.
 #[derive(Drop)]
 struct Rest {
     next: u32,
     entries: Vec<EntryColumns>,
-    success_waits: Vec<WaitColumns>,
+    added: Added,
 }
 
 /// The rows of all tables, each table in the order of its key.
@@ -98,20 +109,51 @@ fn take_waiting<S: Alter>(alloc: Global, conn: &mut Connection<S>) -> Result<Opt
     Ok(waiting_of(jobs, pieces))
 }
 
+fn added_of(
+    success_waits: Option<Vec<WaitColumns>>,
+    links: Option<Vec<LinkColumns>>,
+    taken: Option<Vec<TakenColumns>>,
+) -> Option<Added>
+    ensures { (v : Version) (trees : Trees) → FindsWaits v trees success_waits → FindsLinks v trees links → FindsTaken v trees taken → OrNone v (AreAdded v) trees result }
+{
+    let success_waits = success_waits?;
+    let links = links?;
+    let taken = taken?;
+    Some(Added {
+        success_waits,
+        links,
+        taken,
+    })
+}
+
+fn take_added<S: Alter>(
+    alloc: Global,
+    conn: &mut Connection<S>,
+    version: Version,
+) -> Result<Option<Added>, Error>
+    ensures idle { conn.old.in_transaction ≡ false → conn.new.in_transaction ≡ false }
+    ensures takes { Takes version (OrNone version (AreAdded version)) (state S.Store conn.old) (state S.Store conn.new) result }
+{
+    let success_waits = take_waits(alloc, conn, version)?;
+    let links = take_links(alloc, conn, version)?;
+    let taken = take_taken(alloc, conn, version)?;
+    Ok(added_of(success_waits, links, taken))
+}
+
 fn rest_of(
     next: Option<u32>,
     entries: Option<Vec<EntryColumns>>,
-    success_waits: Option<Vec<WaitColumns>>,
+    added: Option<Added>,
 ) -> Option<Rest>
-    ensures { (v : Version) (trees : Trees) → FindsNext v trees next → FindsEntries trees entries → FindsWaits v trees success_waits → OrNone v (AreTheRest v) trees result }
+    ensures { (v : Version) (trees : Trees) → FindsNext v trees next → FindsEntries trees entries → OrNone v (AreAdded v) trees added → OrNone v (AreTheRest v) trees result }
 {
     let next = next?;
     let entries = entries?;
-    let success_waits = success_waits?;
+    let added = added?;
     Some(Rest {
         next,
         entries,
-        success_waits,
+        added,
     })
 }
 
@@ -125,8 +167,8 @@ fn take_rest<S: Alter>(
 {
     let next = take_next(conn, version)?;
     let entries = take_entries(alloc, conn)?;
-    let success_waits = take_waits(alloc, conn, version)?;
-    Ok(rest_of(next, entries, success_waits))
+    let added = take_added(alloc, conn, version)?;
+    Ok(rest_of(next, entries, added))
 }
 
 fn all_of(callers: Option<Callers>, waiting: Option<Waiting>, rest: Option<Rest>) -> Option<AllRows>
@@ -170,7 +212,9 @@ fn make_a_state(alloc: Global, all: &AllRows) -> Result<bool, AllocError>
             jobs: &all.waiting.jobs,
             pieces: &all.waiting.pieces,
             entries: &all.rest.entries,
-            success_waits: &all.rest.success_waits,
+            success_waits: &all.rest.added.success_waits,
+            links: &all.rest.added.links,
+            taken: &all.rest.added.taken,
         },
     )
 }

@@ -2,7 +2,7 @@
 ghost use Rattle.std.specs.Prelude.{◌≡◌, map};
 ghost use Rattle.std.specs.Option.{option_copied};
 ghost use Rattle.std.specs.List.{list_all};
-ghost use Rattle.uu_database.specs.FoundTables.{table_of, has_column, has_table, has_systems, has_jobs, has_waits, is_whole, is_taken, is_any_taken, tables_with, found_of};
+ghost use Rattle.uu_database.specs.FoundTables.{table_of, has_column, has_table, has_systems, has_jobs, has_waits, has_links, is_whole, is_taken, is_link_taken, is_any_taken, added_with, tables_with, found_of};
 
 use sqlite_schema::names::same_name;
 use sqlite_schema::schema::{Schema, Table};
@@ -52,6 +52,10 @@ const PIECES: [&str; 3] = ["job", "place", "bytes"];
 const ENTRIES: [&str; 2] = ["host", "bytes"];
 
 const SUCCESS_WAITS: [&str; 2] = ["system", "wait"];
+
+const LINKS: [&str; 2] = ["system", "below"];
+
+const TAKEN: [&str; 4] = ["system", "number", "mark", "job"];
 
 fn table_of<'a>(schema: &'a Schema, name: &str) -> Option<&'a Table>
     ensures { option_copied result ≡ table_of schema.now name.now }
@@ -106,6 +110,12 @@ fn has_waits(schema: &Schema) -> bool
     has_table(schema, "success_waits", &SUCCESS_WAITS)
 }
 
+fn has_links(schema: &Schema) -> bool
+    ensures { result ≡ has_links schema.now }
+{
+    has_table(schema, "links", &LINKS) && has_table(schema, "taken", &TAKEN)
+}
+
 // Whether the rest of the columns and tables of version 1 is there.
 fn is_whole(schema: &Schema, spool: &Table) -> bool
     ensures { result ≡ is_whole schema.now spool.now }
@@ -119,6 +129,13 @@ fn is_taken(schema: &Schema, name: &str) -> bool
     table_of(schema, name).is_some()
 }
 
+// Whether a table stands under one of the names of the tables of links.
+fn is_link_taken(schema: &Schema) -> bool
+    ensures { result ≡ is_link_taken schema.now }
+{
+    is_taken(schema, "links") || is_taken(schema, "taken")
+}
+
 // Whether a table stands under one of the names but `spool`.
 fn is_any_taken(schema: &Schema) -> bool
     ensures { result ≡ is_any_taken schema.now }
@@ -130,23 +147,37 @@ fn is_any_taken(schema: &Schema) -> bool
         || is_taken(schema, "pieces")
         || is_taken(schema, "entries")
         || is_taken(schema, "success_waits")
+        || is_link_taken(schema)
 }
 
-// The version whose tables are there with all their columns. Version 1 has no table of the success
-// waits.
-fn tables_with(schema: &Schema, spool: &Table) -> Option<Version>
-    ensures { result ≡ tables_with schema.now spool.now }
+// The version that the tables tell that were added after version 1: it has all of its own, and of
+// those of later ones no name is taken.
+fn added_with(schema: &Schema) -> Option<Version>
+    ensures { result ≡ added_with schema.now }
 {
-    if !is_whole(schema, spool) {
-        return None;
-    }
     if has_waits(schema) {
-        return Some(Version::Second);
-    }
-    if is_taken(schema, "success_waits") {
+        if has_links(schema) {
+            Some(Version::Third)
+        } else if is_link_taken(schema) {
+            None
+        } else {
+            Some(Version::Second)
+        }
+    } else if is_taken(schema, "success_waits") || is_link_taken(schema) {
         None
     } else {
         Some(Version::First)
+    }
+}
+
+// The version whose tables are there with all their columns.
+fn tables_with(schema: &Schema, spool: &Table) -> Option<Version>
+    ensures { result ≡ tables_with schema.now spool.now }
+{
+    if is_whole(schema, spool) {
+        added_with(schema)
+    } else {
+        None
     }
 }
 

@@ -290,6 +290,18 @@ const LINES: &[LineCase] = &[
         ("done duke 1", b""),
         "done\n",
     ),
+    (
+        "serve (send, once)",
+        &[LOAD],
+        ("send duke a b --once unc!7", b"abc"),
+        "job 1\n",
+    ),
+    (
+        "serve (forget)",
+        &[LOAD],
+        ("forget unc 7", b""),
+        "done\n",
+    ),
     ("serve (map)", &[], ("map", MAP), "unc done\n"),
     (
         "serve (neighbours)",

@@ -5,3 +5,4 @@ pub mod NamedLemmas
 pub mod TableLemmas
 pub mod ProgramLemmas
 pub mod LineLemmas
+pub mod OriginLemmas

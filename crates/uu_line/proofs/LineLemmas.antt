@@ -25,6 +25,7 @@ use Rattle.std.specs.Box.{box_value}
 use Rattle.std.specs.Prelude.{Box}
 use Rattle.uu_line.specs.Commands.{program}
 use Rattle.uu_line.specs.declared.line.CommandLine.{CommandLine}
+use Rattle.uu_line.specs.declared.origin.Origin.{Origin}
 use Rattle.uu_line.specs.declared.task.Task.{Task}
 use Rattle.uu_line.specs.declared.task.Task.TheVariants as task
 use Rattle.uu_line.specs.Faults.{fault_of_name}
@@ -409,9 +410,9 @@ rests_next (path ∷ paths) (suc i) d rests rest inside so_far is =
     ap (λ r. r ++ rest ∷ []) so_far ∙ ap (λ r. rest_of path ∷ r) (rests_next paths i d (map rest_of (take i paths)) rest (omega arith) refl is)
 
 -- where all begin alike, the message is for the system that the first begins with
-pub mailed : (grade : ℕ) (first hop : Text) (paths : List Text) → hop ≡ first_hop first → list_all (λ path. same_text (first_hop path) hop) paths ≡ true
-    → mail_by grade first paths ≡ Ok (task.Mail grade (first_hop first) (map rest_of paths))
-mailed grade first hop paths same alike =
+pub mailed : (terms : ℕ × Option Origin) (first hop : Text) (paths : List Text) → hop ≡ first_hop first → list_all (λ path. same_text (first_hop path) hop) paths ≡ true
+    → mail_by terms first paths ≡ Ok (task.Mail terms.0 terms.1 (first_hop first) (map rest_of paths))
+mailed terms first hop paths same alike =
     let begins : list_all (λ path. same_text (first_hop path) (first_hop first)) paths ≡ true =
     subst (λ h. list_all (λ path. same_text (first_hop path) h) paths ≡ true) same alike in
     rw begins refl

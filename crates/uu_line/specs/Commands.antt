@@ -50,6 +50,10 @@ grade_option = record (new_rule (codes "grade")) {
   defaults = codes "N" ∷ [];
 }
 
+-- `--once SYSTEM!NUMBER`
+abbrev pub once_option : Rule
+once_option = record (new_rule (codes "once")) { long = Some (codes "once"); value_names = 1 }
+
 -- `JOB`, a whole number of at most 4,294,967,295
 abbrev pub job_argument : Rule
 job_argument = record (argument (codes "job")) { parser = Some (Unsigned 0 4_294_967_295) }
@@ -58,22 +62,22 @@ job_argument = record (argument (codes "job")) { parser = Some (Unsigned 0 4_294
 abbrev pub drop_command : App
 drop_command = with_rule (new_app (codes "drop")) (argument (codes "system"))
 
--- `NAME SYSTEM FROM TO [-g GRADE]`
+-- `NAME SYSTEM FROM TO [-g GRADE] [--once SYSTEM!NUMBER]`
 abbrev pub file_command : List ℕ → App
 file_command name =
-    with_rule (with_rule (with_rule (with_rule (new_app name) (argument (codes "system")))
-    (argument (codes "from"))) (argument (codes "to"))) grade_option
+    with_rule (with_rule (with_rule (with_rule (with_rule (new_app name) (argument (codes "system")))
+    (argument (codes "from"))) (argument (codes "to"))) grade_option) once_option
 
--- `exec [-g GRADE] SYSTEM COMMAND [ARG..]`
+-- `exec [-g GRADE] [--once SYSTEM!NUMBER] SYSTEM COMMAND [ARG..]`
 abbrev pub exec_command : App
 exec_command =
-    with_rule (with_rule (with_rule (with_rule (new_app (codes "exec")) grade_option)
+    with_rule (with_rule (with_rule (with_rule (with_rule (new_app (codes "exec")) grade_option) once_option)
     (argument (codes "system"))) (argument (codes "command"))) (arguments (codes "argument") 0)
 
--- `mail [-g GRADE] ADDRESS..`
+-- `mail [-g GRADE] [--once SYSTEM!NUMBER] ADDRESS..`
 abbrev pub mail_command : App
 mail_command =
-    with_rule (with_rule (new_app (codes "mail")) grade_option)
+    with_rule (with_rule (with_rule (new_app (codes "mail")) grade_option) once_option)
     (record (arguments (codes "address") 1) { required = true })
 
 -- `-s SYSTEM`, and `-u USER` of `list`
@@ -108,6 +112,10 @@ abbrev pub done_command : App
 done_command =
     with_rule (with_rule (new_app (codes "done")) (argument (codes "system")))
     (record (arguments (codes "job") 0) { parser = Some (Unsigned 0 4_294_967_295) })
+
+-- `forget SYSTEM NUMBER`
+abbrev pub forget_command : App
+forget_command = with_rule (with_rule (new_app (codes "forget")) (argument (codes "system"))) job_argument
 
 -- `neighbours HOST`
 abbrev pub neighbours_command : App
@@ -144,5 +152,5 @@ with_reports =
 -- and those of calls and of the map
 abbrev pub program : App
 program =
-    with_subcommand (with_subcommand (with_subcommand (with_subcommand with_reports failed_command.top) done_command.top)
-    (new_app (codes "map")).top) neighbours_command.top
+    with_subcommand (with_subcommand (with_subcommand (with_subcommand (with_subcommand with_reports failed_command.top)
+    done_command.top) forget_command.top) (new_app (codes "map")).top) neighbours_command.top

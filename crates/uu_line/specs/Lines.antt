@@ -1,10 +1,11 @@
 -- What the words of a line mean. The forms of words are those of `clap`, which takes no line
 -- without a subcommand and its required entries; the lines themselves are this project's choice.
-use Rattle.std.specs.Prelude.{◌≡◌, ◌≢◌, ◌↔◌, ◌⊎◌, Bool, true, false, ℕ, ◌^◌, ◌<◌, List, [], ◌∷◌, Option, Some, None, Result, Ok, Err, All, ⊤, codes, if◌then◌else◌, map, take, slice_get, ok_or, string_bytes, unwrap_or}
+use Rattle.std.specs.Prelude.{◌≡◌, ◌≢◌, ◌↔◌, ◌⊎◌, Bool, true, false, ℕ, ◌^◌, ◌<◌, ◌&&◌, nat_le, length, List, [], ◌∷◌, Option, Some, None, Result, Ok, Err, All, ⊤, codes, if◌then◌else◌, map, take, slice_get, ok_or, string_bytes, unwrap_or}
 use Rattle.std.specs.List.{list_all}
 use Rattle.std.specs.Str.Parse.{IsNumeral, digits_value, without_leading_plus}
 use Rattle.std.specs.Cmp.Lexicographic.{pointwise}
 use Rattle.std.specs.Prelude.{nat_eq}
+use Rattle.clap.specs.ValueTests.{is_numeral}
 use Rattle.clap.specs.Words.{IsAmong, Row, Text, all_of, first_of, matches_of, subcommand_of, fault_of}
 use Rattle.clap.specs.Words.{found_of, rows_of, subcommand_rows_of}
 use Rattle.clap.specs.declared.error.kind.ErrorKind.{ErrorKind}
@@ -14,12 +15,13 @@ use Rattle.uu_names.specs.Grade.{rank_of}
 use Rattle.uu_names.specs.Name.{site_name_of, word_of as as_word}
 use Rattle.uu_names.specs.Path.{IsPathText, IsPathFault, first_hop, rest_of}
 use Rattle.uu_names.specs.declared.fault.NameFault.{NameFault}
-use Rattle.uu_names.specs.declared.fault.NameFault.TheVariants.{BadGrade}
+use Rattle.uu_names.specs.declared.fault.NameFault.TheVariants.{BadGrade, BadPath}
 use Rattle.uu_names.specs.declared.fault.NameFault.TheVariants.{Memory as NoMemory}
 use Rattle.uu_line.specs.Commands.{program}
 use Rattle.uu_line.specs.declared.fault.LineFault.{LineFault}
 use Rattle.uu_line.specs.declared.fault.LineFault.TheVariants.{Words, Name, TwoSystems, Memory}
 use Rattle.uu_line.specs.declared.line.CommandLine.{CommandLine}
+use Rattle.uu_line.specs.declared.origin.Origin.{Origin}
 use Rattle.uu_line.specs.declared.task.Task.{Task}
 use Rattle.uu_line.specs.declared.task.Task.TheVariants as task
 
@@ -91,37 +93,57 @@ abbrev pub optional : {V : Type 0} → (Text → Result V LineFault) → Option 
 optional read None = Ok None
 optional read (Some text) = and_then (read text) (λ value. Ok (Some value))
 
+-- ---- whose job it is
+
+-- the number that a neighbour has for a job: decimal digits without a sign, 1 to 4,294,967,294
+abbrev pub handed_number : Text → Option ℕ
+handed_number text =
+    let number = digits_value 10 text in
+    if is_numeral text && nat_le 1 number && nat_le number 4_294_967_294 then Some number else None
+
+-- `SYSTEM!NUMBER`: the part before the first `!` is looked at first. Where the part after it is no
+-- such number, or there is none, the text begins no path to a job at the end of the first part.
+abbrev pub origin_of : Text → Result Origin LineFault
+origin_of text =
+    and_then (site_of (first_hop text)) (λ from.
+    and_then (named (ok_or (handed_number (rest_of text)) (BadPath (length (first_hop text))))) (λ number.
+    Ok (record { from = from; number = number })))
+
+-- `-g GRADE` and `--once SYSTEM!NUMBER`, in this order
+abbrev pub terms_of : Text → Option Text → Result (ℕ × Option Origin) LineFault
+terms_of grade once = and_then (grade_of grade) (λ grade. and_then (optional origin_of once) (λ once. Ok (grade, once)))
+
 -- ---- tasks, by the texts of their entries
 
 -- `drop SYSTEM`
 abbrev pub drop_task : Text → Result Task LineFault
 drop_task system = and_then (site_of system) (λ system. Ok (task.Drop system))
 
--- `NAME SYSTEM FROM TO [-g GRADE]`
-abbrev pub file_task : (List ℕ → List ℕ → List ℕ → ℕ → Task) → Text → Text → Text → Text → Result Task LineFault
-file_task made system source target grade =
+-- `NAME SYSTEM FROM TO [-g GRADE] [--once SYSTEM!NUMBER]`
+abbrev pub file_task : (List ℕ → List ℕ → List ℕ → ℕ → Option Origin → Task) → Text → Text → Text → Text → Option Text → Result Task LineFault
+file_task made system source target grade once =
     and_then (site_of system) (λ system.
     and_then (word_of source) (λ source.
     and_then (word_of target) (λ target.
-    and_then (grade_of grade) (λ grade. Ok (made system source target grade)))))
+    and_then (terms_of grade once) (λ terms. Ok (made system source target terms.0 terms.1)))))
 
--- `exec [-g GRADE] SYSTEM COMMAND [ARG..]`
-abbrev pub exec_task : Text → Text → Text → List Text → Result Task LineFault
-exec_task grade system command arguments =
-    and_then (grade_of grade) (λ grade.
+-- `exec [-g GRADE] [--once SYSTEM!NUMBER] SYSTEM COMMAND [ARG..]`
+abbrev pub exec_task : Text → Option Text → Text → Text → List Text → Result Task LineFault
+exec_task grade once system command arguments =
+    and_then (terms_of grade once) (λ terms.
     and_then (site_of system) (λ system.
     and_then (word_of command) (λ command.
-    and_then (words_of arguments) (λ arguments. Ok (task.Execute grade system command arguments)))))
+    and_then (words_of arguments) (λ arguments. Ok (task.Execute terms.0 terms.1 system command arguments)))))
 
 abbrev pub same_text : Text → Text → Bool
 same_text = pointwise nat_eq
 
 -- Addresses that are bang paths: each has to begin with the same system as the first, and the rests
 -- are what that is to do.
-abbrev pub mail_by : ℕ → Text → List Text → Result Task LineFault
-mail_by grade first addresses =
+abbrev pub mail_by : ℕ × Option Origin → Text → List Text → Result Task LineFault
+mail_by terms first addresses =
     if list_all (λ address. same_text (first_hop address) (first_hop first)) addresses
-    then Ok (task.Mail grade (first_hop first) (map rest_of addresses))
+    then Ok (task.Mail terms.0 terms.1 (first_hop first) (map rest_of addresses))
     else Err TwoSystems
 
 -- the first of the addresses that is no bang path, and why
@@ -141,15 +163,15 @@ IsAddressFault addresses Memory = ⊤
 IsAddressFault addresses _ = ⊥
 
 -- addresses: where all are bang paths, the task, and else the fault of the first that is none
-abbrev pub MeansMail : ℕ → Text → List Text → Result Task LineFault → Type 0
-MeansMail grade first addresses meant =
-    (All IsPathText addresses × (meant ≡ mail_by grade first addresses))
+abbrev pub MeansMail : ℕ × Option Origin → Text → List Text → Result Task LineFault → Type 0
+MeansMail terms first addresses meant =
+    (All IsPathText addresses × (meant ≡ mail_by terms first addresses))
     ⊎ ((fault : NameFault) × IsBadAddress addresses fault × (meant ≡ Err (Name fault)))
 
--- `mail [-g GRADE] ADDRESS..`
-abbrev pub MeansGradedMail : Result ℕ LineFault → Text → List Text → Result Task LineFault → Type 0
-MeansGradedMail (Err fault) first addresses meant = meant ≡ Err fault
-MeansGradedMail (Ok grade) first addresses meant = MeansMail grade first addresses meant
+-- `mail [-g GRADE] [--once SYSTEM!NUMBER] ADDRESS..`
+abbrev pub MeansMailOn : Result (ℕ × Option Origin) LineFault → Text → List Text → Result Task LineFault → Type 0
+MeansMailOn (Err fault) first addresses meant = meant ≡ Err fault
+MeansMailOn (Ok terms) first addresses meant = MeansMail terms first addresses meant
 
 -- `list [-s SYSTEM] [-u USER]`
 abbrev pub list_task : Option Text → Option Text → Result Task LineFault
@@ -177,6 +199,10 @@ failed_task system why = and_then (site_of system) (λ system. and_then (word_of
 abbrev pub done_task : Text → List ℕ → Result Task LineFault
 done_task system jobs = and_then (site_of system) (λ system. Ok (task.Done system jobs))
 
+-- `forget SYSTEM NUMBER`
+abbrev pub forget_task : Text → ℕ → Result Task LineFault
+forget_task system below = and_then (site_of system) (λ system. Ok (task.Forget system below))
+
 -- `neighbours HOST`
 abbrev pub neighbours_task : Text → Result Task LineFault
 neighbours_task host = and_then (site_of host) (λ host. Ok (task.Neighbours host))
@@ -186,25 +212,25 @@ neighbours_task host = and_then (site_of host) (λ host. Ok (task.Neighbours hos
 abbrev pub MeansDrop : List Row → Result Task LineFault → Type 0
 MeansDrop rows meant = WithText (codes "system") rows (λ system. meant ≡ drop_task system)
 
-abbrev pub MeansFile : (List ℕ → List ℕ → List ℕ → ℕ → Task) → List Row → Result Task LineFault → Type 0
+abbrev pub MeansFile : (List ℕ → List ℕ → List ℕ → ℕ → Option Origin → Task) → List Row → Result Task LineFault → Type 0
 MeansFile made rows meant =
     WithText (codes "system") rows (λ system.
     WithText (codes "from") rows (λ source.
     WithText (codes "to") rows (λ target.
-    WithText (codes "grade") rows (λ grade. meant ≡ file_task made system source target grade))))
+    WithText (codes "grade") rows (λ grade. meant ≡ file_task made system source target grade (first_of (codes "once") rows)))))
 
 abbrev pub MeansExec : List Row → Result Task LineFault → Type 0
 MeansExec rows meant =
     WithText (codes "grade") rows (λ grade.
     WithText (codes "system") rows (λ system.
     WithText (codes "command") rows (λ command.
-    meant ≡ exec_task grade system command (texts_at (codes "argument") rows))))
+    meant ≡ exec_task grade (first_of (codes "once") rows) system command (texts_at (codes "argument") rows))))
 
 abbrev pub MeansMailing : List Row → Result Task LineFault → Type 0
 MeansMailing rows meant =
     WithText (codes "grade") rows (λ grade.
     WithTexts (codes "address") rows (λ first others.
-    MeansGradedMail (grade_of grade) first (first ∷ others) meant))
+    MeansMailOn (terms_of grade (first_of (codes "once") rows)) first (first ∷ others) meant))
 
 abbrev pub MeansJob : (ℕ → Result Task LineFault) → List Row → Result Task LineFault → Type 0
 MeansJob made rows meant =
@@ -221,6 +247,9 @@ abbrev pub MeansDone : List Row → Result Task LineFault → Type 0
 MeansDone rows meant =
     WithText (codes "system") rows (λ system.
     (jobs : List ℕ) × AreNumbers 32 (texts_at (codes "job") rows) jobs × (meant ≡ done_task system jobs))
+
+abbrev pub MeansForget : List Row → Result Task LineFault → Type 0
+MeansForget rows meant = WithText (codes "system") rows (λ system. MeansJob (forget_task system) rows meant)
 
 abbrev pub MeansNeighbours : List Row → Result Task LineFault → Type 0
 MeansNeighbours rows meant = WithText (codes "host") rows (λ host. meant ≡ neighbours_task host)
@@ -245,6 +274,7 @@ MeansTask name rows meant =
     ⊎ ((name ≡ codes "status") × (meant ≡ Ok task.Status))
     ⊎ ((name ≡ codes "failed") × MeansFailed rows meant)
     ⊎ ((name ≡ codes "done") × MeansDone rows meant)
+    ⊎ ((name ≡ codes "forget") × MeansForget rows meant)
     ⊎ ((name ≡ codes "map") × (meant ≡ Ok task.Map))
     ⊎ ((name ≡ codes "neighbours") × MeansNeighbours rows meant)
 
@@ -252,10 +282,10 @@ MeansTask name rows meant =
 abbrev pub takes_input : Task → Bool
 takes_input task.Load = true
 takes_input (task.Drop system) = false
-takes_input (task.Send system source target grade) = true
-takes_input (task.Request system source target grade) = false
-takes_input (task.Execute grade system command arguments) = true
-takes_input (task.Mail grade system rests) = true
+takes_input (task.Send system source target grade once) = true
+takes_input (task.Request system source target grade once) = false
+takes_input (task.Execute grade once system command arguments) = true
+takes_input (task.Mail grade once system rests) = true
 takes_input (task.List filter) = false
 takes_input (task.Show job) = false
 takes_input (task.Kill job) = false
@@ -267,6 +297,7 @@ takes_input (task.Queues filter) = false
 takes_input task.Status = false
 takes_input (task.Failed system why) = false
 takes_input (task.Done system jobs) = false
+takes_input (task.Forget system below) = false
 takes_input task.Map = true
 takes_input (task.Neighbours host) = false
 

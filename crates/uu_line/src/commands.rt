@@ -114,6 +114,16 @@ const GRADE: Entry<'static> = Entry {
     help: "The job's grade: 0 to 9, A to Z or a to z, highest first",
 };
 
+// `--once SYSTEM!NUMBER`
+const ONCE: Entry<'static> = Entry {
+    id: "once",
+    form: Form::Name("once"),
+    required: false,
+    defaults: &[],
+    shown: "SYSTEM!NUMBER",
+    help: "Whose job it is, and its number there: it is queued once",
+};
+
 // `JOB`
 const JOB: Entry<'static> = Entry {
     id: "job",
@@ -158,7 +168,7 @@ const WANTED: Entry<'static> = Entry {
 static OPTIONS: [Entry<'static>; 3] = [CONFIG, SECOND, USER];
 
 // The subcommands, in the order that help lists them in.
-static SUBCOMMANDS: [Subcommand<'static>; 19] = [
+static SUBCOMMANDS: [Subcommand<'static>; 20] = [
     Subcommand {
         name: "load",
         about: "Defines the systems of the sys file on standard input",
@@ -179,18 +189,19 @@ static SUBCOMMANDS: [Subcommand<'static>; 19] = [
     Subcommand {
         name: "send",
         about: "Queues standard input as a file for a system",
-        entries: &[SYSTEM, SOURCE, TARGET, GRADE],
+        entries: &[SYSTEM, SOURCE, TARGET, GRADE, ONCE],
     },
     Subcommand {
         name: "request",
         about: "Queues a request for a file of a system",
-        entries: &[SYSTEM, SOURCE, TARGET, GRADE],
+        entries: &[SYSTEM, SOURCE, TARGET, GRADE, ONCE],
     },
     Subcommand {
         name: "exec",
         about: "Queues a command for a system, with standard input as its input",
         entries: &[
             GRADE,
+            ONCE,
             SYSTEM,
             Entry {
                 id: "command",
@@ -215,6 +226,7 @@ static SUBCOMMANDS: [Subcommand<'static>; 19] = [
         about: "Queues standard input as a message",
         entries: &[
             GRADE,
+            ONCE,
             Entry {
                 id: "address",
                 form: Form::Several,
@@ -324,6 +336,28 @@ static SUBCOMMANDS: [Subcommand<'static>; 19] = [
                 defaults: &[],
                 shown: "JOB",
                 help: "The numbers of the jobs that were carried out",
+            },
+        ],
+    },
+    Subcommand {
+        name: "forget",
+        about: "Forgets which jobs below a number came from a system",
+        entries: &[
+            Entry {
+                id: "system",
+                form: Form::One,
+                required: true,
+                defaults: &[],
+                shown: "SYSTEM",
+                help: "The neighbour that handed them on",
+            },
+            Entry {
+                id: "job",
+                form: Form::Job,
+                required: true,
+                defaults: &[],
+                shown: "NUMBER",
+                help: "The least number that it may still hand on",
             },
         ],
     },

@@ -10,11 +10,11 @@ ghost use Rattle.uu_line.specs.Lines as spec;
 
 use crate::fault::LineFault;
 use crate::reading::{
-    done_task, drop_task, execute_task, failed_task, list_task, mail_task, neighbours_task,
-    queues_task, regrade_task, request_task, send_task, when_task,
+    done_task, drop_task, execute_task, failed_task, forget_task, list_task, mail_task,
+    neighbours_task, queues_task, regrade_task, request_task, send_task, when_task,
 };
 use crate::task::Task;
-use crate::values::{grade_of, job_in, jobs_in, paths_in, text_in};
+use crate::values::{job_in, jobs_in, paths_in, terms_of, text_in};
 use clap::ArgMatches;
 use std::alloc::Global;
 
@@ -74,6 +74,7 @@ fn call_task_in(alloc: Global, name: &str, given: &ArgMatches<'_>) -> Result<Tas
     match name {
         "failed" => failed_in(alloc, given),
         "done" => done_in(alloc, given),
+        "forget" => forget_in(alloc, given),
         "map" => Ok(Task::Map),
         "neighbours" => neighbours_in(alloc, given),
         _ => unreachable!(),
@@ -97,7 +98,7 @@ fn send_in(alloc: Global, given: &ArgMatches<'_>) -> Result<Task, LineFault>
     let source = text_in(given, "from");
     let target = text_in(given, "to");
     let grade = text_in(given, "grade");
-    send_task(alloc, system, source, target, grade)
+    send_task(alloc, system, source, target, grade, given.get_str("once"))
 }
 
 // The task of `request`.
@@ -109,7 +110,7 @@ fn request_in(alloc: Global, given: &ArgMatches<'_>) -> Result<Task, LineFault>
     let source = text_in(given, "from");
     let target = text_in(given, "to");
     let grade = text_in(given, "grade");
-    request_task(alloc, system, source, target, grade)
+    request_task(alloc, system, source, target, grade, given.get_str("once"))
 }
 
 // The task of `exec`.
@@ -120,7 +121,8 @@ fn execute_in(alloc: Global, given: &ArgMatches<'_>) -> Result<Task, LineFault>
     let grade = text_in(given, "grade");
     let system = text_in(given, "system");
     let command = text_in(given, "command");
-    execute_task(alloc, grade, system, command, given)
+    let once = given.get_str("once");
+    execute_task(alloc, grade, once, system, command, given)
 }
 
 // The task of `mail`.
@@ -128,9 +130,9 @@ fn mail_in(alloc: Global, given: &ArgMatches<'_>) -> Result<Task, LineFault>
     requires { HaveTexts (codes "grade" ∷ codes "address" ∷ []) (rows_of (found_of given.now)) }
     ensures { UnlessMemory (spec.MeansMailing (rows_of (found_of given.now))) result }
 {
-    match grade_of(text_in(given, "grade")) {
-        Ok(grade) => match paths_in(alloc, given, "address") {
-            Ok(paths) => mail_task(alloc, grade, &paths),
+    match terms_of(alloc, text_in(given, "grade"), given.get_str("once")) {
+        Ok(terms) => match paths_in(alloc, given, "address") {
+            Ok(paths) => mail_task(alloc, terms, &paths),
             Err(fault) => Err(fault),
         },
         Err(fault) => Err(fault),
@@ -217,6 +219,15 @@ fn done_in(alloc: Global, given: &ArgMatches<'_>) -> Result<Task, LineFault>
         Ok(jobs) => done_task(alloc, system, jobs),
         Err(fault) => Err(fault),
     }
+}
+
+// The task of `forget`.
+fn forget_in(alloc: Global, given: &ArgMatches<'_>) -> Result<Task, LineFault>
+    requires texts { HaveTexts (codes "system" ∷ codes "job" ∷ []) (rows_of (found_of given.now)) }
+    requires number { AreNumbersUpTo most_job (texts_at (codes "job") (rows_of (found_of given.now))) }
+    ensures { UnlessMemory (spec.MeansForget (rows_of (found_of given.now))) result }
+{
+    forget_task(alloc, text_in(given, "system"), job_in(given))
 }
 
 // The task of `neighbours`.

@@ -6,10 +6,12 @@ mod commands;
 mod entered;
 mod fault;
 mod line;
+mod origin;
 mod reading;
 mod task;
 mod values;
 
 pub use fault::LineFault;
 pub use line::{CommandLine, line_of};
+pub use origin::Origin;
 pub use task::Task;

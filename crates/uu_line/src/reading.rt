@@ -1,17 +1,21 @@
 //! Tasks from the texts of their entries.
 
-ghost use Rattle.std.specs.Prelude.{◌≡◌, ℕ, List, Ok, Some, IfOk, IfErr, IsSome, map, codes, option_map, slice_get};
+ghost use Rattle.std.specs.Prelude.{◌≡◌, ℕ, List, Option, Ok, Some, IfOk, IfErr, IsSome, map, codes, option_map, slice_get};
 ghost use Rattle.std.specs.List.{list_all};
 ghost use Rattle.clap.specs.Words.{found_of, rows_of};
 ghost use Rattle.uu_names.specs.Path.{first_hop, rest_of};
 ghost use Rattle.uu_line.specs.Lines.{texts_at};
 ghost use Rattle.uu_line.specs.Lines.{Answers, and_then};
+ghost use Rattle.uu_line.specs.declared.origin.Origin.{Origin as AnyOrigin};
 ghost use Rattle.uu_line.specs.declared.task.Task.{Task as AnyTask};
 ghost use Rattle.uu_line.specs.Lines as spec;
 
 use crate::fault::LineFault;
+use crate::origin::Origin;
 use crate::task::Task;
-use crate::values::{both, grade_of, optional_site, optional_word, site_of, word_of, words_in};
+use crate::values::{
+    both, grade_of, optional_site, optional_word, site_of, terms_of, word_of, words_in,
+};
 use clap::ArgMatches;
 use std::alloc::Global;
 use uu_core::Filter;
@@ -33,17 +37,19 @@ pub(crate) fn send_task(
     source: &str,
     target: &str,
     grade: &str,
+    once: Option<&str>,
 ) -> Result<Task, LineFault>
-    ensures { Answers result (spec.file_task Task.Send system.now source.now target.now grade.now) }
+    ensures { Answers result (spec.file_task Task.Send system.now source.now target.now grade.now (option_map (λ text. text.now) once.entry)) }
 {
-    match file_parts(alloc, system, source, target, grade) {
+    match file_parts(alloc, system, source, target, grade, once) {
         Ok(parts) => {
-            let ((system, source), (target, grade)) = parts;
+            let ((system, source), (target, (grade, once))) = parts;
             Ok(Task::Send {
                 system,
                 source,
                 target,
                 grade,
+                once,
             })
         }
         Err(fault) => Err(fault),
@@ -57,17 +63,19 @@ pub(crate) fn request_task(
     source: &str,
     target: &str,
     grade: &str,
+    once: Option<&str>,
 ) -> Result<Task, LineFault>
-    ensures { Answers result (spec.file_task Task.Request system.now source.now target.now grade.now) }
+    ensures { Answers result (spec.file_task Task.Request system.now source.now target.now grade.now (option_map (λ text. text.now) once.entry)) }
 {
-    match file_parts(alloc, system, source, target, grade) {
+    match file_parts(alloc, system, source, target, grade, once) {
         Ok(parts) => {
-            let ((system, source), (target, grade)) = parts;
+            let ((system, source), (target, (grade, once))) = parts;
             Ok(Task::Request {
                 system,
                 source,
                 target,
                 grade,
+                once,
             })
         }
         Err(fault) => Err(fault),
@@ -81,14 +89,15 @@ fn file_parts(
     source: &str,
     target: &str,
     grade: &str,
-) -> Result<((SiteName, Word), (Word, Grade)), LineFault>
-    ensures { (made : List ℕ → List ℕ → List ℕ → ℕ → AnyTask)
-        → Answers (and_then result (λ parts. Ok (made parts.0.0 parts.0.1 parts.1.0 parts.1.1)))
-        (spec.file_task made system.now source.now target.now grade.now) }
+    once: Option<&str>,
+) -> Result<((SiteName, Word), (Word, (Grade, Option<Origin>))), LineFault>
+    ensures { (made : List ℕ → List ℕ → List ℕ → ℕ → Option AnyOrigin → AnyTask)
+        → Answers (and_then result (λ parts. Ok (made parts.0.0 parts.0.1 parts.1.0 parts.1.1.0 parts.1.1.1)))
+        (spec.file_task made system.now source.now target.now grade.now (option_map (λ text. text.now) once.entry)) }
 {
     both(
         both(site_of(alloc, system), word_of(alloc, source)),
-        both(word_of(alloc, target), grade_of(grade)),
+        both(word_of(alloc, target), terms_of(alloc, grade, once)),
     )
 }
 
@@ -96,19 +105,21 @@ fn file_parts(
 pub(crate) fn execute_task(
     alloc: Global,
     grade: &str,
+    once: Option<&str>,
     system: &str,
     command: &str,
     given: &ArgMatches<'_>,
 ) -> Result<Task, LineFault>
-    ensures { Answers result (spec.exec_task grade.now system.now command.now (texts_at (codes "argument") (rows_of (found_of given.now)))) }
+    ensures { Answers result (spec.exec_task grade.now (option_map (λ text. text.now) once.entry) system.now command.now (texts_at (codes "argument") (rows_of (found_of given.now)))) }
 {
-    let place = both(grade_of(grade), site_of(alloc, system));
+    let place = both(terms_of(alloc, grade, once), site_of(alloc, system));
     let words = both(word_of(alloc, command), words_in(alloc, given, "argument"));
     match both(place, words) {
         Ok(parts) => {
-            let ((grade, system), (command, arguments)) = parts;
+            let (((grade, once), system), (command, arguments)) = parts;
             Ok(Task::Execute {
                 grade,
+                once,
                 system,
                 command,
                 arguments,
@@ -119,29 +130,42 @@ pub(crate) fn execute_task(
 }
 
 /// The task of a message to these addresses, one or more.
-pub(crate) fn mail_task(alloc: Global, grade: Grade, paths: &[Path]) -> Result<Task, LineFault>
+pub(crate) fn mail_task(
+    alloc: Global,
+    terms: (Grade, Option<Origin>),
+    paths: &[Path],
+) -> Result<Task, LineFault>
     requires { IsSome (slice_get paths.now 0) }
-    ensures { (first : List ℕ) → Some first ≡ slice_get paths.now 0 → Answers result (spec.mail_by grade first paths.now) }
+    ensures { (first : List ℕ) → Some first ≡ slice_get paths.now 0 → Answers result (spec.mail_by terms first paths.now) }
 {
     match paths.first() {
-        Some(first) => mail_by(alloc, grade, first, paths),
+        Some(first) => mail_by(alloc, terms, first, paths),
         None => unreachable!(),
     }
 }
 
 // The task of a message to these addresses, of which this is the first.
-fn mail_by(alloc: Global, grade: Grade, first: &Path, paths: &[Path]) -> Result<Task, LineFault>
-    ensures { Answers result (spec.mail_by grade first.now paths.now) }
+fn mail_by(
+    alloc: Global,
+    terms: (Grade, Option<Origin>),
+    first: &Path,
+    paths: &[Path],
+) -> Result<Task, LineFault>
+    ensures { Answers result (spec.mail_by terms first.now paths.now) }
 {
     if !begin_alike(first.first_hop(), paths) {
         return Err(LineFault::TwoSystems);
     }
     match both(site_of(alloc, first.first_hop()), rests_of(alloc, paths)) {
-        Ok((system, rests)) => Ok(Task::Mail {
-            grade,
-            system,
-            rests,
-        }),
+        Ok((system, rests)) => {
+            let (grade, once) = terms;
+            Ok(Task::Mail {
+                grade,
+                once,
+                system,
+                rests,
+            })
+        }
         Err(fault) => Err(fault),
     }
 }
@@ -236,6 +260,15 @@ pub(crate) fn done_task(alloc: Global, system: &str, jobs: Listed<u32>) -> Resul
 {
     let system = site_of(alloc, system)?;
     Ok(Task::Done { system, jobs })
+}
+
+/// The task of `forget`.
+#[tactic(auto, using(crate::proofs::LineLemmas::answers_then))]
+pub(crate) fn forget_task(alloc: Global, system: &str, below: u32) -> Result<Task, LineFault>
+    ensures { Answers result (spec.forget_task system.now below) }
+{
+    let system = site_of(alloc, system)?;
+    Ok(Task::Forget { system, below })
 }
 
 /// The task of `neighbours`.

@@ -3,6 +3,7 @@
 ghost use Rattle.std.specs.Prelude.{◌≡◌};
 ghost use Rattle.uu_line.specs.Lines.{takes_input};
 
+use crate::origin::Origin;
 use uu_core::Filter;
 use uu_names::{Grade, Listed, Path, SiteName, Word};
 
@@ -16,7 +17,8 @@ pub enum Task {
         /// The neighbour that is forgotten.
         system: SiteName,
     },
-    /// `send SYSTEM FROM TO [-g GRADE]`: queues the input as a file for the system.
+    /// `send SYSTEM FROM TO [-g GRADE] [--once SYSTEM!NUMBER]`: queues the input as a file for the
+    /// system.
     Send {
         /// The neighbour that the file is for.
         system: SiteName,
@@ -26,8 +28,11 @@ pub enum Task {
         target: Word,
         /// The job's grade, `N` where none is given.
         grade: Grade,
+        /// The neighbour's job that it is, where it is to be queued once.
+        once: Option<Origin>,
     },
-    /// `request SYSTEM FROM TO [-g GRADE]`: queues a request for a file of the system.
+    /// `request SYSTEM FROM TO [-g GRADE] [--once SYSTEM!NUMBER]`: queues a request for a file of
+    /// the system.
     Request {
         /// The neighbour that has the file.
         system: SiteName,
@@ -37,11 +42,16 @@ pub enum Task {
         target: Word,
         /// The job's grade, `N` where none is given.
         grade: Grade,
+        /// The neighbour's job that it is, where it is to be queued once.
+        once: Option<Origin>,
     },
-    /// `exec [-g GRADE] SYSTEM COMMAND [ARG..]`: queues a command, with the input as its input.
+    /// `exec [-g GRADE] [--once SYSTEM!NUMBER] SYSTEM COMMAND [ARG..]`: queues a command, with the
+    /// input as its input.
     Execute {
         /// The job's grade, `N` where none is given.
         grade: Grade,
+        /// The neighbour's job that it is, where it is to be queued once.
+        once: Option<Origin>,
         /// The neighbour that runs the command.
         system: SiteName,
         /// The command.
@@ -49,10 +59,12 @@ pub enum Task {
         /// Its arguments.
         arguments: Listed<Word>,
     },
-    /// `mail [-g GRADE] ADDRESS..`: queues the input as a message.
+    /// `mail [-g GRADE] [--once SYSTEM!NUMBER] ADDRESS..`: queues the input as a message.
     Mail {
         /// The job's grade, `N` where none is given.
         grade: Grade,
+        /// The neighbour's job that it is, where it is to be queued once.
+        once: Option<Origin>,
         /// The neighbour that each address begins with.
         system: SiteName,
         /// What the neighbour is to do with the message: each address without its first site.
@@ -116,6 +128,14 @@ pub enum Task {
         /// The numbers of the jobs that were carried out, in the order given.
         jobs: Listed<u32>,
     },
+    /// `forget SYSTEM NUMBER`: forgets which jobs below the number came from the system, which
+    /// won't hand them on again.
+    Forget {
+        /// The neighbour that handed them on.
+        system: SiteName,
+        /// The least number that it may still hand on.
+        below: u32,
+    },
     /// `map`: keeps the map entries that are the input.
     Map,
     /// `neighbours HOST`: reports the links of a host's map entry.
@@ -146,6 +166,7 @@ impl Task {
             | Task::Status
             | Task::Failed { .. }
             | Task::Done { .. }
+            | Task::Forget { .. }
             | Task::Neighbours { .. } => false,
         }
     }

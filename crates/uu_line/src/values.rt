@@ -12,6 +12,7 @@ ghost use Rattle.uu_line.specs.Lines.{Answers, AreNumbers, IsNumber, IsNumberOf,
 ghost use Rattle.uu_line.specs.Lines as spec;
 
 use crate::fault::LineFault;
+use crate::origin::{Origin, origin_of};
 use clap::ArgMatches;
 use std::alloc::Global;
 use uu_names::{Grade, Listed, NameFault, Path, SiteName, Word};
@@ -165,6 +166,33 @@ pub(crate) fn grade_of(text: &str) -> Result<Grade, LineFault>
         Ok(grade) => Ok(grade),
         Err(fault) => Err(LineFault::from(fault)),
     }
+}
+
+/// The text as `SYSTEM!NUMBER`, where there is one.
+pub(crate) fn optional_origin(
+    alloc: Global,
+    text: Option<&str>,
+) -> Result<Option<Origin>, LineFault>
+    ensures { Answers result (spec.optional spec.origin_of (option_map (λ text. text.now) text.entry)) }
+{
+    match text {
+        Some(text) => match origin_of(alloc, text) {
+            Ok(origin) => Ok(Some(origin)),
+            Err(fault) => Err(fault),
+        },
+        None => Ok(None),
+    }
+}
+
+/// The texts of `-g` and `--once`.
+pub(crate) fn terms_of(
+    alloc: Global,
+    grade: &str,
+    once: Option<&str>,
+) -> Result<(Grade, Option<Origin>), LineFault>
+    ensures { Answers result (spec.terms_of grade.now (option_map (λ text. text.now) once.entry)) }
+{
+    both(grade_of(grade), optional_origin(alloc, once))
 }
 
 /// The words of an entry, none where there is no such entry.

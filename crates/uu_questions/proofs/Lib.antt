@@ -17,3 +17,4 @@ pub mod PieceRows
 pub mod OpenLines
 pub mod OpenRows
 pub mod DueRows
+pub mod LinkRows

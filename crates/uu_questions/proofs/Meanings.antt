@@ -12,9 +12,9 @@ use Rattle.sqlite_sql.specs.declared.ops.ArithOp.TheVariants.{Add}
 use Rattle.uu_sql.specs.Layout.{over, where_is, equal_terms}
 use Rattle.uu_sql.proofs.Asks.{Means, ordered}
 use Rattle.uu_sql.specs.Queries.{IsQuery}
-use Rattle.uu_schema.specs.Schema.{site, spool, systems, lines, ranges, jobs, pieces, entries, success_waits}
-use Rattle.uu_questions.specs.Texts.{next_text, known_text, waiting_text, head_text, system_text, lines_of_text, ranges_of_text, waits_of_text, all_jobs_text, jobs_text, pieces_text, entry_text, held_text, open_text, due_jobs_text}
-use Rattle.uu_rows.proofs.Meanings.{at_places, by_places, is_first, head_names, system_names, line_names, range_names, wait_names}
+use Rattle.uu_schema.specs.Schema.{site, spool, systems, lines, ranges, jobs, pieces, entries, success_waits, links, taken}
+use Rattle.uu_questions.specs.Texts.{next_text, known_text, waiting_text, head_text, system_text, lines_of_text, ranges_of_text, waits_of_text, link_text, taken_text, all_jobs_text, jobs_text, pieces_text, entry_text, held_text, open_text, due_jobs_text}
+use Rattle.uu_rows.proofs.Meanings.{at_places, by_places, is_first, head_names, system_names, line_names, range_names, wait_names, link_names, taken_names}
 
 -- ---- before a command
 
@@ -53,6 +53,14 @@ lines_of_means = record { command = refl; plain = (refl, refl); listing = refl }
 pub ranges_of_means : Means site ranges_of_text (ordered ranges.tree (where_is 1 0 ∷ []) (at_places (1 ∷ 2 ∷ 3 ∷ 4 ∷ [])) (by_places (1 ∷ 2 ∷ 3 ∷ []))) range_names
 unfolding understood everything
 ranges_of_means = record { command = refl; plain = (refl, refl); listing = refl }
+
+pub link_means : Means site link_text (ordered links.tree (where_is 1 0 ∷ []) (at_places (1 ∷ 2 ∷ [])) (by_places (1 ∷ []))) link_names
+unfolding understood everything
+link_means = record { command = refl; plain = (refl, refl); listing = refl }
+
+pub taken_means : Means site taken_text (ordered taken.tree (where_is 1 0 ∷ where_is 2 1 ∷ []) (at_places (1 ∷ 2 ∷ 3 ∷ 4 ∷ [])) (by_places (1 ∷ 2 ∷ []))) taken_names
+unfolding understood everything
+taken_means = record { command = refl; plain = (refl, refl); listing = refl }
 
 pub waits_of_means : Means site waits_of_text (ordered success_waits.tree (where_is 1 0 ∷ []) (at_places (1 ∷ 2 ∷ [])) (by_places (1 ∷ []))) wait_names
 unfolding understood everything

@@ -5,7 +5,7 @@ use Rattle.std.specs.declared.alloc.AllocError.{AllocError}
 use Rattle.std.proofs.lemmas.List.Elements.{All-nil, All-filter}
 use Rattle.std.proofs.lemmas.List.Kept.{AllPairs-filter}
 use Rattle.uu_core.specs.declared.system.SystemRow.{SystemRow}
-use Rattle.uu_core.specs.State.{State, Job, MapEntry, ComesBefore, IsCall, IsDefinition, IsWellFormed, is_system}
+use Rattle.uu_core.specs.State.{State, Job, MapEntry, Link, ComesBefore, IsCall, IsDefinition, IsWellFormed, is_system}
 use Rattle.uu_tables.specs.declared.rows.SystemColumns.{SystemColumns}
 use Rattle.uu_tables.specs.declared.rows.LineColumns.{LineColumns}
 use Rattle.uu_tables.specs.declared.rows.RangeColumns.{RangeColumns}
@@ -38,6 +38,10 @@ holds_alone rows definitions calls by_name = record {
   by_name = by_name;
   hosts = All-nil _;
   by_host = no_pairs (λ (a b : MapEntry). ComesBefore a.host b.host);
+  links = All-nil _;
+  linked = All-nil _;
+  taken = All-nil _;
+  by_link = no_pairs (λ (a b : Link). ComesBefore a.name b.name);
 }
 
 -- the systems of a state, and those of one name
@@ -52,7 +56,7 @@ name_alone s name good =
 
 -- the tables that have these rows and no others
 abbrev pub alone : List SystemColumns → List LineColumns → List RangeColumns → List WaitColumns → Tables
-alone systems lines ranges waits = record { next = 1; systems = systems; lines = lines; ranges = ranges; jobs = []; pieces = []; entries = []; success_waits = waits }
+alone systems lines ranges waits = record { next = 1; systems = systems; lines = lines; ranges = ranges; jobs = []; pieces = []; entries = []; success_waits = waits; links = []; taken = [] }
 
 module _ (systems : List SystemColumns) (lines : List LineColumns) (ranges : List RangeColumns) (waits : List WaitColumns) where
   of_tables : AreTables (alone systems lines ranges waits) → (made : List SystemRow) × AreRowsOfSystems made systems lines ranges waits
@@ -71,7 +75,7 @@ module _ (systems : List SystemColumns) (lines : List LineColumns) (ranges : Lis
   to_tables made h = record {
     state = holding made;
     good = h.good;
-    same = λ i. record { next = 1; systems = h.systems_are i; lines = h.lines_are i; ranges = h.ranges_are i; jobs = []; pieces = []; entries = []; success_waits = h.waits_are i };
+    same = λ i. record { next = 1; systems = h.systems_are i; lines = h.lines_are i; ranges = h.ranges_are i; jobs = []; pieces = []; entries = []; success_waits = h.waits_are i; links = []; taken = [] };
   }
 
   -- a verdict on the tables is one on the systems

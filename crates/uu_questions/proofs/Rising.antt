@@ -11,7 +11,7 @@ use Rattle.uu_core.specs.State.{State, Job, IsWellFormed, ComesBefore}
 use Rattle.uu_tables.specs.Tables.{PlacedLine, tables_of, line_columns, placed, pieces_of, piece_count}
 use Rattle.uu_check.proofs.Cuts.{pieces_from, as_from}
 use Rattle.uu_check.proofs.Rising.{in_order}
-use Rattle.uu_rows.specs.Order.{line_cmp, range_cmp, wait_cmp, piece_cmp}
+use Rattle.uu_rows.specs.Order.{line_cmp, range_cmp, wait_cmp, link_cmp, taken_cmp, piece_cmp}
 use Rattle.uu_questions.proofs.InOrder.{ascending_pairs}
 
 -- ---- comparisons
@@ -46,6 +46,12 @@ ranges_rise s good = ascending_pairs (λ a b. range_cmp a b ≡ Less) (tables_of
 
 pub waits_rise : (s : State) → IsWellFormed s → IsAscending (λ a b. wait_cmp a b ≡ Less) (tables_of s).success_waits
 waits_rise s good = ascending_pairs (λ a b. wait_cmp a b ≡ Less) (tables_of s).success_waits (in_order s good).success_waits
+
+pub links_rise : (s : State) → IsWellFormed s → IsAscending (λ a b. link_cmp a b ≡ Less) (tables_of s).links
+links_rise s good = ascending_pairs (λ a b. link_cmp a b ≡ Less) (tables_of s).links (in_order s good).links
+
+pub taken_rise : (s : State) → IsWellFormed s → IsAscending (λ a b. taken_cmp a b ≡ Less) (tables_of s).taken
+taken_rise s good = ascending_pairs (λ a b. taken_cmp a b ≡ Less) (tables_of s).taken (in_order s good).taken
 
 pub pieces_rise : (s : State) → IsWellFormed s → IsAscending (λ a b. piece_cmp a b ≡ Less) (tables_of s).pieces
 pieces_rise s good = ascending_pairs (λ a b. piece_cmp a b ≡ Less) (tables_of s).pieces (in_order s good).pieces

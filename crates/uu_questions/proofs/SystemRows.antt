@@ -18,7 +18,7 @@ use Rattle.uu_tables.specs.declared.rows.WaitColumns.{WaitColumns}
 use Rattle.uu_tables.specs.Tables.{tables_of, system_columns}
 use Rattle.uu_schema.specs.Cells.{system_cells, line_cells, range_cells, wait_cells}
 use Rattle.uu_schema.specs.Schema.{site}
-use Rattle.uu_schema.specs.declared.version.Version.TheVariants.{Second}
+use Rattle.uu_schema.specs.declared.version.Version.TheVariants.{Third}
 use Rattle.uu_questions.specs.Answers.{IsOf}
 use Rattle.uu_questions.specs.Assembly.{AreRowsOfSystems}
 use Rattle.uu_rows.specs.Order.{system_cmp}
@@ -49,7 +49,7 @@ module _ (old new : db.State) (s : State) (rows : List Row) (of : IsOf s old) wh
   pub systems_found : db.Shown systems_text [] old new rows → (found : List SystemColumns) → rows ≡ map system_cells found → found ≡ map system_columns s.systems
   systems_found h found read =
       same_cells system_cells system_back system_returns found _ (sym read
-      ∙ systems_are site old new rows of.stands.schema systems_text _ [] [] h (systems_means Second) (λ r. refl) (map system_columns s.systems) of.holds.systems.same (systems_rise s of.good) (λ x. true) (λ x. refl))
+      ∙ systems_are site old new rows of.stands.schema systems_text _ [] [] h (systems_means Third) (λ r. refl) (map system_columns s.systems) of.holds.systems.same (systems_rise s of.good) (λ x. true) (λ x. refl))
       ∙ all_pass (map system_columns s.systems)
 
   pub lines_of_found : (name : List ℕ) → db.Shown lines_of_text (Text name ∷ []) old new rows → (found : List LineColumns) → rows ≡ map line_cells found → found ≡ filter (λ (l : LineColumns). same_text l.system name) (tables_of s).lines
@@ -60,7 +60,7 @@ module _ (old new : db.State) (s : State) (rows : List Row) (of : IsOf s old) wh
   pub lines_found : db.Shown lines_text [] old new rows → (found : List LineColumns) → rows ≡ map line_cells found → found ≡ (tables_of s).lines
   lines_found h found read =
       same_cells line_cells line_back line_returns found _ (sym read
-      ∙ lines_are site old new rows of.stands.schema lines_text _ [] [] h (lines_means Second) (λ r. refl) (tables_of s).lines of.holds.lines.same (lines_rise s of.good) (λ x. true) (λ x. refl))
+      ∙ lines_are site old new rows of.stands.schema lines_text _ [] [] h (lines_means Third) (λ r. refl) (tables_of s).lines of.holds.lines.same (lines_rise s of.good) (λ x. true) (λ x. refl))
       ∙ all_pass (tables_of s).lines
 
   pub ranges_of_found : (name : List ℕ) → db.Shown ranges_of_text (Text name ∷ []) old new rows → (found : List RangeColumns) → rows ≡ map range_cells found → found ≡ filter (λ (r : RangeColumns). same_text r.system name) (tables_of s).ranges
@@ -71,7 +71,7 @@ module _ (old new : db.State) (s : State) (rows : List Row) (of : IsOf s old) wh
   pub ranges_found : db.Shown ranges_text [] old new rows → (found : List RangeColumns) → rows ≡ map range_cells found → found ≡ (tables_of s).ranges
   ranges_found h found read =
       same_cells range_cells range_back range_returns found _ (sym read
-      ∙ ranges_are site old new rows of.stands.schema ranges_text _ [] [] h (ranges_means Second) (λ r. refl) (tables_of s).ranges of.holds.ranges.same (ranges_rise s of.good) (λ x. true) (λ x. refl))
+      ∙ ranges_are site old new rows of.stands.schema ranges_text _ [] [] h (ranges_means Third) (λ r. refl) (tables_of s).ranges of.holds.ranges.same (ranges_rise s of.good) (λ x. true) (λ x. refl))
       ∙ all_pass (tables_of s).ranges
 
   pub waits_of_found : (name : List ℕ) → db.Shown waits_of_text (Text name ∷ []) old new rows → (found : List WaitColumns) → rows ≡ map wait_cells found → found ≡ filter (λ (w : WaitColumns). same_text w.system name) (tables_of s).success_waits

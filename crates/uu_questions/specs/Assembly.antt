@@ -18,7 +18,7 @@ use Rattle.uu_tables.specs.declared.rows.WaitColumns.{WaitColumns}
 
 -- a spool that holds these systems and nothing else
 abbrev pub holding : List SystemRow → State
-holding systems = record { jobs = []; systems = systems; entries = []; next = 1 }
+holding systems = record { jobs = []; systems = systems; entries = []; next = 1; links = [] }
 
 -- The rows are those of these systems, all of them, and a spool may hold these.
 pub record AreRowsOfSystems (made : List SystemRow) (systems : List SystemColumns) (lines : List LineColumns) (ranges : List RangeColumns) (waits : List WaitColumns) : Type 0 where

@@ -5,3 +5,4 @@ pub mod Assembly
 pub mod Listing
 pub mod Walks
 pub mod Dues
+pub mod Links

@@ -27,6 +27,12 @@ ranges_of_text = codes "SELECT system, place, low, high FROM ranges WHERE system
 abbrev pub waits_of_text : List ℕ
 waits_of_text = codes "SELECT system, wait FROM success_waits WHERE system = ?1 ORDER BY system"
 
+abbrev pub link_text : List ℕ
+link_text = codes "SELECT system, below FROM links WHERE system = ?1 ORDER BY system"
+
+abbrev pub taken_text : List ℕ
+taken_text = codes "SELECT system, number, mark, job FROM taken WHERE system = ?1 AND number = ?2 ORDER BY system, number"
+
 -- ---- what users ask
 
 abbrev pub all_jobs_text : List ℕ

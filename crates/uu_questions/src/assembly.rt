@@ -224,6 +224,8 @@ fn are_of_systems(
             pieces: &[],
             entries: &[],
             success_waits: waits,
+            links: &[],
+            taken: &[],
         },
     )
 }

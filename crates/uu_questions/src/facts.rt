@@ -1,22 +1,24 @@
 // What is asked before a command: the facts that it is planned by.
-ghost use Rattle.std.specs.Prelude.{◌≡◌, false, ℕ, pos, [], ◌∷◌, option_map, map, IfOk, IfErr};
+ghost use Rattle.std.specs.Prelude.{◌≡◌, ◌&&◌, false, ℕ, pos, [], ◌∷◌, option_map, map, IfOk, IfErr};
 ghost use Rattle.sqlite.specs.Held.{state};
 ghost use Rattle.sqlite.specs.declared.types.Value.TheVariants.{Int};
 ghost use Rattle.sqlite.specs.declared.error.Error.TheVariants.{SqliteFailure};
 ghost use Rattle.sqlite.specs.declared.error.ErrorCode.TheVariants.{OutOfMemory};
-ghost use Rattle.uu_core.specs.State.{has_system, system_at, is_waiting, job_at, head_of};
+ghost use Rattle.uu_core.specs.State.{has_system, system_at, is_waiting, job_at, head_of, link_of, taken_at};
+ghost use Rattle.uu_core.specs.Verdict.{are_known, taken_of};
 ghost use Rattle.uu_core.specs.Laws.{AreFound};
 ghost use Rattle.uu_tables.specs.Plans.{AreFacts};
 ghost use Rattle.uu_rows.specs.Readable.{IsSmall};
 ghost use Rattle.uu_questions.specs.Answers.{Answers};
+ghost use Rattle.uu_questions.specs.Links.{below_in, taken_in};
 
 use crate::asks::{has_row, typed_row};
 use crate::systems::system_of_name;
 use sqlite::{Alter, Connection, Error, Row, params};
 use std::alloc::Global;
-use uu_core::{Command, JobHead, SystemRow};
+use uu_core::{Command, JobHead, Key, NewJob, SystemRow, Taken};
 use uu_names::SiteName;
-use uu_tables::Facts;
+use uu_tables::{Facts, LinkColumns, TakenColumns};
 
 // ---- what a command names
 
@@ -100,6 +102,88 @@ fn heads_of_jobs<S: Alter>(
     Ok(found)
 }
 
+// The number of the row of a link, if it has one.
+fn below_in(row: Option<LinkColumns>) -> u32
+    ensures { result ≡ below_in row }
+{
+    match row {
+        Some(row) => row.below,
+        None => 0,
+    }
+}
+
+// The row of the neighbour's link, if it has one.
+fn row_of_link<S: Alter>(
+    alloc: Global,
+    conn: &mut Connection<S>,
+    name: &SiteName,
+) -> Result<Option<LinkColumns>, Error>
+    ensures idle { conn.old.in_transaction ≡ false → conn.new.in_transaction ≡ false }
+    ensures answers { Answers (λ s row. below_in row ≡ (link_of s name.now).below) (state S.Store conn.old) (state S.Store conn.new) result }
+{
+    typed_row(
+        alloc,
+        conn,
+        "SELECT system, below FROM links WHERE system = ?1 ORDER BY system",
+        params![name.as_str()],
+    )
+}
+
+// The number below which the neighbour asks for none again.
+fn below_of<S: Alter>(
+    alloc: Global,
+    conn: &mut Connection<S>,
+    name: &SiteName,
+) -> Result<u32, Error>
+    ensures idle { conn.old.in_transaction ≡ false → conn.new.in_transaction ≡ false }
+    ensures answers { Answers (λ s below. below ≡ (link_of s name.now).below) (state S.Store conn.old) (state S.Store conn.new) result }
+{
+    let row = row_of_link(alloc, conn, name)?;
+    Ok(below_in(row))
+}
+
+// What was taken, of its row.
+fn taken_in(row: Option<TakenColumns>) -> Option<Taken>
+    ensures { result ≡ taken_in row }
+{
+    match row {
+        Some(row) => Some(row.taken),
+        None => None,
+    }
+}
+
+// The row of what was taken from the neighbour under this number, if it is there.
+fn row_of_taken<S: Alter>(
+    alloc: Global,
+    conn: &mut Connection<S>,
+    name: &SiteName,
+    number: u32,
+) -> Result<Option<TakenColumns>, Error>
+    ensures idle { conn.old.in_transaction ≡ false → conn.new.in_transaction ≡ false }
+    ensures answers { Answers (λ s row. taken_in row ≡ taken_at (link_of s name.now) number) (state S.Store conn.old) (state S.Store conn.new) result }
+{
+    typed_row(
+        alloc,
+        conn,
+        "SELECT system, number, mark, job FROM taken WHERE system = ?1 AND number = ?2 ORDER BY system, number",
+        params![name.as_str(), number],
+    )
+}
+
+// What was taken from the neighbour under this number.
+fn taken_of<S: Alter>(
+    alloc: Global,
+    conn: &mut Connection<S>,
+    name: &SiteName,
+    number: u32,
+) -> Result<Option<Taken>, Error>
+    ensures idle { conn.old.in_transaction ≡ false → conn.new.in_transaction ≡ false }
+    ensures answers { Answers (λ s taken. taken ≡ taken_at (link_of s name.now) number) (state S.Store conn.old) (state S.Store conn.new) result }
+{
+    let row = row_of_taken(alloc, conn, name, number)?;
+    Ok(taken_in(row))
+}
+
 // ---- the facts of each command
 
 // Nothing was asked.
@@ -111,6 +195,8 @@ fn unasked(alloc: Global) -> Facts {
         next: 1,
         head: None,
         found: Vec::new(alloc),
+        below: 0,
+        taken: None,
     }
 }
 
@@ -150,6 +236,27 @@ fn facts_of_row_and_jobs(alloc: Global, system: Option<SystemRow>, found: Vec<Jo
     let mut facts = unasked(alloc);
     facts.system = system;
     facts.found = found;
+    facts
+}
+
+// What is known of a link, and whether its systems are.
+fn facts_of_link(
+    alloc: Global,
+    is_known: bool,
+    next: u32,
+    below: u32,
+    taken: Option<Taken>,
+) -> Facts
+    ensures known { result.is_known ≡ is_known }
+    ensures next { result.next ≡ next }
+    ensures below { result.below ≡ below }
+    ensures taken { result.taken ≡ taken }
+{
+    let mut facts = unasked(alloc);
+    facts.is_known = is_known;
+    facts.next = next;
+    facts.below = below;
+    facts.taken = taken;
     facts
 }
 
@@ -221,6 +328,75 @@ fn row_and_found<S: Alter>(
     Ok(facts_of_row_and_jobs(alloc, row, found))
 }
 
+fn known_and_below<S: Alter>(
+    alloc: Global,
+    conn: &mut Connection<S>,
+    system: &SiteName,
+) -> Result<Facts, Error>
+    ensures idle { conn.old.in_transaction ≡ false → conn.new.in_transaction ≡ false }
+    ensures answers { Answers (λ s facts. (facts.is_known ≡ has_system s system.now) × (facts.below ≡ (link_of s system.now).below)) (state S.Store conn.old) (state S.Store conn.new) result }
+{
+    let is_known = is_known(conn, system)?;
+    let below = below_of(alloc, conn, system)?;
+    Ok(facts_of_link(alloc, is_known, 1, below, None))
+}
+
+// Whether the neighbour and the job's system are known.
+fn are_known<S: Alter>(
+    conn: &mut Connection<S>,
+    key: &Key,
+    job: &NewJob,
+) -> Result<bool, Error>
+    ensures idle { conn.old.in_transaction ≡ false → conn.new.in_transaction ≡ false }
+    ensures answers { Answers (λ s known. known ≡ are_known s key.now job.now) (state S.Store conn.old) (state S.Store conn.new) result }
+{
+    let from = is_known(conn, &key.from)?;
+    let system = is_known(conn, &job.system)?;
+    Ok(from && system)
+}
+
+// The same, and the number of the next job.
+fn are_known_and_next<S: Alter>(
+    conn: &mut Connection<S>,
+    key: &Key,
+    job: &NewJob,
+) -> Result<(bool, u32), Error>
+    ensures idle { conn.old.in_transaction ≡ false → conn.new.in_transaction ≡ false }
+    ensures answers { Answers (λ s pair. (pair.0 ≡ are_known s key.now job.now) × (pair.1 ≡ s.next)) (state S.Store conn.old) (state S.Store conn.new) result }
+{
+    let known = are_known(conn, key, job)?;
+    let next = next_number(conn)?;
+    Ok((known, next))
+}
+
+// What is known of the key's link.
+fn below_and_taken<S: Alter>(
+    alloc: Global,
+    conn: &mut Connection<S>,
+    key: &Key,
+) -> Result<(u32, Option<Taken>), Error>
+    ensures idle { conn.old.in_transaction ≡ false → conn.new.in_transaction ≡ false }
+    ensures answers { Answers (λ s pair. (pair.0 ≡ (link_of s key.now.from).below) × (pair.1 ≡ taken_of s key.now)) (state S.Store conn.old) (state S.Store conn.new) result }
+{
+    let below = below_of(alloc, conn, &key.from)?;
+    let taken = taken_of(alloc, conn, &key.from, key.number)?;
+    Ok((below, taken))
+}
+
+fn key_and_job<S: Alter>(
+    alloc: Global,
+    conn: &mut Connection<S>,
+    key: &Key,
+    job: &NewJob,
+) -> Result<Facts, Error>
+    ensures idle { conn.old.in_transaction ≡ false → conn.new.in_transaction ≡ false }
+    ensures answers { Answers (λ s facts. (facts.is_known ≡ are_known s key.now job.now) × (facts.next ≡ s.next) × (facts.below ≡ (link_of s key.now.from).below) × (facts.taken ≡ taken_of s key.now)) (state S.Store conn.old) (state S.Store conn.new) result }
+{
+    let (known, next) = are_known_and_next(conn, key, job)?;
+    let (below, taken) = below_and_taken(alloc, conn, key)?;
+    Ok(facts_of_link(alloc, known, next, below, taken))
+}
+
 /// What is to be known before the command is planned, as far as the command names it.
 pub fn facts_for<S: Alter>(
     alloc: Global,
@@ -234,6 +410,7 @@ pub fn facts_for<S: Alter>(
         Command::Define(def) => known(alloc, conn, &def.name),
         Command::Remove(system) => known_and_waiting(alloc, conn, system),
         Command::Queue(job) => known_and_next(alloc, conn, &job.system),
+        Command::QueueOnce(key, job) => key_and_job(alloc, conn, key, job),
         Command::Kill { job, .. }
         | Command::Regrade { job, .. }
         | Command::Rejuvenate { job, .. } => head(alloc, conn, *job),
@@ -242,5 +419,6 @@ pub fn facts_for<S: Alter>(
             row_and_found(alloc, conn, system, jobs.as_slice())
         }
         Command::Entry(_) => Ok(unasked(alloc)),
+        Command::Forget { system, .. } => known_and_below(alloc, conn, system),
     }
 }

@@ -1,1 +1,4 @@
+pub mod Attempts
+pub mod Marks
 pub mod Requests
+pub mod Receivers

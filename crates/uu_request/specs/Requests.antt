@@ -2,7 +2,7 @@
 -- requesting files, executing commands, killing and rejuvenating jobs: Taylor UUCP 1.07 manual, on
 -- uucp, uux and uustat; `rmail` and its envelope: RFC 976; the subcommands and what else they ask
 -- are this project's choice.)
-use Rattle.std.specs.Prelude.{◌≡◌, ℕ, ◌≤◌, ◌&&◌, nat_lt, length, List, [], ◌∷◌, map, Result, Ok, Err, codes, ⊤, slice_range, if◌then◌else◌}
+use Rattle.std.specs.Prelude.{◌≡◌, ℕ, ◌≤◌, ◌&&◌, nat_lt, length, List, [], ◌∷◌, map, Option, Some, None, Result, Ok, Err, codes, ⊤, slice_range, if◌then◌else◌}
 use Rattle.std.specs.List.{list_any}
 use Rattle.uu_names.specs.Envelope.{envelope_of}
 use Rattle.uu_names.specs.Text.{most_text}
@@ -16,13 +16,16 @@ use Rattle.uu_map.specs.declared.entry.EntryText.{EntryText}
 use Rattle.uu_map.specs.declared.fault.MapFault.{MapFault}
 use Rattle.uu_core.specs.declared.command.Command.{Command}
 use Rattle.uu_core.specs.declared.command.Command.TheVariants as command
+use Rattle.uu_core.specs.declared.custody.Key.{Key}
 use Rattle.uu_core.specs.declared.job.By.{By}
 use Rattle.uu_core.specs.declared.job.Kind.{Kind}
 use Rattle.uu_core.specs.declared.job.Kind.TheVariants as kind
+use Rattle.uu_core.specs.declared.job.NewJob.{NewJob}
 use Rattle.uu_line.specs.Lines.{same_text, takes_input}
 use Rattle.uu_line.specs.declared.line.CommandLine.{CommandLine}
 use Rattle.uu_line.specs.declared.task.Task.{Task}
 use Rattle.uu_line.specs.declared.task.Task.TheVariants as task
+use Rattle.uu_request.specs.Marks.{handed_text, key_of}
 use Rattle.uu_settings.specs.declared.settings.Settings.{Settings}
 use Rattle.uu_request.specs.declared.fault.RequestFault.{RequestFault}
 use Rattle.uu_request.specs.declared.fault.RequestFault.TheVariants.{Input, Time, Memory}
@@ -42,16 +45,21 @@ one command = request.Commands (record { commands = command ∷ []; subjects = s
 abbrev pub by_of : Settings → List ℕ → By
 by_of settings user = record { user = user; admin = list_any (λ admin. same_text admin user) settings.admins.items }
 
+-- a job is handed in, under a key where it is a neighbour's
+abbrev pub hand_in : Option Key → NewJob → Command
+hand_in None job = command.Queue job
+hand_in (Some key) job = command.QueueOnce key job
+
 -- a job is handed in now
-abbrev pub queue : List ℕ → Moment → List ℕ → ℕ → Kind → List ℕ → Request
-queue user at system grade kind bytes =
-    one (command.Queue (record { system = system; grade = grade; user = user; kind = kind; bytes = bytes; at = at }))
+abbrev pub queue : Option Key → List ℕ → Moment → List ℕ → ℕ → Kind → List ℕ → Request
+queue key user at system grade kind bytes =
+    one (hand_in key (record { system = system; grade = grade; user = user; kind = kind; bytes = bytes; at = at }))
 
 -- A message: the system runs `rmail` with what it is to do as its arguments, and the envelope as
 -- its input, with the date and time of the site's clock and the site's name.
-abbrev pub mail : Settings → List ℕ → Moment → List ℕ → ℕ → List (List ℕ) → List ℕ → Request
-mail settings user at system grade rests message =
-    queue user at system grade (kind.Execute (codes "rmail") rests) (envelope_of user at.local settings.name message)
+abbrev pub mail : Settings → Option Key → List ℕ → Moment → List ℕ → ℕ → List (List ℕ) → List ℕ → Request
+mail settings key user at system grade rests message =
+    queue key user at system grade (kind.Execute (codes "rmail") rests) (envelope_of user at.local settings.name message)
 
 -- ---- several commands
 
@@ -97,10 +105,14 @@ entries text = request.Commands (record {
 abbrev pub task_request : Settings → Moment → List ℕ → List ℕ → Task → Result Request RequestFault
 task_request settings at input user task.Load = load_request (sys_file_of input)
 task_request settings at input user (task.Drop system) = Ok (one (command.Remove system))
-task_request settings at input user (task.Send system source target grade) = Ok (queue user at system grade (kind.Send source target) input)
-task_request settings at input user (task.Request system source target grade) = Ok (queue user at system grade (kind.Request source target) [])
-task_request settings at input user (task.Execute grade system command arguments) = Ok (queue user at system grade (kind.Execute command arguments) input)
-task_request settings at input user (task.Mail grade system rests) = Ok (mail settings user at system grade rests input)
+task_request settings at input user (task.Send system source target grade once) =
+    Ok (queue (key_of once (handed_text (codes "send") system user (source ∷ target ∷ []) input)) user at system grade (kind.Send source target) input)
+task_request settings at input user (task.Request system source target grade once) =
+    Ok (queue (key_of once (handed_text (codes "request") system user (source ∷ target ∷ []) [])) user at system grade (kind.Request source target) [])
+task_request settings at input user (task.Execute grade once system command arguments) =
+    Ok (queue (key_of once (handed_text (codes "exec") system user (command ∷ arguments) input)) user at system grade (kind.Execute command arguments) input)
+task_request settings at input user (task.Mail grade once system rests) =
+    Ok (mail settings (key_of once (handed_text (codes "mail") system user rests input)) user at system grade rests input)
 task_request settings at input user (task.List filter) = Ok (request.Question (question.Jobs filter))
 task_request settings at input user (task.Show job) = Ok (request.Question (question.Job job))
 task_request settings at input user (task.Kill job) = Ok (one (command.Kill job (by_of settings user)))
@@ -112,6 +124,7 @@ task_request settings at input user (task.Queues filter) = Ok (request.Question 
 task_request settings at input user task.Status = Ok (request.Question question.Systems)
 task_request settings at input user (task.Failed system why) = Ok (one (command.Failed system at why))
 task_request settings at input user (task.Done system jobs) = Ok (one (command.Done system at jobs))
+task_request settings at input user (task.Forget system below) = Ok (one (command.Forget system below))
 task_request settings at input user task.Map = Ok (entries input)
 task_request settings at input user (task.Neighbours host) = Ok (request.Question (question.Entry host))
 

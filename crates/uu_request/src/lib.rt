@@ -2,8 +2,10 @@
 #![tactic(auto)]
 
 mod fault;
+pub mod laws;
 mod mail;
 mod maps;
+mod marks;
 mod request;
 mod systems;
 

@@ -10,7 +10,7 @@ ghost use Rattle.uu_request.specs.Requests as spec;
 use crate::fault::RequestFault;
 use crate::request::{Request, queue};
 use std::alloc::Global;
-use uu_core::Kind;
+use uu_core::{Key, Kind};
 use uu_names::{Grade, Listed, NameFault, SiteName, Word, envelope};
 use uu_settings::Settings;
 use uu_times::Moment;
@@ -20,6 +20,7 @@ use uu_times::laws::zones_are_what_they_say;
 /// now.
 pub(crate) fn mail(
     alloc: Global,
+    key: Option<Key>,
     user: Word,
     system: SiteName,
     grade: Grade,
@@ -29,15 +30,16 @@ pub(crate) fn mail(
     settings: &Settings,
 ) -> Result<Request, RequestFault>
     requires { Shows at.local (local_second settings.now.zone at.second) }
-    ensures { AnswersUnlessMemory result (Ok (spec.mail settings.now user at system grade rests message.now)) }
+    ensures { AnswersUnlessMemory result (Ok (spec.mail settings.now key user at system grade rests message.now)) }
 {
     let envelope = with_envelope(alloc, &user, &at, settings, message);
-    queue_mail(alloc, user, system, grade, rests, envelope, at)
+    queue_mail(alloc, key, user, system, grade, rests, envelope, at)
 }
 
 // The system is to run `rmail` with these arguments, and the envelope as its input.
 fn queue_mail(
     alloc: Global,
+    key: Option<Key>,
     user: Word,
     system: SiteName,
     grade: Grade,
@@ -46,7 +48,7 @@ fn queue_mail(
     at: Moment,
 ) -> Result<Request, RequestFault>
     ensures { MatchResult envelope
-        (λ envelope. AnswersUnlessMemory result (Ok (spec.queue user at system grade (kind.Execute (codes "rmail") rests) envelope.items)))
+        (λ envelope. AnswersUnlessMemory result (Ok (spec.queue key user at system grade (kind.Execute (codes "rmail") rests) envelope.items)))
         (λ fault. result ≡ Err RequestFault.Memory) }
 {
     match (envelope, Word::parse(alloc, "rmail")) {
@@ -55,7 +57,7 @@ fn queue_mail(
                 command,
                 arguments: rests,
             };
-            queue(alloc, user, system, grade, kind, envelope, at)
+            queue(alloc, key, user, system, grade, kind, envelope, at)
         }
         _ => Err(RequestFault::Memory),
     }

@@ -11,10 +11,11 @@ ghost use Rattle.uu_request.specs.Requests as spec;
 use crate::fault::RequestFault;
 use crate::mail::mail;
 use crate::maps::entries;
+use crate::marks::{execution_key, file_key, message_key};
 use crate::systems::load;
 use std::alloc::Global;
 use std::mem::drop;
-use uu_core::{By, Command, Filter, Kind, NewJob};
+use uu_core::{By, Command, Filter, Key, Kind, NewJob};
 use uu_line::{CommandLine, Task};
 use uu_names::text::MAX_TEXT;
 use uu_names::{Grade, Listed, SiteName, Word};
@@ -113,33 +114,43 @@ fn task_request(
             source,
             target,
             grade,
+            once,
         } => {
+            let key = file_key(once, "send", &system, &user, &source, &target, &input);
             let kind = Kind::Send { source, target };
-            queue(alloc, user, system, grade, kind, input, at)
+            queue(alloc, key, user, system, grade, kind, input, at)
         }
         Task::Request {
             system,
             source,
             target,
             grade,
+            once,
         } => {
+            let key = file_key(once, "request", &system, &user, &source, &target, &[]);
             let kind = Kind::Request { source, target };
-            queue(alloc, user, system, grade, kind, Vec::new(alloc), at)
+            queue(alloc, key, user, system, grade, kind, Vec::new(alloc), at)
         }
         Task::Execute {
             grade,
+            once,
             system,
             command,
             arguments,
         } => {
+            let key = execution_key(once, &system, &user, &command, arguments.as_slice(), &input);
             let kind = Kind::Execute { command, arguments };
-            queue(alloc, user, system, grade, kind, input, at)
+            queue(alloc, key, user, system, grade, kind, input, at)
         }
         Task::Mail {
             grade,
+            once,
             system,
             rests,
-        } => mail(alloc, user, system, grade, rests, &input, at, settings),
+        } => {
+            let key = message_key(once, &system, &user, rests.as_slice(), &input);
+            mail(alloc, key, user, system, grade, rests, &input, at, settings)
+        }
         Task::List { filter } => Ok(Request::Question(Question::Jobs(filter))),
         Task::Show { job } => Ok(Request::Question(Question::Job(job))),
         Task::Kill { job } => {
@@ -160,6 +171,7 @@ fn task_request(
         Task::Status => Ok(Request::Question(Question::Systems)),
         Task::Failed { system, why } => one(alloc, Command::Failed { system, at, why }),
         Task::Done { system, jobs } => one(alloc, Command::Done { system, at, jobs }),
+        Task::Forget { system, below } => one(alloc, Command::Forget { system, below }),
         Task::Map => entries(alloc, &input),
         Task::Neighbours { host } => Ok(Request::Question(Question::Entry(host))),
     }
@@ -180,9 +192,10 @@ pub(crate) fn one(alloc: Global, command: Command) -> Result<Request, RequestFau
     }))
 }
 
-/// A job of these bytes is handed in now.
+/// A job of these bytes is handed in now, under the key where there is one.
 pub(crate) fn queue(
     alloc: Global,
+    key: Option<Key>,
     user: Word,
     system: SiteName,
     grade: Grade,
@@ -190,7 +203,7 @@ pub(crate) fn queue(
     bytes: Vec<u8>,
     at: Moment,
 ) -> Result<Request, RequestFault>
-    ensures { AnswersUnlessMemory result (Ok (spec.queue user at system grade kind bytes.items)) }
+    ensures { AnswersUnlessMemory result (Ok (spec.queue key user at system grade kind bytes.items)) }
 {
     let job = NewJob {
         system,
@@ -200,7 +213,10 @@ pub(crate) fn queue(
         bytes: Listed::from_vec(bytes),
         at,
     };
-    one(alloc, Command::Queue(job))
+    match key {
+        Some(key) => one(alloc, Command::QueueOnce(key, job)),
+        None => one(alloc, Command::Queue(job)),
+    }
 }
 
 // Who changes a job: an administrator is a user whom the settings name.

@@ -15,7 +15,9 @@ use Rattle.uu_tables.specs.declared.rows.RangeColumns.{RangeColumns}
 use Rattle.uu_tables.specs.declared.rows.PieceSize.{PieceSize}
 use Rattle.uu_tables.specs.declared.rows.EntryColumns.{EntryColumns}
 use Rattle.uu_tables.specs.declared.rows.WaitColumns.{WaitColumns}
-use Rattle.uu_schema.specs.Cells.{system_cells, line_cells, range_cells, job_cells, entry_cells, wait_cells}
+use Rattle.uu_tables.specs.declared.rows.LinkColumns.{LinkColumns}
+use Rattle.uu_tables.specs.declared.rows.TakenColumns.{TakenColumns}
+use Rattle.uu_schema.specs.Cells.{system_cells, line_cells, range_cells, job_cells, entry_cells, wait_cells, link_cells, taken_cells}
 use Rattle.uu_rows.specs.Values.{number_cell}
 use Rattle.uu_core.specs.WellFormed.{HasWords}
 use Rattle.uu_rows.specs.Readable.{IsHead, size_cells}
@@ -101,6 +103,18 @@ wait_back r = record { system = text_back (column r 0); wait = number_back (colu
 
 pub wait_returns : (w : WaitColumns) → wait_back (wait_cells w) ≡ w
 wait_returns w = refl
+
+abbrev pub link_back : Row → LinkColumns
+link_back r = record { system = text_back (column r 0); below = number_back (column r 1) }
+
+pub link_returns : (l : LinkColumns) → link_back (link_cells l) ≡ l
+link_returns l = refl
+
+abbrev pub taken_back : Row → TakenColumns
+taken_back r = record { system = text_back (column r 0); taken = record { number = number_back (column r 1); mark = number_back (column r 2); job = number_back (column r 3) } }
+
+pub taken_returns : (t : TakenColumns) → taken_back (taken_cells t) ≡ t
+taken_returns t = refl
 
 abbrev pub size_back : Row → PieceSize
 size_back r = record { job = number_back (column r 0); place = number_back (column r 1); length = number_back (column r 2) }

@@ -19,11 +19,13 @@ use Rattle.uu_tables.specs.declared.rows.LineColumns.{LineColumns}
 use Rattle.uu_tables.specs.declared.rows.RangeColumns.{RangeColumns}
 use Rattle.uu_tables.specs.declared.rows.EntryColumns.{EntryColumns}
 use Rattle.uu_tables.specs.declared.rows.WaitColumns.{WaitColumns}
-use Rattle.uu_schema.specs.Schema.{systems, lines, ranges, jobs, entries, success_waits}
+use Rattle.uu_tables.specs.declared.rows.LinkColumns.{LinkColumns}
+use Rattle.uu_tables.specs.declared.rows.TakenColumns.{TakenColumns}
+use Rattle.uu_schema.specs.Schema.{systems, lines, ranges, jobs, entries, success_waits, links, taken}
 use Rattle.uu_schema.specs.Keyed.{columns}
-use Rattle.uu_schema.specs.Held.{system_places, line_places, range_places, job_places, entry_places, wait_places}
-use Rattle.uu_schema.specs.Cells.{system_cells, line_cells, range_cells, job_cells, entry_cells, wait_cells}
-use Rattle.uu_tables.specs.Order.{system_cmp, line_cmp, range_cmp, head_cmp, entry_cmp, wait_cmp}
+use Rattle.uu_schema.specs.Held.{system_places, line_places, range_places, job_places, entry_places, wait_places, link_places, taken_places}
+use Rattle.uu_schema.specs.Cells.{system_cells, line_cells, range_cells, job_cells, entry_cells, wait_cells, link_cells, taken_cells}
+use Rattle.uu_tables.specs.Order.{system_cmp, line_cmp, range_cmp, head_cmp, entry_cmp, wait_cmp, link_cmp, taken_cmp}
 use Rattle.uu_rows.proofs.Meanings.{at_places, by_places}
 use Rattle.uu_rows.proofs.Typed.{typed_only}
 use Rattle.uu_rows.proofs.Comparing.{beside, numbered, int_cmp-nat}
@@ -101,3 +103,24 @@ module _ (site : Schema) (old new : db.State) (rows : List Row) (has : old.now.s
       let less : (x y : WaitColumns) → wait_cmp x y ≡ Less → output_cmp q (out x) (out y) ≡ Less = λ x y k. last_key (value_cmp-Text x.system y.system) ∙ k in
       typed_only success_waits.tree tests (at_places wait_places) (by_places (1 ∷ [])) old.now.trees params rows refl (answer_of site text q names params old new means has rows h) (columns wait_places) beside sees (λ r. refl)
       wait_cells xs held p picks (ascending-filter _ p xs (ascending_weaker _ (λ x y. output_cmp q (out x) (out y) ≡ Less) less xs rise))
+
+  pub links_are : Means site text (ordered links.tree tests (at_places link_places) (by_places (1 ∷ []))) names → Sees link_places beside → (xs : List LinkColumns)
+      → IsPermutation (map link_cells xs) (map (columns link_places) (old.now.trees links.tree)) → IsAscending (λ x y. link_cmp x y ≡ Less) xs
+      → (p : LinkColumns → Bool) → ((x : LinkColumns) → passes (beside (link_cells x)) ≡ p x) → rows ≡ map link_cells (filter p xs)
+  links_are means sees xs held rise p picks =
+      let q : Query = ordered links.tree tests (at_places link_places) (by_places (1 ∷ [])) in
+      let out : LinkColumns → Output = λ x. output q (params ∷ beside (link_cells x) ∷ []) in
+      let less : (x y : LinkColumns) → link_cmp x y ≡ Less → output_cmp q (out x) (out y) ≡ Less = λ x y k. last_key (value_cmp-Text x.system y.system) ∙ k in
+      typed_only links.tree tests (at_places link_places) (by_places (1 ∷ [])) old.now.trees params rows refl (answer_of site text q names params old new means has rows h) (columns link_places) beside sees (λ r. refl)
+      link_cells xs held p picks (ascending-filter _ p xs (ascending_weaker _ (λ x y. output_cmp q (out x) (out y) ≡ Less) less xs rise))
+
+  pub taken_are : Means site text (ordered taken.tree tests (at_places taken_places) (by_places (1 ∷ 2 ∷ []))) names → Sees taken_places beside → (xs : List TakenColumns)
+      → IsPermutation (map taken_cells xs) (map (columns taken_places) (old.now.trees taken.tree)) → IsAscending (λ x y. taken_cmp x y ≡ Less) xs
+      → (p : TakenColumns → Bool) → ((x : TakenColumns) → passes (beside (taken_cells x)) ≡ p x) → rows ≡ map taken_cells (filter p xs)
+  taken_are means sees xs held rise p picks =
+      let q : Query = ordered taken.tree tests (at_places taken_places) (by_places (1 ∷ 2 ∷ [])) in
+      let out : TakenColumns → Output = λ x. output q (params ∷ beside (taken_cells x) ∷ []) in
+      let less : (x y : TakenColumns) → taken_cmp x y ≡ Less → output_cmp q (out x) (out y) ≡ Less = λ x y k.
+      then_key (value_cmp-Text x.system y.system) (last_key (value_cmp-Int (pos x.taken.number) (pos y.taken.number)) ∙ int_cmp-nat x.taken.number y.taken.number) ∙ k in
+      typed_only taken.tree tests (at_places taken_places) (by_places (1 ∷ 2 ∷ [])) old.now.trees params rows refl (answer_of site text q names params old new means has rows h) (columns taken_places) beside sees (λ r. refl)
+      taken_cells xs held p picks (ascending-filter _ p xs (ascending_weaker _ (λ x y. output_cmp q (out x) (out y) ≡ Less) less xs rise))

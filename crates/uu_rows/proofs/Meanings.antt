@@ -8,10 +8,10 @@ use Rattle.sqlite_value.specs.declared.keys.Key.{Key}
 use Rattle.uu_sql.specs.Layout.{equal_terms}
 use Rattle.uu_sql.proofs.Asks.{Means, ordered, up}
 use Rattle.uu_sql.specs.Queries.{IsQuery}
-use Rattle.uu_schema.specs.Schema.{site, site_of, systems, lines, ranges, success_waits}
+use Rattle.uu_schema.specs.Schema.{site, second_site, site_of, systems, lines, ranges, success_waits, links, taken}
 use Rattle.uu_schema.specs.declared.version.Version.{Version}
-use Rattle.uu_schema.specs.declared.version.Version.TheVariants.{First, Second}
-use Rattle.uu_rows.specs.Texts.{systems_text, lines_text, ranges_text, waits_text}
+use Rattle.uu_schema.specs.declared.version.Version.TheVariants.{First, Second, Third}
+use Rattle.uu_rows.specs.Texts.{systems_text, lines_text, ranges_text, waits_text, links_text, taken_text}
 
 -- the columns at these places, and an order by them
 abbrev pub at_places : List ℕ → List Term
@@ -46,16 +46,19 @@ pub systems_means : (v : Version) → Means (site_of v) systems_text (ordered sy
 unfolding understood everything
 systems_means First = record { command = refl; plain = (refl, refl); listing = refl }
 systems_means Second = record { command = refl; plain = (refl, refl); listing = refl }
+systems_means Third = record { command = refl; plain = (refl, refl); listing = refl }
 
 pub lines_means : (v : Version) → Means (site_of v) lines_text (ordered lines.tree [] (at_places (1 ∷ 2 ∷ 3 ∷ 4 ∷ [])) (by_places (1 ∷ 2 ∷ []))) line_names
 unfolding understood everything
 lines_means First = record { command = refl; plain = (refl, refl); listing = refl }
 lines_means Second = record { command = refl; plain = (refl, refl); listing = refl }
+lines_means Third = record { command = refl; plain = (refl, refl); listing = refl }
 
 pub ranges_means : (v : Version) → Means (site_of v) ranges_text (ordered ranges.tree [] (at_places (1 ∷ 2 ∷ 3 ∷ 4 ∷ [])) (by_places (1 ∷ 2 ∷ 3 ∷ []))) range_names
 unfolding understood everything
 ranges_means First = record { command = refl; plain = (refl, refl); listing = refl }
 ranges_means Second = record { command = refl; plain = (refl, refl); listing = refl }
+ranges_means Third = record { command = refl; plain = (refl, refl); listing = refl }
 
 abbrev pub wait_names : List (List ℕ)
 wait_names = codes "system" ∷ codes "wait" ∷ []
@@ -64,7 +67,34 @@ pub waits_means : Means site waits_text (ordered success_waits.tree [] (at_place
 unfolding understood everything
 waits_means = record { command = refl; plain = (refl, refl); listing = refl }
 
+-- the same in version 2
+pub second_waits_means : Means second_site waits_text (ordered success_waits.tree [] (at_places (1 ∷ 2 ∷ [])) (by_places (1 ∷ []))) wait_names
+unfolding understood everything
+second_waits_means = record { command = refl; plain = (refl, refl); listing = refl }
+
+abbrev pub link_names : List (List ℕ)
+link_names = codes "system" ∷ codes "below" ∷ []
+
+pub links_means : Means site links_text (ordered links.tree [] (at_places (1 ∷ 2 ∷ [])) (by_places (1 ∷ []))) link_names
+unfolding understood everything
+links_means = record { command = refl; plain = (refl, refl); listing = refl }
+
+abbrev pub taken_names : List (List ℕ)
+taken_names = codes "system" ∷ codes "number" ∷ codes "mark" ∷ codes "job" ∷ []
+
+pub taken_means : Means site taken_text (ordered taken.tree [] (at_places (1 ∷ 2 ∷ 3 ∷ 4 ∷ [])) (by_places (1 ∷ 2 ∷ []))) taken_names
+unfolding understood everything
+taken_means = record { command = refl; plain = (refl, refl); listing = refl }
+
 -- ---- each is a query
+
+pub links_ask : IsQuery links_text
+unfolding everything
+links_ask = refl
+
+pub taken_ask : IsQuery taken_text
+unfolding everything
+taken_ask = refl
 
 pub waits_ask : IsQuery waits_text
 unfolding everything

@@ -1,5 +1,5 @@
 -- Typed rows whose values are those of their types, so that their rows can be read: numbers of 32
--- bits, names, words and grades. The rows of a state keep closer limits, which `uu_check` says
+-- bits, names, words, grades and marks. The rows of a state keep closer limits, which `uu_check` says
 -- (`specs/Readable.antt` there).
 use Rattle.std.specs.Prelude.{ℕ, pos, ◌<◌, ◌^◌, [], ◌∷◌, IsTrue, IfSome}
 use Rattle.sqlite.specs.declared.types.Value.TheVariants.{Int}
@@ -7,6 +7,7 @@ use Rattle.sqlite.specs.Order.{Row}
 use Rattle.uu_names.specs.Grade.{grade_count}
 use Rattle.uu_names.specs.Name.{is_site_name, is_word}
 use Rattle.uu_core.specs.declared.job.JobHead.{JobHead}
+use Rattle.uu_core.specs.Marks.{marks_end}
 use Rattle.uu_core.specs.WellFormed.{HasWords}
 use Rattle.uu_tables.specs.declared.rows.SystemColumns.{SystemColumns}
 use Rattle.uu_tables.specs.declared.rows.LineColumns.{LineColumns}
@@ -14,6 +15,8 @@ use Rattle.uu_tables.specs.declared.rows.RangeColumns.{RangeColumns}
 use Rattle.uu_tables.specs.declared.rows.PieceSize.{PieceSize}
 use Rattle.uu_tables.specs.declared.rows.EntryColumns.{EntryColumns}
 use Rattle.uu_tables.specs.declared.rows.WaitColumns.{WaitColumns}
+use Rattle.uu_tables.specs.declared.rows.LinkColumns.{LinkColumns}
+use Rattle.uu_tables.specs.declared.rows.TakenColumns.{TakenColumns}
 
 -- a number of 32 bits
 abbrev pub IsSmall : ℕ → Type 0
@@ -59,6 +62,16 @@ pub record IsEntry (e : EntryColumns) : Type 0 where
 pub record IsWait (w : WaitColumns) : Type 0 where
   pub system : IsTrue (is_site_name w.system)
   pub wait : IsSmall w.wait
+
+pub record IsLink (l : LinkColumns) : Type 0 where
+  pub system : IsTrue (is_site_name l.system)
+  pub below : IsSmall l.below
+
+pub record IsTaken (t : TakenColumns) : Type 0 where
+  pub system : IsTrue (is_site_name t.system)
+  pub number : IsSmall t.taken.number
+  pub mark : t.taken.mark < marks_end
+  pub job : IsSmall t.taken.job
 
 -- what is asked of a piece: its bytes stay where they are
 abbrev pub size_cells : PieceSize → Row

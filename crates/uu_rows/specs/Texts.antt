@@ -1,5 +1,5 @@
--- The texts of the questions on every row of the systems, of their lines, of the ranges of these
--- and of their success waits, in the order of their keys. (This project's choice.)
+-- The texts of the questions on every row of the systems, of their lines, of the ranges of these,
+-- of their success waits and of their links, in the order of their keys. (This project's choice.)
 use Rattle.std.specs.Prelude.{List, ℕ, codes}
 
 abbrev pub systems_text : List ℕ
@@ -13,3 +13,9 @@ ranges_text = codes "SELECT system, place, low, high FROM ranges ORDER BY system
 
 abbrev pub waits_text : List ℕ
 waits_text = codes "SELECT system, wait FROM success_waits ORDER BY system"
+
+abbrev pub links_text : List ℕ
+links_text = codes "SELECT system, below FROM links ORDER BY system"
+
+abbrev pub taken_text : List ℕ
+taken_text = codes "SELECT system, number, mark, job FROM taken ORDER BY system, number"

@@ -1,7 +1,7 @@
 // Queries in SQL without parameters, and those that taking a database and asking a spool share.
 ghost use Rattle.std.specs.Prelude.{◌≡◌, false, []};
 ghost use Rattle.sqlite.specs.Held.{state};
-ghost use Rattle.uu_rows.specs.Texts.{systems_text, lines_text, ranges_text, waits_text};
+ghost use Rattle.uu_rows.specs.Texts.{systems_text, lines_text, ranges_text, waits_text, links_text, taken_text};
 ghost use Rattle.uu_sql.specs.Queries.{IsQuery};
 ghost use Rattle.uu_sql.specs.Spares.{Spares};
 ghost use Rattle.uu_rows.specs.Shows.{Shows};
@@ -63,5 +63,26 @@ pub fn ask_waits<S: Alter>(conn: &mut Connection<S>) -> Result<Vec<Row>, Error>
     ask(
         conn,
         "SELECT system, wait FROM success_waits ORDER BY system",
+    )
+}
+
+/// All numbers below which neighbours ask for none again, by system.
+pub fn ask_links<S: Alter>(conn: &mut Connection<S>) -> Result<Vec<Row>, Error>
+    ensures idle { conn.old.in_transaction ≡ false → conn.new.in_transaction ≡ false }
+    ensures shows { Shows links_text [] (state S.Store conn.old) (state S.Store conn.new) result }
+    ensures spares { Spares (state S.Store conn.old) (state S.Store conn.new) result }
+{
+    ask(conn, "SELECT system, below FROM links ORDER BY system")
+}
+
+/// All that was taken from neighbours, by system and number.
+pub fn ask_taken<S: Alter>(conn: &mut Connection<S>) -> Result<Vec<Row>, Error>
+    ensures idle { conn.old.in_transaction ≡ false → conn.new.in_transaction ≡ false }
+    ensures shows { Shows taken_text [] (state S.Store conn.old) (state S.Store conn.new) result }
+    ensures spares { Spares (state S.Store conn.old) (state S.Store conn.new) result }
+{
+    ask(
+        conn,
+        "SELECT system, number, mark, job FROM taken ORDER BY system, number",
     )
 }

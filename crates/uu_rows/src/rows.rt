@@ -2,24 +2,24 @@
 ghost use Rattle.std.specs.Prelude.{◌≡◌, ◌≢◌, ℕ, pos, [], ◌∷◌, length, IfOk, Err};
 ghost use Rattle.sqlite.specs.declared.types.Value.TheVariants.{Int, Text};
 ghost use Rattle.sqlite.specs.Order.{column};
-ghost use Rattle.uu_schema.specs.Cells.{system_cells, line_cells, range_cells, job_cells, entry_cells, wait_cells, kind_number, first_word, second_word};
+ghost use Rattle.uu_schema.specs.Cells.{system_cells, line_cells, range_cells, job_cells, entry_cells, wait_cells, link_cells, taken_cells, kind_number, first_word, second_word};
 ghost use Rattle.uu_rows.specs.Values.{NotIf, number_cell};
 ghost use Rattle.uu_core.specs.WellFormed.{HasWords};
-ghost use Rattle.uu_rows.specs.Readable.{IsSystem, IsLine, IsRange, IsHead, IsSize, IsEntry, IsWait, size_cells};
+ghost use Rattle.uu_rows.specs.Readable.{IsSystem, IsLine, IsRange, IsHead, IsSize, IsEntry, IsWait, IsLink, IsTaken, size_cells};
 
 use crate::fault::RowFault;
 use crate::reading::TypedRow;
 use crate::values::{
-    arguments_in, bytes_in, grade_in, name_in, number_in, number_or_null_in, seconds_in, word_in,
-    word_or_null_in,
+    arguments_in, bytes_in, grade_in, mark_in, name_in, number_in, number_or_null_in, seconds_in,
+    word_in, word_or_null_in,
 };
 use sqlite::Row;
 use std::alloc::Global;
-use uu_core::{JobHead, Kind};
+use uu_core::{JobHead, Kind, Taken};
 use uu_names::Listed;
 use uu_tables::{
-    CallColumns, EXECUTE, EntryColumns, LineColumns, PieceSize, REQUEST, RangeColumns, SEND,
-    SystemColumns, WaitColumns,
+    CallColumns, EXECUTE, EntryColumns, LineColumns, LinkColumns, PieceSize, REQUEST, RangeColumns,
+    SEND, SystemColumns, TakenColumns, WaitColumns,
 };
 
 /// The row, if it has this many columns.
@@ -127,6 +127,38 @@ impl TypedRow for WaitColumns {
         Ok(WaitColumns {
             system: name_in(alloc, row, 0)?,
             wait: number_in(row, 1)?,
+        })
+    }
+}
+
+impl TypedRow for LinkColumns {
+    ghost cells = { link_cells };
+
+    ghost IsReadable = { IsLink };
+
+    fn read(alloc: Global, row: &Row) -> Result<LinkColumns, RowFault> {
+        has_width(row, 2)?;
+        Ok(LinkColumns {
+            system: name_in(alloc, row, 0)?,
+            below: number_in(row, 1)?,
+        })
+    }
+}
+
+impl TypedRow for TakenColumns {
+    ghost cells = { taken_cells };
+
+    ghost IsReadable = { IsTaken };
+
+    fn read(alloc: Global, row: &Row) -> Result<TakenColumns, RowFault> {
+        has_width(row, 4)?;
+        Ok(TakenColumns {
+            system: name_in(alloc, row, 0)?,
+            taken: Taken {
+                number: number_in(row, 1)?,
+                mark: mark_in(row, 2)?,
+                job: number_in(row, 3)?,
+            },
         })
     }
 }

@@ -4,6 +4,7 @@ ghost use Rattle.std.specs.List.{join_with_byte, slice_split};
 ghost use Rattle.sqlite.specs.Order.{column};
 ghost use Rattle.sqlite.specs.Values.{or_null};
 ghost use Rattle.sqlite.specs.declared.types.Value.TheVariants.{Text, Blob};
+ghost use Rattle.uu_core.specs.Marks.{marks_end};
 ghost use Rattle.uu_names.specs.Grade.{grade_count};
 ghost use Rattle.uu_names.specs.Name.{is_site_name, is_word};
 ghost use Rattle.uu_names.specs.Text.{space};
@@ -13,6 +14,7 @@ use crate::fault::{RowFault, name_fault, read_fault};
 use sqlite::Row;
 use sqlite::types::ValueRef;
 use std::alloc::{AllocError, Global};
+use uu_core::Mark;
 use uu_names::{Grade, Listed, SiteName, Word};
 
 /// The number in this column.
@@ -37,7 +39,7 @@ pub(crate) fn number_or_null_in(row: &Row, at: usize) -> Result<Option<u32>, Row
     }
 }
 
-/// The second, or the number of seconds, in this column.
+/// The number of 64 bits in this column, as a second.
 pub(crate) fn seconds_in(row: &Row, at: usize) -> Result<u64, RowFault>
     ensures value { IfOk result (λ seconds. column row.now at ≡ number_cell seconds) }
     ensures bad { (n : ℕ) → NotIf result (column row.now at ≡ number_cell n) }
@@ -46,6 +48,16 @@ pub(crate) fn seconds_in(row: &Row, at: usize) -> Result<u64, RowFault>
         Ok(seconds) => Ok(seconds),
         Err(error) => Err(read_fault(&error)),
     }
+}
+
+/// The mark in this column.
+pub(crate) fn mark_in(row: &Row, at: usize) -> Result<Mark, RowFault>
+    ensures value { IfOk result (λ mark. column row.now at ≡ number_cell mark) }
+    ensures mark { IfOk result (λ mark. mark < marks_end) }
+    ensures bad { (n : ℕ) → n < marks_end → NotIf result (column row.now at ≡ number_cell n) }
+{
+    let number = seconds_in(row, at)?;
+    Mark::of_number(number).ok_or(RowFault::Bad)
 }
 
 fn text_in(row: &Row, at: usize) -> Result<String, RowFault>

@@ -29,10 +29,10 @@ use Rattle.sqlite.proofs.Callers.{IsPlain, command_of, statement_of, runs_as, on
 use Rattle.uu_sql.specs.Steps.{Stands}
 use Rattle.uu_sql.proofs.Rows.{cast_int, cast_null, over_rows}
 use Rattle.uu_sql.proofs.Writes.{went, same_value, insert_ran, insert_applies, inserted, update_ran, update_writes}
-use Rattle.uu_schema.specs.Schema.{first_site, success_waits, create_success_waits, raise_version, site, no_schema, with_spool, with_systems, with_lines, with_ranges, with_jobs, with_pieces, spool, systems, lines, ranges, jobs, pieces, entries, create_spool, create_systems, create_lines, create_ranges, create_jobs, create_pieces, create_entries, insert_spool}
+use Rattle.uu_schema.specs.Schema.{first_site, second_site, with_links, links, taken, create_links, create_taken, success_waits, create_success_waits, raise_version, site, no_schema, with_spool, with_systems, with_lines, with_ranges, with_jobs, with_pieces, spool, systems, lines, ranges, jobs, pieces, entries, create_spool, create_systems, create_lines, create_ranges, create_jobs, create_pieces, create_entries, insert_spool}
 use Rattle.uu_schema.specs.Made.{spool_row, IsMade, IsBegun, IsRaised}
 use Rattle.uu_schema.proofs.Keeps.{keeps_one}
-use Rattle.uu_schema.proofs.Texts.{create_spool_is, create_spool_plain, create_systems_is, create_systems_plain, create_lines_is, create_lines_plain, create_ranges_is, create_ranges_plain, create_jobs_is, create_jobs_plain, create_pieces_is, create_pieces_plain, create_entries_is, create_entries_plain, created_spool, created_systems, created_lines, created_ranges, created_jobs, created_pieces, created_entries, insert_spool_is, insert_spool_plain, spool_terms, create_success_waits_is, create_success_waits_plain, created_success_waits, raise_terms, raise_version_is, raise_version_plain}
+use Rattle.uu_schema.proofs.Texts.{create_spool_is, create_spool_plain, create_systems_is, create_systems_plain, create_lines_is, create_lines_plain, create_ranges_is, create_ranges_plain, create_jobs_is, create_jobs_plain, create_pieces_is, create_pieces_plain, create_entries_is, create_entries_plain, created_spool, created_systems, created_lines, created_ranges, created_jobs, created_pieces, created_entries, insert_spool_is, insert_spool_plain, spool_terms, create_success_waits_is, create_success_waits_plain, created_success_waits, create_links_is, create_links_plain, created_links, create_taken_is, create_taken_plain, created_taken, raise_terms, raise_version_is, raise_version_plain}
 
 -- what a CREATE TABLE makes, of a text whose table is known
 module _ (old new : State) (from to : Schema) (text : List ℕ) (table : Table) (count : ℕ) (stands : Stands from old.now)
@@ -101,13 +101,23 @@ spool_begun old new count stands h =
     let text = statement_of insert_spool (understood site insert_spool) in
     let ran = insert_ran old new site stands.schema 0 spool refl text [] count from w in
     let edit : Edit = record { table = spool; gone = []; news = spool_row 1 ∷ [] } in
-    let is : inserted old new site stands.schema 0 spool refl text [] count spool_terms 4 ≡ edit = rw (cast_null, cast_int (pos 1), cast_int (pos 2)) in
+    let is : inserted old new site stands.schema 0 spool refl text [] count spool_terms 4 ≡ edit = rw (cast_null, cast_int (pos 1), cast_int (pos 3)) in
     let a = subst (λ (edit : Edit). Applies site Enforced old.now.trees edit new.now.trees) is (insert_applies old new site stands.schema 0 spool refl text [] count spool_terms 4 ran) in
     (ran.stands, record { row = λ none. a.rows ∙ ap (put_row (spool_row 1)) none; others = keeps_one edit old.now.trees new.now.trees a })
 
-pub success_waits_made : (old new : State) (count : ℕ) → Stands first_site old.now → Executes create_success_waits [] old new (Ok count) → Stands site new.now × IsMade first_site success_waits.tree old.now.trees new.now.trees
+pub success_waits_made : (old new : State) (count : ℕ) → Stands first_site old.now → Executes create_success_waits [] old new (Ok count) → Stands second_site new.now × IsMade first_site success_waits.tree old.now.trees new.now.trees
 success_waits_made old new count stands h =
-    let it = made old new first_site site create_success_waits (record success_waits { tree = 0 }) count stands create_success_waits_is create_success_waits_plain created_success_waits refl h in
+    let it = made old new first_site second_site create_success_waits (record success_waits { tree = 0 }) count stands create_success_waits_is create_success_waits_plain created_success_waits refl h in
+    (it.now_stands, record { none = it.creates.empty; others = it.creates.others })
+
+pub links_made : (old new : State) (count : ℕ) → Stands second_site old.now → Executes create_links [] old new (Ok count) → Stands with_links new.now × IsMade second_site links.tree old.now.trees new.now.trees
+links_made old new count stands h =
+    let it = made old new second_site with_links create_links (record links { tree = 0 }) count stands create_links_is create_links_plain created_links refl h in
+    (it.now_stands, record { none = it.creates.empty; others = it.creates.others })
+
+pub taken_made : (old new : State) (count : ℕ) → Stands with_links old.now → Executes create_taken [] old new (Ok count) → Stands site new.now × IsMade with_links taken.tree old.now.trees new.now.trees
+taken_made old new count stands h =
+    let it = made old new with_links site create_taken (record taken { tree = 0 }) count stands create_taken_is create_taken_plain created_taken refl h in
     (it.now_stands, record { none = it.creates.empty; others = it.creates.others })
 
 pub version_raised : (old new : State) (count : ℕ) → Stands site old.now → Executes raise_version [] old new (Ok count) → Stands site new.now × IsRaised old.now.trees new.now.trees
@@ -119,14 +129,14 @@ version_raised old new count stands h =
     let ran = update_ran old new site stands.schema 0 spool refl text [] count program w in
     let wrote = update_writes old new site stands.schema 0 spool refl text [] count program ran in (
       ran.stands,
-      λ next is.
+      λ v next is.
           let row : Row = Int (pos 1) ∷ spool_row next in
           let order = over_rows db spool.tree [] raise_terms [] wrote.0 refl (wrote.1.answer Null) in
           let shown : List Row → List Row = λ rows. map (λ r. eval_all raise_terms ([] ∷ r ∷ [])) (filter (λ r. true) rows) in
           let rows : wrote.0 ≡ row ∷ [] = one_permutation row wrote.0 (subst (λ rs. IsPermutation (shown rs) wrote.0) is order) in
           let did = subst (λ all. WritesTrees site Enforced db (edit_of db spool (ids_of all) Given 1 all) (Ok new.now.trees)) rows wrote.2 in
           let edit : Edit = record { table = spool; gone = pos 1 ∷ []; news = spool_row next ∷ [] } in
-          let same : edit_of db spool (pos 1 ∷ []) Given 1 (row ∷ []) ≡ edit = rw (cast_int (pos 1), cast_null, cast_int (pos 2), cast_int (pos next)) in
+          let same : edit_of db spool (pos 1 ∷ []) Given 1 (row ∷ []) ≡ edit = rw (cast_int (pos 1), cast_null, cast_int (pos 3), cast_int (pos next)) in
           let a = one_step site Enforced db new.now.trees edit refl (subst (λ (e : Edit). WritesTrees site Enforced db e (Ok new.now.trees)) same did) in
           record { row = rw (is, value_cmp-Int (pos 1) (pos 1)) at a.rows; others = keeps_one edit db new.now.trees a },
     )

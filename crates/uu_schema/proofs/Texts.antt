@@ -10,7 +10,7 @@ use Rattle.sqlite_tied.specs.Compute.{everything}
 use Rattle.sqlite.specs.Listing.{understood}
 use Rattle.sqlite.proofs.Callers.{IsPlain, command_of, statement_of}
 use Rattle.uu_sql.specs.Layout.{over}
-use Rattle.uu_schema.specs.Schema.{first_site, success_waits, create_success_waits, raise_version, site, no_schema, with_spool, with_systems, with_lines, with_ranges, with_jobs, with_pieces, spool, systems, lines, ranges, jobs, pieces, entries, create_spool, create_systems, create_lines, create_ranges, create_jobs, create_pieces, create_entries, insert_spool}
+use Rattle.uu_schema.specs.Schema.{first_site, second_site, with_links, links, taken, create_links, create_taken, success_waits, create_success_waits, raise_version, site, no_schema, with_spool, with_systems, with_lines, with_ranges, with_jobs, with_pieces, spool, systems, lines, ranges, jobs, pieces, entries, create_spool, create_systems, create_lines, create_ranges, create_jobs, create_pieces, create_entries, insert_spool}
 
 pub create_spool_is : (command_of (understood no_schema create_spool) ≡ CreateTable) × (statement_of create_spool (understood no_schema create_spool) ≡ create_spool) × (table_defined_by create_spool ≡ Ok spool)
 unfolding understood everything
@@ -90,7 +90,7 @@ pub created_entries : created with_pieces (record entries { tree = 0 }) ≡ firs
 created_entries = refl
 
 abbrev pub spool_terms : List Term
-spool_terms = lit (Int (pos 1)) ∷ lit Null ∷ lit (Int (pos 2)) ∷ lit (Int (pos 1)) ∷ []
+spool_terms = lit (Int (pos 1)) ∷ lit Null ∷ lit (Int (pos 3)) ∷ lit (Int (pos 1)) ∷ []
 
 pub insert_spool_is : command_of (understood site insert_spool) ≡ Insert 0 (Values spool_terms 4)
 unfolding understood everything
@@ -109,11 +109,33 @@ pub create_success_waits_plain : IsPlain (understood first_site create_success_w
 unfolding understood everything
 create_success_waits_plain = (refl, refl)
 
-pub created_success_waits : created first_site (record success_waits { tree = 0 }) ≡ site
+pub created_success_waits : created first_site (record success_waits { tree = 0 }) ≡ second_site
 created_success_waits = refl
 
+pub create_links_is : (command_of (understood second_site create_links) ≡ CreateTable) × (statement_of create_links (understood second_site create_links) ≡ create_links) × (table_defined_by create_links ≡ Ok (record links { tree = 0 }))
+unfolding understood everything
+create_links_is = (refl, refl, refl)
+
+pub create_links_plain : IsPlain (understood second_site create_links)
+unfolding understood everything
+create_links_plain = (refl, refl)
+
+pub created_links : created second_site (record links { tree = 0 }) ≡ with_links
+created_links = refl
+
+pub create_taken_is : (command_of (understood with_links create_taken) ≡ CreateTable) × (statement_of create_taken (understood with_links create_taken) ≡ create_taken) × (table_defined_by create_taken ≡ Ok (record taken { tree = 0 }))
+unfolding understood everything
+create_taken_is = (refl, refl, refl)
+
+pub create_taken_plain : IsPlain (understood with_links create_taken)
+unfolding understood everything
+create_taken_plain = (refl, refl)
+
+pub created_taken : created with_links (record taken { tree = 0 }) ≡ site
+created_taken = refl
+
 abbrev pub raise_terms : List Term
-raise_terms = col 1 0 ∷ col 1 0 ∷ lit Null ∷ lit (Int (pos 2)) ∷ col 1 3 ∷ []
+raise_terms = col 1 0 ∷ col 1 0 ∷ lit Null ∷ lit (Int (pos 3)) ∷ col 1 3 ∷ []
 
 pub raise_version_is : command_of (understood site raise_version) ≡ Update 0 (record { lets = []; body = over 0 [] raise_terms })
 unfolding understood everything

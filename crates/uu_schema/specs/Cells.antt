@@ -14,6 +14,8 @@ use Rattle.uu_tables.specs.declared.rows.LineColumns.{LineColumns}
 use Rattle.uu_tables.specs.declared.rows.RangeColumns.{RangeColumns}
 use Rattle.uu_tables.specs.declared.rows.EntryColumns.{EntryColumns}
 use Rattle.uu_tables.specs.declared.rows.WaitColumns.{WaitColumns}
+use Rattle.uu_tables.specs.declared.rows.LinkColumns.{LinkColumns}
+use Rattle.uu_tables.specs.declared.rows.TakenColumns.{TakenColumns}
 use Rattle.uu_tables.specs.Tables.{Piece}
 
 abbrev pub system_cells : SystemColumns → Row
@@ -28,6 +30,12 @@ range_cells r = Text r.system ∷ Int (pos r.place) ∷ Int (pos r.low) ∷ Int 
 
 abbrev pub wait_cells : WaitColumns → Row
 wait_cells w = Text w.system ∷ Int (pos w.wait) ∷ []
+
+abbrev pub link_cells : LinkColumns → Row
+link_cells l = Text l.system ∷ Int (pos l.below) ∷ []
+
+abbrev pub taken_cells : TakenColumns → Row
+taken_cells t = Text t.system ∷ Int (pos t.taken.number) ∷ Int (pos t.taken.mark) ∷ Int (pos t.taken.job) ∷ []
 
 -- ---- a job: of a command its arguments stand in one text, with one space between two
 

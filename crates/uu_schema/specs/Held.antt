@@ -8,14 +8,16 @@ use Rattle.uu_tables.specs.declared.rows.LineColumns.{LineColumns}
 use Rattle.uu_tables.specs.declared.rows.RangeColumns.{RangeColumns}
 use Rattle.uu_tables.specs.declared.rows.EntryColumns.{EntryColumns}
 use Rattle.uu_tables.specs.declared.rows.WaitColumns.{WaitColumns}
+use Rattle.uu_tables.specs.declared.rows.LinkColumns.{LinkColumns}
+use Rattle.uu_tables.specs.declared.rows.TakenColumns.{TakenColumns}
 use Rattle.uu_core.specs.State.{empty}
 use Rattle.uu_tables.specs.Tables.{Tables, Piece, tables_of}
-use Rattle.uu_schema.specs.Schema.{spool, systems, lines, ranges, jobs, pieces, entries, success_waits}
+use Rattle.uu_schema.specs.Schema.{spool, systems, lines, ranges, jobs, pieces, entries, success_waits, links, taken}
 use Rattle.uu_schema.specs.declared.version.Version.{Version}
-use Rattle.uu_schema.specs.declared.version.Version.TheVariants.{First, Second}
+use Rattle.uu_schema.specs.declared.version.Version.TheVariants.{First, Second, Third}
 use Rattle.uu_schema.specs.Keyed.{Keyed}
 use Rattle.uu_schema.specs.Made.{spool_row_of}
-use Rattle.uu_schema.specs.Cells.{system_cells, line_cells, range_cells, job_cells, piece_cells, entry_cells, wait_cells}
+use Rattle.uu_schema.specs.Cells.{system_cells, line_cells, range_cells, job_cells, piece_cells, entry_cells, wait_cells, link_cells, taken_cells}
 
 -- ---- the key of each table, and where its columns stand in a row
 
@@ -40,6 +42,12 @@ entry_key e = e.host
 abbrev pub wait_key : WaitColumns → List ℕ
 wait_key w = w.system
 
+abbrev pub link_key : LinkColumns → List ℕ
+link_key l = l.system
+
+abbrev pub taken_key : TakenColumns → List ℕ × ℕ
+taken_key t = (t.system, t.taken.number)
+
 abbrev pub system_places : List ℕ
 system_places = 1 ∷ 2 ∷ 3 ∷ 4 ∷ 5 ∷ 6 ∷ 7 ∷ []
 
@@ -61,6 +69,12 @@ entry_places = 1 ∷ 2 ∷ []
 
 abbrev pub wait_places : List ℕ
 wait_places = 1 ∷ 2 ∷ []
+
+abbrev pub link_places : List ℕ
+link_places = 1 ∷ 2 ∷ []
+
+abbrev pub taken_places : List ℕ
+taken_places = 1 ∷ 2 ∷ 3 ∷ 4 ∷ []
 
 -- ---- tables
 
@@ -85,10 +99,29 @@ AreEntries = Keyed entry_key entry_cells entry_places
 abbrev pub AreWaits : List WaitColumns → List Row → Type 0
 AreWaits = Keyed wait_key wait_cells wait_places
 
+abbrev pub AreLinks : List LinkColumns → List Row → Type 0
+AreLinks = Keyed link_key link_cells link_places
+
+abbrev pub AreTaken : List TakenColumns → List Row → Type 0
+AreTaken = Keyed taken_key taken_cells taken_places
+
 -- the success waits of a version: version 1 has no table of them, and each is 0
 abbrev pub AreWaitsOf : Version → List WaitColumns → Trees → Type 0
 AreWaitsOf First waits db = waits ≡ []
 AreWaitsOf Second waits db = AreWaits waits (db success_waits.tree)
+AreWaitsOf Third waits db = AreWaits waits (db success_waits.tree)
+
+-- the links of a version, and what was taken by them: earlier versions have no tables of them, and
+-- keep nothing of links
+abbrev pub AreLinksOf : Version → List LinkColumns → Trees → Type 0
+AreLinksOf First rows db = rows ≡ []
+AreLinksOf Second rows db = rows ≡ []
+AreLinksOf Third rows db = AreLinks rows (db links.tree)
+
+abbrev pub AreTakenOf : Version → List TakenColumns → Trees → Type 0
+AreTakenOf First rows db = rows ≡ []
+AreTakenOf Second rows db = rows ≡ []
+AreTakenOf Third rows db = AreTaken rows (db taken.tree)
 
 -- each table's rows are those of its list, in any order, and `spool` has its one row
 pub record HoldsAs (v : Version) (db : Trees) (t : Tables) : Type 0 where
@@ -100,14 +133,16 @@ pub record HoldsAs (v : Version) (db : Trees) (t : Tables) : Type 0 where
   pub pieces : ArePieces t.pieces (db pieces.tree)
   pub entries : AreEntries t.entries (db entries.tree)
   pub success_waits : AreWaitsOf v t.success_waits db
+  pub links : AreLinksOf v t.links db
+  pub taken : AreTakenOf v t.taken db
 
 -- the same of the version that is written
 abbrev pub Holds : Trees → Tables → Type 0
-Holds = HoldsAs Second
+Holds = HoldsAs Third
 
--- what the tables of version 1 held, those of version 2 hold
-abbrev pub Migrates : Trees → Trees → Type 0
-Migrates old new = (t : Tables) → HoldsAs First old t → Holds new t
+-- what the tables of a version held, those of the version that is written hold
+abbrev pub Migrates : Version → Trees → Trees → Type 0
+Migrates v old new = (t : Tables) → HoldsAs v old t → Holds new t
 
 -- the trees are those of a spool that holds nothing
 abbrev pub MakesEmpty : Trees → Trees → Type 0

@@ -7,9 +7,9 @@ use Rattle.sqlite.specs.Schema.{Schema}
 use Rattle.sqlite.specs.Table.{Table}
 use Rattle.sqlite.specs.Tree.{Trees}
 use Rattle.uu_sql.specs.Steps.{Both}
-use Rattle.uu_schema.specs.Schema.{site, no_schema, with_spool, with_systems, with_lines, with_ranges, with_jobs, with_pieces, first_site, spool, systems, lines, ranges, jobs, pieces, entries, success_waits}
+use Rattle.uu_schema.specs.Schema.{site, no_schema, with_spool, with_systems, with_lines, with_ranges, with_jobs, with_pieces, first_site, second_site, with_links, spool, systems, lines, ranges, jobs, pieces, entries, success_waits, links, taken}
 use Rattle.uu_schema.specs.declared.version.Version.{Version}
-use Rattle.uu_schema.specs.declared.version.Version.TheVariants.{First, Second}
+use Rattle.uu_schema.specs.declared.version.Version.TheVariants.{First, Second, Third}
 
 -- the tables but those at these trees have the rows that they had
 abbrev pub Keeps : List ℕ → Trees → Trees → Type 0
@@ -19,10 +19,11 @@ Keeps written old new = AllByRecursion (λ (t : Table). list_any (λ n. n == t.t
 abbrev pub number_of : Version → ℕ
 number_of First = 1
 number_of Second = 2
+number_of Third = 3
 
 -- the version of the tables that are made and written
 abbrev pub version : ℕ
-version = number_of Second
+version = number_of Third
 
 -- The row of `spool` as the port keeps it: the rowid, then the columns, where an INTEGER PRIMARY
 -- KEY is kept as Null.
@@ -30,7 +31,7 @@ abbrev pub spool_row_of : Version → ℕ → Row
 spool_row_of v next = Int (pos 1) ∷ Null ∷ Int (pos (number_of v)) ∷ Int (pos next) ∷ []
 
 abbrev pub spool_row : ℕ → Row
-spool_row = spool_row_of Second
+spool_row = spool_row_of Third
 
 -- the table at this tree is there without rows, and the others keep theirs
 pub record IsMade (from : Schema) (tree : ℕ) (old new : Trees) : Type 0 where
@@ -42,17 +43,23 @@ pub record IsBegun (old new : Trees) : Type 0 where
   pub row : old spool.tree ≡ [] → new spool.tree ≡ spool_row 1 ∷ []
   pub others : Keeps (spool.tree ∷ []) old new
 
--- the one row of `spool` of version 1 has version 2 then, and nothing else differs
+-- the one row of `spool` has the version that is written then, and nothing else differs
 pub record HasRaised (next : ℕ) (old new : Trees) : Type 0 where
   pub row : new spool.tree ≡ spool_row next ∷ []
   pub others : Keeps (spool.tree ∷ []) old new
 
 abbrev pub IsRaised : Trees → Trees → Type 0
-IsRaised old new = (next : ℕ) → old spool.tree ≡ spool_row_of First next ∷ [] → HasRaised next old new
+IsRaised old new = (v : Version) → (next : ℕ) → old spool.tree ≡ spool_row_of v next ∷ [] → HasRaised next old new
 
 -- the tables from one of them on, and the row of `spool`
+abbrev pub FromTaken : Trees → Trees → Type 0
+FromTaken = Both (IsMade with_links taken.tree) IsBegun
+
+abbrev pub FromLinks : Trees → Trees → Type 0
+FromLinks = Both (IsMade second_site links.tree) FromTaken
+
 abbrev pub FromWaits : Trees → Trees → Type 0
-FromWaits = Both (IsMade first_site success_waits.tree) IsBegun
+FromWaits = Both (IsMade first_site success_waits.tree) FromLinks
 
 abbrev pub FromEntries : Trees → Trees → Type 0
 FromEntries = Both (IsMade with_pieces entries.tree) FromWaits
@@ -75,6 +82,14 @@ FromSystems = Both (IsMade with_spool systems.tree) FromLines
 abbrev pub AllMade : Trees → Trees → Type 0
 AllMade = Both (IsMade no_schema spool.tree) FromSystems
 
+-- the tables that version 2 lacks, and then the version
+abbrev pub FromSecond : Trees → Trees → Type 0
+FromSecond = Both (IsMade second_site links.tree) (Both (IsMade with_links taken.tree) IsRaised)
+
+-- those that version 1 lacks
+abbrev pub FromFirst : Trees → Trees → Type 0
+FromFirst = Both (IsMade first_site success_waits.tree) FromSecond
+
 -- what the whole leaves: one row of `spool`, and no other
 pub record IsEmpty (db : Trees) : Type 0 where
   pub row : db spool.tree ≡ spool_row 1 ∷ []
@@ -85,3 +100,5 @@ pub record IsEmpty (db : Trees) : Type 0 where
   pub pieces : db pieces.tree ≡ []
   pub entries : db entries.tree ≡ []
   pub success_waits : db success_waits.tree ≡ []
+  pub links : db links.tree ≡ []
+  pub taken : db taken.tree ≡ []

@@ -1,4 +1,4 @@
--- The eight tables of the spool, version 2, those of version 1, and the texts that make them. (This
+-- The ten tables of the spool, version 3, those of earlier versions, and the texts that make them. (This
 -- project's choice.)
 use Rattle.std.specs.Prelude.{[], ◌∷◌, codes, List, ℕ}
 use Rattle.sqlite.specs.Table.{Table}
@@ -9,7 +9,7 @@ use Rattle.sqlite_schema.specs.declared.schema.Reference.{Reference}
 use Rattle.sqlite_catalog.specs.Listing.{automatic}
 use Rattle.uu_sql.specs.Layout.{may, must, refers, by_number, by_key}
 use Rattle.uu_schema.specs.declared.version.Version.{Version}
-use Rattle.uu_schema.specs.declared.version.Version.TheVariants.{First, Second}
+use Rattle.uu_schema.specs.declared.version.Version.TheVariants.{First, Second, Third}
 
 -- ---- tables; trees are numbered in order of creation, each table first and then its index
 
@@ -67,6 +67,14 @@ entries = by_key (codes "entries") 10 (must (codes "host") Text ∷ must (codes 
 abbrev pub success_waits : Table
 success_waits = by_key (codes "success_waits") 12 (must (codes "system") Text ∷ must (codes "wait") Integer ∷ []) (1 ∷ []) (to_system ∷ [])
 
+-- the numbers below which neighbours ask for none again, but for those that are 0
+abbrev pub links : Table
+links = by_key (codes "links") 14 (must (codes "system") Text ∷ must (codes "below") Integer ∷ []) (1 ∷ []) (to_system ∷ [])
+
+-- what was taken from neighbours
+abbrev pub taken : Table
+taken = by_key (codes "taken") 16 (must (codes "system") Text ∷ must (codes "number") Integer ∷ must (codes "mark") Integer ∷ must (codes "job") Integer ∷ []) (1 ∷ 2 ∷ []) (to_system ∷ [])
+
 -- ---- schemas, from none to all
 
 abbrev pub no_schema : Schema
@@ -102,7 +110,7 @@ with_pieces = record {
   views = [];
 }
 
--- version 1, which is made into the whole
+-- version 1
 abbrev pub first_site : Schema
 first_site = record {
   tables = spool ∷ systems ∷ lines ∷ ranges ∷ jobs ∷ pieces ∷ entries ∷ [];
@@ -112,9 +120,9 @@ first_site = record {
   views = [];
 }
 
--- the whole, version 2
-abbrev pub site : Schema
-site = record {
+-- version 2
+abbrev pub second_site : Schema
+second_site = record {
   tables = spool ∷ systems ∷ lines ∷ ranges ∷ jobs ∷ pieces ∷ entries ∷ success_waits ∷ [];
   indexes =
       automatic systems 0 (1 ∷ []) 2 ∷ automatic lines 0 (1 ∷ 2 ∷ []) 4 ∷ automatic ranges 0 (1 ∷ 2 ∷ 3 ∷ []) 6 ∷ automatic pieces 0 (1 ∷ 2 ∷ []) 9
@@ -122,10 +130,30 @@ site = record {
   views = [];
 }
 
+abbrev pub with_links : Schema
+with_links = record {
+  tables = spool ∷ systems ∷ lines ∷ ranges ∷ jobs ∷ pieces ∷ entries ∷ success_waits ∷ links ∷ [];
+  indexes =
+      automatic systems 0 (1 ∷ []) 2 ∷ automatic lines 0 (1 ∷ 2 ∷ []) 4 ∷ automatic ranges 0 (1 ∷ 2 ∷ 3 ∷ []) 6 ∷ automatic pieces 0 (1 ∷ 2 ∷ []) 9
+      ∷ automatic entries 0 (1 ∷ []) 11 ∷ automatic success_waits 0 (1 ∷ []) 13 ∷ automatic links 0 (1 ∷ []) 15 ∷ [];
+  views = [];
+}
+
+-- the whole, version 3
+abbrev pub site : Schema
+site = record {
+  tables = spool ∷ systems ∷ lines ∷ ranges ∷ jobs ∷ pieces ∷ entries ∷ success_waits ∷ links ∷ taken ∷ [];
+  indexes =
+      automatic systems 0 (1 ∷ []) 2 ∷ automatic lines 0 (1 ∷ 2 ∷ []) 4 ∷ automatic ranges 0 (1 ∷ 2 ∷ 3 ∷ []) 6 ∷ automatic pieces 0 (1 ∷ 2 ∷ []) 9
+      ∷ automatic entries 0 (1 ∷ []) 11 ∷ automatic success_waits 0 (1 ∷ []) 13 ∷ automatic links 0 (1 ∷ []) 15 ∷ automatic taken 0 (1 ∷ 2 ∷ []) 17 ∷ [];
+  views = [];
+}
+
 -- that of a version
 abbrev pub site_of : Version → Schema
 site_of First = first_site
-site_of Second = site
+site_of Second = second_site
+site_of Third = site
 
 -- ---- statements that make the tables
 
@@ -151,12 +179,18 @@ abbrev pub create_entries : List ℕ
 create_entries = codes "CREATE TABLE entries (host TEXT NOT NULL PRIMARY KEY, bytes BLOB NOT NULL) STRICT"
 
 abbrev pub insert_spool : List ℕ
-insert_spool = codes "INSERT INTO spool (id, version, next) VALUES (1, 2, 1)"
+insert_spool = codes "INSERT INTO spool (id, version, next) VALUES (1, 3, 1)"
 
 abbrev pub create_success_waits : List ℕ
 create_success_waits = codes "CREATE TABLE success_waits (system TEXT NOT NULL PRIMARY KEY REFERENCES systems (name) ON DELETE CASCADE, wait INTEGER NOT NULL) STRICT"
 
--- ---- the statement that makes version 1 version 2, behind the one that makes the new table
+abbrev pub create_links : List ℕ
+create_links = codes "CREATE TABLE links (system TEXT NOT NULL PRIMARY KEY REFERENCES systems (name) ON DELETE CASCADE, below INTEGER NOT NULL) STRICT"
+
+abbrev pub create_taken : List ℕ
+create_taken = codes "CREATE TABLE taken (system TEXT NOT NULL REFERENCES systems (name) ON DELETE CASCADE, number INTEGER NOT NULL, mark INTEGER NOT NULL, job INTEGER NOT NULL, PRIMARY KEY (system, number)) STRICT"
+
+-- ---- the statement that makes an earlier version version 3, behind those that make its tables
 
 abbrev pub raise_version : List ℕ
-raise_version = codes "UPDATE spool SET version = 2"
+raise_version = codes "UPDATE spool SET version = 3"

@@ -1,4 +1,4 @@
-//! The eight tables of the spool in a database: their schema, the rows that hold the typed ones, an
+//! The ten tables of the spool in a database: their schema, the rows that hold the typed ones, an
 //! empty spool, and why the store gives no answer.
 #![tactic(auto)]
 

@@ -4,12 +4,13 @@ ghost use Rattle.sqlite.specs.Held.{state};
 ghost use Rattle.sqlite.specs.State.{HasCleanDisk, KeepsCommit, Survives};
 ghost use Rattle.sqlite.specs.declared.error.Error.{Error};
 ghost use Rattle.uu_sql.specs.Steps.{Both, Outcome, Undid, Whole};
-ghost use Rattle.uu_schema.specs.Schema.{no_schema, with_spool, with_systems, with_lines, with_ranges, with_jobs, with_pieces, first_site, site, spool, systems, lines, ranges, jobs, pieces, entries, success_waits};
-ghost use Rattle.uu_schema.specs.Made.{IsMade, IsBegun, IsRaised, FromWaits, FromEntries, FromPieces, FromJobs, FromRanges, FromLines, FromSystems, AllMade};
+ghost use Rattle.uu_schema.specs.Schema.{no_schema, with_spool, with_systems, with_lines, with_ranges, with_jobs, with_pieces, first_site, second_site, with_links, site, site_of, spool, systems, lines, ranges, jobs, pieces, entries, success_waits, links, taken};
+ghost use Rattle.uu_schema.specs.Made.{IsMade, IsBegun, IsRaised, FromFirst, FromSecond, FromTaken, FromLinks, FromWaits, FromEntries, FromPieces, FromJobs, FromRanges, FromLines, FromSystems, AllMade};
 ghost use Rattle.uu_schema.specs.Held.{MakesEmpty, Migrates};
 ghost use Rattle.uu_schema.specs.declared.fault.Halt.TheVariants.{Before};
 
 use crate::fault::Halt;
+use crate::version::Version;
 use sqlite::{Alter, Connection, Error, Transaction};
 
 fn create_spool<S: Alter>(tx: &mut Transaction<'_, S>) -> Result<usize, Error>
@@ -84,11 +85,33 @@ fn create_entries<S: Alter>(tx: &mut Transaction<'_, S>) -> Result<usize, Error>
 
 fn create_success_waits<S: Alter>(tx: &mut Transaction<'_, S>) -> Result<usize, Error>
     ensures same_reference { tx.new.conn.ghost_name ≡ tx.old.conn.ghost_name }
-    ensures outcome { Outcome first_site site (IsMade first_site success_waits.tree) (state S.Store tx.old.conn.now) (state S.Store tx.new.conn.now) result }
+    ensures outcome { Outcome first_site second_site (IsMade first_site success_waits.tree) (state S.Store tx.old.conn.now) (state S.Store tx.new.conn.now) result }
     ensures kept { HasCleanDisk (state S.Store tx.new.conn.now) → KeepsCommit (state S.Store tx.old.conn.now) (state S.Store tx.new.conn.now) }
 {
     tx.execute(
         "CREATE TABLE success_waits (system TEXT NOT NULL PRIMARY KEY REFERENCES systems (name) ON DELETE CASCADE, wait INTEGER NOT NULL) STRICT",
+        &[],
+    )
+}
+
+fn create_links<S: Alter>(tx: &mut Transaction<'_, S>) -> Result<usize, Error>
+    ensures same_reference { tx.new.conn.ghost_name ≡ tx.old.conn.ghost_name }
+    ensures outcome { Outcome second_site with_links (IsMade second_site links.tree) (state S.Store tx.old.conn.now) (state S.Store tx.new.conn.now) result }
+    ensures kept { HasCleanDisk (state S.Store tx.new.conn.now) → KeepsCommit (state S.Store tx.old.conn.now) (state S.Store tx.new.conn.now) }
+{
+    tx.execute(
+        "CREATE TABLE links (system TEXT NOT NULL PRIMARY KEY REFERENCES systems (name) ON DELETE CASCADE, below INTEGER NOT NULL) STRICT",
+        &[],
+    )
+}
+
+fn create_taken<S: Alter>(tx: &mut Transaction<'_, S>) -> Result<usize, Error>
+    ensures same_reference { tx.new.conn.ghost_name ≡ tx.old.conn.ghost_name }
+    ensures outcome { Outcome with_links site (IsMade with_links taken.tree) (state S.Store tx.old.conn.now) (state S.Store tx.new.conn.now) result }
+    ensures kept { HasCleanDisk (state S.Store tx.new.conn.now) → KeepsCommit (state S.Store tx.old.conn.now) (state S.Store tx.new.conn.now) }
+{
+    tx.execute(
+        "CREATE TABLE taken (system TEXT NOT NULL REFERENCES systems (name) ON DELETE CASCADE, number INTEGER NOT NULL, mark INTEGER NOT NULL, job INTEGER NOT NULL, PRIMARY KEY (system, number)) STRICT",
         &[],
     )
 }
@@ -98,18 +121,34 @@ fn insert_spool<S: Alter>(tx: &mut Transaction<'_, S>) -> Result<usize, Error>
     ensures outcome { Outcome site site IsBegun (state S.Store tx.old.conn.now) (state S.Store tx.new.conn.now) result }
 {
     tx.execute(
-        "INSERT INTO spool (id, version, next) VALUES (1, 2, 1)",
+        "INSERT INTO spool (id, version, next) VALUES (1, 3, 1)",
         &[],
     )
 }
 
 // The last table, and the row of `spool`.
+fn create_from_taken<S: Alter>(tx: &mut Transaction<'_, S>) -> Result<usize, Error>
+    ensures same_reference { tx.new.conn.ghost_name ≡ tx.old.conn.ghost_name }
+    ensures outcome { Outcome with_links site FromTaken (state S.Store tx.old.conn.now) (state S.Store tx.new.conn.now) result }
+{
+    create_taken(tx)?;
+    insert_spool(tx)
+}
+
+fn create_from_links<S: Alter>(tx: &mut Transaction<'_, S>) -> Result<usize, Error>
+    ensures same_reference { tx.new.conn.ghost_name ≡ tx.old.conn.ghost_name }
+    ensures outcome { Outcome second_site site FromLinks (state S.Store tx.old.conn.now) (state S.Store tx.new.conn.now) result }
+{
+    create_links(tx)?;
+    create_from_taken(tx)
+}
+
 fn create_from_waits<S: Alter>(tx: &mut Transaction<'_, S>) -> Result<usize, Error>
     ensures same_reference { tx.new.conn.ghost_name ≡ tx.old.conn.ghost_name }
     ensures outcome { Outcome first_site site FromWaits (state S.Store tx.old.conn.now) (state S.Store tx.new.conn.now) result }
 {
     create_success_waits(tx)?;
-    insert_spool(tx)
+    create_from_links(tx)
 }
 
 fn create_from_entries<S: Alter>(tx: &mut Transaction<'_, S>) -> Result<usize, Error>
@@ -189,24 +228,58 @@ fn raise_version<S: Alter>(tx: &mut Transaction<'_, S>) -> Result<usize, Error>
     ensures outcome { Outcome site site IsRaised (state S.Store tx.old.conn.now) (state S.Store tx.new.conn.now) result }
     ensures kept { HasCleanDisk (state S.Store tx.new.conn.now) → KeepsCommit (state S.Store tx.old.conn.now) (state S.Store tx.new.conn.now) }
 {
-    tx.execute("UPDATE spool SET version = 2", &[])
+    tx.execute("UPDATE spool SET version = 3", &[])
 }
 
-// The new table, and then the version.
-fn migrate_tables<S: Alter>(tx: &mut Transaction<'_, S>) -> Result<usize, Error>
+// The last table, and then the version.
+fn raise_from_taken<S: Alter>(tx: &mut Transaction<'_, S>) -> Result<usize, Error>
     ensures same_reference { tx.new.conn.ghost_name ≡ tx.old.conn.ghost_name }
-    ensures outcome { Outcome first_site site (Both (IsMade first_site success_waits.tree) IsRaised) (state S.Store tx.old.conn.now) (state S.Store tx.new.conn.now) result }
+    ensures outcome { Outcome with_links site (Both (IsMade with_links taken.tree) IsRaised) (state S.Store tx.old.conn.now) (state S.Store tx.new.conn.now) result }
     ensures kept { HasCleanDisk (state S.Store tx.new.conn.now) → KeepsCommit (state S.Store tx.old.conn.now) (state S.Store tx.new.conn.now) }
 {
-    create_success_waits(tx)?;
+    create_taken(tx)?;
     raise_version(tx)
 }
 
-/// Makes the tables of version 2 of those of version 1, whole or not at all, in one transaction.
-pub fn migrate<S: Alter>(conn: &mut Connection<S>) -> Result<(), Halt>
+// The tables that version 2 lacks, and then the version.
+fn migrate_second<S: Alter>(tx: &mut Transaction<'_, S>) -> Result<usize, Error>
+    ensures same_reference { tx.new.conn.ghost_name ≡ tx.old.conn.ghost_name }
+    ensures outcome { Outcome second_site site FromSecond (state S.Store tx.old.conn.now) (state S.Store tx.new.conn.now) result }
+    ensures kept { HasCleanDisk (state S.Store tx.new.conn.now) → KeepsCommit (state S.Store tx.old.conn.now) (state S.Store tx.new.conn.now) }
+{
+    create_links(tx)?;
+    raise_from_taken(tx)
+}
+
+// The tables that version 1 lacks, and then the version.
+fn migrate_first<S: Alter>(tx: &mut Transaction<'_, S>) -> Result<usize, Error>
+    ensures same_reference { tx.new.conn.ghost_name ≡ tx.old.conn.ghost_name }
+    ensures outcome { Outcome first_site site FromFirst (state S.Store tx.old.conn.now) (state S.Store tx.new.conn.now) result }
+    ensures kept { HasCleanDisk (state S.Store tx.new.conn.now) → KeepsCommit (state S.Store tx.old.conn.now) (state S.Store tx.new.conn.now) }
+{
+    create_success_waits(tx)?;
+    migrate_second(tx)
+}
+
+// The tables that a version lacks; the last one lacks none.
+fn migrate_tables<S: Alter>(tx: &mut Transaction<'_, S>, from: Version) -> Result<usize, Error>
+    ensures same_reference { tx.new.conn.ghost_name ≡ tx.old.conn.ghost_name }
+    ensures outcome { Outcome (site_of from) site (Migrates from) (state S.Store tx.old.conn.now) (state S.Store tx.new.conn.now) result }
+    ensures kept { HasCleanDisk (state S.Store tx.new.conn.now) → KeepsCommit (state S.Store tx.old.conn.now) (state S.Store tx.new.conn.now) }
+{
+    match from {
+        Version::First => migrate_first(tx),
+        Version::Second => migrate_second(tx),
+        Version::Third => Ok(0),
+    }
+}
+
+/// Makes the tables of version 3 of those of an earlier one, whole or not at all, in one
+/// transaction; those of version 3 stay as they are.
+pub fn migrate<S: Alter>(conn: &mut Connection<S>, from: Version) -> Result<(), Halt>
     requires { conn.old.in_transaction ≡ false }
     ensures idle { conn.new.in_transaction ≡ false }
-    ensures whole { Whole first_site site Migrates (state S.Store conn.old) (state S.Store conn.new) result }
+    ensures whole { Whole (site_of from) site (Migrates from) (state S.Store conn.old) (state S.Store conn.new) result }
 
     // Nothing of a transaction that stopped before its commit can be kept, and what was committed
     // shows again, whatever the database. A commit that was refused is not such a one.
@@ -214,6 +287,6 @@ pub fn migrate<S: Alter>(conn: &mut Connection<S>) -> Result<(), Halt>
     ensures undone { (error : Error) → result ≡ Err (Before error) → HasCleanDisk (state S.Store conn.new) → Undid (state S.Store conn.old) (state S.Store conn.new) }
 {
     let mut tx = conn.transaction();
-    migrate_tables(&mut tx)?;
+    migrate_tables(&mut tx, from)?;
     tx.commit().map_err(Halt::Commit)
 }

@@ -18,17 +18,20 @@ use Rattle.uu_tables.specs.declared.rows.LineColumns.{LineColumns}
 use Rattle.uu_tables.specs.declared.rows.RangeColumns.{RangeColumns}
 use Rattle.uu_tables.specs.declared.rows.EntryColumns.{EntryColumns}
 use Rattle.uu_tables.specs.declared.rows.WaitColumns.{WaitColumns}
+use Rattle.uu_tables.specs.declared.rows.LinkColumns.{LinkColumns}
+use Rattle.uu_tables.specs.declared.rows.TakenColumns.{TakenColumns}
+use Rattle.uu_tables.specs.Order.{taken_cmp}
 use Rattle.uu_tables.specs.Tables.{Tables, Piece}
-use Rattle.uu_tables.specs.Changes.{insert_by, append, new_system}
-use Rattle.uu_schema.specs.Schema.{site, systems, lines, ranges, jobs, pieces, entries, success_waits}
-use Rattle.uu_schema.specs.Cells.{system_cells, line_cells, range_cells, job_cells, piece_cells, entry_cells, wait_cells, kind_number, first_word, second_word}
-use Rattle.uu_schema.specs.Held.{Holds, system_key, line_key, range_key, job_key, piece_key, entry_key, wait_key, system_places, line_places, range_places, job_places, piece_places, entry_places, wait_places}
-use Rattle.uu_statements.specs.Texts.{insert_system, insert_line, insert_range, insert_job, insert_piece, insert_entry, insert_wait}
-use Rattle.uu_statements.proofs.Texts.{insert_system_is, insert_system_plain, insert_system_terms, insert_line_is, insert_line_plain, insert_line_terms, insert_range_is, insert_range_plain, insert_range_terms, insert_job_is, insert_job_plain, insert_job_terms, insert_piece_is, insert_piece_plain, insert_piece_terms, insert_entry_is, insert_entry_plain, insert_entry_terms, insert_wait_is, insert_wait_plain, insert_wait_terms}
-use Rattle.uu_statements.proofs.Keyed.{put_by_name, put_last}
-use Rattle.uu_statements.proofs.Unique.{unique_systems, unique_lines, unique_ranges, unique_pieces, unique_entries, unique_waits, agree_text, agree_text_number, agree_text_numbers, agree_numbers}
+use Rattle.uu_tables.specs.Changes.{insert_by, insert_at, append, new_system}
+use Rattle.uu_schema.specs.Schema.{site, systems, lines, ranges, jobs, pieces, entries, success_waits, links, taken}
+use Rattle.uu_schema.specs.Cells.{system_cells, line_cells, range_cells, job_cells, piece_cells, entry_cells, wait_cells, link_cells, taken_cells, kind_number, first_word, second_word}
+use Rattle.uu_schema.specs.Held.{Holds, system_key, line_key, range_key, job_key, piece_key, entry_key, wait_key, link_key, taken_key, link_places, taken_places, system_places, line_places, range_places, job_places, piece_places, entry_places, wait_places}
+use Rattle.uu_statements.specs.Texts.{insert_system, insert_line, insert_range, insert_job, insert_piece, insert_entry, insert_wait, insert_link, insert_taken}
+use Rattle.uu_statements.proofs.Texts.{insert_system_is, insert_system_plain, insert_system_terms, insert_line_is, insert_line_plain, insert_line_terms, insert_range_is, insert_range_plain, insert_range_terms, insert_job_is, insert_job_plain, insert_job_terms, insert_piece_is, insert_piece_plain, insert_piece_terms, insert_entry_is, insert_entry_plain, insert_entry_terms, insert_wait_is, insert_wait_plain, insert_wait_terms, insert_link_is, insert_link_plain, insert_link_terms, insert_taken_is, insert_taken_plain, insert_taken_terms}
+use Rattle.uu_statements.proofs.Keyed.{put_by_name, put_in_order, put_last}
+use Rattle.uu_statements.proofs.Unique.{unique_systems, unique_lines, unique_ranges, unique_pieces, unique_entries, unique_waits, unique_links, unique_taken, agree_text, agree_text_number, agree_text_numbers, agree_numbers}
 use Rattle.uu_statements.proofs.Statements.{row_added, adds, fresh_by_index, fresh_by_number, cast_number}
-use Rattle.uu_statements.proofs.Holding.{holds_systems, holds_lines, holds_ranges, holds_jobs, holds_pieces, holds_entries, holds_waits}
+use Rattle.uu_statements.proofs.Holding.{holds_systems, holds_lines, holds_ranges, holds_jobs, holds_pieces, holds_entries, holds_waits, holds_links, holds_taken}
 
 pub system_added : (old new : State) (x : System) (count : ℕ) → Stands site old.now → Executes insert_system (Text x.name ∷ Int (pos x.max_retries) ∷ []) old new (Ok count)
     → Stands site new.now × ((t : Tables) → Holds old.now.trees t → Holds new.now.trees (record t { systems = insert_by (λ row. row.name) (new_system x) t.systems }))
@@ -118,3 +121,29 @@ wait_added old new x count stands h =
     (λ s there. subst (λ rs. clashes plain (1 ∷ []) rs s ≡ false) made (unique_waits new.now.trees fits s (subst (λ rs. Has rs s) (sym made) there)))
     (λ y s shows same. agree_text row s x.system refl (ap (λ cs. column cs 0) shows ∙ ap Text same))) in
     (it.0, λ t held. holds_waits t old.now.trees new.now.trees _ it.2 held (it.1 t.success_waits _ (put_by_name (λ row. row.system) x t.success_waits) held.success_waits))
+
+pub link_added : (old new : State) (x : LinkColumns) (count : ℕ) → Stands site old.now → Executes insert_link (link_cells x) old new (Ok count)
+    → Stands site new.now × ((t : Tables) → Holds old.now.trees t → Holds new.now.trees (record t { links = insert_by (λ row. row.system) x t.links }))
+link_added old new x count stands h =
+    let params : Row = link_cells x in
+    let row : Row = Int (next_rowid (old.now.trees links.tree)) ∷ link_cells x in
+    let is : inserted old new site stands.schema 8 links refl (statement_of insert_link (understood site insert_link)) params count insert_link_terms 3 ≡ adds old new stands insert_link params count 8 links refl row =
+    rw (cast_null, cast_int (pos x.below)) refl in
+    let it = row_added old new stands insert_link params count 8 links refl link_key link_cells link_places insert_link_terms 3 insert_link_is insert_link_plain h x row is refl refl
+    (λ fits made free numbered. fresh_by_index link_key link_cells link_places (1 ∷ []) x row (old.now.trees links.tree) refl numbered free
+    (λ s there. subst (λ rs. clashes plain (1 ∷ []) rs s ≡ false) made (unique_links new.now.trees fits s (subst (λ rs. Has rs s) (sym made) there)))
+    (λ y s shows same. agree_text row s x.system refl (ap (λ cs. column cs 0) shows ∙ ap Text same))) in
+    (it.0, λ t held. holds_links t old.now.trees new.now.trees _ it.2 held (it.1 t.links _ (put_by_name (λ row. row.system) x t.links) held.links))
+
+pub taken_added : (old new : State) (x : TakenColumns) (count : ℕ) → Stands site old.now → Executes insert_taken (taken_cells x) old new (Ok count)
+    → Stands site new.now × ((t : Tables) → Holds old.now.trees t → Holds new.now.trees (record t { taken = insert_at taken_cmp x t.taken }))
+taken_added old new x count stands h =
+    let params : Row = taken_cells x in
+    let row : Row = Int (next_rowid (old.now.trees taken.tree)) ∷ taken_cells x in
+    let is : inserted old new site stands.schema 9 taken refl (statement_of insert_taken (understood site insert_taken)) params count insert_taken_terms 5 ≡ adds old new stands insert_taken params count 9 taken refl row =
+    rw (cast_null, cast_int (pos x.taken.number), cast_int (pos x.taken.mark), cast_int (pos x.taken.job)) refl in
+    let it = row_added old new stands insert_taken params count 9 taken refl taken_key taken_cells taken_places insert_taken_terms 5 insert_taken_is insert_taken_plain h x row is refl refl
+    (λ fits made free numbered. fresh_by_index taken_key taken_cells taken_places (1 ∷ 2 ∷ []) x row (old.now.trees taken.tree) refl numbered free
+    (λ s there. subst (λ rs. clashes plain (1 ∷ 2 ∷ []) rs s ≡ false) made (unique_taken new.now.trees fits s (subst (λ rs. Has rs s) (sym made) there)))
+    (λ y s shows same. agree_text_number row s x.system (pos x.taken.number) refl (ap (λ cs. column cs 0) shows ∙ ap (λ k. Text k.0) same) refl (ap (λ cs. column cs 1) shows ∙ ap (λ k. Int (pos k.1)) same))) in
+    (it.0, λ t held. holds_taken t old.now.trees new.now.trees _ it.2 held (it.1 t.taken _ (put_in_order taken_cmp x t.taken) held.taken))

@@ -66,7 +66,7 @@ same_texts a b h = (bytes_eq-Decides a b).0 h
 abbrev pub is_number : ℕ → ℕ → Row → Bool
 is_number n at r = is_eq (value_cmp (column r at) (Int (pos n)))
 
-compared : (a b : ℕ) (o : Ordering) → MatchOrdering o (a < b) (a ≡ b) (b < a) → MatchOrdering o (pos a <ℤ pos b) (pos a ≡ pos b) (pos b <ℤ pos a)
+pub compared : (a b : ℕ) (o : Ordering) → MatchOrdering o (a < b) (a ≡ b) (b < a) → MatchOrdering o (pos a <ℤ pos b) (pos a ≡ pos b) (pos b <ℤ pos a)
 compared a b Less h = omega (arith, ints, h)
 compared a b Equal h = ap pos h
 compared a b Greater h = omega (arith, ints, h)
@@ -186,7 +186,7 @@ next_set old new next count stands h =
           let rows : wrote.0 ≡ row ∷ [] = one_permutation row wrote.0 (subst (λ rs. IsPermutation (shown rs) wrote.0) held.spool order) in
           let did = subst (λ all. WritesTrees site Enforced db (edit_of db spool (ids_of all) Given 1 all) (Ok new.now.trees)) rows wrote.2 in
           let edit : Edit = record { table = spool; gone = pos 1 ∷ []; news = spool_row next ∷ [] } in
-          let is : edit_of db spool (pos 1 ∷ []) Given 1 (row ∷ []) ≡ edit = rw (cast_int (pos 1), cast_null, cast_int (pos 2), cast_int (pos next)) in
+          let is : edit_of db spool (pos 1 ∷ []) Given 1 (row ∷ []) ≡ edit = rw (cast_int (pos 1), cast_null, cast_int (pos 3), cast_int (pos next)) in
           let a = one_step site Enforced db new.now.trees edit refl (subst (λ (e : Edit). WritesTrees site Enforced db e (Ok new.now.trees)) is did) in
           holds_next t db new.now.trees next (keeps_one edit db new.now.trees a) held (rw (held.spool, value_cmp-Int (pos 1) (pos 1)) at a.rows),
     )

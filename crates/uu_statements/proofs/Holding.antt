@@ -7,10 +7,12 @@ use Rattle.uu_tables.specs.declared.rows.LineColumns.{LineColumns}
 use Rattle.uu_tables.specs.declared.rows.RangeColumns.{RangeColumns}
 use Rattle.uu_tables.specs.declared.rows.EntryColumns.{EntryColumns}
 use Rattle.uu_tables.specs.declared.rows.WaitColumns.{WaitColumns}
+use Rattle.uu_tables.specs.declared.rows.LinkColumns.{LinkColumns}
+use Rattle.uu_tables.specs.declared.rows.TakenColumns.{TakenColumns}
 use Rattle.uu_tables.specs.Tables.{Tables, Piece}
-use Rattle.uu_schema.specs.Schema.{spool, systems, lines, ranges, jobs, pieces, entries, success_waits}
+use Rattle.uu_schema.specs.Schema.{spool, systems, lines, ranges, jobs, pieces, entries, success_waits, links, taken}
 use Rattle.uu_schema.specs.Made.{Keeps, spool_row}
-use Rattle.uu_schema.specs.Held.{Holds, AreSystems, AreLines, AreRanges, AreJobs, ArePieces, AreEntries, AreWaits}
+use Rattle.uu_schema.specs.Held.{Holds, AreSystems, AreLines, AreRanges, AreJobs, ArePieces, AreEntries, AreWaits, AreLinks, AreTaken}
 
 -- only `systems` changed
 pub holds_systems : (t : Tables) (old new : Trees) (new_systems : List SystemColumns) → Keeps (systems.tree ∷ []) old new → Holds old t → AreSystems new_systems (new systems.tree) → Holds new (record t { systems = new_systems })
@@ -23,6 +25,8 @@ holds_systems t old new new_systems kept holds are_systems = record {
   pieces = subst (ArePieces t.pieces) (sym (kept.1.1.1.1.1.0 refl)) holds.pieces;
   entries = subst (AreEntries t.entries) (sym (kept.1.1.1.1.1.1.0 refl)) holds.entries;
   success_waits = subst (AreWaits t.success_waits) (sym (kept.1.1.1.1.1.1.1.0 refl)) holds.success_waits;
+  links = subst (AreLinks t.links) (sym (kept.1.1.1.1.1.1.1.1.0 refl)) holds.links;
+  taken = subst (AreTaken t.taken) (sym (kept.1.1.1.1.1.1.1.1.1.0 refl)) holds.taken;
 }
 
 -- only `lines` changed
@@ -36,6 +40,8 @@ holds_lines t old new new_lines kept holds are_lines = record {
   pieces = subst (ArePieces t.pieces) (sym (kept.1.1.1.1.1.0 refl)) holds.pieces;
   entries = subst (AreEntries t.entries) (sym (kept.1.1.1.1.1.1.0 refl)) holds.entries;
   success_waits = subst (AreWaits t.success_waits) (sym (kept.1.1.1.1.1.1.1.0 refl)) holds.success_waits;
+  links = subst (AreLinks t.links) (sym (kept.1.1.1.1.1.1.1.1.0 refl)) holds.links;
+  taken = subst (AreTaken t.taken) (sym (kept.1.1.1.1.1.1.1.1.1.0 refl)) holds.taken;
 }
 
 -- only `ranges` changed
@@ -49,6 +55,8 @@ holds_ranges t old new new_ranges kept holds are_ranges = record {
   pieces = subst (ArePieces t.pieces) (sym (kept.1.1.1.1.1.0 refl)) holds.pieces;
   entries = subst (AreEntries t.entries) (sym (kept.1.1.1.1.1.1.0 refl)) holds.entries;
   success_waits = subst (AreWaits t.success_waits) (sym (kept.1.1.1.1.1.1.1.0 refl)) holds.success_waits;
+  links = subst (AreLinks t.links) (sym (kept.1.1.1.1.1.1.1.1.0 refl)) holds.links;
+  taken = subst (AreTaken t.taken) (sym (kept.1.1.1.1.1.1.1.1.1.0 refl)) holds.taken;
 }
 
 -- only `jobs` changed
@@ -62,6 +70,8 @@ holds_jobs t old new new_jobs kept holds are_jobs = record {
   pieces = subst (ArePieces t.pieces) (sym (kept.1.1.1.1.1.0 refl)) holds.pieces;
   entries = subst (AreEntries t.entries) (sym (kept.1.1.1.1.1.1.0 refl)) holds.entries;
   success_waits = subst (AreWaits t.success_waits) (sym (kept.1.1.1.1.1.1.1.0 refl)) holds.success_waits;
+  links = subst (AreLinks t.links) (sym (kept.1.1.1.1.1.1.1.1.0 refl)) holds.links;
+  taken = subst (AreTaken t.taken) (sym (kept.1.1.1.1.1.1.1.1.1.0 refl)) holds.taken;
 }
 
 -- only `pieces` changed
@@ -75,6 +85,8 @@ holds_pieces t old new new_pieces kept holds are_pieces = record {
   pieces = are_pieces;
   entries = subst (AreEntries t.entries) (sym (kept.1.1.1.1.1.1.0 refl)) holds.entries;
   success_waits = subst (AreWaits t.success_waits) (sym (kept.1.1.1.1.1.1.1.0 refl)) holds.success_waits;
+  links = subst (AreLinks t.links) (sym (kept.1.1.1.1.1.1.1.1.0 refl)) holds.links;
+  taken = subst (AreTaken t.taken) (sym (kept.1.1.1.1.1.1.1.1.1.0 refl)) holds.taken;
 }
 
 -- only `entries` changed
@@ -88,6 +100,8 @@ holds_entries t old new new_entries kept holds are_entries = record {
   pieces = subst (ArePieces t.pieces) (sym (kept.1.1.1.1.1.0 refl)) holds.pieces;
   entries = are_entries;
   success_waits = subst (AreWaits t.success_waits) (sym (kept.1.1.1.1.1.1.1.0 refl)) holds.success_waits;
+  links = subst (AreLinks t.links) (sym (kept.1.1.1.1.1.1.1.1.0 refl)) holds.links;
+  taken = subst (AreTaken t.taken) (sym (kept.1.1.1.1.1.1.1.1.1.0 refl)) holds.taken;
 }
 
 -- only `success_waits` changed
@@ -101,11 +115,43 @@ holds_waits t old new new_waits kept holds are_waits = record {
   pieces = subst (ArePieces t.pieces) (sym (kept.1.1.1.1.1.0 refl)) holds.pieces;
   entries = subst (AreEntries t.entries) (sym (kept.1.1.1.1.1.1.0 refl)) holds.entries;
   success_waits = are_waits;
+  links = subst (AreLinks t.links) (sym (kept.1.1.1.1.1.1.1.1.0 refl)) holds.links;
+  taken = subst (AreTaken t.taken) (sym (kept.1.1.1.1.1.1.1.1.1.0 refl)) holds.taken;
 }
 
--- a system changed with its success wait, its lines and their ranges
-pub holds_after_system : (t : Tables) (old new : Trees) (new_systems : List SystemColumns) (new_lines : List LineColumns) (new_ranges : List RangeColumns) (new_waits : List WaitColumns) → Keeps (systems.tree ∷ success_waits.tree ∷ lines.tree ∷ ranges.tree ∷ []) old new → Holds old t → AreSystems new_systems (new systems.tree) → AreLines new_lines (new lines.tree) → AreRanges new_ranges (new ranges.tree) → AreWaits new_waits (new success_waits.tree) → Holds new (record t { systems = new_systems; lines = new_lines; ranges = new_ranges; success_waits = new_waits })
-holds_after_system t old new new_systems new_lines new_ranges new_waits kept holds are_systems are_lines are_ranges are_waits = record {
+-- only `links` changed
+pub holds_links : (t : Tables) (old new : Trees) (new_links : List LinkColumns) → Keeps (links.tree ∷ []) old new → Holds old t → AreLinks new_links (new links.tree) → Holds new (record t { links = new_links })
+holds_links t old new new_links kept holds are_links = record {
+  spool = kept.0 refl ∙ holds.spool;
+  systems = subst (AreSystems t.systems) (sym (kept.1.0 refl)) holds.systems;
+  lines = subst (AreLines t.lines) (sym (kept.1.1.0 refl)) holds.lines;
+  ranges = subst (AreRanges t.ranges) (sym (kept.1.1.1.0 refl)) holds.ranges;
+  jobs = subst (AreJobs t.jobs) (sym (kept.1.1.1.1.0 refl)) holds.jobs;
+  pieces = subst (ArePieces t.pieces) (sym (kept.1.1.1.1.1.0 refl)) holds.pieces;
+  entries = subst (AreEntries t.entries) (sym (kept.1.1.1.1.1.1.0 refl)) holds.entries;
+  success_waits = subst (AreWaits t.success_waits) (sym (kept.1.1.1.1.1.1.1.0 refl)) holds.success_waits;
+  links = are_links;
+  taken = subst (AreTaken t.taken) (sym (kept.1.1.1.1.1.1.1.1.1.0 refl)) holds.taken;
+}
+
+-- only `taken` changed
+pub holds_taken : (t : Tables) (old new : Trees) (new_taken : List TakenColumns) → Keeps (taken.tree ∷ []) old new → Holds old t → AreTaken new_taken (new taken.tree) → Holds new (record t { taken = new_taken })
+holds_taken t old new new_taken kept holds are_taken = record {
+  spool = kept.0 refl ∙ holds.spool;
+  systems = subst (AreSystems t.systems) (sym (kept.1.0 refl)) holds.systems;
+  lines = subst (AreLines t.lines) (sym (kept.1.1.0 refl)) holds.lines;
+  ranges = subst (AreRanges t.ranges) (sym (kept.1.1.1.0 refl)) holds.ranges;
+  jobs = subst (AreJobs t.jobs) (sym (kept.1.1.1.1.0 refl)) holds.jobs;
+  pieces = subst (ArePieces t.pieces) (sym (kept.1.1.1.1.1.0 refl)) holds.pieces;
+  entries = subst (AreEntries t.entries) (sym (kept.1.1.1.1.1.1.0 refl)) holds.entries;
+  success_waits = subst (AreWaits t.success_waits) (sym (kept.1.1.1.1.1.1.1.0 refl)) holds.success_waits;
+  links = subst (AreLinks t.links) (sym (kept.1.1.1.1.1.1.1.1.0 refl)) holds.links;
+  taken = are_taken;
+}
+
+-- a system changed with its lines and their ranges, its success wait and its link
+pub holds_after_system : (t : Tables) (old new : Trees) (new_systems : List SystemColumns) (new_lines : List LineColumns) (new_ranges : List RangeColumns) (new_waits : List WaitColumns) (new_links : List LinkColumns) (new_taken : List TakenColumns) → Keeps (systems.tree ∷ taken.tree ∷ links.tree ∷ success_waits.tree ∷ lines.tree ∷ ranges.tree ∷ []) old new → Holds old t → AreSystems new_systems (new systems.tree) → AreLines new_lines (new lines.tree) → AreRanges new_ranges (new ranges.tree) → AreWaits new_waits (new success_waits.tree) → AreLinks new_links (new links.tree) → AreTaken new_taken (new taken.tree) → Holds new (record t { systems = new_systems; lines = new_lines; ranges = new_ranges; success_waits = new_waits; links = new_links; taken = new_taken })
+holds_after_system t old new new_systems new_lines new_ranges new_waits new_links new_taken kept holds are_systems are_lines are_ranges are_waits are_links are_taken = record {
   spool = kept.0 refl ∙ holds.spool;
   systems = are_systems;
   lines = are_lines;
@@ -114,6 +160,8 @@ holds_after_system t old new new_systems new_lines new_ranges new_waits kept hol
   pieces = subst (ArePieces t.pieces) (sym (kept.1.1.1.1.1.0 refl)) holds.pieces;
   entries = subst (AreEntries t.entries) (sym (kept.1.1.1.1.1.1.0 refl)) holds.entries;
   success_waits = are_waits;
+  links = are_links;
+  taken = are_taken;
 }
 
 -- lines changed with their ranges
@@ -127,6 +175,8 @@ holds_after_lines t old new new_lines new_ranges kept holds are_lines are_ranges
   pieces = subst (ArePieces t.pieces) (sym (kept.1.1.1.1.1.0 refl)) holds.pieces;
   entries = subst (AreEntries t.entries) (sym (kept.1.1.1.1.1.1.0 refl)) holds.entries;
   success_waits = subst (AreWaits t.success_waits) (sym (kept.1.1.1.1.1.1.1.0 refl)) holds.success_waits;
+  links = subst (AreLinks t.links) (sym (kept.1.1.1.1.1.1.1.1.0 refl)) holds.links;
+  taken = subst (AreTaken t.taken) (sym (kept.1.1.1.1.1.1.1.1.1.0 refl)) holds.taken;
 }
 
 -- a job changed with its pieces
@@ -140,6 +190,8 @@ holds_after_job t old new new_jobs new_pieces kept holds are_jobs are_pieces = r
   pieces = are_pieces;
   entries = subst (AreEntries t.entries) (sym (kept.1.1.1.1.1.1.0 refl)) holds.entries;
   success_waits = subst (AreWaits t.success_waits) (sym (kept.1.1.1.1.1.1.1.0 refl)) holds.success_waits;
+  links = subst (AreLinks t.links) (sym (kept.1.1.1.1.1.1.1.1.0 refl)) holds.links;
+  taken = subst (AreTaken t.taken) (sym (kept.1.1.1.1.1.1.1.1.1.0 refl)) holds.taken;
 }
 
 -- only the next number changed
@@ -153,4 +205,6 @@ holds_next t old new next kept holds is = record {
   pieces = subst (ArePieces t.pieces) (sym (kept.1.1.1.1.1.0 refl)) holds.pieces;
   entries = subst (AreEntries t.entries) (sym (kept.1.1.1.1.1.1.0 refl)) holds.entries;
   success_waits = subst (AreWaits t.success_waits) (sym (kept.1.1.1.1.1.1.1.0 refl)) holds.success_waits;
+  links = subst (AreLinks t.links) (sym (kept.1.1.1.1.1.1.1.1.0 refl)) holds.links;
+  taken = subst (AreTaken t.taken) (sym (kept.1.1.1.1.1.1.1.1.1.0 refl)) holds.taken;
 }

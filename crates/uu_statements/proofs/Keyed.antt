@@ -3,7 +3,7 @@ use Rattle.std.proofs.Common.{◌≡◌, ◌≢◌, ◌⊎◌, inl, inr, ℕ, �
 use Rattle.std.specs.Prelude.{IsTrue}
 use Rattle.std.specs.List.{AllByRecursion}
 use Rattle.std.specs.List.Sorted.{IsPermutation}
-use Rattle.std.specs.Ordering.{is_eq}
+use Rattle.std.specs.Ordering.{is_eq, is_lt}
 use Rattle.std.proofs.lemmas.Bool.{cases_Bool}
 use Rattle.std.proofs.lemmas.Cmp.{tied_itself}
 use Rattle.std.proofs.lemmas.List.Sorted.{IsPermutation-refl, IsPermutation-sym, IsPermutation-trans, IsPermutation-cons, IsPermutation-swap, IsPermutation-middle, IsPermutation-to_front, IsPermutation-map, length_permutation}
@@ -22,7 +22,7 @@ use Rattle.uu_sql.specs.Rowids.{OnceEach}
 use Rattle.uu_sql.proofs.Rows.{put_permutes}
 use Rattle.uu_sql.proofs.Rowids.{has_moved, numbered_put, once_put, once_left}
 use Rattle.uu_core.specs.After.{is_before}
-use Rattle.uu_tables.specs.Changes.{insert_by, append, alter, without}
+use Rattle.uu_tables.specs.Changes.{insert_by, insert_at, append, alter, without}
 use Rattle.uu_schema.specs.Keyed.{columns, Keyed}
 
 -- ---- lists
@@ -53,6 +53,10 @@ parted p (x ∷ xs) = elim (cases_Bool (p x)) [
 -- one more behind those of its own name and of names before it
 pub put_by_name : {X : Type 0} (name : X → List ℕ) (x : X) (xs : List X) → IsPermutation (x ∷ xs) (insert_by name x xs)
 put_by_name name x xs = IsPermutation-trans _ _ _ (IsPermutation-cons x _ _ (IsPermutation-sym _ _ (parted (λ other. is_before name x other) xs))) (IsPermutation-sym _ _ (IsPermutation-middle (filter (λ other. not (is_before name x other)) xs) x (filter (λ other. is_before name x other) xs)))
+
+-- one more behind those of its own key and of keys before it
+pub put_in_order : {X : Type 0} (order : X → X → Ordering) (x : X) (xs : List X) → IsPermutation (x ∷ xs) (insert_at order x xs)
+put_in_order order x xs = IsPermutation-trans _ _ _ (IsPermutation-cons x _ _ (IsPermutation-sym _ _ (parted (λ other. is_lt (order x other)) xs))) (IsPermutation-sym _ _ (IsPermutation-middle (filter (λ other. not (is_lt (order x other))) xs) x (filter (λ other. is_lt (order x other)) xs)))
 
 -- one more behind all others
 pub put_last : {X : Type 0} (x : X) (xs : List X) → IsPermutation (x ∷ xs) (append x xs)

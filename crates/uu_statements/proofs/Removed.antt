@@ -1,9 +1,12 @@
 -- What each DELETE makes of the tables: its own rows go, and those that refer to them.
-use Rattle.std.proofs.Common.{◌≡◌, inl, inr, ℕ, ◌+◌, ℤ, pos, List, [], ◌∷◌, map, filter, slice_get, Bool, true, false, not, cond, Some, Ok, refl, sym, ap, subst, ◌∙◌, arith, true≢false, Ordering, Less, Equal, Greater}
-use Rattle.std.specs.Prelude.{◌||◌, IsTrue, nat_lt}
+use Rattle.std.proofs.Common.{◌≡◌, inl, inr, ℕ, ◌+◌, ℤ, pos, List, [], ◌∷◌, map, filter, slice_get, Bool, true, false, not, cond, Some, Ok, refl, sym, ap, subst, ◌∙◌, arith, append-nil, ◌++◌, nat_cmp, true≢false, Ordering, Less, Equal, Greater}
+use Rattle.std.specs.Prelude.{◌||◌, ◌&&◌, IsTrue, nat_lt, int_lt}
+use Rattle.std.specs.Cmp.{ranked, int_cmp_is}
+use Rattle.sqlite_sql.specs.declared.ops.CompareOp.TheVariants.{Eq, Lt}
+use Rattle.sqlite_typed.proofs.TestLemmas.{at_ints, at_texts, then_term, last_term}
 use Rattle.std.specs.List.{AllByRecursion, list_any, list_all}
 use Rattle.std.specs.List.Sorted.{IsPermutation}
-use Rattle.std.specs.Ordering.{is_eq}
+use Rattle.std.specs.Ordering.{is_eq, is_lt}
 use Rattle.std.proofs.lemmas.Bool.{cases_Bool, and_parts, or_cases}
 use Rattle.std.proofs.lemmas.Bool.Decides.{nat_tests}
 use Rattle.std.proofs.lemmas.Int.{ints}
@@ -37,29 +40,36 @@ use Rattle.uu_sql.specs.Steps.{Stands}
 use Rattle.uu_sql.specs.Layout.{where_is}
 use Rattle.uu_sql.proofs.Rows.{at_text, at_key}
 use Rattle.uu_sql.proofs.Rowids.{picked_gone}
+use Rattle.uu_tables.specs.declared.rows.TakenColumns.{TakenColumns}
+use Rattle.uu_schema.specs.Keyed.{columns}
 use Rattle.uu_tables.specs.Tables.{Tables}
-use Rattle.uu_tables.specs.Changes.{without, has_name, is_line_of, is_range_of, is_wait_of, has_number, is_piece_of, is_about}
-use Rattle.uu_schema.specs.Schema.{site, systems, lines, ranges, jobs, pieces, entries, success_waits, to_system, to_line, to_job}
+use Rattle.uu_tables.specs.Changes.{without, has_name, is_line_of, is_range_of, is_wait_of, is_link_of, is_taken_of, is_forgotten, has_number, is_piece_of, is_about}
+use Rattle.uu_schema.specs.Schema.{site, systems, lines, ranges, jobs, pieces, entries, success_waits, links, taken, to_system, to_line, to_job}
 use Rattle.uu_schema.specs.Made.{Keeps}
-use Rattle.uu_schema.specs.Cells.{system_cells, line_cells, range_cells, job_cells, piece_cells, entry_cells, wait_cells}
-use Rattle.uu_schema.specs.Held.{Holds, AreSystems, AreLines, AreRanges, AreJobs, ArePieces, AreEntries, AreWaits, system_key, line_key, range_key, job_key, piece_key, entry_key, wait_key, system_places, line_places, range_places, job_places, piece_places, entry_places, wait_places}
+use Rattle.uu_schema.specs.Cells.{system_cells, line_cells, range_cells, job_cells, piece_cells, entry_cells, wait_cells, link_cells, taken_cells}
+use Rattle.uu_schema.specs.Held.{Holds, AreSystems, AreLines, AreRanges, AreJobs, ArePieces, AreEntries, AreWaits, AreLinks, AreTaken, link_key, taken_key, link_places, taken_places, system_key, line_key, range_key, job_key, piece_key, entry_key, wait_key, system_places, line_places, range_places, job_places, piece_places, entry_places, wait_places}
 use Rattle.uu_schema.proofs.Keeps.{keeps_one, keeps_more, keeps_all}
-use Rattle.uu_statements.specs.Texts.{delete_system, delete_lines, delete_job, delete_entry, delete_wait}
-use Rattle.uu_statements.proofs.Texts.{delete_system_is, delete_system_plain, delete_lines_is, delete_lines_plain, delete_job_is, delete_job_plain, delete_entry_is, delete_entry_plain, delete_wait_is, delete_wait_plain}
+use Rattle.uu_statements.specs.Texts.{delete_system, delete_lines, delete_job, delete_entry, delete_wait, delete_link, delete_taken}
+use Rattle.uu_statements.proofs.Texts.{delete_system_is, delete_system_plain, delete_lines_is, delete_lines_plain, delete_job_is, delete_job_plain, delete_entry_is, delete_entry_plain, delete_wait_is, delete_wait_plain, delete_link_is, delete_link_plain, delete_taken_is, delete_taken_plain, forgotten_terms}
 use Rattle.uu_statements.proofs.Keyed.{all_cells, fewer}
 use Rattle.uu_statements.proofs.Statements.{took, Took, takes}
-use Rattle.uu_statements.proofs.Altered.{is_text, text_test, is_number, number_test}
-use Rattle.uu_statements.proofs.Holding.{holds_entries, holds_waits, holds_after_system, holds_after_lines, holds_after_job}
+use Rattle.uu_statements.proofs.Altered.{is_text, text_test, is_number, number_test, compared}
+use Rattle.uu_statements.proofs.Holding.{holds_entries, holds_waits, holds_links, holds_taken, holds_after_system, holds_after_lines, holds_after_job}
 use Rattle.uu_statements.proofs.Deeds.{one_deed, last_deed, nothing_due, removes, After, AfterLast}
 use Rattle.uu_statements.proofs.Lost.{AreApart, apart_of, Loses, loses_none, exactly, taken_as, of_taken, shown_of, children_lost}
 
 -- ---- what the keys set off
 
-abbrev due_lines : List Row → Work
-due_lines olds = record { depth = 0; child = lines; ref = to_system; places = 1 ∷ []; order = plain; deed = deed.Delete; moves = pairs olds [] }
+-- the rows of a table that refers to systems
+abbrev due_child : Table → List Row → Work
+due_child child olds = record { depth = 0; child = child; ref = to_system; places = 1 ∷ []; order = plain; deed = deed.Delete; moves = pairs olds [] }
 
-abbrev due_waits : List Row → Work
-due_waits olds = record { depth = 0; child = success_waits; ref = to_system; places = 1 ∷ []; order = plain; deed = deed.Delete; moves = pairs olds [] }
+abbrev due_lines : List Row → Work
+due_lines = due_child lines
+
+-- of the systems' other tables those of the last go first
+abbrev due_all : List Row → List Work
+due_all olds = due_lines olds ∷ due_child success_waits olds ∷ due_child links olds ∷ due_child taken olds ∷ []
 
 abbrev due_ranges : ℕ → List Row → Work
 due_ranges depth olds = record { depth = depth; child = ranges; ref = to_line; places = 1 ∷ 2 ∷ []; order = plain; deed = deed.Delete; moves = pairs olds [] }
@@ -67,7 +77,7 @@ due_ranges depth olds = record { depth = depth; child = ranges; ref = to_line; p
 abbrev due_pieces : List Row → Work
 due_pieces olds = record { depth = 0; child = pieces; ref = to_job; places = 0 ∷ []; order = plain; deed = deed.Delete; moves = pairs olds [] }
 
-of_systems : (olds : List Row) → works site Enforced 0 systems.tree olds [] ≡ cond (list_any (loses plain (1 ∷ [])) (pairs olds [])) (due_lines olds ∷ due_waits olds ∷ []) []
+of_systems : (olds : List Row) → works site Enforced 0 systems.tree olds [] ≡ cond (list_any (loses plain (1 ∷ [])) (pairs olds [])) (due_all olds) []
 unfolding same_name joined
 of_systems olds = elim (cases_Bool (list_any (loses plain (1 ∷ [])) (pairs olds []))) [ inl some ↦ rw some refl | inr none ↦ rw none refl ]
 
@@ -82,6 +92,14 @@ of_ranges depth olds = refl
 of_waits : (depth : ℕ) (olds : List Row) → works site Enforced depth success_waits.tree olds [] ≡ []
 unfolding same_name joined
 of_waits depth olds = refl
+
+of_links : (depth : ℕ) (olds : List Row) → works site Enforced depth links.tree olds [] ≡ []
+unfolding same_name joined
+of_links depth olds = refl
+
+of_taken_rows : (depth : ℕ) (olds : List Row) → works site Enforced depth taken.tree olds [] ≡ []
+unfolding same_name joined
+of_taken_rows depth olds = refl
 
 of_jobs : (olds : List Row) → works site Enforced 0 jobs.tree olds [] ≡ cond (list_any (loses plain (0 ∷ [])) (pairs olds [])) (due_pieces olds ∷ []) []
 unfolding same_name joined
@@ -237,27 +255,32 @@ line_left name db left r h = elim (or_cases _ _ (and_parts _ true h).0) [
       unpassed (is_text name 1 r) (λ named. true≢false (sym (named_by name it.0 r (agree_first 1 1 [] [] it.0 r it.2) named) ∙ left it.0 it.1))
 ]
 
--- ---- success waits go with their systems, before the lines do
+-- ---- the rows of one more table go with their systems, before those of others do
 
--- the success waits went, and the lines are still to go, where the systems lost their key
-record WaitsFall (name : List ℕ) (some : Bool) (olds : List Row) (old new : Trees) : Type 0 where
+-- its rows went, and those of the others are still to go, where the systems lost their key
+record ChildFalls (name : List ℕ) (child : Table) (below : List Work) (some : Bool) (old new : Trees) : Type 0 where
   mid : Trees
-  fall : Falls (is_text name 1) success_waits.tree old mid
-  rest : Settles site Enforced mid (cond some (due_lines olds ∷ []) []) (Ok new)
+  fall : Falls (is_text name 1) child.tree old mid
+  rest : Settles site Enforced mid (cond some below []) (Ok new)
 
-waits_fall : (name : List ℕ) (old new : Trees) (olds : List Row) → AreApart (old success_waits.tree) → ((x : Row) → Has olds x → is_text name 1 x ≡ true) → (some : Bool) → Settles site Enforced old (cond some (due_lines olds ∷ due_waits olds ∷ []) []) (Ok new) → WaitsFall name some olds old new
-waits_fall name old new olds apart named false s = record { mid = old; fall = none_falls (is_text name 1) success_waits.tree old old refl; rest = s }
-waits_fall name old new olds apart named true s = let it = last_deed site Enforced old new (due_lines olds ∷ []) (due_waits olds) refl s in after it.0 it.1 it.2
+child_falls : (name : List ℕ) (child : Table) (below : List Work) (old new : Trees) (olds : List Row) → AreApart (old child.tree) → ((x : Row) → Has olds x → is_text name 1 x ≡ true) → ((taken : List Row) → works site Enforced 1 child.tree taken [] ≡ [])
+    → (some : Bool) → Settles site Enforced old (cond some (below ++ due_child child olds ∷ []) []) (Ok new) → ChildFalls name child below some old new
+child_falls name child below old new olds apart named none false s = record { mid = old; fall = none_falls (is_text name 1) child.tree old old refl; rest = s }
+child_falls name child below old new olds apart named none true s = let it = last_deed site Enforced old new below (due_child child olds) refl s in after it.0 it.1 it.2
   where
-    after : (ids : List ℤ) → AreChildren old (due_waits olds) ids → AfterLast site Enforced old new (due_lines olds ∷ []) (due_waits olds) ids → WaitsFall name true olds old new
-    after ids children (inl none) = record { mid = old; fall = none_falls (is_text name 1) success_waits.tree old old refl; rest = none.1 }
+    after : (ids : List ℤ) → AreChildren old (due_child child olds) ids → AfterLast site Enforced old new below (due_child child olds) ids → ChildFalls name child below true old new
+    after ids children (inl gone) = record { mid = old; fall = none_falls (is_text name 1) child.tree old old refl; rest = gone.1 }
     after ids children (inr some) =
-        let edit = removes site Enforced (due_waits olds) ids in
+        let edit = removes site Enforced (due_child child olds) ids in
         record {
           mid = some.0;
-          fall = record { lost = subst (Loses (is_text name 1) (old success_waits.tree)) (sym some.1.rows) (children_lost old (due_waits olds) ids (is_text name 1) apart children (line_named name olds named)); others = keeps_one edit old some.0 some.1 };
-          rest = subst (λ more. Settles site Enforced some.0 (due_lines olds ∷ more) (Ok new)) (of_waits 1 (taken_by old edit)) some.2;
+          fall = record { lost = subst (Loses (is_text name 1) (old child.tree)) (sym some.1.rows) (children_lost old (due_child child olds) ids (is_text name 1) apart children (line_named name olds named)); others = keeps_one edit old some.0 some.1 };
+          rest = subst (λ stack. Settles site Enforced some.0 stack (Ok new)) (ap (λ more. below ++ more) (none (taken_by old edit)) ∙ append-nil below) some.2;
         }
+
+-- what a step lost is what is lost where the steps before and behind it left those rows
+lost_between : (q : Row → Bool) (first before after last : List Row) → before ≡ first → last ≡ after → Loses q before after → Loses q first last
+lost_between q first before after last p r h = subst (λ rows. Loses q first rows) (sym r) (subst (λ rows. Loses q rows after) p h)
 
 record LinesFall (name : List ℕ) (old new : Trees) : Type 0 where
   others : Keeps (lines.tree ∷ ranges.tree ∷ []) old new
@@ -363,6 +386,12 @@ module _ (name : List ℕ) (t : Tables) (old new : Trees) (held : Holds old t) w
   waits_left : new success_waits.tree ≡ filter (λ r. not (is_text name 1 r)) (old success_waits.tree) → AreWaits (without (is_wait_of name) t.success_waits) (new success_waits.tree)
   waits_left is = subst (AreWaits _) (sym is) (fewer wait_key wait_cells wait_places (is_wait_of name) (is_text name 1) (is_text name 0) (λ x. text_test name x.system) (λ r. refl) t.success_waits (old success_waits.tree) held.success_waits)
 
+  links_left : new links.tree ≡ filter (λ r. not (is_text name 1 r)) (old links.tree) → AreLinks (without (is_link_of name) t.links) (new links.tree)
+  links_left is = subst (AreLinks _) (sym is) (fewer link_key link_cells link_places (is_link_of name) (is_text name 1) (is_text name 0) (λ x. text_test name x.system) (λ r. refl) t.links (old links.tree) held.links)
+
+  taken_left : new taken.tree ≡ filter (λ r. not (is_text name 1 r)) (old taken.tree) → AreTaken (without (is_taken_of name) t.taken) (new taken.tree)
+  taken_left is = subst (AreTaken _) (sym is) (fewer taken_key taken_cells taken_places (is_taken_of name) (is_text name 1) (is_text name 0) (λ x. text_test name x.system) (λ r. refl) t.taken (old taken.tree) held.taken)
+
   -- each range has a place
   range_placed : AllByRecursion (λ r. is_null (column r 2) ≡ false) (old ranges.tree)
   range_placed = all_cells range_key range_cells range_places (λ cs. is_null (column cs 1) ≡ false) (λ x. refl) t.ranges (old ranges.tree) held.ranges
@@ -400,6 +429,67 @@ wait_gone old new name count stands h =
           subst (λ trees. Holds trees (record t { success_waits = without (is_wait_of name) t.success_waits })) (sym same) (holds_waits t db out.mid _ out.kept held (waits_left name t db out.mid held out.rows)),
     )
 
+pub link_gone : (old new : State) (name : List ℕ) (count : ℕ) → Stands site old.now → Executes delete_link (Text name ∷ []) old new (Ok count)
+    → Stands site new.now × ((t : Tables) → Holds old.now.trees t → Holds new.now.trees (record t { links = without (is_link_of name) t.links }))
+link_gone old new name count stands h =
+    let db = old.now.trees in
+    let next = new.now.trees in
+    let it = took old new stands delete_link (Text name ∷ []) count 8 links refl (where_is 1 0 ∷ []) delete_link_is delete_link_plain h refl in (
+      it.now_stands,
+      λ t held.
+          let out = gone old new stands delete_link (Text name ∷ []) count 8 links refl (where_is 1 0 ∷ []) (is_text name 1) it (apart_of link_key link_cells link_places t.links (db links.tree) held.links) (filter_same _ (is_text name 1) (at_text 1 name []) (db links.tree)) in
+          let same : next ≡ out.mid = nothing_due site Enforced out.settles.0 out.mid next (subst (λ stack. Leads site Enforced out.settles.0 out.mid stack (Ok next)) (of_links 0 out.olds) out.settles.1) in
+          subst (λ trees. Holds trees (record t { links = without (is_link_of name) t.links })) (sym same) (holds_links t db out.mid _ out.kept held (links_left name t db out.mid held out.rows)),
+    )
+
+-- ---- what was taken under numbers below one
+
+-- the row is of the name, and its number below this one
+abbrev is_below : List ℕ → ℕ → ℕ → Row → Bool
+is_below name below at r = is_text name at r && is_lt (value_cmp (column r (at + 1)) (Int (pos below)))
+
+below_test : (n m : ℕ) → is_lt (value_cmp (Int (pos m)) (Int (pos n))) ≡ nat_lt m n
+below_test n m = ap is_lt (value_cmp-Int (pos m) (pos n) ∙ sym (int_cmp_is (pos m) (pos n) (nat_cmp m n) (compared m n (nat_cmp m n) (ranked m n (nat_cmp m n) refl)))) ∙ numbers m n
+  where
+    numbers : (m n : ℕ) → is_lt (nat_cmp m n) ≡ nat_lt m n
+    numbers m n = grind (arith, nat_tests)
+
+lt_nat : (a b : ℕ) → int_lt (pos a) (pos b) ≡ nat_lt a b
+lt_nat a b = grind (arith, ints, nat_tests)
+
+forgotten_test : (name : List ℕ) (below : ℕ) (x : TakenColumns) → is_below name below 0 (taken_cells x) ≡ is_forgotten name below x
+forgotten_test name below x = λ i. text_test name x.system i && below_test below x.taken.number i
+
+-- the row shows a row of the list
+abbrev ShowsTaken : Row → Type 0
+ShowsTaken cs = (x : TakenColumns) × (cs ≡ taken_cells x)
+
+-- the terms of the statement pass those rows
+below_passes : (name : List ℕ) (below : ℕ) (r : Row) → ShowsTaken (columns taken_places r) → list_all (holds ((Text name ∷ Int (pos below) ∷ []) ∷ r ∷ [])) forgotten_terms ≡ is_below name below 1 r
+below_passes name below r it =
+    let x = it.0 in
+    let system : column r 1 ≡ Text x.system = ap (λ cs. column cs 0) it.1 in
+    let number : column r 2 ≡ Int (pos x.taken.number) = ap (λ cs. column cs 1) it.1 in
+    let own : is_below name below 1 r ≡ is_forgotten name below x = rw (system, number) (forgotten_test name below x) in
+    rw (system, number) (then_term (at_texts false Eq x.system name ∙ is_eq-slice_cmp x.system name) (last_term (at_ints false Lt (pos x.taken.number) (pos below) ∙ lt_nat x.taken.number below))) ∙ sym own
+
+pub taken_gone : (old new : State) (name : List ℕ) (below : ℕ) (count : ℕ) → Stands site old.now → Executes delete_taken (Text name ∷ Int (pos below) ∷ []) old new (Ok count)
+    → Stands site new.now × ((t : Tables) → Holds old.now.trees t → Holds new.now.trees (record t { taken = without (is_forgotten name below) t.taken }))
+taken_gone old new name below count stands h =
+    let db = old.now.trees in
+    let next = new.now.trees in
+    let params : Row = Text name ∷ Int (pos below) ∷ [] in
+    let it = took old new stands delete_taken params count 9 taken refl forgotten_terms delete_taken_is delete_taken_plain h refl in (
+      it.now_stands,
+      λ t held.
+          let rows = all_cells taken_key taken_cells taken_places ShowsTaken (λ x. (x, refl)) t.taken (db taken.tree) held.taken in
+          let picks = filter_same_on (λ r. list_all (holds (params ∷ r ∷ [])) forgotten_terms) (is_below name below 1) (db taken.tree) (all_weaker (λ r. ShowsTaken (columns taken_places r)) (λ r. list_all (holds (params ∷ r ∷ [])) forgotten_terms ≡ is_below name below 1 r) (below_passes name below) (db taken.tree) rows) in
+          let out = gone old new stands delete_taken params count 9 taken refl forgotten_terms (is_below name below 1) it (apart_of taken_key taken_cells taken_places t.taken (db taken.tree) held.taken) picks in
+          let same : next ≡ out.mid = nothing_due site Enforced out.settles.0 out.mid next (subst (λ stack. Leads site Enforced out.settles.0 out.mid stack (Ok next)) (of_taken_rows 0 out.olds) out.settles.1) in
+          let left : AreTaken (without (is_forgotten name below) t.taken) (out.mid taken.tree) = subst (AreTaken _) (sym out.rows) (fewer taken_key taken_cells taken_places (is_forgotten name below) (is_below name below 1) (is_below name below 0) (forgotten_test name below) (λ r. refl) t.taken (db taken.tree) held.taken) in
+          subst (λ trees. Holds trees (record t { taken = without (is_forgotten name below) t.taken })) (sym same) (holds_taken t db out.mid _ out.kept held left),
+    )
+
 pub lines_gone : (old new : State) (name : List ℕ) (count : ℕ) → Stands site old.now → Executes delete_lines (Text name ∷ []) old new (Ok count)
     → Stands site new.now × ((t : Tables) → Holds old.now.trees t → Holds new.now.trees (record t { lines = without (is_line_of name) t.lines; ranges = without (is_range_of name) t.ranges }))
 lines_gone old new name count stands h =
@@ -418,35 +508,44 @@ lines_gone old new name count stands h =
 
 pub system_gone : (old new : State) (name : List ℕ) (count : ℕ) → Stands site old.now → Executes delete_system (Text name ∷ []) old new (Ok count)
     → Stands site new.now × ((t : Tables) → Holds old.now.trees t
-    → Holds new.now.trees (record t { systems = without (has_name name) t.systems; lines = without (is_line_of name) t.lines; ranges = without (is_range_of name) t.ranges; success_waits = without (is_wait_of name) t.success_waits }))
+    → Holds new.now.trees (record t { systems = without (has_name name) t.systems; lines = without (is_line_of name) t.lines; ranges = without (is_range_of name) t.ranges; success_waits = without (is_wait_of name) t.success_waits; links = without (is_link_of name) t.links; taken = without (is_taken_of name) t.taken }))
 system_gone old new name count stands h =
     let db = old.now.trees in
     let next = new.now.trees in
+    let q = is_text name 1 in
     let it = took old new stands delete_system (Text name ∷ []) count 1 systems refl (where_is 1 0 ∷ []) delete_system_is delete_system_plain h refl in (
       it.now_stands,
       λ t held.
-          let out = gone old new stands delete_system (Text name ∷ []) count 1 systems refl (where_is 1 0 ∷ []) (is_text name 1) it (apart_of system_key system_cells system_places t.systems (db systems.tree) held.systems) (filter_same _ (is_text name 1) (at_text 1 name []) (db systems.tree)) in
-          let lines_same : out.mid lines.tree ≡ db lines.tree = out.kept.1.1.0 refl in
-          let ranges_same : out.mid ranges.tree ≡ db ranges.tree = out.kept.1.1.1.0 refl in
-          let waits_same : out.mid success_waits.tree ≡ db success_waits.tree = out.kept.1.1.1.1.1.1.1.0 refl in
+          let out = gone old new stands delete_system (Text name ∷ []) count 1 systems refl (where_is 1 0 ∷ []) q it (apart_of system_key system_cells system_places t.systems (db systems.tree) held.systems) (filter_same _ q (at_text 1 name []) (db systems.tree)) in
           let named = λ (x : Row) (there : Has out.olds x). (out.each x there).1 in
           let some = list_any (loses plain (1 ∷ [])) (pairs out.olds []) in
-          let first = waits_fall name out.mid next out.olds (subst AreApart (sym waits_same) (apart_of wait_key wait_cells wait_places t.success_waits (db success_waits.tree) held.success_waits)) named some
+          let taken_same : out.mid taken.tree ≡ db taken.tree = out.kept.1.1.1.1.1.1.1.1.1.0 refl in
+          let first = child_falls name taken (due_lines out.olds ∷ due_child success_waits out.olds ∷ due_child links out.olds ∷ []) out.mid next out.olds (subst AreApart (sym taken_same) (apart_of taken_key taken_cells taken_places t.taken (db taken.tree) held.taken)) named (of_taken_rows 1) some
           (subst (λ stack. Settles site Enforced out.mid stack (Ok next)) (of_systems out.olds) out.settles) in
-          let kept = first.fall.others in
-          let lines_still : first.mid lines.tree ≡ db lines.tree = kept.1.1.0 refl ∙ lines_same in
-          let ranges_still : first.mid ranges.tree ≡ db ranges.tree = kept.1.1.1.0 refl ∙ ranges_same in
-          let fall = lines_fall name first.mid next out.olds (subst AreApart (sym lines_still) (apart_of line_key line_cells line_places t.lines (db lines.tree) held.lines)) (subst AreApart (sym ranges_still) (apart_of range_key range_cells range_places t.ranges (db ranges.tree) held.ranges)) named some first.rest in
-          let waits_are : next success_waits.tree ≡ first.mid success_waits.tree = fall.others.1.1.1.1.1.1.1.0 refl in
-          let lost_waits : Loses (is_text name 1) (db success_waits.tree) (next success_waits.tree) = subst (Loses (is_text name 1) (db success_waits.tree)) (sym waits_are) (subst (λ rows. Loses (is_text name 1) rows (first.mid success_waits.tree)) waits_same first.fall.lost) in
-          let own : next systems.tree ≡ filter (λ r. not (is_text name 1 r)) (db systems.tree) = fall.others.1.0 refl ∙ kept.1.0 refl ∙ out.rows in
-          let lost : Loses (is_text name 1) (db lines.tree) (next lines.tree) = subst (λ rows. Loses (is_text name 1) rows (next lines.tree)) lines_still fall.lines in
-          let no_system = none_left (is_text name 1) (db systems.tree) (next systems.tree) own in
-          let children : next lines.tree ≡ filter (λ r. not (is_text name 1 r)) (db lines.tree) = exactly (is_text name 1) (db lines.tree) (next lines.tree) lost (λ x there. line_left name next no_system x (all_has _ (next lines.tree) x it.refers.1.1.0 there)) in
-          let grandchildren = all_ranges name t db next held it.refers (subst (λ rows. Loses (is_text name 1) rows (next ranges.tree)) ranges_still fall.ranges) (none_left (is_text name 1) (db lines.tree) (next lines.tree) children) in
-          let waits : next success_waits.tree ≡ filter (λ r. not (is_text name 1 r)) (db success_waits.tree) = exactly (is_text name 1) (db success_waits.tree) (next success_waits.tree) lost_waits (λ x there. line_left name next no_system x (all_has _ (next success_waits.tree) x it.refers.1.1.1.1.1.1.1.0 there)) in
-          holds_after_system t db next _ _ _ _ (keeps_more systems.tree (success_waits.tree ∷ lines.tree ∷ ranges.tree ∷ []) db out.mid next out.kept (keeps_more success_waits.tree (lines.tree ∷ ranges.tree ∷ []) out.mid first.mid next kept fall.others)) held
-          (systems_left name t db next held own) (lines_left name t db next held children) (ranges_left name t db next held grandchildren) (waits_left name t db next held waits),
+          let links_same : first.mid links.tree ≡ db links.tree = first.fall.others.1.1.1.1.1.1.1.1.0 refl ∙ out.kept.1.1.1.1.1.1.1.1.0 refl in
+          let second = child_falls name links (due_lines out.olds ∷ due_child success_waits out.olds ∷ []) first.mid next out.olds (subst AreApart (sym links_same) (apart_of link_key link_cells link_places t.links (db links.tree) held.links)) named (of_links 1) some first.rest in
+          let waits_same : second.mid success_waits.tree ≡ db success_waits.tree = second.fall.others.1.1.1.1.1.1.1.0 refl ∙ first.fall.others.1.1.1.1.1.1.1.0 refl ∙ out.kept.1.1.1.1.1.1.1.0 refl in
+          let third = child_falls name success_waits (due_lines out.olds ∷ []) second.mid next out.olds (subst AreApart (sym waits_same) (apart_of wait_key wait_cells wait_places t.success_waits (db success_waits.tree) held.success_waits)) named (of_waits 1) some second.rest in
+          let lines_same : third.mid lines.tree ≡ db lines.tree = third.fall.others.1.1.0 refl ∙ second.fall.others.1.1.0 refl ∙ first.fall.others.1.1.0 refl ∙ out.kept.1.1.0 refl in
+          let ranges_same : third.mid ranges.tree ≡ db ranges.tree = third.fall.others.1.1.1.0 refl ∙ second.fall.others.1.1.1.0 refl ∙ first.fall.others.1.1.1.0 refl ∙ out.kept.1.1.1.0 refl in
+          let fall = lines_fall name third.mid next out.olds (subst AreApart (sym lines_same) (apart_of line_key line_cells line_places t.lines (db lines.tree) held.lines)) (subst AreApart (sym ranges_same) (apart_of range_key range_cells range_places t.ranges (db ranges.tree) held.ranges)) named some third.rest in
+          let own : next systems.tree ≡ filter (λ r. not (q r)) (db systems.tree) = fall.others.1.0 refl ∙ third.fall.others.1.0 refl ∙ second.fall.others.1.0 refl ∙ first.fall.others.1.0 refl ∙ out.rows in
+          let no_system = none_left q (db systems.tree) (next systems.tree) own in
+          let lost_taken = lost_between q (db taken.tree) (out.mid taken.tree) (first.mid taken.tree) (next taken.tree) taken_same (fall.others.1.1.1.1.1.1.1.1.1.0 refl ∙ third.fall.others.1.1.1.1.1.1.1.1.1.0 refl ∙ second.fall.others.1.1.1.1.1.1.1.1.1.0 refl) first.fall.lost in
+          let lost_links = lost_between q (db links.tree) (first.mid links.tree) (second.mid links.tree) (next links.tree) links_same (fall.others.1.1.1.1.1.1.1.1.0 refl ∙ third.fall.others.1.1.1.1.1.1.1.1.0 refl) second.fall.lost in
+          let lost_waits = lost_between q (db success_waits.tree) (second.mid success_waits.tree) (third.mid success_waits.tree) (next success_waits.tree) waits_same (fall.others.1.1.1.1.1.1.1.0 refl) third.fall.lost in
+          let lost_lines = lost_between q (db lines.tree) (third.mid lines.tree) (next lines.tree) (next lines.tree) lines_same refl fall.lines in
+          let all_taken : next taken.tree ≡ filter (λ r. not (q r)) (db taken.tree) = exactly q (db taken.tree) (next taken.tree) lost_taken (λ x there. line_left name next no_system x (all_has _ (next taken.tree) x it.refers.1.1.1.1.1.1.1.1.1.0 there)) in
+          let all_links : next links.tree ≡ filter (λ r. not (q r)) (db links.tree) = exactly q (db links.tree) (next links.tree) lost_links (λ x there. line_left name next no_system x (all_has _ (next links.tree) x it.refers.1.1.1.1.1.1.1.1.0 there)) in
+          let waits : next success_waits.tree ≡ filter (λ r. not (q r)) (db success_waits.tree) = exactly q (db success_waits.tree) (next success_waits.tree) lost_waits (λ x there. line_left name next no_system x (all_has _ (next success_waits.tree) x it.refers.1.1.1.1.1.1.1.0 there)) in
+          let children : next lines.tree ≡ filter (λ r. not (q r)) (db lines.tree) = exactly q (db lines.tree) (next lines.tree) lost_lines (λ x there. line_left name next no_system x (all_has _ (next lines.tree) x it.refers.1.1.0 there)) in
+          let grandchildren = all_ranges name t db next held it.refers (subst (λ rows. Loses q rows (next ranges.tree)) ranges_same fall.ranges) (none_left q (db lines.tree) (next lines.tree) children) in
+          let kept = keeps_more systems.tree (taken.tree ∷ links.tree ∷ success_waits.tree ∷ lines.tree ∷ ranges.tree ∷ []) db out.mid next out.kept
+          (keeps_more taken.tree (links.tree ∷ success_waits.tree ∷ lines.tree ∷ ranges.tree ∷ []) out.mid first.mid next first.fall.others
+          (keeps_more links.tree (success_waits.tree ∷ lines.tree ∷ ranges.tree ∷ []) first.mid second.mid next second.fall.others
+          (keeps_more success_waits.tree (lines.tree ∷ ranges.tree ∷ []) second.mid third.mid next third.fall.others fall.others))) in
+          holds_after_system t db next _ _ _ _ _ _ kept held
+          (systems_left name t db next held own) (lines_left name t db next held children) (ranges_left name t db next held grandchildren) (waits_left name t db next held waits) (links_left name t db next held all_links) (taken_left name t db next held all_taken),
     )
 
 pub job_gone : (old new : State) (number count : ℕ) → Stands site old.now → Executes delete_job (Int (pos number) ∷ []) old new (Ok count)

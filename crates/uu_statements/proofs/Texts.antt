@@ -1,7 +1,10 @@
 -- What each text means under the schema.
 use Rattle.std.proofs.Common.{◌≡◌, ◌∷◌, [], refl, List, pos}
 use Rattle.sqlite.specs.declared.types.Value.TheVariants.{Null, Int}
-use Rattle.sqlite.specs.Term.{Term, lit, col}
+use Rattle.sqlite.specs.Collation.TheVariants.{Binary}
+use Rattle.sqlite_sql.specs.declared.ops.BinaryOp.TheVariants.{Compare}
+use Rattle.sqlite_sql.specs.declared.ops.CompareOp.TheVariants.{Lt}
+use Rattle.sqlite.specs.Term.{Term, lit, col, op2}
 use Rattle.sqlite.specs.Source.TheVariants.{Values}
 use Rattle.sqlite.specs.Command.TheVariants.{Insert, Update, Delete}
 use Rattle.sqlite_tied.specs.Compute.{everything}
@@ -9,7 +12,7 @@ use Rattle.sqlite.specs.Listing.{understood}
 use Rattle.sqlite.proofs.Callers.{IsPlain, command_of}
 use Rattle.uu_sql.specs.Layout.{over, where_is}
 use Rattle.uu_schema.specs.Schema.{site}
-use Rattle.uu_statements.specs.Texts.{insert_system, set_retries, set_calls, delete_system, insert_line, delete_lines, insert_range, insert_job, set_rank, set_second, delete_job, insert_piece, insert_entry, delete_entry, insert_wait, delete_wait, set_number}
+use Rattle.uu_statements.specs.Texts.{insert_system, set_retries, set_calls, delete_system, insert_line, delete_lines, insert_range, insert_job, set_rank, set_second, delete_job, insert_piece, insert_entry, delete_entry, insert_wait, delete_wait, insert_link, delete_link, insert_taken, delete_taken, set_number}
 
 abbrev pub insert_system_terms : List Term
 insert_system_terms = lit Null ∷ col 0 0 ∷ col 0 1 ∷ lit (Int (pos 0)) ∷ lit (Int (pos 0)) ∷ lit (Int (pos 0)) ∷ lit (Int (pos 0)) ∷ lit Null ∷ []
@@ -171,6 +174,48 @@ delete_wait_is = refl
 pub delete_wait_plain : IsPlain (understood site delete_wait)
 unfolding understood everything
 delete_wait_plain = (refl, refl)
+
+abbrev pub insert_link_terms : List Term
+insert_link_terms = lit Null ∷ col 0 0 ∷ col 0 1 ∷ []
+
+pub insert_link_is : command_of (understood site insert_link) ≡ Insert 8 (Values insert_link_terms 3)
+unfolding understood everything
+insert_link_is = refl
+
+pub insert_link_plain : IsPlain (understood site insert_link)
+unfolding understood everything
+insert_link_plain = (refl, refl)
+
+pub delete_link_is : command_of (understood site delete_link) ≡ Delete 8 (record { lets = []; body = over 14 (where_is 1 0 ∷ []) (col 1 0 ∷ []) })
+unfolding understood everything
+delete_link_is = refl
+
+pub delete_link_plain : IsPlain (understood site delete_link)
+unfolding understood everything
+delete_link_plain = (refl, refl)
+
+abbrev pub insert_taken_terms : List Term
+insert_taken_terms = lit Null ∷ col 0 0 ∷ col 0 1 ∷ col 0 2 ∷ col 0 3 ∷ []
+
+pub insert_taken_is : command_of (understood site insert_taken) ≡ Insert 9 (Values insert_taken_terms 5)
+unfolding understood everything
+insert_taken_is = refl
+
+pub insert_taken_plain : IsPlain (understood site insert_taken)
+unfolding understood everything
+insert_taken_plain = (refl, refl)
+
+-- of this system, with a number below this one
+abbrev pub forgotten_terms : List Term
+forgotten_terms = where_is 1 0 ∷ op2 (Compare Lt Binary) (col 1 2) (col 0 1) ∷ []
+
+pub delete_taken_is : command_of (understood site delete_taken) ≡ Delete 9 (record { lets = []; body = over 16 forgotten_terms (col 1 0 ∷ []) })
+unfolding understood everything
+delete_taken_is = refl
+
+pub delete_taken_plain : IsPlain (understood site delete_taken)
+unfolding understood everything
+delete_taken_plain = (refl, refl)
 
 abbrev pub set_number_terms : List Term
 set_number_terms = col 1 0 ∷ col 1 0 ∷ lit Null ∷ col 1 2 ∷ col 0 0 ∷ []

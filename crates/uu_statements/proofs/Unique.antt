@@ -23,7 +23,7 @@ use Rattle.sqlite_keyed.proofs.ListLemmas.{none_from_any}
 use Rattle.uu_sql.specs.Rowids.{AreNumbered}
 use Rattle.uu_sql.proofs.Rows.{not_false, put_permutes}
 use Rattle.uu_sql.proofs.Rowids.{has_moved}
-use Rattle.uu_schema.specs.Schema.{site, systems, lines, ranges, pieces, entries, success_waits}
+use Rattle.uu_schema.specs.Schema.{site, systems, lines, ranges, pieces, entries, success_waits, links, taken}
 
 turned : (o : Ordering) → is_eq o ≡ false → is_ne (ordering_reverse o) ≡ true
 turned Less h = refl
@@ -81,6 +81,12 @@ unique_entries db fits s there = not_false _ (and_parts _ true (all_has _ (db en
 
 pub unique_waits : (db : Trees) → Fits site db → (s : Row) → Has (db success_waits.tree) s → clashes plain (1 ∷ []) (db success_waits.tree) s ≡ false
 unique_waits db fits s there = not_false _ (and_parts _ true (all_has _ (db success_waits.tree) s (fits.rules Unique no_reference).1.1.1.1.1.1.1.0 there)).0
+
+pub unique_links : (db : Trees) → Fits site db → (s : Row) → Has (db links.tree) s → clashes plain (1 ∷ []) (db links.tree) s ≡ false
+unique_links db fits s there = not_false _ (and_parts _ true (all_has _ (db links.tree) s (fits.rules Unique no_reference).1.1.1.1.1.1.1.1.0 there)).0
+
+pub unique_taken : (db : Trees) → Fits site db → (s : Row) → Has (db taken.tree) s → clashes plain (1 ∷ 2 ∷ []) (db taken.tree) s ≡ false
+unique_taken db fits s there = not_false _ (and_parts _ true (all_has _ (db taken.tree) s (fits.rules Unique no_reference).1.1.1.1.1.1.1.1.1.0 there)).0
 
 -- ---- rows of one key agree
 

@@ -49,5 +49,17 @@ insert_wait = codes "INSERT INTO success_waits (system, wait) VALUES (?1, ?2)"
 abbrev pub delete_wait : List ℕ
 delete_wait = codes "DELETE FROM success_waits WHERE system = ?1"
 
+abbrev pub insert_link : List ℕ
+insert_link = codes "INSERT INTO links (system, below) VALUES (?1, ?2)"
+
+abbrev pub delete_link : List ℕ
+delete_link = codes "DELETE FROM links WHERE system = ?1"
+
+abbrev pub insert_taken : List ℕ
+insert_taken = codes "INSERT INTO taken (system, number, mark, job) VALUES (?1, ?2, ?3, ?4)"
+
+abbrev pub delete_taken : List ℕ
+delete_taken = codes "DELETE FROM taken WHERE system = ?1 AND number < ?2"
+
 abbrev pub set_number : List ℕ
 set_number = codes "UPDATE spool SET next = ?1"

@@ -11,6 +11,7 @@ ghost use Rattle.uu_statements.specs.Makes.{Makes, MakesAll};
 use crate::entries::{add_entry, remove_entry};
 use crate::jobs::{add_job, add_piece, remove_job, set_grade, set_next, set_queued};
 use crate::lines::{add_line, add_range, remove_lines};
+use crate::links::{add_link, add_taken, forget_taken, remove_link};
 use crate::systems::{
     add_success_wait, add_system, remove_success_wait, remove_system, set_call, set_max_retries,
 };
@@ -39,6 +40,10 @@ fn write<S: Alter>(
         Change::RemoveLines { system } => remove_lines(tx, system),
         Change::AddSuccessWait { system, wait } => add_success_wait(tx, system, *wait),
         Change::RemoveSuccessWait { system } => remove_success_wait(tx, system),
+        Change::AddLink { system, below } => add_link(tx, system, *below),
+        Change::RemoveLink { system } => remove_link(tx, system),
+        Change::AddTaken { system, taken } => add_taken(tx, system, taken),
+        Change::ForgetTaken { system, below } => forget_taken(tx, system, *below),
         Change::AddLine {
             system,
             place,

@@ -7,6 +7,7 @@ mod command;
 mod entries;
 mod jobs;
 mod lines;
+mod links;
 mod systems;
 mod words;
 

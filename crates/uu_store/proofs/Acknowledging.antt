@@ -86,7 +86,7 @@ follow_same first second = record {
 has_number : (number : ℕ) (job : Job) → job.number ≡ number → is_job number job ≡ true
 has_number number job is = grind (arith, nat_tests, is)
 
-new_of : (one other : NewJob) → Queue one ≡ Queue other → one ≡ other
+new_of : (one other : NewJob) → Some one ≡ Some other → one ≡ other
 new_of one other same = cc
 
 replies_length : (s : State) (commands : List Command) → length (replies_to s commands) ≡ length commands
@@ -161,6 +161,7 @@ module _
     module _
         (rise : (state : State) (commands : List Command) → state.next ≤ (state_after state commands).next)
         (used : (state : State) (job : NewJob) (number : ℕ) → (after state (Queue job)).1 ≡ Number number → (number ≡ state.next) × ((after state (Queue job)).0.next ≡ number + 1))
+        (handed : (state : State) (command : Command) (job : Job) → IsHandedIn state command job → (job.number ≡ state.next) × ((after state command).0.next ≡ job.number + 1) × ((after state command).1 ≡ Number job.number))
         (queued : (state : State) (job : NewJob) → verdict state (Queue job) ≡ None → Contains (after state (Queue job)).0.jobs (job_of state.next job))
         (stays : (state : State) (commands : List Command) (job : Job) → Contains state.jobs job → All (λ command. lets_go command job.number ≡ false) (accepted_of state commands) → IsAmong (state_after state commands).jobs job)
         (made : (state : State) (command : Command) (later : Job) → Contains (after state command).0.jobs later → IsAmong state.jobs later ⊎ IsHandedIn state command later)
@@ -171,13 +172,12 @@ module _
         number_of_run : (state : State) (commands : List Command) (job : Job) → IsOfRun state commands job → state.next ≤ job.number × (job.number < (state_after state commands).next)
         number_of_run state commands job it =
             let at = state_after state it.before in
-            let reply = ap (λ v. (after_verdict v at (Queue it.new)).1) it.accepted in
-            let next = used at it.new at.next reply in
+            let next = handed at it.command it.job it.made in
             let low = rise state it.before in
-            let high = rise (after at (Queue it.new)).0 it.behind in
-            let same : (state_after state commands).next ≡ (state_after (after at (Queue it.new)).0 it.behind).next = ap (λ (l : State). l.next) (ap (state_after state) it.run_is ∙ follow state it.before (Queue it.new ∷ it.behind)) in
-            let is : job.number ≡ at.next = it.same.number in
-            (omega (arith, low, is), omega (arith, high, is, same, next.1))
+            let high = rise (after at it.command).0 it.behind in
+            let same : (state_after state commands).next ≡ (state_after (after at it.command).0 it.behind).next = ap (λ (l : State). l.next) (ap (state_after state) it.run_is ∙ follow state it.before (it.command ∷ it.behind)) in
+            let is : job.number ≡ it.job.number = it.same.number in
+            (omega (arith, low, is, next.0), omega (arith, high, is, same, next.1))
 
         -- so no job of an earlier state has it
         below : (commands : List Command) (job : Job) → Contains (state_after s commands).jobs job → job.number < (state_after s commands).next

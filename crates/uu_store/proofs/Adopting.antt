@@ -13,14 +13,15 @@ use Rattle.uu_core.specs.declared.command.Reply.{Reply}
 use Rattle.uu_core.specs.declared.job.NewJob.{NewJob}
 use Rattle.uu_core.specs.State.{State}
 use Rattle.uu_core.specs.Run.{state_after}
-use Rattle.uu_schema.specs.declared.version.Version.TheVariants.{First, Second}
-use Rattle.uu_schema.specs.Schema.{first_site, site_of, no_schema}
+use Rattle.uu_schema.specs.declared.version.Version.{Version}
+use Rattle.uu_schema.specs.declared.version.Version.TheVariants.{First, Second, Third}
+use Rattle.uu_schema.specs.Schema.{site_of, no_schema}
 use Rattle.uu_schema.specs.declared.fault.StoreFault.{StoreFault}
 use Rattle.uu_store.specs.declared.spool.Spool.{Spool}
 use Rattle.uu_database.specs.Adoption.{IsRefused, IsSpared, StopsAs}
-use Rattle.uu_database.specs.FoundTables.{HasNone, HasFirst}
+use Rattle.uu_database.specs.FoundTables.{HasNone, HasEarlier, IsEarlier}
 use Rattle.uu_database.specs.Calls.{CreatesTables, MigratesState, StaysUnclean}
-use Rattle.uu_database.specs.Encoded.{Encodes, HoldsState, HoldsStateAs}
+use Rattle.uu_database.specs.Encoded.{Encodes, EncodesAs, HoldsState, HoldsStateAs}
 use Rattle.uu_store.specs.Kept.{Stores, KeepsOnly}
 use Rattle.uu_store.specs.Spool.{connection_of, has_failed, Shows}
 use Rattle.uu_store.specs.Runs.{Ran}
@@ -40,7 +41,7 @@ module _ {S : Type 0} (g : Ghosts S) (was now : Held S) where
   abbrev b : db.State
   b = state g now
 
-  pub adopted_as : (spool : Spool S g) → connection_of spool ≡ now → has_failed spool ≡ false → (¬ HasNone a.now.schema → (HasFirst a.now.schema → IsRefused (Ok tt)) → IsSpared a b (Ok tt)) → MigratesState a b (Ok tt) → CreatesTables a b (Ok tt) → StaysUnclean a b → Adopted was spool
+  pub adopted_as : (spool : Spool S g) → connection_of spool ≡ now → has_failed spool ≡ false → (¬ HasNone a.now.schema → (HasEarlier a.now.schema → IsRefused (Ok tt)) → IsSpared a b (Ok tt)) → ((v : Version) → IsEarlier v → MigratesState v a b (Ok tt)) → CreatesTables a b (Ok tt) → StaysUnclean a b → Adopted was spool
   adopted_as spool same usable spared migrates creates stays = record {
     shows = λ clean s rests stores. shown (clean_before spool now same clean) s rests stores;
     clean = subst (λ h. StaysUnclean a (state g h)) (sym same) stays;
@@ -50,19 +51,24 @@ module _ {S : Type 0} (g : Ghosts S) (was now : Held S) where
       shown clean s rests (inl (v, enc)) = let it = kept_as a b spared migrates clean v s rests enc in shows_again spool now s same usable it.0 it.1
       shown clean s rests (inr none) = let it = creates.ok clean rests none.0 in shows_again spool now s same usable it.0 (subst (Encodes b.now) (sym none.1) (record { stands = it.1; holds = it.2 }))
 
-  -- a stop leaves the state, also where the tables are made
-  keeps_as : (s : State) → StopsAs a b → Stores a.now s → KeepsOnly b.may_leave s
-  keeps_as s stops (inl (First, enc)) trees may = elim (stops.first enc.stands trees may) [
-    | inl same ↦ inl (First, subst (IsSound first_site) (sym same) enc.stands.sound, subst (λ t. HoldsStateAs First t s) (sym same) enc.holds)
-    | inr made ↦ inl (Second, made.0, made.1.again s enc.holds)
-  ]
-  keeps_as s stops (inl (Second, enc)) trees may = let left = stops.state s enc trees may in inl (Second, left.0, left.1)
-  keeps_as s stops (inr none) trees may = elim (stops.none none.0 trees may) [
-    | inl same ↦ inr (subst (IsSound no_schema) (sym same) none.0.sound, none.1)
-    | inr made ↦ inl (Second, made.0, subst (HoldsState trees) (sym none.1) made.1)
+  -- a stop leaves the state in the version that it was in, or in the last one
+  keeps_earlier : (v : Version) → IsEarlier v → (s : State) → StopsAs a b → EncodesAs v a.now s → KeepsOnly b.may_leave s
+  keeps_earlier v early s stops enc trees may = elim (stops.earlier v early enc.stands trees may) [
+    | inl same ↦ inl (v, subst (IsSound (site_of v)) (sym same) enc.stands.sound, subst (λ t. HoldsStateAs v t s) (sym same) enc.holds)
+    | inr made ↦ inl (Third, made.0, made.1.again s enc.holds)
   ]
 
-  pub turned_away_as : (r : Result (Unit {0}) StoreFault) → Settles a → (¬ HasNone a.now.schema → (HasFirst a.now.schema → IsRefused r) → IsSpared a b r) → MigratesState a b r → CreatesTables a b r → StaysUnclean a b → TurnedAway g was now
+  -- a stop leaves the state, also where the tables are made
+  keeps_as : (s : State) → StopsAs a b → Stores a.now s → KeepsOnly b.may_leave s
+  keeps_as s stops (inl (First, enc)) trees may = keeps_earlier First tt s stops enc trees may
+  keeps_as s stops (inl (Second, enc)) trees may = keeps_earlier Second tt s stops enc trees may
+  keeps_as s stops (inl (Third, enc)) trees may = let left = stops.state s enc trees may in inl (Third, left.0, left.1)
+  keeps_as s stops (inr none) trees may = elim (stops.none none.0 trees may) [
+    | inl same ↦ inr (subst (IsSound no_schema) (sym same) none.0.sound, none.1)
+    | inr made ↦ inl (Third, made.0, subst (HoldsState trees) (sym none.1) made.1)
+  ]
+
+  pub turned_away_as : (r : Result (Unit {0}) StoreFault) → Settles a → (¬ HasNone a.now.schema → (HasEarlier a.now.schema → IsRefused r) → IsSpared a b r) → ((v : Version) → IsEarlier v → MigratesState v a b r) → CreatesTables a b r → StaysUnclean a b → TurnedAway g was now
   turned_away_as r settles spared migrates creates stays = record { stop = λ clean s rests stores. keeps_as s (stops_as a b r settles clean rests spared migrates creates) stores; clean = stays }
 
 -- a connection at rest leaves what it stores

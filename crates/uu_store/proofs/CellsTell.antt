@@ -11,10 +11,12 @@ use Rattle.uu_tables.specs.declared.rows.LineColumns.{LineColumns}
 use Rattle.uu_tables.specs.declared.rows.RangeColumns.{RangeColumns}
 use Rattle.uu_tables.specs.declared.rows.EntryColumns.{EntryColumns}
 use Rattle.uu_tables.specs.declared.rows.WaitColumns.{WaitColumns}
+use Rattle.uu_tables.specs.declared.rows.LinkColumns.{LinkColumns}
+use Rattle.uu_tables.specs.declared.rows.TakenColumns.{TakenColumns}
 use Rattle.uu_tables.specs.Tables.{Piece}
 use Rattle.uu_check.specs.Readable.{IsJobRow}
 use Rattle.uu_check.specs.Tests.{is_kind, is_head}
-use Rattle.uu_schema.specs.Cells.{system_cells, line_cells, range_cells, job_cells, piece_cells, entry_cells, wait_cells, kind_number, first_word, second_word}
+use Rattle.uu_schema.specs.Cells.{system_cells, line_cells, range_cells, job_cells, piece_cells, entry_cells, wait_cells, link_cells, taken_cells, kind_number, first_word, second_word}
 use Rattle.uu_store.proofs.Words.{same_words}
 
 same_text : (o p : Option (List ℕ)) → or_null Text o ≡ or_null Text p → o ≡ p
@@ -76,6 +78,20 @@ same_wait a b h =
     let system : a.system ≡ b.system = cc in
     let wait : a.wait ≡ b.wait = cc in
     λ i. record { system = system i; wait = wait i }
+
+pub same_link : (a b : LinkColumns) → link_cells a ≡ link_cells b → a ≡ b
+same_link a b h =
+    let system : a.system ≡ b.system = cc in
+    let below : a.below ≡ b.below = cc in
+    λ i. record { system = system i; below = below i }
+
+pub same_taken : (a b : TakenColumns) → taken_cells a ≡ taken_cells b → a ≡ b
+same_taken a b h =
+    let system : a.system ≡ b.system = cc in
+    let number : a.taken.number ≡ b.taken.number = cc in
+    let mark : a.taken.mark ≡ b.taken.mark = cc in
+    let job : a.taken.job ≡ b.taken.job = cc in
+    λ i. record { system = system i; taken = record { number = number i; mark = mark i; job = job i } }
 
 -- ---- jobs
 

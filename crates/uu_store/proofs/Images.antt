@@ -1,5 +1,5 @@
 -- What is found in the two files, and what an opening that failed leaves of them.
-use Rattle.std.proofs.Common.{◌≡◌, ◌⊎◌, ◌≤◌, ◌<◌, ◌+◌, ◌*◌, ◌%◌, Some, inl, inr, ℕ, List, [], ◌∷◌, true, false, length, take, slice_index, refl, sym, ap, subst, ◌∙◌, arith, get_or-take, ap₂, cond, Bool}
+use Rattle.std.proofs.Common.{◌≡◌, ◌⊎◌, ◌≤◌, ◌<◌, ◌+◌, ◌*◌, ◌%◌, Some, inl, inr, ℕ, List, [], true, false, length, take, slice_index, refl, sym, ap, subst, ◌∙◌, arith, get_or-take, ap₂}
 use Rattle.std.specs.Prelude.{unwrap_or, IsTrue}
 use Rattle.std.proofs.lemmas.List.{length-take}
 use Rattle.std.proofs.lemmas.Bool.{cases_eq, eq-eqb, ne_eqb}

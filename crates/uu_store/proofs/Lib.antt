@@ -2,6 +2,7 @@ pub mod Ending
 pub mod Words
 pub mod CellsTell
 pub mod OneState
+pub mod NoLinks
 pub mod NoWaits
 pub mod Adopting
 pub mod Running

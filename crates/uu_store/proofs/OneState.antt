@@ -20,17 +20,19 @@ use Rattle.uu_tables.specs.declared.rows.LineColumns.{LineColumns}
 use Rattle.uu_tables.specs.declared.rows.RangeColumns.{RangeColumns}
 use Rattle.uu_tables.specs.declared.rows.EntryColumns.{EntryColumns}
 use Rattle.uu_tables.specs.declared.rows.WaitColumns.{WaitColumns}
+use Rattle.uu_tables.specs.declared.rows.LinkColumns.{LinkColumns}
+use Rattle.uu_tables.specs.declared.rows.TakenColumns.{TakenColumns}
 use Rattle.uu_tables.specs.Tables.{Tables, Piece, tables_of}
-use Rattle.uu_tables.specs.Order.{line_cmp, range_cmp, piece_cmp}
+use Rattle.uu_tables.specs.Order.{line_cmp, range_cmp, piece_cmp, taken_cmp}
 use Rattle.uu_check.specs.Order.{AreInOrder}
 use Rattle.uu_check.specs.Readable.{IsJobRow, AreReadable}
 use Rattle.uu_schema.specs.declared.version.Version.{Version}
-use Rattle.uu_schema.specs.declared.version.Version.TheVariants.{First, Second}
+use Rattle.uu_schema.specs.declared.version.Version.TheVariants.{First, Second, Third}
 use Rattle.uu_schema.specs.Made.{spool_row_of}
-use Rattle.uu_schema.specs.Held.{HoldsAs, AreWaitsOf}
-use Rattle.uu_schema.specs.Cells.{system_cells, line_cells, range_cells, job_cells, piece_cells, entry_cells, wait_cells}
+use Rattle.uu_schema.specs.Held.{HoldsAs, AreWaitsOf, AreLinksOf, AreTakenOf}
+use Rattle.uu_schema.specs.Cells.{system_cells, line_cells, range_cells, job_cells, piece_cells, entry_cells, wait_cells, link_cells, taken_cells}
 use Rattle.uu_database.specs.Encoded.{HoldsStateAs}
-use Rattle.uu_store.proofs.CellsTell.{same_system, same_line, same_range, same_job, same_piece, same_entry, same_wait}
+use Rattle.uu_store.proofs.CellsTell.{same_system, same_line, same_range, same_job, same_piece, same_entry, same_wait, same_link, same_taken}
 
 -- ---- lists in one strict order with the same members
 
@@ -95,6 +97,9 @@ lines_total = then_total (on_total (λ (l : LineColumns). l.system) nat_list_cmp
 ranges_total : IsTotalOrder range_cmp
 ranges_total = then_total (on_total (λ (r : RangeColumns). r.system) nat_list_cmp_total) (then_total (on_total (λ (r : RangeColumns). r.place) nat_cmp_total) (on_total (λ (r : RangeColumns). r.low) nat_cmp_total))
 
+taken_total : IsTotalOrder taken_cmp
+taken_total = then_total (on_total (λ (t : TakenColumns). t.system) nat_list_cmp_total) (on_total (λ (t : TakenColumns). t.taken.number) nat_cmp_total)
+
 pieces_total : IsTotalOrder piece_cmp
 pieces_total = then_total (on_total (λ (p : Piece). p.job) nat_cmp_total) (on_total (λ (p : Piece). p.place) nat_cmp_total)
 
@@ -104,8 +109,13 @@ pieces_total = then_total (on_total (λ (p : Piece). p.job) nat_cmp_total) (on_t
 same_version : (v w : Version) (n m : ℕ) → ◌≡◌ {A = List Row} (spool_row_of v n ∷ []) (spool_row_of w m ∷ []) → v ≡ w
 same_version First First n m h = refl
 same_version First Second n m h = absurd (let e : ◌≡◌ {A = ℕ} 1 2 = cc in omega (arith, e))
+same_version First Third n m h = absurd (let e : ◌≡◌ {A = ℕ} 1 3 = cc in omega (arith, e))
 same_version Second First n m h = absurd (let e : ◌≡◌ {A = ℕ} 2 1 = cc in omega (arith, e))
 same_version Second Second n m h = refl
+same_version Second Third n m h = absurd (let e : ◌≡◌ {A = ℕ} 2 3 = cc in omega (arith, e))
+same_version Third First n m h = absurd (let e : ◌≡◌ {A = ℕ} 3 1 = cc in omega (arith, e))
+same_version Third Second n m h = absurd (let e : ◌≡◌ {A = ℕ} 3 2 = cc in omega (arith, e))
+same_version Third Third n m h = refl
 
 module _ (v : Version) (trees : Trees) (t u : Tables) (order : AreInOrder t) (other_order : AreInOrder u) (readable : AreReadable t) (other_readable : AreReadable u) (holds : HoldsAs v trees t) (other_holds : HoldsAs v trees u) where
   next_is : t.next ≡ u.next
@@ -144,12 +154,26 @@ module _ (v : Version) (trees : Trees) (t u : Tables) (order : AreInOrder t) (ot
   waits_of First h k = h ∙ sym k
   waits_of Second h k = same_rows (λ (a b : WaitColumns). ComesBefore a.system b.system) (λ a b. never_both nat_list_cmp_total a.system b.system) wait_cells (λ _. Unit {0}) (λ a b g f. same_wait a b) t.success_waits u.success_waits _
       order.success_waits other_order.success_waits (each_fine t.success_waits) (each_fine u.success_waits) h.same k.same
+  waits_of Third h k = same_rows (λ (a b : WaitColumns). ComesBefore a.system b.system) (λ a b. never_both nat_list_cmp_total a.system b.system) wait_cells (λ _. Unit {0}) (λ a b g f. same_wait a b) t.success_waits u.success_waits _
+      order.success_waits other_order.success_waits (each_fine t.success_waits) (each_fine u.success_waits) h.same k.same
 
   waits_are : t.success_waits ≡ u.success_waits
   waits_are = waits_of v holds.success_waits other_holds.success_waits
 
+  links_of : (v : Version) → AreLinksOf v t.links trees → AreLinksOf v u.links trees → t.links ≡ u.links
+  links_of First h k = h ∙ sym k
+  links_of Second h k = h ∙ sym k
+  links_of Third h k = same_rows (λ (a b : LinkColumns). ComesBefore a.system b.system) (λ a b. never_both nat_list_cmp_total a.system b.system) link_cells (λ _. Unit {0}) (λ a b g f. same_link a b) t.links u.links _
+      order.links other_order.links (each_fine t.links) (each_fine u.links) h.same k.same
+
+  taken_of : (v : Version) → AreTakenOf v t.taken trees → AreTakenOf v u.taken trees → t.taken ≡ u.taken
+  taken_of First h k = h ∙ sym k
+  taken_of Second h k = h ∙ sym k
+  taken_of Third h k = same_rows (λ a b. taken_cmp a b ≡ Less) (never_both taken_total) taken_cells (λ _. Unit {0}) (λ a b g f. same_taken a b) t.taken u.taken _
+      order.taken other_order.taken (each_fine t.taken) (each_fine u.taken) h.same k.same
+
   same_tables : t ≡ u
-  same_tables = λ i. record { next = next_is i; systems = systems_are i; lines = lines_are i; ranges = ranges_are i; jobs = jobs_are i; pieces = pieces_are i; entries = entries_are i; success_waits = waits_are i }
+  same_tables = λ i. record { next = next_is i; systems = systems_are i; lines = lines_are i; ranges = ranges_are i; jobs = jobs_are i; pieces = pieces_are i; entries = entries_are i; success_waits = waits_are i; links = links_of v holds.links other_holds.links i; taken = taken_of v holds.taken other_holds.taken i }
 
 -- ---- states, by what the laws of the tables say
 

@@ -1,9 +1,8 @@
 -- Why no database was opened in the files of a spool.
-use Rattle.std.proofs.Common.{◌≡◌, ◌≢◌, ◌⊎◌, ◌<◌, inl, inr, ◌+◌, Bool, true, false, cond, refl, sym, ap, ap₂, subst, ◌∙◌, arith, nat_eq, List, ℕ}
-use Rattle.sqlite.specs.Files.{FailsToOpenFiles, HoldsDatabase, IsNothing, IsFullLeft, faults_of, faults_left, image_of, tally_left}
+use Rattle.std.proofs.Common.{◌≡◌, ◌≢◌, ◌⊎◌, ◌<◌, inl, inr, Bool, true, false, cond, refl, sym, ap, ap₂, subst, ◌∙◌, arith, nat_eq, List, ℕ}
+use Rattle.sqlite.specs.Files.{FailsToOpenFiles, IsFullLeft, faults_of, faults_left, image_of, tally_left}
 use Rattle.sqlite.specs.Opening.{FailsAs}
 use Rattle.sqlite.specs.State.{store_error}
-use Rattle.sqlite.specs.Tree.{Trees}
 use Rattle.sqlite.specs.declared.error.Error.{Error}
 use Rattle.sqlite.specs.declared.error.Error.TheVariants.{SqliteFailure}
 use Rattle.sqlite.specs.declared.error.ErrorCode.TheVariants.{OutOfMemory}
@@ -12,7 +11,6 @@ use Rattle.sqlite_disk.specs.declared.Disk as disk
 use Rattle.sqlite_disk.specs.declared.Files.{Files}
 use Rattle.sqlite_disk.specs.declared.tally.Tally.{Tally}
 use Rattle.sqlite_store.specs.Report.{named}
-use Rattle.sqlite_trees.specs.declared.error.StoreError.{StoreError}
 use Rattle.sqlite_trees.specs.declared.error.StoreError.TheVariants.{Io, Full, Corrupt}
 use Rattle.sqlite_wal.specs.Recovery.{Image}
 use Rattle.sqlite_wal.specs.Reads.{tally_of_files}

@@ -29,7 +29,7 @@ use Rattle.uu_schema.specs.declared.fault.StoreFault.TheVariants.{Memory, Store,
 use Rattle.uu_schema.specs.declared.fault.StoreKind.{StoreKind}
 use Rattle.uu_schema.specs.declared.fault.StoreKind.TheVariants as kind
 use Rattle.uu_schema.specs.declared.fault.StoreKind.TheVariants.{Database}
-use Rattle.uu_database.specs.FoundTables.{HasNone, HasFirst, HasNoneOrAll, HasOther}
+use Rattle.uu_database.specs.FoundTables.{HasNone, HasEarlier, HasNoneOrAll, HasOther}
 use Rattle.uu_database.specs.Adoption.{IsOfNone}
 use Rattle.uu_database.specs.Encoded.{EncodesAs}
 use Rattle.uu_sql.specs.Steps.{Stands, Rests}
@@ -49,12 +49,12 @@ ImageKeeps image s = ((trees : Trees) × HoldsDatabase image trees × Keeps tree
 abbrev pub IsOpenable : Image → Type 0
 IsOpenable image = ((trees : Trees) × HoldsDatabase image trees) ⊎ IsNothing image
 
--- it has some of the spool's tables, and not those of version 1
+-- it has some of the spool's tables, and not those of an earlier version
 abbrev pub HasSome : Schema → Type 0
-HasSome schema = (¬ HasNone schema) × (¬ HasFirst schema)
+HasSome schema = (¬ HasNone schema) × (¬ HasEarlier schema)
 
 -- the files hold this database, and it has some of the spool's tables, by their names, and not
--- those of version 1: so says each schema that fits it
+-- those of an earlier version: so says each schema that fits it
 abbrev pub ImageHasSome : Image → Trees → Type 0
 ImageHasSome image trees = HoldsDatabase image trees × ((schema : Schema) → IsSound schema trees → HasSome schema)
 
@@ -63,8 +63,8 @@ ImageHasSome image trees = HoldsDatabase image trees × ((schema : Schema) → I
 abbrev pub ImageHasOther : Image → Type 0
 ImageHasOther image = (trees : Trees) × HoldsDatabase image trees × ((schema : Schema) → IsSound schema trees → HasOther schema)
 
--- where the files' database has any of the spool's tables, and not those of version 1, whatever
--- stands beside them, only this database may be left
+-- where the files' database has any of the spool's tables, and not those of an earlier version,
+-- whatever stands beside them, only this database may be left
 abbrev pub LeavesSame : Image → (Trees → Type 0) → Type 0
 LeavesSame before could_leave = (trees : Trees) → ImageHasSome before trees → (left : Trees) → could_leave left → left ≡ trees
 
@@ -105,7 +105,7 @@ abbrev pub IsToldRightly : Version → Trees → StoreFault → Type 0
 IsToldRightly v trees fault = (fault ≡ Newer → IsLater trees) × (fault ≡ Foreign → (¬ IsLater trees) × IsOfNone v trees)
 
 -- It has some of the spool's tables, and so an opening that ends with this fault leaves it as it
--- was. (Where the store failed, those of version 1 may have become those of version 2.)
+-- was. (Where the store failed, those of an earlier version may have become those of version 3.)
 abbrev pub StaysAfter : StoreFault → Schema → Type 0
 StaysAfter (Store kind) schema = HasSome schema
 StaysAfter fault schema = ¬ HasNone schema
@@ -113,7 +113,7 @@ StaysAfter fault schema = ¬ HasNone schema
 -- A database was opened and not taken as a spool, and its store was let go. One that stores a state
 -- is not called foreign or newer, and one where a name of the spool's tables is taken and no table
 -- tells a version is called foreign. A stop leaves one with any of the tables as it was, unless the
--- store failed as those of version 1 were to become those of version 2.
+-- store failed as those of an earlier version were to become those of version 3.
 pub record IsNotTaken {S : Type 0} (g : Ghosts S) (was : Held S) (stopped : S) (fault : StoreFault) : Type 0 where
   pub last : Held S
   pub turned_away : TurnedAway g was last
@@ -160,7 +160,7 @@ module _ {D : Type 0} {g : disk.Ghosts D} where
 
   -- A database that was opened and not taken, and has any of the spool's tables, stays what it was:
   -- so of another program's, or a later version's. (Where the store failed, one that has those of
-  -- version 1 is left out.)
+  -- an earlier version is left out.)
   abbrev pub LeavesAlone : Image → StoreFault → Remains D g → Type 0
   LeavesAlone before fault remains.Unopened = ⊤
   LeavesAlone before fault (remains.Files it) = ⊤

@@ -4,7 +4,7 @@ ghost use Rattle.sqlite.specs.Held.{state};
 ghost use Rattle.sqlite.specs.State.{HasCleanDisk};
 ghost use Rattle.uu_sql.specs.Steps.{Rests};
 ghost use Rattle.uu_database.specs.Encoded.{EncodesAs};
-ghost use Rattle.uu_database.specs.FoundTables.{HasNone, HasNoneOrAll, HasOther};
+ghost use Rattle.uu_database.specs.FoundTables.{HasNone, HasNoneOrAll, HasOther, IsEarlier};
 
 use crate::laws::no_answered_command_is_lost_over;
 use crate::spool::Spool;
@@ -27,7 +27,6 @@ impl<S: Alter> Spool<S> {
     ghost use Rattle.std.specs.Prelude.{IfOk, IsErrAnd};
     ghost use Rattle.uu_sql.specs.Steps.{Stands};
     ghost use Rattle.uu_schema.specs.declared.version.Version.{Version};
-    ghost use Rattle.uu_schema.specs.declared.version.Version.TheVariants.{First};
     ghost use Rattle.uu_schema.specs.Schema.{site_of, no_schema};
     ghost use Rattle.sqlite.specs.Tree.{Trees};
     ghost use Rattle.uu_core.specs.State.{empty};
@@ -40,9 +39,9 @@ impl<S: Alter> Spool<S> {
 
     /// Takes the database as a spool: one without the spool's tables gets them, in one transaction.
     /// One that has them, and no others, is taken exactly where its rows are those of a spool's
-    /// state. Where its tables are those of version 1, they become those of version 2 then, in one
-    /// transaction. One that has some of them, and not all of a version with their columns, is
-    /// never taken.
+    /// state. Where its tables are those of an earlier version, they become those of version 3
+    /// then, in one transaction. One that has some of them, and not all of a version with their
+    /// columns, is never taken.
     ///
     /// # Errors
     /// The connection is handed back with no transaction open. `Foreign` where a table stands under
@@ -83,12 +82,12 @@ impl<S: Alter> Spool<S> {
         // beside them.
         ensures refusal_changes_nothing { IfErr result (λ e. HasCleanDisk (state S.Store e.conn) → Rests (state S.Store conn) → UnlessFailed e.fault (IsAsBefore (state S.Store conn) (state S.Store e.conn))) }
 
-        // What a stop at its end leaves: the state that was encoded, of version 1 in that or in
-        // version 2, and of an empty one nothing or an empty spool. Once it was taken, version 2
-        // alone is left, and after a refusal what was there, unless the store failed.
+        // What a stop at its end leaves: the state that was encoded, of an earlier version in
+        // that or in version 3, and of an empty one nothing or an empty spool. Once it was taken,
+        // version 3 alone is left, and after a refusal what was there, unless the store failed.
         ensures stop_when_taken { IfOk result (λ spool. HasCleanDisk (disk spool) → Rests (state S.Store conn) → StopsAs (state S.Store conn) (disk spool)) }
         ensures stop_when_created { IfOk result (λ spool. HasCleanDisk (disk spool) → Rests (state S.Store conn) → Stands no_schema (state S.Store conn).now → Leaves (disk spool) empty) }
-        ensures stop_when_migrated { IfOk result (λ spool. HasCleanDisk (disk spool) → Rests (state S.Store conn) → (s : _) → EncodesAs First (state S.Store conn).now s → Leaves (disk spool) s) }
+        ensures stop_when_migrated { IfOk result (λ spool. HasCleanDisk (disk spool) → Rests (state S.Store conn) → (v : Version) → IsEarlier v → (s : _) → EncodesAs v (state S.Store conn).now s → Leaves (disk spool) s) }
         ensures stop_when_turned_away { IfErr result (λ e. HasCleanDisk (state S.Store e.conn) → Rests (state S.Store conn) → StopsAs (state S.Store conn) (state S.Store e.conn)) }
         ensures stop_when_refused { IfErr result (λ e. HasCleanDisk (state S.Store e.conn) → Rests (state S.Store conn) → UnlessFailed e.fault ((trees : Trees) → (state S.Store e.conn).may_leave trees → trees ≡ (state S.Store conn).now.trees)) }
         ensures turned_away { IfErr result (λ e. TurnedAway S.Store conn e.conn) }

@@ -1,5 +1,5 @@
 //! What follows from the definitions.
-ghost use Rattle.std.specs.Prelude.{◌≡◌, ◌++◌, ℕ, List, length, take, Option, None, IsTrue};
+ghost use Rattle.std.specs.Prelude.{◌≡◌, ◌++◌, ℕ, List, length, take, Option, None, IsTrue, []};
 ghost use Rattle.sqlite_disk.specs.declared.Files.{Files};
 ghost use Rattle.sqlite_store.specs.declared.store.FileStore.{FileStore};
 ghost use Rattle.sqlite.specs.declared.file.Leftover.{Leftover};
@@ -22,6 +22,7 @@ ghost use Rattle.uu_schema.specs.declared.fault.StoreFault.{StoreFault};
 ghost use Rattle.uu_store.specs.declared.spool.Spool.{Spool};
 ghost use Rattle.uu_schema.specs.declared.version.Version.{Version};
 ghost use Rattle.uu_schema.specs.declared.version.Version.TheVariants.{First};
+ghost use Rattle.uu_database.specs.FoundTables.{IsEarlier};
 ghost use Rattle.sqlite.specs.Effect.{Database};
 ghost use Rattle.std.specs.List.{AllByRecursion};
 ghost use Rattle.uu_core.specs.declared.system.SystemRow.{SystemRow};
@@ -59,6 +60,12 @@ pub fn one_database_has_one_state()
 /// A database of version 1 has no success waits: each of the state that it encodes is 0.
 pub fn version_one_has_no_success_waits()
     ensures { (database : Database) (s : State) → EncodesAs First database s → AllByRecursion (λ (row : SystemRow). row.def.success_wait ≡ 0) s.systems }
+{}
+
+/// A database of an earlier version keeps nothing of links, and neither does the state that it
+/// encodes.
+pub fn earlier_versions_have_no_links()
+    ensures { (v : Version) (database : Database) (s : State) → IsEarlier v → EncodesAs v database s → s.links ≡ [] }
 {}
 
 /// Where every command of a run was answered, it and the next run are one run of all the commands.

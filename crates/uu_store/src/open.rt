@@ -38,12 +38,12 @@ pub type FileSpool<T> = Spool<FileStore<SpoolFile<T>>>;
 /// # Errors
 /// With what is left of the two files. While the disk returned what was written, a stop then leaves
 /// files that keep what was kept (`left`), and of a database that was opened and has any of the
-/// spool's tables what it was (`left_alone`), unless the store failed as those of version 1 were to
-/// become those of version 2. Files that keep the state of a spool, or hold nothing yet, are never
-/// answered `Foreign` or `Newer`. Once a database was opened, one that has exactly the tables of a
-/// version is answered `Newer` only where a row names a later version, and `Foreign` only where
-/// none does and no state has its rows; one in which a name of theirs is taken and no table tells a
-/// version is `Foreign` (`named`).
+/// spool's tables what it was (`left_alone`), unless the store failed as those of an earlier
+/// version were to become those of version 3. Files that keep the state of a spool, or hold nothing
+/// yet, are never answered `Foreign` or `Newer`. Once a database was opened, one that has exactly
+/// the tables of a version is answered `Newer` only where a row names a later version, and
+/// `Foreign` only where none does and no state has its rows; one in which a name of theirs is taken
+/// and no table tells a version is `Foreign` (`named`).
 pub fn open_spool<T: Start>(
     rt: &HostRuntime,
     path: &str,
@@ -59,8 +59,8 @@ pub fn open_spool<T: Start>(
     // A database in which one of the names is taken and no table tells a version is never taken.
     ensures never_other { IfOk result (λ spool. HasCleanDisk (disk spool) → ¬ ImageHasOther (image_at T.Start)) }
 
-    // One that has any of the spool's tables, and not those of version 1, is left as it was,
-    // whatever stands beside them.
+    // One that has any of the spool's tables, and not those of an earlier version, is left as it
+    // was, whatever stands beside them.
     ensures left_same { IfOk result (λ spool. HasCleanDisk (disk spool) → LeavesSame (image_at T.Start) (disk spool).may_leave) }
 
     // What is left of files that were opened keeps what they kept, and the fault names it rightly.

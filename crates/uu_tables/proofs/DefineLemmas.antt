@@ -12,7 +12,6 @@ use Rattle.uu_core.specs.State.{State, is_system, has_system}
 use Rattle.uu_core.specs.After.{accept, call_of, never_called}
 use Rattle.uu_tables.specs.declared.rows.LineColumns.{LineColumns}
 use Rattle.uu_tables.specs.declared.rows.RangeColumns.{RangeColumns}
-use Rattle.uu_tables.specs.declared.rows.WaitColumns.{WaitColumns}
 use Rattle.uu_tables.specs.Tables.{PlacedLine, tables_of, system_columns, line_columns, range_columns, placed, placed_from, ranges_of, waits_from, waits_of}
 use Rattle.uu_tables.specs.Changes.{without, has_name, insert_by}
 use Rattle.uu_tables.specs.Parts.{insert_each, with_lines, with_waits, with_definition}
@@ -27,7 +26,7 @@ all_append : {X : Type 0} (P : X → Type 0) (xs ys : List X) → AllByRecursion
 all_append P [] ys h k = k
 all_append P (x ∷ xs) ys h k = (h.0, all_append P xs ys h.1 k)
 
-all_flat : {X Y : Type 0} (P : Y → Type 0) (f : X → List Y) (xs : List X) → AllByRecursion (λ x. AllByRecursion P (f x)) xs → AllByRecursion P (flat_map f xs)
+pub all_flat : {X Y : Type 0} (P : Y → Type 0) (f : X → List Y) (xs : List X) → AllByRecursion (λ x. AllByRecursion P (f x)) xs → AllByRecursion P (flat_map f xs)
 all_flat P f [] h = tt
 all_flat P f (x ∷ xs) h = all_append P (f x) (flat_map f xs) h.0 (all_flat P f xs h.1)
 

@@ -25,7 +25,7 @@ pub kept_all : {X : Type 0} (p : X → Bool) (xs : List X) → AllByRecursion (�
 kept_all p [] h = refl
 kept_all p (x ∷ xs) h = rw h.0 (ap (λ l. x ∷ l) (kept_all p xs h.1))
 
-kept_pass : {X : Type 0} (p : X → Bool) (xs : List X) → AllByRecursion (λ x. p x ≡ true) (filter p xs)
+pub kept_pass : {X : Type 0} (p : X → Bool) (xs : List X) → AllByRecursion (λ x. p x ≡ true) (filter p xs)
 kept_pass p [] = tt
 kept_pass p (x ∷ xs) = by_test (p x) refl (kept_pass p xs)
   where
@@ -45,7 +45,7 @@ kept_twice p q r both (x ∷ xs) = by_test (p x) (both x) (kept_twice p q r both
     by_test true is rest = keeps (q x) refl is rest
     by_test false is rest = rw is rest
 
-kept_mapped : {X Y : Type 0} (f : X → Y) (q : Y → Bool) (xs : List X) → filter q (map f xs) ≡ map f (filter (λ x. q (f x)) xs)
+pub kept_mapped : {X Y : Type 0} (f : X → Y) (q : Y → Bool) (xs : List X) → filter q (map f xs) ≡ map f (filter (λ x. q (f x)) xs)
 kept_mapped f q [] = refl
 kept_mapped f q (x ∷ xs) = by_test (q (f x)) (kept_mapped f q xs)
   where

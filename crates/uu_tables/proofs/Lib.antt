@@ -3,6 +3,7 @@ pub mod EntryLemmas
 pub mod InsertLemmas
 pub mod JobLemmas
 pub mod LineLemmas
+pub mod LinkLemmas
 pub mod OrderLemmas
 pub mod PieceLemmas
 pub mod PlanLemmas

@@ -4,15 +4,14 @@ use Rattle.std.specs.Prelude.{min}
 use Rattle.std.specs.List.{range_with_len}
 use Rattle.std.proofs.lemmas.List.{flat_map_more, map-append, take_all}
 use Rattle.std.proofs.lemmas.List.FromFn.{map-range_with_len_more}
-use Rattle.uu_core.specs.declared.command.Command.TheVariants.{Queue}
 use Rattle.uu_core.specs.declared.job.NewJob.{NewJob}
 use Rattle.uu_core.specs.State.{State, head_of}
-use Rattle.uu_core.specs.After.{accept, job_of}
+use Rattle.uu_core.specs.After.{with_job, job_of}
 use Rattle.uu_tables.specs.declared.change.JobColumns.{JobColumns}
 use Rattle.uu_tables.specs.declared.change.Change.TheVariants.{AddJob, SetNext}
-use Rattle.uu_tables.specs.Tables.{Tables, tables_of, piece, piece_bytes, pieces_of}
+use Rattle.uu_tables.specs.Tables.{Tables, tables_of, piece, piece_bytes, pieces_of, cut}
 use Rattle.uu_tables.specs.Changes.{apply, new_job}
-use Rattle.uu_tables.specs.Parts.{with_pieces}
+use Rattle.uu_tables.specs.Parts.{with_pieces, with_new_job}
 
 -- a piece ends where the bytes end, or after those of a whole one
 pub part_at : (all : List ℕ) (start end : ℕ) → end ≡ min (length all) (start + piece_bytes) → take (end - start) (drop start all) ≡ take piece_bytes (drop start all)
@@ -32,9 +31,13 @@ piece_more number all count t = ap (λ rows. record t { pieces = rows }) (append
 
 -- ---- a job that is handed in
 
-pub queued : (s : State) (job : NewJob) (columns : JobColumns) → ((number : ℕ) → new_job number columns ≡ head_of (job_of number job)) → apply (SetNext (s.next + 1)) (with_pieces s.next job.bytes (apply (AddJob s.next columns) (tables_of s))) ≡ tables_of (accept s (Queue job))
-queued s job columns row = λ i. record (tables_of s) {
+-- the changes that add it, one after the other
+pub one_queued : (number : ℕ) (job : NewJob) (columns : JobColumns) (t : Tables) → ((number : ℕ) → new_job number columns ≡ head_of (job_of number job)) → apply (SetNext (number + 1)) (with_pieces number job.bytes (apply (AddJob number columns) t)) ≡ with_new_job number job t
+one_queued number job columns t row = ap (λ r. record t { next = number + 1; jobs = t.jobs ++ r ∷ []; pieces = t.pieces ++ cut number job.bytes }) (row number)
+
+pub queued : (s : State) (job : NewJob) → with_new_job s.next job (tables_of s) ≡ tables_of (with_job job s)
+queued s job = λ i. record (tables_of s) {
   next = s.next + 1;
-  jobs = (ap (λ r. map head_of s.jobs ++ r ∷ []) (row s.next) ∙ sym (map-append head_of s.jobs (job_of s.next job ∷ []))) i;
+  jobs = sym (map-append head_of s.jobs (job_of s.next job ∷ [])) i;
   pieces = flat_map_more pieces_of [] s.jobs (job_of s.next job) i;
 }

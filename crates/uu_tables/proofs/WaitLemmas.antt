@@ -7,7 +7,7 @@ use Rattle.uu_times.specs.declared.system.Line.{Line}
 use Rattle.uu_core.specs.State.{most_wait}
 use Rattle.uu_core.specs.Waiting.{lines_at, limit_at, line_at, retry_minutes, growing_minutes, wait_after}
 
-found_has : {X : Type 0} (P : X → Type 0) (p : X → Bool) (xs : List X) → All P xs → IfSome (find p xs) P
+pub found_has : {X : Type 0} (P : X → Type 0) (p : X → Bool) (xs : List X) → All P xs → IfSome (find p xs) P
 found_has P p [] h = tt
 found_has P p (x ∷ xs) h = by_test (p x) (found_has P p xs (All-tail P x xs h))
   where

@@ -1,5 +1,7 @@
 -- What a change makes of the tables. (This project's choice.)
-use Rattle.std.specs.Prelude.{ℕ, Bool, not, ◌==◌, List, [], ◌∷◌, ◌++◌, map, filter, if◌then◌else◌}
+use Rattle.std.specs.declared.cmp.Ordering.{Ordering}
+use Rattle.std.specs.Ordering.{is_lt}
+use Rattle.std.specs.Prelude.{ℕ, Bool, not, ◌==◌, ◌&&◌, nat_lt, List, [], ◌∷◌, ◌++◌, map, filter, if◌then◌else◌}
 use Rattle.uu_times.specs.System.{System}
 use Rattle.uu_times.specs.declared.system.Line.{Line}
 use Rattle.uu_core.specs.declared.job.JobHead.{JobHead}
@@ -10,16 +12,23 @@ use Rattle.uu_tables.specs.declared.rows.LineColumns.{LineColumns}
 use Rattle.uu_tables.specs.declared.rows.RangeColumns.{RangeColumns}
 use Rattle.uu_tables.specs.declared.rows.EntryColumns.{EntryColumns}
 use Rattle.uu_tables.specs.declared.rows.WaitColumns.{WaitColumns}
+use Rattle.uu_tables.specs.declared.rows.LinkColumns.{LinkColumns}
+use Rattle.uu_tables.specs.declared.rows.TakenColumns.{TakenColumns}
 use Rattle.uu_tables.specs.declared.change.JobColumns.{JobColumns}
 use Rattle.uu_tables.specs.declared.change.Change.{Change}
-use Rattle.uu_tables.specs.declared.change.Change.TheVariants.{AddSystem, SetMaxRetries, SetCall, RemoveSystem, RemoveLines, AddSuccessWait, RemoveSuccessWait, AddLine, AddRange, AddJob, SetGrade, SetQueued, RemoveJob, AddPiece, RemoveEntry, AddEntry, SetNext}
-use Rattle.uu_tables.specs.Tables.{Tables, Piece, system_columns, line_columns, range_columns}
+use Rattle.uu_tables.specs.declared.change.Change.TheVariants.{AddSystem, SetMaxRetries, SetCall, RemoveSystem, RemoveLines, AddSuccessWait, RemoveSuccessWait, AddLink, RemoveLink, AddTaken, ForgetTaken, AddLine, AddRange, AddJob, SetGrade, SetQueued, RemoveJob, AddPiece, RemoveEntry, AddEntry, SetNext}
+use Rattle.uu_tables.specs.Tables.{Tables, Piece, system_columns, line_columns, range_columns, taken_columns}
+use Rattle.uu_tables.specs.Order.{taken_cmp}
 
 -- ---- changes of a list of rows
 
 -- one more row, behind those of its own name and of names before it
 abbrev pub insert_by : {V : Type 0} → (V → List ℕ) → V → List V → List V
 insert_by name row rows = filter (λ other. not (is_before name row other)) rows ++ row ∷ filter (λ other. is_before name row other) rows
+
+-- one more row, behind those of its own key and of keys before it
+abbrev pub insert_at : {V : Type 0} → (V → V → Ordering) → V → List V → List V
+insert_at order row rows = filter (λ other. not (is_lt (order row other))) rows ++ row ∷ filter (λ other. is_lt (order row other)) rows
 
 -- one more row behind all others
 abbrev pub append : {V : Type 0} → V → List V → List V
@@ -47,6 +56,16 @@ is_range_of name row = same_text row.system name
 abbrev pub is_wait_of : List ℕ → WaitColumns → Bool
 is_wait_of name row = same_text row.system name
 
+abbrev pub is_link_of : List ℕ → LinkColumns → Bool
+is_link_of name row = same_text row.system name
+
+abbrev pub is_taken_of : List ℕ → TakenColumns → Bool
+is_taken_of name row = same_text row.system name
+
+-- it was taken from the neighbour under a number below this one
+abbrev pub is_forgotten : List ℕ → ℕ → TakenColumns → Bool
+is_forgotten name below row = is_taken_of name row && nat_lt row.taken.number below
+
 abbrev pub has_number : ℕ → JobHead → Bool
 has_number number row = row.number == number
 
@@ -67,6 +86,9 @@ new_line name place line = line_columns (record { system = name; place = place; 
 
 abbrev pub new_wait : List ℕ → ℕ → WaitColumns
 new_wait name wait = record { system = name; wait = wait }
+
+abbrev pub new_below : List ℕ → ℕ → LinkColumns
+new_below name below = record { system = name; below = below }
 
 abbrev pub new_job : ℕ → JobColumns → JobHead
 new_job number columns = record {
@@ -97,10 +119,16 @@ apply (RemoveSystem system) t =
       lines = without (is_line_of system.now) t.lines;
       ranges = without (is_range_of system.now) t.ranges;
       success_waits = without (is_wait_of system.now) t.success_waits;
+      links = without (is_link_of system.now) t.links;
+      taken = without (is_taken_of system.now) t.taken;
     }
 apply (RemoveLines system) t = record t { lines = without (is_line_of system.now) t.lines; ranges = without (is_range_of system.now) t.ranges }
 apply (AddSuccessWait system wait) t = record t { success_waits = insert_by (λ row. row.system) (new_wait system.now wait) t.success_waits }
 apply (RemoveSuccessWait system) t = record t { success_waits = without (is_wait_of system.now) t.success_waits }
+apply (AddLink system below) t = record t { links = insert_by (λ row. row.system) (new_below system.now below) t.links }
+apply (RemoveLink system) t = record t { links = without (is_link_of system.now) t.links }
+apply (AddTaken system taken) t = record t { taken = insert_at taken_cmp (taken_columns system.now taken) t.taken }
+apply (ForgetTaken system below) t = record t { taken = without (is_forgotten system.now below) t.taken }
 apply (AddLine system place line) t = record t { lines = insert_by (λ row. row.system) (new_line system.now place line.now) t.lines }
 apply (AddRange system place low high) t = record t { ranges = insert_by (λ row. row.system) (range_columns system.now place (low, high)) t.ranges }
 apply (AddJob number columns) t = record t { jobs = append (new_job number columns) t.jobs }

@@ -8,6 +8,8 @@ use Rattle.uu_tables.specs.declared.rows.SystemColumns.{SystemColumns}
 use Rattle.uu_tables.specs.declared.rows.LineColumns.{LineColumns}
 use Rattle.uu_tables.specs.declared.rows.RangeColumns.{RangeColumns}
 use Rattle.uu_tables.specs.declared.rows.WaitColumns.{WaitColumns}
+use Rattle.uu_tables.specs.declared.rows.LinkColumns.{LinkColumns}
+use Rattle.uu_tables.specs.declared.rows.TakenColumns.{TakenColumns}
 use Rattle.uu_tables.specs.declared.rows.PieceSize.{PieceSize}
 use Rattle.uu_tables.specs.declared.rows.EntryColumns.{EntryColumns}
 use Rattle.uu_tables.specs.Tables.{Piece}
@@ -27,6 +29,13 @@ range_cmp a b = ordering_then (slice_cmp nat_cmp a.system b.system) (ordering_th
 -- by system
 abbrev pub wait_cmp : WaitColumns → WaitColumns → Ordering
 wait_cmp a b = slice_cmp nat_cmp a.system b.system
+
+abbrev pub link_cmp : LinkColumns → LinkColumns → Ordering
+link_cmp a b = slice_cmp nat_cmp a.system b.system
+
+-- by system, then by the number there
+abbrev pub taken_cmp : TakenColumns → TakenColumns → Ordering
+taken_cmp a b = ordering_then (slice_cmp nat_cmp a.system b.system) (nat_cmp a.taken.number b.taken.number)
 
 -- by number
 abbrev pub head_cmp : JobHead → JobHead → Ordering

@@ -1,15 +1,28 @@
 -- What parts of a plan make of the tables: several changes of one kind, one after the other.
-use Rattle.std.specs.Prelude.{ℕ, Bool, true, false, ◌==◌, List, [], ◌∷◌, ◌++◌, map}
+use Rattle.std.specs.Prelude.{ℕ, ◌+◌, Bool, true, false, ◌==◌, List, [], ◌∷◌, ◌++◌, map}
 use Rattle.std.specs.List.{flat_map, list_any}
 use Rattle.uu_times.specs.System.{System}
+use Rattle.uu_core.specs.declared.custody.Key.{Key}
+use Rattle.uu_core.specs.declared.job.NewJob.{NewJob}
+use Rattle.uu_core.specs.State.{head_of}
+use Rattle.uu_core.specs.After.{job_of}
 use Rattle.uu_tables.specs.declared.rows.RangeColumns.{RangeColumns}
 use Rattle.uu_tables.specs.declared.rows.WaitColumns.{WaitColumns}
-use Rattle.uu_tables.specs.Tables.{Tables, PlacedLine, line_columns, ranges_of, cut}
-use Rattle.uu_tables.specs.Changes.{insert_by, alter, without, has_name, is_line_of, is_range_of, is_wait_of, new_system}
+use Rattle.uu_tables.specs.Tables.{Tables, PlacedLine, line_columns, ranges_of, cut, taken_columns}
+use Rattle.uu_tables.specs.Order.{taken_cmp}
+use Rattle.uu_tables.specs.Changes.{insert_by, insert_at, append, alter, without, has_name, is_line_of, is_range_of, is_wait_of, new_system}
 
 -- the tables with the pieces of a job behind all others
 abbrev pub with_pieces : ℕ → List ℕ → Tables → Tables
 with_pieces number all t = record t { pieces = t.pieces ++ cut number all }
+
+-- the tables with a job that is handed in, under this number
+abbrev pub with_new_job : ℕ → NewJob → Tables → Tables
+with_new_job number job t = record t { next = number + 1; jobs = append (head_of (job_of number job)) t.jobs; pieces = t.pieces ++ cut number job.bytes }
+
+-- the tables with a key, and the number of its job here
+abbrev pub with_new_key : Key → ℕ → Tables → Tables
+with_new_key key number t = record t { taken = insert_at taken_cmp (taken_columns key.from (record { number = key.number; mark = key.mark; job = number })) t.taken }
 
 -- a job's number is among these
 abbrev pub is_one_of : List ℕ → ℕ → Bool

@@ -8,12 +8,15 @@ use Rattle.uu_core.specs.declared.system.CallState.{CallState}
 use Rattle.uu_core.specs.declared.system.SystemRow.{SystemRow}
 use Rattle.uu_core.specs.declared.system.Outcome.{Outcome}
 use Rattle.uu_core.specs.declared.system.Outcome.TheVariants.{Never, Failed, Done}
-use Rattle.uu_core.specs.State.{State, Job, MapEntry, head_of}
+use Rattle.uu_core.specs.declared.custody.Taken.{Taken}
+use Rattle.uu_core.specs.State.{State, Job, MapEntry, Link, head_of}
 use Rattle.uu_tables.specs.declared.rows.CallColumns.{CallColumns}
 use Rattle.uu_tables.specs.declared.rows.SystemColumns.{SystemColumns}
 use Rattle.uu_tables.specs.declared.rows.LineColumns.{LineColumns}
 use Rattle.uu_tables.specs.declared.rows.RangeColumns.{RangeColumns}
 use Rattle.uu_tables.specs.declared.rows.WaitColumns.{WaitColumns}
+use Rattle.uu_tables.specs.declared.rows.LinkColumns.{LinkColumns}
+use Rattle.uu_tables.specs.declared.rows.TakenColumns.{TakenColumns}
 use Rattle.uu_tables.specs.declared.rows.PieceSize.{PieceSize}
 use Rattle.uu_tables.specs.declared.rows.EntryColumns.{EntryColumns}
 
@@ -29,7 +32,7 @@ pub record PlacedLine : Type 0 where
   pub place : ℕ
   pub line : Line
 
--- The number of the next job, and the rows of the other seven tables.
+-- The number of the next job, and the rows of the other nine tables.
 pub record Tables : Type 0 where
   pub next : ℕ
   pub systems : List SystemColumns
@@ -39,6 +42,8 @@ pub record Tables : Type 0 where
   pub pieces : List Piece
   pub entries : List EntryColumns
   pub success_waits : List WaitColumns
+  pub links : List LinkColumns
+  pub taken : List TakenColumns
 
 -- ---- systems, lines, ranges
 
@@ -91,6 +96,23 @@ waits_from name (suc n) = record { system = name; wait = suc n } ∷ []
 abbrev pub waits_of : SystemRow → List WaitColumns
 waits_of row = waits_from row.def.name row.def.success_wait
 
+-- ---- links
+
+-- the number below which a neighbour asks for none again, unless it is 0
+abbrev pub links_from : List ℕ → ℕ → List LinkColumns
+links_from name zero = []
+links_from name (suc n) = record { system = name; below = suc n } ∷ []
+
+abbrev pub links_of : Link → List LinkColumns
+links_of link = links_from link.name link.below
+
+abbrev pub taken_columns : List ℕ → Taken → TakenColumns
+taken_columns name taken = record { system = name; taken = taken }
+
+-- what was taken from a neighbour
+abbrev pub taken_rows : Link → List TakenColumns
+taken_rows link = map (taken_columns link.name) link.taken
+
 -- ---- jobs, pieces
 
 -- the bytes of a whole piece
@@ -137,4 +159,6 @@ tables_of s = record {
   pieces = flat_map pieces_of s.jobs;
   entries = map entry_columns s.entries;
   success_waits = flat_map waits_of s.systems;
+  links = flat_map links_of s.links;
+  taken = flat_map taken_rows s.links;
 }

@@ -1,6 +1,6 @@
 // One statement that writes, with its parameters.
 use crate::rows::CallColumns;
-use uu_core::Kind;
+use uu_core::{Kind, Taken};
 use uu_names::{Grade, SiteName, Word};
 use uu_times::{Line, SystemDef};
 
@@ -41,7 +41,7 @@ pub enum Change<'a> {
         /// How they went.
         call: CallColumns,
     },
-    /// The system goes, and its lines, their ranges and its success wait with it.
+    /// The system goes, and its lines, their ranges, its success wait and its link with it.
     RemoveSystem {
         /// The system.
         system: &'a SiteName,
@@ -62,6 +62,32 @@ pub enum Change<'a> {
     RemoveSuccessWait {
         /// The system.
         system: &'a SiteName,
+    },
+    /// The number below which a neighbour, which has none, asks for none again.
+    AddLink {
+        /// The neighbour.
+        system: &'a SiteName,
+        /// The number.
+        below: u32,
+    },
+    /// The number below which a neighbour asks for none again goes.
+    RemoveLink {
+        /// The neighbour.
+        system: &'a SiteName,
+    },
+    /// One more job that was taken from a neighbour.
+    AddTaken {
+        /// The neighbour.
+        system: &'a SiteName,
+        /// The job.
+        taken: Taken,
+    },
+    /// What was taken from a neighbour under numbers below this one goes.
+    ForgetTaken {
+        /// The neighbour.
+        system: &'a SiteName,
+        /// The number.
+        below: u32,
     },
     /// One more line, without its ranges.
     AddLine {

@@ -5,6 +5,7 @@ ghost use Rattle.uu_tables.specs.Plans.{AreFacts, IsPlan};
 
 mod entry;
 mod job;
+mod link;
 mod queue;
 mod report;
 mod system;
@@ -13,6 +14,7 @@ use crate::change::Change;
 use crate::facts::Facts;
 use entry::plan_entry;
 use job::{plan_kill, plan_regrade, plan_rejuvenate};
+use link::{plan_forget, plan_queue_once};
 pub use queue::PIECE_BYTES;
 use queue::plan_queue;
 use report::{plan_done, plan_failed};
@@ -40,6 +42,17 @@ fn refused<'a>(alloc: Global, refusal: Refusal) -> Plan<'a>
     }
 }
 
+// Nothing changes, and this is the reply.
+fn unchanged<'a>(alloc: Global, reply: Reply) -> Plan<'a>
+    ensures reply { result.reply ≡ reply }
+    ensures none { result.changes.items ≡ [] }
+{
+    Plan {
+        reply,
+        changes: Vec::new(alloc),
+    }
+}
+
 // One change, and the command is carried out.
 fn one_change<'a>(alloc: Global, change: Change<'a>) -> Result<Plan<'a>, AllocError>
     ensures reply { IfOk result (λ plan. plan.reply ≡ Reply.Done) }
@@ -63,11 +76,13 @@ pub fn make_plan<'a>(
         Command::Define(def) => plan_define(alloc, facts, def),
         Command::Remove(system) => plan_remove(alloc, facts, system),
         Command::Queue(job) => plan_queue(alloc, facts, job),
+        Command::QueueOnce(key, job) => plan_queue_once(alloc, facts, key, job),
         Command::Kill { job, by } => plan_kill(alloc, facts, *job, by),
         Command::Regrade { job, grade, by } => plan_regrade(alloc, facts, *job, *grade, by),
         Command::Rejuvenate { job, at, by } => plan_rejuvenate(alloc, facts, *job, at, by),
         Command::Failed { system, at, why } => plan_failed(alloc, facts, system, at, why),
         Command::Done { system, at, jobs } => plan_done(alloc, facts, system, at, jobs.as_slice()),
         Command::Entry(bytes) => plan_entry(alloc, bytes.as_slice()),
+        Command::Forget { system, below } => plan_forget(alloc, facts, system, *below),
     }
 }

@@ -1,4 +1,5 @@
 // Rows of the tables, as their columns are read and written. A job's row is its `JobHead`.
+use uu_core::Taken;
 use uu_names::{Grade, Listed, SiteName, Word};
 
 /// The number of the outcome of a system that was never called.
@@ -78,6 +79,25 @@ pub struct WaitColumns {
     pub system: SiteName,
     /// How many seconds it is left alone after a call that went well, 1 to 31,536,000.
     pub wait: u32,
+}
+
+/// A row of the table `links`, which has none for a neighbour that never said that it won't ask for
+/// some numbers again.
+#[derive(Drop)]
+pub struct LinkColumns {
+    /// The neighbour.
+    pub system: SiteName,
+    /// The number below which it asks for none again, at least 1.
+    pub below: u32,
+}
+
+/// A row of the table `taken`.
+#[derive(Drop)]
+pub struct TakenColumns {
+    /// The neighbour.
+    pub system: SiteName,
+    /// What was taken from it.
+    pub taken: Taken,
 }
 
 /// A row of the table `pieces` without its bytes.

@@ -21,7 +21,7 @@ use Rattle.uu_sql.proofs.Rowids.{has_moved}
 use Rattle.uu_sql.proofs.Answers.{answer_of, answer_moved}
 use Rattle.uu_schema.specs.declared.version.Version.{Version}
 use Rattle.uu_schema.specs.Schema.{site_of, spool}
-use Rattle.uu_schema.specs.declared.version.Version.TheVariants.{First, Second}
+use Rattle.uu_schema.specs.declared.version.Version.TheVariants.{First, Second, Third}
 use Rattle.uu_schema.specs.Made.{version as ours}
 use Rattle.uu_schema.specs.Held.{HoldsAs}
 use Rattle.uu_tables.specs.Tables.{Tables}
@@ -75,7 +75,7 @@ module _ (v : Version) (old new : db.State) (rows : List Row) where
       none (record { row = shown it.row; there = has_moved (map shown firsts) rows (shown it.row) (version_moved stands h) (mapped_has shown firsts it.row kept); shows = record { version = it.version; is = it.is; later = it.later } })
 
 -- a row of one of our versions names no later one
-never_later : (n next : ℕ) (it : Row) (version : ℤ) → n ≤ 2 → column it 2 ≡ Int version → pos ours <ℤ version → Has ((Int (pos 1) ∷ Null ∷ Int (pos n) ∷ Int (pos next) ∷ []) ∷ []) it → ⊥
+never_later : (n next : ℕ) (it : Row) (version : ℤ) → n ≤ 3 → column it 2 ≡ Int version → pos ours <ℤ version → Has ((Int (pos 1) ∷ Null ∷ Int (pos n) ∷ Int (pos next) ∷ []) ∷ []) it → ⊥
 never_later n next it version few is later (inl same) =
     let mine : Int version ≡ Int (pos n) = sym is ∙ ap (λ (r : Row). column r 2) same in
     let v : version ≡ pos n = cc in
@@ -86,3 +86,4 @@ never_later n next it version few is later (inr none) = none
 pub not_later : (v : Version) (db : Trees) (t : Tables) → HoldsAs v db t → IsLater db → ⊥
 not_later First db t holds it = never_later 1 t.next it.row it.version (omega arith) it.is it.later (subst (λ rows. Has rows it.row) holds.spool it.there)
 not_later Second db t holds it = never_later 2 t.next it.row it.version (omega arith) it.is it.later (subst (λ rows. Has rows it.row) holds.spool it.there)
+not_later Third db t holds it = never_later 3 t.next it.row it.version (omega arith) it.is it.later (subst (λ rows. Has rows it.row) holds.spool it.there)

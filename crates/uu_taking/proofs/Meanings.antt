@@ -8,10 +8,10 @@ use Rattle.sqlite.specs.Listing.{understood}
 use Rattle.uu_sql.proofs.Asks.{Means, ordered}
 use Rattle.uu_sql.specs.Queries.{IsQuery}
 use Rattle.uu_schema.specs.declared.version.Version.{Version}
-use Rattle.uu_schema.specs.declared.version.Version.TheVariants.{First, Second}
-use Rattle.uu_schema.specs.Schema.{site, site_of, success_waits, spool, systems, lines, ranges, jobs, pieces, entries}
+use Rattle.uu_schema.specs.declared.version.Version.TheVariants.{First, Second, Third}
+use Rattle.uu_schema.specs.Schema.{site, second_site, site_of, links, taken, success_waits, spool, systems, lines, ranges, jobs, pieces, entries}
 use Rattle.uu_rows.proofs.Meanings.{at_places, by_places, is_first, head_names}
-use Rattle.uu_taking.specs.Texts.{version_text, spool_text, heads_text, sizes_text, numbered_sizes_text, entries_text, system_rowids_text, line_rowids_text, range_rowids_text, piece_rowids_text, entry_rowids_text, wait_rowids_text}
+use Rattle.uu_taking.specs.Texts.{version_text, spool_text, heads_text, sizes_text, numbered_sizes_text, entries_text, system_rowids_text, line_rowids_text, range_rowids_text, piece_rowids_text, entry_rowids_text, wait_rowids_text, link_rowids_text, taken_rowids_text}
 
 -- ---- every row of a table
 
@@ -19,16 +19,19 @@ pub version_means : (v : Version) → Means (site_of v) version_text (ordered sp
 unfolding understood everything
 version_means First = record { command = refl; plain = (refl, refl); listing = refl }
 version_means Second = record { command = refl; plain = (refl, refl); listing = refl }
+version_means Third = record { command = refl; plain = (refl, refl); listing = refl }
 
 pub spool_means : (v : Version) → Means (site_of v) spool_text (ordered spool.tree [] (at_places (0 ∷ 2 ∷ 3 ∷ [])) []) (codes "id" ∷ codes "version" ∷ codes "next" ∷ [])
 unfolding understood everything
 spool_means First = record { command = refl; plain = (refl, refl); listing = refl }
 spool_means Second = record { command = refl; plain = (refl, refl); listing = refl }
+spool_means Third = record { command = refl; plain = (refl, refl); listing = refl }
 
 pub heads_means : (v : Version) → Means (site_of v) heads_text (ordered jobs.tree [] (at_places (0 ∷ 2 ∷ 3 ∷ 4 ∷ 5 ∷ 6 ∷ 7 ∷ 8 ∷ 9 ∷ [])) (by_places (0 ∷ []))) head_names
 unfolding understood everything
 heads_means First = record { command = refl; plain = (refl, refl); listing = refl }
 heads_means Second = record { command = refl; plain = (refl, refl); listing = refl }
+heads_means Third = record { command = refl; plain = (refl, refl); listing = refl }
 
 abbrev pub size_terms : List Term
 size_terms = col 1 1 ∷ col 1 2 ∷ op1 Length (col 1 3) ∷ []
@@ -37,6 +40,7 @@ pub sizes_means : (v : Version) → Means (site_of v) sizes_text (ordered pieces
 unfolding understood everything
 sizes_means First = record { command = refl; plain = (refl, refl); listing = refl }
 sizes_means Second = record { command = refl; plain = (refl, refl); listing = refl }
+sizes_means Third = record { command = refl; plain = (refl, refl); listing = refl }
 
 abbrev pub numbered_terms : List Term
 numbered_terms = col 1 0 ∷ size_terms
@@ -45,11 +49,13 @@ pub numbered_sizes_means : (v : Version) → Means (site_of v) numbered_sizes_te
 unfolding understood everything
 numbered_sizes_means First = record { command = refl; plain = (refl, refl); listing = refl }
 numbered_sizes_means Second = record { command = refl; plain = (refl, refl); listing = refl }
+numbered_sizes_means Third = record { command = refl; plain = (refl, refl); listing = refl }
 
 pub entries_means : (v : Version) → Means (site_of v) entries_text (ordered entries.tree [] (at_places (1 ∷ 2 ∷ [])) (by_places (1 ∷ []))) (codes "host" ∷ codes "bytes" ∷ [])
 unfolding understood everything
 entries_means First = record { command = refl; plain = (refl, refl); listing = refl }
 entries_means Second = record { command = refl; plain = (refl, refl); listing = refl }
+entries_means Third = record { command = refl; plain = (refl, refl); listing = refl }
 
 -- ---- rowids
 
@@ -60,32 +66,58 @@ pub system_rowids_means : (v : Version) → Means (site_of v) system_rowids_text
 unfolding understood everything
 system_rowids_means First = record { command = refl; plain = (refl, refl); listing = refl }
 system_rowids_means Second = record { command = refl; plain = (refl, refl); listing = refl }
+system_rowids_means Third = record { command = refl; plain = (refl, refl); listing = refl }
 
 pub line_rowids_means : (v : Version) → Means (site_of v) line_rowids_text (rowids_of lines.tree) (codes "rowid" ∷ [])
 unfolding understood everything
 line_rowids_means First = record { command = refl; plain = (refl, refl); listing = refl }
 line_rowids_means Second = record { command = refl; plain = (refl, refl); listing = refl }
+line_rowids_means Third = record { command = refl; plain = (refl, refl); listing = refl }
 
 pub range_rowids_means : (v : Version) → Means (site_of v) range_rowids_text (rowids_of ranges.tree) (codes "rowid" ∷ [])
 unfolding understood everything
 range_rowids_means First = record { command = refl; plain = (refl, refl); listing = refl }
 range_rowids_means Second = record { command = refl; plain = (refl, refl); listing = refl }
+range_rowids_means Third = record { command = refl; plain = (refl, refl); listing = refl }
 
 pub piece_rowids_means : (v : Version) → Means (site_of v) piece_rowids_text (rowids_of pieces.tree) (codes "rowid" ∷ [])
 unfolding understood everything
 piece_rowids_means First = record { command = refl; plain = (refl, refl); listing = refl }
 piece_rowids_means Second = record { command = refl; plain = (refl, refl); listing = refl }
+piece_rowids_means Third = record { command = refl; plain = (refl, refl); listing = refl }
 
 pub entry_rowids_means : (v : Version) → Means (site_of v) entry_rowids_text (rowids_of entries.tree) (codes "rowid" ∷ [])
 unfolding understood everything
 entry_rowids_means First = record { command = refl; plain = (refl, refl); listing = refl }
 entry_rowids_means Second = record { command = refl; plain = (refl, refl); listing = refl }
+entry_rowids_means Third = record { command = refl; plain = (refl, refl); listing = refl }
 
 pub wait_rowids_means : Means site wait_rowids_text (rowids_of success_waits.tree) (codes "rowid" ∷ [])
 unfolding understood everything
 wait_rowids_means = record { command = refl; plain = (refl, refl); listing = refl }
 
+-- the same in version 2
+pub second_wait_rowids_means : Means second_site wait_rowids_text (rowids_of success_waits.tree) (codes "rowid" ∷ [])
+unfolding understood everything
+second_wait_rowids_means = record { command = refl; plain = (refl, refl); listing = refl }
+
+pub link_rowids_means : Means site link_rowids_text (rowids_of links.tree) (codes "rowid" ∷ [])
+unfolding understood everything
+link_rowids_means = record { command = refl; plain = (refl, refl); listing = refl }
+
+pub taken_rowids_means : Means site taken_rowids_text (rowids_of taken.tree) (codes "rowid" ∷ [])
+unfolding understood everything
+taken_rowids_means = record { command = refl; plain = (refl, refl); listing = refl }
+
 -- ---- each is a query
+
+pub link_rowids_ask : IsQuery link_rowids_text
+unfolding everything
+link_rowids_ask = refl
+
+pub taken_rowids_ask : IsQuery taken_rowids_text
+unfolding everything
+taken_rowids_ask = refl
 
 pub wait_rowids_ask : IsQuery wait_rowids_text
 unfolding everything

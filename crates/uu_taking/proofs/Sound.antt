@@ -16,8 +16,8 @@ use Rattle.sqlite_sql.specs.Ops.{is_null}
 use Rattle.sqlite_keyed.proofs.ListLemmas.{all_both}
 use Rattle.sqlite.specs.Schema.{Schema}
 use Rattle.uu_schema.specs.declared.version.Version.{Version}
-use Rattle.uu_schema.specs.declared.version.Version.TheVariants.{First, Second}
-use Rattle.uu_schema.specs.Schema.{site, first_site, site_of, spool, pieces}
+use Rattle.uu_schema.specs.declared.version.Version.TheVariants.{First, Second, Third}
+use Rattle.uu_schema.specs.Schema.{site, first_site, second_site, site_of, spool, pieces}
 
 -- ---- rows of so many values
 
@@ -78,7 +78,8 @@ spool_row_is schema r db present typed =
 
 pub spool_rows_are : (v : Version) (db : Trees) → IsSound (site_of v) db → AllByRecursion IsSpoolRow (db spool.tree)
 spool_rows_are First db sound = all_both _ _ IsSpoolRow (λ r. spool_row_is first_site r db) (db spool.tree) (sound.obeys.rules NotNull).0 (sound.obeys.rules Datatype).0
-spool_rows_are Second db sound = all_both _ _ IsSpoolRow (λ r. spool_row_is site r db) (db spool.tree) (sound.obeys.rules NotNull).0 (sound.obeys.rules Datatype).0
+spool_rows_are Second db sound = all_both _ _ IsSpoolRow (λ r. spool_row_is second_site r db) (db spool.tree) (sound.obeys.rules NotNull).0 (sound.obeys.rules Datatype).0
+spool_rows_are Third db sound = all_both _ _ IsSpoolRow (λ r. spool_row_is site r db) (db spool.tree) (sound.obeys.rules NotNull).0 (sound.obeys.rules Datatype).0
 
 -- ---- the table `pieces`
 
@@ -111,4 +112,5 @@ piece_row_is schema r db present typed =
 
 pub piece_rows_are : (v : Version) (db : Trees) → IsSound (site_of v) db → AllByRecursion HasBytes (db pieces.tree)
 piece_rows_are First db sound = all_both _ _ HasBytes (λ r. piece_row_is first_site r db) (db pieces.tree) (sound.obeys.rules NotNull).1.1.1.1.1.0 (sound.obeys.rules Datatype).1.1.1.1.1.0
-piece_rows_are Second db sound = all_both _ _ HasBytes (λ r. piece_row_is site r db) (db pieces.tree) (sound.obeys.rules NotNull).1.1.1.1.1.0 (sound.obeys.rules Datatype).1.1.1.1.1.0
+piece_rows_are Second db sound = all_both _ _ HasBytes (λ r. piece_row_is second_site r db) (db pieces.tree) (sound.obeys.rules NotNull).1.1.1.1.1.0 (sound.obeys.rules Datatype).1.1.1.1.1.0
+piece_rows_are Third db sound = all_both _ _ HasBytes (λ r. piece_row_is site r db) (db pieces.tree) (sound.obeys.rules NotNull).1.1.1.1.1.0 (sound.obeys.rules Datatype).1.1.1.1.1.0

@@ -1,5 +1,5 @@
 -- What the questions on every row of a table answer, when a database is looked at as a spool.
-use Rattle.std.specs.Prelude.{◌≡◌, ◌<◌, ◌<ℤ◌, ℕ, pos, nat_lt, int_lt, Bool, true, false, ◌==◌, ◌&&◌, ◌||◌, List, [], ◌∷◌, Vec, Option, map, Result, IfOk, OnOk, IfSome, MatchOption}
+use Rattle.std.specs.Prelude.{◌≡◌, ◌<◌, ◌<ℤ◌, ℕ, pos, nat_lt, int_lt, Bool, true, false, ◌==◌, ◌&&◌, ◌||◌, List, [], ◌∷◌, Vec, Option, map, Result, IfOk, OnOk, IfSome, MatchOption, ⊤}
 use Rattle.std.specs.declared.alloc.Global.{Global}
 use Rattle.std.specs.declared.cmp.Ordering.{Ordering}
 use Rattle.std.specs.declared.cmp.Ordering.TheVariants.{Less}
@@ -15,16 +15,18 @@ use Rattle.uu_sql.specs.Spares.{Spares}
 use Rattle.uu_sql.specs.Rowids.{AreNumbered, OnceEach}
 use Rattle.uu_tables.specs.declared.rows.PieceSize.{PieceSize}
 use Rattle.uu_tables.specs.Tables.{Piece, size_of}
-use Rattle.uu_schema.specs.Schema.{site_of, success_waits}
+use Rattle.uu_schema.specs.Schema.{site_of, success_waits, links, taken}
 use Rattle.uu_schema.specs.declared.version.Version.{Version}
-use Rattle.uu_schema.specs.declared.version.Version.TheVariants.{First, Second}
+use Rattle.uu_schema.specs.declared.version.Version.TheVariants.{First, Second, Third}
 use Rattle.uu_tables.specs.declared.rows.WaitColumns.{WaitColumns}
+use Rattle.uu_tables.specs.declared.rows.LinkColumns.{LinkColumns}
+use Rattle.uu_tables.specs.declared.rows.TakenColumns.{TakenColumns}
 use Rattle.uu_schema.specs.Made.{number_of}
-use Rattle.uu_schema.specs.Held.{piece_key, piece_places, wait_key, wait_places}
+use Rattle.uu_schema.specs.Held.{piece_key, piece_places, wait_key, wait_places, link_key, link_places, taken_key, taken_places}
 use Rattle.uu_core.specs.declared.job.JobHead.{JobHead}
-use Rattle.uu_schema.specs.Cells.{job_cells, piece_cells, wait_cells}
-use Rattle.uu_rows.specs.Readable.{IsHead, IsSize, IsWait, size_cells}
-use Rattle.uu_rows.specs.Order.{piece_cmp, size_cmp, wait_cmp}
+use Rattle.uu_schema.specs.Cells.{job_cells, piece_cells, wait_cells, link_cells, taken_cells}
+use Rattle.uu_rows.specs.Readable.{IsHead, IsSize, IsWait, IsLink, IsTaken, size_cells}
+use Rattle.uu_rows.specs.Order.{piece_cmp, size_cmp, wait_cmp, link_cmp, taken_cmp}
 use Rattle.uu_schema.specs.Keyed.{Keyed, columns}
 use Rattle.uu_taking.specs.declared.integer.Integer.{Integer}
 use Rattle.uu_taking.specs.declared.pieces.NumberedSize.{NumberedSize}
@@ -128,3 +130,22 @@ pub record FindsSizes (rows : List Row) (found : Option (Vec PieceSize Global)) 
 abbrev pub FindsWaits : Version → (ℕ → List Row) → Option (Vec WaitColumns Global) → Type 0
 FindsWaits First trees found = MatchOption found ⊥ (λ all. all.items ≡ [])
 FindsWaits Second trees found = FindsRows wait_key wait_cells wait_places IsWait wait_cmp (trees success_waits.tree) found
+FindsWaits Third trees found = FindsRows wait_key wait_cells wait_places IsWait wait_cmp (trees success_waits.tree) found
+
+-- a version that has such a table
+abbrev pub HasWaits : Version → Type 0
+HasWaits First = ⊥
+HasWaits Second = ⊤
+HasWaits Third = ⊤
+
+-- ---- links, and what was taken by them: earlier versions have no tables of them, and none
+
+abbrev pub FindsLinks : Version → (ℕ → List Row) → Option (Vec LinkColumns Global) → Type 0
+FindsLinks First trees found = MatchOption found ⊥ (λ all. all.items ≡ [])
+FindsLinks Second trees found = MatchOption found ⊥ (λ all. all.items ≡ [])
+FindsLinks Third trees found = FindsRows link_key link_cells link_places IsLink link_cmp (trees links.tree) found
+
+abbrev pub FindsTaken : Version → (ℕ → List Row) → Option (Vec TakenColumns Global) → Type 0
+FindsTaken First trees found = MatchOption found ⊥ (λ all. all.items ≡ [])
+FindsTaken Second trees found = MatchOption found ⊥ (λ all. all.items ≡ [])
+FindsTaken Third trees found = FindsRows taken_key taken_cells taken_places IsTaken taken_cmp (trees taken.tree) found

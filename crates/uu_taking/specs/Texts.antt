@@ -44,3 +44,9 @@ entry_rowids_text = codes "SELECT rowid FROM entries ORDER BY rowid"
 
 abbrev pub wait_rowids_text : List ℕ
 wait_rowids_text = codes "SELECT rowid FROM success_waits ORDER BY rowid"
+
+abbrev pub link_rowids_text : List ℕ
+link_rowids_text = codes "SELECT rowid FROM links ORDER BY rowid"
+
+abbrev pub taken_rowids_text : List ℕ
+taken_rowids_text = codes "SELECT rowid FROM taken ORDER BY rowid"

@@ -14,5 +14,7 @@ mod version;
 pub use heads::take_heads;
 pub use pieces::take_sizes;
 pub use spool::take_next;
-pub use taking::{take_entries, take_lines, take_ranges, take_systems, take_waits};
+pub use taking::{
+    take_entries, take_lines, take_links, take_ranges, take_systems, take_taken, take_waits,
+};
 pub use version::names_later;

@@ -4,21 +4,26 @@ ghost use Rattle.std.specs.List.{AllByRecursion};
 ghost use Rattle.sqlite.specs.declared.error.Error.TheVariants.{SqliteFailure};
 ghost use Rattle.sqlite.specs.declared.error.ErrorCode.TheVariants.{OutOfMemory};
 ghost use Rattle.sqlite.specs.Held.{state};
+ghost use Rattle.uu_schema.specs.declared.version.Version.{Version};
 ghost use Rattle.uu_schema.specs.Schema.{systems, lines, ranges, pieces, entries};
 ghost use Rattle.uu_schema.specs.Held.{system_key, line_key, range_key, entry_key, system_places, line_places, range_places, entry_places};
 ghost use Rattle.uu_schema.specs.Cells.{system_cells, line_cells, range_cells, entry_cells};
 ghost use Rattle.uu_rows.specs.Readable.{IsSystem, IsLine, IsRange, IsEntry};
 ghost use Rattle.uu_rows.specs.Order.{system_cmp, line_cmp, range_cmp, entry_cmp};
-ghost use Rattle.uu_taking.specs.Taking.{Rise, AreRowids, IsRead, FindsRows, FindsSizes, FindsWaits, Takes};
+ghost use Rattle.uu_taking.specs.Taking.{Rise, AreRowids, IsRead, FindsRows, FindsSizes, FindsWaits, FindsLinks, FindsTaken, HasWaits, Takes};
 
 use crate::integer::Integer;
 use sqlite::{Alter, Connection, Error, Row};
 use std::alloc::Global;
 use uu_rows::{
-    RowFault, TypedRow, ask, ask_lines, ask_ranges, ask_systems, ask_waits, or_none, read_all,
+    RowFault, TypedRow, ask, ask_lines, ask_links, ask_ranges, ask_systems, ask_taken, ask_waits,
+    or_none, read_all,
 };
 use uu_schema::Version;
-use uu_tables::{EntryColumns, LineColumns, PieceSize, RangeColumns, SystemColumns, WaitColumns};
+use uu_tables::{
+    EntryColumns, LineColumns, LinkColumns, PieceSize, RangeColumns, SystemColumns, TakenColumns,
+    WaitColumns,
+};
 
 // Whether each rowid is below the next.
 fn rises(ids: &[Integer]) -> bool
@@ -146,7 +151,7 @@ fn take_waits_of_table<S: Alter>(
     conn: &mut Connection<S>,
 ) -> Result<Option<Vec<WaitColumns>>, Error>
     ensures idle { conn.old.in_transaction ≡ false → conn.new.in_transaction ≡ false }
-    ensures takes { Takes Version.Second (FindsWaits Version.Second) (state S.Store conn.old) (state S.Store conn.new) result }
+    ensures takes { (v : Version) → HasWaits v → Takes v (FindsWaits v) (state S.Store conn.old) (state S.Store conn.new) result }
 {
     let rows = ask_waits(conn)?;
     let ids = ask(conn, "SELECT rowid FROM success_waits ORDER BY rowid")?;
@@ -166,5 +171,68 @@ pub fn take_waits<S: Alter>(
     match version {
         Version::First => Ok(Some(Vec::new(alloc))),
         Version::Second => take_waits_of_table(alloc, conn),
+        Version::Third => take_waits_of_table(alloc, conn),
+    }
+}
+
+// The numbers below which neighbours ask for none again, by system, of tables that have them.
+fn take_links_of_table<S: Alter>(
+    alloc: Global,
+    conn: &mut Connection<S>,
+) -> Result<Option<Vec<LinkColumns>>, Error>
+    ensures idle { conn.old.in_transaction ≡ false → conn.new.in_transaction ≡ false }
+    ensures takes { Takes Version.Third (FindsLinks Version.Third) (state S.Store conn.old) (state S.Store conn.new) result }
+{
+    let rows = ask_links(conn)?;
+    let ids = ask(conn, "SELECT rowid FROM links ORDER BY rowid")?;
+    found(alloc, &rows, &ids)
+}
+
+/// The numbers below which neighbours ask for none again, by system; an empty
+/// list of versions 1 and 2, of which nothing is asked. None where a row of the table is not a link's,
+/// or two rows have one rowid.
+pub fn take_links<S: Alter>(
+    alloc: Global,
+    conn: &mut Connection<S>,
+    version: Version,
+) -> Result<Option<Vec<LinkColumns>>, Error>
+    ensures idle { conn.old.in_transaction ≡ false → conn.new.in_transaction ≡ false }
+    ensures takes { Takes version (FindsLinks version) (state S.Store conn.old) (state S.Store conn.new) result }
+{
+    match version {
+        Version::First => Ok(Some(Vec::new(alloc))),
+        Version::Second => Ok(Some(Vec::new(alloc))),
+        Version::Third => take_links_of_table(alloc, conn),
+    }
+}
+
+// The jobs that were taken from neighbours, by system and number, of tables that have them.
+fn take_taken_of_table<S: Alter>(
+    alloc: Global,
+    conn: &mut Connection<S>,
+) -> Result<Option<Vec<TakenColumns>>, Error>
+    ensures idle { conn.old.in_transaction ≡ false → conn.new.in_transaction ≡ false }
+    ensures takes { Takes Version.Third (FindsTaken Version.Third) (state S.Store conn.old) (state S.Store conn.new) result }
+{
+    let rows = ask_taken(conn)?;
+    let ids = ask(conn, "SELECT rowid FROM taken ORDER BY rowid")?;
+    found(alloc, &rows, &ids)
+}
+
+/// The jobs that were taken from neighbours, by system and number; an empty
+/// list of versions 1 and 2, of which nothing is asked. None where a row of the table is not such a job's,
+/// or two rows have one rowid.
+pub fn take_taken<S: Alter>(
+    alloc: Global,
+    conn: &mut Connection<S>,
+    version: Version,
+) -> Result<Option<Vec<TakenColumns>>, Error>
+    ensures idle { conn.old.in_transaction ≡ false → conn.new.in_transaction ≡ false }
+    ensures takes { Takes version (FindsTaken version) (state S.Store conn.old) (state S.Store conn.new) result }
+{
+    match version {
+        Version::First => Ok(Some(Vec::new(alloc))),
+        Version::Second => Ok(Some(Vec::new(alloc))),
+        Version::Third => take_taken_of_table(alloc, conn),
     }
 }

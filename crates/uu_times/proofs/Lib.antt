@@ -7,6 +7,11 @@ pub mod GrammarReads
 pub mod LineLemmas
 pub mod NumberLemmas
 pub mod Predefined
+pub mod PrintedLengths
+pub mod PrintedLines
+pub mod PrintedSystems
+pub mod PrintedText
+pub mod PrintedWindows
 pub mod ReadingLemmas
 pub mod Runs
 pub mod ScanDaily

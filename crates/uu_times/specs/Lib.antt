@@ -6,6 +6,7 @@ pub mod Grammar
 pub mod Internal
 pub mod Lines
 pub mod Moment
+pub mod Printed
 pub mod Ranges
 pub mod SysFile
 pub mod System

@@ -1,5 +1,5 @@
 //! Laws of the definitions that the contracts cite.
-ghost use Rattle.std.specs.Prelude.{◌≡◌, ◌<◌, ℕ, Bool, List, None, Ok, Err, All, IsTrue, IfOk, IfErr, map};
+ghost use Rattle.std.specs.Prelude.{◌≡◌, ◌<◌, ◌≤◌, [], ◌∷◌, length, ℕ, Bool, List, None, Ok, Err, All, IsTrue, IfOk, IfErr, map};
 ghost use Rattle.std.specs.List.{filter_map, last_or};
 ghost use Rattle.uu_times.specs.Internal.Simples.{has_minute, simple_of};
 ghost use Rattle.uu_times.specs.Grammar.{Spelling, Spells, has_spelled, IsLongestFront, lower};
@@ -8,6 +8,10 @@ ghost use Rattle.uu_times.specs.Internal.Scan.{list_of};
 ghost use Rattle.uu_times.specs.SysFile.{known, windows_named};
 ghost use Rattle.uu_times.specs.Tables.{Tables, is_table_name, table_at, predefined_strings, predefined_tables, time_of, IsReadAs, IsTimeString};
 ghost use Rattle.jiff_core.specs.Timestamp.{IsOffsetSeconds};
+ghost use Rattle.uu_times.specs.Printed.{sys_text, system_text, IsSystem, NamesDiffer};
+ghost use Rattle.uu_times.specs.SysFile.{sys_file_of};
+ghost use Rattle.uu_times.specs.System.{System};
+ghost use Rattle.uu_names.specs.Text.{most_text};
 ghost use Rattle.uu_times.specs.Zone.{offset_at, said};
 ghost use Rattle.uu_times.specs.declared.days.Simple.{Simple};
 ghost use Rattle.uu_times.specs.declared.zone.Zone.{Zone};
@@ -59,4 +63,11 @@ pub fn zones_are_what_they_say()
     ensures same { (a b : Zone) → said a ≡ said b → (second : ℕ) → offset_at a second ≡ offset_at b second }
     ensures standard { (zone : Zone) → (said zone).dst ≡ None → (second : ℕ) → offset_at zone second ≡ (said zone).std_seconds }
     ensures within { (zone : Zone) (second : ℕ) → IsOffsetSeconds (offset_at zone second) }
+{}
+
+/// The sys file that is printed of systems is read as these systems, in their order, and nothing is
+/// skipped; and the text of one system may be read.
+pub fn printed_systems_are_read()
+    ensures read { (systems : List System) → All IsSystem systems → NamesDiffer systems → sys_file_of (sys_text systems) ≡ Ok (record { systems = systems; skipped = [] }) }
+    ensures short { (system : System) → IsSystem system → length (sys_text (system ∷ [])) ≤ most_text }
 {}

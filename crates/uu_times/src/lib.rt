@@ -7,6 +7,7 @@ pub mod fault;
 pub mod laws;
 mod lines;
 pub mod moment;
+pub mod printed;
 mod scan;
 mod section;
 pub mod sys_file;
@@ -18,6 +19,7 @@ pub mod zone;
 
 pub use fault::TimeFault;
 pub use moment::Moment;
+pub use printed::write_sys;
 pub use sys_file::read_sys;
 pub use system::{Line, SysFile, SystemDef};
 pub use timetable::{Timetables, read_time};

@@ -1,11 +1,26 @@
 //! What follows from the definitions.
-ghost use Rattle.std.specs.Prelude.{List, [], None};
+ghost use Rattle.std.specs.Prelude.{◌≡◌, ℕ, List, [], All, None, Ok, false};
+ghost use Rattle.uu_times.specs.declared.moment.Moment.{Moment};
+ghost use Rattle.uu_core.specs.declared.command.Command.{Command};
+ghost use Rattle.uu_core.specs.declared.command.Command.TheVariants.{QueueOnce};
+ghost use Rattle.uu_core.specs.declared.command.Reply.TheVariants.{Number};
+ghost use Rattle.uu_core.specs.declared.custody.Key.{Key};
+ghost use Rattle.uu_core.specs.declared.job.NewJob.{NewJob};
+ghost use Rattle.uu_core.specs.State.{State};
+ghost use Rattle.uu_core.specs.After.{after};
+ghost use Rattle.uu_core.specs.Run.{state_after};
+ghost use Rattle.uu_core.specs.Laws.{accepted_of, lets_forget};
+ghost use Rattle.uu_line.specs.declared.task.Task.{Task};
 ghost use Rattle.uu_settings.specs.declared.settings.Settings.{Settings};
+ghost use Rattle.uu_request.specs.Attempts.{regraded};
+ghost use Rattle.uu_request.specs.Requests.{one, task_request};
 ghost use Rattle.uu_store.specs.Runs.{Ran};
 ghost use Rattle.uu_store.specs.declared.spool.Spool.{Spool};
+ghost use Rattle.uuspool.specs.Served.{IsOutput};
 ghost use Rattle.uuspool.specs.ServedLines.{AreServed, IsOneRun, Line};
 
 use sqlite::Alter;
+use uu_request::laws::attempts_are_answered_again;
 use uu_store::laws::runs_are_one_run;
 
 /// Lines that are served one after the other over one spool are one run of the commands of their
@@ -17,4 +32,20 @@ pub fn lines_are_one_run<S: Alter>()
     ensures none { (spool : Spool S S.Store) → Ran [] spool spool [] None }
 {
     runs_are_one_run::<S>();
+}
+
+/// What is printed where a neighbour's job is handed in again, by the same user with the same words
+/// and input, is what was printed the first time, and so is the status, whatever the grade, the
+/// settings and the moment are by then: after any run of which no accepted command lets the
+/// neighbour's job be forgotten.
+pub fn attempts_are_told_the_same()
+    ensures { (before now : Settings) (first again : Moment) (input user : List ℕ) (task : Task) (grade : ℕ) (key key_again : Key) (job job_again : NewJob) (state : State) (number : ℕ) (commands : List Command) (output : List ℕ) (status : ℕ)
+        → task_request before first input user task ≡ Ok (one (QueueOnce key job))
+        → task_request now again input user (regraded grade task) ≡ Ok (one (QueueOnce key_again job_again))
+        → (after state (QueueOnce key job)).1 ≡ Number number
+        → All (λ command. lets_forget command key ≡ false) (accepted_of (after state (QueueOnce key job)).0 commands)
+        → IsOutput now (state_after (after state (QueueOnce key job)).0 commands) (one (QueueOnce key_again job_again)) output status
+        → IsOutput before state (one (QueueOnce key job)) output status }
+{
+    attempts_are_answered_again();
 }

@@ -1,16 +1,21 @@
 // What the plain machine holds, and what each command makes of it.
-ghost use Rattle.std.specs.Prelude.{◌≡◌};
-ghost use Rattle.uu_core.specs.After.{after};
+ghost use Rattle.std.specs.Prelude.{◌≡◌, ◌<◌, ◌≤◌, length, MatchResult};
+ghost use Rattle.uu_core.specs.State.{link_of, numbers_end, most_bytes};
+ghost use Rattle.uu_core.specs.After.{after, take_in};
 ghost use Rattle.uu_core.specs.Plain.{state_of, IsInOrder, IsGiven};
 
 use super::copy::heads_of;
+use super::link::link_of;
 use super::rows::{
-    call_of, decide_on, drop_job, drop_jobs, drop_system, has_system, is_waiting, put, regrade,
-    rejuvenate, set_call, system_at,
+    are_known, call_of, decide_on, drop_job, drop_jobs, drop_link, drop_system, has_system,
+    is_waiting, put, put_link, regrade, rejuvenate, set_call, system_at,
 };
-use super::{PlainEntry, PlainJob};
+use super::{PlainEntry, PlainJob, PlainLink};
 use crate::command::{Command, Reply};
-use crate::decide::{decide_done, decide_drop, decide_failed, decide_queue};
+use crate::custody::{HandIn, Key, Taken};
+use crate::decide::{
+    decide_done, decide_drop, decide_failed, decide_forget, decide_queue, decide_queue_once,
+};
 use crate::job::{By, NewJob};
 use crate::refusal::Refusal;
 use crate::system::SystemRow;
@@ -25,6 +30,7 @@ pub(super) struct Lists {
     pub(super) systems: Vec<SystemRow>,
     pub(super) entries: Vec<PlainEntry>,
     pub(super) next: u32,
+    pub(super) links: Vec<PlainLink>,
 }
 
 impl Lists {
@@ -36,12 +42,14 @@ impl Lists {
             Command::Define(def) => self.define(def),
             Command::Remove(name) => Ok(self.remove(&name)),
             Command::Queue(job) => self.queue(job),
+            Command::QueueOnce(key, job) => self.queue_once(alloc, &key, job),
             Command::Kill { job, by } => Ok(self.kill(job, &by)),
             Command::Regrade { job, grade, by } => Ok(self.regrade(job, grade, &by)),
             Command::Rejuvenate { job, at, by } => Ok(self.rejuvenate(job, &at, &by)),
             Command::Failed { system, at, why } => Ok(self.failed(&system, &at, why)),
             Command::Done { system, at, jobs } => self.done(alloc, &system, &at, jobs.as_slice()),
             Command::Entry(bytes) => self.keep(alloc, bytes),
+            Command::Forget { system, below } => self.forget(alloc, &system, below),
         }
     }
 
@@ -62,6 +70,7 @@ impl Lists {
         match decide_drop(known, waiting) {
             Ok(()) => {
                 drop_system(&mut self.systems, name);
+                drop_link(&mut self.links, name);
                 Reply::Done
             }
             Err(refusal) => Reply::Refused(refusal),
@@ -79,6 +88,58 @@ impl Lists {
                 Ok(Reply::Number(number))
             }
             Err(refusal) => Ok(Reply::Refused(refusal)),
+        }
+    }
+
+    fn queue_once(&mut self, alloc: Global, key: &Key, job: NewJob) -> Result<Reply, AllocError>
+        requires { IsInOrder (state_of self.old) }
+        ensures { IsGiven (state_of self.old) (Command.QueueOnce key.now job) result (state_of self.new) }
+    {
+        let link = link_of(alloc, self.links.as_slice(), &key.from)?;
+        let known = are_known(self.systems.as_slice(), key, &job);
+        let taken = link.taken_at(key.number);
+        match decide_queue_once(known, self.next, link.below(), taken, key, &job) {
+            Ok(HandIn::First(number)) => self.take_in(alloc, number, link, key, job),
+            Ok(HandIn::Again(number)) => Ok(Reply::Number(number)),
+            Err(refusal) => Ok(Reply::Refused(refusal)),
+        }
+    }
+
+    // The job is queued under the next number, and its key kept in the link.
+    fn take_in(
+        &mut self,
+        alloc: Global,
+        number: u32,
+        link: PlainLink,
+        key: &Key,
+        job: NewJob,
+    ) -> Result<Reply, AllocError>
+        requires in_order { IsInOrder (state_of self.old) }
+        requires number_is { number ≡ self.old.next }
+        requires some_left { number < numbers_end }
+        requires small { length job.bytes ≤ most_bytes }
+        requires link_is { link ≡ link_of (state_of self.old) key.now.from }
+        ensures { MatchResult result (λ reply. (state_of self.new ≡ take_in (HandIn.First number) key.now job (state_of self.old)) × (reply ≡ Reply.Number number)) (λ _. state_of self.new ≡ state_of self.old) }
+    {
+        let mut link = link;
+        link.take(
+            alloc,
+            Taken {
+                number: key.number,
+                mark: key.mark,
+                job: number,
+            },
+        )?;
+        self.jobs.push(PlainJob::new(number, job))?;
+        match put_link(&mut self.links, link) {
+            Ok(()) => {
+                self.next = number + 1;
+                Ok(Reply::Number(number))
+            }
+            Err(error) => {
+                self.jobs.pop();
+                Err(error)
+            }
         }
     }
 
@@ -163,6 +224,21 @@ impl Lists {
                 Ok(Reply::Done)
             }
             None => Ok(Reply::Refused(Refusal::BadEntry)),
+        }
+    }
+
+    fn forget(&mut self, alloc: Global, system: &SiteName, below: u32) -> Result<Reply, AllocError>
+        requires { IsInOrder (state_of self.old) }
+        ensures { IsGiven (state_of self.old) (Command.Forget system.now below) result (state_of self.new) }
+    {
+        match decide_forget(has_system(self.systems.as_slice(), system)) {
+            Ok(()) => {
+                let mut link = link_of(alloc, self.links.as_slice(), system)?;
+                link.forget(below);
+                put_link(&mut self.links, link)?;
+                Ok(Reply::Done)
+            }
+            Err(refusal) => Ok(Reply::Refused(refusal)),
         }
     }
 }

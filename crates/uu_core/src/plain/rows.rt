@@ -1,16 +1,17 @@
 // Looking up, putting, changing and dropping in the lists.
-ghost use Rattle.std.specs.Prelude.{◌≡◌, ℕ, List, ◌==◌, not, find, filter, map, IfOk, OnOk, OnErr, option_copied, option_map};
+ghost use Rattle.std.specs.Prelude.{◌≡◌, ℕ, List, ◌==◌, ◌&&◌, not, find, filter, map, IfOk, OnOk, OnErr, option_copied, option_map};
 ghost use Rattle.std.specs.List.{list_any};
 ghost use Rattle.uu_core.specs.Refusal.{decided};
-ghost use Rattle.uu_core.specs.State.{is_job, is_system, is_entry, same_text, head_of};
+ghost use Rattle.uu_core.specs.State.{is_job, is_system, is_entry, is_link, same_text, head_of};
 ghost use Rattle.uu_core.specs.Verdict.{job_refusal};
-ghost use Rattle.uu_core.specs.After.{put_by, call_of, change_call, change_job, is_among};
+ghost use Rattle.uu_core.specs.After.{put_by, put_link, call_of, change_call, change_job, is_among};
 ghost use Rattle.uu_core.specs.Plain.{AreByName};
 
 use super::copy::copy_call;
-use super::{PlainEntry, PlainJob};
+use super::{PlainEntry, PlainJob, PlainLink};
+use crate::custody::Key;
 use crate::decide::{decide_job, is_among};
-use crate::job::By;
+use crate::job::{By, NewJob};
 use crate::refusal::Refusal;
 use crate::system::{CallState, Outcome, SystemRow};
 use std::alloc::AllocError;
@@ -28,6 +29,13 @@ pub(super) fn has_system(rows: &[SystemRow], name: &SiteName) -> bool
     ensures { result ≡ list_any (is_system name.now) rows.now }
 {
     rows.iter().any(|row| row.def.name == *name)
+}
+
+// Whether the key's neighbour and the job's system are known.
+pub(super) fn are_known(rows: &[SystemRow], key: &Key, job: &NewJob) -> bool
+    ensures { result ≡ (list_any (is_system key.now.from) rows.now && list_any (is_system job.now.system) rows.now) }
+{
+    has_system(rows, &key.from) && has_system(rows, &job.system)
 }
 
 // Whether a job waits for the system.
@@ -95,6 +103,14 @@ impl Named for PlainEntry {
     }
 }
 
+impl Named for PlainLink {
+    ghost name_of = { λ link. link.name };
+
+    fn name(&self) -> &SiteName {
+        &self.name
+    }
+}
+
 // The item in its place, instead of the one of its name if there is one.
 pub(super) fn put<T: Named>(items: &mut Vec<T>, item: T) -> Result<(), AllocError>
     requires { AreByName T.name_of items.old.items }
@@ -116,6 +132,19 @@ pub(super) fn put<T: Named>(items: &mut Vec<T>, item: T) -> Result<(), AllocErro
     }
     items.push(item)?;
     Ok(())
+}
+
+// A link in its place, where it says something.
+pub(super) fn put_link(links: &mut Vec<PlainLink>, link: PlainLink) -> Result<(), AllocError>
+    requires { AreByName (λ link. link.name) links.old.items }
+    ensures done { OnOk result (links.new.items ≡ put_link link links.old.items) }
+    ensures failed { OnErr result (links.new.items ≡ links.old.items) }
+{
+    if link.says_nothing() {
+        Ok(())
+    } else {
+        put(links, link)
+    }
 }
 
 // The system of the name, if there is one, gets these calls.
@@ -155,6 +184,12 @@ pub(super) fn drop_system(rows: &mut Vec<SystemRow>, name: &SiteName)
     ensures { rows.new.items ≡ filter (λ row. not (is_system name.now row)) rows.old.items }
 {
     rows.retain(|row| row.def.name != *name);
+}
+
+pub(super) fn drop_link(links: &mut Vec<PlainLink>, name: &SiteName)
+    ensures { links.new.items ≡ filter (λ link. not (is_link name.now link)) links.old.items }
+{
+    links.retain(|link| link.name != *name);
 }
 
 pub(super) fn drop_job(jobs: &mut Vec<PlainJob>, number: u32)

@@ -35,6 +35,7 @@ subcommands =
     ∷ (codes "status", [])
     ∷ (codes "failed", codes "system" ∷ codes "why" ∷ [])
     ∷ (codes "done", codes "system" ∷ [])
+    ∷ (codes "forget", codes "system" ∷ codes "job" ∷ [])
     ∷ (codes "map", [])
     ∷ (codes "neighbours", codes "host" ∷ [])
     ∷ []

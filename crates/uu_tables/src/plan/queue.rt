@@ -1,12 +1,12 @@
 // A job that is handed in, with its bytes in pieces.
-ghost use Rattle.std.specs.Prelude.{◌≡◌, ◌≤◌, ℕ, IfOk, length, false};
+ghost use Rattle.std.specs.Prelude.{◌≡◌, ◌<◌, ◌≤◌, ℕ, IfOk, length, false};
 ghost use Rattle.uu_core.specs.declared.command.Command.TheVariants.{Queue};
-ghost use Rattle.uu_core.specs.State.{State, most_bytes, head_of};
+ghost use Rattle.uu_core.specs.State.{State, most_bytes, numbers_end, head_of};
 ghost use Rattle.uu_core.specs.Verdict.{is_too_large};
 ghost use Rattle.uu_core.specs.After.{job_of};
 ghost use Rattle.uu_tables.specs.Tables.{Tables};
 ghost use Rattle.uu_tables.specs.Changes.{applied, new_job};
-ghost use Rattle.uu_tables.specs.Parts.{with_pieces};
+ghost use Rattle.uu_tables.specs.Parts.{with_pieces, with_new_job};
 ghost use Rattle.uu_tables.specs.Plans.{AreFacts, IsPlan};
 
 use super::{Plan, refused};
@@ -55,7 +55,24 @@ fn add_pieces<'a>(
     Ok(())
 }
 
-/// A job that is handed in: its row, its pieces, and the next number.
+/// The changes that add a job under this number: its row, its pieces, and the next number.
+pub(crate) fn add_queued<'a>(
+    alloc: Global,
+    number: u32,
+    job: &'a NewJob,
+) -> Result<Vec<Change<'a>>, AllocError>
+    requires small { is_too_large job.now ≡ false }
+    requires some_left { number < numbers_end }
+    ensures { IfOk result (λ changes. (t : Tables) → applied changes.items t ≡ with_new_job number job.now t) }
+{
+    let columns = columns_of(job);
+    let mut changes = vec![in alloc; Change::AddJob { number, columns }]?;
+    add_pieces(&mut changes, number, job.bytes.as_slice())?;
+    changes.push(Change::SetNext { next: number + 1 })?;
+    Ok(changes)
+}
+
+/// A job that is handed in.
 pub(crate) fn plan_queue<'a>(
     alloc: Global,
     facts: &Facts,
@@ -65,10 +82,7 @@ pub(crate) fn plan_queue<'a>(
 {
     match decide_queue(facts.is_known, facts.next, job) {
         Ok(number) => {
-            let columns = columns_of(job);
-            let mut changes = vec![in alloc; Change::AddJob { number, columns }]?;
-            add_pieces(&mut changes, number, job.bytes.as_slice())?;
-            changes.push(Change::SetNext { next: number + 1 })?;
+            let changes = add_queued(alloc, number, job)?;
             Ok(Plan {
                 reply: Reply::Number(number),
                 changes,

@@ -1,17 +1,17 @@
 use Rattle.std.proofs.Common.{refl, arith}
 use Rattle.sqlite.specs.Held.{state}
 use Rattle.uu_schema.specs.Held.{Migrates}
-use Rattle.uu_schema.specs.Schema.{first_site, site}
+use Rattle.uu_schema.specs.Schema.{site, site_of}
 use Rattle.uu_database.proofs.Becoming.{becomes_ok, becomes_err, migrates_states, halted_unmade, halted_spared}
 use Rattle.uu_database.proofs.preparing.migrate_tables.Goals as goal
 
 pub returns-in-Ok-clause-migrates : goal.returns-in-Ok-clause-migrates
 returns-in-Ok-clause-migrates g c =
-    becomes_ok first_site site Migrates _ migrates_states (state g.S.Store c.args.conn.now) (state g.S.Store c.migrate.new.conn) c.migrate.result (rw c.in-Ok.is refl) c.migrate.ensures.whole
+    becomes_ok (site_of c.args.from) site (Migrates c.args.from) _ (migrates_states c.args.from) (state g.S.Store c.args.conn.now) (state g.S.Store c.migrate.new.conn) c.migrate.result (rw c.in-Ok.is refl) c.migrate.ensures.whole
 
 pub returns-in-Err-clause-migrates : goal.returns-in-Err-clause-migrates
 returns-in-Err-clause-migrates g c =
-    becomes_err first_site site Migrates _ migrates_states (state g.S.Store c.args.conn.now) (state g.S.Store c.migrate.new.conn) (state g.S.Store c.halt_fault.new.conn) c.migrate.result c.halt_fault.result
+    becomes_err (site_of c.args.from) site (Migrates c.args.from) _ (migrates_states c.args.from) (state g.S.Store c.args.conn.now) (state g.S.Store c.migrate.new.conn) (state g.S.Store c.halt_fault.new.conn) c.migrate.result c.halt_fault.result
     (rw c.in-Err.is refl) c.migrate.ensures.whole c.halt_fault.ensures.memory c.halt_fault.ensures.survives
 
 pub returns-in-Err-clause-unmade : goal.returns-in-Err-clause-unmade

@@ -1,6 +1,5 @@
 use Rattle.std.proofs.Common.{Some, refl, sym, ◌∙◌}
 use Rattle.sqlite.specs.Held.{state}
-use Rattle.uu_schema.specs.declared.version.Version.TheVariants.{First}
 use Rattle.uu_database.proofs.Creating.{tables_found, not_nothing, not_other, same_tables, found_is, none_or_other, some_or_other, some_or_none, taken_none, taken_some}
 use Rattle.uu_database.proofs.Inspecting.{inspected_never, inspected_if, becomes_if, spared_self}
 use Rattle.uu_database.proofs.preparing.prepare.Goals as goal
@@ -31,22 +30,22 @@ returns-in-Nothing-clause-spared g c some refused =
 pub returns-in-Spool-clause-spared : goal.returns-in-Spool-clause-spared
 returns-in-Spool-clause-spared g c some refused =
     let a = state g.S.Store c.args.conn.now in
-    c.take_up.ensures.spared (λ first. refused (found_is a c.schema.result.now c.found_in.result c.schema.ensures.value c.found_in.ensures ∙ c.in-Spool.is ∙ (rw first refl)))
+    c.take_up.ensures.spared (λ v early with_them. refused (v, early, found_is a c.schema.result.now c.found_in.result c.schema.ensures.value c.found_in.ensures ∙ c.in-Spool.is ∙ (rw with_them refl)))
 
 pub returns-in-Other-clause-spared : goal.returns-in-Other-clause-spared
 returns-in-Other-clause-spared g c some refused = spared_self (state g.S.Store c.args.conn.now) _
 
 pub returns-in-Nothing-clause-migrates : goal.returns-in-Nothing-clause-migrates
-returns-in-Nothing-clause-migrates g c =
+returns-in-Nothing-clause-migrates g c v early =
     let a = state g.S.Store c.args.conn.now in
     becomes_if _ _ _ a (state g.S.Store c.create_tables.new.conn) c.create_tables.result (λ stands.
-    absurd (not_nothing First (sym c.in-Nothing.is ∙ tables_found First a c.schema.result.now c.found_in.result c.schema.ensures.value c.found_in.ensures stands)))
+    absurd (not_nothing v (sym c.in-Nothing.is ∙ tables_found v a c.schema.result.now c.found_in.result c.schema.ensures.value c.found_in.ensures stands)))
 
 pub returns-in-Spool-clause-migrates : goal.returns-in-Spool-clause-migrates
-returns-in-Spool-clause-migrates g c =
+returns-in-Spool-clause-migrates g c v early =
     let a = state g.S.Store c.args.conn.now in
     becomes_if _ _ _ a (state g.S.Store c.take_up.new.conn) c.take_up.result (λ stands.
-    c.take_up.ensures.migrates (same_tables c.in-Spool.tables (Some First) (sym c.in-Spool.is ∙ tables_found First a c.schema.result.now c.found_in.result c.schema.ensures.value c.found_in.ensures stands)))
+    c.take_up.ensures.migrates v early (same_tables c.in-Spool.tables (Some v) (sym c.in-Spool.is ∙ tables_found v a c.schema.result.now c.found_in.result c.schema.ensures.value c.found_in.ensures stands)))
 
 pub returns-in-Nothing-clause-taken : goal.returns-in-Nothing-clause-taken
 returns-in-Nothing-clause-taken g c =

@@ -14,6 +14,8 @@ returns c v trees found =
       pieces = c.deref-5.result;
       entries = c.deref-6.result;
       success_waits = c.deref-7.result;
+      links = c.deref-8.result;
+      taken = c.deref-9.result;
     } in
     tells v trees c.args.all.now found rows (record {
       next = refl;
@@ -24,4 +26,6 @@ returns c v trees found =
       pieces = c.deref-5.ensures.value;
       entries = c.deref-6.ensures.value;
       success_waits = c.deref-7.ensures.value;
+      links = c.deref-8.ensures.value;
+      taken = c.deref-9.ensures.value;
     }) c.are_tables.result c.are_tables.ensures

@@ -1,7 +1,7 @@
 use Rattle.std.proofs.Common.{drop, inl, inr, refl, subst}
 use Rattle.clap.specs.Words.{found_of, rows_of}
 use Rattle.uu_line.specs.Internal.Entries.{HaveTexts, subcommands, texts_of}
-use Rattle.uu_line.specs.Lines.{MeansDone, MeansFailed, MeansNeighbours, MeansTask}
+use Rattle.uu_line.specs.Lines.{MeansDone, MeansFailed, MeansForget, MeansNeighbours, MeansTask}
 use Rattle.uu_line.proofs.LineLemmas.{never_strange, task_meant}
 use Rattle.uu_line.proofs.entered.call_task_in.Goals as goal
 
@@ -21,8 +21,16 @@ returns-in-done c =
     let rows = rows_of (found_of c.args.given.now) in
     task_meant (MeansDone rows) (MeansTask c.args.name.now rows) c.done_in.result (λ meant means. inr (inr (inr (inr (inr (inr (inr (inr (inr (inr (inr (inr (inr (inr (inr (inr (inl (c.in-done.is, means)))))))))))))))))) c.done_in.ensures
 
+pub forget_in-requires : goal.forget_in-requires
+forget_in-requires c = record { texts = subst (λ name. HaveTexts (texts_of name) (rows_of (found_of c.args.given.now))) c.in-forget.is c.requires.entered.texts; number = c.requires.entered.jobs }
+
+pub returns-in-forget : goal.returns-in-forget
+returns-in-forget c =
+    let rows = rows_of (found_of c.args.given.now) in
+    task_meant (MeansForget rows) (MeansTask c.args.name.now rows) c.forget_in.result (λ meant means. inr (inr (inr (inr (inr (inr (inr (inr (inr (inr (inr (inr (inr (inr (inr (inr (inr (inl (c.in-forget.is, means))))))))))))))))))) c.forget_in.ensures
+
 pub returns-in-map : goal.returns-in-map
-returns-in-map c = inr (inr (inr (inr (inr (inr (inr (inr (inr (inr (inr (inr (inr (inr (inr (inr (inr (inl (c.in-map.is, refl))))))))))))))))))
+returns-in-map c = inr (inr (inr (inr (inr (inr (inr (inr (inr (inr (inr (inr (inr (inr (inr (inr (inr (inr (inl (c.in-map.is, refl)))))))))))))))))))
 
 pub neighbours_in-requires : goal.neighbours_in-requires
 neighbours_in-requires c = subst (λ name. HaveTexts (texts_of name) (rows_of (found_of c.args.given.now))) c.in-neighbours.is c.requires.entered.texts
@@ -30,7 +38,7 @@ neighbours_in-requires c = subst (λ name. HaveTexts (texts_of name) (rows_of (f
 pub returns-in-neighbours : goal.returns-in-neighbours
 returns-in-neighbours c =
     let rows = rows_of (found_of c.args.given.now) in
-    task_meant (MeansNeighbours rows) (MeansTask c.args.name.now rows) c.neighbours_in.result (λ meant means. inr (inr (inr (inr (inr (inr (inr (inr (inr (inr (inr (inr (inr (inr (inr (inr (inr (inr (c.in-neighbours.is, means))))))))))))))))))) c.neighbours_in.ensures
+    task_meant (MeansNeighbours rows) (MeansTask c.args.name.now rows) c.neighbours_in.result (λ meant means. inr (inr (inr (inr (inr (inr (inr (inr (inr (inr (inr (inr (inr (inr (inr (inr (inr (inr (inr (c.in-neighbours.is, means)))))))))))))))))))) c.neighbours_in.ensures
 
 pub unreachable-requires : goal.unreachable-requires
-unreachable-requires c = never_strange c.args.name.now (drop 15 subcommands) (c.in_default.not-failed, (c.in_default.not-done, (c.in_default.not-map, (c.in_default.not-neighbours, tt)))) c.requires.later
+unreachable-requires c = never_strange c.args.name.now (drop 15 subcommands) (c.in_default.not-failed, (c.in_default.not-done, (c.in_default.not-forget, (c.in_default.not-map, (c.in_default.not-neighbours, tt))))) c.requires.later

@@ -1,7 +1,8 @@
-use Rattle.std.proofs.Common.{codes, refl}
-use Rattle.clap.specs.Words.{found_of, rows_of}
+use Rattle.std.proofs.Common.{◌∙◌, codes, refl, subst}
+use Rattle.clap.specs.Words.{first_of, found_of, rows_of}
+use Rattle.clap.proofs.WalkLemmas.{first_value-rows}
 use Rattle.uu_line.specs.Lines.{texts_at}
-use Rattle.uu_line.specs.Lines.{MeansExec, exec_task}
+use Rattle.uu_line.specs.Lines.{Answers, MeansExec, exec_task}
 use Rattle.uu_line.proofs.LineLemmas.{meaning}
 use Rattle.uu_line.proofs.entered.execute_in.Goals as goal
 
@@ -11,5 +12,8 @@ returns c =
     let system = c.text_in-system.result.now in
     let command = c.text_in-command.result.now in
     let rows = rows_of (found_of c.args.given.now) in
-    meaning (MeansExec rows) c.execute_task.result (exec_task grade system command (texts_at (codes "argument") rows))
-    (grade, c.text_in-grade.ensures, (system, c.text_in-system.ensures, (command, c.text_in-command.ensures, refl))) c.execute_task.ensures
+    let texts = texts_at (codes "argument") rows in
+    meaning (MeansExec rows) c.execute_task.result (exec_task grade (first_of (codes "once") rows) system command texts)
+    (grade, c.text_in-grade.ensures, (system, c.text_in-system.ensures, (command, c.text_in-command.ensures, refl)))
+    (subst (λ once. Answers c.execute_task.result (exec_task grade once system command texts))
+    (c.get_str-once.ensures ∙ first_value-rows (found_of c.args.given.now) (codes "once")) c.execute_task.ensures)

@@ -5,5 +5,5 @@ use Rattle.uu_line.proofs.reading.mail_task.Goals as goal
 
 pub returns : goal.returns
 returns c = λ first is.
-    subst (λ f. Answers c.mail_by.result (mail_by c.args.grade f c.args.paths.now))
+    subst (λ f. Answers c.mail_by.result (mail_by c.args.terms f c.args.paths.now))
     (same_some c.in-Some.first.now first _ c.in-Some.ensures.value is) c.mail_by.ensures

@@ -8,7 +8,7 @@ returns-clause-yes c is =
     let lines = c.args.lines.now in
     let ranges = c.args.ranges.now in
     let waits = c.args.waits.now in
-    are_theirs systems lines ranges waits c.are_tables.result (c.are_tables.ensures (alone systems lines ranges waits) (record { next = refl; systems = refl; lines = refl; ranges = refl; jobs = refl; pieces = refl; entries = refl; success_waits = refl })) is
+    are_theirs systems lines ranges waits c.are_tables.result (c.are_tables.ensures (alone systems lines ranges waits) (record { next = refl; systems = refl; lines = refl; ranges = refl; jobs = refl; pieces = refl; entries = refl; success_waits = refl; links = refl; taken = refl })) is
 
 pub returns-clause-no : goal.returns-clause-no
 returns-clause-no c is =
@@ -16,4 +16,4 @@ returns-clause-no c is =
     let lines = c.args.lines.now in
     let ranges = c.args.ranges.now in
     let waits = c.args.waits.now in
-    are_of_none systems lines ranges waits c.are_tables.result (c.are_tables.ensures (alone systems lines ranges waits) (record { next = refl; systems = refl; lines = refl; ranges = refl; jobs = refl; pieces = refl; entries = refl; success_waits = refl })) is
+    are_of_none systems lines ranges waits c.are_tables.result (c.are_tables.ensures (alone systems lines ranges waits) (record { next = refl; systems = refl; lines = refl; ranges = refl; jobs = refl; pieces = refl; entries = refl; success_waits = refl; links = refl; taken = refl })) is

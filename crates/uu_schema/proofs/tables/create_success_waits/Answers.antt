@@ -1,7 +1,7 @@
 use Rattle.std.proofs.Common.{ap}
 use Rattle.sqlite.specs.Held.{state}
 use Rattle.uu_sql.proofs.Steps.{statement}
-use Rattle.uu_schema.specs.Schema.{create_success_waits, success_waits, first_site, site}
+use Rattle.uu_schema.specs.Schema.{create_success_waits, success_waits, first_site, second_site}
 use Rattle.uu_schema.specs.Made.{IsMade}
 use Rattle.uu_schema.proofs.Made.{success_waits_made}
 use Rattle.uu_schema.proofs.Kept.{statement_keeps}
@@ -11,7 +11,7 @@ pub returns-clause-outcome : goal.returns-clause-outcome
 returns-clause-outcome g c =
     let old = state g.S.Store c.args.tx.now.conn.now in
     let new = state g.S.Store c.execute.new.self.conn.now in
-    statement first_site site (IsMade first_site success_waits.tree) create_success_waits _ old new c.execute.result c.execute.ensures.survives c.execute.ensures.runs (λ count stands ran. success_waits_made old new count stands ran)
+    statement first_site second_site (IsMade first_site success_waits.tree) create_success_waits _ old new c.execute.result c.execute.ensures.survives c.execute.ensures.runs (λ count stands ran. success_waits_made old new count stands ran)
 
 pub returns-clause-kept : goal.returns-clause-kept
 returns-clause-kept g c =

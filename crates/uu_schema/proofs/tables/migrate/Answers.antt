@@ -4,10 +4,9 @@ use Rattle.sqlite.specs.State.{HasCleanDisk, Survives}
 use Rattle.sqlite.proofs.StateLemmas.{survives_then}
 use Rattle.sqlite.proofs.Callers.{survives_begin}
 use Rattle.uu_sql.specs.Steps.{Undid, Whole}
-use Rattle.uu_sql.proofs.Steps.{abandoned, committed, whole_as, weaker}
-use Rattle.uu_schema.specs.Schema.{site, first_site}
+use Rattle.uu_sql.proofs.Steps.{abandoned, committed, whole_as}
+use Rattle.uu_schema.specs.Schema.{site, site_of}
 use Rattle.uu_schema.specs.Held.{Migrates}
-use Rattle.uu_schema.proofs.Begun.{migrates}
 use Rattle.uu_schema.proofs.Kept.{rolled_back}
 use Rattle.uu_schema.proofs.tables.migrate.Goals as goal
 
@@ -15,13 +14,13 @@ pub returns : goal.returns
 returns g c =
     let end = c.commit.new.self.0 in
     let same : end ≡ c.conn-2-1.given.0 = search rules in
-    let Step = Migrates in
-    let made = weaker first_site site Step (state g.S.Store c.transaction-tx.result.conn.now) (state g.S.Store c.migrate_tables.new.tx.conn.now) migrates c.in_ok-migrate_tables.ensures.outcome in
+    let Step = Migrates c.args.from in
+    let made = c.in_ok-migrate_tables.ensures.outcome in
     record {
       idle = subst (λ h. (state g.S.Store h).in_transaction ≡ false) same c.commit.ensures.ended;
-      whole = subst (λ h. Whole first_site site Step (state g.S.Store c.args.conn.now) (state g.S.Store h) c.map_err.result) same
-          (whole_as first_site site Step (state g.S.Store c.args.conn.now) (state g.S.Store end) c.commit.result c.map_err.result (search rules)
-          (committed first_site site g.S.Store Step c.args.conn.now (state g.S.Store c.migrate_tables.new.tx.conn.now) (state g.S.Store end) c.commit.ensures.ended (g.met.S.Store.settled end.store) c.commit.result
+      whole = subst (λ h. Whole (site_of c.args.from) site Step (state g.S.Store c.args.conn.now) (state g.S.Store h) c.map_err.result) same
+          (whole_as (site_of c.args.from) site Step (state g.S.Store c.args.conn.now) (state g.S.Store end) c.commit.result c.map_err.result (search rules)
+          (committed (site_of c.args.from) site g.S.Store Step c.args.conn.now (state g.S.Store c.migrate_tables.new.tx.conn.now) (state g.S.Store end) c.commit.ensures.ended (g.met.S.Store.settled end.store) c.commit.result
           (rw c.transaction-tx.ensures.begun at made) c.commit.ensures.survives c.commit.ensures.ok c.commit.ensures.err));
       before = λ error is. absurd (search rules);
       undone = λ error is. absurd (search rules);
@@ -31,11 +30,11 @@ pub returns-in_err-migrate_tables : goal.returns-in_err-migrate_tables
 returns-in_err-migrate_tables g c =
     let end = c.drop-tx.new.self.0 in
     let same : end ≡ c.conn-1.given.0 = search rules in
-    let Step = Migrates in
+    let Step = Migrates c.args.from in
     record {
       idle = subst (λ h. (state g.S.Store h).in_transaction ≡ false) same c.drop-tx.ensures.ended;
-      whole = subst (λ h. Whole first_site site Step (state g.S.Store c.args.conn.now) (state g.S.Store h) c.from_residual.result) same
-          (abandoned first_site site g.S.Store Step c.args.conn.now (state g.S.Store c.migrate_tables.new.tx.conn.now) (state g.S.Store end) c.drop-tx.ensures.ended (g.met.S.Store.settled end.store) c.from_residual.result c.from_residual.ensures.0
+      whole = subst (λ h. Whole (site_of c.args.from) site Step (state g.S.Store c.args.conn.now) (state g.S.Store h) c.from_residual.result) same
+          (abandoned (site_of c.args.from) site g.S.Store Step c.args.conn.now (state g.S.Store c.migrate_tables.new.tx.conn.now) (state g.S.Store end) c.drop-tx.ensures.ended (g.met.S.Store.settled end.store) c.from_residual.result c.from_residual.ensures.0
           (rw c.transaction-tx.ensures.begun at c.in_err-migrate_tables.ensures.outcome) c.drop-tx.ensures.undone c.drop-tx.ensures.survives);
       before = λ error is. subst (λ h. Survives (state g.S.Store c.args.conn.now) (state g.S.Store h) (λ _. ⊥)) same
           (survives_then (state g.S.Store c.args.conn.now) (state g.S.Store c.migrate_tables.new.tx.conn.now) (state g.S.Store end) (λ _. ⊥) (λ _. ⊥) (λ _. ⊥) (λ _ db none. none) (λ _ db none. none)

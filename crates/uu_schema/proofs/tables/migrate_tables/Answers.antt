@@ -1,19 +1,17 @@
+use Rattle.std.proofs.Common.{◌≡◌}
 use Rattle.sqlite.specs.Held.{state}
-use Rattle.sqlite.proofs.InsideLemmas.{keeps_then}
-use Rattle.uu_sql.proofs.Steps.{outcome_then}
-use Rattle.uu_schema.specs.Schema.{first_site, site}
-use Rattle.uu_schema.specs.Made.{IsRaised}
-use Rattle.uu_schema.proofs.Kept.{clean_before}
+use Rattle.uu_schema.specs.declared.version.Version.TheVariants.{First, Second}
+use Rattle.uu_schema.proofs.Begun.{first_migrated, second_migrated}
 use Rattle.uu_schema.proofs.tables.migrate_tables.Goals as goal
 
-pub returns-clause-outcome : goal.returns-clause-outcome
-returns-clause-outcome g c =
-    outcome_then first_site site site IsRaised (state g.S.Store c.args.tx.now.conn.now) (state g.S.Store c.create_success_waits.new.tx.conn.now) (state g.S.Store c.raise_version.new.tx.conn.now) c.raise_version.result
-    c.in_ok-create_success_waits.ensures.outcome c.raise_version.ensures.outcome
-
-pub returns-clause-kept : goal.returns-clause-kept
-returns-clause-kept g c clean =
+pub returns-in-First-clause-outcome : goal.returns-in-First-clause-outcome
+returns-in-First-clause-outcome g c =
     let old = state g.S.Store c.args.tx.now.conn.now in
-    let mid = state g.S.Store c.create_success_waits.new.tx.conn.now in
-    let new = state g.S.Store c.raise_version.new.tx.conn.now in
-    keeps_then old mid new (c.create_success_waits.ensures.kept (clean_before site site IsRaised mid new c.raise_version.result c.raise_version.ensures.outcome clean)) (c.raise_version.ensures.kept clean)
+    let new = state g.S.Store c.migrate_first.new.tx.conn.now in
+    let is : c.args.from ≡ First = c.in-First.is in rw is (first_migrated old new c.migrate_first.result c.migrate_first.ensures.outcome)
+
+pub returns-in-Second-clause-outcome : goal.returns-in-Second-clause-outcome
+returns-in-Second-clause-outcome g c =
+    let old = state g.S.Store c.args.tx.now.conn.now in
+    let new = state g.S.Store c.migrate_second.new.tx.conn.now in
+    let is : c.args.from ≡ Second = c.in-Second.is in rw is (second_migrated old new c.migrate_second.result c.migrate_second.ensures.outcome)

@@ -50,3 +50,15 @@ returns-in-AddSuccessWait-clause-outcome g c = rw c.in-AddSuccessWait.is c.add_s
 
 pub returns-in-RemoveSuccessWait-clause-outcome : goal.returns-in-RemoveSuccessWait-clause-outcome
 returns-in-RemoveSuccessWait-clause-outcome g c = rw c.in-RemoveSuccessWait.is c.remove_success_wait.ensures.outcome
+
+pub returns-in-AddLink-clause-outcome : goal.returns-in-AddLink-clause-outcome
+returns-in-AddLink-clause-outcome g c = rw c.in-AddLink.is c.add_link.ensures.outcome
+
+pub returns-in-RemoveLink-clause-outcome : goal.returns-in-RemoveLink-clause-outcome
+returns-in-RemoveLink-clause-outcome g c = rw c.in-RemoveLink.is c.remove_link.ensures.outcome
+
+pub returns-in-AddTaken-clause-outcome : goal.returns-in-AddTaken-clause-outcome
+returns-in-AddTaken-clause-outcome g c = rw c.in-AddTaken.is c.add_taken.ensures.outcome
+
+pub returns-in-ForgetTaken-clause-outcome : goal.returns-in-ForgetTaken-clause-outcome
+returns-in-ForgetTaken-clause-outcome g c = rw c.in-ForgetTaken.is c.forget_taken.ensures.outcome

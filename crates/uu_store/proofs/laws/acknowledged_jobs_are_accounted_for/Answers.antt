@@ -9,5 +9,5 @@ returns c s told_of counted new number good passes told =
     let numbers = c.numbers_are_not_used_again.ensures in
     let stay = c.jobs_stay_through_runs.ensures in
     let made = c.jobs_are_handed_in.ensures in
-    accounted follow numbers.rise numbers.used stay.queued stay.stays made.step made.run s good new number counted
+    accounted follow numbers.rise numbers.used numbers.handed_in stay.queued stay.stays made.step made.run s good new number counted
     (of_exchanges follow told_of s counted told.0 (Queue new) (Number number) passes told.1 told.2)

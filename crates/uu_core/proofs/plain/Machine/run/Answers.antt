@@ -1,6 +1,7 @@
-use Rattle.std.proofs.Common.{◌+◌, ◌∙◌, length, ap}
+use Rattle.std.proofs.Common.{◌+◌, ◌∙◌, List, length, ap}
 use Rattle.std.proofs.lemmas.Iterator.Adapters.{YieldsList-from_vec}
 use Rattle.std.proofs.lemmas.Iterator.Consumers.{YieldsList-so_far, YieldsList-turn}
+use Rattle.uu_core.specs.declared.command.Reply.{Reply}
 use Rattle.uu_core.specs.Run.{state_after}
 use Rattle.uu_core.proofs.PlainLemmas.{err_holds, state_more, replies_more, seen_first, seen_more}
 use Rattle.uu_core.proofs.plain.Machine.run.Goals as goal
@@ -20,7 +21,7 @@ loop-command-preserved c =
     let before = c.loop-command.invariant in
     record {
       state = state_more first seen c.in-Some.command c.loop-command.self c.step.new.self c.in_ok-reply.reply before.state c.in_ok-reply.ensures;
-      replies = c.in_ok-push.ensures.items ∙ replies_more first seen c.in-Some.command c.loop-command.self c.step.new.self c.in_ok-reply.reply c.loop-command.replies.items before.state c.in_ok-reply.ensures before.replies;
+      replies = ◌∙◌ {A = List Reply} c.in_ok-push.ensures.items (replies_more first seen c.in-Some.command c.loop-command.self c.step.new.self c.in_ok-reply.reply c.loop-command.replies.items before.state c.in_ok-reply.ensures before.replies);
     }
 
 pub returns-in_err-push-clause-failed : goal.returns-in_err-push-clause-failed

@@ -44,11 +44,11 @@ returns-in-Err-clause-stop_when_refused g c clean rests =
     unmade_as (state g.S.Store c.args.conn) (state g.S.Store c.prepare.new.conn) c.in-Err.fault (g.met.S.Store.settled c.args.conn.store) (rw c.in-Err.is at c.prepare.ensures.unmade) clean rests
 
 pub returns-in-Ok-clause-stop_when_migrated : goal.returns-in-Ok-clause-stop_when_migrated
-returns-in-Ok-clause-stop_when_migrated g c clean rests s enc =
+returns-in-Ok-clause-stop_when_migrated g c clean rests v early s enc =
     let same = c.over.ensures.connection in
     let a = state g.S.Store c.args.conn in
     let b = state g.S.Store c.prepare.new.conn in
-    subst (λ h. Leaves (state g.S.Store h) s) (sym same) (adopt_migrates a b (g.met.S.Store.settled c.prepare.new.conn.store) (clean_before c.over.result c.prepare.new.conn same clean) rests (rw c.in-Ok.is at c.prepare.ensures.migrates) s enc)
+    subst (λ h. Leaves (state g.S.Store h) s) (sym same) (adopt_migrates v a b (g.met.S.Store.settled c.prepare.new.conn.store) (clean_before c.over.result c.prepare.new.conn same clean) rests (rw c.in-Ok.is at (c.prepare.ensures.migrates v early)) s enc)
 
 pub returns-in-Err-clause-refusal_changes_nothing : goal.returns-in-Err-clause-refusal_changes_nothing
 returns-in-Err-clause-refusal_changes_nothing g c clean rests =

@@ -1,4 +1,3 @@
-use Rattle.std.proofs.Common.{◌∙◌, ap, map, refl}
 use Rattle.std.specs.Option.{option_copied}
 use Rattle.uu_tables.proofs.ReportLemmas.{success_wait_is_within}
 use Rattle.uu_tables.proofs.plan.report.done_call.Goals.{in-Some, in_default}

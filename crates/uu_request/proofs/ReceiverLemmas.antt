@@ -1,0 +1,87 @@
+-- A line with `--once` is a step of custody.
+use Rattle.std.proofs.Common.{◌≡◌, ◌&&◌, ap, refl, true, ℕ, List, [], ◌∷◌, Some, Ok, codes}
+use Rattle.std.specs.Cmp.Lexicographic.{pointwise}
+use Rattle.std.proofs.lemmas.Bool.{eq-eqb}
+use Rattle.uu_names.specs.Envelope.{envelope_of}
+use Rattle.uu_times.specs.declared.moment.Moment.{Moment}
+use Rattle.uu_core.specs.declared.command.Command.TheVariants as command
+use Rattle.uu_core.specs.declared.job.Kind.{Kind}
+use Rattle.uu_core.specs.declared.job.Kind.TheVariants as kind
+use Rattle.uu_core.specs.declared.job.NewJob.{NewJob}
+use Rattle.uu_line.specs.Lines.{same_text}
+use Rattle.uu_line.specs.declared.origin.Origin.{Origin}
+use Rattle.uu_line.specs.declared.task.Task.{Task}
+use Rattle.uu_line.specs.declared.task.Task.TheVariants as task
+use Rattle.uu_settings.specs.declared.settings.Settings.{Settings}
+use Rattle.uu_request.specs.Attempts.{regraded}
+use Rattle.uu_request.specs.Marks.{handed_text, key_of, mark_of}
+use Rattle.uu_request.specs.Receivers.{is_job, is_made, once_of, same_kind, text_given}
+use Rattle.uu_request.specs.Requests.{one, queue, task_request}
+
+same : (text : List ℕ) → same_text text text ≡ true
+same [] = refl
+same (byte ∷ text) = rw (eq-eqb byte byte refl) (same text)
+
+all_same : (texts : List (List ℕ)) → pointwise same_text texts texts ≡ true
+all_same [] = refl
+all_same (text ∷ texts) = rw (same text) (all_same texts)
+
+kind_same : (k : Kind) → same_kind k k ≡ true
+kind_same (kind.Send source target) = rw (same source, same target) refl
+kind_same (kind.Request source target) = rw (same source, same target) refl
+kind_same (kind.Execute command arguments) = rw (same command, all_same arguments) refl
+
+abbrev job_with : List ℕ → List ℕ → ℕ → Kind → List ℕ → Moment → NewJob
+job_with user system grade k bytes at = record { system = system; grade = grade; user = user; kind = k; bytes = bytes; at = at }
+
+is_its : (user system : List ℕ) (grade : ℕ) (k : Kind) (bytes : List ℕ) (at : Moment) → is_job user system k (job_with user system grade k bytes at) ≡ true
+is_its user system grade k bytes at = rw (same user, same system, kind_same k) refl
+
+with_bytes : (user system : List ℕ) (grade : ℕ) (k : Kind) (bytes : List ℕ) (at : Moment)
+    → (is_job user system k (job_with user system grade k bytes at) && same_text bytes bytes) ≡ true
+with_bytes user system grade k bytes at = rw (is_its user system grade k bytes at, same bytes) refl
+
+-- what a task asks that hands a neighbour's job in
+abbrev IsTaken : Settings → Moment → ℕ → List ℕ → List ℕ → Origin → Task → Type 0
+IsTaken settings at grade input user origin t =
+    (job : NewJob)
+    × (task_request settings at input user (regraded grade t) ≡ Ok (one (command.QueueOnce (record { from = origin.from; number = origin.number; mark = mark_of (text_given user input t) }) job)))
+    × (is_made user input t job ≡ true)
+
+pub takes : (settings : Settings) (at : Moment) (grade : ℕ) (input user : List ℕ) (origin : Origin) (t : Task) → once_of t ≡ Some origin → IsTaken settings at grade input user origin t
+takes settings at grade input user origin (task.Send system source target rank once) is = (
+  job_with user system grade (kind.Send source target) input at,
+  ap (λ o. Ok (queue (key_of o (handed_text (codes "send") system user (source ∷ target ∷ []) input)) user at system grade (kind.Send source target) input)) is,
+  with_bytes user system grade (kind.Send source target) input at,
+)
+takes settings at grade input user origin (task.Request system source target rank once) is = (
+  job_with user system grade (kind.Request source target) [] at,
+  ap (λ o. Ok (queue (key_of o (handed_text (codes "request") system user (source ∷ target ∷ []) [])) user at system grade (kind.Request source target) [])) is,
+  with_bytes user system grade (kind.Request source target) [] at,
+)
+takes settings at grade input user origin (task.Execute rank once system command arguments) is = (
+  job_with user system grade (kind.Execute command arguments) input at,
+  ap (λ o. Ok (queue (key_of o (handed_text (codes "exec") system user (command ∷ arguments) input)) user at system grade (kind.Execute command arguments) input)) is,
+  with_bytes user system grade (kind.Execute command arguments) input at,
+)
+takes settings at grade input user origin (task.Mail rank once system rests) is = (
+  job_with user system grade (kind.Execute (codes "rmail") rests) (envelope_of user at.local settings.name input) at,
+  ap (λ o. Ok (queue (key_of o (handed_text (codes "mail") system user (rests) input)) user at system grade (kind.Execute (codes "rmail") rests) (envelope_of user at.local settings.name input))) is,
+  is_its user system grade (kind.Execute (codes "rmail") rests) (envelope_of user at.local settings.name input) at,
+)
+takes settings at grade input user origin task.Load is = absurd cc
+takes settings at grade input user origin (task.Drop system) is = absurd cc
+takes settings at grade input user origin (task.List filter) is = absurd cc
+takes settings at grade input user origin (task.Show job) is = absurd cc
+takes settings at grade input user origin (task.Kill job) is = absurd cc
+takes settings at grade input user origin (task.Regrade job rank) is = absurd cc
+takes settings at grade input user origin (task.Rejuvenate job) is = absurd cc
+takes settings at grade input user origin task.Due is = absurd cc
+takes settings at grade input user origin (task.When filter) is = absurd cc
+takes settings at grade input user origin (task.Queues filter) is = absurd cc
+takes settings at grade input user origin task.Status is = absurd cc
+takes settings at grade input user origin (task.Failed system why) is = absurd cc
+takes settings at grade input user origin (task.Done system jobs) is = absurd cc
+takes settings at grade input user origin (task.Forget system below) is = absurd cc
+takes settings at grade input user origin task.Map is = absurd cc
+takes settings at grade input user origin (task.Neighbours host) is = absurd cc

@@ -1,0 +1,68 @@
+-- A site that hands in what comes from a neighbour, each job by a line with `--once`: its lines are
+-- steps of custody (`uu_core/specs/Custody.antt`).
+use Rattle.std.specs.Prelude.{◌≡◌, ℕ, Bool, false, ◌&&◌, List, [], ◌∷◌, Option, Some, None, codes}
+use Rattle.std.specs.Cmp.Lexicographic.{pointwise}
+use Rattle.uu_core.specs.Custody.{Crossing, Parcel}
+use Rattle.uu_core.specs.declared.job.Kind.{Kind}
+use Rattle.uu_core.specs.declared.job.Kind.TheVariants as kind
+use Rattle.uu_core.specs.declared.job.NewJob.{NewJob}
+use Rattle.uu_line.specs.Lines.{same_text}
+use Rattle.uu_line.specs.declared.origin.Origin.{Origin}
+use Rattle.uu_line.specs.declared.task.Task.{Task}
+use Rattle.uu_line.specs.declared.task.Task.TheVariants as task
+use Rattle.uu_request.specs.Marks.{handed_text, mark_of}
+
+-- the line by which a parcel is handed in: its user, its task, of which the grade may be another each
+-- time, and its input
+pub record Script : Type 0 where
+  pub user : Parcel → List ℕ
+  pub task : Parcel → Task
+  pub input : Parcel → List ℕ
+
+-- whose job a task hands in
+abbrev pub once_of : Task → Option Origin
+once_of (task.Send system source target grade once) = once
+once_of (task.Request system source target grade once) = once
+once_of (task.Execute grade once system command arguments) = once
+once_of (task.Mail grade once system rests) = once
+once_of other = None
+
+-- each line says that the job is this neighbour's, of the parcel's number
+abbrev pub IsOnce : List ℕ → Script → Type 0
+IsOnce from script = (parcel : Parcel) → once_of (script.task parcel) ≡ Some (record { from = from; number = parcel.number })
+
+-- the text of what a task of a user hands in
+abbrev pub text_given : List ℕ → List ℕ → Task → List ℕ
+text_given user input (task.Send system source target grade once) = handed_text (codes "send") system user (source ∷ target ∷ []) input
+text_given user input (task.Request system source target grade once) = handed_text (codes "request") system user (source ∷ target ∷ []) []
+text_given user input (task.Execute grade once system command arguments) = handed_text (codes "exec") system user (command ∷ arguments) input
+text_given user input (task.Mail grade once system rests) = handed_text (codes "mail") system user rests input
+text_given user input other = []
+
+abbrev pub same_kind : Kind → Kind → Bool
+same_kind (kind.Send source target) (kind.Send from to) = same_text source from && same_text target to
+same_kind (kind.Request source target) (kind.Request from to) = same_text source from && same_text target to
+same_kind (kind.Execute command arguments) (kind.Execute other others) = same_text command other && pointwise same_text arguments others
+same_kind one other = false
+
+-- the job is this user's, for this system, and of this kind
+abbrev pub is_job : List ℕ → List ℕ → Kind → NewJob → Bool
+is_job user system kind job = same_text job.user user && same_text job.system system && same_kind job.kind kind
+
+-- the job is one that a task of this user hands in, with this input as its bytes, or none for a
+-- request; those of a message have an envelope, which is another one each time
+abbrev pub is_made : List ℕ → List ℕ → Task → NewJob → Bool
+is_made user input (task.Send system source target grade once) job = is_job user system (kind.Send source target) job && same_text job.bytes input
+is_made user input (task.Request system source target grade once) job = is_job user system (kind.Request source target) job && same_text job.bytes []
+is_made user input (task.Execute grade once system command arguments) job = is_job user system (kind.Execute command arguments) job && same_text job.bytes input
+is_made user input (task.Mail grade once system rests) job = is_job user system (kind.Execute (codes "rmail") rests) job
+is_made user input other job = false
+
+-- the crossing from a neighbour, by its name here, where this site has a name for the neighbour too
+abbrev pub crossing_of : List ℕ → List ℕ → Script → Crossing
+crossing_of from to script = record {
+  from = from;
+  to = to;
+  mark = λ parcel. mark_of (text_given (script.user parcel) (script.input parcel) (script.task parcel));
+  makes = λ parcel job. is_made (script.user parcel) (script.input parcel) (script.task parcel) job;
+}

@@ -1,0 +1,334 @@
+//! Systems as a sys file, which [`read_sys`](crate::read_sys) reads back.
+ghost use Rattle.std.specs.Prelude.{◌≡◌, ◌∷◌, ◌++◌, ◌<◌, ◌≤◌, ◌/◌, ◌%◌, [], ℕ, Ok, OnOk, IfOk, IfSome, IsTrue, codes, map, length, option_to_list, All};
+ghost use Rattle.std.specs.Fmt.{decimal};
+ghost use Rattle.std.specs.List.{flat_map, filter_map};
+ghost use Rattle.std.specs.String.{string_bytes};
+ghost use Rattle.uu_names.specs.Name.{is_site_name};
+ghost use Rattle.uu_times.specs.Grammar.{two_digits, hours_text};
+ghost use Rattle.uu_times.specs.Printed.{behind, on_day, pieces_on, days_of_week, weekdays_and_ends, same_range, same_ranges, are_alike, weekdays_alike, ends_alike, pieces_of, hours_of, piece_text, part_text, time_text, keyword_text, retry_text, time_words, line_text, system_text, sys_text, IsLine, IsSystem, NamesDiffer};
+ghost use Rattle.uu_times.specs.SysFile.{sys_file_of};
+
+use crate::{Line, SystemDef};
+use std::alloc::{AllocError, Global};
+use uu_names::{Grade, SiteName};
+
+/// The minutes in a day.
+const DAY: u16 = 1440;
+
+/// The rank of the lowest grade, `z`.
+const LOWEST: u8 = 61;
+
+// The minutes that a range has on a day, counted from its midnight.
+fn on_day(day: u16, range: (u16, u16)) -> Option<(u16, u16)>
+    requires { day < 7 }
+    ensures value { result ≡ on_day day range }
+    ensures within { IfSome result (λ part. (part.0 < 1440) × (part.1 < 1440)) }
+{
+    let first = DAY * day;
+    let low = range.0.max(first);
+    let high = range.1.min(first + 1439);
+    if low <= high {
+        Some((low - first, high - first))
+    } else {
+        None
+    }
+}
+
+// Adds a number in two digits.
+fn push_two(text: &mut Vec<u8>, number: u16) -> Result<(), AllocError>
+    requires { number < 100 }
+    ensures { OnOk result (text.new.items ≡ text.old.items ++ two_digits number) }
+{
+    text.push(b'0' + (number / 10) as u8)?;
+    text.push(b'0' + (number % 10) as u8)?;
+    Ok(())
+}
+
+// Adds a minute of the day as a time.
+fn push_time(text: &mut Vec<u8>, minute: u16) -> Result<(), AllocError>
+    requires { minute < 1440 }
+    ensures { OnOk result (text.new.items ≡ text.old.items ++ (two_digits (minute / 60) ++ two_digits (minute % 60))) }
+{
+    push_two(text, minute / 60)?;
+    push_two(text, minute % 60)
+}
+
+// Adds hours, unless they are the whole day.
+fn push_hours(text: &mut Vec<u8>, minutes: (u16, u16)) -> Result<(), AllocError>
+    requires { (minutes.0 < 1440) × (minutes.1 < 1440) }
+    ensures { OnOk result (text.new.items ≡ text.old.items ++ hours_text (hours_of minutes)) }
+{
+    if minutes.0 == 0 && minutes.1 == 1439 {
+        return Ok(());
+    }
+    push_time(text, minutes.0)?;
+    text.push(b'-')?;
+    push_time(text, minutes.1)
+}
+
+// Adds a comma, a day word and hours, where there are some.
+fn push_part(text: &mut Vec<u8>, word: &[u8], minutes: Option<(u16, u16)>) -> Result<(), AllocError>
+    requires { IfSome minutes (λ part. (part.0 < 1440) × (part.1 < 1440)) }
+    ensures { OnOk result (text.new.items ≡ text.old.items ++ part_text word.now minutes) }
+{
+    match minutes {
+        None => Ok(()),
+        Some(minutes) => {
+            text.push(b',')?;
+            text.extend_from_slice(word)?;
+            push_hours(text, minutes)
+        }
+    }
+}
+
+// Adds what ranges have on a day.
+fn push_day(
+    text: &mut Vec<u8>,
+    word: &[u8],
+    day: u16,
+    ranges: &[(u16, u16)],
+) -> Result<(), AllocError>
+    requires { day < 7 }
+    ensures { OnOk result (text.new.items ≡ text.old.items ++ flat_map (λ range. part_text word.now (on_day day range)) ranges.now) }
+{
+    for range in ranges {
+        push_part(text, word, on_day(day, *range))?;
+    }
+    Ok(())
+}
+
+// Adds what ranges have on each day.
+fn push_days(text: &mut Vec<u8>, ranges: &[(u16, u16)]) -> Result<(), AllocError>
+    ensures { OnOk result (text.new.items ≡ text.old.items ++ behind 44 (map piece_text (flat_map (pieces_on ranges.now) days_of_week))) }
+{
+    push_day(text, b"Su", 0, ranges)?;
+    push_day(text, b"Mo", 1, ranges)?;
+    push_day(text, b"Tu", 2, ranges)?;
+    push_day(text, b"We", 3, ranges)?;
+    push_day(text, b"Th", 4, ranges)?;
+    push_day(text, b"Fr", 5, ranges)?;
+    push_day(text, b"Sa", 6, ranges)
+}
+
+// Adds what ranges have on Monday, as on each day to Friday, and at the ends of the week.
+fn push_parts(text: &mut Vec<u8>, ranges: &[(u16, u16)]) -> Result<(), AllocError>
+    ensures { OnOk result (text.new.items ≡ text.old.items ++ behind 44 (map piece_text (flat_map (pieces_on ranges.now) weekdays_and_ends))) }
+{
+    push_day(text, b"Wk", 1, ranges)?;
+    push_day(text, b"Sa", 6, ranges)?;
+    push_day(text, b"Su", 0, ranges)
+}
+
+// Adds a range, where there is one.
+fn push_some(ranges: &mut Vec<(u16, u16)>, range: Option<(u16, u16)>) -> Result<(), AllocError>
+    ensures { OnOk result (ranges.new.items ≡ ranges.old.items ++ option_to_list range) }
+{
+    if let Some(range) = range {
+        ranges.push(range)?;
+    }
+    Ok(())
+}
+
+// What ranges have on a day.
+fn day_ranges(alloc: Global, ranges: &[(u16, u16)], day: u16) -> Result<Vec<(u16, u16)>, AllocError>
+    requires { day < 7 }
+    ensures { IfOk result (λ parts. parts.items ≡ filter_map (on_day day) ranges.now) }
+{
+    let mut parts = Vec::new(alloc);
+    for range in ranges {
+        push_some(&mut parts, on_day(day, *range))?;
+    }
+    Ok(parts)
+}
+
+// Whether a range is the same as another.
+fn same_range(range: (u16, u16), other: (u16, u16)) -> bool
+    ensures { result ≡ same_range range other }
+{
+    range.0 == other.0 && range.1 == other.1
+}
+
+// Whether ranges are the same.
+fn same_ranges(ranges: &[(u16, u16)], others: &[(u16, u16)]) -> bool
+    ensures { result ≡ same_ranges ranges.now others.now }
+{
+    if ranges.len() != others.len() {
+        return false;
+    }
+    for at in 0..ranges.len() {
+        if !same_range(ranges[at], others[at]) {
+            return false;
+        }
+    }
+    true
+}
+
+// Whether ranges have the same minutes on two days.
+#[tactic(auto, unfolding(crate::specs::Printed::are_alike))]
+fn are_alike(alloc: Global, ranges: &[(u16, u16)], day: u16, other: u16) -> Result<bool, AllocError>
+    requires day { day < 7 }
+    requires other { other < 7 }
+    ensures { IfOk result (λ alike. alike ≡ are_alike ranges.now day other) }
+{
+    let parts = day_ranges(alloc, ranges, day)?;
+    let others = day_ranges(alloc, ranges, other)?;
+    Ok(same_ranges(&parts, &others))
+}
+
+// Whether they have the same minutes on each day from Monday to Friday.
+fn weekdays_alike(alloc: Global, ranges: &[(u16, u16)]) -> Result<bool, AllocError>
+    ensures { IfOk result (λ alike. alike ≡ weekdays_alike ranges.now) }
+{
+    let second = are_alike(alloc, ranges, 1, 2)?;
+    let third = are_alike(alloc, ranges, 2, 3)?;
+    let fourth = are_alike(alloc, ranges, 3, 4)?;
+    let fifth = are_alike(alloc, ranges, 4, 5)?;
+    Ok(second && third && fourth && fifth)
+}
+
+// Whether they have on Sunday the minutes of Monday, and on Saturday those of Friday.
+fn ends_alike(alloc: Global, ranges: &[(u16, u16)]) -> Result<bool, AllocError>
+    ensures { IfOk result (λ alike. alike ≡ ends_alike ranges.now) }
+{
+    let first = are_alike(alloc, ranges, 0, 1)?;
+    let last = are_alike(alloc, ranges, 5, 6)?;
+    Ok(first && last)
+}
+
+// Adds what ranges have in the week.
+fn push_week(alloc: Global, text: &mut Vec<u8>, ranges: &[(u16, u16)]) -> Result<(), AllocError>
+    ensures { OnOk result (text.new.items ≡ text.old.items ++ behind 44 (map piece_text (pieces_of ranges.now))) }
+{
+    if !weekdays_alike(alloc, ranges)? {
+        return push_days(text, ranges);
+    }
+    if ends_alike(alloc, ranges)? {
+        return push_day(text, b"Any", 0, ranges);
+    }
+    push_parts(text, ranges)
+}
+
+// Adds a set of minutes as a time string.
+fn push_windows(alloc: Global, text: &mut Vec<u8>, ranges: &[(u16, u16)]) -> Result<(), AllocError>
+    ensures { OnOk result (text.new.items ≡ text.old.items ++ time_text ranges.now) }
+{
+    let mut list = Vec::new(alloc);
+    push_week(alloc, &mut list, ranges)?;
+    match list.as_slice() {
+        [] => text.extend_from_slice(b"Never"),
+        [_, rest @ ..] => text.extend_from_slice(rest),
+    }
+}
+
+// Adds a number.
+fn push_number(alloc: Global, text: &mut Vec<u8>, number: u32) -> Result<(), AllocError>
+    ensures { OnOk result (text.new.items ≡ text.old.items ++ decimal number) }
+{
+    let digits = format!(in alloc; "{number}")?;
+    text.extend_from_slice(digits.as_bytes())
+}
+
+// Adds the keyword of a time line, with the grade where that isn't the lowest.
+fn push_keyword(text: &mut Vec<u8>, grade: Grade) -> Result<(), AllocError>
+    ensures grade { OnOk result (grade < 62) }
+    ensures text { OnOk result (text.new.items ≡ text.old.items ++ keyword_text grade) }
+{
+    if grade.rank() == LOWEST {
+        return text.extend_from_slice(b"time ");
+    }
+    text.extend_from_slice(b"timegrade ")?;
+    text.push(grade.as_byte())?;
+    text.push(b' ')?;
+    Ok(())
+}
+
+// Adds a retry number.
+fn push_retry(alloc: Global, text: &mut Vec<u8>, retry: Option<u32>) -> Result<(), AllocError>
+    ensures { OnOk result (text.new.items ≡ text.old.items ++ retry_text retry) }
+{
+    if let Some(minutes) = retry {
+        text.push(b' ')?;
+        push_number(alloc, text, minutes)?;
+    }
+    Ok(())
+}
+
+// Adds a time line.
+fn push_line(alloc: Global, text: &mut Vec<u8>, line: &Line) -> Result<(), AllocError>
+    ensures is { OnOk result (IsLine line.now) }
+    ensures text { OnOk result (text.new.items ≡ text.old.items ++ line_text (time_words line.now)) }
+{
+    push_keyword(text, line.grade)?;
+    push_windows(alloc, text, line.windows.ranges())?;
+    push_retry(alloc, text, line.retry)?;
+    text.push(b'\n')?;
+    Ok(())
+}
+
+// Adds time lines.
+fn push_lines(alloc: Global, text: &mut Vec<u8>, lines: &[Line]) -> Result<(), AllocError>
+    ensures are { OnOk result (All IsLine lines.now) }
+    ensures text { OnOk result (text.new.items ≡ text.old.items ++ flat_map (λ line. line_text (time_words line)) lines.now) }
+{
+    for line in lines {
+        push_line(alloc, text, line)?;
+    }
+    Ok(())
+}
+
+// Adds a keyword and a number as a line.
+fn push_setting(
+    alloc: Global,
+    text: &mut Vec<u8>,
+    keyword: &[u8],
+    number: u32,
+) -> Result<(), AllocError>
+    ensures { OnOk result (text.new.items ≡ text.old.items ++ line_text (keyword.now ∷ decimal number ∷ [])) }
+{
+    text.extend_from_slice(keyword)?;
+    text.push(b' ')?;
+    push_number(alloc, text, number)?;
+    text.push(b'\n')?;
+    Ok(())
+}
+
+// Adds the line that begins a system.
+fn push_name(text: &mut Vec<u8>, name: &SiteName) -> Result<(), AllocError>
+    ensures is { OnOk result (IsTrue (is_site_name name.now)) }
+    ensures text { OnOk result (text.new.items ≡ text.old.items ++ line_text (codes "system" ∷ name.now ∷ [])) }
+{
+    text.extend_from_slice(b"system ")?;
+    text.extend_from_slice(name.as_str().as_bytes())?;
+    text.push(b'\n')?;
+    Ok(())
+}
+
+// Adds the lines of a system.
+fn push_system(alloc: Global, text: &mut Vec<u8>, system: &SystemDef) -> Result<(), AllocError>
+    ensures is { OnOk result (IsSystem system.now) }
+    ensures text { OnOk result (text.new.items ≡ text.old.items ++ system_text system.now) }
+{
+    push_name(text, &system.name)?;
+    push_setting(alloc, text, b"max-retries", system.max_retries)?;
+    push_setting(alloc, text, b"success-wait", system.success_wait)?;
+    push_lines(alloc, text, system.lines())
+}
+
+/// The systems as a sys file, in their order: for each a `system`, a `max-retries` and a
+/// `success-wait` line, and its time lines in their order, as `time` for the lowest grade and else
+/// as `timegrade`.
+///
+/// Where no two systems have the same name, [`read_sys`](crate::read_sys) of the text gives exactly
+/// these systems (`read`). It reads texts of at most 4,194,304 bytes, which that of one system is
+/// ([`printed_systems_are_read`](crate::laws::printed_systems_are_read)), but that of many may not
+/// be.
+pub fn write_sys(alloc: Global, systems: &[SystemDef]) -> Result<Vec<u8>, AllocError>
+    ensures text { IfOk result (λ text. text.items ≡ sys_text systems.now) }
+    ensures read { IfOk result (λ text. NamesDiffer systems.now → sys_file_of text.items ≡ Ok (record { systems = systems.now; skipped = [] })) }
+{
+    let mut text = Vec::new(alloc);
+    for system in systems {
+        push_system(alloc, &mut text, system)?;
+    }
+    Ok(text)
+}
