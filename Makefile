@@ -35,7 +35,10 @@ quick:
 
 test:
 	@scripts/check-tree
+	@scripts/check-texts
 	@lanes=$$(scripts/lanes) && RT_JOBS=$$lanes rt ci
+	@scripts/check-help
+	@scripts/readme-session
 	@scripts/transcripts
 	@scripts/next-calls
 	@scripts/failing-streams
@@ -44,8 +47,8 @@ test:
 	@scripts/batch-stops
 	@scripts/damaged-files
 	@scripts/desk-test
-	@scripts/refused-memory
 	@scripts/package-test
+	@scripts/refused-memory
 
 install: build
 	@scripts/install build/uuspool '$(PREFIX)' '$(DESTDIR)'
