@@ -17,12 +17,15 @@ use uu_store::{RunEnd, Spool, StoreFault};
 pub(crate) enum Deed {
     /// A call of the spool, after others.
     Call(&'static [Act], Act),
-    /// The database is taken as a spool; it was one before in which this was done.
-    Adopt(&'static [Act]),
+    /// The database is taken as a spool; it was one before in which this was done, and the
+    /// statements changed it then.
+    Adopt(&'static [Act], &'static [&'static str]),
     /// A whole stretch of work.
     AdoptAndRun(&'static [Order]),
     /// The files of a spool in which this was done are closed.
     Close(&'static [Act]),
+    /// Statements change a database, whether it is a spool's or not.
+    Change(&'static [&'static str]),
 }
 
 /// What came of it.
@@ -173,6 +176,22 @@ fn left_by<S: Alter + Drop>(
     }
 }
 
+/// A database once the statements have changed it.
+fn changed<S: Alter>(
+    rt: &impl Abort,
+    conn: Connection<S>,
+    statements: &[&'static str],
+) -> Connection<S>
+    ensures { result.in_transaction ≡ false }
+{
+    let mut conn = conn;
+    for statement in statements {
+        let _rows = conn.execute(statement, &[]).expect(rt, statement);
+    }
+    assert!(rt; conn.is_autocommit(), "a transaction is open");
+    conn
+}
+
 /// What a spool shows, and its store, which is let go.
 fn shown_and_let_go<S: Alter + Drop>(
     rt: &impl Abort,
@@ -275,9 +294,14 @@ fn done_in<S: Alter + Drop>(
 {
     match deed {
         Deed::Call(before, act) => call_in(rt, alloc, conn, before, act, refusing),
-        Deed::Adopt(before) => {
-            let conn = left_by(rt, alloc, conn, before);
+        Deed::Adopt(before, statements) => {
+            let conn = changed(rt, left_by(rt, alloc, conn, before), statements);
             adopt_in(rt, alloc, conn, refusing)
+        }
+        Deed::Change(statements) => {
+            let conn = changed(rt, conn, statements);
+            let met = without_answer(alloc, false, End::Whole, None);
+            (met, conn.into_store())
         }
         Deed::AdoptAndRun(orders) => adopt_and_run_in(rt, alloc, conn, orders, refusing),
         Deed::Close(_) => panic!(rt; "only files are closed"),
@@ -362,6 +386,19 @@ pub(crate) fn prepared(
 ) -> Contents {
     let deed = Deed::Call(acts, Act::Next);
     let (_met, left) = done_in_files(rt, alloc, &nothing(alloc), options, deed, NONE);
+    left.synced
+}
+
+/// What files with these contents hold once the statements have changed their database.
+pub(crate) fn changed_files(
+    rt: &impl Abort,
+    alloc: Global,
+    options: Options,
+    contents: &Contents,
+    statements: &'static [&'static str],
+) -> Contents {
+    let deed = Deed::Change(statements);
+    let (_met, left) = done_in_files(rt, alloc, contents, options, deed, NONE);
     left.synced
 }
 
