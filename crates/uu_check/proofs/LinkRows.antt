@@ -1,8 +1,7 @@
 -- Systems, their links, and what was taken by these.
-use Rattle.std.proofs.Common.{◌≡◌, ℕ, zero, suc, ◌≤◌, ◌<◌, Bool, true, false, not, cond, ◌==◌, List, [], ◌∷◌, ◌++◌, map, length, find, All, AllPairs, IsTrue, Option, Some, None, unwrap_or, inl, inr, refl, sym, ap, subst, ◌∙◌, arith}
-use Rattle.std.specs.Prelude.{◌&&◌, ◌||◌, nat_le, nat_lt}
+use Rattle.std.proofs.Common.{◌≡◌, ℕ, zero, suc, ◌≤◌, ◌<◌, Bool, true, false, not, cond, ◌==◌, List, [], ◌∷◌, ◌++◌, map, find, All, IsTrue, Some, unwrap_or, inl, inr, refl, sym, ap, subst, ◌∙◌, arith}
+use Rattle.std.specs.Prelude.{◌||◌, nat_le}
 use Rattle.std.specs.List.{AllByRecursion, flat_map, list_all, list_any}
-use Rattle.std.specs.Ordering.{is_lt}
 use Rattle.std.proofs.lemmas.Bool.{and_parts, cases_Bool}
 use Rattle.std.proofs.lemmas.Cmp.{nat_list_cmp_total}
 use Rattle.uu_core.specs.declared.custody.Taken.{Taken}
@@ -20,7 +19,7 @@ use Rattle.uu_tables.proofs.SystemLemmas.{each_link}
 use Rattle.uu_tables.proofs.RowLemmas.{each_made}
 use Rattle.uu_check.specs.Walk.{walk, rises}
 use Rattle.uu_check.specs.Tests.{owns_link, fits_link, owns_taken, fits_taken, taken_before, is_given, may_be_asked, are_links, system_before}
-use Rattle.uu_check.proofs.Walks.{Item, Items, items_of, walked, AllPairsByRecursion, Apart, all_append, is_nil, same_items}
+use Rattle.uu_check.proofs.Walks.{Item, items_of, walked, AllPairsByRecursion, Apart, all_append, is_nil, same_items}
 use Rattle.uu_check.proofs.Lists.{by_place, by_recursion, pairs_by_place, pairs_by_recursion, weaker, weaker_pairs, both, mapped_all, unmapped_all, split_all, unflat, flat_pairs, mapped_pairs, risen, does_rise, Across}
 use Rattle.uu_check.proofs.Meanings.{le_from, le_to, lt_from, lt_to, eq_from, less_is, less_apart, not_true, text_from, text_to, text_not}
 
@@ -233,8 +232,7 @@ late_from : (ls : List Link) → AllByRecursion (λ t. may_be_asked (flat_map li
 late_from [] h = tt
 late_from (l ∷ ls) h =
     let rest = flat_map links_of ls in
-    let parts = split_all (λ t. may_be_asked (links_of l ++ rest) t ≡ true) (taken_rows l) (flat_map taken_rows ls) h in
-    (
+    let parts = split_all (λ t. may_be_asked (links_of l ++ rest) t ≡ true) (taken_rows l) (flat_map taken_rows ls) h in (
       weaker _ _ (λ t k. one_late l.name l.below t (all_parts (may_ask (taken_columns l.name t)) (links_of l) rest k).0) l.taken (unmapped_all (λ t. may_be_asked (links_of l ++ rest) t ≡ true) (taken_columns l.name) l.taken parts.0),
       late_from ls (weaker _ _ (λ t k. (all_parts (may_ask t) (links_of l) rest k).1) (flat_map taken_rows ls) parts.1),
     )

@@ -15,7 +15,6 @@ use Rattle.uu_core.specs.declared.system.Outcome.TheVariants.{Never, Failed, Don
 use Rattle.uu_core.specs.declared.system.CallState.{CallState}
 use Rattle.uu_core.specs.declared.system.SystemRow.{SystemRow}
 use Rattle.uu_core.specs.State.{State, Job, MapEntry, Link, IsLink, IsJob, IsCall, IsOutcome, IsDefinition, IsWellFormed, head_of, numbers_end}
-use Rattle.std.specs.List.{list_any}
 use Rattle.uu_core.specs.declared.custody.Taken.{Taken}
 use Rattle.uu_core.specs.Marks.{marks_end}
 use Rattle.uu_core.specs.State.{same_text}

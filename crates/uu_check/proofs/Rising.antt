@@ -10,14 +10,13 @@ use Rattle.uu_times.specs.declared.system.Line.{Line}
 use Rattle.uu_times.specs.Ranges.{AreRunsFrom}
 use Rattle.uu_core.specs.declared.job.JobHead.{JobHead}
 use Rattle.uu_core.specs.declared.system.SystemRow.{SystemRow}
-use Rattle.uu_core.specs.State.{State, Job, MapEntry, Link, IsLink, IsCall, IsDefinition, IsWellFormed, ComesBefore, head_of}
+use Rattle.uu_core.specs.State.{State, Job, MapEntry, IsLink, IsCall, IsDefinition, IsWellFormed, ComesBefore, head_of}
 use Rattle.uu_tables.specs.declared.rows.RangeColumns.{RangeColumns}
 use Rattle.uu_tables.specs.declared.rows.WaitColumns.{WaitColumns}
 use Rattle.uu_core.specs.declared.custody.Taken.{Taken}
 use Rattle.uu_tables.specs.declared.rows.SystemColumns.{SystemColumns}
 use Rattle.uu_tables.specs.declared.rows.LinkColumns.{LinkColumns}
 use Rattle.uu_tables.specs.declared.rows.TakenColumns.{TakenColumns}
-use Rattle.uu_tables.proofs.SystemLemmas.{each_link}
 use Rattle.uu_tables.specs.Tables.{links_from, links_of, taken_columns, taken_rows, waits_from, waits_of, Piece, PlacedLine, tables_of, system_columns, line_columns, range_columns, placed, placed_from, ranges_of, pieces_of, piece_count, entry_columns}
 use Rattle.uu_tables.specs.Order.{line_cmp, range_cmp, piece_cmp, taken_cmp}
 use Rattle.uu_check.specs.Order.{AreInOrder}
