@@ -3,7 +3,7 @@
 ghost use Rattle.std.specs.Prelude.{◌≡◌, false};
 
 use crate::acts::{Act, Answered, End, end_of, is_failed, perform, picture, play, run_answered};
-use crate::files::{Contents, Left, files_of, left_of, nothing};
+use crate::files::{Contents, Left, MANY_PAGES, files_of, left_of, nothing};
 use crate::refusing::{Call, NONE, Outcome, Refusing, outcome_if, was_refused};
 use crate::values::{Order, commands};
 use sqlite::{Alter, Connection, Options};
@@ -619,7 +619,9 @@ impl Call for InMemory {
         // (a database in memory is all that there is to look at)
         let is_seen = met.shown.is_some();
         let outcome = met.judged(self.deed, &self.stages).0;
-        (met.refused, outcome_if(is_seen, outcome))
+        // A commit of a database in memory asks for none, and so no store fails.
+        let is_right = is_seen && outcome != Outcome::Store;
+        (met.refused, outcome_if(is_right, outcome))
     }
 }
 
@@ -638,6 +640,7 @@ pub(crate) struct InFiles {
     deed: Deed,
     stages: Vec<Stage>,
     look: Look,
+    failed: Option<usize>,
 }
 
 impl InFiles {
@@ -660,6 +663,24 @@ impl InFiles {
             deed,
             stages,
             look,
+            failed: None,
+        }
+    }
+
+    /// Whether a fault of the store comes in its place, as request after request is refused. Where
+    /// all pages stay in memory, a commit alone writes the files, and it is the last thing that is
+    /// done at a stage: once a request was told as a fault of the store, no later one of that stage
+    /// is told as want of memory.
+    fn is_in_place(&mut self, outcome: Outcome, place: usize) -> bool {
+        match outcome {
+            Outcome::Store => {
+                self.failed = Some(place);
+                true
+            }
+            Outcome::Memory => {
+                self.options.spill_pages < MANY_PAGES.spill_pages || self.failed != Some(place)
+            }
+            _ => true,
         }
     }
 
@@ -707,7 +728,11 @@ impl Call for InFiles {
             self.deed,
             refusing,
         );
+        if refusing.is_first() {
+            self.failed = None;
+        }
         let (outcome, place) = met.judged(self.deed, &self.stages);
+        let outcome = outcome_if(self.is_in_place(outcome, place), outcome);
         let failed = outcome == Outcome::Store;
         if failed || !matches!(self.deed, Deed::Call(_, _)) {
             self.expect_kept(rt, alloc, &left.synced, place, failed);
