@@ -88,8 +88,8 @@ IsOfYear year second = (new_year year ≤ℤ second) × (second <ℤ new_year (y
 abbrev pub IsInside : ℤ → ℤ → Type 0
 IsInside year second = (new_year year <ℤ second) × (second <ℤ new_year (year +ℤ pos 1))
 
--- The changes of a year lie in that year, also as UTC counts it, and none is its first second. A
--- rule with others isn't followed across the turn of the year: `EST5EDT,0/0,J365/25`, by which it
+-- The changes of a year lie in that year, also as UTC counts it, and none is its first second. The
+-- library moves one that leaves its year to the year's edge: so `EST5EDT,0/0,J365/25`, by which it
 -- always is daylight saving time (RFC 9636), has standard time in the first hours of each year.
 pub record ChangesInside (standard : ℤ) (daylight : DstText) (year begin end : ℤ) : Type 0 where
   pub changes : AreChanges standard daylight year begin end
