@@ -14,7 +14,7 @@ use Rattle.uu_line.specs.declared.task.Task.{Task}
 use Rattle.uu_line.specs.declared.task.Task.TheVariants as task
 use Rattle.uu_settings.specs.declared.settings.Settings.{Settings}
 use Rattle.uu_request.specs.Attempts.{regraded}
-use Rattle.uu_request.specs.Marks.{handed_text, key_of, mark_of}
+use Rattle.uu_request.specs.Marks.{handed_text, key_of, mark_of, marked_text}
 use Rattle.uu_request.specs.Receivers.{is_job, is_made, once_of, same_kind, text_given}
 use Rattle.uu_request.specs.Requests.{one, queue, task_request}
 
@@ -45,7 +45,7 @@ with_bytes user system grade k bytes at = rw (is_its user system grade k bytes a
 abbrev IsTaken : Settings → Moment → ℕ → List ℕ → List ℕ → Origin → Task → Type 0
 IsTaken settings at grade input user origin t =
     (job : NewJob)
-    × (task_request settings at input user (regraded grade t) ≡ Ok (one (command.QueueOnce (record { from = origin.from; number = origin.number; mark = mark_of (text_given user input t) }) job)))
+    × (task_request settings at input user (regraded grade t) ≡ Ok (one (command.QueueOnce (record { from = origin.from; number = origin.number; mark = mark_of (marked_text origin.spool (text_given user input t)) }) job)))
     × (is_made user input t job ≡ true)
 
 pub takes : (settings : Settings) (at : Moment) (grade : ℕ) (input user : List ℕ) (origin : Origin) (t : Task) → once_of t ≡ Some origin → IsTaken settings at grade input user origin t

@@ -10,11 +10,12 @@ use Rattle.uu_line.specs.Lines.{same_text}
 use Rattle.uu_line.specs.declared.origin.Origin.{Origin}
 use Rattle.uu_line.specs.declared.task.Task.{Task}
 use Rattle.uu_line.specs.declared.task.Task.TheVariants as task
-use Rattle.uu_request.specs.Marks.{handed_text, mark_of}
+use Rattle.uu_request.specs.Marks.{handed_text, mark_of, marked_text}
 
--- the line by which a parcel is handed in: its user, its task, of which the grade may be another each
--- time, and its input
+-- The line by which a parcel is handed in: its user, its task, of which the grade may be another each
+-- time, and its input; and the word that each says of the neighbour's spool, where they say one.
 pub record Script : Type 0 where
+  pub spool : Option (List ℕ)
   pub user : Parcel → List ℕ
   pub task : Parcel → Task
   pub input : Parcel → List ℕ
@@ -27,9 +28,10 @@ once_of (task.Execute grade once system command arguments) = once
 once_of (task.Mail grade once system rests) = once
 once_of other = None
 
--- each line says that the job is this neighbour's, of the parcel's number
+-- each line says that the job is this neighbour's, of the parcel's number and of the one spool
 abbrev pub IsOnce : List ℕ → Script → Type 0
-IsOnce from script = (parcel : Parcel) → once_of (script.task parcel) ≡ Some (record { from = from; number = parcel.number })
+IsOnce from script =
+    (parcel : Parcel) → once_of (script.task parcel) ≡ Some (record { from = from; number = parcel.number; spool = script.spool })
 
 -- the text of what a task of a user hands in
 abbrev pub text_given : List ℕ → List ℕ → Task → List ℕ
@@ -63,6 +65,6 @@ abbrev pub crossing_of : List ℕ → List ℕ → Script → Crossing
 crossing_of from to script = record {
   from = from;
   to = to;
-  mark = λ parcel. mark_of (text_given (script.user parcel) (script.input parcel) (script.task parcel));
+  mark = λ parcel. mark_of (marked_text script.spool (text_given (script.user parcel) (script.input parcel) (script.task parcel)));
   makes = λ parcel job. is_made (script.user parcel) (script.input parcel) (script.task parcel) job;
 }
