@@ -1,5 +1,5 @@
 -- The reading of `SYSTEM!NUMBER[!WORD]`.
-use Rattle.std.proofs.Common.{◌≡◌, ◌∙◌, ◌^◌, ◌<◌, ◌≤◌, ◌==◌, ◌&&◌, ap, ap₂, refl, sym, subst, Bool, true, false, cond, not, ◌+◌, ℕ, List, [], ◌∷◌, drop, length, Option, Some, None, Result, Ok, Err, ok_or, arith}
+use Rattle.std.proofs.Common.{◌≡◌, ◌∙◌, ◌^◌, ◌<◌, ◌≤◌, ◌==◌, ◌&&◌, ap, refl, sym, subst, Bool, true, false, cond, not, ◌+◌, ℕ, List, [], ◌∷◌, drop, length, Option, Some, None, Result, Ok, ok_or, arith}
 use Rattle.std.specs.Prelude.{nat_le, nat_lt, slice_index}
 use Rattle.std.specs.List.{list_all, list_any, position_or_len}
 use Rattle.std.specs.Char.{digit_value}
