@@ -331,7 +331,7 @@ const LINES: &[LineCase] = &[
     (
         "serve (send, once)",
         &[LOAD],
-        ("send duke a b --once unc!7", b"abc"),
+        ("send duke a b --once unc!7!w", b"abc"),
         "job 1\n",
     ),
     (
