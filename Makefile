@@ -47,7 +47,6 @@ install: build
 	install -d '$(DESTDIR)$(PREFIX)/share/man/man1' '$(DESTDIR)$(PREFIX)/share/doc/uuspool'
 	install -m 644 man/*.1 '$(DESTDIR)$(PREFIX)/share/man/man1'
 	install -m 644 examples/uuspool.toml examples/uuspool-desk.service docs/mailers.md '$(DESTDIR)$(PREFIX)/share/doc/uuspool'
-	install -m 755 examples/night-calls examples/carry-over-ssh '$(DESTDIR)$(PREFIX)/share/doc/uuspool'
 
 clean:
 	rm -rf build crates/*/out
