@@ -88,7 +88,7 @@ take_answers() {
         esac
     done
     [ -n "${left# }" ] || return 0
-    why=${why:-the line ended with $ended}
+    why=${why:-the line ended with ${ended:-half an answer}}
     complain "$system: $why"
     [ -z "$all" ] || printf 'failed %s\n' "$why"
     return 75
