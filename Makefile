@@ -39,6 +39,8 @@ test:
 	@scripts/batch-stops
 	@scripts/damaged-files
 	@scripts/desk-test
+	@scripts/carriers-test
+	@scripts/network
 	@scripts/refused-memory
 
 install: build
