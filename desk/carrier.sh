@@ -44,9 +44,8 @@ take_input() {
     temporary=$(mktemp -d) && folder=$temporary || exit 75
     trap 'rm -rf -- "$temporary"' EXIT
     trap 'exit 75' HUP INT TERM
-    if ! { cat >"$folder/job" && read -r number _ <"$folder/job" && mv -- "$folder/job" "$folder/$number"; }; then
-        exit 75
-    fi
+    cat >"$folder/job" && read -r number _ <"$folder/job" || exit 75
+    mv -- "$folder/job" "$folder/$number" || exit 75
 }
 
 # The numbers of the jobs, the highest grade first and in one grade by number.
@@ -61,9 +60,9 @@ put_stream() {
     done
 }
 
-# The sender's line of uuspool-take. The inode of the spool's file and its birth tell it from another
-# one, restored or begun anew. No number below the least that waits for the neighbour is handed on
-# again, since those of new jobs are greater.
+# The sender's line of uuspool-take. The inode of the spool's file and its birth tell it from
+# another one, restored or begun anew. No number below the least that waits for the neighbour is
+# handed on again, since those of new jobs are greater.
 tell_sender() {
     name=$("${UUSPOOL:-uuspool-ask}" name) || return
     spool=$(stat -L -c %i.%W -- "${UUSPOOL_FILE:-$site_folder/spool.db}") || return
@@ -102,5 +101,6 @@ leave() {
 # What the neighbour refused is on the disk before it leaves the spool.
 keep() {
     kept=$site_folder/refused
-    mkdir -p -- "$kept" && cp -- "$folder/$number" "$kept/$number" && sync "$kept/$number" "$kept" "$site_folder"
+    mkdir -p -- "$kept" && cp -- "$folder/$number" "$kept/$number" &&
+        sync "$kept/$number" "$kept" "$site_folder"
 }
