@@ -49,6 +49,8 @@ test:
 	@scripts/crossings
 	@scripts/damaged-files
 	@scripts/desk-test
+	@scripts/carriers-test
+	@scripts/network
 	@scripts/refused-memory
 
 install: build
