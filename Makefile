@@ -39,6 +39,7 @@ test:
 	@scripts/batch-stops
 	@scripts/damaged-files
 	@scripts/desk-test
+	@scripts/page-test
 	@scripts/refused-memory
 
 install: build
@@ -46,7 +47,7 @@ install: build
 	scripts/install-desk '$(PREFIX)' '$(DESTDIR)'
 	install -d '$(DESTDIR)$(PREFIX)/share/man/man1' '$(DESTDIR)$(PREFIX)/share/doc/uuspool'
 	install -m 644 man/*.1 '$(DESTDIR)$(PREFIX)/share/man/man1'
-	install -m 644 examples/uuspool.toml examples/uuspool-desk.service docs/mailers.md '$(DESTDIR)$(PREFIX)/share/doc/uuspool'
+	install -m 644 examples/uuspool.toml examples/uuspool-*.service examples/uuspool-page.timer docs/mailers.md '$(DESTDIR)$(PREFIX)/share/doc/uuspool'
 	install -m 755 examples/night-calls examples/carry-over-ssh '$(DESTDIR)$(PREFIX)/share/doc/uuspool'
 
 clean:
