@@ -37,6 +37,7 @@ test:
 	@scripts/syncs
 	@scripts/migration-stops
 	@scripts/batch-stops
+	@scripts/crossings
 	@scripts/damaged-files
 	@scripts/desk-test
 	@scripts/page-test
