@@ -49,6 +49,7 @@ test:
 	@scripts/crossings
 	@scripts/damaged-files
 	@scripts/desk-test
+	@scripts/page-test
 	@scripts/carriers-test
 	@scripts/network
 	@scripts/refused-memory
