@@ -103,13 +103,6 @@ impl Contents {
         self.log.as_slice() == other.log.as_slice() && self.has_same_database(other)
     }
 
-    pub(crate) fn copied(&self, rt: &impl Abort, alloc: Global) -> Contents {
-        Contents {
-            log: self.log.to_vec(alloc).expect(rt, "memory"),
-            db: self.db.to_vec(alloc).expect(rt, "memory"),
-        }
-    }
-
     /// The database file, with no log beside it.
     pub(crate) fn database_alone(self, alloc: Global) -> Contents {
         Contents {

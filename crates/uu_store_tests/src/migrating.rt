@@ -2,7 +2,7 @@
 // tables become those of version 3. Whatever it leaves is one of the two versions, and the spool
 // that is opened afterwards shows what the plain machine holds.
 use crate::disk::{
-    Contents, LONG_LOG, Place, SHORTEST_LOG, Stop, Use, Visitor, change_files, nothing,
+    Contents, LONG_LOG, Place, SHORTEST_LOG, Stop, Use, Visit, Visitor, change_files, nothing,
     visit_files,
 };
 use crate::questions::told_picture;
@@ -77,7 +77,9 @@ fn version_in(rt: &impl Abort, alloc: Global, contents: &Contents) -> u32 {
 /// What a stop leaves.
 #[derive(Clone, Copy)]
 enum Left {
-    /// The version that was.
+    /// The files as they were.
+    Same,
+    /// Other files of the version that was.
     Earlier,
     /// The version that was in what was synced, and version 3 in all that was written.
     Written,
@@ -85,126 +87,76 @@ enum Left {
     Taken,
 }
 
-/// Files of a version, all of which were seen to show the picture.
-#[derive(Drop)]
-struct Seen {
-    contents: Contents,
-    version: u32,
-}
-
-/// Files with these contents show the picture, and name their version. Most stops leave what the one
-/// before left, which was seen.
-fn see(rt: &impl Abort, alloc: Global, last: Seen, contents: Contents, picture: &str) -> Seen {
-    if last.contents.is_same(&contents) {
-        return last;
-    }
-    expect_shown(rt, alloc, &contents, picture);
-    let version = version_in(rt, alloc, &contents);
-    Seen { contents, version }
-}
-
-/// What the last stop left: what was synced, and all that was written.
-#[derive(Drop)]
-struct Last {
-    is_taken: bool,
-    synced: Seen,
-    written: Seen,
-}
-
-impl Last {
-    /// What was left of files of the version that was.
-    fn left(&self, rt: &impl Abort, was: u32) -> Left {
-        match (self.is_taken, self.synced.version, self.written.version) {
-            (false, synced, written) if synced == was && written == was => Left::Earlier,
-            (false, synced, 3) if synced == was => Left::Written,
-            (true, 3, 3) => Left::Taken,
-            _ => panic!(rt; "another version"),
-        }
+/// What files hold after a stop that left something else than the files as they were.
+fn left_by(rt: &impl Abort, alloc: Global, visit: &Visit, was: u32, picture: &str) -> Left {
+    expect_shown(rt, alloc, &visit.synced, picture);
+    expect_shown(rt, alloc, &visit.written, picture);
+    let synced = version_in(rt, alloc, &visit.synced);
+    let written = version_in(rt, alloc, &visit.written);
+    match (visit.is_taken(), synced == was, written) {
+        (false, true, 3) => Left::Written,
+        (true, false, 3) if synced == 3 => Left::Taken,
+        (false, true, _) if written == was => Left::Earlier,
+        _ => panic!(rt; "another version"),
     }
 }
 
-/// Opens the files up to the stop, where the last stop left this.
 fn stop_at(
     rt: &impl Abort,
     alloc: Global,
     contents: &Contents,
+    was: u32,
     used: Use,
-    last: Last,
     picture: &str,
-) -> Last {
+) -> Left {
     let visit = visit_files(rt, alloc, contents, used, &mut no_command());
-    Last {
-        is_taken: visit.is_taken(),
-        synced: see(rt, alloc, last.synced, visit.synced, picture),
-        written: see(rt, alloc, last.written, visit.written, picture),
+    if visit.synced.is_same(contents) && visit.written.is_same(contents) {
+        assert!(rt; !visit.is_taken(), "taken as the version that was");
+        return Left::Same;
     }
+    left_by(rt, alloc, &visit, was, picture)
 }
 
-/// How many stops left files of the version that was, and how many left version 3 where all that was
-/// written was kept.
-#[derive(Clone, Copy)]
-struct Stops {
-    earlier: u32,
-    written: u32,
-}
-
-/// Stops at each call of one file, counting up until the files are taken.
+/// Stops at each call of one file, counting up until the files are taken: how many left other files
+/// of the version that was, and how many left version 3 where all that was written was kept.
 fn stop_at_each_call(
     rt: &impl Abort,
     alloc: Global,
     was: Earlier,
     place: Place,
     options: Options,
-) -> Stops {
+) -> (u32, u32) {
+    let contents = files_of(rt, alloc, was);
+    assert_eq!(rt; version_in(rt, alloc, &contents), was.version);
     let machine = machine_after(rt, alloc, TWO_SYSTEMS, COUNT);
     let picture = told_picture(rt, alloc, &machine);
-    let contents = files_of(rt, alloc, was);
-    let mut last = untouched(rt, alloc, &contents, picture.as_str());
-    let mut stops = Stops {
-        earlier: 0,
-        written: 0,
-    };
+    expect_shown(rt, alloc, &contents, picture.as_str());
+    let mut earlier = 0u32;
+    let mut written = 0u32;
     for calls in 0..10_000 {
         let used = Use::stopped(options, Stop { place, calls });
-        last = stop_at(rt, alloc, &contents, used, last, picture.as_str());
-        match last.left(rt, was.version) {
-            Left::Earlier => stops.earlier = stops.earlier.saturating_add(1),
-            Left::Written => stops.written = stops.written.saturating_add(1),
-            Left::Taken => return stops,
+        match stop_at(rt, alloc, &contents, was.version, used, picture.as_str()) {
+            Left::Same => {}
+            Left::Earlier => earlier = earlier.saturating_add(1),
+            Left::Written => written = written.saturating_add(1),
+            Left::Taken => return (earlier, written),
         }
     }
     panic!(rt; "no opening ends")
 }
 
-/// What no stop left: the files as they were.
-fn untouched(rt: &impl Abort, alloc: Global, contents: &Contents, picture: &str) -> Last {
-    expect_shown(rt, alloc, contents, picture);
-    let version = version_in(rt, alloc, contents);
-    Last {
-        is_taken: false,
-        synced: Seen {
-            contents: contents.copied(rt, alloc),
-            version,
-        },
-        written: Seen {
-            contents: contents.copied(rt, alloc),
-            version,
-        },
-    }
-}
-
 // The last stop falls between the frames of the one commit and their sync.
 fn stops_of_the_log(rt: &impl Abort, alloc: Global, was: Earlier) {
-    let stops = stop_at_each_call(rt, alloc, was, Place::Log, LONG_LOG);
-    assert!(rt; stops.earlier > 20, "hardly a stop before the commit");
-    assert!(rt; stops.written > 0, "no stop within the commit");
+    let (earlier, written) = stop_at_each_call(rt, alloc, was, Place::Log, LONG_LOG);
+    assert!(rt; earlier > 0, "no stop before the commit");
+    assert!(rt; written > 0, "no stop within the commit");
 }
 
 // The log is copied before the transaction begins.
 fn stops_of_the_database(rt: &impl Abort, alloc: Global, was: Earlier) {
-    let stops = stop_at_each_call(rt, alloc, was, Place::Database, SHORTEST_LOG);
-    assert!(rt; stops.earlier > 20, "hardly a stop within the copy of the log");
-    assert_eq!(rt; stops.written, 0, "version 3 in the database file");
+    let (earlier, written) = stop_at_each_call(rt, alloc, was, Place::Database, SHORTEST_LOG);
+    assert!(rt; earlier > 0, "no stop within the copy of the log");
+    assert_eq!(rt; written, 0, "version 3 in the database file");
 }
 
 #[test]
