@@ -334,12 +334,7 @@ const LINES: &[LineCase] = &[
         ("send duke a b --once unc!7", b"abc"),
         "job 1\n",
     ),
-    (
-        "serve (forget)",
-        &[LOAD],
-        ("forget unc 7", b""),
-        "done\n",
-    ),
+    ("serve (forget)", &[LOAD], ("forget unc 7", b""), "done\n"),
     ("serve (map)", &[], ("map", MAP), "unc done\n"),
     (
         "serve (neighbours)",
@@ -510,7 +505,13 @@ fn taken_in_memory<R: Abort + Print>(rt: &R, alloc: Global, (name, acts, stateme
     let name = (format!(in alloc; "{name} in memory)")).expect(rt, "memory");
     let stages = only_stage(rt, alloc, acts);
     let deed = Deed::Adopt(acts, statements);
-    refuse_each(rt, alloc, name.as_str(), LATER, &mut InMemory { deed, stages });
+    refuse_each(
+        rt,
+        alloc,
+        name.as_str(),
+        LATER,
+        &mut InMemory { deed, stages },
+    );
 }
 
 fn takings() -> &'static [Taking] {
