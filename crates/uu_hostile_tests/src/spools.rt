@@ -518,7 +518,13 @@ fn taken_in_memory<R: Abort + Print>(rt: &R, alloc: Global, (name, acts, stateme
     let name = (format!(in alloc; "{name} in memory)")).expect(rt, "memory");
     let stages = only_stage(rt, alloc, acts);
     let deed = Deed::Adopt(acts, statements);
-    refuse_each(rt, alloc, name.as_str(), LATER, &mut InMemory { deed, stages });
+    refuse_each(
+        rt,
+        alloc,
+        name.as_str(),
+        LATER,
+        &mut InMemory { deed, stages },
+    );
 }
 
 fn takings() -> &'static [Taking] {
