@@ -7,6 +7,7 @@ ghost use Rattle.sqlite_wal.specs.Reads.{AreClean};
 ghost use Rattle.sqlite_store.specs.FileStore.{view};
 ghost use Rattle.uu_core.specs.declared.job.NewJob.{NewJob};
 ghost use Rattle.uu_core.specs.State.{State};
+ghost use Rattle.uu_database.specs.Encoded.{Leaves};
 ghost use Rattle.uu_schema.specs.declared.fault.StoreKind.{StoreKind};
 ghost use Rattle.uu_schema.specs.Faults.{IsFresh};
 ghost use Rattle.uu_store.specs.Acknowledged.{IsAcknowledged, ShowsJob};
@@ -142,6 +143,7 @@ pub fn start_again<H: FileHistory, T: Start>(
     // Beside that, it is opened as any, so that further stretches go on from it.
     ensures usable { IfOk result (λ spool. has_failed spool ≡ false) }
     ensures started { IfOk result (Started (image_at T.Start)) }
+    ensures alone { IfOk result (λ spool. HasCleanDisk (disk spool) → (s : State) → ImageKeeps (image_at T.Start) s → Leaves (disk spool) s) }
     ensures never_other { IfOk result (λ spool. HasCleanDisk (disk spool) → ¬ ImageHasOther (image_at T.Start)) }
     ensures left_same { IfOk result (λ spool. HasCleanDisk (disk spool) → LeavesSame (image_at T.Start) (disk spool).may_leave) }
     ensures never_failed { IfErr result (λ e. e.fault ≢ StoreFault.Failed) }
