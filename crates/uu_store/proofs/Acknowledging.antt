@@ -1,5 +1,5 @@
 -- That a job whose number was told is accounted for.
-use Rattle.std.proofs.Common.{◌≡◌, ◌⊎◌, ◌≤◌, ◌<◌, inl, inr, ℕ, zero, suc, ◌+◌, Bool, true, false, cond, ◌==◌, List, [], ◌∷◌, ◌++◌, length, get_or, find, Option, Some, None, All, Contains, refl, sym, ap, subst, ◌∙◌, append_assoc, arith}
+use Rattle.std.proofs.Common.{◌≡◌, ◌⊎◌, ◌≤◌, ◌<◌, inl, inr, ℕ, zero, suc, ◌+◌, Bool, true, false, List, [], ◌∷◌, ◌++◌, length, get_or, find, Option, Some, None, All, Contains, refl, sym, ap, subst, ◌∙◌, append_assoc, arith}
 use Rattle.std.specs.Prelude.{zip}
 use Rattle.std.proofs.lemmas.Bool.{eqb-true}
 use Rattle.std.proofs.lemmas.Bool.Decides.{nat_tests}
@@ -10,19 +10,15 @@ use Rattle.uu_core.specs.declared.command.Command.TheVariants.{Define, Remove, Q
 use Rattle.uu_core.specs.declared.command.Reply.{Reply}
 use Rattle.uu_core.specs.declared.command.Reply.TheVariants.{Number, Refused}
 use Rattle.uu_core.specs.declared.refusal.Refusal.{Refusal}
-use Rattle.uu_core.specs.declared.custody.HandIn.TheVariants.{First, Again}
 use Rattle.uu_core.specs.declared.custody.Key.{Key}
-use Rattle.uu_core.specs.declared.custody.Taken.{Taken}
 use Rattle.uu_core.specs.declared.job.NewJob.{NewJob}
-use Rattle.uu_core.specs.State.{State, Job, IsWellFormed, is_job, is_taken, link_of}
-use Rattle.uu_core.specs.Verdict.{verdict, is_again, taken_of}
-use Rattle.uu_core.specs.After.{after, after_verdict, hand_in_of, job_of, number_of}
+use Rattle.uu_core.specs.State.{State, Job, IsWellFormed, is_job}
+use Rattle.uu_core.specs.Verdict.{verdict}
+use Rattle.uu_core.specs.After.{after, after_verdict, job_of}
 use Rattle.uu_core.specs.Run.{state_after, replies_to}
-use Rattle.uu_core.specs.Laws.{accepted_of, unless_refused, handed_by, is_repeat, lets_go, IsSameJob, IsAmong, IsHandedIn, IsOfRun}
-use Rattle.uu_core.proofs.CustodyLemmas.{find-there}
+use Rattle.uu_core.specs.Laws.{accepted_of, unless_refused, handed_by, is_repeat, lets_go, IsSameJob, IsAmong, IsHandedIn, IsOfRun, IsKept, IsFirstUnder}
 use Rattle.uu_store.specs.Exchanges.{Exchange, Counts, Passes}
 use Rattle.uu_store.specs.Acknowledged.{IsThere, WasLetGo, IsAccountedFor, IsAccountedForUnder}
-use Rattle.uu_store.proofs.KeyOrigins.{HasOrigin, key_with, origin_in}
 
 -- ---- lists
 
@@ -308,62 +304,20 @@ module _
             accounted_in counted new (record { before = it.before; command = Queue new; behind = it.behind; is = it.is;
               made = record { new = new; command_is = refl; accepted = taken; first = refl; job_is = ap (λ n. job_of n new) (is_next at (Queue new) new first it.told) } })
 
-        module _ (counted : List Command) (key : Key) (new : NewJob) (it : Placed s counted (QueueOnce key new) (Number number)) where
-          abbrev once_at : State
-          once_at = state_after s it.before
+        pub accounted_under : ((state : State) (key : Key) (job : NewJob) (given : ℕ) → (after state (QueueOnce key job)).1 ≡ Number given → IsKept (after state (QueueOnce key job)).0 key given)
+            → ((state : State) (commands : List Command) (key : Key) (given : ℕ) → IsKept (state_after state commands) key given → IsKept state key given ⊎ ((first : NewJob) × IsFirstUnder state commands key first given))
+            → (counted : List Command) (key : Key) (new : NewJob) → Placed s counted (QueueOnce key new) (Number number) → IsAccountedForUnder s counted key number
+        accounted_under keeps origin counted key new it = by-origin (origin s (it.before ++ QueueOnce key new ∷ []) key number then_kept)
+          where
+            then_kept : IsKept (state_after s (it.before ++ QueueOnce key new ∷ [])) key number
+            then_kept = subst (λ t. IsKept t key number) (sym (follow s it.before (QueueOnce key new ∷ []))) (keeps (state_after s it.before) key new number it.told)
 
-          under : (before behind : List Command) (first : NewJob) → counted ≡ before ++ QueueOnce key first ∷ behind → IsHandedIn (state_after s before) (QueueOnce key first) (job_of number first) → IsAccountedForUnder s counted key number
-          under before behind first is handed_in =
-              inr (first, record { before = before; behind = behind; counted_is = is; handed_in = handed_in },
-              accounted_in counted first (record { before = before; command = QueueOnce key first; behind = behind; is = is; made = handed_in }))
+            counted_is : counted ≡ (it.before ++ QueueOnce key new ∷ []) ++ it.behind
+            counted_is = it.is ∙ sym (append_assoc it.before (QueueOnce key new ∷ []) it.behind)
 
-          for_the_first_time : is_repeat once_at (QueueOnce key new) ≡ false → IsAccountedForUnder s counted key number
-          for_the_first_time fresh =
-              let taken = accepts once_at (QueueOnce key new) it.told in
-              let first : IsHandedIn once_at (QueueOnce key new) (job_of once_at.next new) = record { new = new; command_is = refl; accepted = taken; first = fresh; job_is = refl } in
-              under it.before it.behind new it.is (record { new = new; command_is = refl; accepted = taken; first = fresh; job_is = ap (λ n. job_of n new) (is_next once_at (QueueOnce key new) new first it.told) })
-
-          of_row : (row : Taken) → row ≡ record { number = key.number; mark = key.mark; job = number } → (taken_of s key ≡ Some row) ⊎ HasOrigin s it.before key row → IsAccountedForUnder s counted key number
-          of_row row is (inl was) = inl (record { kept = was ∙ ap (λ r. Some r) is; job = kept_from s counted })
-          of_row row is (inr h) =
-              let mark : row.mark ≡ key.mark = ap (λ (r : Taken). r.mark) is in
-              let command_is : h.command ≡ QueueOnce key h.origin.first = h.origin.command_is ∙ ap (λ m. QueueOnce (key_with key m) h.origin.first) mark in
-              let number_is : number ≡ (state_after s h.before).next = sym (ap (λ (r : Taken). r.job) is) ∙ h.origin.job in
-              under h.before (h.behind ++ QueueOnce key new ∷ it.behind) h.origin.first
-              (it.is ∙ ap (λ l. l ++ QueueOnce key new ∷ it.behind) h.run_is ∙ append_assoc h.before (h.command ∷ h.behind) (QueueOnce key new ∷ it.behind) ∙ ap (λ c. h.before ++ c ∷ (h.behind ++ QueueOnce key new ∷ it.behind)) command_is)
-              (record {
-                new = h.origin.first;
-                command_is = refl;
-                accepted = ap (verdict (state_after s h.before)) (sym command_is) ∙ h.origin.accepted;
-                first = ap (is_repeat (state_after s h.before)) (sym command_is) ∙ h.origin.new;
-                job_is = ap (λ n. job_of n h.origin.first) number_is;
-              })
-
-          again : (row : Taken) → taken_of once_at key ≡ Some row → row.mark == key.mark ≡ true → IsAccountedForUnder s counted key number
-          again row is mark = of_row row row_is (origin_in s it.before key row is)
-            where
-              told : Number row.job ≡ Number number
-              told =
-                  sym (ap (λ o. Number (number_of (hand_in_of o key once_at.next))) is ∙ ap (λ t. Number (number_of (cond t (Again row.job) (First once_at.next)))) mark)
-                  ∙ sym (ap (λ v. (after_verdict v once_at (QueueOnce key new)).1) (accepts once_at (QueueOnce key new) it.told))
-                  ∙ it.told
-
-              same : Number row.job ≡ Number number → row.job ≡ number
-              same e = cc
-
-              row_is : row ≡ record { number = key.number; mark = key.mark; job = number }
-              row_is =
-                  ap (λ n. record row { number = n }) (eqb-true row.number key.number (find-there (is_taken key.number) (link_of once_at key.from).taken row is).1)
-                  ∙ ap (λ m. record { number = key.number; mark = m; job = row.job }) (eqb-true row.mark key.mark mark)
-                  ∙ ap (λ j. record { number = key.number; mark = key.mark; job = j }) (same told)
-
-          pub accounted_under : IsAccountedForUnder s counted key number
-          accounted_under = by-taken (taken_of once_at key) refl
-            where
-              by-mark : (row : Taken) → taken_of once_at key ≡ Some row → (t : Bool) → row.mark == key.mark ≡ t → IsAccountedForUnder s counted key number
-              by-mark row is true e = again row is e
-              by-mark row is false e = for_the_first_time (ap (λ o. is_again o key) is ∙ e)
-
-              by-taken : (o : Option Taken) → taken_of once_at key ≡ o → IsAccountedForUnder s counted key number
-              by-taken None is = for_the_first_time (ap (λ o. is_again o key) is)
-              by-taken (Some row) is = by-mark row is (row.mark == key.mark) refl
+            by-origin : IsKept s key number ⊎ ((first : NewJob) × IsFirstUnder s (it.before ++ QueueOnce key new ∷ []) key first number) → IsAccountedForUnder s counted key number
+            by-origin (inl was) = inl (record { kept = was; job = kept_from s counted })
+            by-origin (inr (first, h)) =
+                let is : counted ≡ h.before ++ QueueOnce key first ∷ (h.behind ++ it.behind) = counted_is ∙ ap (λ l. l ++ it.behind) h.run_is ∙ append_assoc h.before (QueueOnce key first ∷ h.behind) it.behind in
+                inr (first, record { before = h.before; behind = h.behind ++ it.behind; run_is = is; made = h.made },
+                accounted_in counted first (record { before = h.before; command = QueueOnce key first; behind = h.behind ++ it.behind; is = is; made = h.made }))

@@ -8,7 +8,6 @@ pub mod Adopting
 pub mod Running
 pub mod Asking
 pub mod Reopening
-pub mod KeyOrigins
 pub mod Acknowledging
 pub mod Accounting
 pub mod Images

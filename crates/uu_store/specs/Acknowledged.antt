@@ -1,5 +1,5 @@
 -- What becomes of a job whose number was told.
-use Rattle.std.specs.Prelude.{◌≡◌, ◌⊎◌, ℕ, true, List, ◌∷◌, ◌++◌, Some, Contains, zip}
+use Rattle.std.specs.Prelude.{◌≡◌, ◌⊎◌, ℕ, true, List, Some, Contains, zip}
 use Rattle.sqlite.specs.State as db
 use Rattle.sqlite.specs.Store.{Ghosts}
 use Rattle.uu_sql.specs.Steps.{Rests}
@@ -9,10 +9,9 @@ use Rattle.uu_core.specs.declared.command.Reply.TheVariants.{Number}
 use Rattle.uu_core.specs.declared.custody.Key.{Key}
 use Rattle.uu_core.specs.declared.job.NewJob.{NewJob}
 use Rattle.uu_core.specs.State.{State, Job, job_at}
-use Rattle.uu_core.specs.Verdict.{taken_of}
 use Rattle.uu_core.specs.After.{job_of}
 use Rattle.uu_core.specs.Run.{state_after}
-use Rattle.uu_core.specs.Laws.{accepted_of, lets_go, IsSameJob, IsAmong, IsHandedIn}
+use Rattle.uu_core.specs.Laws.{accepted_of, lets_go, IsSameJob, IsAmong, IsKept, IsFirstUnder}
 use Rattle.uu_store.specs.declared.spool.Spool.{Spool}
 use Rattle.uu_store.specs.Kept.{Stores}
 use Rattle.uu_store.specs.Spool.{Shows}
@@ -51,18 +50,10 @@ ShowsJob s told new number spool = (counted : List Command) × Passes s told cou
 abbrev pub IsAcknowledgedUnder : List Exchange → Key → NewJob → ℕ → Type 0
 IsAcknowledgedUnder exchanges key new number = (it : Exchange) × Contains exchanges it × Contains (zip it.commands it.replies) (QueueOnce key new, Number number)
 
--- One of the commands handed the job in under the key, where that was not kept yet, and so the job
--- got the number.
-pub record IsFirstUnder (s : State) (counted : List Command) (key : Key) (first : NewJob) (number : ℕ) : Type 0 where
-  pub before : List Command
-  pub behind : List Command
-  pub counted_is : counted ≡ before ++ QueueOnce key first ∷ behind
-  pub handed_in : IsHandedIn (state_after s before) (QueueOnce key first) (job_of number first)
-
 -- The key was kept with the number before the first of the commands. A job that was there under this
 -- number is there, or an accepted command let it go.
 pub record WasKept (s : State) (counted : List Command) (key : Key) (number : ℕ) : Type 0 where
-  pub kept : taken_of s key ≡ Some (record { number = key.number; mark = key.mark; job = number })
+  pub kept : IsKept s key number
   pub job : (job : Job) → Contains s.jobs job → job.number ≡ number → IsAmong (state_after s counted).jobs job ⊎ WasLetGo s counted number
 
 -- The job of the number is the one that was handed in first under the key, mark and all, whichever

@@ -44,8 +44,8 @@ use sqlite::Alter;
 use sqlite_disk::Disk;
 use uu_check::laws::{tables_are_in_order, tables_are_readable, tables_tell_the_state};
 use uu_core::laws::{
-    jobs_are_handed_in, jobs_stay_through_runs, numbers_are_not_used_again,
-    runs_follow_one_another, states_stay_well_formed,
+    jobs_are_handed_in, jobs_stay_through_runs, keys_are_answered_again,
+    numbers_are_not_used_again, runs_follow_one_another, states_stay_well_formed,
 };
 
 /// A database encodes at most one state, by the tables of at most one version: whatever a call says
@@ -147,6 +147,7 @@ pub fn acknowledged_jobs_are_accounted_for()
     numbers_are_not_used_again();
     jobs_stay_through_runs();
     jobs_are_handed_in();
+    keys_are_answered_again();
 }
 
 /// Stretches of work over the two files of a spool that follow one another, and what the files held

@@ -18,5 +18,5 @@ returns-clause-under_keys c s told_of counted key new number good passes told =
     let numbers = c.numbers_are_not_used_again.ensures in
     let stay = c.jobs_stay_through_runs.ensures in
     let made = c.jobs_are_handed_in.ensures in
-    accounted_under follow numbers.rise numbers.handed_in stay.queued stay.queued_once stay.stays made.step made.run s good number counted key new
+    accounted_under follow numbers.rise numbers.handed_in stay.queued stay.queued_once stay.stays made.step made.run s good number c.keys_are_answered_again.ensures.kept c.keys_are_answered_again.ensures.origin counted key new
     (of_exchanges follow told_of s counted told.0 (QueueOnce key new) (Number number) passes told.1 told.2)

@@ -14,9 +14,9 @@ use Rattle.uu_core.specs.declared.job.NewJob.{NewJob}
 use Rattle.uu_core.specs.declared.refusal.Refusal.{Refusal}
 use Rattle.uu_core.specs.State.{State, Link, same_text, is_link, link_of, new_link, is_taken, taken_at}
 use Rattle.uu_core.specs.Verdict.{verdict, is_again, taken_of}
-use Rattle.uu_core.specs.After.{after, after_verdict, accept, with_job, with_taken, forgotten, hand_in, take_in}
+use Rattle.uu_core.specs.After.{after, after_verdict, accept, job_of, with_job, with_taken, forgotten, hand_in, take_in}
 use Rattle.uu_core.specs.Run.{state_after}
-use Rattle.uu_core.specs.Laws.{is_repeat}
+use Rattle.uu_core.specs.Laws.{is_repeat, IsKept, IsFirstUnder}
 use Rattle.uu_core.proofs.KeyLemmas.{by_hand_in}
 use Rattle.uu_core.proofs.LinkLemmas.{find-keeps, find-drops, link_own, link_other, link_kept, taken_says, forgotten_says, name_is}
 
@@ -51,17 +51,21 @@ found_with new link number row e =
 
 -- ---- one command
 
+-- what is kept of a key whose job has this number
+abbrev row_of : Key → ℕ → Taken
+row_of key number = record { number = key.number; mark = key.mark; job = number }
+
 -- the key with the mark that is kept
-abbrev pub key_with : Key → ℕ → Key
+abbrev key_with : Key → ℕ → Key
 key_with key mark = record { from = key.from; number = key.number; mark = mark }
 
 -- a command handed the job in for the first time, under the key
-pub record IsOrigin (state : State) (key : Key) (row : Taken) (command : Command) : Type 0 where
-  pub first : NewJob
-  pub command_is : command ≡ QueueOnce (key_with key row.mark) first
-  pub accepted : verdict state command ≡ None
-  pub new : is_repeat state command ≡ false
-  pub job : row.job ≡ state.next
+record IsOrigin (state : State) (key : Key) (row : Taken) (command : Command) : Type 0 where
+  first : NewJob
+  command_is : command ≡ QueueOnce (key_with key row.mark) first
+  accepted : verdict state command ≡ None
+  new : is_repeat state command ≡ false
+  job : row.job ≡ state.next
 
 module _ (state : State) (key : Key) (row : Taken) where
   abbrev WasOrIs : Command → Type 0
@@ -138,7 +142,7 @@ module _ (state : State) (key : Key) (row : Taken) where
   of-accepted (Entry bytes) v e = inl e
   of-accepted (Forget system below) v e = inl (of-forget system below e)
 
-  pub one_origin : (command : Command) → taken_of (after state command).0 key ≡ Some row → WasOrIs command
+  one_origin : (command : Command) → taken_of (after state command).0 key ≡ Some row → WasOrIs command
   one_origin command e = by-verdict (verdict state command) refl e
     where
       by-verdict : (v : Option Refusal) → verdict state command ≡ v → taken_of (after_verdict v state command).0 key ≡ Some row → WasOrIs command
@@ -147,20 +151,30 @@ module _ (state : State) (key : Key) (row : Taken) where
 
 -- ---- a run
 
--- a command of the run handed the job in
-pub record HasOrigin (state : State) (commands : List Command) (key : Key) (row : Taken) : Type 0 where
-  pub before : List Command
-  pub command : Command
-  pub behind : List Command
-  pub run_is : commands ≡ before ++ command ∷ behind
-  pub origin : IsOrigin (state_after state before) key row command
+-- one command's is a run's
+of_one : (state : State) (key : Key) (number : ℕ) (command : Command) (commands : List Command) → IsOrigin state key (row_of key number) command → (first : NewJob) × IsFirstUnder state (command ∷ commands) key first number
+of_one state key number command commands it = (it.first, record {
+  before = [];
+  behind = commands;
+  run_is = ap (λ c. c ∷ commands) it.command_is;
+  made = record {
+    new = it.first;
+    command_is = refl;
+    accepted = ap (verdict state) (sym it.command_is) ∙ it.accepted;
+    first = ap (is_repeat state) (sym it.command_is) ∙ it.new;
+    job_is = ap (λ n. job_of n it.first) it.job;
+  };
+})
 
-pub origin_in : (state : State) (commands : List Command) (key : Key) (row : Taken) → taken_of (state_after state commands) key ≡ Some row → (taken_of state key ≡ Some row) ⊎ HasOrigin state commands key row
-origin_in state [] key row e = inl e
-origin_in state (command ∷ commands) key row e = elim (origin_in (after state command).0 commands key row e) [
-  | inl was ↦ (elim (one_origin state key row command was) [
+behind_one : (state : State) (key : Key) (number : ℕ) (command : Command) (commands : List Command) → (first : NewJob) × IsFirstUnder (after state command).0 commands key first number → (first : NewJob) × IsFirstUnder state (command ∷ commands) key first number
+behind_one state key number command commands (first, it) = (first, record { before = command ∷ it.before; behind = it.behind; run_is = ap (λ l. command ∷ l) it.run_is; made = it.made })
+
+pub key_origin : (state : State) (commands : List Command) (key : Key) (number : ℕ) → IsKept (state_after state commands) key number → IsKept state key number ⊎ ((first : NewJob) × IsFirstUnder state commands key first number)
+key_origin state [] key number e = inl e
+key_origin state (command ∷ commands) key number e = elim (key_origin (after state command).0 commands key number e) [
+  | inl was ↦ (elim (one_origin state key (row_of key number) command was) [
     | inl before ↦ inl before
-    | inr it ↦ inr (record { before = []; command = command; behind = commands; run_is = refl; origin = it })
+    | inr it ↦ inr (of_one state key number command commands it)
   ])
-  | inr it ↦ inr (record { before = command ∷ it.before; command = it.command; behind = it.behind; run_is = ap (λ l. command ∷ l) it.run_is; origin = it.origin })
+  | inr it ↦ inr (behind_one state key number command commands it)
 ]
