@@ -2,12 +2,14 @@
 #
 #   make            proves what the program stands on and leaves it at build/uuspool
 #   make first-run  the main job on a real file, killed inside a write and reopened
+#   make quick      what takes seconds and proves nothing, on the program that is there
 #   make test       the gate: every proof from nothing (but for what the kit kept of a gate that
 #                   passed here), every edit that has to be refused, every test and run, and then
 #                   the scripts below, one after the other
 #   make bench      what calls of the spool cost over a real file
-#   make install    build/uuspool, the desk and what stands behind mailers, man pages and examples
-#                   below $(DESTDIR)$(PREFIX)
+#   make install    build/uuspool, the desk and what stands behind mailers, man pages, completions and
+#                   examples below $(DESTDIR)$(PREFIX); make uninstall takes them away
+#   make dist       a tarball of these, and make deb a Debian package, in build/
 #   make clean      removes build/ and the kept work of every crate
 
 PREFIX = /usr/local
@@ -15,7 +17,7 @@ DESTDIR =
 
 MAKEFLAGS += --no-print-directory
 
-.PHONY: all build first-run bench test install clean
+.PHONY: all build first-run bench quick test install uninstall dist deb clean
 
 all: build
 
@@ -28,9 +30,16 @@ first-run: build
 bench: build
 	@scripts/bench
 
+quick:
+	@scripts/quick build/uuspool
+
 test:
 	@scripts/check-tree
+	@scripts/check-texts
 	@lanes=$$(scripts/lanes) && RT_JOBS=$$lanes rt ci
+	@scripts/check-help
+	@scripts/readme-session
+	@scripts/package-test
 	@scripts/transcripts
 	@scripts/next-calls
 	@scripts/failing-streams
@@ -41,15 +50,21 @@ test:
 	@scripts/damaged-files
 	@scripts/desk-test
 	@scripts/page-test
+	@scripts/carriers-test
+	@scripts/network
 	@scripts/refused-memory
 
 install: build
-	install -D -m 755 build/uuspool '$(DESTDIR)$(PREFIX)/bin/uuspool'
-	scripts/install-desk '$(PREFIX)' '$(DESTDIR)'
-	install -d '$(DESTDIR)$(PREFIX)/share/man/man1' '$(DESTDIR)$(PREFIX)/share/doc/uuspool'
-	install -m 644 man/*.1 '$(DESTDIR)$(PREFIX)/share/man/man1'
-	install -m 644 examples/uuspool.toml examples/uuspool-*.service examples/uuspool-page.timer docs/mailers.md '$(DESTDIR)$(PREFIX)/share/doc/uuspool'
-	install -m 755 examples/night-calls examples/carry-over-ssh '$(DESTDIR)$(PREFIX)/share/doc/uuspool'
+	@scripts/install build/uuspool '$(PREFIX)' '$(DESTDIR)'
+
+uninstall:
+	@scripts/install --remove '$(PREFIX)' '$(DESTDIR)'
+
+dist: build
+	@scripts/package dist build/uuspool
+
+deb: build
+	@scripts/package deb build/uuspool
 
 clean:
 	rm -rf build crates/*/out

@@ -11,6 +11,9 @@ later=75   # try again
 LC_ALL=C
 export LC_ALL
 
+# A shell that can't go on, as where it can't fork, ends with statuses of its own.
+trap 'case $? in 0 | "$usage" | "$refused" | "$later") ;; *) exit "$later" ;; esac' EXIT
+
 fail() {
     printf '%s: %s\n' "$front" "$2" >&2
     exit "$1"
@@ -69,14 +72,18 @@ unknown() {
 }
 
 # Asks the spool. $said is what the program printed; where it isn't done, that is told, and the
-# status is one of sysexits. Faulty settings are the site's fault, so a message waits until they are
-# mended.
+# status is one of sysexits. The program's status 2 stands for faulty words and for faulty settings.
+# These are the site's fault, so a message waits until they are mended; a question whose words are
+# right has that status for them alone. An input that is too large is the words' fault to the
+# program, and none to a mailer.
 ask() {
     said=$("$bin/uuspool-ask" "$@" 2>&1) && return
     case $?:$said in
     1:* | 2:'uuspool: too much input') status=$refused ;;
-    2:'uuspool: settings: '*) status=$later ;;
-    2:'uuspool: '* | 2:'uuspool-ask: '* | 2:'error: '*) status=$usage ;;
+    2:*)
+        "$bin/uuspool-ask" status >/dev/null 2>&1
+        if [ $? = 2 ]; then status=$later; else status=$usage; fi
+        ;;
     *) status=$later ;;
     esac
     printf '%s\n' "$said" >&2

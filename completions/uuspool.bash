@@ -1,0 +1,34 @@
+# What bash offers behind `uuspool` and `uuspool-ask`: subcommands, and the options of each.
+# shellcheck shell=bash
+
+_uuspool() {
+    local word=${COMP_WORDS[COMP_CWORD]} before=${COMP_WORDS[COMP_CWORD - 1]} subcommand='' at words
+    local subcommands='load drop send request exec mail list show kill regrade rejuvenate due when
+        queues status failed done forget map neighbours batch help'
+    for ((at = 1; at < COMP_CWORD; at++)); do
+        case ${COMP_WORDS[at]} in
+        -c | --at | --as) ((at++)) ;;
+        -*) ;;
+        *) subcommand=${COMP_WORDS[at]} && break ;;
+        esac
+    done
+    case $subcommand:$before in
+    :-c)
+        mapfile -t COMPREPLY < <(compgen -f -- "$word")
+        return
+        ;;
+    :--at | :--as | *:-g | *:--once | *:-s | *:-u) return ;;
+    esac
+    case $subcommand in
+    '') words="-c --at --as -h --help $subcommands" ;;
+    send | request | exec | mail) words='-g --once -h --help' ;;
+    list) words='-s -u -h --help' ;;
+    when | queues) words='-s -h --help' ;;
+    help) words=$subcommands ;;
+    batch) words='' ;;
+    *) words='-h --help' ;;
+    esac
+    mapfile -t COMPREPLY < <(compgen -W "$words" -- "$word")
+}
+
+complete -F _uuspool uuspool uuspool-ask
