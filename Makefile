@@ -39,6 +39,7 @@ test:
 	@lanes=$$(scripts/lanes) && RT_JOBS=$$lanes rt ci
 	@scripts/check-help
 	@scripts/readme-session
+	@scripts/package-test
 	@scripts/transcripts
 	@scripts/next-calls
 	@scripts/failing-streams
@@ -47,7 +48,6 @@ test:
 	@scripts/batch-stops
 	@scripts/damaged-files
 	@scripts/desk-test
-	@scripts/package-test
 	@scripts/refused-memory
 
 install: build
