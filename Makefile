@@ -46,6 +46,7 @@ test:
 	@scripts/syncs
 	@scripts/migration-stops
 	@scripts/batch-stops
+	@scripts/crossings
 	@scripts/damaged-files
 	@scripts/desk-test
 	@scripts/refused-memory

@@ -1,8 +1,7 @@
 -- Systems, their links, and what was taken by these.
-use Rattle.std.proofs.Common.{◌≡◌, ℕ, zero, suc, ◌≤◌, ◌<◌, Bool, true, false, not, cond, ◌==◌, List, [], ◌∷◌, ◌++◌, map, length, find, All, AllPairs, IsTrue, Option, Some, None, unwrap_or, inl, inr, refl, sym, ap, subst, ◌∙◌, arith}
-use Rattle.std.specs.Prelude.{◌&&◌, ◌||◌, nat_le, nat_lt}
+use Rattle.std.proofs.Common.{◌≡◌, ℕ, zero, suc, ◌≤◌, ◌<◌, Bool, true, false, not, cond, ◌==◌, List, [], ◌∷◌, ◌++◌, map, find, All, IsTrue, Some, unwrap_or, inl, inr, refl, sym, ap, subst, ◌∙◌, arith}
+use Rattle.std.specs.Prelude.{◌||◌, nat_le}
 use Rattle.std.specs.List.{AllByRecursion, flat_map, list_all, list_any}
-use Rattle.std.specs.Ordering.{is_lt}
 use Rattle.std.proofs.lemmas.Bool.{and_parts, cases_Bool}
 use Rattle.std.proofs.lemmas.Cmp.{nat_list_cmp_total}
 use Rattle.uu_core.specs.declared.custody.Taken.{Taken}
@@ -19,8 +18,8 @@ use Rattle.uu_tables.proofs.OrderLemmas.{none_passes}
 use Rattle.uu_tables.proofs.SystemLemmas.{each_link}
 use Rattle.uu_tables.proofs.RowLemmas.{each_made}
 use Rattle.uu_check.specs.Walk.{walk, rises}
-use Rattle.uu_check.specs.Tests.{owns_link, fits_link, owns_taken, fits_taken, taken_before, is_given, is_late, are_links, system_before}
-use Rattle.uu_check.proofs.Walks.{Item, Items, items_of, walked, AllPairsByRecursion, Apart, all_append, is_nil, same_items}
+use Rattle.uu_check.specs.Tests.{owns_link, fits_link, owns_taken, fits_taken, taken_before, is_given, may_be_asked, are_links, system_before}
+use Rattle.uu_check.proofs.Walks.{Item, items_of, walked, AllPairsByRecursion, Apart, all_append, is_nil, same_items}
 use Rattle.uu_check.proofs.Lists.{by_place, by_recursion, pairs_by_place, pairs_by_recursion, weaker, weaker_pairs, both, mapped_all, unmapped_all, split_all, unflat, flat_pairs, mapped_pairs, risen, does_rise, Across}
 use Rattle.uu_check.proofs.Meanings.{le_from, le_to, lt_from, lt_to, eq_from, less_is, less_apart, not_true, text_from, text_to, text_not}
 
@@ -79,7 +78,7 @@ one_row : (s : SystemColumns) (l : LinkColumns) (n : ℕ) → l.below ≡ n → 
 one_row s l zero is some name = absurd (omega (arith, some))
 one_row s l (suc n) is some name = λ i. record { system = name i; below = sym is i } ∷ []
 
-below_of_rows : (s : SystemColumns) (ls : List LinkColumns) → AllByRecursion (λ l. owns_link s l ≡ true) ls → fits_link s ls ≡ true → Item owns_link fits_link below_head below_rows IsBelow s ls
+pub below_of_rows : (s : SystemColumns) (ls : List LinkColumns) → AllByRecursion (λ l. owns_link s l ≡ true) ls → fits_link s ls ≡ true → Item owns_link fits_link below_head below_rows IsBelow s ls
 below_of_rows s [] own test = record { item = record { columns = s; below = 0 }; good = omega arith; row = refl; children = refl }
 below_of_rows s (l ∷ []) own test =
     let parts = and_parts _ _ test in
@@ -168,7 +167,7 @@ all_true (x ∷ xs) = (tt, all_true xs)
 abbrev pub LinkBefore : Link → Link → Type 0
 LinkBefore a b = ComesBefore a.name b.name
 
-abbrev BelowBefore : Below → Below → Type 0
+abbrev pub BelowBefore : Below → Below → Type 0
 BelowBefore a b = ComesBefore a.columns.name b.columns.name
 
 paired_rise : (bs : List Below) (ts : List Took) → AllPairsByRecursion BelowBefore bs → AllPairsByRecursion LinkBefore (paired bs ts)
@@ -225,37 +224,36 @@ IsLate l = AllByRecursion (λ (t : Taken). l.below ≤ t.number) l.taken
 abbrev may_ask : TakenColumns → LinkColumns → Bool
 may_ask t l = not (same_text l.system t.system) || nat_le l.below t.taken.number
 
-one_late : (name : List ℕ) (n : ℕ) (t : Taken) → is_late (links_from name n) (taken_columns name t) ≡ true → n ≤ t.number
+one_late : (name : List ℕ) (n : ℕ) (t : Taken) → may_be_asked (links_from name n) (taken_columns name t) ≡ true → n ≤ t.number
 one_late name zero t h = omega arith
 one_late name (suc n) t h = le_from (suc n) t.number (subst (λ b. (not b || nat_le (suc n) t.number) ≡ true) (text_to name) (and_parts _ _ h).0)
 
-late_from : (ls : List Link) → AllByRecursion (λ t. is_late (flat_map links_of ls) t ≡ true) (flat_map taken_rows ls) → AllByRecursion IsLate ls
+late_from : (ls : List Link) → AllByRecursion (λ t. may_be_asked (flat_map links_of ls) t ≡ true) (flat_map taken_rows ls) → AllByRecursion IsLate ls
 late_from [] h = tt
 late_from (l ∷ ls) h =
     let rest = flat_map links_of ls in
-    let parts = split_all (λ t. is_late (links_of l ++ rest) t ≡ true) (taken_rows l) (flat_map taken_rows ls) h in
-    (
-      weaker _ _ (λ t k. one_late l.name l.below t (all_parts (may_ask (taken_columns l.name t)) (links_of l) rest k).0) l.taken (unmapped_all (λ t. is_late (links_of l ++ rest) t ≡ true) (taken_columns l.name) l.taken parts.0),
+    let parts = split_all (λ t. may_be_asked (links_of l ++ rest) t ≡ true) (taken_rows l) (flat_map taken_rows ls) h in (
+      weaker _ _ (λ t k. one_late l.name l.below t (all_parts (may_ask (taken_columns l.name t)) (links_of l) rest k).0) l.taken (unmapped_all (λ t. may_be_asked (links_of l ++ rest) t ≡ true) (taken_columns l.name) l.taken parts.0),
       late_from ls (weaker _ _ (λ t k. (all_parts (may_ask t) (links_of l) rest k).1) (flat_map taken_rows ls) parts.1),
     )
 
-others_late : (rows : List LinkColumns) (t : TakenColumns) → AllByRecursion (λ (r : LinkColumns). same_text r.system t.system ≡ false) rows → is_late rows t ≡ true
+others_late : (rows : List LinkColumns) (t : TakenColumns) → AllByRecursion (λ (r : LinkColumns). same_text r.system t.system ≡ false) rows → may_be_asked rows t ≡ true
 others_late [] t h = refl
 others_late (r ∷ rows) t h = rw (h.0, others_late rows t h.1) refl
 
-own_late : (name : List ℕ) (n : ℕ) (t : Taken) → n ≤ t.number → is_late (links_from name n) (taken_columns name t) ≡ true
+own_late : (name : List ℕ) (n : ℕ) (t : Taken) → n ≤ t.number → may_be_asked (links_from name n) (taken_columns name t) ≡ true
 own_late name zero t h = refl
 own_late name (suc n) t h = rw (text_to name, le_to (suc n) t.number h) refl
 
-late_to : (ls : List Link) → AllPairsByRecursion LinkBefore ls → AllByRecursion IsLate ls → AllByRecursion (λ t. is_late (flat_map links_of ls) t ≡ true) (flat_map taken_rows ls)
+late_to : (ls : List Link) → AllPairsByRecursion LinkBefore ls → AllByRecursion IsLate ls → AllByRecursion (λ t. may_be_asked (flat_map links_of ls) t ≡ true) (flat_map taken_rows ls)
 late_to [] up h = tt
 late_to (l ∷ ls) up h =
     let rest = flat_map links_of ls in
     let behind : AllByRecursion (λ (r : LinkColumns). same_text r.system l.name ≡ false) rest = all_flat (λ (r : LinkColumns). same_text r.system l.name ≡ false) (LinkBefore l) links_of (λ x before. each_link (λ r. same_text r.system l.name ≡ false) x.name (λ below. not_back l.name x.name before) x.below) ls up.0 in
     let others : AllByRecursion (λ (t : TakenColumns). same_text l.name t.system ≡ false) (flat_map taken_rows ls) = all_flat (λ (t : TakenColumns). same_text l.name t.system ≡ false) (LinkBefore l) taken_rows (λ x before. each_made (λ (t : TakenColumns). same_text l.name t.system ≡ false) (taken_columns x.name) (λ taken. text_not l.name x.name before) x.taken) ls up.0 in
-    all_append (λ t. is_late (links_of l ++ rest) t ≡ true) (taken_rows l) (flat_map taken_rows ls)
-    (mapped_all (λ t. is_late (links_of l ++ rest) t ≡ true) (taken_columns l.name) l.taken (weaker _ _ (λ t k. all_both (may_ask (taken_columns l.name t)) (links_of l) rest (own_late l.name l.below t k) (others_late rest (taken_columns l.name t) behind)) l.taken h.0))
-    (both (λ (t : TakenColumns). same_text l.name t.system ≡ false) (λ t. is_late rest t ≡ true) (λ t. is_late (links_of l ++ rest) t ≡ true)
+    all_append (λ t. may_be_asked (links_of l ++ rest) t ≡ true) (taken_rows l) (flat_map taken_rows ls)
+    (mapped_all (λ t. may_be_asked (links_of l ++ rest) t ≡ true) (taken_columns l.name) l.taken (weaker _ _ (λ t k. all_both (may_ask (taken_columns l.name t)) (links_of l) rest (own_late l.name l.below t k) (others_late rest (taken_columns l.name t) behind)) l.taken h.0))
+    (both (λ (t : TakenColumns). same_text l.name t.system ≡ false) (λ t. may_be_asked rest t ≡ true) (λ t. may_be_asked (links_of l ++ rest) t ≡ true)
     (λ t apart k. all_both (may_ask t) (links_of l) rest (others_late (links_of l) t (each_link (λ r. same_text r.system t.system ≡ false) l.name (λ below. apart) l.below)) k) (flat_map taken_rows ls) others (late_to ls up.1 h.1))
 
 -- ---- the links whose rows these are
@@ -279,13 +277,14 @@ record IsAlmost (next : ℕ) (l : Link) : Type 0 where
   given : IsGiven next l
   late : IsLate l
 
-numbers_from : (next : ℕ) (name : List ℕ) (ts : List Taken) → AllByRecursion (λ t. is_given next t ≡ true) (map (taken_columns name) ts) → AllByRecursion (λ (t : Taken). (t.number ≤ numbers_end) × (t.mark < marks_end)) ts × AllByRecursion (λ (t : Taken). t.job < next) ts
+numbers_from : (next : ℕ) (name : List ℕ) (ts : List Taken) → AllByRecursion (λ t. is_given next t ≡ true) (map (taken_columns name) ts) → AllByRecursion (λ (t : Taken). (t.number ≤ numbers_end) × (t.mark < marks_end) × (1 ≤ t.job)) ts × AllByRecursion (λ (t : Taken). t.job < next) ts
 numbers_from next name [] h = (tt, tt)
 numbers_from next name (t ∷ ts) h =
-    let b = and_parts _ _ h.0 in
+    let c = and_parts _ _ h.0 in
+    let b = and_parts _ _ c.0 in
     let a = and_parts _ _ b.0 in
     let more = numbers_from next name ts h.1 in
-    (((le_from _ _ a.1, lt_from _ _ b.1), more.0), (lt_from _ _ a.0, more.1))
+    (((le_from _ _ b.1, lt_from _ _ c.1, le_from _ _ a.0), more.0), (lt_from _ _ a.1, more.1))
 
 whole : (next : ℕ) (l : Link) → says_nothing l ≡ false → IsAlmost next l → IsLink l
 whole next l says it = record {
@@ -308,7 +307,7 @@ links_from_rows next rows links taken rise h =
     let links_same : flat_map links_of all ≡ links = paired_links low.items took.items same ∙ low.children in
     let taken_same : flat_map taken_rows all ≡ taken = paired_taken low.items took.items same ∙ took.children in
     let given : AllByRecursion (IsGiven next) all = unflat (λ t. is_given next t ≡ true) taken_rows all (subst (AllByRecursion (λ t. is_given next t ≡ true)) (sym taken_same) (each_from (is_given next) taken b.1)) in
-    let late : AllByRecursion IsLate all = late_from all (subst (λ rows. AllByRecursion (λ t. is_late rows t ≡ true) (flat_map taken_rows all)) (sym links_same) (subst (AllByRecursion (λ t. is_late links t ≡ true)) (sym taken_same) (each_from (is_late links) taken c.1))) in
+    let late : AllByRecursion IsLate all = late_from all (subst (λ rows. AllByRecursion (λ t. may_be_asked rows t ≡ true) (flat_map taken_rows all)) (sym links_same) (subst (AllByRecursion (λ t. may_be_asked links t ≡ true)) (sym taken_same) (each_from (may_be_asked links) taken c.1))) in
     let order : AllPairsByRecursion BelowBefore low.items = risen below_head system_before BelowBefore (λ x y. less_is _) (λ x y z. nat_list_cmp_total.trans x.columns.name y.columns.name z.columns.name) low.items (ap (rises system_before) low.heads ∙ rise) in
     let known : AllByRecursion (λ (l : Link). IsTrue (knows rows l.name)) all = each_paired (λ (b : Below). IsTrue (knows rows b.columns.name)) (λ _. Unit {0}) (λ (l : Link). IsTrue (knows rows l.name)) (λ b t k u. k) low.items took.items (below_known rows rows low.items low.heads (self_known rows)) (all_true took.items) in
     let parts = each_paired IsBelow IsTook (λ l. (l.below ≤ numbers_end) × AllPairsByRecursion Lower l.taken) (λ b t k u. (k, u)) low.items took.items low.good took.good in
@@ -451,9 +450,9 @@ each_row P (x ∷ xs) f h = (h x, each_row P xs f h)
 given_to : (next : ℕ) (l : Link) → IsLink l × AllByRecursion (λ (t : Taken). t.job < next) l.taken → IsGiven next l
 given_to next l it = go l.taken (by_recursion _ l.taken it.0.numbers) it.1
   where
-    go : (ts : List Taken) → AllByRecursion (λ (t : Taken). (t.number ≤ numbers_end) × (t.mark < marks_end)) ts → AllByRecursion (λ (t : Taken). t.job < next) ts → AllByRecursion (λ t. is_given next t ≡ true) (map (taken_columns l.name) ts)
+    go : (ts : List Taken) → AllByRecursion (λ (t : Taken). (t.number ≤ numbers_end) × (t.mark < marks_end) × (1 ≤ t.job)) ts → AllByRecursion (λ (t : Taken). t.job < next) ts → AllByRecursion (λ t. is_given next t ≡ true) (map (taken_columns l.name) ts)
     go [] h k = tt
-    go (t ∷ ts) h k = (rw (lt_to t.job next k.0, le_to t.number numbers_end h.0.0, lt_to t.mark marks_end h.0.1) refl, go ts h.1 k.1)
+    go (t ∷ ts) h k = (rw (le_to 1 t.job h.0.2, lt_to t.job next k.0, le_to t.number numbers_end h.0.0, lt_to t.mark marks_end h.0.1) refl, go ts h.1 k.1)
 
 pub links_to_rows : (next : ℕ) (rows : List SystemRow) (links : List Link) → AllPairsByRecursion Before rows → AllPairsByRecursion LinkBefore links → AllByRecursion (λ (l : Link). IsTrue (knows rows l.name)) links → AllByRecursion IsLink links
     → AllByRecursion (λ (l : Link). AllByRecursion (λ (t : Taken). t.job < next) l.taken) links → are_links next (map system_columns rows) (flat_map links_of links) (flat_map taken_rows links) ≡ true
@@ -467,7 +466,7 @@ links_to_rows next rows links up vp known good given =
     let second : walk owns_taken fits_taken (map system_columns rows) (flat_map taken_rows links) ≡ true = (λ i. walk owns_taken fits_taken (sym (took_heads links rows) i) ((merged taken_rows (λ name. refl) rows links up vp known ∙ sym (took_kids links rows)) i)) ∙ b in
     let third : list_all (is_given next) (flat_map taken_rows links) ≡ true =
     each_to (is_given next) (flat_map taken_rows links) (all_flat (λ t. is_given next t ≡ true) (λ l. IsLink l × AllByRecursion (λ (t : Taken). t.job < next) l.taken) taken_rows (given_to next) links (both IsLink _ _ (λ l h k. (h, k)) links good given)) in
-    let fourth : list_all (is_late (flat_map links_of links)) (flat_map taken_rows links) ≡ true = each_to (is_late (flat_map links_of links)) (flat_map taken_rows links) (late_to links vp (weaker _ _ (λ l h. by_recursion _ l.taken h.at_least) links good)) in
+    let fourth : list_all (may_be_asked (flat_map links_of links)) (flat_map taken_rows links) ≡ true = each_to (may_be_asked (flat_map links_of links)) (flat_map taken_rows links) (late_to links vp (weaker _ _ (λ l h. by_recursion _ l.taken h.at_least) links good)) in
     rw (first, second, third, fourth) refl
   where
     IsBelowLink : Link → Type 0

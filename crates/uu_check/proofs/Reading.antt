@@ -15,7 +15,6 @@ use Rattle.uu_core.specs.declared.system.Outcome.TheVariants.{Never, Failed, Don
 use Rattle.uu_core.specs.declared.system.CallState.{CallState}
 use Rattle.uu_core.specs.declared.system.SystemRow.{SystemRow}
 use Rattle.uu_core.specs.State.{State, Job, MapEntry, Link, IsLink, IsJob, IsCall, IsOutcome, IsDefinition, IsWellFormed, head_of, numbers_end}
-use Rattle.std.specs.List.{list_any}
 use Rattle.uu_core.specs.declared.custody.Taken.{Taken}
 use Rattle.uu_core.specs.Marks.{marks_end}
 use Rattle.uu_core.specs.State.{same_text}
@@ -152,9 +151,9 @@ link_rows next l it = go l.below it.good.below
 taken_in_rows : (next : ℕ) → next ≤ numbers_end → (l : Link) → IsNamed next l → AllByRecursion IsTakenRow (taken_rows l)
 taken_in_rows next last l it = go l.taken (by_recursion _ l.taken it.good.numbers) it.given
   where
-    go : (ts : List Taken) → AllByRecursion (λ (t : Taken). (t.number ≤ numbers_end) × (t.mark < marks_end)) ts → AllByRecursion (λ (t : Taken). t.job < next) ts → AllByRecursion IsTakenRow (map (taken_columns l.name) ts)
+    go : (ts : List Taken) → AllByRecursion (λ (t : Taken). (t.number ≤ numbers_end) × (t.mark < marks_end) × (1 ≤ t.job)) ts → AllByRecursion (λ (t : Taken). t.job < next) ts → AllByRecursion IsTakenRow (map (taken_columns l.name) ts)
     go [] h k = tt
-    go (t ∷ ts) h k = (record { system = it.name; number = h.0.0; mark = h.0.1; job = (let low = k.0 in omega (arith, low, last)) }, go ts h.1 k.1)
+    go (t ∷ ts) h k = (record { system = it.name; number = h.0.0; mark = h.0.1; some_job = h.0.2; job = (let low = k.0 in omega (arith, low, last)) }, go ts h.1 k.1)
 
 -- ---- all of them
 

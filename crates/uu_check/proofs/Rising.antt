@@ -1,30 +1,34 @@
 -- The tables of a state stand in the order of their keys.
-use Rattle.std.proofs.Common.{◌≡◌, ℕ, zero, suc, ◌+◌, ◌<◌, List, [], ◌∷◌, map, length, take, drop, Less, Equal, refl, sym, subst, arith}
+use Rattle.std.proofs.Common.{◌≡◌, ℕ, zero, suc, ◌+◌, ◌<◌, true, List, [], ◌∷◌, map, length, take, drop, Less, Equal, refl, sym, ap, ◌∙◌, subst, arith}
 use Rattle.std.specs.List.{AllByRecursion, flat_map}
 use Rattle.std.specs.declared.cmp.Ordering.{Ordering}
 use Rattle.std.specs.declared.cmp.Ordering.TheVariants.{Greater}
-use Rattle.std.specs.Ordering.{nat_cmp, ordering_then, ordering_reverse}
+use Rattle.std.specs.Ordering.{is_lt, nat_cmp, ordering_then, ordering_reverse}
 use Rattle.std.specs.Cmp.Lexicographic.{slice_cmp}
 use Rattle.std.proofs.lemmas.Cmp.{nat_list_cmp_total, nat_cmp_total}
 use Rattle.uu_times.specs.declared.system.Line.{Line}
 use Rattle.uu_times.specs.Ranges.{AreRunsFrom}
 use Rattle.uu_core.specs.declared.job.JobHead.{JobHead}
 use Rattle.uu_core.specs.declared.system.SystemRow.{SystemRow}
-use Rattle.uu_core.specs.State.{State, Job, MapEntry, Link, IsLink, IsCall, IsDefinition, IsWellFormed, ComesBefore, head_of}
+use Rattle.uu_core.specs.State.{State, Job, MapEntry, IsLink, IsCall, IsDefinition, IsWellFormed, ComesBefore, head_of}
 use Rattle.uu_tables.specs.declared.rows.RangeColumns.{RangeColumns}
 use Rattle.uu_tables.specs.declared.rows.WaitColumns.{WaitColumns}
 use Rattle.uu_core.specs.declared.custody.Taken.{Taken}
+use Rattle.uu_tables.specs.declared.rows.SystemColumns.{SystemColumns}
 use Rattle.uu_tables.specs.declared.rows.LinkColumns.{LinkColumns}
 use Rattle.uu_tables.specs.declared.rows.TakenColumns.{TakenColumns}
-use Rattle.uu_tables.proofs.SystemLemmas.{each_link}
 use Rattle.uu_tables.specs.Tables.{links_from, links_of, taken_columns, taken_rows, waits_from, waits_of, Piece, PlacedLine, tables_of, system_columns, line_columns, range_columns, placed, placed_from, ranges_of, pieces_of, piece_count, entry_columns}
 use Rattle.uu_tables.specs.Order.{line_cmp, range_cmp, piece_cmp, taken_cmp}
 use Rattle.uu_check.specs.Order.{AreInOrder}
-use Rattle.uu_check.proofs.Walks.{AllPairsByRecursion}
-use Rattle.uu_check.proofs.Lists.{by_recursion, pairs_by_place, pairs_by_recursion, weaker, weaker_pairs, both, flat_pairs, Across, mapped_pairs}
+use Rattle.uu_check.specs.Walk.{walk, rises}
+use Rattle.uu_check.specs.Tests.{owns_link, fits_link, link_before, system_before}
+use Rattle.uu_check.proofs.Walks.{AllPairsByRecursion, items_of}
+use Rattle.uu_check.proofs.Lists.{by_recursion, pairs_by_place, pairs_by_recursion, weaker, weaker_pairs, both, flat_pairs, Across, mapped_pairs, risen, does_rise}
+use Rattle.uu_check.proofs.Meanings.{less_is}
 use Rattle.uu_check.proofs.Cuts.{pieces_from, as_from}
 use Rattle.uu_check.proofs.Lines.{IsGoodLine}
-use Rattle.uu_check.proofs.LinkRows.{LinkBefore}
+use Rattle.uu_check.proofs.LinkRows.{LinkBefore, IsBelow, below_head, below_rows, below_of_rows, BelowBefore}
+use Rattle.uu_check.proofs.Search.{same_map}
 use Rattle.uu_check.proofs.Verdict.{good_lines, all_flat}
 
 -- ---- comparisons
@@ -156,6 +160,14 @@ across_links : (a b : List ℕ) (n m : ℕ) → ComesBefore a b → Across RowBe
 across_links a b zero m before = tt
 across_links a b (suc n) zero before = (tt, tt)
 across_links a b (suc n) (suc m) before = ((before, tt), tt)
+
+-- links that belong to systems in order are in order
+pub links_rise : (systems : List SystemColumns) (links : List LinkColumns) → rises system_before systems ≡ true → walk owns_link fits_link systems links ≡ true → rises link_before links ≡ true
+links_rise systems links up h =
+    let low = items_of owns_link fits_link below_head below_rows IsBelow below_of_rows systems links h in
+    let order = risen below_head system_before BelowBefore (λ x y. less_is _) (λ x y z. nat_list_cmp_total.trans x.columns.name y.columns.name z.columns.name) low.items (ap (rises system_before) low.heads ∙ up) in
+    let rows = flat_pairs RowBefore below_rows IsBelow (λ b g. own_link b.columns.name b.below) low.items low.good (weaker_pairs BelowBefore _ (λ x y before. across_links x.columns.name y.columns.name x.below y.below before) low.items order) in
+    sym (ap (rises link_before) (same_map links)) ∙ does_rise (λ l. l) link_before RowBefore (λ x y. ap is_lt) links (subst (AllPairsByRecursion RowBefore) low.children rows)
 
 abbrev TakenBefore : TakenColumns → TakenColumns → Type 0
 TakenBefore a b = taken_cmp a b ≡ Less

@@ -1,5 +1,5 @@
 -- Systems and their success waits.
-use Rattle.std.proofs.Common.{◌≡◌, ℕ, zero, suc, ◌≤◌, Bool, true, false, List, [], ◌∷◌, ◌++◌, map, IsTrue, refl, sym, ap, subst, ◌∙◌, arith}
+use Rattle.std.proofs.Common.{◌≡◌, ℕ, zero, suc, ◌≤◌, Bool, true, List, [], ◌∷◌, ◌++◌, map, refl, sym, ap, arith}
 use Rattle.std.specs.List.{AllByRecursion, flat_map}
 use Rattle.std.proofs.lemmas.Bool.{and_parts}
 use Rattle.uu_times.specs.System.{most_success_wait}
@@ -9,8 +9,8 @@ use Rattle.uu_tables.specs.declared.rows.SystemColumns.{SystemColumns}
 use Rattle.uu_tables.specs.declared.rows.WaitColumns.{WaitColumns}
 use Rattle.uu_tables.specs.Tables.{system_columns, placed, waits_from, waits_of}
 use Rattle.uu_check.specs.Tests.{owns_wait, fits_wait}
-use Rattle.uu_check.proofs.Walks.{Item, AllPairsByRecursion, Apart}
-use Rattle.uu_check.proofs.Meanings.{le_from, le_to, text_from, text_to, text_not}
+use Rattle.uu_check.proofs.Walks.{Item, AllPairsByRecursion}
+use Rattle.uu_check.proofs.Meanings.{le_from, le_to, text_from}
 
 -- the row of a system, and its success wait
 pub record Waited : Type 0 where

@@ -65,6 +65,7 @@ pub record IsTakenRow (t : TakenColumns) : Type 0 where
   pub system : IsTrue (is_site_name t.system)
   pub number : t.taken.number ≤ numbers_end
   pub mark : t.taken.mark < marks_end
+  pub some_job : 1 ≤ t.taken.job
   pub job : t.taken.job < numbers_end
 
 pub record AreReadable (t : Tables) : Type 0 where

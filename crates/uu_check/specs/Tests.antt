@@ -109,6 +109,9 @@ system_before a b = is_lt (slice_cmp nat_cmp a.name b.name)
 abbrev pub owns_link : SystemColumns → LinkColumns → Bool
 owns_link s l = same_text s.name l.system
 
+abbrev pub link_before : LinkColumns → LinkColumns → Bool
+link_before a b = is_lt (slice_cmp nat_cmp a.system b.system)
+
 -- at most one, and none of 0
 abbrev pub fits_link : SystemColumns → List LinkColumns → Bool
 fits_link s [] = true
@@ -127,14 +130,14 @@ fits_taken s ts = rises taken_before ts
 
 -- the number here was given, and the key is one
 abbrev pub is_given : ℕ → TakenColumns → Bool
-is_given next t = nat_lt t.taken.job next && nat_le t.taken.number numbers_end && nat_lt t.taken.mark marks_end
+is_given next t = nat_le 1 t.taken.job && nat_lt t.taken.job next && nat_le t.taken.number numbers_end && nat_lt t.taken.mark marks_end
 
 -- the neighbour may still ask for its number
-abbrev pub is_late : List LinkColumns → TakenColumns → Bool
-is_late links t = list_all (λ (l : LinkColumns). not (same_text l.system t.system) || nat_le l.below t.taken.number) links
+abbrev pub may_be_asked : List LinkColumns → TakenColumns → Bool
+may_be_asked links t = list_all (λ (l : LinkColumns). not (same_text l.system t.system) || nat_le l.below t.taken.number) links
 
 abbrev pub are_links : ℕ → List SystemColumns → List LinkColumns → List TakenColumns → Bool
-are_links next systems links taken = walk owns_link fits_link systems links && walk owns_taken fits_taken systems taken && list_all (is_given next) taken && list_all (is_late links) taken
+are_links next systems links taken = walk owns_link fits_link systems links && walk owns_taken fits_taken systems taken && list_all (is_given next) taken && list_all (may_be_asked links) taken
 
 -- ---- entries
 

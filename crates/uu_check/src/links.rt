@@ -1,7 +1,8 @@
 // Links of systems, and what was taken by them.
-ghost use Rattle.std.specs.Prelude.{◌≡◌};
+ghost use Rattle.std.specs.Prelude.{◌≡◌, true};
 ghost use Rattle.std.specs.List.{list_all};
-ghost use Rattle.uu_check.specs.Tests.{owns_link, fits_link, owns_taken, fits_taken, taken_before, is_given, is_late, are_links};
+ghost use Rattle.uu_check.specs.Tests.{owns_link, fits_link, owns_taken, fits_taken, taken_before, is_given, may_be_asked, are_links, link_before, system_before};
+ghost use Rattle.uu_check.specs.Walk.{rises};
 
 use crate::walk::{Owner, Ranked, rise, walk_owners};
 use uu_core::limits::NUMBERS_END;
@@ -51,7 +52,7 @@ fn is_given(next: u32, row: &TakenColumns) -> bool
     ensures { result ≡ is_given next row.now }
 {
     let _ = row.taken.mark.number();
-    row.taken.job < next && row.taken.number <= NUMBERS_END
+    row.taken.job >= 1 && row.taken.job < next && row.taken.number <= NUMBERS_END
 }
 
 fn are_given(next: u32, taken: &[TakenColumns]) -> bool
@@ -65,19 +66,22 @@ fn are_given(next: u32, taken: &[TakenColumns]) -> bool
     true
 }
 
-fn is_late(links: &[LinkColumns], row: &TakenColumns) -> bool
-    ensures { result ≡ is_late links.now row.now }
+fn may_be_asked(links: &[LinkColumns], row: &TakenColumns) -> bool
+    requires { rises link_before links.now ≡ true }
+    ensures { result ≡ may_be_asked links.now row.now }
 {
-    links
-        .iter()
-        .all(|link| link.system != row.system || link.below <= row.taken.number)
+    match links.binary_search_by(|link| link.system.cmp(&row.system)) {
+        Ok(place) => links[place].below <= row.taken.number,
+        Err(_) => true,
+    }
 }
 
-fn are_late(links: &[LinkColumns], taken: &[TakenColumns]) -> bool
-    ensures { result ≡ list_all (is_late links.now) taken.now }
+fn may_all_be_asked(links: &[LinkColumns], taken: &[TakenColumns]) -> bool
+    requires { rises link_before links.now ≡ true }
+    ensures { result ≡ list_all (may_be_asked links.now) taken.now }
 {
     for row in taken {
-        if !is_late(links, row) {
+        if !may_be_asked(links, row) {
             return false;
         }
     }
@@ -91,10 +95,11 @@ pub(crate) fn are_links(
     links: &[LinkColumns],
     taken: &[TakenColumns],
 ) -> bool
+    requires { rises system_before systems.now ≡ true }
     ensures { result ≡ are_links next systems.now links.now taken.now }
 {
     walk_owners(systems, links)
         && walk_owners(systems, taken)
         && are_given(next, taken)
-        && are_late(links, taken)
+        && may_all_be_asked(links, taken)
 }

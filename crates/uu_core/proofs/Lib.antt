@@ -3,7 +3,9 @@ pub mod CustodyInvariant
 pub mod CustodyLaws
 pub mod CustodyLemmas
 pub mod CustodyRuns
+pub mod DefinitionLaws
 pub mod DoneLemmas
+pub mod DueLaws
 pub mod DueLemmas
 pub mod JobLemmas
 pub mod KeyLaws

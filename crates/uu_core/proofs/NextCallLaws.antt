@@ -1,5 +1,5 @@
 -- What is told of calls, beside what is due.
-use Rattle.std.proofs.Common.{◌≡◌, ℕ, ◌+◌, ◌%◌, ◌≤◌, Bool, true, false, not, cond, leb, ltb, ◌&&◌, ◌||◌, ◌==◌, List, [], ◌∷◌, get_or, Option, Some, None, IfSome, Contains, refl, ap, sym, ◌∙◌, subst, arith, ◌↔◌}
+use Rattle.std.proofs.Common.{◌≡◌, ℕ, ◌≤◌, Bool, true, false, not, cond, leb, ltb, ◌&&◌, List, [], ◌∷◌, get_or, Option, Some, None, IfSome, Contains, refl, ap, sym, ◌∙◌, subst, arith, ◌↔◌}
 use Rattle.std.specs.List.{list_all}
 use Rattle.std.specs.Cmp.Lexicographic.{bytes_decides}
 use Rattle.std.specs.declared.cmp.Ordering.TheVariants.{Less, Equal}
@@ -20,7 +20,7 @@ use Rattle.uu_core.specs.Plain.{AreByName}
 use Rattle.uu_core.specs.Waiting.{limit_at, is_held}
 use Rattle.uu_core.specs.Queues.{jobs_for}
 use Rattle.uu_core.specs.Due.{limit_now, is_within, may_go, goes_before, is_due, due_of, is_listed, AreDue}
-use Rattle.uu_core.specs.NextCalls.{natural, week_at, limit_in, looked_ahead, is_looked_at, is_callable, IsLeast, why_limited, IsNextCall, IsMomentAt, due_by, IsEarlier}
+use Rattle.uu_core.specs.NextCalls.{natural, week_at, limit_in, is_looked_at, is_callable, IsLeast, why_limited, IsNextCall, IsMomentAt, due_by, IsEarlier}
 use Rattle.uu_core.proofs.Members.{from_filter, kept, some_passes, passing_one, first_of, later_of}
 use Rattle.uu_core.proofs.NextCallLemmas.{ahead_of, false-true, left-true, right-true}
 
@@ -162,11 +162,7 @@ module _ (zone : Zone) (rows : List SystemRow) (jobs : List JobHead) (now : ℕ)
   -- ---- why
 
   now_looked_at : now ≤ last_second → is_looked_at next.row.call now now ≡ true
-  now_looked_at h = by-held (is_held next.row.call now) refl
-    where
-      by-held : (held : Bool) → is_held next.row.call now ≡ held → ((now == now || (ltb now now && now % 60 == 0)) && leb now (cond held (next.row.call.last + next.row.call.wait) now + looked_ahead) && leb now last_second) ≡ true
-      by-held true e = grind (arith, nat_tests)
-      by-held false e = grind (arith, nat_tests)
+  now_looked_at h = grind (arith, nat_tests)
 
   due_within : (held : Bool) (limit : Option ℕ) → cond held why.Held (why_limited limit call.grade) ≡ why.Due → is_within (cond held None limit) call.grade ≡ true
   due_within true limit e = absurd (cc)

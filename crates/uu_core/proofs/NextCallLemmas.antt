@@ -101,10 +101,19 @@ module _ (zone : Zone) (row : SystemRow) (grade now free last from : ℕ) where
   abbrev test : ℕ → Bool
   test minute = is_within (limit_in zone row (60 * minute)) grade
 
+  -- the first minute that is looked at
+  abbrev pub first_looked_at : Bool → ℕ
+  first_looked_at held = cond held (max (now / 60 + 1) (div_ceil free 60)) (now / 60 + 1)
+
+  -- it isn't before the next minute
+  next_first : (held : Bool) → from ≡ first_looked_at held → now / 60 + 1 ≤ from
+  next_first true e = omega arith
+  next_first false e = omega arith
+
   -- a second at which the system may be called, and that isn't the first one, is a minute of those
   -- that are looked through
   later_minute : is_within (limit_in zone row now) grade ≡ false → free ≡ min (free_from row.call now) last_second → last ≡ min (free + looked_ahead) last_second
-      → from ≡ max (now / 60 + 1) (div_ceil free 60) → (other : ℕ) → is_callable zone row grade now other ≡ true
+      → from ≡ first_looked_at (is_held row.call now) → (other : ℕ) → is_callable zone row grade now other ≡ true
       → (k : ℕ) × (other ≡ 60 * k) × (from ≤ k) × (k < last / 60 + 1) × (test k ≡ true)
   later_minute not_now free_is last_is from_is other callable =
       let looked = left-true (is_looked_at row.call now other) (is_within (limit_in zone row other) grade) callable in
@@ -115,9 +124,11 @@ module _ (zone : Zone) (row : SystemRow) (grade now free last from : ℕ) where
       let ahead = right-true (other == now || (ltb now other && other % 60 == 0)) (leb other (free_from row.call now + looked_ahead)) near in
       by-place may (leb-true other (free_from row.call now + looked_ahead) ahead) (leb-true other last_second past) (or_cases (other == now) (ltb now other && other % 60 == 0) place)
     where
-      by-held : (held : Bool) → is_held row.call now ≡ held → now < other → other < cond held (row.call.last + row.call.wait) now → is_held row.call other ≡ true
-      by-held false e later within = absurd (omega arith)
-      by-held true e later within = grind (arith, nat_tests)
+      by-held : (held : Bool) → is_held row.call now ≡ held → from ≡ first_looked_at held → now < other → other ≡ 60 * (other / 60) → other / 60 < from → is_held row.call other ≡ true
+      by-held false e first later whole before = absurd (omega arith)
+      by-held true e first later whole before =
+          let within : other < row.call.last + row.call.wait = omega arith in
+          grind (arith, nat_tests)
 
       by-place : is_within (limit_in zone row other) grade ≡ true → other ≤ free_from row.call now + looked_ahead → other ≤ last_second
           → (other == now ≡ true) ⊎ (ltb now other && other % 60 == 0 ≡ true) → (k : ℕ) × (other ≡ 60 * k) × (from ≤ k) × (k < last / 60 + 1) × (test k ≡ true)
@@ -132,11 +143,11 @@ module _ (zone : Zone) (row : SystemRow) (grade now free last from : ℕ) where
           by-from after is true e = (other / 60, is, leb-true from (other / 60) e, omega arith, ap (λ s. is_within (limit_in zone row s) grade) (sym is) ∙ may)
           by-from after is false e =
               let before : other / 60 < from = grind (arith, nat_tests) in
-              let held = by-held (is_held row.call now) refl after (omega arith) in
+              let held = by-held (is_held row.call now) refl from_is after is before in
               absurd (false-true (ap (λ h. is_within (cond h None (limit_at row.def.lines (week_at zone other))) grade) held) may)
 
   pub first_second : is_within (limit_in zone row now) grade ≡ false → free ≡ min (free_from row.call now) last_second → last ≡ min (free + looked_ahead) last_second
-      → from ≡ max (now / 60 + 1) (div_ceil free 60) → (found : Option ℕ) → IsFirstOpen test from (last / 60 + 1) found → IsLeast (is_callable zone row grade now) found
+      → from ≡ first_looked_at (is_held row.call now) → (found : Option ℕ) → IsFirstOpen test from (last / 60 + 1) found → IsLeast (is_callable zone row grade now) found
   first_second not_now free_is last_is from_is None none = λ other. by-test other (is_callable zone row grade now other) refl
     where
       by-test : (other : ℕ) (t : Bool) → is_callable zone row grade now other ≡ t → t ≡ false
@@ -151,7 +162,8 @@ module _ (zone : Zone) (row : SystemRow) (grade now free last from : ℕ) where
 
       looked : is_looked_at row.call now second ≡ true
       looked =
-          let after : now < second = omega arith in
+          let next = next_first (is_held row.call now) from_is in
+          let after : now < second = omega (arith, next) in
           let whole : second % 60 ≡ 0 = omega arith in
           let ahead : second ≤ free_from row.call now + looked_ahead = omega arith in
           let past : second ≤ last_second = omega arith in
@@ -168,6 +180,62 @@ module _ (zone : Zone) (row : SystemRow) (grade now free last from : ℕ) where
           by-order : (later : (k : ℕ) × (other ≡ 60 * k) × (from ≤ k) × (k < last / 60 + 1) × (test k ≡ true)) → (t : Bool) → leb minute later.0 ≡ t → second ≤ other
           by-order later true e = let order = leb-true minute later.0 e in omega (arith, later.1)
           by-order later false e = absurd (false-true (none later.0 later.2 (grind (arith, nat_tests))) later.4)
+
+-- the end of a wait that was cut off at a bound past the last moment
+pub capped : (free end most : ℕ) → free ≡ min end most → last_second ≤ most → min free last_second ≡ min end last_second
+capped free end most e past = omega arith
+
+-- ---- lines that are never open
+
+-- where no line for the grade has a minute, none is open for it
+none_open : (lines : List Line) (week grade : ℕ) → list_any (λ line. leb grade line.grade && not (length line.windows == 0)) lines ≡ false
+    → list_any (λ line. leb grade line.grade && holds line.windows week) lines ≡ false
+none_open [] week grade e = refl
+none_open (line ∷ lines) week grade e =
+    by-windows line.windows refl (none_open lines week grade (right-false (leb grade line.grade && not (length line.windows == 0)) _ e))
+  where
+    right-false : (a b : Bool) → a || b ≡ false → b ≡ false
+    right-false true b f = absurd (cc)
+    right-false false b f = f
+
+    closed : leb grade line.grade && not (length line.windows == 0) ≡ false
+    closed = left-false _ (list_any (λ (l : Line). leb grade l.grade && not (length l.windows == 0)) lines) e
+      where
+        left-false : (a b : Bool) → a || b ≡ false → a ≡ false
+        left-false true b f = f
+        left-false false b f = refl
+
+    by-windows : (windows : List (ℕ × ℕ)) → line.windows ≡ windows → list_any (λ (l : Line). leb grade l.grade && holds l.windows week) lines ≡ false
+        → (leb grade line.grade && holds line.windows week) || list_any (λ (l : Line). leb grade l.grade && holds l.windows week) lines ≡ false
+    by-windows [] is others = rw (is, others) (by-grade (leb grade line.grade))
+      where
+        by-grade : (b : Bool) → (b && false) || false ≡ false
+        by-grade true = refl
+        by-grade false = refl
+    by-windows (range ∷ ranges) is others =
+        let some : (length (range ∷ ranges) == 0) ≡ false = grind (arith, nat_tests) in
+        let higher : leb grade line.grade ≡ false = by-grade (leb grade line.grade) (ap (λ (b : Bool). leb grade line.grade && not b) (sym some) ∙ ap (λ (w : List (ℕ × ℕ)). leb grade line.grade && not (length w == 0)) (sym is) ∙ closed) in
+        rw (higher, others) refl
+      where
+        by-grade : (b : Bool) → b && true ≡ false → b ≡ false
+        by-grade true f = f
+        by-grade false f = refl
+
+-- and the system can never be called for it
+pub never_open : (zone : Zone) (row : SystemRow) (grade now : ℕ) → list_any (λ line. leb grade line.grade && not (length line.windows == 0)) row.def.lines ≡ false
+    → IsLeast (is_callable zone row grade now) None
+never_open zone row grade now none other = by-looked (is_looked_at row.call now other)
+  where
+    closed : is_within (limit_at row.def.lines (week_at zone other)) grade ≡ false
+    closed = sym (reached_by_one row.def.lines (week_at zone other) grade) ∙ none_open row.def.lines (week_at zone other) grade none
+
+    by-held : (held : Bool) → is_within (cond held None (limit_at row.def.lines (week_at zone other))) grade ≡ false
+    by-held true = refl
+    by-held false = closed
+
+    by-looked : (looked : Bool) → looked && is_within (limit_in zone row other) grade ≡ false
+    by-looked true = by-held (is_held row.call other)
+    by-looked false = refl
 
 -- ---- the order
 

@@ -257,7 +257,7 @@ entries-in_order (Err fault) bytes entries h = h
 -- what a link holds, but that it says something
 record Holds (next : ℕ) (link : Link) : Type 0 where
   below : link.below ≤ numbers_end
-  numbers : All (λ (row : Taken). (row.number ≤ numbers_end) × (row.mark < marks_end)) link.taken
+  numbers : All (λ (row : Taken). (row.number ≤ numbers_end) × (row.mark < marks_end) × (1 ≤ row.job)) link.taken
   rising : AllPairs (λ (a b : Taken). a.number < b.number) link.taken
   at_least : All (λ (row : Taken). link.below ≤ row.number) link.taken
   jobs : All (λ (row : Taken). row.job < next) link.taken
@@ -269,7 +269,7 @@ unwrap-has P (Some x) d h p = h
 new-holds : (next : ℕ) (name : List ℕ) → Holds next (new_link name)
 new-holds next name = record {
   below = omega arith;
-  numbers = All-nil (λ (row : Taken). (row.number ≤ numbers_end) × (row.mark < marks_end));
+  numbers = All-nil (λ (row : Taken). (row.number ≤ numbers_end) × (row.mark < marks_end) × (1 ≤ row.job));
   rising = pairs-nil (λ (a b : Taken). a.number < b.number);
   at_least = All-nil (λ (row : Taken). 0 ≤ row.number);
   jobs = All-nil (λ (row : Taken). row.job < next);
@@ -287,10 +287,10 @@ find-named name (link ∷ links) = by-test (is_link name link) refl (find-named 
 pub link-named : (links : List Link) (name : List ℕ) → (unwrap_or (find (is_link name) links) (new_link name)).name ≡ name
 link-named links name = unwrap-has (λ (link : Link). link.name ≡ name) (find (is_link name) links) (new_link name) (find-named name links) refl
 
-holds-more : (next later : ℕ) (link : Link) (row : Taken) → next ≤ later → Holds next link → row.number ≤ numbers_end → row.mark < marks_end → link.below ≤ row.number → row.job < later → Holds later (with_taken row link)
-holds-more next later link row up h number mark least job = record {
+holds-more : (next later : ℕ) (link : Link) (row : Taken) → next ≤ later → Holds next link → row.number ≤ numbers_end → row.mark < marks_end → 1 ≤ row.job → link.below ≤ row.number → row.job < later → Holds later (with_taken row link)
+holds-more next later link row up h number mark given least job = record {
   below = h.below;
-  numbers = among (λ (other : Taken). (other.number ≤ numbers_end) × (other.mark < marks_end)) (number, mark) h.numbers;
+  numbers = among (λ (other : Taken). (other.number ≤ numbers_end) × (other.mark < marks_end) × (1 ≤ other.job)) (number, mark, given) h.numbers;
   rising = pairs-append R first (row ∷ rest) (AllPairs-filter R (λ (other : Taken). ltb other.number row.number) link.taken h.rising)
       (AllPairs-cons R row rest after (AllPairs-filter R (λ (other : Taken). ltb row.number other.number) link.taken h.rising))
       (All-weaker (λ (other : Taken). ltb other.number row.number ≡ true) (λ other. All (R other) (row ∷ rest)) before first (filter_passes (λ (other : Taken). ltb other.number row.number) link.taken));
@@ -321,7 +321,7 @@ holds-more next later link row up h number mark least job = record {
 holds-fewer : (next below : ℕ) (link : Link) → Holds next link → below ≤ numbers_end → Holds next (forgotten below link)
 holds-fewer next below link h within = record {
   below = omega (arith, h.below, within);
-  numbers = All-filter p (λ (row : Taken). (row.number ≤ numbers_end) × (row.mark < marks_end)) link.taken h.numbers;
+  numbers = All-filter p (λ (row : Taken). (row.number ≤ numbers_end) × (row.mark < marks_end) × (1 ≤ row.job)) link.taken h.numbers;
   rising = AllPairs-filter (λ (a b : Taken). a.number < b.number) p link.taken h.rising;
   at_least = λ k d inside. both link.below below (get_or (filter p link.taken) k d).number (All-filter p (λ (row : Taken). link.below ≤ row.number) link.taken h.at_least k d inside) (filter_passes p link.taken k d inside);
   jobs = All-filter p (λ (row : Taken). row.job < next) link.taken h.jobs;
@@ -563,7 +563,7 @@ still-once state key job other h good fine e =
     let then = still-queue state h job fine why.0 both.1 why.2 in
     let old = holds state h key.from in
     let row : Taken = record { number = key.number; mark = key.mark; job = state.next } in
-    let more = holds-more state.next (state.next + 1) (link_of state key.from) row (omega arith) old good.number good.mark why.3 (omega arith) in
+    let more = holds-more state.next (state.next + 1) (link_of state key.from) row (omega arith) old good.number good.mark h.some_next why.3 (omega arith) in
     still-link (with_job job state) then (with_taken row (link_of state key.from)) more (link-known state h key.from both.0)
 
 failed-call : (row : SystemRow) (at : Moment) (why : List ℕ) → IsCommand (Failed row.def.name at why) → IsDefinition row.def → IsCall row.call → IsCall (failed_call row at why)

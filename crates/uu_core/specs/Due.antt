@@ -1,7 +1,7 @@
 -- Which systems may be called now, and for which job. (That a grade limits a call: Taylor UUCP 1.07
 -- manual, on the time commands of the sys file; that each system is listed once, and in which
 -- order, is this project's choice.)
-use Rattle.std.specs.Prelude.{◌≡◌, ℕ, nat_eq, [], ◌∷◌, ◌++◌, true, Contains, Bool, not, ◌&&◌, ◌||◌, ◌==◌, nat_le, nat_lt, List, map, Option, Some, None, AllPairs, IsTrue, false, if◌then◌else◌}
+use Rattle.std.specs.Prelude.{◌≡◌, ℕ, nat_eq, [], ◌∷◌, ◌++◌, true, Contains, Bool, not, ◌&&◌, ◌||◌, ◌==◌, nat_le, nat_lt, List, map, filter, Option, Some, None, AllPairs, IsTrue, false, if◌then◌else◌}
 use Rattle.std.specs.List.{list_any, list_all, IsDistinct}
 use Rattle.uu_times.specs.declared.moment.Moment.{Moment}
 use Rattle.uu_core.specs.declared.job.JobHead.{JobHead}
@@ -54,6 +54,14 @@ pub record AreDue (rows : List SystemRow) (jobs : List JobHead) (at : Moment) (d
   pub sound : (due : Due) → Contains dues due → IsDue rows jobs at due
   pub complete : (due : Due) → IsDue rows jobs at due → Contains dues due
   pub in_order : AllPairs ComesFirst dues
+
+-- the jobs that may go now, in their order
+abbrev pub all_due : List SystemRow → List JobHead → Moment → List Due
+all_due rows jobs at = map due_of (filter (may_go rows at) jobs)
+
+-- what is due of a system
+abbrev pub dues_of : List ℕ → List Due → List Due
+dues_of name dues = filter (λ due. same_text due.system name) dues
 
 -- no two jobs have one number, as in every state
 abbrev pub HaveNumbers : List JobHead → Type 0

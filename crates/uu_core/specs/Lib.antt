@@ -1,5 +1,6 @@
 pub mod After
 pub mod Custody
+pub mod Definitions
 pub mod Due
 pub mod Laws
 pub mod Marks

@@ -1,7 +1,7 @@
 -- When each system can next be called, for which job, and why not now. (Held systems and limits:
 -- Taylor UUCP 1.07 manual, on the time commands of the sys file; how far is looked ahead, what is
 -- told, and in which order, is this project's choice.)
-use Rattle.std.specs.Prelude.{◌≡◌, ◌≢◌, ℕ, ◌+◌, ◌*◌, ◌%◌, ◌<◌, ◌≤◌, ℤ, pos, negsuc, Bool, true, false, ◌&&◌, ◌||◌, ◌==◌, nat_le, nat_lt, List, [], map, Option, Some, None, IfSome, ⊤, All, AllPairs, Contains, if◌then◌else◌}
+use Rattle.std.specs.Prelude.{◌≡◌, ◌≢◌, ℕ, ◌+◌, ◌*◌, ◌%◌, ◌<◌, ◌≤◌, max, ℤ, pos, negsuc, Bool, true, false, ◌&&◌, ◌||◌, ◌==◌, nat_le, nat_lt, List, [], map, Option, Some, None, IfSome, ⊤, All, AllPairs, Contains, if◌then◌else◌}
 use Rattle.std.specs.Ordering.{nat_cmp, is_lt}
 use Rattle.std.specs.Cmp.Lexicographic.{slice_cmp}
 use Rattle.uu_times.specs.Moment.{last_second, local_second, week_minute}
@@ -44,12 +44,13 @@ limit_in zone row second = limit_by row second (week_at zone second)
 abbrev pub looked_ahead : ℕ
 looked_ahead = 28 * 86400
 
--- the end of the system's wait where it is held at the second, else the second itself
+-- the end of the system's wait where that lies ahead, else the second itself: a clock that was set
+-- back before the last call comes to the wait again
 abbrev pub free_from : CallState → ℕ → ℕ
-free_from call now = if is_held call now then call.last + call.wait else now
+free_from call now = max now (call.last + call.wait)
 
 -- The seconds looked at are the second of the question and each later one that is a whole minute of
--- UTC, up to 28 days after it or, where the system is held then, after the end of its wait. None
+-- UTC, up to 28 days after it or, where the end of the system's wait lies ahead, after that. None
 -- lies past the last moment.
 abbrev pub is_looked_at : CallState → ℕ → ℕ → Bool
 is_looked_at call now second =

@@ -183,7 +183,7 @@ pub record IsDefinition (def : System) : Type 0 where
 pub record IsLink (link : Link) : Type 0 where
   pub below : link.below ≤ numbers_end
   pub says : says_nothing link ≡ false
-  pub numbers : All (λ taken. (taken.number ≤ numbers_end) × (taken.mark < marks_end)) link.taken
+  pub numbers : All (λ taken. (taken.number ≤ numbers_end) × (taken.mark < marks_end) × (1 ≤ taken.job)) link.taken
   pub rising : AllPairs (λ a b. a.number < b.number) link.taken
   pub at_least : All (λ taken. link.below ≤ taken.number) link.taken
 

@@ -1,9 +1,9 @@
 // Which systems may be called now, and for which job.
-ghost use Rattle.std.specs.Prelude.{◌≡◌, ◌++◌, ◌∷◌, [], ℕ, List, map, IfOk, OnOk, IsPermutation};
+ghost use Rattle.std.specs.Prelude.{◌≡◌, ◌++◌, ◌∷◌, [], ℕ, List, map, filter, IfOk, OnOk, IsPermutation};
 ghost use Rattle.std.specs.Ordering.{nat_cmp};
 ghost use Rattle.std.specs.Cmp.Lexicographic.{slice_cmp};
 ghost use Rattle.std.specs.BTreeMap.{get};
-ghost use Rattle.uu_core.specs.Due.{limit_now, is_within, may_be_called, due_of, AreDue, HaveNumbers, AreInOrder};
+ghost use Rattle.uu_core.specs.Due.{limit_now, is_within, may_be_called, may_go, due_of, all_due, AreDue, HaveNumbers, AreInOrder};
 
 use crate::callable::{is_free, lower};
 use crate::job::JobHead;
@@ -103,6 +103,40 @@ pub fn choose(
             free.remove(&job.system);
             list(&mut dues, job)?;
         }
+    }
+    Ok(dues)
+}
+
+// Adds the job where its system may be called for it.
+fn list_free(
+    free: &BTreeMap<SiteName, Grade>,
+    dues: &mut Vec<Due>,
+    job: &JobHead,
+) -> Result<(), AllocError>
+    ensures { (rows : List SystemRow) (at : Moment) → ((name : List ℕ) (grade : ℕ) → is_within (get (slice_cmp nat_cmp) free.now name) grade ≡ may_be_called rows at name grade)
+        → OnOk result (dues.new.items ≡ dues.old.items ++ map due_of (filter (may_go rows at) (job.now ∷ []))) }
+{
+    if is_free(free, &job.system, job.grade) {
+        return list(dues, job);
+    }
+    Ok(())
+}
+
+/// The jobs that may go at this moment, in their order: those whose system is not held and has a
+/// limit that reaches their grade. Of the jobs of one system, by grade and number, the first is the
+/// one that [`choose`] tells of it ([`the_first_to_go_is_due`](crate::laws::the_first_to_go_is_due)).
+pub fn all_due(
+    alloc: Global,
+    rows: &[SystemRow],
+    jobs: &[JobHead],
+    at: &Moment,
+) -> Result<Vec<Due>, AllocError>
+    ensures { IfOk result (λ dues. dues.items ≡ all_due rows.now jobs.now at.now) }
+{
+    let free = limits(alloc, rows, at)?;
+    let mut dues = Vec::new(alloc);
+    for job in jobs {
+        list_free(&free, &mut dues, job)?;
     }
     Ok(dues)
 }

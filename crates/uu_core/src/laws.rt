@@ -1,16 +1,19 @@
 //! Laws of the machine that the contracts of this crate speak of.
-ghost use Rattle.std.specs.Prelude.{◌≡◌, ◌++◌, ◌+◌, ◌≤◌, ◌⊎◌, ◌<◌, ℕ, List, Some, None, Contains, Bool, false, All, AllPairs, IsPermutation, [], ◌∷◌, ◌↔◌, true, length, sum_by};
+ghost use Rattle.std.specs.Prelude.{◌≡◌, ◌++◌, ◌+◌, ◌≤◌, ◌⊎◌, ◌<◌, ℕ, List, Option, Some, None, Ok, Contains, Bool, false, All, AllPairs, IsPermutation, [], ◌∷◌, ◌↔◌, true, length, map, sum_by, take};
 ghost use Rattle.uu_core.specs.declared.command.Command.{Command};
-ghost use Rattle.uu_core.specs.declared.command.Command.TheVariants.{Queue, QueueOnce};
+ghost use Rattle.uu_core.specs.declared.command.Command.TheVariants.{Define, Queue, QueueOnce};
 ghost use Rattle.uu_core.specs.declared.custody.Key.{Key};
 ghost use Rattle.uu_core.specs.declared.queue.Queue.{Queue as SystemQueue};
 ghost use Rattle.uu_core.specs.declared.due.Due.{Due};
 ghost use Rattle.uu_core.specs.declared.next_call.NextCall.{NextCall};
 ghost use Rattle.uu_core.specs.declared.next_call.Why.TheVariants as why;
+ghost use Rattle.uu_names.specs.Text.{most_text};
 ghost use Rattle.uu_times.specs.Moment.{last_second};
+ghost use Rattle.uu_times.specs.Printed.{sys_text};
+ghost use Rattle.uu_times.specs.SysFile.{sys_file_of};
 ghost use Rattle.uu_times.specs.declared.zone.Zone.{Zone};
 ghost use Rattle.uu_core.specs.NextCalls.{IsNextCall, IsMomentAt, IsEarlier, due_by, is_looked_at};
-ghost use Rattle.uu_core.specs.Queues.{AreQueues};
+ghost use Rattle.uu_core.specs.Queues.{AreQueues, jobs_for};
 ghost use Rattle.uu_core.specs.Plain.{AreByName};
 ghost use Rattle.uu_core.specs.declared.command.Reply.TheVariants.{Number, Refused};
 ghost use Rattle.uu_times.specs.declared.moment.Moment.{Moment};
@@ -23,13 +26,15 @@ ghost use Rattle.uu_core.specs.Custody.{Crossing, World, Parcel, Handed, Step, p
 ghost use Rattle.uu_core.specs.Network.{Chart, Network, Move, world_of, MayMoveOn, network_after, IsReachedNetwork, IsRoute, GoesBy, ComesTo, IsMadeOf, Stands, AreNamedApart, by_line, IsWelcome, next_of, IsWelcomeOn, IsAcross, MayArrive};
 ghost use Rattle.uu_core.specs.Refusal.{first_reason, AreInTurn};
 ghost use Rattle.uu_core.specs.Verdict.{verdict, reasons, done_refusal, queue_refusal, are_known, taken_of};
-ghost use Rattle.uu_core.specs.Due.{AreDue, AreInOrder, is_listed, walk, with_next};
+ghost use Rattle.uu_core.specs.Definitions.{definitions_of};
+ghost use Rattle.uu_core.specs.Due.{AreDue, AreInOrder, all_due, dues_of, is_listed, walk, with_next};
 ghost use Rattle.uu_core.specs.After.{after, job_of};
 ghost use Rattle.uu_core.specs.Run.{state_after, replies_to};
 ghost use Rattle.uu_core.specs.Laws.{accepted_of, lets_go, lets_forget, numbers_in, new_numbers, has_key, is_repeat, IsAmong, IsHandedIn, IsOfRun, AreFound};
 ghost use Rattle.uu_core.specs.WellFormed.{IsCommand};
 
 pub use crate::sound::commands_are_sound;
+use uu_times::laws::printed_systems_are_read;
 
 /// A refused command leaves the state, and its reply is the refusal.
 pub fn refusals_change_nothing()
@@ -190,6 +195,26 @@ pub fn walks_go_job_by_job()
     ensures start { (rows : List SystemRow) (at : Moment) → walk rows [] at ≡ [] }
     ensures step { (rows : List SystemRow) (at : Moment) (jobs : List JobHead) (job : JobHead) → walk rows (jobs ++ job ∷ []) at ≡ with_next rows at (walk rows jobs at) job }
 {}
+
+/// Of a system's jobs by grade and number that may go, the first is what is due of the system, and
+/// where none may go, nothing is.
+pub fn the_first_to_go_is_due()
+    ensures { (rows : List SystemRow) (at : Moment) (jobs own : List JobHead) (name : List ℕ) (dues : List Due)
+        → IsPermutation (jobs_for name jobs) own → AreInOrder own → AreDue rows jobs at dues → dues_of name dues ≡ take 1 (all_due rows own at) }
+{}
+
+/// The sys file that is printed of a spool's systems, or of one, is read back as exactly their
+/// definitions, in their order, and nothing is skipped (`read`). Systems that are defined so in an
+/// empty spool have these definitions (`again`). The text of one system may be read whole (`short`).
+pub fn definitions_are_read_back()
+    ensures read { (state : State) (name : Option (List ℕ)) → IsWellFormed state
+        → sys_file_of (sys_text (definitions_of name state.systems)) ≡ Ok (record { systems = definitions_of name state.systems; skipped = [] }) }
+    ensures again { (state : State) (name : Option (List ℕ)) → IsWellFormed state
+        → map (λ row. row.def) (state_after empty (map Define (definitions_of name state.systems))).systems ≡ definitions_of name state.systems }
+    ensures short { (state : State) (name : List ℕ) → IsWellFormed state → length (sys_text (definitions_of (Some name) state.systems)) ≤ most_text }
+{
+    printed_systems_are_read();
+}
 
 /// At the second that [`next_calls`](crate::next_calls) tells of a system, what is due lists the
 /// system with that job, if nothing changes until then; at a second that was looked at before, it

@@ -7,6 +7,7 @@ pub mod callable;
 mod command;
 mod custody;
 mod decide;
+mod definition;
 mod due;
 mod filter;
 mod job;
@@ -27,7 +28,8 @@ pub use decide::{
     decide_done, decide_drop, decide_failed, decide_forget, decide_job, decide_queue,
     decide_queue_once,
 };
-pub use due::{Due, choose};
+pub use definition::definitions;
+pub use due::{Due, all_due, choose};
 pub use filter::Filter;
 pub use job::{By, JobHead, Kind, NewJob};
 pub use next_call::{NextCall, Why, next_calls};

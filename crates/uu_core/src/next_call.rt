@@ -1,9 +1,10 @@
 // When each system can next be called, and for which job.
-ghost use Rattle.std.specs.Prelude.{◌≡◌, ◌+◌, ◌*◌, ◌≤◌, ◌/◌, ◌&&◌, nat_le, min, IfOk, All};
+ghost use Rattle.std.specs.Prelude.{◌≡◌, ◌+◌, ◌*◌, ◌≤◌, ◌/◌, ◌&&◌, ◌==◌, not, nat_le, min, max, length, IfOk, All, if◌then◌else◌};
+ghost use Rattle.std.specs.Int.{div_ceil};
 ghost use Rattle.std.specs.List.{list_any};
 ghost use Rattle.uu_times.specs.Moment.{last_second};
 ghost use Rattle.uu_times.specs.Ranges.{holds};
-ghost use Rattle.uu_core.specs.Waiting.{limit_at};
+ghost use Rattle.uu_core.specs.Waiting.{limit_at, is_held};
 ghost use Rattle.uu_core.specs.Due.{is_within};
 ghost use Rattle.uu_core.specs.Plain.{AreByName};
 ghost use Rattle.uu_core.specs.NextCalls.{week_at, limit_by, limit_in, free_from, is_callable, IsLeast, why_by, IsToldOf, AreNextCalls, IsAhead, turn_of, IsFirstOpen};
@@ -71,6 +72,20 @@ fn reaches(lines: &[Line], week: u16, grade: Grade) -> bool
     is_one_open_for(lines, week, grade)
 }
 
+// Whether the line is for this grade, and open at any minute of the week.
+fn is_for(line: &Line, grade: Grade) -> bool
+    ensures { result ≡ (nat_le grade line.now.grade && not (length line.now.windows == 0)) }
+{
+    grade <= line.grade && !line.windows.ranges().is_empty()
+}
+
+// Whether a line is for this grade, and open at any minute of the week.
+fn is_ever_open_for(lines: &[Line], grade: Grade) -> bool
+    ensures { result ≡ list_any (λ line. nat_le grade line.grade && not (length line.windows == 0)) lines.now }
+{
+    lines.iter().any(|line| is_for(line, grade))
+}
+
 // Whether the system may be called for the grade at a second, which is in this minute of the week.
 fn may_be_called(row: &SystemRow, grade: Grade, second: u64, week: u16) -> bool
     ensures { result ≡ is_within (limit_by row.now second week) grade }
@@ -102,14 +117,23 @@ fn first_open(
     Ok(None)
 }
 
-// When a system that is held at a second is free again; the second itself, where it isn't held.
+// The second, or the end of the system's wait where that lies ahead.
 fn free_from(call: &CallState, second: u64) -> u64
     ensures { result ≡ min (free_from call.now second) u64.MAX }
 {
-    if held_at(call, second) {
-        call.last.saturating_add(call.wait)
+    call.last.saturating_add(call.wait).max(second)
+}
+
+// The first minute to look at: the next one, and of a system that is held the first one after its
+// wait, which ends at the second `free`.
+fn first_minute(call: &CallState, now: u64, free: u64) -> u64
+    ensures { result ≡ (if is_held call.now now then max (now / 60 + 1) (div_ceil free 60) else now / 60 + 1) }
+{
+    let next = now / 60 + 1;
+    if held_at(call, now) {
+        next.max(free.div_ceil(60))
     } else {
-        second
+        next
     }
 }
 
@@ -130,9 +154,12 @@ fn next_second(
     if may_be_called(row, grade, now, at.week) {
         return Ok(Some(now));
     }
+    if !is_ever_open_for(row.def.lines.as_slice(), grade) {
+        return Ok(None);
+    }
     let free = free_from(&row.call, now).min(LAST_SECOND);
     let last = (free + LOOKED_AHEAD).min(LAST_SECOND);
-    let from = (now / 60 + 1).max(free.div_ceil(60));
+    let from = first_minute(&row.call, now, free);
     first_open(row, grade, from, last / 60 + 1, weeks)
 }
 
@@ -192,14 +219,15 @@ fn turn(call: &NextCall) -> (u64, u8, u32)
 /// its jobs by grade and number, and why it isn't called now.
 ///
 /// The seconds looked at are `now` and each later one that is a whole minute of UTC, up to 28 days
-/// after it or, where the system is held at `now`, after the end of its wait; none past the last
+/// after it or, where the end of the system's wait lies ahead, after that; none past the last
 /// moment. The calls stand by their seconds, then by grade and number; last are the systems that
 /// can't be called at any of these seconds, by the bytes of their names.
 ///
 /// For systems that stand by the bytes of their names, no two of one name, as in every spool. Takes
-/// a look-up for each job and system, one sort, and for each system that can't be called at once a
-/// look at its time lines for each minute up to then. The clock is asked once for each minute from
-/// `now` to the last one that is looked at, and two bytes are kept of its answer.
+/// a look-up for each job and system, one sort, and for each system that can't be called at once,
+/// and has a line for the job that is open at any time, a look at its time lines for each minute up
+/// to then. The clock is asked once for each minute from `now` to the last one that is looked at,
+/// and two bytes are kept of its answer.
 pub fn next_calls(
     alloc: Global,
     rows: &[SystemRow],

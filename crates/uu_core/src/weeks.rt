@@ -6,13 +6,13 @@ ghost use Rattle.uu_core.specs.NextCalls.{week_at};
 use std::alloc::{AllocError, Global};
 use uu_times::{Moment, Zone};
 
-/// The most minutes whose answers are kept: the longest wait after a call, which is a year, and the
-/// 28 days that are looked at after it.
-const MOST_KEPT: u64 = 525_600 + 40_320;
+/// The most minutes whose answers are kept: the longest wait after a call, which is a year, the 28
+/// days that are looked at after it, and as many before it, where a clock was set back.
+const MOST_KEPT: u64 = 40_320 + 525_600 + 40_320;
 
 /// The minutes of the week at minutes of UTC, which are counted from 1970-01-01 00:00 on. The clock
 /// is asked once for each of the first `MOST_KEPT`, and each time for a later one, which is looked
-/// at only where a wait is longer than a year, as in no spool.
+/// at only where a clock was set back by more than 28 days and no line was open within them.
 #[derive(Drop)]
 pub(crate) struct Weeks<'a> {
     /// The site's clock.

@@ -45,6 +45,11 @@ pub(crate) const ALL: Refusing = Refusing {
 };
 
 impl Refusing {
+    /// Whether the first request of a call is refused, or none.
+    pub(crate) fn is_first(self) -> bool {
+        self.n <= 1
+    }
+
     /// The requests are counted, and refused, from here on.
     pub(crate) fn begin(self, alloc: Global) {
         let size = match self.short {

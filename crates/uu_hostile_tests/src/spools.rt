@@ -3,7 +3,9 @@
 use crate::acts::{Act, REQUESTS};
 use crate::files::{FEW_PAGES, MANY_PAGES, nothing};
 use crate::refusing::{ALL, expect_none, is_wrong, refuse_each};
-use crate::trials::{Deed, InFiles, InMemory, begun, only_stage, prepared, stages_of};
+use crate::trials::{
+    Deed, InFiles, InMemory, begun, changed_files, only_stage, prepared, stages_of,
+};
 use crate::values::{MAP, MESSAGE, Order, SUNDAY, SYS_FILE, SYS_FILE_DUKE, TWO_SYSTEMS, Work};
 use sqlite::Connection;
 use std::alloc::Global;
@@ -36,6 +38,12 @@ const ORDERS: &[Order] = &[
 ];
 
 const FULL: &[Act] = &[Act::Run(ORDERS)];
+
+/// What unc hands on, which is taken as job 3.
+const HAND_ON: Order = Order::HandOn("unc", 7, 5, "duke", 20_000);
+
+/// The same, where it was taken before.
+const HANDED_ON: &[Act] = &[Act::Run(ORDERS), Act::Command(HAND_ON)];
 
 const CALLS: &[Case] = &[
     (
@@ -137,7 +145,37 @@ const CALLS: &[Case] = &[
     (
         "Spool::command (entry, refused)",
         FULL,
-        Act::Command(Order::Entry(b"#N unc, a\n a*b\n")),
+        Act::Command(Order::Entry(b"#N a*b\n")),
+        &[],
+    ),
+    (
+        "Spool::command (queue once)",
+        FULL,
+        Act::Command(HAND_ON),
+        &[],
+    ),
+    (
+        "Spool::command (queue once, again)",
+        HANDED_ON,
+        Act::Command(HAND_ON),
+        &[],
+    ),
+    (
+        "Spool::command (queue once, refused)",
+        HANDED_ON,
+        Act::Command(Order::HandOn("unc", 7, 6, "duke", 0)),
+        &[],
+    ),
+    (
+        "Spool::command (forget)",
+        HANDED_ON,
+        Act::Command(Order::Forget("unc", 8)),
+        &[],
+    ),
+    (
+        "Spool::command (remove, with a key)",
+        HANDED_ON,
+        Act::Command(Order::Remove("unc")),
         &[],
     ),
     (
@@ -293,7 +331,7 @@ const LINES: &[LineCase] = &[
     (
         "serve (send, once)",
         &[LOAD],
-        ("send duke a b --once unc!7", b"abc"),
+        ("send duke a b --once unc!7!w", b"abc"),
         "job 1\n",
     ),
     (
@@ -426,37 +464,77 @@ fn batches(rt: HostRuntime) {
 
 // ---- databases that are taken, stretches of work, and a close
 
+/// What makes a database one of version 1.
+const INTO_1: &[&str] = &[
+    "DROP TABLE taken",
+    "DROP TABLE links",
+    "DROP TABLE success_waits",
+    "UPDATE spool SET version = 1",
+];
+
+/// What makes it one of version 2.
+const INTO_2: &[&str] = &[
+    "DROP TABLE taken",
+    "DROP TABLE links",
+    "UPDATE spool SET version = 2",
+];
+
+/// A database that is taken: what was done in it, and what changed it then.
+type Taking = (&'static str, &'static [Act], &'static [&'static str]);
+
+/// Version 1 has no success waits, which FOUR_JOBS doesn't use.
+const TAKINGS: &[Taking] = &[
+    ("Spool::adopt (empty", &[], &[]),
+    ("Spool::adopt (a spool", HANDED_ON, &[]),
+    ("Spool::adopt (version 1", FOUR_JOBS, INTO_1),
+    ("Spool::adopt (version 2", FULL, INTO_2),
+];
+
 /// Files are taken as a spool: new ones, or those in which these were done.
-fn adopted<R: Abort + Print>(rt: &R, alloc: Global, name: &str, acts: &'static [Act]) {
+fn taken_in_files<R: Abort + Print>(rt: &R, alloc: Global, (name, acts, statements): Taking) {
+    let name = (format!(in alloc; "{name} in files)")).expect(rt, "memory");
     let contents = if acts.is_empty() {
         nothing(alloc)
     } else {
-        prepared(rt, alloc, MANY_PAGES, acts)
+        let contents = prepared(rt, alloc, MANY_PAGES, acts);
+        changed_files(rt, alloc, MANY_PAGES, &contents, statements)
     };
     let stages = only_stage(rt, alloc, acts);
-    let mut trial = InFiles::new(rt, alloc, contents, MANY_PAGES, Deed::Adopt(&[]), stages);
-    refuse_each(rt, alloc, name, LATER, &mut trial);
+    let deed = Deed::Adopt(&[], &[]);
+    let mut trial = InFiles::new(rt, alloc, contents, MANY_PAGES, deed, stages);
+    refuse_each(rt, alloc, name.as_str(), LATER, &mut trial);
+}
+
+/// The same of a database in memory.
+fn taken_in_memory<R: Abort + Print>(rt: &R, alloc: Global, (name, acts, statements): Taking) {
+    let name = (format!(in alloc; "{name} in memory)")).expect(rt, "memory");
+    let stages = only_stage(rt, alloc, acts);
+    let deed = Deed::Adopt(acts, statements);
+    refuse_each(rt, alloc, name.as_str(), LATER, &mut InMemory { deed, stages });
+}
+
+fn takings() -> &'static [Taking] {
+    TAKINGS
 }
 
 #[test]
 fn files_are_taken(rt: HostRuntime) {
-    adopted(&rt, rt.alloc(), "Spool::adopt (empty files)", &[]);
-    adopted(&rt, rt.alloc(), "Spool::adopt (files)", FULL);
+    for taking in takings().iter().take(2) {
+        taken_in_files(&rt, rt.alloc(), *taking);
+    }
 }
 
-/// Databases in memory that are taken, each with what was done in it.
-const IN_MEMORY: &[(&str, &[Act])] = &[
-    ("Spool::adopt (empty, in memory)", &[]),
-    ("Spool::adopt (in memory)", FULL),
-];
+#[test]
+fn files_of_earlier_versions_are_taken(rt: HostRuntime) {
+    for taking in takings().iter().skip(2) {
+        taken_in_files(&rt, rt.alloc(), *taking);
+    }
+}
 
 #[test]
 fn databases_in_memory_are_taken(rt: HostRuntime) {
-    let alloc = rt.alloc();
-    for (name, acts) in IN_MEMORY {
-        let stages = only_stage(&rt, alloc, acts);
-        let deed = Deed::Adopt(acts);
-        refuse_each(&rt, alloc, name, LATER, &mut InMemory { deed, stages });
+    for taking in takings() {
+        taken_in_memory(&rt, rt.alloc(), *taking);
     }
 }
 

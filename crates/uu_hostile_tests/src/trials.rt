@@ -3,7 +3,7 @@
 ghost use Rattle.std.specs.Prelude.{◌≡◌, false};
 
 use crate::acts::{Act, Answered, End, end_of, is_failed, perform, picture, play, run_answered};
-use crate::files::{Contents, Left, files_of, left_of, nothing};
+use crate::files::{Contents, Left, MANY_PAGES, files_of, left_of, nothing};
 use crate::refusing::{Call, NONE, Outcome, Refusing, outcome_if, was_refused};
 use crate::values::{Order, commands};
 use sqlite::{Alter, Connection, Options};
@@ -17,12 +17,15 @@ use uu_store::{RunEnd, Spool, StoreFault};
 pub(crate) enum Deed {
     /// A call of the spool, after others.
     Call(&'static [Act], Act),
-    /// The database is taken as a spool; it was one before in which this was done.
-    Adopt(&'static [Act]),
+    /// The database is taken as a spool; it was one before in which this was done, and the
+    /// statements changed it then.
+    Adopt(&'static [Act], &'static [&'static str]),
     /// A whole stretch of work.
     AdoptAndRun(&'static [Order]),
     /// The files of a spool in which this was done are closed.
     Close(&'static [Act]),
+    /// Statements change a database, whether it is a spool's or not.
+    Change(&'static [&'static str]),
 }
 
 /// What came of it.
@@ -173,6 +176,22 @@ fn left_by<S: Alter + Drop>(
     }
 }
 
+/// A database once the statements have changed it.
+fn changed<S: Alter>(
+    rt: &impl Abort,
+    conn: Connection<S>,
+    statements: &[&'static str],
+) -> Connection<S>
+    ensures { result.in_transaction ≡ false }
+{
+    let mut conn = conn;
+    for statement in statements {
+        let _rows = conn.execute(statement, &[]).expect(rt, statement);
+    }
+    assert!(rt; conn.is_autocommit(), "a transaction is open");
+    conn
+}
+
 /// What a spool shows, and its store, which is let go.
 fn shown_and_let_go<S: Alter + Drop>(
     rt: &impl Abort,
@@ -275,9 +294,14 @@ fn done_in<S: Alter + Drop>(
 {
     match deed {
         Deed::Call(before, act) => call_in(rt, alloc, conn, before, act, refusing),
-        Deed::Adopt(before) => {
-            let conn = left_by(rt, alloc, conn, before);
+        Deed::Adopt(before, statements) => {
+            let conn = changed(rt, left_by(rt, alloc, conn, before), statements);
             adopt_in(rt, alloc, conn, refusing)
+        }
+        Deed::Change(statements) => {
+            let conn = changed(rt, conn, statements);
+            let met = without_answer(alloc, false, End::Whole, None);
+            (met, conn.into_store())
         }
         Deed::AdoptAndRun(orders) => adopt_and_run_in(rt, alloc, conn, orders, refusing),
         Deed::Close(_) => panic!(rt; "only files are closed"),
@@ -362,6 +386,19 @@ pub(crate) fn prepared(
 ) -> Contents {
     let deed = Deed::Call(acts, Act::Next);
     let (_met, left) = done_in_files(rt, alloc, &nothing(alloc), options, deed, NONE);
+    left.synced
+}
+
+/// What files with these contents hold once the statements have changed their database.
+pub(crate) fn changed_files(
+    rt: &impl Abort,
+    alloc: Global,
+    options: Options,
+    contents: &Contents,
+    statements: &'static [&'static str],
+) -> Contents {
+    let deed = Deed::Change(statements);
+    let (_met, left) = done_in_files(rt, alloc, contents, options, deed, NONE);
     left.synced
 }
 
@@ -582,7 +619,9 @@ impl Call for InMemory {
         // (a database in memory is all that there is to look at)
         let is_seen = met.shown.is_some();
         let outcome = met.judged(self.deed, &self.stages).0;
-        (met.refused, outcome_if(is_seen, outcome))
+        // A commit of a database in memory asks for none, and so no store fails.
+        let is_right = is_seen && outcome != Outcome::Store;
+        (met.refused, outcome_if(is_right, outcome))
     }
 }
 
@@ -601,6 +640,7 @@ pub(crate) struct InFiles {
     deed: Deed,
     stages: Vec<Stage>,
     look: Look,
+    failed: Option<usize>,
 }
 
 impl InFiles {
@@ -623,6 +663,24 @@ impl InFiles {
             deed,
             stages,
             look,
+            failed: None,
+        }
+    }
+
+    /// Whether a fault of the store comes in its place, as request after request is refused. Where
+    /// all pages stay in memory, a commit alone writes the files, and it is the last thing that is
+    /// done at a stage: once a request was told as a fault of the store, no later one of that stage
+    /// is told as want of memory.
+    fn is_in_place(&mut self, outcome: Outcome, place: usize) -> bool {
+        match outcome {
+            Outcome::Store => {
+                self.failed = Some(place);
+                true
+            }
+            Outcome::Memory => {
+                self.options.spill_pages < MANY_PAGES.spill_pages || self.failed != Some(place)
+            }
+            _ => true,
         }
     }
 
@@ -670,7 +728,11 @@ impl Call for InFiles {
             self.deed,
             refusing,
         );
+        if refusing.is_first() {
+            self.failed = None;
+        }
         let (outcome, place) = met.judged(self.deed, &self.stages);
+        let outcome = outcome_if(self.is_in_place(outcome, place), outcome);
         let failed = outcome == Outcome::Store;
         if failed || !matches!(self.deed, Deed::Call(_, _)) {
             self.expect_kept(rt, alloc, &left.synced, place, failed);

@@ -1,7 +1,7 @@
 // Values that the calls are given.
 use std::alloc::Global;
 use std::process::Abort;
-use uu_core::{By, Command, Kind, NewJob};
+use uu_core::{By, Command, Key, Kind, Mark, NewJob};
 use uu_names::{Grade, Listed, SiteName, Word};
 use uu_times::{Moment, SystemDef, Zone, read_sys};
 use uuspool::Settings;
@@ -103,6 +103,11 @@ pub(crate) enum Order {
     /// A call in which these jobs went through.
     Called(&'static str, &'static [u32]),
     Entry(&'static [u8]),
+    /// Ann's job that a neighbour hands on under its number there and with this mark: a file for a
+    /// system, of so many bytes.
+    HandOn(&'static str, u32, u64, &'static str, usize),
+    /// A neighbour won't ask again for numbers below this one.
+    Forget(&'static str, u32),
 }
 
 pub(crate) fn by(rt: &impl Abort, alloc: Global, user: &str, admin: bool) -> By {
@@ -199,6 +204,25 @@ fn entry(rt: &impl Abort, alloc: Global, text: &[u8]) -> Command {
     Command::Entry(Listed::from_vec(bytes))
 }
 
+fn key(rt: &impl Abort, alloc: Global, from: &str, number: u32, mark: u64) -> Key {
+    Key {
+        from: site(rt, alloc, from),
+        number,
+        mark: Mark::of_number(mark).expect(rt, "a mark"),
+    }
+}
+
+fn hand_on(
+    rt: &impl Abort,
+    alloc: Global,
+    key: Key,
+    system: &str,
+    size: usize,
+) -> Command {
+    let job = new_job(rt, alloc, system, b'N', Work::Send, size);
+    Command::QueueOnce(key, job)
+}
+
 /// The command, for which memory is there.
 pub(crate) fn command(rt: &impl Abort, alloc: Global, order: Order) -> Command {
     match order {
@@ -213,6 +237,13 @@ pub(crate) fn command(rt: &impl Abort, alloc: Global, order: Order) -> Command {
         Order::Failed(name) => failed(rt, alloc, name),
         Order::Called(name, numbers) => called(rt, alloc, name, numbers),
         Order::Entry(text) => entry(rt, alloc, text),
+        Order::HandOn(from, number, mark, name, size) => {
+            hand_on(rt, alloc, key(rt, alloc, from, number, mark), name, size)
+        }
+        Order::Forget(name, below) => Command::Forget {
+            system: site(rt, alloc, name),
+            below,
+        },
     }
 }
 

@@ -301,6 +301,20 @@ pair_read (Ok v) x (Err f) y is also =
     err_weaker (λ a. a ≡ y) (λ a. a ≡ both_of x y) f (λ same. ap₂ both_of is same) also
 pair_read (Err f) x b y is also = answers_then f x (λ v. and_then y (λ w. Ok (v, w))) is
 
+regrouped_three : {A B C V : Type 0} (made : A → B → C → V) (x : Result A LineFault) (y : Result B LineFault) (z : Result C LineFault)
+    → and_then (both_of x y) (λ p. and_then z (λ c. Ok (made p.0 p.1 c))) ≡ and_then x (λ a. and_then y (λ b. and_then z (λ c. Ok (made a b c))))
+regrouped_three made (Ok a) (Ok b) z = refl
+regrouped_three made (Ok a) (Err f) z = refl
+regrouped_three made (Err f) y z = refl
+
+-- three readings, and what is made of the values
+pub three_read : {A B C V : Type 0} (made : A → B → C → V) (a x : Result A LineFault) (b y : Result B LineFault) (c z : Result C LineFault)
+    → Answers a x → Answers b y → Answers c z
+    → Answers (and_then (both_of (both_of a b) c) (λ p. Ok (made p.0.0 p.0.1 p.1))) (and_then x (λ v. and_then y (λ w. and_then z (λ s. Ok (made v w s)))))
+three_read made a x b y c z is_a is_b is_c =
+    let read = two_read (λ p s. made p.0 p.1 s) (both_of a b) (both_of x y) c z (pair_read a x b y is_a is_b) is_c in
+    subst (Answers (and_then (both_of (both_of a b) c) (λ p. Ok (made p.0.0 p.0.1 p.1)))) (regrouped_three made x y z) read
+
 regrouped : {A B C D V : Type 0} (made : A → B → C → D → V) (x : Result A LineFault) (y : Result B LineFault) (z : Result C LineFault) (u : Result D LineFault)
     → and_then (both_of x y) (λ p. and_then (both_of z u) (λ q. Ok (made p.0 p.1 q.0 q.1)))
     ≡ and_then x (λ a. and_then y (λ b. and_then z (λ c. and_then u (λ d. Ok (made a b c d)))))

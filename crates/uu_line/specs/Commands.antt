@@ -50,7 +50,7 @@ grade_option = record (new_rule (codes "grade")) {
   defaults = codes "N" ∷ [];
 }
 
--- `--once SYSTEM!NUMBER`
+-- `--once SYSTEM!NUMBER[!WORD]`
 abbrev pub once_option : Rule
 once_option = record (new_rule (codes "once")) { long = Some (codes "once"); value_names = 1 }
 
@@ -62,19 +62,19 @@ job_argument = record (argument (codes "job")) { parser = Some (Unsigned 0 4_294
 abbrev pub drop_command : App
 drop_command = with_rule (new_app (codes "drop")) (argument (codes "system"))
 
--- `NAME SYSTEM FROM TO [-g GRADE] [--once SYSTEM!NUMBER]`
+-- `NAME SYSTEM FROM TO [-g GRADE] [--once SYSTEM!NUMBER[!WORD]]`
 abbrev pub file_command : List ℕ → App
 file_command name =
     with_rule (with_rule (with_rule (with_rule (with_rule (new_app name) (argument (codes "system")))
     (argument (codes "from"))) (argument (codes "to"))) grade_option) once_option
 
--- `exec [-g GRADE] [--once SYSTEM!NUMBER] SYSTEM COMMAND [ARG..]`
+-- `exec [-g GRADE] [--once SYSTEM!NUMBER[!WORD]] SYSTEM COMMAND [ARG..]`
 abbrev pub exec_command : App
 exec_command =
     with_rule (with_rule (with_rule (with_rule (with_rule (new_app (codes "exec")) grade_option) once_option)
     (argument (codes "system"))) (argument (codes "command"))) (arguments (codes "argument") 0)
 
--- `mail [-g GRADE] [--once SYSTEM!NUMBER] ADDRESS..`
+-- `mail [-g GRADE] [--once SYSTEM!NUMBER[!WORD]] ADDRESS..`
 abbrev pub mail_command : App
 mail_command =
     with_rule (with_rule (with_rule (new_app (codes "mail")) grade_option) once_option)

@@ -1,7 +1,7 @@
 -- What the words of a line mean. The forms of words are those of `clap`, which takes no line
 -- without a subcommand and its required entries; the lines themselves are this project's choice.
 use Rattle.std.specs.Prelude.{◌≡◌, ◌≢◌, ◌↔◌, ◌⊎◌, Bool, true, false, ℕ, ◌^◌, ◌<◌, ◌&&◌, nat_le, length, List, [], ◌∷◌, Option, Some, None, Result, Ok, Err, All, ⊤, codes, if◌then◌else◌, map, take, slice_get, ok_or, string_bytes, unwrap_or}
-use Rattle.std.specs.List.{list_all}
+use Rattle.std.specs.List.{list_all, list_any}
 use Rattle.std.specs.Str.Parse.{IsNumeral, digits_value, without_leading_plus}
 use Rattle.std.specs.Cmp.Lexicographic.{pointwise}
 use Rattle.std.specs.Prelude.{nat_eq}
@@ -13,7 +13,7 @@ use Rattle.clap.specs.declared.error.kind.ErrorKind.TheVariants.{DisplayHelp, Di
 use Rattle.clap.specs.declared.parser.matches.ArgMatches.{ArgMatches}
 use Rattle.uu_names.specs.Grade.{rank_of}
 use Rattle.uu_names.specs.Name.{site_name_of, word_of as as_word}
-use Rattle.uu_names.specs.Path.{IsPathText, IsPathFault, first_hop, rest_of}
+use Rattle.uu_names.specs.Path.{IsPathText, IsPathFault, is_bang, first_hop, rest_of}
 use Rattle.uu_names.specs.declared.fault.NameFault.{NameFault}
 use Rattle.uu_names.specs.declared.fault.NameFault.TheVariants.{BadGrade, BadPath}
 use Rattle.uu_names.specs.declared.fault.NameFault.TheVariants.{Memory as NoMemory}
@@ -101,15 +101,22 @@ handed_number text =
     let number = digits_value 10 text in
     if is_numeral text && nat_le 1 number && nat_le number 4_294_967_294 then Some number else None
 
--- `SYSTEM!NUMBER`: the part before the first `!` is looked at first. Where the part after it is no
--- such number, or there is none, the text begins no path to a job at the end of the first part.
+-- what a text has after its first `!`, where it has one
+abbrev pub after_bang : Text → Option Text
+after_bang text = if list_any is_bang text then Some (rest_of text) else None
+
+-- `SYSTEM!NUMBER[!WORD]`: the text is cut at its first two `!`, so that WORD may be any word, and the
+-- parts are looked at in their order. Where the second is no such number, or there is none, the text
+-- begins no path to a job at the end of the first. The fault of a part counts its own bytes.
 abbrev pub origin_of : Text → Result Origin LineFault
 origin_of text =
+    let rest = rest_of text in
     and_then (site_of (first_hop text)) (λ from.
-    and_then (named (ok_or (handed_number (rest_of text)) (BadPath (length (first_hop text))))) (λ number.
-    Ok (record { from = from; number = number })))
+    and_then (named (ok_or (handed_number (first_hop rest)) (BadPath (length (first_hop text))))) (λ number.
+    and_then (optional word_of (after_bang rest)) (λ spool.
+    Ok (record { from = from; number = number; spool = spool }))))
 
--- `-g GRADE` and `--once SYSTEM!NUMBER`, in this order
+-- `-g GRADE` and `--once SYSTEM!NUMBER[!WORD]`, in this order
 abbrev pub terms_of : Text → Option Text → Result (ℕ × Option Origin) LineFault
 terms_of grade once = and_then (grade_of grade) (λ grade. and_then (optional origin_of once) (λ once. Ok (grade, once)))
 
@@ -119,7 +126,7 @@ terms_of grade once = and_then (grade_of grade) (λ grade. and_then (optional or
 abbrev pub drop_task : Text → Result Task LineFault
 drop_task system = and_then (site_of system) (λ system. Ok (task.Drop system))
 
--- `NAME SYSTEM FROM TO [-g GRADE] [--once SYSTEM!NUMBER]`
+-- `NAME SYSTEM FROM TO [-g GRADE] [--once SYSTEM!NUMBER[!WORD]]`
 abbrev pub file_task : (List ℕ → List ℕ → List ℕ → ℕ → Option Origin → Task) → Text → Text → Text → Text → Option Text → Result Task LineFault
 file_task made system source target grade once =
     and_then (site_of system) (λ system.
@@ -127,7 +134,7 @@ file_task made system source target grade once =
     and_then (word_of target) (λ target.
     and_then (terms_of grade once) (λ terms. Ok (made system source target terms.0 terms.1)))))
 
--- `exec [-g GRADE] [--once SYSTEM!NUMBER] SYSTEM COMMAND [ARG..]`
+-- `exec [-g GRADE] [--once SYSTEM!NUMBER[!WORD]] SYSTEM COMMAND [ARG..]`
 abbrev pub exec_task : Text → Option Text → Text → Text → List Text → Result Task LineFault
 exec_task grade once system command arguments =
     and_then (terms_of grade once) (λ terms.
@@ -168,7 +175,7 @@ MeansMail terms first addresses meant =
     (All IsPathText addresses × (meant ≡ mail_by terms first addresses))
     ⊎ ((fault : NameFault) × IsBadAddress addresses fault × (meant ≡ Err (Name fault)))
 
--- `mail [-g GRADE] [--once SYSTEM!NUMBER] ADDRESS..`
+-- `mail [-g GRADE] [--once SYSTEM!NUMBER[!WORD]] ADDRESS..`
 abbrev pub MeansMailOn : Result (ℕ × Option Origin) LineFault → Text → List Text → Result Task LineFault → Type 0
 MeansMailOn (Err fault) first addresses meant = meant ≡ Err fault
 MeansMailOn (Ok terms) first addresses meant = MeansMail terms first addresses meant

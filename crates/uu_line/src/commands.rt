@@ -114,13 +114,13 @@ const GRADE: Entry<'static> = Entry {
     help: "The job's grade: 0 to 9, A to Z or a to z, highest first",
 };
 
-// `--once SYSTEM!NUMBER`
+// `--once SYSTEM!NUMBER[!WORD]`
 const ONCE: Entry<'static> = Entry {
     id: "once",
     form: Form::Name("once"),
     required: false,
     defaults: &[],
-    shown: "SYSTEM!NUMBER",
+    shown: "SYSTEM!NUMBER[!WORD]",
     help: "Whose job it is, and its number there: it is queued once",
 };
 

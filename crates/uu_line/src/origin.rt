@@ -1,15 +1,15 @@
 //! Which job of a neighbour a line hands in.
 
-ghost use Rattle.std.specs.Prelude.{◌≡◌};
-ghost use Rattle.std.specs.Str.Parse.{digits_value};
+ghost use Rattle.std.specs.Prelude.{◌≡◌, option_map, ok_or};
 ghost use Rattle.uu_names.specs.Path.{first_hop, rest_of};
-ghost use Rattle.uu_line.specs.Lines.{Answers};
+ghost use Rattle.uu_names.specs.declared.fault.NameFault.TheVariants.{BadPath};
+ghost use Rattle.uu_line.specs.Lines.{Answers, after_bang, named};
 ghost use Rattle.uu_line.specs.Lines as spec;
 
 use crate::fault::LineFault;
-use crate::values::site_of;
+use crate::values::{both, optional_word, site_of};
 use std::alloc::Global;
-use uu_names::{NameFault, SiteName};
+use uu_names::{NameFault, SiteName, Word};
 
 /// Which job of a neighbour a line hands in.
 #[derive(Drop)]
@@ -18,22 +18,43 @@ pub struct Origin {
     pub from: SiteName,
     /// The number that the job has there.
     pub number: u32,
+    /// Which of the neighbour's spools the number is of, where that is said.
+    pub spool: Option<Word>,
 }
 
 /// The greatest number that a job may have.
 const LAST_NUMBER: u32 = 4_294_967_294;
 
-/// The text as `SYSTEM!NUMBER`.
+/// The text as `SYSTEM!NUMBER` or `SYSTEM!NUMBER!WORD`.
 pub(crate) fn origin_of(alloc: Global, text: &str) -> Result<Origin, LineFault>
     ensures { Answers result (spec.origin_of text.now) }
 {
-    let (site, rest) = halves(text);
-    match site_of(alloc, site) {
-        Ok(from) => match handed_number(rest) {
-            Some(number) => Ok(Origin { from, number }),
-            None => Err(LineFault::Name(NameFault::BadPath(site.len()))),
-        },
+    let (site, number, word) = parts_of(text);
+    let numbered = both(site_of(alloc, site), number_of(number, site.len()));
+    match both(numbered, optional_word(alloc, word)) {
+        Ok(parts) => {
+            let ((from, number), spool) = parts;
+            Ok(Origin {
+                from,
+                number,
+                spool,
+            })
+        }
         Err(fault) => Err(fault),
+    }
+}
+
+// The parts of a text before its first `!`, between that and its second, and after the second,
+// where it has one.
+fn parts_of(text: &str) -> (&str, &str, Option<&str>)
+    ensures site { result.0.now ≡ first_hop text.now }
+    ensures number { result.1.now ≡ first_hop (rest_of text.now) }
+    ensures word { option_map (λ word. word.now) result.2 ≡ after_bang (rest_of text.now) }
+{
+    let (site, rest) = halves(text);
+    match rest.split_once('!') {
+        Some((number, word)) => (site, number, Some(word)),
+        None => (site, rest, None),
     }
 }
 
@@ -45,6 +66,16 @@ fn halves(text: &str) -> (&str, &str)
     match text.split_once('!') {
         Some(halves) => halves,
         None => (text, ""),
+    }
+}
+
+// The number that a neighbour has for a job, or that there is none behind so many bytes.
+fn number_of(text: &str, at: usize) -> Result<u32, LineFault>
+    ensures { result ≡ named (ok_or (spec.handed_number text.now) (BadPath at)) }
+{
+    match handed_number(text) {
+        Some(number) => Ok(number),
+        None => Err(LineFault::Name(NameFault::BadPath(at))),
     }
 }
 

@@ -17,8 +17,8 @@ pub enum Task {
         /// The neighbour that is forgotten.
         system: SiteName,
     },
-    /// `send SYSTEM FROM TO [-g GRADE] [--once SYSTEM!NUMBER]`: queues the input as a file for the
-    /// system.
+    /// `send SYSTEM FROM TO [-g GRADE] [--once SYSTEM!NUMBER[!WORD]]`: queues the input as a file
+    /// for the system.
     Send {
         /// The neighbour that the file is for.
         system: SiteName,
@@ -31,8 +31,8 @@ pub enum Task {
         /// The neighbour's job that it is, where it is to be queued once.
         once: Option<Origin>,
     },
-    /// `request SYSTEM FROM TO [-g GRADE] [--once SYSTEM!NUMBER]`: queues a request for a file of
-    /// the system.
+    /// `request SYSTEM FROM TO [-g GRADE] [--once SYSTEM!NUMBER[!WORD]]`: queues a request for a
+    /// file of the system.
     Request {
         /// The neighbour that has the file.
         system: SiteName,
@@ -45,8 +45,8 @@ pub enum Task {
         /// The neighbour's job that it is, where it is to be queued once.
         once: Option<Origin>,
     },
-    /// `exec [-g GRADE] [--once SYSTEM!NUMBER] SYSTEM COMMAND [ARG..]`: queues a command, with the
-    /// input as its input.
+    /// `exec [-g GRADE] [--once SYSTEM!NUMBER[!WORD]] SYSTEM COMMAND [ARG..]`: queues a command,
+    /// with the input as its input.
     Execute {
         /// The job's grade, `N` where none is given.
         grade: Grade,
@@ -59,7 +59,7 @@ pub enum Task {
         /// Its arguments.
         arguments: Listed<Word>,
     },
-    /// `mail [-g GRADE] [--once SYSTEM!NUMBER] ADDRESS..`: queues the input as a message.
+    /// `mail [-g GRADE] [--once SYSTEM!NUMBER[!WORD]] ADDRESS..`: queues the input as a message.
     Mail {
         /// The job's grade, `N` where none is given.
         grade: Grade,

@@ -168,7 +168,7 @@ pub(crate) fn grade_of(text: &str) -> Result<Grade, LineFault>
     }
 }
 
-/// The text as `SYSTEM!NUMBER`, where there is one.
+/// The text as `SYSTEM!NUMBER[!WORD]`, where there is one.
 pub(crate) fn optional_origin(
     alloc: Global,
     text: Option<&str>,

@@ -1,7 +1,8 @@
 -- The text of what is handed in is cut at its spaces and its line end in one way.
-use Rattle.std.proofs.Common.{◌≡◌, ◌∙◌, ◌&&◌, ap, sym, refl, Bool, true, false, true≢false, ℕ, List, [], ◌∷◌, ◌++◌, length, append_assoc}
+use Rattle.std.proofs.Common.{◌≡◌, ◌∙◌, ◌&&◌, ap, sym, refl, Bool, true, false, true≢false, ℕ, List, [], ◌∷◌, ◌++◌, Option, Some, None, drop, length, append_assoc, unwrap_or}
 use Rattle.std.specs.Prelude.{nat_le}
 use Rattle.std.specs.List.{list_all}
+use Rattle.std.specs.Option.{option_map_or}
 use Rattle.uu_names.specs.Name.{has_form, is_word, is_word_byte, most_word}
 use Rattle.uu_request.specs.Marks.{Given, HasWords, spaced_words, text_of}
 
@@ -54,24 +55,51 @@ lines_cut (x ∷ xs) (y ∷ ys) i j of_xs of_ys e =
     let more = lines_cut xs ys i j first.1 second.1 parts.1 in
     (ap (λ z. z ∷ xs) parts.0 ∙ ap (λ zs. y ∷ zs) more.0, more.1)
 
-abbrev made : List ℕ → List ℕ → List ℕ → List (List ℕ) → List ℕ → Given
-made subcommand system user words input = record { subcommand = subcommand; system = system; user = user; words = words; input = input }
+-- the line of a spool has the bytes of words
+spool_passes : (spool : Option (List ℕ)) → option_map_or is_word spool true ≡ true → list_all is_word_byte (unwrap_or spool []) ≡ true
+spool_passes None e = refl
+spool_passes (Some word) e = bytes_pass word e
 
-same_parts : (a b : List ℕ) (c d e f : List ℕ) (ws vs : List (List ℕ)) (i j : List ℕ) → a ≡ b → c ∷ e ∷ ws ≡ d ∷ f ∷ vs → i ≡ j → made a c e ws i ≡ made b d f vs j
-same_parts a b c d e f ws vs i j first second last =
+abbrev tail_of : List ℕ → List ℕ
+tail_of text = drop 1 text
+
+-- no word is empty, so that a line without bytes says none
+spools_same : (spool other : Option (List ℕ)) → option_map_or is_word spool true ≡ true → option_map_or is_word other true ≡ true
+    → unwrap_or spool [] ≡ unwrap_or other [] → spool ≡ other
+spools_same None None e f same = refl
+spools_same None (Some []) e f same = absurd cc
+spools_same None (Some (b ∷ word)) e f same = absurd cc
+spools_same (Some []) other e f same = absurd cc
+spools_same (Some (b ∷ word)) None e f same = absurd cc
+spools_same (Some (a ∷ word)) (Some other) e f same = ap Some same
+
+abbrev made : Option (List ℕ) → List ℕ → List ℕ → List ℕ → List (List ℕ) → List ℕ → Given
+made spool subcommand system user words input =
+    record { spool = spool; subcommand = subcommand; system = system; user = user; words = words; input = input }
+
+same_parts : (o p : Option (List ℕ)) (a b : List ℕ) (c d e f : List ℕ) (ws vs : List (List ℕ)) (i j : List ℕ)
+    → o ≡ p → a ≡ b → c ∷ e ∷ ws ≡ d ∷ f ∷ vs → i ≡ j → made o a c e ws i ≡ made p b d f vs j
+same_parts o p a b c d e f ws vs i j spool first second last =
     let system : c ≡ d = cc in
     let user : e ≡ f = cc in
     let words : ws ≡ vs = cc in
-    ap (λ x. made x c e ws i) first ∙ ap (λ x. made b x e ws i) system ∙ ap (λ x. made b d x ws i) user ∙ ap (λ x. made b d f x i) words ∙ ap (made b d f vs) last
+    ap (λ x. made x a c e ws i) spool ∙ ap (λ x. made p x c e ws i) first ∙ ap (λ x. made p b x e ws i) system ∙ ap (λ x. made p b d x ws i) user
+    ∙ ap (λ x. made p b d f x i) words ∙ ap (made p b d f vs) last
 
 pub told_apart : (one other : Given) → HasWords one → HasWords other → text_of one ≡ text_of other → one ≡ other
 told_apart one other of_one of_other e =
     let own = one.system ∷ one.user ∷ one.words in
     let others = other.system ∷ other.user ∷ other.words in
-    let first = both (is_word one.subcommand) (list_all is_word own) of_one in
-    let second = both (is_word other.subcommand) (list_all is_word others) of_other in
-    let whole = sym (append_assoc one.subcommand (spaced_words own) (10 ∷ one.input)) ∙ e ∙ append_assoc other.subcommand (spaced_words others) (10 ∷ other.input) in
+    let own_words = both (list_all is_word (one.subcommand ∷ own)) (option_map_or is_word one.spool true) of_one in
+    let other_words = both (list_all is_word (other.subcommand ∷ others)) (option_map_or is_word other.spool true) of_other in
+    let spools = cut (unwrap_or one.spool []) (unwrap_or other.spool []) (10 ∷ ((one.subcommand ++ spaced_words own) ++ 10 ∷ one.input)) (10 ∷ ((other.subcommand ++ spaced_words others) ++ 10 ∷ other.input))
+    (spool_passes one.spool own_words.1) (spool_passes other.spool other_words.1) refl refl e in
+    let lines : (one.subcommand ++ spaced_words own) ++ 10 ∷ one.input ≡ (other.subcommand ++ spaced_words others) ++ 10 ∷ other.input = ap tail_of spools.1 in
+    let first = both (is_word one.subcommand) (list_all is_word own) own_words.0 in
+    let second = both (is_word other.subcommand) (list_all is_word others) other_words.0 in
+    let whole = sym (append_assoc one.subcommand (spaced_words own) (10 ∷ one.input)) ∙ lines ∙ append_assoc other.subcommand (spaced_words others) (10 ∷ other.input) in
     let parts = cut one.subcommand other.subcommand (spaced_words own ++ 10 ∷ one.input) (spaced_words others ++ 10 ∷ other.input)
     (bytes_pass one.subcommand first.0) (bytes_pass other.subcommand second.0) (ends own one.input) (ends others other.input) whole in
     let more = lines_cut own others one.input other.input first.1 second.1 parts.1 in
-    same_parts one.subcommand other.subcommand one.system other.system one.user other.user one.words other.words one.input other.input parts.0 more.0 more.1
+    same_parts one.spool other.spool one.subcommand other.subcommand one.system other.system one.user other.user one.words other.words one.input other.input
+    (spools_same one.spool other.spool own_words.1 other_words.1 spools.0) parts.0 more.0 more.1

@@ -1,7 +1,9 @@
 -- A site that hands in what comes from a neighbour, each job by a line with `--once`: its lines are
 -- steps of custody (`uu_core/specs/Custody.antt`).
-use Rattle.std.specs.Prelude.{◌≡◌, ℕ, Bool, false, ◌&&◌, List, [], ◌∷◌, Option, Some, None, codes}
+use Rattle.std.specs.Prelude.{◌≡◌, ℕ, Bool, false, ◌&&◌, nat_eq, List, [], ◌∷◌, ◌++◌, Option, Some, None, codes}
+use Rattle.std.specs.List.{ends_with}
 use Rattle.std.specs.Cmp.Lexicographic.{pointwise}
+use Rattle.uu_names.specs.Envelope.{quote_of}
 use Rattle.uu_core.specs.Custody.{Crossing, Parcel}
 use Rattle.uu_core.specs.declared.job.Kind.{Kind}
 use Rattle.uu_core.specs.declared.job.Kind.TheVariants as kind
@@ -10,11 +12,12 @@ use Rattle.uu_line.specs.Lines.{same_text}
 use Rattle.uu_line.specs.declared.origin.Origin.{Origin}
 use Rattle.uu_line.specs.declared.task.Task.{Task}
 use Rattle.uu_line.specs.declared.task.Task.TheVariants as task
-use Rattle.uu_request.specs.Marks.{handed_text, mark_of}
+use Rattle.uu_request.specs.Marks.{handed_text, mark_of, marked_text}
 
--- the line by which a parcel is handed in: its user, its task, of which the grade may be another each
--- time, and its input
+-- The line by which a parcel is handed in: its user, its task, of which the grade may be another each
+-- time, and its input; and the word that each says of the neighbour's spool, where they say one.
 pub record Script : Type 0 where
+  pub spool : Option (List ℕ)
   pub user : Parcel → List ℕ
   pub task : Parcel → Task
   pub input : Parcel → List ℕ
@@ -27,9 +30,10 @@ once_of (task.Execute grade once system command arguments) = once
 once_of (task.Mail grade once system rests) = once
 once_of other = None
 
--- each line says that the job is this neighbour's, of the parcel's number
+-- each line says that the job is this neighbour's, of the parcel's number and of the one spool
 abbrev pub IsOnce : List ℕ → Script → Type 0
-IsOnce from script = (parcel : Parcel) → once_of (script.task parcel) ≡ Some (record { from = from; number = parcel.number })
+IsOnce from script =
+    (parcel : Parcel) → once_of (script.task parcel) ≡ Some (record { from = from; number = parcel.number; spool = script.spool })
 
 -- the text of what a task of a user hands in
 abbrev pub text_given : List ℕ → List ℕ → Task → List ℕ
@@ -50,12 +54,13 @@ abbrev pub is_job : List ℕ → List ℕ → Kind → NewJob → Bool
 is_job user system kind job = same_text job.user user && same_text job.system system && same_kind job.kind kind
 
 -- the job is one that a task of this user hands in, with this input as its bytes, or none for a
--- request; those of a message have an envelope, which is another one each time
+-- request; those of a message end with it, behind a line of the envelope that is another each time
 abbrev pub is_made : List ℕ → List ℕ → Task → NewJob → Bool
 is_made user input (task.Send system source target grade once) job = is_job user system (kind.Send source target) job && same_text job.bytes input
 is_made user input (task.Request system source target grade once) job = is_job user system (kind.Request source target) job && same_text job.bytes []
 is_made user input (task.Execute grade once system command arguments) job = is_job user system (kind.Execute command arguments) job && same_text job.bytes input
-is_made user input (task.Mail grade once system rests) job = is_job user system (kind.Execute (codes "rmail") rests) job
+is_made user input (task.Mail grade once system rests) job =
+    is_job user system (kind.Execute (codes "rmail") rests) job && ends_with nat_eq job.bytes (quote_of input ++ input)
 is_made user input other job = false
 
 -- the crossing from a neighbour, by its name here, where this site has a name for the neighbour too
@@ -63,6 +68,6 @@ abbrev pub crossing_of : List ℕ → List ℕ → Script → Crossing
 crossing_of from to script = record {
   from = from;
   to = to;
-  mark = λ parcel. mark_of (text_given (script.user parcel) (script.input parcel) (script.task parcel));
+  mark = λ parcel. mark_of (marked_text script.spool (text_given (script.user parcel) (script.input parcel) (script.task parcel)));
   makes = λ parcel job. is_made (script.user parcel) (script.input parcel) (script.task parcel) job;
 }

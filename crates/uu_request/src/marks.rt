@@ -2,7 +2,7 @@
 
 ghost use Rattle.std.specs.Prelude.{◌≡◌, ℕ, List, ◌∷◌, [], ◌++◌, codes};
 ghost use Rattle.sha2.specs.Hashers.{Holds256};
-ghost use Rattle.uu_request.specs.Marks.{handed_text, mark_of, spaced_words};
+ghost use Rattle.uu_request.specs.Marks.{handed_text, mark_of, marked_text, spaced_words};
 ghost use Rattle.uu_request.specs.Marks as spec;
 
 use sha2::{Digest, Sha256};
@@ -24,7 +24,7 @@ pub(crate) fn file_key(
 {
     match once {
         Some(origin) => {
-            let mut hasher = begin(subcommand, system, user);
+            let mut hasher = begin(&origin.spool, subcommand, system, user);
             add_word(&mut hasher, source.as_str());
             add_word(&mut hasher, target.as_str());
             Some(key_of(origin, end(hasher, input)))
@@ -46,7 +46,7 @@ pub(crate) fn execution_key(
 {
     match once {
         Some(origin) => {
-            let mut hasher = begin("exec", system, user);
+            let mut hasher = begin(&origin.spool, "exec", system, user);
             add_word(&mut hasher, command.as_str());
             add_words(&mut hasher, arguments);
             Some(key_of(origin, end(hasher, input)))
@@ -68,7 +68,7 @@ pub(crate) fn message_key(
 {
     match once {
         Some(origin) => {
-            let mut hasher = begin("mail", system, user);
+            let mut hasher = begin(&origin.spool, "mail", system, user);
             add_words(&mut hasher, rests);
             Some(key_of(origin, end(hasher, message)))
         }
@@ -82,15 +82,23 @@ fn key_of(origin: Origin, mark: Mark) -> Key
     ensures number { result.number ≡ origin.number }
     ensures mark { result.mark ≡ mark }
 {
-    let Origin { from, number } = origin;
+    let Origin {
+        from,
+        number,
+        spool: _,
+    } = origin;
     Key { from, number, mark }
 }
 
-// Begins with the subcommand, the system and the user.
-fn begin(subcommand: &str, system: &SiteName, user: &Word) -> Sha256
-    ensures { Holds256 result (subcommand.now ++ spaced_words (system.now ∷ user.now ∷ [])) }
+// Begins with the line of the neighbour's spool, and then the subcommand, the system and the user.
+fn begin(spool: &Option<Word>, subcommand: &str, system: &SiteName, user: &Word) -> Sha256
+    ensures { Holds256 result (marked_text spool.now (subcommand.now ++ spaced_words (system.now ∷ user.now ∷ []))) }
 {
     let mut hasher = Sha256::new();
+    if let Some(word) = spool {
+        hasher.update(word.as_str());
+    }
+    hasher.update("\n");
     hasher.update(subcommand);
     add_word(&mut hasher, system.as_str());
     add_word(&mut hasher, user.as_str());

@@ -39,7 +39,7 @@ pub(crate) fn number_or_null_in(row: &Row, at: usize) -> Result<Option<u32>, Row
     }
 }
 
-/// The number of 64 bits in this column, as a second.
+/// The number of up to 64 bits in this column: a second, a number of seconds or a mark.
 pub(crate) fn seconds_in(row: &Row, at: usize) -> Result<u64, RowFault>
     ensures value { IfOk result (λ seconds. column row.now at ≡ number_cell seconds) }
     ensures bad { (n : ℕ) → NotIf result (column row.now at ≡ number_cell n) }

@@ -1,7 +1,7 @@
 //! Tests of the spool over disks and databases in memory: stops at each call of a disk, worked rows
 //! beside the plain machine, the pieces of jobs, what a listing costs, stretches of work over a
-//! file, databases of an earlier version, databases that are handed over, and syncs that are left
-//! out.
+//! file, jobs that are handed on under keys, databases of an earlier version, databases that are
+//! handed over, and syncs that are left out.
 #![tactic(auto)]
 
 #[cfg(test)]
@@ -14,6 +14,8 @@ mod disk;
 mod files;
 #[cfg(test)]
 mod handing_over;
+#[cfg(test)]
+mod keys;
 #[cfg(test)]
 mod kinds;
 #[cfg(test)]

@@ -66,6 +66,23 @@ pub(crate) const TWO_SYSTEMS: &[Step] = &[
     Says(Entry("unc"), "#N unc\nunc duke\n"),
 ];
 
+/// Jobs that a neighbour hands on, and the numbers that it is done with. Each command is answered
+/// the same when it is given again.
+pub(crate) const HANDED_ON: &[Step] = &[
+    Does(Order::Define("duke", ANY, 26), Done),
+    Does(Order::Define("unc", ANY, 26), Done),
+    Does(Order::HandOn("duke", 7, 1, "unc"), Number(1)),
+    Does(Order::HandOn("duke", 7, 1, "unc"), Number(1)),
+    Does(
+        Order::HandOn("duke", 7, 2, "unc"),
+        Refused(Refusal::Differs),
+    ),
+    Does(Order::HandOn("duke", 9, 1, "unc"), Number(2)),
+    Does(Order::Forget("duke", 8), Done),
+    Does(Order::HandOn("duke", 7, 1, "unc"), Refused(Refusal::Stale)),
+    Does(Order::HandOn("duke", 9, 1, "unc"), Number(2)),
+];
+
 /// The first commands of a script, at most so many.
 pub(crate) fn commands(
     rt: &impl Abort,

@@ -47,7 +47,9 @@ impl Visitor for Give {
     }
 }
 
-fn given_one_by_one<S: Alter>(
+/// Gives a spool the commands of a script one by one up to the first fault: how many it answered,
+/// each of them as the script wants.
+pub(crate) fn given_one_by_one<S: Alter>(
     rt: &impl Abort,
     alloc: Global,
     spool: &mut Spool<S>,

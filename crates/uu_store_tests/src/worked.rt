@@ -373,6 +373,47 @@ const ENTRIES: &[Step] = &[
     Says(Entry("duke"), ""),
 ];
 
+/// A neighbour hands on its jobs 7 and 8, and asks more than once.
+const KEYS: &[Step] = &[
+    DUKE,
+    Does(
+        Order::HandOn("unc", 7, 1, "duke"),
+        Refused(Refusal::NoSystem),
+    ),
+    Does(Order::Define("unc", ANY, 26), Done),
+    Does(Order::HandOn("unc", 7, 1, "duke"), Number(1)),
+    Does(Order::HandOn("unc", 7, 1, "duke"), Number(1)),
+    Does(
+        Order::HandOn("unc", 7, 2, "duke"),
+        Refused(Refusal::Differs),
+    ),
+    // The same number of another neighbour is another key.
+    Does(Order::HandOn("duke", 7, 2, "unc"), Number(2)),
+    Does(Order::Called("duke", &[1]), Done),
+    Does(Order::HandOn("unc", 7, 1, "duke"), Number(1)),
+    Does(Order::HandOn("unc", 8, 1, "duke"), Number(3)),
+    Does(Order::Forget("unc", 8), Done),
+    Does(Order::HandOn("unc", 7, 1, "duke"), Refused(Refusal::Stale)),
+    Does(Order::HandOn("unc", 8, 1, "duke"), Number(3)),
+    // What was said of lower numbers stays.
+    Does(Order::Forget("unc", 3), Done),
+    Does(Order::HandOn("unc", 7, 1, "duke"), Refused(Refusal::Stale)),
+    Does(Order::HandOn("duke", 7, 2, "unc"), Number(2)),
+    Does(Order::Kill(2, "root", true), Done),
+    // A definition leaves the keys, and a removal takes them.
+    Does(Order::Define("unc", NIGHT, 26), Done),
+    Does(Order::HandOn("unc", 8, 1, "duke"), Number(3)),
+    Does(Order::Remove("unc"), Done),
+    Does(Order::Forget("unc", 8), Refused(Refusal::NoSystem)),
+    Does(Order::Define("unc", ANY, 26), Done),
+    Does(Order::HandOn("unc", 7, 1, "duke"), Number(4)),
+];
+
+#[test]
+fn jobs_with_keys_are_taken_as_worked(rt: HostRuntime) {
+    play_anew(&rt, rt.alloc(), KEYS);
+}
+
 #[test]
 fn jobs_are_kept_as_worked(rt: HostRuntime) {
     for steps in [SIZES, FIVE_GRADES, REGRADING, REJUVENATED] {

@@ -19,7 +19,8 @@ pub struct Facts {
     pub head: Option<JobHead>,
     /// The jobs whose numbers are named, those that are there: asked for `Done`.
     pub found: Vec<JobHead>,
-    /// The number below which the neighbour asks for none again: asked for `QueueOnce` and `Forget`.
+    /// The number below which the neighbour asks for none again: asked for `QueueOnce` and
+    /// `Forget`.
     pub below: u32,
     /// What was taken from the neighbour under the key's number: asked for `QueueOnce`.
     pub taken: Option<Taken>,

@@ -188,9 +188,9 @@ fn take_links_of_table<S: Alter>(
     found(alloc, &rows, &ids)
 }
 
-/// The numbers below which neighbours ask for none again, by system; an empty
-/// list of versions 1 and 2, of which nothing is asked. None where a row of the table is not a link's,
-/// or two rows have one rowid.
+/// The numbers below which neighbours ask for none again, by system; an empty list of versions 1
+/// and 2, of which nothing is asked. None where a row of the table is not a link's, or two rows have
+/// one rowid.
 pub fn take_links<S: Alter>(
     alloc: Global,
     conn: &mut Connection<S>,
@@ -219,9 +219,9 @@ fn take_taken_of_table<S: Alter>(
     found(alloc, &rows, &ids)
 }
 
-/// The jobs that were taken from neighbours, by system and number; an empty
-/// list of versions 1 and 2, of which nothing is asked. None where a row of the table is not such a job's,
-/// or two rows have one rowid.
+/// The jobs that were taken from neighbours, by system and number; an empty list of versions 1 and
+/// 2, of which nothing is asked. None where a row of the table is not such a job's, or two rows have
+/// one rowid.
 pub fn take_taken<S: Alter>(
     alloc: Global,
     conn: &mut Connection<S>,

@@ -13,6 +13,8 @@ pub mod PrintedSystems
 pub mod PrintedText
 pub mod PrintedWindows
 pub mod ReadingLemmas
+pub mod RuleDays
+pub mod RuleOffsets
 pub mod Runs
 pub mod ScanDaily
 pub mod ScanSteps

@@ -8,6 +8,7 @@ pub mod Lines
 pub mod Moment
 pub mod Printed
 pub mod Ranges
+pub mod Rule
 pub mod SysFile
 pub mod System
 pub mod Tables

@@ -1,5 +1,5 @@
 //! Laws of the definitions that the contracts cite.
-ghost use Rattle.std.specs.Prelude.{◌≡◌, ◌<◌, ◌≤◌, [], ◌∷◌, length, ℕ, Bool, List, None, Ok, Err, All, IsTrue, IfOk, IfErr, map};
+ghost use Rattle.std.specs.Prelude.{◌≡◌, ◌<◌, ◌≤◌, [], ◌∷◌, length, ℕ, ℤ, pos, Bool, List, None, Some, Ok, Err, All, IsTrue, IfOk, IfErr, map, if◌then◌else◌};
 ghost use Rattle.std.specs.List.{filter_map, last_or};
 ghost use Rattle.uu_times.specs.Internal.Simples.{has_minute, simple_of};
 ghost use Rattle.uu_times.specs.Grammar.{Spelling, Spells, has_spelled, IsLongestFront, lower};
@@ -7,7 +7,10 @@ ghost use Rattle.uu_times.specs.Ranges.{holds, AreRuns, maximal_runs};
 ghost use Rattle.uu_times.specs.Internal.Scan.{list_of};
 ghost use Rattle.uu_times.specs.SysFile.{known, windows_named};
 ghost use Rattle.uu_times.specs.Tables.{Tables, is_table_name, table_at, predefined_strings, predefined_tables, time_of, IsReadAs, IsTimeString};
+ghost use Rattle.jiff_core.specs.Calendar.{IsYear};
 ghost use Rattle.jiff_core.specs.Timestamp.{IsOffsetSeconds};
+ghost use Rattle.jiff_tz.specs.PosixText.{DstText};
+ghost use Rattle.uu_times.specs.Rule.{ChangesInside, HasDay, IsOfYear, IsOneDay, is_daylight};
 ghost use Rattle.uu_times.specs.Printed.{sys_text, system_text, IsSystem, NamesDiffer};
 ghost use Rattle.uu_times.specs.SysFile.{sys_file_of};
 ghost use Rattle.uu_times.specs.System.{System};
@@ -63,6 +66,17 @@ pub fn zones_are_what_they_say()
     ensures same { (a b : Zone) → said a ≡ said b → (second : ℕ) → offset_at a second ≡ offset_at b second }
     ensures standard { (zone : Zone) → (said zone).dst ≡ None → (second : ℕ) → offset_at zone second ≡ (said zone).std_seconds }
     ensures within { (zone : Zone) (second : ℕ) → IsOffsetSeconds (offset_at zone second) }
+{}
+
+/// A rule with daylight saving time is the clock that POSIX says, in each year of UTC within which
+/// both of its changes lie (`ChangesInside`, which names a rule that isn't followed). Each day that
+/// a rule names is one day of a year that has it.
+pub fn rules_mean_what_posix_says()
+    ensures days { (zone : Zone) (daylight : DstText) → (said zone).dst ≡ Some daylight → (year : ℤ)
+        → (HasDay year daylight.start.0 → IsOneDay year daylight.start.0) × (HasDay year daylight.finish.0 → IsOneDay year daylight.finish.0) }
+    ensures offset { (zone : Zone) (daylight : DstText) → (said zone).dst ≡ Some daylight → (year begin end : ℤ) → IsYear year
+        → ChangesInside (said zone).std_seconds daylight year begin end → (second : ℕ) → IsOfYear year (pos second)
+        → offset_at zone second ≡ (if is_daylight begin end (pos second) then daylight.seconds else (said zone).std_seconds) }
 {}
 
 /// The sys file that is printed of systems is read as these systems, in their order, and nothing is

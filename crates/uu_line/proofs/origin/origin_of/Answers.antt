@@ -1,16 +1,21 @@
-use Rattle.std.proofs.Common.{Ok, Some, None}
-use Rattle.uu_line.proofs.OriginLemmas.{origin_fails, origin_is}
+use Rattle.std.proofs.Common.{◌∙◌, ap, option_map, subst, sym}
+use Rattle.uu_line.specs.Lines.{Answers, and_then, origin_of}
+use Rattle.uu_line.proofs.LineLemmas.{both_of}
+use Rattle.uu_line.proofs.OriginLemmas.{origin_by, origin_read}
 use Rattle.uu_line.proofs.origin.origin_of.Goals as goal
 
-pub returns-in-Some : goal.returns-in-Some
-returns-in-Some c =
-    origin_is c.args.text.now c.halves.result.0.now c.halves.result.1.now (Ok c.in-Ok.from) (Some c.in-Some.number)
-    c.halves.ensures.site c.halves.ensures.rest c.in-Ok.ensures c.in-Some.ensures
-
-pub returns-in-None : goal.returns-in-None
-returns-in-None c =
-    origin_is c.args.text.now c.halves.result.0.now c.halves.result.1.now (Ok c.in-Ok.from) None
-    c.halves.ensures.site c.halves.ensures.rest c.in-Ok.ensures c.in-None.ensures
+pub returns-in-Ok : goal.returns-in-Ok
+returns-in-Ok c =
+    let parts = c.parts_of.result in
+    subst (λ read. Answers (and_then read origin_by) (origin_of c.args.text.now))
+    (sym (c.in-Ok.ensures ∙ ap (λ numbered. both_of numbered c.optional_word.result) c.both-numbered.ensures))
+    (origin_read c.args.text.now parts.0.now parts.1.now (option_map (λ word. word.now) parts.2) c.site_of.result c.number_of.result c.optional_word.result
+    c.parts_of.ensures.site c.parts_of.ensures.number c.parts_of.ensures.word c.site_of.ensures c.number_of.ensures c.optional_word.ensures)
 
 pub returns-in-Err : goal.returns-in-Err
-returns-in-Err c = origin_fails c.args.text.now c.halves.result.0.now c.in-Err.fault c.halves.ensures.site c.in-Err.ensures
+returns-in-Err c =
+    let parts = c.parts_of.result in
+    subst (λ read. Answers (and_then read origin_by) (origin_of c.args.text.now))
+    (sym (c.in-Err.ensures ∙ ap (λ numbered. both_of numbered c.optional_word.result) c.both-numbered.ensures))
+    (origin_read c.args.text.now parts.0.now parts.1.now (option_map (λ word. word.now) parts.2) c.site_of.result c.number_of.result c.optional_word.result
+    c.parts_of.ensures.site c.parts_of.ensures.number c.parts_of.ensures.word c.site_of.ensures c.number_of.ensures c.optional_word.ensures)

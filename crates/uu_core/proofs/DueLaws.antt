@@ -1,0 +1,194 @@
+-- The jobs of a system that may go, beside what is due of it.
+use Rattle.std.proofs.Common.{◌≡◌, ℕ, ◌<◌, Bool, true, false, not, cond, ◌&&◌, ◌+◌, List, [], ◌∷◌, ◌++◌, length, get_or, take, map, filter, All, AllPairs, Contains, IsPermutation, refl, ap, sym, ◌∙◌, subst, arith, inl, inr, ◌⊎◌}
+use Rattle.std.specs.List.{list_all}
+use Rattle.std.specs.Cmp.Lexicographic.{bytes_decides}
+use Rattle.std.proofs.lemmas.Bool.Decides.{nat_tests}
+use Rattle.std.proofs.lemmas.List.Kept.{AllPairs-filter}
+use Rattle.std.proofs.lemmas.List.{map-append, take_more}
+use Rattle.std.proofs.lemmas.List.Elements.{All-contains, filter-append}
+use Rattle.std.proofs.lemmas.List.Sorted.{IsPermutation-sym, Contains-permutation}
+use Rattle.uu_times.specs.declared.moment.Moment.{Moment}
+use Rattle.uu_core.specs.declared.due.Due.{Due}
+use Rattle.uu_core.specs.declared.job.JobHead.{JobHead}
+use Rattle.uu_core.specs.declared.system.SystemRow.{SystemRow}
+use Rattle.uu_core.specs.State.{same_text}
+use Rattle.uu_core.specs.Queues.{jobs_for}
+use Rattle.uu_core.specs.Due.{may_go, goes_before, is_due, due_of, all_due, dues_of, ComesFirst, AreDue, AreInOrder}
+use Rattle.uu_core.proofs.Members.{first_of, later_of, first_or_later, kept, from_filter, none_in}
+use Rattle.uu_core.proofs.WellFormedLemmas.{pairs-first, pairs-rest}
+
+-- ---- lists
+
+true_false : {t : Bool} → t ≡ true → t ≡ false → ⊥
+true_false q r = cc
+
+-- nothing that is there passes, so nothing is kept
+none_kept : {X : Type 0} (p : X → Bool) (xs : List X) → ((x : X) → Contains xs x → p x ≡ true → ⊥) → filter p xs ≡ []
+none_kept p [] none = refl
+none_kept p (x ∷ xs) none = by-test (p x) refl (none_kept p xs (λ y there. none y (later_of x y xs there)))
+  where
+    by-test : (t : Bool) → p x ≡ t → filter p xs ≡ [] → cond t (x ∷ filter p xs) (filter p xs) ≡ []
+    by-test true e rest = absurd (none x (first_of x xs) e)
+    by-test false e rest = rest
+
+-- one alone passes, and stands there once
+one_kept : {X : Type 0} (R : X → X → Type 0) (p : X → Bool) (x : X) (xs : List X) → (R x x → ⊥) → AllPairs R xs → Contains xs x → p x ≡ true
+    → ((y : X) → Contains xs y → p y ≡ true → y ≡ x) → filter p xs ≡ x ∷ []
+one_kept R p x [] apart pairs there passes alone = absurd (none_in x there)
+one_kept {X} R p x (y ∷ ys) apart pairs there passes alone =
+    by-test (p y) refl (first_or_later y x ys there)
+    (λ later. one_kept R p x ys apart (pairs-rest R y ys pairs) later passes (λ z in_ys. alone z (later_of y z ys in_ys)))
+  where
+    gone : p y ≡ true → (z : X) → Contains ys z → p z ≡ true → ⊥
+    gone e z in_ys f =
+        let first : y ≡ x = alone y (first_of y ys) e in
+        let second : z ≡ x = alone z (later_of y z ys in_ys) f in
+        let related : R y z = All-contains (R y) ys z (pairs-first R y ys pairs) in_ys in
+        apart (subst (λ (a : X). R a x) first (subst (R y) second related))
+
+    by-test : (t : Bool) → p y ≡ t → (y ≡ x) ⊎ Contains ys x → (Contains ys x → filter p ys ≡ x ∷ []) → cond t (y ∷ filter p ys) (filter p ys) ≡ x ∷ []
+    by-test true e place again = ap (λ (l : List X). y ∷ l) (none_kept p ys (gone e)) ∙ ap (λ (a : X). a ∷ []) (alone y (first_of y ys) e)
+    by-test false e (inl same) again = absurd (true_false (ap p same ∙ passes) e)
+    by-test false e (inr later) again = again later
+
+all_pass : {X : Type 0} (p : X → Bool) (xs : List X) → ((x : X) → Contains xs x → p x ≡ true) → list_all p xs ≡ true
+all_pass p [] h = refl
+all_pass p (x ∷ xs) h = rw (h x (first_of x xs)) (all_pass p xs (λ y there. h y (later_of x y xs there)))
+
+passes_there : {X : Type 0} (p : X → Bool) (xs : List X) (x : X) → list_all p xs ≡ true → Contains xs x → p x ≡ true
+passes_there p [] x h there = absurd (none_in x there)
+passes_there p (y ∷ xs) x h there = by-test (p y) refl h (first_or_later y x xs there) (passes_there p xs x)
+  where
+    by-test : (t : Bool) → p y ≡ t → t && list_all p xs ≡ true → (y ≡ x) ⊎ Contains xs x → (list_all p xs ≡ true → Contains xs x → p x ≡ true) → p x ≡ true
+    by-test true e all (inl same) again = ap p (sym same) ∙ e
+    by-test true e all (inr later) again = again all later
+    by-test false e all place again = absurd (true_false all refl)
+
+-- ---- jobs by grade and number
+
+not_back : (a b : JobHead) → goes_before a b ≡ true → goes_before b a ≡ false
+not_back a b h = grind (arith, nat_tests)
+
+not_itself : (a : JobHead) → goes_before a a ≡ false
+not_itself a = grind (arith, nat_tests)
+
+not_first : (a : Due) → ComesFirst a a → ⊥
+not_first a h = grind (arith, nat_tests)
+
+both_true : (a b : Bool) → a ≡ true → b ≡ true → a && b ≡ true
+both_true true b e f = f
+both_true false b e f = absurd (true_false e refl)
+
+both_of : (a b : Bool) → a && b ≡ true → (a ≡ true) × (b ≡ true)
+both_of true b e = (refl, e)
+both_of false b e = absurd (true_false e refl)
+
+not_all : (same goes before : Bool) → same ≡ true → goes ≡ true → before ≡ true → not (same && goes && before) ≡ true → ⊥
+not_all same goes before e f g h = cc
+
+-- one more job
+pub goes_too : (rows : List SystemRow) (at : Moment) (jobs : List JobHead) (i : ℕ) (d : JobHead) (before after : List Due) → i < length jobs
+    → before ≡ map due_of (filter (may_go rows at) (take i jobs)) → after ≡ before ++ map due_of (filter (may_go rows at) (get_or jobs i d ∷ []))
+    → after ≡ map due_of (filter (may_go rows at) (take (i + 1) jobs))
+goes_too rows at jobs i d before after inside so_far grown =
+    let goes = may_go rows at in
+    grown ∙ ap (λ l. l ++ map due_of (filter goes (get_or jobs i d ∷ []))) so_far
+    ∙ sym (map-append due_of (filter goes (take i jobs)) (filter goes (get_or jobs i d ∷ [])))
+    ∙ ap (map due_of) (sym (filter-append goes (take i jobs) (get_or jobs i d ∷ [])) ∙ ap (filter goes) (sym (take_more jobs i d inside)))
+
+module _ (rows : List SystemRow) (at : Moment) (jobs own : List JobHead) (name : List ℕ) (dues : List Due)
+    (same : IsPermutation (jobs_for name jobs) own) (order : AreInOrder own) (due : AreDue rows jobs at dues) where
+  -- those that may go
+  abbrev going : List JobHead
+  going = filter (may_go rows at) own
+
+  is_own : JobHead → Bool
+  is_own job = same_text job.system name
+
+  -- a job of the system that may go is one of them
+  among : (job : JobHead) → Contains jobs job → job.system ≡ name → may_go rows at job ≡ true → Contains going job
+  among job there named goes =
+      kept (may_go rows at) own job
+      (Contains-permutation (jobs_for name jobs) own job same (kept (λ (other : JobHead). same_text other.system name) jobs job there ((bytes_decides job.system name).1 named))) goes
+
+  -- and each of them is such a job
+  of_them : (job : JobHead) → Contains going job → Contains jobs job × (job.system ≡ name) × (may_go rows at job ≡ true)
+  of_them job there =
+      let goes = from_filter (may_go rows at) own job there in
+      let own_of = from_filter (λ (other : JobHead). same_text other.system name) jobs job (Contains-permutation own (jobs_for name jobs) job (IsPermutation-sym (jobs_for name jobs) own same) goes.0) in
+      (own_of.0, (bytes_decides job.system name).0 own_of.1, goes.1)
+
+  -- what is due of the system is one of them, before which none goes
+  record IsOne (d : Due) : Type 0 where
+    job : JobHead
+    there : Contains going job
+    is : d ≡ due_of job
+    first : (other : JobHead) → Contains going other → goes_before other job ≡ true → ⊥
+
+  one_of : (d : Due) → Contains dues d → same_text d.system name ≡ true → IsOne d
+  one_of d there named =
+      let it = due.sound d there in
+      let parts = both_of (may_go rows at it.job) _ it.first in
+      let system : it.job.system ≡ name = ap (λ (e : Due). e.system) (sym it.is) ∙ (bytes_decides d.system name).0 named in
+      record {
+        job = it.job;
+        there = among it.job it.there system parts.0;
+        is = it.is;
+        first = λ other in_going before.
+            let own_of = of_them other in_going in
+            not_all (same_text other.system it.job.system) (may_go rows at other) (goes_before other it.job)
+            ((bytes_decides other.system it.job.system).1 (own_of.1 ∙ sym system)) own_of.2 before
+            (passes_there (λ (o : JobHead). not (same_text o.system it.job.system && may_go rows at o && goes_before o it.job)) jobs other parts.1 own_of.0);
+      }
+
+  by_going : (list : List JobHead) → going ≡ list → dues_of name dues ≡ take 1 (map due_of list)
+  by_going [] none =
+      none_kept (λ (d : Due). same_text d.system name) dues
+      (λ d there named. let one = one_of d there named in none_in one.job (subst (λ (l : List JobHead). Contains l one.job) none one.there))
+  by_going (first ∷ later) some =
+      one_kept ComesFirst (λ (d : Due). same_text d.system name) (due_of first) dues (not_first (due_of first)) due.in_order
+      (due.complete (due_of first) (record { job = first; there = first_is.0; first = is_first; is = refl }))
+      ((bytes_decides first.system name).1 first_is.1) alone
+    where
+      first_is : Contains jobs first × (first.system ≡ name) × (may_go rows at first ≡ true)
+      first_is = of_them first (subst (λ (l : List JobHead). Contains l first) (sym some) (first_of first later))
+
+      in_order : AllPairs (λ a b. goes_before a b ≡ true) (first ∷ later)
+      in_order = subst AreInOrder some (AllPairs-filter (λ a b. goes_before a b ≡ true) (may_go rows at) own order)
+
+      -- each of the others goes behind
+      behind : (other : JobHead) → Contains later other → goes_before first other ≡ true
+      behind other there = All-contains (λ o. goes_before first o ≡ true) later other (pairs-first (λ a b. goes_before a b ≡ true) first later in_order) there
+
+      none_before : (other : JobHead) → Contains jobs other → not (same_text other.system first.system && may_go rows at other && goes_before other first) ≡ true
+      none_before other there = by-test (same_text other.system first.system) (may_go rows at other) refl refl
+        where
+          closed : (b : Bool) → not (b && false) ≡ true
+          closed true = refl
+          closed false = refl
+
+          by-test : (s g : Bool) → same_text other.system first.system ≡ s → may_go rows at other ≡ g → not (s && g && goes_before other first) ≡ true
+          by-test false g e f = refl
+          by-test true false e f = refl
+          by-test true true e f =
+              let in_going = subst (λ (l : List JobHead). Contains l other) some (among other there ((bytes_decides other.system first.system).0 e ∙ first_is.1) f) in
+              elim (first_or_later first other later in_going) [
+                | inl itself ↦ rw (ap (λ (o : JobHead). goes_before o first) (sym itself) ∙ not_itself first) (refl)
+                | inr later_on ↦ rw (not_back first other (behind other later_on)) (refl)
+              ]
+
+      is_first : is_due rows jobs at first ≡ true
+      is_first =
+          both_true (may_go rows at first) _ first_is.2
+          (all_pass (λ (other : JobHead). not (same_text other.system first.system && may_go rows at other && goes_before other first)) jobs none_before)
+
+      alone : (d : Due) → Contains dues d → same_text d.system name ≡ true → d ≡ due_of first
+      alone d there named =
+          let one = one_of d there named in
+          elim (first_or_later first one.job later (subst (λ (l : List JobHead). Contains l one.job) some one.there)) [
+            | inl itself ↦ one.is ∙ ap due_of (sym itself)
+            | inr later_on ↦ absurd (one.first first (subst (λ (l : List JobHead). Contains l first) (sym some) (first_of first later)) (behind one.job later_on))
+          ]
+
+  pub first_to_go : dues_of name dues ≡ take 1 (all_due rows own at)
+  first_to_go = by_going going refl
