@@ -4,7 +4,7 @@
 _uuspool() {
     local word=${COMP_WORDS[COMP_CWORD]} before=${COMP_WORDS[COMP_CWORD - 1]} subcommand='' at words
     local subcommands='load drop send request exec mail list show kill regrade rejuvenate due when
-        queues status failed done forget map neighbours batch help'
+        queues status systems failed done forget map neighbours name batch help'
     for ((at = 1; at < COMP_CWORD; at++)); do
         case ${COMP_WORDS[at]} in
         -c | --at | --as) ((at++)) ;;
@@ -20,10 +20,10 @@ _uuspool() {
     :--at | :--as | *:-g | *:--once | *:-s | *:-u) return ;;
     esac
     case $subcommand in
-    '') words="-c --at --as -h --help $subcommands" ;;
+    '') words="-c --at --as -h --help -V --version $subcommands" ;;
     send | request | exec | mail) words='-g --once -h --help' ;;
     list) words='-s -u -h --help' ;;
-    when | queues) words='-s -h --help' ;;
+    due | when | queues | systems) words='-s -h --help' ;;
     help) words=$subcommands ;;
     batch) words='' ;;
     *) words='-h --help' ;;

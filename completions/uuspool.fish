@@ -1,7 +1,7 @@
 # What fish offers behind `uuspool`: subcommands, and the options of each.
 
 set -l subcommands load drop send request exec mail list show kill regrade rejuvenate due \
-    when queues status failed done forget map neighbours batch help
+    when queues status systems failed done forget map neighbours name batch help
 set -l queuing send request exec mail
 set -l none "not __fish_seen_subcommand_from $subcommands"
 set -l has __fish_seen_subcommand_from
@@ -10,6 +10,7 @@ complete -c uuspool -f
 complete -c uuspool -n $none -s c -r -F -d 'The settings file'
 complete -c uuspool -n $none -l at -x -d 'The second that counts as now, UTC'
 complete -c uuspool -n $none -l as -x -d 'The user who asks'
+complete -c uuspool -n $none -s V -l version -d 'Print version'
 complete -c uuspool -s h -l help -d 'Print help'
 
 complete -c uuspool -n $none -a load -d 'Defines the systems of the sys file on standard input'
@@ -27,15 +28,17 @@ complete -c uuspool -n $none -a due -d 'Lists the systems to call now, each with
 complete -c uuspool -n $none -a when -d 'Lists when each system can next be called, and why not now'
 complete -c uuspool -n $none -a queues -d 'Sums up the jobs of each system'
 complete -c uuspool -n $none -a status -d 'Lists the systems and how their calls went'
+complete -c uuspool -n $none -a systems -d 'Prints the definitions of the systems as a sys file'
 complete -c uuspool -n $none -a failed -d 'Notes a call that failed'
 complete -c uuspool -n $none -a done -d 'Notes a call that succeeded, and its jobs'
 complete -c uuspool -n $none -a forget -d 'Forgets which jobs below a number came from a system'
 complete -c uuspool -n $none -a map -d 'Keeps the map entries on standard input'
 complete -c uuspool -n $none -a neighbours -d "Lists the links of a host's map entry"
+complete -c uuspool -n $none -a name -d "Prints the site's own name"
 complete -c uuspool -n $none -a batch -d 'Answers many requests on standard input'
 complete -c uuspool -n $none -a help -d 'Print help, of a subcommand too'
 
 complete -c uuspool -n "$has $queuing" -s g -x -d "The job's grade"
 complete -c uuspool -n "$has $queuing" -l once -x -d 'Whose job it is, and its number there'
-complete -c uuspool -n "$has list when queues" -s s -x -d 'Only this system'
+complete -c uuspool -n "$has list due when queues systems" -s s -x -d 'Only this system'
 complete -c uuspool -n "$has list" -s u -x -d 'Only this user'

@@ -10,6 +10,7 @@ pub mod DueLemmas
 pub mod JobLemmas
 pub mod KeyLaws
 pub mod KeyLemmas
+pub mod KeyOrigins
 pub mod LinkLemmas
 pub mod Members
 pub mod NetworkArrival

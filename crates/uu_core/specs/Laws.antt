@@ -108,6 +108,18 @@ pub record IsOfRun (state : State) (commands : List Command) (later : Job) : Typ
   pub made : IsHandedIn (state_after state before) command job
   pub same : IsSameJob job later
 
+-- what is kept of the key: the number of its job here
+abbrev pub IsKept : State → Key → ℕ → Type 0
+IsKept state key number = taken_of state key ≡ Some (record { number = key.number; mark = key.mark; job = number })
+
+-- A command of a run handed the job in under the key for the first time, and so the job got the
+-- number.
+pub record IsFirstUnder (state : State) (commands : List Command) (key : Key) (first : NewJob) (number : ℕ) : Type 0 where
+  pub before : List Command
+  pub behind : List Command
+  pub run_is : commands ≡ before ++ QueueOnce key first ∷ behind
+  pub made : IsHandedIn (state_after state before) (QueueOnce key first) (job_of number first)
+
 -- the job's number is among these
 abbrev pub is_named : List ℕ → JobHead → Bool
 is_named numbers job = list_any (λ number. number == job.number) numbers

@@ -25,12 +25,12 @@ ghost use Rattle.uu_core.specs.State.{State, Job, IsWellFormed, empty, has_syste
 ghost use Rattle.uu_core.specs.Custody.{Crossing, World, Parcel, Handed, Step, parcel_of, key_of, MayGoOn, world_after, IsReached, IsOf, IsQueued, IsNotLost, IsFree, IsLeast, least_of, MayCross};
 ghost use Rattle.uu_core.specs.Network.{Chart, Network, Move, world_of, MayMoveOn, network_after, IsReachedNetwork, IsRoute, GoesBy, ComesTo, IsMadeOf, Stands, AreNamedApart, by_line, IsWelcome, next_of, IsWelcomeOn, IsAcross, MayArrive};
 ghost use Rattle.uu_core.specs.Refusal.{first_reason, AreInTurn};
-ghost use Rattle.uu_core.specs.Verdict.{verdict, reasons, done_refusal, queue_refusal, are_known, taken_of};
+ghost use Rattle.uu_core.specs.Verdict.{verdict, reasons, done_refusal, queue_refusal, are_known};
 ghost use Rattle.uu_core.specs.Definitions.{definitions_of};
 ghost use Rattle.uu_core.specs.Due.{AreDue, AreInOrder, all_due, dues_of, is_listed, walk, with_next};
 ghost use Rattle.uu_core.specs.After.{after, job_of};
 ghost use Rattle.uu_core.specs.Run.{state_after, replies_to};
-ghost use Rattle.uu_core.specs.Laws.{accepted_of, lets_go, lets_forget, numbers_in, new_numbers, has_key, is_repeat, IsAmong, IsHandedIn, IsOfRun, AreFound};
+ghost use Rattle.uu_core.specs.Laws.{accepted_of, lets_go, lets_forget, numbers_in, new_numbers, has_key, is_repeat, IsAmong, IsHandedIn, IsOfRun, IsKept, IsFirstUnder, AreFound};
 ghost use Rattle.uu_core.specs.WellFormed.{IsCommand};
 
 pub use crate::sound::commands_are_sound;
@@ -107,12 +107,16 @@ pub fn states_stay_well_formed()
 
 /// A key that got a number is kept with it (`kept`), and gets the same number again, whereupon
 /// nothing changes, after any run in which no accepted command lets the key be forgotten (`run`).
+/// What is kept after a run was kept before it, or a command of the run handed that job in first
+/// under the key (`origin`).
 pub fn keys_are_answered_again()
     ensures kept { (state : State) (key : Key) (job : NewJob) (number : ℕ) → (after state (QueueOnce key job)).1 ≡ Number number
-        → taken_of (after state (QueueOnce key job)).0 key ≡ Some (record { number = key.number; mark = key.mark; job = number }) }
+        → IsKept (after state (QueueOnce key job)).0 key number }
     ensures run { (state : State) (key : Key) (first again : NewJob) (number : ℕ) (commands : List Command) → (after state (QueueOnce key first)).1 ≡ Number number
         → All (λ command. lets_forget command key ≡ false) (accepted_of (after state (QueueOnce key first)).0 commands)
         → let later = state_after (after state (QueueOnce key first)).0 commands in after later (QueueOnce key again) ≡ (later, Number number) }
+    ensures origin { (state : State) (commands : List Command) (key : Key) (number : ℕ) → IsKept (state_after state commands) key number
+        → IsKept state key number ⊎ ((first : NewJob) × IsFirstUnder state commands key first number) }
 {}
 
 /// Custody: jobs are handed on under keys, over a wire that keeps all, repeats it and mixes it up,

@@ -3,16 +3,20 @@ use crate::refusing::{
     Ask, Call, Outcome, Refusing, Said, note, outcome_if, refuse_each, refuse_each_of, text_of,
 };
 use crate::values::{
-    HANDED_ON, MAP, MESSAGE, Order, SUNDAY, SYS_FILE, Work, command, commands, moment, site, word,
+    HANDED_ON, MAP, MESSAGE, Order, SUNDAY, SYS_FILE, SYS_FILE_DUKE, Work, command, commands,
+    moment, site, system, word,
 };
 use jiff_core::civil::{Date, DateTime, Time};
 use std::alloc::Global;
 use std::process::Abort;
 use uu_core::plain::Machine;
-use uu_core::{JobHead, choose, next_calls, queues};
+use uu_core::{
+    CallState, JobHead, Outcome as Called, SystemRow, all_due, choose, definitions, next_calls,
+    queues,
+};
 use uu_map::{entry_host, read_entry, split};
 use uu_names::{Path, SiteName, Word, envelope, return_path};
-use uu_times::{Moment, Timetables, Windows, Zone, read_sys, read_time};
+use uu_times::{Moment, SystemDef, Timetables, Windows, Zone, read_sys, read_time, write_sys};
 
 // ---- names
 
@@ -102,6 +106,7 @@ enum TimeCall<'a> {
     Predefined,
     Text(&'a str, &'a Timetables),
     Sys(&'a [u8]),
+    Write(&'a [SystemDef]),
 }
 
 impl Ask for TimeCall<'_> {
@@ -121,6 +126,7 @@ impl Ask for TimeCall<'_> {
                 assert!(rt; text.len() <= 4_194_304);
                 note(rt, alloc, &read_sys(alloc, text))
             }
+            TimeCall::Write(systems) => note(rt, alloc, &write_sys(alloc, systems)),
         }
     }
 }
@@ -134,6 +140,7 @@ fn times(rt: HostRuntime) {
     let tables = Timetables::predefined(alloc).expect(&rt, "memory");
     let list = "Wk2305-0855,Sa,Su2305-1655";
     let bad = "Wk2305-0755|Su2400-2400";
+    let file = read_sys(alloc, SYS_FILE).expect(&rt, "a sys file");
     for (name, call) in [
         ("Windows::from_ranges", TimeCall::Ranges),
         ("Timetables::predefined", TimeCall::Predefined),
@@ -142,6 +149,7 @@ fn times(rt: HostRuntime) {
         ("read_time (a fault)", TimeCall::Text(bad, &tables)),
         ("read_sys", TimeCall::Sys(SYS_FILE)),
         ("read_sys (a fault)", TimeCall::Sys(TWICE)),
+        ("write_sys", TimeCall::Write(file.systems.as_slice())),
     ] {
         refuse_each_of(&rt, alloc, name, &call);
     }
@@ -216,6 +224,7 @@ pub(crate) fn four_jobs(rt: &impl Abort, alloc: Global) -> Machine {
 #[derive(Clone, Copy)]
 enum Question {
     Choose,
+    AllDue,
     NextCalls,
     Queues,
     Heads,
@@ -238,6 +247,7 @@ impl Ask for MachineCall<'_> {
         refusing.begin(alloc);
         match self.question {
             Question::Choose => note(rt, alloc, &choose(alloc, systems, self.heads, self.at)),
+            Question::AllDue => note(rt, alloc, &all_due(alloc, systems, self.heads, self.at)),
             Question::NextCalls => {
                 let calls = next_calls(alloc, systems, self.heads, SUNDAY, self.zone);
                 note(rt, alloc, &calls)
@@ -258,6 +268,7 @@ fn choices(rt: HostRuntime) {
     let zone = Zone::fixed(0).expect(&rt, "a zone");
     for (name, question) in [
         ("choose", Question::Choose),
+        ("all_due", Question::AllDue),
         ("next_calls", Question::NextCalls),
         ("queues", Question::Queues),
         ("Machine::heads", Question::Heads),
@@ -272,6 +283,36 @@ fn choices(rt: HostRuntime) {
         };
         refuse_each_of(&rt, alloc, name, &call);
     }
+}
+
+/// The definitions of two systems, or of that of a name.
+#[derive(Clone, Copy)]
+struct Definitions<'a>(Option<&'a SiteName>);
+
+impl Ask for Definitions<'_> {
+    fn said<R: Abort>(&self, rt: &R, alloc: Global, refusing: Refusing) -> Said {
+        let mut rows = Vec::new(alloc);
+        for text in [SYS_FILE_DUKE, b"system unc\ntime Any\n"] {
+            let def = system(rt, alloc, text);
+            let call = CallState {
+                last: 0,
+                failures: 0,
+                wait: 0,
+                outcome: Called::Never,
+            };
+            rows.push(SystemRow { def, call }).expect(rt, "memory");
+        }
+        refusing.begin(alloc);
+        note(rt, alloc, &definitions(alloc, rows, self.0))
+    }
+}
+
+#[test]
+fn definitions_of_systems(rt: HostRuntime) {
+    let alloc = rt.alloc();
+    let unc = site(&rt, alloc, "unc");
+    refuse_each_of(&rt, alloc, "definitions", &Definitions(None));
+    refuse_each_of(&rt, alloc, "definitions", &Definitions(Some(&unc)));
 }
 
 /// What a machine shows of its jobs and calls.

@@ -40,6 +40,7 @@ impl Ask for Given<'_> {
 const BAD_LINES: &[&str] = &[
     "nonsense",
     "-h",
+    "--version",
     "send duke",
     "mail duke!a phs!b",
     "--as a\u{e9} list",

@@ -290,7 +290,7 @@ fn settings_and_tasks(rt: HostRuntime) {
     let words = words_of(&rt, alloc, "-c site.toml batch");
     ALL.begin(alloc);
     let at = moment_of(SUNDAY, &settings).is_ok();
-    let inputs = (Task::Load.has_input(), Task::Due.has_input());
+    let inputs = (Task::Load.has_input(), Task::Status.has_input());
     let answers = (at, batch_settings(&words), inputs);
     let want = "(true, Some(\"site.toml\"), (true, false))";
     let names = ["moment_of", "batch_settings", "Task::has_input"];

@@ -299,6 +299,12 @@ const LINES: &[LineCase] = &[
         "unc 9 2\nduke B 1\n",
     ),
     (
+        "serve (due, of a system)",
+        &[LOAD, SEND, REQUEST],
+        ("due -s duke", b""),
+        "duke B 1\n",
+    ),
+    (
         "serve (when)",
         &[LOAD, SEND, REQUEST],
         ("--at 1000000000 when", b""),
@@ -315,6 +321,12 @@ const LINES: &[LineCase] = &[
         &[LOAD, Act::Line("failed unc busy", b"")],
         ("status", b""),
         "duke 0 0 never\nunc 1 600 failed 2001-09-09 01:46:40 busy\n",
+    ),
+    (
+        "serve (systems)",
+        &[LOAD],
+        ("systems -s unc", b""),
+        "system unc\nmax-retries 26\nsuccess-wait 0\ntime Any\n",
     ),
     (
         "serve (failed)",
@@ -334,12 +346,7 @@ const LINES: &[LineCase] = &[
         ("send duke a b --once unc!7!w", b"abc"),
         "job 1\n",
     ),
-    (
-        "serve (forget)",
-        &[LOAD],
-        ("forget unc 7", b""),
-        "done\n",
-    ),
+    ("serve (forget)", &[LOAD], ("forget unc 7", b""), "done\n"),
     ("serve (map)", &[], ("map", MAP), "unc done\n"),
     (
         "serve (neighbours)",
@@ -347,6 +354,7 @@ const LINES: &[LineCase] = &[
         ("neighbours unc", b""),
         "duke 495\nmcnc 4000\nphs 20000\nold dead\n= unc-ch\nskipped 5\n",
     ),
+    ("serve (name)", &[], ("name", b""), "mysite\n"),
 ];
 
 /// The lines of the program. Each function that names a large table is dear to prove.
@@ -510,7 +518,13 @@ fn taken_in_memory<R: Abort + Print>(rt: &R, alloc: Global, (name, acts, stateme
     let name = (format!(in alloc; "{name} in memory)")).expect(rt, "memory");
     let stages = only_stage(rt, alloc, acts);
     let deed = Deed::Adopt(acts, statements);
-    refuse_each(rt, alloc, name.as_str(), LATER, &mut InMemory { deed, stages });
+    refuse_each(
+        rt,
+        alloc,
+        name.as_str(),
+        LATER,
+        &mut InMemory { deed, stages },
+    );
 }
 
 fn takings() -> &'static [Taking] {

@@ -212,13 +212,7 @@ fn key(rt: &impl Abort, alloc: Global, from: &str, number: u32, mark: u64) -> Ke
     }
 }
 
-fn hand_on(
-    rt: &impl Abort,
-    alloc: Global,
-    key: Key,
-    system: &str,
-    size: usize,
-) -> Command {
+fn hand_on(rt: &impl Abort, alloc: Global, key: Key, system: &str, size: usize) -> Command {
     let job = new_job(rt, alloc, system, b'N', Work::Send, size);
     Command::QueueOnce(key, job)
 }

@@ -121,9 +121,9 @@ forget_command = with_rule (with_rule (new_app (codes "forget")) (argument (code
 abbrev pub neighbours_command : App
 neighbours_command = with_rule (new_app (codes "neighbours")) (argument (codes "host"))
 
--- the words begin after the program's name, and a subcommand has to be there
+-- the words begin after the program's name, a subcommand has to be there, and `--version` says one
 abbrev pub without_options : App
-without_options = on_top (λ s. record s { no_binary_name = true; subcommand_required = true })
+without_options = on_top (λ s. record s { no_binary_name = true; subcommand_required = true; has_version = true })
     (new_app (codes "uuspool"))
 
 abbrev pub without_subcommands : App
@@ -146,11 +146,12 @@ with_jobs =
 -- and those that report systems
 abbrev pub with_reports : App
 with_reports =
-    with_subcommand (with_subcommand (with_subcommand (with_subcommand with_jobs (new_app (codes "due")).top)
-    (report_command (codes "when")).top) (report_command (codes "queues")).top) (new_app (codes "status")).top
+    with_subcommand (with_subcommand (with_subcommand (with_subcommand (with_subcommand with_jobs (report_command (codes "due")).top)
+    (report_command (codes "when")).top) (report_command (codes "queues")).top) (new_app (codes "status")).top)
+    (report_command (codes "systems")).top
 
--- and those of calls and of the map
+-- and those of calls, of the map and of the site
 abbrev pub program : App
 program =
-    with_subcommand (with_subcommand (with_subcommand (with_subcommand (with_subcommand with_reports failed_command.top)
-    done_command.top) forget_command.top) (new_app (codes "map")).top) neighbours_command.top
+    with_subcommand (with_subcommand (with_subcommand (with_subcommand (with_subcommand (with_subcommand with_reports failed_command.top)
+    done_command.top) forget_command.top) (new_app (codes "map")).top) neighbours_command.top) (new_app (codes "name")).top

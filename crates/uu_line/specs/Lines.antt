@@ -186,6 +186,10 @@ list_task system user =
     and_then (optional site_of system) (λ system.
     and_then (optional word_of user) (λ user. Ok (task.List (record { system = system; user = user }))))
 
+-- `due [-s SYSTEM]`
+abbrev pub due_task : Option Text → Result Task LineFault
+due_task system = and_then (optional site_of system) (λ system. Ok (task.Due system))
+
 -- `when [-s SYSTEM]`
 abbrev pub when_task : Option Text → Result Task LineFault
 when_task system = and_then (optional site_of system) (λ system. Ok (task.When (record { system = system; user = None })))
@@ -193,6 +197,10 @@ when_task system = and_then (optional site_of system) (λ system. Ok (task.When 
 -- `queues [-s SYSTEM]`
 abbrev pub queues_task : Option Text → Result Task LineFault
 queues_task system = and_then (optional site_of system) (λ system. Ok (task.Queues (record { system = system; user = None })))
+
+-- `systems [-s SYSTEM]`
+abbrev pub systems_task : Option Text → Result Task LineFault
+systems_task system = and_then (optional site_of system) (λ system. Ok (task.Systems system))
 
 -- `regrade JOB GRADE`
 abbrev pub regrade_task : ℕ → Text → Result Task LineFault
@@ -275,15 +283,17 @@ MeansTask name rows meant =
     ⊎ ((name ≡ codes "kill") × MeansJob (λ job. Ok (task.Kill job)) rows meant)
     ⊎ ((name ≡ codes "regrade") × MeansRegrade rows meant)
     ⊎ ((name ≡ codes "rejuvenate") × MeansJob (λ job. Ok (task.Rejuvenate job)) rows meant)
-    ⊎ ((name ≡ codes "due") × (meant ≡ Ok task.Due))
+    ⊎ ((name ≡ codes "due") × (meant ≡ due_task (first_of (codes "system") rows)))
     ⊎ ((name ≡ codes "when") × (meant ≡ when_task (first_of (codes "system") rows)))
     ⊎ ((name ≡ codes "queues") × (meant ≡ queues_task (first_of (codes "system") rows)))
     ⊎ ((name ≡ codes "status") × (meant ≡ Ok task.Status))
+    ⊎ ((name ≡ codes "systems") × (meant ≡ systems_task (first_of (codes "system") rows)))
     ⊎ ((name ≡ codes "failed") × MeansFailed rows meant)
     ⊎ ((name ≡ codes "done") × MeansDone rows meant)
     ⊎ ((name ≡ codes "forget") × MeansForget rows meant)
     ⊎ ((name ≡ codes "map") × (meant ≡ Ok task.Map))
     ⊎ ((name ≡ codes "neighbours") × MeansNeighbours rows meant)
+    ⊎ ((name ≡ codes "name") × (meant ≡ Ok task.Name))
 
 -- a task takes an input
 abbrev pub takes_input : Task → Bool
@@ -298,15 +308,17 @@ takes_input (task.Show job) = false
 takes_input (task.Kill job) = false
 takes_input (task.Regrade job grade) = false
 takes_input (task.Rejuvenate job) = false
-takes_input task.Due = false
+takes_input (task.Due system) = false
 takes_input (task.When filter) = false
 takes_input (task.Queues filter) = false
 takes_input task.Status = false
+takes_input (task.Systems system) = false
 takes_input (task.Failed system why) = false
 takes_input (task.Done system jobs) = false
 takes_input (task.Forget system below) = false
 takes_input task.Map = true
 takes_input (task.Neighbours host) = false
+takes_input task.Name = false
 
 -- ---- lines
 

@@ -164,11 +164,19 @@ const WANTED: Entry<'static> = Entry {
     help: "This neighbour alone",
 };
 
+// What `--version` says behind the program's name: the release, and the version of the spool's
+// tables. `scripts/check-tree` compares it with the file VERSION and with the tables.
+const VERSION: &str = "1.0.0, spool version 3";
+
+// The words that `clap` does not see.
+const BATCH: &str = "Many requests:
+  uuspool [-c <FILE>] batch  Answers the requests on standard input, one after the other";
+
 // The options of the whole command.
 static OPTIONS: [Entry<'static>; 3] = [CONFIG, SECOND, USER];
 
 // The subcommands, in the order that help lists them in.
-static SUBCOMMANDS: [Subcommand<'static>; 20] = [
+static SUBCOMMANDS: [Subcommand<'static>; 22] = [
     Subcommand {
         name: "load",
         about: "Defines the systems of the sys file on standard input",
@@ -292,7 +300,14 @@ static SUBCOMMANDS: [Subcommand<'static>; 20] = [
     Subcommand {
         name: "due",
         about: "Lists the systems to call now, each with its next job",
-        entries: &[],
+        entries: &[Entry {
+            id: "system",
+            form: Form::Letter('s'),
+            required: false,
+            defaults: &[],
+            shown: "SYSTEM",
+            help: "All jobs of this neighbour that may go now",
+        }],
     },
     Subcommand {
         name: "when",
@@ -308,6 +323,11 @@ static SUBCOMMANDS: [Subcommand<'static>; 20] = [
         name: "status",
         about: "Lists the systems and how their calls went",
         entries: &[],
+    },
+    Subcommand {
+        name: "systems",
+        about: "Prints the definitions of the systems as a sys file",
+        entries: &[WANTED],
     },
     Subcommand {
         name: "failed",
@@ -378,6 +398,11 @@ static SUBCOMMANDS: [Subcommand<'static>; 20] = [
             help: "The host of the map entry",
         }],
     },
+    Subcommand {
+        name: "name",
+        about: "Prints the site's own name",
+        entries: &[],
+    },
 ];
 
 /// The command: its options and its subcommands, of which one has to be there. Without words it has
@@ -403,6 +428,8 @@ fn with_options<'a>(alloc: Global) -> Result<Command<'a>, AllocError>
 {
     let bare = Command::new(alloc, "uuspool")
         .about("The job spool of a UUCP site")
+        .version(VERSION)
+        .after_help(BATCH)
         .no_binary_name(true)
         .subcommand_required(true);
     with_entries(alloc, bare, &OPTIONS)

@@ -10,8 +10,8 @@ ghost use Rattle.uu_line.specs.Lines as spec;
 
 use crate::fault::LineFault;
 use crate::reading::{
-    done_task, drop_task, execute_task, failed_task, forget_task, list_task, mail_task,
-    neighbours_task, queues_task, regrade_task, request_task, send_task, when_task,
+    done_task, drop_task, due_task, execute_task, failed_task, forget_task, list_task, mail_task,
+    neighbours_task, queues_task, regrade_task, request_task, send_task, systems_task, when_task,
 };
 use crate::task::Task;
 use crate::values::{job_in, jobs_in, paths_in, terms_of, text_in};
@@ -57,18 +57,19 @@ fn report_task_in(alloc: Global, name: &str, given: &ArgMatches<'_>) -> Result<T
     ensures { UnlessMemory (MeansTask name.now (rows_of (found_of given.now))) result }
 {
     match name {
-        "due" => Ok(Task::Due),
+        "due" => due_in(alloc, given),
         "when" => when_in(alloc, given),
         "queues" => queues_in(alloc, given),
         "status" => Ok(Task::Status),
+        "systems" => systems_in(alloc, given),
         _ => call_task_in(alloc, name, given),
     }
 }
 
-// The task of a subcommand that notes a call, or of one of the map.
+// The task of a subcommand that notes a call, of one of the map, or of `name`.
 fn call_task_in(alloc: Global, name: &str, given: &ArgMatches<'_>) -> Result<Task, LineFault>
     requires entered { IsEntered name.now (rows_of (found_of given.now)) }
-    requires later { IsSome (find (λ subcommand. bytes_eq subcommand.0 name.now) (drop 15 subcommands)) }
+    requires later { IsSome (find (λ subcommand. bytes_eq subcommand.0 name.now) (drop 16 subcommands)) }
     ensures { UnlessMemory (MeansTask name.now (rows_of (found_of given.now))) result }
 {
     match name {
@@ -77,6 +78,7 @@ fn call_task_in(alloc: Global, name: &str, given: &ArgMatches<'_>) -> Result<Tas
         "forget" => forget_in(alloc, given),
         "map" => Ok(Task::Map),
         "neighbours" => neighbours_in(alloc, given),
+        "name" => Ok(Task::Name),
         _ => unreachable!(),
     }
 }
@@ -186,6 +188,13 @@ fn rejuvenate_in(given: &ArgMatches<'_>) -> Task
     Task::Rejuvenate { job }
 }
 
+// The task of `due`.
+fn due_in(alloc: Global, given: &ArgMatches<'_>) -> Result<Task, LineFault>
+    ensures { Answers result (spec.due_task (first_of (codes "system") (rows_of (found_of given.now)))) }
+{
+    due_task(alloc, given.get_str("system"))
+}
+
 // The task of `when`.
 fn when_in(alloc: Global, given: &ArgMatches<'_>) -> Result<Task, LineFault>
     ensures { Answers result (spec.when_task (first_of (codes "system") (rows_of (found_of given.now)))) }
@@ -198,6 +207,13 @@ fn queues_in(alloc: Global, given: &ArgMatches<'_>) -> Result<Task, LineFault>
     ensures { Answers result (spec.queues_task (first_of (codes "system") (rows_of (found_of given.now)))) }
 {
     queues_task(alloc, given.get_str("system"))
+}
+
+// The task of `systems`.
+fn systems_in(alloc: Global, given: &ArgMatches<'_>) -> Result<Task, LineFault>
+    ensures { Answers result (spec.systems_task (first_of (codes "system") (rows_of (found_of given.now)))) }
+{
+    systems_task(alloc, given.get_str("system"))
 }
 
 // The task of `failed`.

@@ -207,6 +207,15 @@ pub(crate) fn list_task(
     Ok(Task::List { filter })
 }
 
+/// The task of `due`.
+#[tactic(auto, using(crate::proofs::LineLemmas::answers_then))]
+pub(crate) fn due_task(alloc: Global, system: Option<&str>) -> Result<Task, LineFault>
+    ensures { Answers result (spec.due_task (option_map (λ text. text.now) system.entry)) }
+{
+    let wanted = optional_site(alloc, system)?;
+    Ok(Task::Due { system: wanted })
+}
+
 /// The task of `when`.
 #[tactic(auto, using(crate::proofs::LineLemmas::answers_then))]
 pub(crate) fn when_task(alloc: Global, system: Option<&str>) -> Result<Task, LineFault>
@@ -231,6 +240,15 @@ pub(crate) fn queues_task(alloc: Global, system: Option<&str>) -> Result<Task, L
         user: None,
     };
     Ok(Task::Queues { filter })
+}
+
+/// The task of `systems`.
+#[tactic(auto, using(crate::proofs::LineLemmas::answers_then))]
+pub(crate) fn systems_task(alloc: Global, system: Option<&str>) -> Result<Task, LineFault>
+    ensures { Answers result (spec.systems_task (option_map (λ text. text.now) system.entry)) }
+{
+    let wanted = optional_site(alloc, system)?;
+    Ok(Task::Systems { system: wanted })
 }
 
 /// The task of `regrade`.

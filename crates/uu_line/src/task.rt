@@ -98,8 +98,12 @@ pub enum Task {
         /// The job's number.
         job: u32,
     },
-    /// `due`: reports which systems may be called now, each with its next job.
-    Due,
+    /// `due [-s SYSTEM]`: reports which systems may be called now, each with its next job, or all
+    /// jobs of one system that may go now.
+    Due {
+        /// The neighbour whose jobs are reported, where one is named.
+        system: Option<SiteName>,
+    },
     /// `when [-s SYSTEM]`: reports when each system that has a job can next be called, or when this
     /// one can, for which job, and why not now.
     When {
@@ -113,6 +117,11 @@ pub enum Task {
     },
     /// `status`: reports the systems and how their calls went.
     Status,
+    /// `systems [-s SYSTEM]`: prints the definitions of the systems, or of one, as a sys file.
+    Systems {
+        /// The neighbour whose definition is printed, where one is named.
+        system: Option<SiteName>,
+    },
     /// `failed SYSTEM WHY`: notes a call that failed.
     Failed {
         /// The neighbour that was called.
@@ -143,6 +152,8 @@ pub enum Task {
         /// The host whose entry is shown.
         host: SiteName,
     },
+    /// `name`: prints the site's own name.
+    Name,
 }
 
 impl Task {
@@ -160,14 +171,16 @@ impl Task {
             | Task::Kill { .. }
             | Task::Regrade { .. }
             | Task::Rejuvenate { .. }
-            | Task::Due
+            | Task::Due { .. }
             | Task::When { .. }
             | Task::Queues { .. }
             | Task::Status
+            | Task::Systems { .. }
             | Task::Failed { .. }
             | Task::Done { .. }
             | Task::Forget { .. }
-            | Task::Neighbours { .. } => false,
+            | Task::Neighbours { .. }
+            | Task::Name => false,
         }
     }
 }

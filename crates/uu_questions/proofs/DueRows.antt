@@ -1,5 +1,5 @@
 -- The systems that may be called, and the walk along the jobs.
-use Rattle.std.proofs.Common.{◌≡◌, ◌<◌, ◌+◌, ℕ, zero, suc, pos, Bool, true, false, not, cond, ◌&&◌, ◌||◌, List, [], ◌∷◌, ◌++◌, length, take, map, get_or, AllPairs, All, Option, Some, None, refl, ap, sym, subst, ◌∙◌, arith, append-nil, append_assoc, Ordering, Less, Equal, Greater, nat_cmp, IsPermutation}
+use Rattle.std.proofs.Common.{◌≡◌, ◌<◌, ◌+◌, ℕ, zero, suc, pos, Bool, true, false, not, cond, ◌&&◌, ◌||◌, List, [], ◌∷◌, ◌++◌, length, take, map, filter, get_or, AllPairs, All, Option, Some, None, refl, ap, sym, subst, ◌∙◌, arith, append-nil, append_assoc, Ordering, Less, Equal, Greater, nat_cmp, IsPermutation}
 use Rattle.std.specs.List.{list_any, AllByRecursion}
 use Rattle.std.specs.Cmp.{IsTotalOrder, ranked}
 use Rattle.std.specs.Ordering.{is_eq, is_gt, ordering_then, MatchOrdering}
@@ -21,6 +21,7 @@ use Rattle.uu_sql.proofs.Sorted.{rises-insert_sorted}
 use Rattle.uu_times.specs.declared.moment.Moment.{Moment}
 use Rattle.uu_core.specs.declared.job.JobHead.{JobHead}
 use Rattle.uu_core.specs.declared.due.Due.{Due}
+use Rattle.uu_core.specs.declared.filter.Filter.{Filter}
 use Rattle.uu_core.specs.declared.system.SystemRow.{SystemRow}
 use Rattle.uu_core.specs.State.{State, IsWellFormed, same_text, head_of}
 use Rattle.uu_core.specs.Due.{is_within, may_be_called, goes_before, due_of, is_listed, walk, with_next, AreInOrder, AreDue}
@@ -29,7 +30,7 @@ use Rattle.uu_schema.specs.Keyed.{columns}
 use Rattle.uu_schema.specs.Held.{job_places}
 use Rattle.uu_schema.specs.Cells.{job_cells}
 use Rattle.uu_questions.specs.Answers.{IsOf}
-use Rattle.uu_questions.specs.Listing.{by_rank}
+use Rattle.uu_questions.specs.Listing.{by_rank, fits, listed}
 use Rattle.uu_questions.specs.Dues.{IsLeft, TakesRow, due_cells}
 use Rattle.uu_questions.specs.Walks.{Took}
 use Rattle.uu_questions.specs.Texts.{due_jobs_text}
@@ -142,6 +143,16 @@ pub in_order : (s : State) → IsWellFormed s → AreInOrder (by_grade (map head
 in_order s good =
     pairs_of (λ a b. goes_before a b ≡ true) _ (ascending_weaker _ (λ a b. goes_before a b ≡ true) before_is _
     (rises_sorted (map head_of s.jobs) (ascending_weaker _ (λ a b. is_eq (by_rank a b) ≡ false) apart _ (numbers_rise s good))))
+
+-- and those of them that fit
+pub fitting_in_order : (wanted : Filter) (s : State) → IsWellFormed s → AreInOrder (listed wanted s)
+fitting_in_order wanted s good =
+    pairs_of (λ a b. goes_before a b ≡ true) _ (ascending_weaker _ (λ a b. goes_before a b ≡ true) before_is _
+    (rises_sorted (filter (fits wanted) (map head_of s.jobs))
+    (ascending-filter _ (fits wanted) _ (ascending_weaker _ (λ a b. is_eq (by_rank a b) ≡ false) apart _ (numbers_rise s good)))))
+
+pub fitting_same : (wanted : Filter) (s : State) → IsPermutation (filter (fits wanted) (map head_of s.jobs)) (listed wanted s)
+fitting_same wanted s = IsPermutation-sym _ _ (IsPermutation-sort_by by_rank ranks_total (filter (fits wanted) (map head_of s.jobs)))
 
 pub due_rows : (old new : db.State) (s : State) (rows : List Row) → IsOf s old → db.Shown due_jobs_text [] old new rows → rows ≡ map (λ j. due_cells (due_of j)) (by_grade (map head_of s.jobs))
 due_rows old new s rows of h =

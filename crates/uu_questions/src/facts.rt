@@ -342,11 +342,7 @@ fn known_and_below<S: Alter>(
 }
 
 // Whether the neighbour and the job's system are known.
-fn are_known<S: Alter>(
-    conn: &mut Connection<S>,
-    key: &Key,
-    job: &NewJob,
-) -> Result<bool, Error>
+fn are_known<S: Alter>(conn: &mut Connection<S>, key: &Key, job: &NewJob) -> Result<bool, Error>
     ensures idle { conn.old.in_transaction ≡ false → conn.new.in_transaction ≡ false }
     ensures answers { Answers (λ s known. known ≡ are_known s key.now job.now) (state S.Store conn.old) (state S.Store conn.new) result }
 {

@@ -11,6 +11,7 @@ mod due;
 mod entries;
 mod facts;
 mod jobs;
+pub mod laws;
 mod systems;
 mod walk;
 

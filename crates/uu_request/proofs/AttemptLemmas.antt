@@ -46,15 +46,17 @@ key_stays before now first again input user grade (task.Show job) = refl
 key_stays before now first again input user grade (task.Kill job) = refl
 key_stays before now first again input user grade (task.Regrade job rank) = refl
 key_stays before now first again input user grade (task.Rejuvenate job) = refl
-key_stays before now first again input user grade task.Due = refl
+key_stays before now first again input user grade (task.Due system) = refl
 key_stays before now first again input user grade (task.When filter) = refl
 key_stays before now first again input user grade (task.Queues filter) = refl
 key_stays before now first again input user grade task.Status = refl
+key_stays before now first again input user grade (task.Systems system) = refl
 key_stays before now first again input user grade (task.Failed system why) = refl
 key_stays before now first again input user grade (task.Done system jobs) = refl
 key_stays before now first again input user grade (task.Forget system below) = refl
 key_stays before now first again input user grade task.Map = refl
 key_stays before now first again input user grade (task.Neighbours host) = refl
+key_stays before now first again input user grade task.Name = refl
 
 pub same_key : (before now : Settings) (first again : Moment) (input user : List ℕ) (grade : ℕ) (t : Task) (key key_again : Key) (job job_again : NewJob)
     → task_request before first input user t ≡ Ok (one (command.QueueOnce key job))

@@ -29,6 +29,7 @@ use Rattle.uu_request.specs.Marks.{handed_text, key_of}
 use Rattle.uu_settings.specs.declared.settings.Settings.{Settings}
 use Rattle.uu_request.specs.declared.fault.RequestFault.{RequestFault}
 use Rattle.uu_request.specs.declared.fault.RequestFault.TheVariants.{Input, Time, Memory}
+use Rattle.uu_request.specs.declared.request.Question.{Question}
 use Rattle.uu_request.specs.declared.request.Question.TheVariants as question
 use Rattle.uu_request.specs.declared.request.Request.{Request}
 use Rattle.uu_request.specs.declared.request.Request.TheVariants as request
@@ -99,6 +100,13 @@ entries text = request.Commands (record {
   skipped = [];
 })
 
+-- ---- questions
+
+-- what may go now: each system's first job, or all jobs of the system that is named
+abbrev pub due_question : Option (List ℕ) → Moment → Question
+due_question None at = question.Due at
+due_question (Some system) at = question.AllDue (record { system = Some system; user = None }) at
+
 -- ---- lines
 
 -- what a task asks for, of this user
@@ -118,15 +126,17 @@ task_request settings at input user (task.Show job) = Ok (request.Question (ques
 task_request settings at input user (task.Kill job) = Ok (one (command.Kill job (by_of settings user)))
 task_request settings at input user (task.Regrade job grade) = Ok (one (command.Regrade job grade (by_of settings user)))
 task_request settings at input user (task.Rejuvenate job) = Ok (one (command.Rejuvenate job at (by_of settings user)))
-task_request settings at input user task.Due = Ok (request.Question (question.Due at))
+task_request settings at input user (task.Due system) = Ok (request.Question (due_question system at))
 task_request settings at input user (task.When filter) = Ok (request.Question (question.NextCalls filter at))
 task_request settings at input user (task.Queues filter) = Ok (request.Question (question.Queues filter))
 task_request settings at input user task.Status = Ok (request.Question question.Systems)
+task_request settings at input user (task.Systems system) = Ok (request.Question (question.Definitions system))
 task_request settings at input user (task.Failed system why) = Ok (one (command.Failed system at why))
 task_request settings at input user (task.Done system jobs) = Ok (one (command.Done system at jobs))
 task_request settings at input user (task.Forget system below) = Ok (one (command.Forget system below))
 task_request settings at input user task.Map = Ok (entries input)
 task_request settings at input user (task.Neighbours host) = Ok (request.Question (question.Entry host))
+task_request settings at input user task.Name = Ok (request.Question question.Name)
 
 -- what a line asks for, where its input is not too large
 abbrev pub request_of : Settings → Moment → List ℕ → CommandLine → Result Request RequestFault

@@ -53,6 +53,8 @@ pub enum Question {
     Job(u32),
     /// Which systems may be called at this moment, each with its next job.
     Due(Moment),
+    /// Which of the jobs that fit may go at this moment.
+    AllDue(Filter, Moment),
     /// When each system for which a job fits can next be called from this moment on, for the first
     /// of these jobs.
     NextCalls(Filter, Moment),
@@ -60,8 +62,12 @@ pub enum Question {
     Queues(Filter),
     /// All systems, and how their calls went.
     Systems,
+    /// The definitions of the systems, or of the system of this name alone.
+    Definitions(Option<SiteName>),
     /// The map entry of this host.
     Entry(SiteName),
+    /// The site's own name, which the settings give.
+    Name,
 }
 
 /// What the line asks of a spool, at this moment on the site's clock and with this input, which is
@@ -165,15 +171,33 @@ fn task_request(
             let by = by_of(user, settings);
             one(alloc, Command::Rejuvenate { job, at, by })
         }
-        Task::Due => Ok(Request::Question(Question::Due(at))),
+        Task::Due { system } => Ok(Request::Question(due_question(system, at))),
         Task::When { filter } => Ok(Request::Question(Question::NextCalls(filter, at))),
         Task::Queues { filter } => Ok(Request::Question(Question::Queues(filter))),
         Task::Status => Ok(Request::Question(Question::Systems)),
+        Task::Systems { system } => Ok(Request::Question(Question::Definitions(system))),
         Task::Failed { system, why } => one(alloc, Command::Failed { system, at, why }),
         Task::Done { system, jobs } => one(alloc, Command::Done { system, at, jobs }),
         Task::Forget { system, below } => one(alloc, Command::Forget { system, below }),
         Task::Map => entries(alloc, &input),
         Task::Neighbours { host } => Ok(Request::Question(Question::Entry(host))),
+        Task::Name => Ok(Request::Question(Question::Name)),
+    }
+}
+
+// What may go at this moment: each system's first job, or all jobs of the one that is named.
+fn due_question(system: Option<SiteName>, at: Moment) -> Question
+    ensures { result ≡ spec.due_question system at }
+{
+    match system {
+        None => Question::Due(at),
+        Some(system) => {
+            let filter = Filter {
+                system: Some(system),
+                user: None,
+            };
+            Question::AllDue(filter, at)
+        }
     }
 }
 

@@ -6,18 +6,19 @@ use Rattle.std.proofs.lemmas.Bool.Decides.{nat_tests}
 use Rattle.std.proofs.lemmas.List.{length-append}
 use Rattle.std.proofs.lemmas.List.Elements.{All-cons, All-nil, All-contains, Contains-append_right}
 use Rattle.uu_core.specs.declared.command.Command.{Command}
-use Rattle.uu_core.specs.declared.command.Command.TheVariants.{Queue}
+use Rattle.uu_core.specs.declared.command.Command.TheVariants.{Define, Remove, Queue, QueueOnce, Kill, Regrade, Rejuvenate, Failed, Done, Entry, Forget}
 use Rattle.uu_core.specs.declared.command.Reply.{Reply}
 use Rattle.uu_core.specs.declared.command.Reply.TheVariants.{Number, Refused}
 use Rattle.uu_core.specs.declared.refusal.Refusal.{Refusal}
+use Rattle.uu_core.specs.declared.custody.Key.{Key}
 use Rattle.uu_core.specs.declared.job.NewJob.{NewJob}
 use Rattle.uu_core.specs.State.{State, Job, IsWellFormed, is_job}
 use Rattle.uu_core.specs.Verdict.{verdict}
 use Rattle.uu_core.specs.After.{after, after_verdict, job_of}
 use Rattle.uu_core.specs.Run.{state_after, replies_to}
-use Rattle.uu_core.specs.Laws.{accepted_of, unless_refused, lets_go, IsSameJob, IsAmong, IsHandedIn, IsOfRun}
+use Rattle.uu_core.specs.Laws.{accepted_of, unless_refused, handed_by, is_repeat, lets_go, IsSameJob, IsAmong, IsHandedIn, IsOfRun, IsKept, IsFirstUnder}
 use Rattle.uu_store.specs.Exchanges.{Exchange, Counts, Passes}
-use Rattle.uu_store.specs.Acknowledged.{IsThere, WasLetGo, IsAccountedFor}
+use Rattle.uu_store.specs.Acknowledged.{IsThere, WasLetGo, IsAccountedFor, IsAccountedForUnder}
 
 -- ---- lists
 
@@ -102,6 +103,14 @@ pub record Placed (s : State) (commands : List Command) (command : Command) (rep
   pub is : commands ≡ before ++ command ∷ behind
   pub told : (after (state_after s before) command).1 ≡ reply
 
+-- a job that a command handed in under this number, with what was given before and behind it
+pub record Entered (s : State) (commands : List Command) (new : NewJob) (number : ℕ) : Type 0 where
+  pub before : List Command
+  pub command : Command
+  pub behind : List Command
+  pub is : commands ≡ before ++ command ∷ behind
+  pub made : IsHandedIn (state_after s before) command (job_of number new)
+
 placed : (s : State) (commands : List Command) (command : Command) (reply : Reply) → Contains (zip commands (replies_to s commands)) (command, reply) → Placed s commands command reply
 placed s [] command reply h = absurd (none_in (command, reply) h)
 placed s (first ∷ commands) command reply h = elim (first_or_later (first, (after s first).1) (command, reply) _ h) [
@@ -160,13 +169,13 @@ module _
 
     module _
         (rise : (state : State) (commands : List Command) → state.next ≤ (state_after state commands).next)
-        (used : (state : State) (job : NewJob) (number : ℕ) → (after state (Queue job)).1 ≡ Number number → (number ≡ state.next) × ((after state (Queue job)).0.next ≡ number + 1))
         (handed : (state : State) (command : Command) (job : Job) → IsHandedIn state command job → (job.number ≡ state.next) × ((after state command).0.next ≡ job.number + 1) × ((after state command).1 ≡ Number job.number))
         (queued : (state : State) (job : NewJob) → verdict state (Queue job) ≡ None → Contains (after state (Queue job)).0.jobs (job_of state.next job))
+        (queued_once : (state : State) (key : Key) (job : NewJob) → verdict state (QueueOnce key job) ≡ None → is_repeat state (QueueOnce key job) ≡ false → Contains (after state (QueueOnce key job)).0.jobs (job_of state.next job))
         (stays : (state : State) (commands : List Command) (job : Job) → Contains state.jobs job → All (λ command. lets_go command job.number ≡ false) (accepted_of state commands) → IsAmong (state_after state commands).jobs job)
         (made : (state : State) (command : Command) (later : Job) → Contains (after state command).0.jobs later → IsAmong state.jobs later ⊎ IsHandedIn state command later)
         (made_in : (state : State) (commands : List Command) (later : Job) → Contains (state_after state commands).jobs later → IsAmong state.jobs later ⊎ IsOfRun state commands later)
-        (s : State) (good : IsWellFormed s) (new : NewJob) (number : ℕ)
+        (s : State) (good : IsWellFormed s) (number : ℕ)
       where
         -- the reply to a run's command is what the next number was
         number_of_run : (state : State) (commands : List Command) (job : Job) → IsOfRun state commands job → state.next ≤ job.number × (job.number < (state_after state commands).next)
@@ -186,34 +195,67 @@ module _
           | inr ours ↦ (number_of_run s commands job ours).1
         ]
 
-        module _ (counted : List Command) (it : Placed s counted (Queue new) (Number number)) where
+        -- what is handed in is there
+        enters : (state : State) (command : Command) (new : NewJob) → IsHandedIn state command (job_of number new) → Contains (after state command).0.jobs (job_of state.next new)
+        enters state command new it = by-command command it.command_is it.accepted it.first
+          where
+            is : (other : NewJob) → Some other ≡ Some it.new → job_of state.next other ≡ job_of state.next new
+            is other e = ap (job_of state.next) (new_of other it.new e) ∙ same_new
+              where
+                same_new : job_of state.next it.new ≡ job_of state.next new
+                same_new = sym it.job_is ∙ ap (λ n. job_of n new) (handed state command (job_of number new) it).0
+
+            by-command : (c : Command) → handed_by c ≡ Some it.new → verdict state c ≡ None → is_repeat state c ≡ false → Contains (after state c).0.jobs (job_of state.next new)
+            by-command (Queue job) e v f = subst (Contains (after state (Queue job)).0.jobs) (is job e) (queued state job v)
+            by-command (QueueOnce key job) e v f = subst (Contains (after state (QueueOnce key job)).0.jobs) (is job e) (queued_once state key job v f)
+            by-command (Define def) e v f = absurd (cc)
+            by-command (Remove name) e v f = absurd (cc)
+            by-command (Kill job by) e v f = absurd (cc)
+            by-command (Regrade job grade by) e v f = absurd (cc)
+            by-command (Rejuvenate job at by) e v f = absurd (cc)
+            by-command (Failed system at why) e v f = absurd (cc)
+            by-command (Done system at jobs) e v f = absurd (cc)
+            by-command (Entry bytes) e v f = absurd (cc)
+            by-command (Forget system below) e v f = absurd (cc)
+
+        -- a command that got a number was accepted
+        accepts : (state : State) (command : Command) → (after state command).1 ≡ Number number → verdict state command ≡ None
+        accepts state command told = by-verdict (verdict state command) refl told
+          where
+            by-verdict : (v : Option Refusal) → verdict state command ≡ v → (after_verdict v state command).1 ≡ Number number → verdict state command ≡ None
+            by-verdict None is told = is
+            by-verdict (Some refusal) is told = absurd (apart told)
+              where
+                apart : Refused refusal ≡ Number number → ⊥
+                apart q = cc
+
+        -- a job that was there first is there, or was let go
+        kept_from : (state : State) (commands : List Command) (job : Job) → Contains state.jobs job → job.number ≡ number → IsAmong (state_after state commands).jobs job ⊎ WasLetGo state commands number
+        kept_from state commands job there is = elim (all_or_one (λ c. lets_go c job.number) (accepted_of state commands)) [
+          | inl none ↦ inl (stays state commands job there none)
+          | inr one ↦ inr (one.0, one.1, ap (lets_go one.0) (sym is) ∙ one.2)
+        ]
+
+        module _ (counted : List Command) (new : NewJob) (it : Entered s counted new number) where
           abbrev at : State
           at = state_after s it.before
 
           abbrev then : State
-          then = (after at (Queue new)).0
+          then = (after at it.command).0
 
           next : (number ≡ at.next) × (then.next ≡ number + 1)
-          next = used at new number it.told
-
-          accepted : verdict at (Queue new) ≡ None
-          accepted = by-verdict (verdict at (Queue new)) refl it.told
-            where
-              by-verdict : (v : Option Refusal) → verdict at (Queue new) ≡ v → (after_verdict v at (Queue new)).1 ≡ Number number → verdict at (Queue new) ≡ None
-              by-verdict None is told = is
-              by-verdict (Some refusal) is told = absurd (apart told)
-                where
-                  apart : Refused refusal ≡ Number number → ⊥
-                  apart q = cc
+          next = let h = handed at it.command (job_of number new) it.made in (h.0, h.1)
 
           last : state_after s counted ≡ state_after then it.behind
-          last = ap (state_after s) it.is ∙ follow s it.before (Queue new ∷ it.behind)
+          last = ap (state_after s) it.is ∙ follow s it.before (it.command ∷ it.behind)
 
           -- every job of this number is the one that was handed in
           then_alone : (job : Job) → Contains then.jobs job → job.number ≡ number → IsSameJob (job_of number new) job
-          then_alone job there is = elim (made at (Queue new) job there) [
+          then_alone job there is = elim (made at it.command job there) [
             | inl was ↦ (let low = below it.before was.later was.there in let same = was.same.number in absurd (omega (arith, low, same, is, next.0)))
-            | inr ours ↦ subst (IsSameJob (job_of number new)) (sym (ours.job_is ∙ ap (λ n. job_of n ours.new) (sym next.0) ∙ ap (job_of number) (sym (new_of new ours.new ours.command_is)))) (itself (job_of number new))
+            | inr ours ↦ (
+              let same : ours.new ≡ it.made.new = new_of ours.new it.made.new (sym ours.command_is ∙ it.made.command_is) in
+              subst (IsSameJob (job_of number new)) (it.made.job_is ∙ ap (job_of at.next) (sym same) ∙ sym ours.job_is) (itself (job_of number new)))
           ]
 
           alone : (job : Job) → Contains (state_after then it.behind).jobs job → job.number ≡ number → IsSameJob (job_of number new) job
@@ -225,22 +267,57 @@ module _
           kept : IsThere (state_after then it.behind) new number ⊎ WasLetGo s counted number
           kept = elim (all_or_one (λ c. lets_go c number) (accepted_of then it.behind)) [
             | inl none ↦ inl (there none)
-            | inr one ↦ inr (one.0, subst (λ l. Contains l one.0) (sym (ap (accepted_of s) it.is ∙ accepted_append s it.before (Queue new ∷ it.behind))) (Contains-append_right (accepted_of s it.before) _ one.0 (behind_it one.0 one.1)), one.2)
+            | inr one ↦ inr (one.0, subst (λ l. Contains l one.0) (sym (ap (accepted_of s) it.is ∙ accepted_append s it.before (it.command ∷ it.behind))) (Contains-append_right (accepted_of s it.before) _ one.0 (behind_it one.0 one.1)), one.2)
           ]
             where
-              behind_it : (c : Command) → Contains (accepted_of then it.behind) c → Contains (accepted_of at (Queue new ∷ it.behind)) c
-              behind_it c h = subst (λ v. Contains (unless_refused v (Queue new) (accepted_of then it.behind)) c) (sym accepted) (later_of (Queue new) c (accepted_of then it.behind) h)
+              behind_it : (c : Command) → Contains (accepted_of then it.behind) c → Contains (accepted_of at (it.command ∷ it.behind)) c
+              behind_it c h = subst (λ v. Contains (unless_refused v it.command (accepted_of then it.behind)) c) (sym it.made.accepted) (later_of it.command c (accepted_of then it.behind) h)
 
               there : All (λ c. lets_go c number ≡ false) (accepted_of then it.behind) → IsThere (state_after then it.behind) new number
               there none =
                   let job = job_of number new in
-                  let first : Contains then.jobs job = subst (λ n. Contains then.jobs (job_of n new)) (sym next.0) (queued at new accepted) in
+                  let first : Contains then.jobs job = subst (λ n. Contains then.jobs (job_of n new)) (sym next.0) (enters at it.command new it.made) in
                   let among = stays then it.behind job first none in
                   let found = found_one (is_job number) (state_after then it.behind).jobs among.later among.there (has_number number among.later among.same.number) in
                   (found.0, found.1, alone found.0 found.2 (eqb-true found.0.number number found.3))
 
-          pub accounted : IsAccountedFor s counted new number
-          accounted = record {
+          accounted_in : IsAccountedFor s counted new number
+          accounted_in = record {
             kept = subst (λ t. IsThere t new number ⊎ WasLetGo s counted number) (sym last) kept;
             alone = λ job there is. alone job (subst (λ (t : State). Contains t.jobs job) last there) is;
           }
+
+        -- ---- what was told its number
+
+        -- the reply to what is handed in for the first time is its number
+        is_next : (state : State) (command : Command) (new : NewJob) → IsHandedIn state command (job_of state.next new) → (after state command).1 ≡ Number number → number ≡ state.next
+        is_next state command new it told = same (sym told ∙ (handed state command (job_of state.next new) it).2)
+          where
+            same : Number number ≡ Number state.next → number ≡ state.next
+            same e = cc
+
+        pub accounted : (counted : List Command) (new : NewJob) → Placed s counted (Queue new) (Number number) → IsAccountedFor s counted new number
+        accounted counted new it =
+            let at = state_after s it.before in
+            let taken = accepts at (Queue new) it.told in
+            let first : IsHandedIn at (Queue new) (job_of at.next new) = record { new = new; command_is = refl; accepted = taken; first = refl; job_is = refl } in
+            accounted_in counted new (record { before = it.before; command = Queue new; behind = it.behind; is = it.is;
+              made = record { new = new; command_is = refl; accepted = taken; first = refl; job_is = ap (λ n. job_of n new) (is_next at (Queue new) new first it.told) } })
+
+        pub accounted_under : ((state : State) (key : Key) (job : NewJob) (given : ℕ) → (after state (QueueOnce key job)).1 ≡ Number given → IsKept (after state (QueueOnce key job)).0 key given)
+            → ((state : State) (commands : List Command) (key : Key) (given : ℕ) → IsKept (state_after state commands) key given → IsKept state key given ⊎ ((first : NewJob) × IsFirstUnder state commands key first given))
+            → (counted : List Command) (key : Key) (new : NewJob) → Placed s counted (QueueOnce key new) (Number number) → IsAccountedForUnder s counted key number
+        accounted_under keeps origin counted key new it = by-origin (origin s (it.before ++ QueueOnce key new ∷ []) key number then_kept)
+          where
+            then_kept : IsKept (state_after s (it.before ++ QueueOnce key new ∷ [])) key number
+            then_kept = subst (λ t. IsKept t key number) (sym (follow s it.before (QueueOnce key new ∷ []))) (keeps (state_after s it.before) key new number it.told)
+
+            counted_is : counted ≡ (it.before ++ QueueOnce key new ∷ []) ++ it.behind
+            counted_is = it.is ∙ sym (append_assoc it.before (QueueOnce key new ∷ []) it.behind)
+
+            by-origin : IsKept s key number ⊎ ((first : NewJob) × IsFirstUnder s (it.before ++ QueueOnce key new ∷ []) key first number) → IsAccountedForUnder s counted key number
+            by-origin (inl was) = inl (record { kept = was; job = kept_from s counted })
+            by-origin (inr (first, h)) =
+                let is : counted ≡ h.before ++ QueueOnce key first ∷ (h.behind ++ it.behind) = counted_is ∙ ap (λ l. l ++ it.behind) h.run_is ∙ append_assoc h.before (QueueOnce key first ∷ h.behind) it.behind in
+                inr (first, record { before = h.before; behind = h.behind ++ it.behind; run_is = is; made = h.made },
+                accounted_in counted first (record { before = h.before; command = QueueOnce key first; behind = h.behind ++ it.behind; is = is; made = h.made }))

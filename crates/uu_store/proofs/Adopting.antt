@@ -10,6 +10,7 @@ use Rattle.sqlite_catalog.specs.Listing.{IsSound}
 use Rattle.uu_sql.specs.Steps.{Rests}
 use Rattle.uu_core.specs.declared.command.Command.{Command}
 use Rattle.uu_core.specs.declared.command.Reply.{Reply}
+use Rattle.uu_core.specs.declared.custody.Key.{Key}
 use Rattle.uu_core.specs.declared.job.NewJob.{NewJob}
 use Rattle.uu_core.specs.State.{State}
 use Rattle.uu_core.specs.Run.{state_after}
@@ -28,7 +29,7 @@ use Rattle.uu_store.specs.Runs.{Ran}
 use Rattle.uu_store.specs.Stretches.{Adopted, TurnedAway, IsLetGo, Passed, StoresAfter, StretchOver, Led, stretch, told}
 use Rattle.uu_store.specs.Exchanges.{exchange_of, not_given}
 use Rattle.uu_store.specs.Openings.{IsNotTaken}
-use Rattle.uu_store.specs.Acknowledged.{IsAcknowledged, StoresJob}
+use Rattle.uu_store.specs.Acknowledged.{IsAcknowledged, IsAcknowledgedUnder, StoresJob, StoresUnder}
 use Rattle.uu_store.specs.Remembered.{Remembers}
 use Rattle.uu_database.proofs.Settling.{Settles}
 use Rattle.uu_store.proofs.Ending.{shows_again, clean_before}
@@ -94,8 +95,10 @@ module _ {S : Type 0} (g : Ghosts S) (opened : Held S) (commands : List Command)
 module _ {S : Type 0} {g : Ghosts S} (found : Held S) (spool : Spool S g) (adopted : Adopted found spool) where
   pub remembers : ((s : State) (before : Held S) (stretches : List (StretchOver S)) → Led g s before stretches found → ∥ StoresAfter s (told g stretches) (state g found) ∥₁)
       → ((s : State) (before : Held S) (stretches : List (StretchOver S)) (new : NewJob) (number : ℕ) → Led g s before stretches found → IsAcknowledged (told g stretches) new number → ∥ StoresJob s (told g stretches) new number (state g found) ∥₁)
+      → ((s : State) (before : Held S) (stretches : List (StretchOver S)) (key : Key) (new : NewJob) (number : ℕ) → Led g s before stretches found → IsAcknowledgedUnder (told g stretches) key new number → ∥ StoresUnder s (told g stretches) key number (state g found) ∥₁)
       → Remembers found spool
-  remembers commands jobs = record {
+  remembers commands jobs keys = record {
     commands = λ clean s before stretches led. ∥∥₁_map (commands s before stretches led) (λ then. (then.0, then.1, adopted.shows clean (state_after s then.0) then.2 then.3));
     jobs = λ clean s before stretches led new number acknowledged. ∥∥₁_map (jobs s before stretches new number led acknowledged) (λ then. (then.0, then.1, adopted.shows clean (state_after s then.0) then.2 then.3, then.4));
+    keys = λ clean s before stretches led key new number acknowledged. ∥∥₁_map (keys s before stretches key new number led acknowledged) (λ then. (then.0, then.1, adopted.shows clean (state_after s then.0) then.2 then.3, then.4));
   }

@@ -1,5 +1,5 @@
 -- Stretches of work over files.
-use Rattle.std.proofs.Common.{◌⊎◌, inl, inr, ℕ, List, [], ◌∷◌, ◌++◌, Option, refl, sym, ap, subst, arith}
+use Rattle.std.proofs.Common.{◌⊎◌, inl, inr, ℕ, List, [], ◌∷◌, ◌++◌, Option, refl, sym, ap, subst, ◌∙◌, arith}
 use Rattle.std.proofs.Math.Logic.{∥∥₁_elim, ∥∥₁_map}
 use Rattle.std.specs.Prelude.{IsTrue}
 use Rattle.sqlite_disk.specs.declared.Disk as disk
@@ -26,10 +26,9 @@ use Rattle.uu_store.specs.Spool.{connection_of, disk}
 use Rattle.uu_store.specs.Runs.{Ran}
 use Rattle.uu_store.specs.Exchanges.{Exchange, exchange_of, Counts, Passes}
 use Rattle.uu_store.specs.Stretches.{Stretch, IsLetGo, stretch}
-use Rattle.uu_store.specs.Acknowledged.{IsAcknowledged, IsAccountedFor}
 use Rattle.uu_store.specs.Openings.{ImageKeeps, Started}
 use Rattle.uu_store.specs.Closing.{IsClosed}
-use Rattle.uu_store.specs.Files.{End, not_started, let_go, closed, FileStretch, IsOverFiles, IsOverClosed, Ended, AllFilesPassed, last_left, file_exchanges, KeepsAfter, KeepsJob, IsStretch, IsClosedStretch}
+use Rattle.uu_store.specs.Files.{End, not_started, let_go, closed, FileStretch, IsOverFiles, IsOverClosed, Ended, AllFilesPassed, last_left, file_exchanges, KeepsThroughout, AllKeep, KeepsAfter, IsStretch, IsClosedStretch}
 use Rattle.uu_store.proofs.Running.{StatesFollow, RepliesFollow}
 use Rattle.uu_store.proofs.Reopening.{LeavesTwo, leaves_two}
 use Rattle.uu_store.proofs.Accounting.{good_of}
@@ -47,7 +46,7 @@ of_two : (it : Stretch) (s : State) (l : LeavesTwo it s) (left : Image) (trees :
 of_two it s l left trees held (inl kept) = (l.one, l.counts_one, inl (trees, held, kept))
 of_two it s l left trees held (inr kept) = (l.other, l.counts_other, inl (trees, held, kept))
 
-module _ (states : StatesFollow) (answers : RepliesFollow) where
+module _ (answers : RepliesFollow) where
   over_them : {D : Type 0} {g : disk.Ghosts D} (before : Image) (exchange : Exchange) (opened : Held (FileStore D g)) (stopped : FileStore D g) (left : Image) (s : State) → ImageKeeps before s
       → IsOverFiles before exchange opened stopped left → ∥ OneCounts exchange s left ∥₁
   over_them before exchange opened stopped left s keeps is =
@@ -71,13 +70,24 @@ module _ (states : StatesFollow) (answers : RepliesFollow) where
   ended before exchange left (let_go D g opened stopped) s keeps is = over_them before exchange opened stopped left s keeps is
   ended before exchange left (closed D g opened files) s keeps is = over_closed before exchange opened files left s keeps is
 
-  pub files_pass : (stretches : List FileStretch) (before : Image) (s : State) → ImageKeeps before s → AllFilesPassed before stretches → ∥ KeepsAfter s stretches (last_left before stretches) ∥₁
-  files_pass [] before s keeps all = ∣ ([], refl, keeps) ∣₁
-  files_pass (it ∷ more) before s keeps all =
-      ∥∥₁_elim (ended before it.exchange it.left it.end s keeps all.0) squash₁ (λ one. ∥∥₁_map (files_pass more it.left (state_after s one.0) one.2 all.1) (next one))
+  pub all_keep : (stretches : List FileStretch) (before : Image) (s : State) → ImageKeeps before s → AllFilesPassed before stretches → ∥ AllKeep s before stretches ∥₁
+  all_keep [] before s keeps all = ∣ ([], (refl, keeps)) ∣₁
+  all_keep (it ∷ more) before s keeps all =
+      ∥∥₁_elim (ended before it.exchange it.left it.end s keeps all.0) squash₁ (λ one. ∥∥₁_map (all_keep more it.left (state_after s one.0) one.2 all.1) (next one))
     where
-      next : (one : OneCounts it.exchange s it.left) → KeepsAfter (state_after s one.0) more (last_left it.left more) → KeepsAfter s (it ∷ more) (last_left it.left more)
-      next (here, counts, kept) (later, passes, still) = (here ++ later, (here, later, refl, counts, passes), subst (ImageKeeps (last_left it.left more)) (sym (states s here later)) still)
+      next : (one : OneCounts it.exchange s it.left) → AllKeep (state_after s one.0) it.left more → AllKeep s before (it ∷ more)
+      next (here, counts, kept) (later, then) = (here ++ later, (keeps, here, later, refl, counts, then))
+
+-- so behind the last stretch they keep the state after the commands that count
+kept_last : StatesFollow → (stretches : List FileStretch) (before : Image) (s : State) (counted : List Command) → KeepsThroughout s before stretches counted
+    → Passes s (file_exchanges stretches) counted × ImageKeeps (last_left before stretches) (state_after s counted)
+kept_last states [] before s counted (none, keeps) = (none, subst (λ l. ImageKeeps before (state_after s l)) (sym none) keeps)
+kept_last states (it ∷ more) before s counted (was, here, later, is, counts, then) =
+    let rest = kept_last states more it.left (state_after s here) later then in
+    ((here, later, is, counts, rest.0), subst (ImageKeeps (last_left it.left more)) (sym (ap (state_after s) is ∙ states s here later)) rest.1)
+
+pub files_pass : StatesFollow → RepliesFollow → (stretches : List FileStretch) (before : Image) (s : State) → ImageKeeps before s → AllFilesPassed before stretches → ∥ KeepsAfter s stretches (last_left before stretches) ∥₁
+files_pass states answers stretches before s keeps all = ∥∥₁_map (all_keep answers stretches before s keeps all) (λ it. (let last = kept_last states stretches before s it.0 it.1 in (it.0, last.0, last.1)))
 
 -- ---- the jobs whose numbers were told
 
@@ -85,12 +95,16 @@ good_in : IsWellFormed empty → (image : Image) (s : State) → ImageKeeps imag
 good_in none image s (inl held) = good_of none held.0 s held.2
 good_in none image s (inr nothing) = subst IsWellFormed (sym nothing.1) none
 
-pub jobs_pass : IsWellFormed empty
-    → ((s : State) (told : List Exchange) (counted : List Command) (new : NewJob) (number : ℕ) → IsWellFormed s → Passes s told counted → IsAcknowledged told new number → IsAccountedFor s counted new number)
-    → (stretches : List FileStretch) (before left : Image) (s : State) (new : NewJob) (number : ℕ) → ImageKeeps before s → IsAcknowledged (file_exchanges stretches) new number → ∥ KeepsAfter s stretches left ∥₁
-    → ∥ KeepsJob s (file_exchanges stretches) new number left ∥₁
-jobs_pass none account stretches before left s new number keeps told after =
-    ∥∥₁_map after (λ then. (then.0, then.1, then.2, account s (file_exchanges stretches) then.0 new number (good_in none before s keeps) then.1 told))
+-- the files keep the state after commands that count, of which this is so
+abbrev KeepsWith : State → List Exchange → (List Command → Type 0) → Image → Type 0
+KeepsWith s told Claim left = (counted : List Command) × Passes s told counted × ImageKeeps left (state_after s counted) × Claim counted
+
+-- what is so of a well-formed state and what counts is so with what the files keep
+pub claims_pass : IsWellFormed empty → (stretches : List FileStretch) (before left : Image) (s : State) (Claim : List Command → Type 0) → ImageKeeps before s
+    → (IsWellFormed s → (counted : List Command) → Passes s (file_exchanges stretches) counted → Claim counted) → ∥ KeepsAfter s stretches left ∥₁
+    → ∥ KeepsWith s (file_exchanges stretches) Claim left ∥₁
+claims_pass none stretches before left s Claim keeps account after =
+    ∥∥₁_map after (λ then. (then.0, then.1, then.2, account (good_in none before s keeps) then.0 then.1))
 
 -- ---- a stretch, by what its calls ensure
 

@@ -22,8 +22,8 @@ use Rattle.uu_schema.specs.declared.fault.StoreFault.TheVariants.{Memory, Store,
 use Rattle.uu_store.specs.Kept.{Stores, Keeps, KeepsOnly, KeepsEither}
 use Rattle.uu_store.specs.Spool.{disk, Shows}
 use Rattle.uu_store.specs.Runs.{GoesOn}
-use Rattle.uu_store.specs.Exchanges.{Exchange, IsSettled, Counts}
-use Rattle.uu_store.specs.Stretches.{Stretch, opened_as, left_by, Worked, Unworked, Passed, Reopens, LeadTo, exchanges, StoresAfter}
+use Rattle.uu_store.specs.Exchanges.{Exchange, IsSettled, Counts, Passes}
+use Rattle.uu_store.specs.Stretches.{Stretch, opened_as, left_by, Worked, Unworked, Passed, Reopens, LeadTo, exchanges, StoresThroughout, AllStore, StoresAfter}
 use Rattle.uu_store.proofs.Running.{StatesFollow, RepliesFollow, take_next}
 
 pub simple_of : (v : Version) → IsSimple (site_of v)
@@ -148,40 +148,48 @@ counted it s l t (inr is) = (l.other, l.counts_other, is)
 
 -- from one of two states on
 abbrev GoesFrom : State → State → List Stretch → db.State → Type 0
-GoesFrom a b more found = (t : State) × ((t ≡ a) ⊎ (t ≡ b)) × StoresAfter t (exchanges more) found
+GoesFrom a b more found = (t : State) × ((t ≡ a) ⊎ (t ≡ b)) × AllStore t more found
 
 abbrev Goes : (Trees → Type 0) → List Stretch → db.State → Type 0
 Goes could_leave more found = (a b : State) → KeepsEither could_leave a b → ∥ GoesFrom a b more found ∥₁
 
-module _ (states : StatesFollow) (answers : RepliesFollow) where
-  -- one more exchange before others
-  pub passes_more : (it : Exchange) (more : List Exchange) (s : State) (here : List Command) (found : db.State) → Counts it s here → StoresAfter (state_after s here) more found → StoresAfter s (it ∷ more) found
-  passes_more it more s here found counts then =
-      (here ++ then.0, (here, then.0, refl, counts, then.1), then.2, subst (Stores found.now) (sym (states s here then.0)) then.3)
-
-  one_more : (it : Stretch) (more : List Stretch) (found : db.State) (s : State) → Passed it → Rests (opened_as it) → Stores (opened_as it).now s → Goes (left_by it) more found → ∥ StoresAfter s (exchanges (it ∷ more)) found ∥₁
+module _ (answers : RepliesFollow) where
+  one_more : (it : Stretch) (more : List Stretch) (found : db.State) (s : State) → Passed it → Rests (opened_as it) → Stores (opened_as it).now s → Goes (left_by it) more found → ∥ AllStore s (it ∷ more) found ∥₁
   one_more it more found s passed rests stores goes = let l = leaves_two answers it s passed rests stores in ∥∥₁_map (goes (state_after s l.one) (state_after s l.other) l.keeps) (next l)
     where
-      next : (l : LeavesTwo it s) → GoesFrom (state_after s l.one) (state_after s l.other) more found → StoresAfter s (exchanges (it ∷ more)) found
-      next l (t, which, then) = let c = counted it s l t which in passes_more it.exchange (exchanges more) s c.0 found c.1 (subst (λ u. StoresAfter u (exchanges more) found) c.2 then)
+      next : (l : LeavesTwo it s) → GoesFrom (state_after s l.one) (state_after s l.other) more found → AllStore s (it ∷ more) found
+      next l (t, which, (later, then)) =
+          let c = counted it s l t which in
+          (c.0 ++ later, (rests, stores, c.0, later, refl, c.1, subst (λ u. StoresThroughout u more found later) c.2 then))
 
   passes : (stretches : List Stretch) (could_leave : Trees → Type 0) (found : db.State) → LeadTo could_leave stretches found → Goes could_leave stretches found
   passes [] could_leave found reopens a b keeps = ∥∥₁_map (stores_either could_leave found reopens a b keeps) ends
     where
       ends : Stores found.now a ⊎ Stores found.now b → GoesFrom a b [] found
-      ends (inl h) = (a, inl refl, ([], refl, reopens.rests, h))
-      ends (inr h) = (b, inr refl, ([], refl, reopens.rests, h))
+      ends (inl h) = (a, inl refl, ([], (refl, reopens.rests, h)))
+      ends (inr h) = (b, inr refl, ([], (refl, reopens.rests, h)))
   passes (it ∷ more) could_leave found lead a b keeps = ∥∥₁_elim (stores_either could_leave (opened_as it) lead.0 a b keeps) squash₁ (next (passes more (left_by it) found lead.2))
     where
       next : Goes (left_by it) more found → Stores (opened_as it).now a ⊎ Stores (opened_as it).now b → ∥ GoesFrom a b (it ∷ more) found ∥₁
       next goes (inl h) = ∥∥₁_map (one_more it more found a lead.1 lead.0.rests h goes) (λ then. (a, inl refl, then))
       next goes (inr h) = ∥∥₁_map (one_more it more found b lead.1 lead.0.rests h goes) (λ then. (b, inr refl, then))
 
-  pub passes_from : (stretches : List Stretch) (could_leave : Trees → Type 0) (found : db.State) (s : State) → KeepsOnly could_leave s → LeadTo could_leave stretches found → ∥ StoresAfter s (exchanges stretches) found ∥₁
-  passes_from stretches could_leave found s leaves lead = ∥∥₁_map (passes stretches could_leave found lead s s (λ trees may. inl (leaves trees may))) same
+  pub all_store : (stretches : List Stretch) (could_leave : Trees → Type 0) (found : db.State) (s : State) → KeepsOnly could_leave s → LeadTo could_leave stretches found → ∥ AllStore s stretches found ∥₁
+  all_store stretches could_leave found s leaves lead = ∥∥₁_map (passes stretches could_leave found lead s s (λ trees may. inl (leaves trees may))) same
     where
-      same : GoesFrom s s stretches found → StoresAfter s (exchanges stretches) found
-      same (t, which, then) = let is : t ≡ s = elim which [ inl h ↦ h | inr h ↦ h ] in subst (λ u. StoresAfter u (exchanges stretches) found) is then
+      same : GoesFrom s s stretches found → AllStore s stretches found
+      same (t, which, then) = let is : t ≡ s = elim which [ inl h ↦ h | inr h ↦ h ] in subst (λ u. AllStore u stretches found) is then
+
+-- so the last opening found the state after the commands that count
+pub at_last : StatesFollow → (stretches : List Stretch) (found : db.State) (s : State) (counted : List Command) → StoresThroughout s stretches found counted → Passes s (exchanges stretches) counted × Rests found × Stores found.now (state_after s counted)
+at_last states [] found s counted (none, rests, stores) = (none, rests, subst (λ l. Stores found.now (state_after s l)) (sym none) stores)
+at_last states (it ∷ more) found s counted (was, stored, here, later, is, counts, then) =
+    let rest = at_last states more found (state_after s here) later then in
+    ((here, later, is, counts, rest.0), rest.1, subst (Stores found.now) (sym (ap (state_after s) is ∙ states s here later)) rest.2)
+
+pub passes_from : StatesFollow → RepliesFollow → (stretches : List Stretch) (could_leave : Trees → Type 0) (found : db.State) (s : State) → KeepsOnly could_leave s → LeadTo could_leave stretches found → ∥ StoresAfter s (exchanges stretches) found ∥₁
+passes_from states answers stretches could_leave found s leaves lead =
+    ∥∥₁_map (all_store answers stretches could_leave found s leaves lead) (λ all. (let it = at_last states stretches found s all.0 all.1 in (all.0, it.0, it.1, it.2)))
 
 -- ---- what could be left is there
 

@@ -4,13 +4,14 @@ use Rattle.sqlite.specs.State as db
 use Rattle.sqlite.specs.Store.{Ghosts}
 use Rattle.uu_sql.specs.Steps.{Rests}
 use Rattle.uu_core.specs.declared.command.Command.{Command}
-use Rattle.uu_core.specs.declared.command.Command.TheVariants.{Queue}
+use Rattle.uu_core.specs.declared.command.Command.TheVariants.{Queue, QueueOnce}
 use Rattle.uu_core.specs.declared.command.Reply.TheVariants.{Number}
+use Rattle.uu_core.specs.declared.custody.Key.{Key}
 use Rattle.uu_core.specs.declared.job.NewJob.{NewJob}
 use Rattle.uu_core.specs.State.{State, Job, job_at}
 use Rattle.uu_core.specs.After.{job_of}
 use Rattle.uu_core.specs.Run.{state_after}
-use Rattle.uu_core.specs.Laws.{accepted_of, lets_go, IsSameJob}
+use Rattle.uu_core.specs.Laws.{accepted_of, lets_go, IsSameJob, IsAmong, IsKept, IsFirstUnder}
 use Rattle.uu_store.specs.declared.spool.Spool.{Spool}
 use Rattle.uu_store.specs.Kept.{Stores}
 use Rattle.uu_store.specs.Spool.{Shows}
@@ -42,3 +43,32 @@ StoresJob s told new number found = (counted : List Command) × Passes s told co
 -- the spool shows the state after the commands that count, and the job is accounted for by these
 abbrev pub ShowsJob : {S : Type 0} {g : Ghosts S} → State → List Exchange → NewJob → ℕ → Spool S g → Type 0
 ShowsJob s told new number spool = (counted : List Command) × Passes s told counted × Shows spool (state_after s counted) × IsAccountedFor s counted new number
+
+-- ---- under a key
+
+-- a job was handed in under the key, and the reply was this number
+abbrev pub IsAcknowledgedUnder : List Exchange → Key → NewJob → ℕ → Type 0
+IsAcknowledgedUnder exchanges key new number = (it : Exchange) × Contains exchanges it × Contains (zip it.commands it.replies) (QueueOnce key new, Number number)
+
+-- The key was kept with the number before the first of the commands. A job that was there under this
+-- number is there, or an accepted command let it go.
+pub record WasKept (s : State) (counted : List Command) (key : Key) (number : ℕ) : Type 0 where
+  pub kept : IsKept s key number
+  pub job : (job : Job) → Contains s.jobs job → job.number ≡ number → IsAmong (state_after s counted).jobs job ⊎ WasLetGo s counted number
+
+-- The job of the number is the one that was handed in first under the key, mark and all, whichever
+-- attempt the number was told to. It is accounted for by the commands that count, of which one
+-- handed it in, unless the key was kept before them.
+abbrev pub IsAccountedForUnder : State → List Command → Key → ℕ → Type 0
+IsAccountedForUnder s counted key number =
+    WasKept s counted key number ⊎ ((first : NewJob) × IsFirstUnder s counted key first number × IsAccountedFor s counted first number)
+
+-- what was found stores the state after the commands that count, and the job under the key is
+-- accounted for by these
+abbrev pub StoresUnder : State → List Exchange → Key → ℕ → db.State → Type 0
+StoresUnder s told key number found = (counted : List Command) × Passes s told counted × Rests found × Stores found.now (state_after s counted) × IsAccountedForUnder s counted key number
+
+-- the spool shows the state after the commands that count, and the job under the key is accounted
+-- for by these
+abbrev pub ShowsUnder : {S : Type 0} {g : Ghosts S} → State → List Exchange → Key → ℕ → Spool S g → Type 0
+ShowsUnder s told key number spool = (counted : List Command) × Passes s told counted × Shows spool (state_after s counted) × IsAccountedForUnder s counted key number

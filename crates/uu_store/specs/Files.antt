@@ -1,5 +1,5 @@
 -- Stretches of work over the two files of a spool, each from an opening by path to a stop.
-use Rattle.std.specs.Prelude.{◌≡◌, ℕ, List, [], ◌∷◌, map, IsTrue, ⊤}
+use Rattle.std.specs.Prelude.{◌≡◌, ℕ, List, [], ◌∷◌, ◌++◌, map, IsTrue, ⊤}
 use Rattle.sqlite_disk.specs.declared.Disk as disk
 use Rattle.sqlite_disk.specs.declared.Files.{Files}
 use Rattle.sqlite_wal.specs.Recovery.{Image}
@@ -11,12 +11,13 @@ use Rattle.sqlite.specs.Held.{Held}
 use Rattle.sqlite.specs.View.{IsClean}
 use Rattle.sqlite.specs.Files.{over_files, file_state}
 use Rattle.uu_core.specs.declared.command.Command.{Command}
+use Rattle.uu_core.specs.declared.custody.Key.{Key}
 use Rattle.uu_core.specs.declared.job.NewJob.{NewJob}
 use Rattle.uu_core.specs.State.{State}
 use Rattle.uu_core.specs.Run.{state_after}
 use Rattle.uu_store.specs.declared.spool.Spool.{Spool}
-use Rattle.uu_store.specs.Exchanges.{Exchange, none_given, not_given, Passes}
-use Rattle.uu_store.specs.Acknowledged.{IsAccountedFor}
+use Rattle.uu_store.specs.Exchanges.{Exchange, none_given, not_given, Counts, Passes}
+use Rattle.uu_store.specs.Acknowledged.{IsAccountedFor, IsAccountedForUnder}
 use Rattle.uu_store.specs.Stretches.{Passed, stretch}
 use Rattle.uu_store.specs.Openings.{ImageKeeps, IsFound}
 use Rattle.uu_store.specs.Closing.{IsClosed}
@@ -79,9 +80,23 @@ file_exchanges stretches = map (λ (it : FileStretch). it.exchange) stretches
 abbrev pub KeepsAfter : State → List FileStretch → Image → Type 0
 KeepsAfter s stretches image = (counted : List Command) × Passes s (file_exchanges stretches) counted × ImageKeeps image (state_after s counted)
 
+-- Before each of the stretches, and behind the last, the files keep the state after the commands
+-- that count until then: one choice of what counts serves all of them.
+abbrev pub KeepsThroughout : State → Image → List FileStretch → List Command → Type 0
+KeepsThroughout s before [] counted = (counted ≡ []) × ImageKeeps before s
+KeepsThroughout s before (it ∷ more) counted =
+    ImageKeeps before s × (here : List Command) × (later : List Command) × (counted ≡ here ++ later) × Counts it.exchange s here × KeepsThroughout (state_after s here) it.left more later
+
+abbrev pub AllKeep : State → Image → List FileStretch → Type 0
+AllKeep s before stretches = (counted : List Command) × KeepsThroughout s before stretches counted
+
 -- the files keep the state after the commands that count, and the job is accounted for by these
 abbrev pub KeepsJob : State → List Exchange → NewJob → ℕ → Image → Type 0
 KeepsJob s told new number image = (counted : List Command) × Passes s told counted × ImageKeeps image (state_after s counted) × IsAccountedFor s counted new number
+
+-- the same of the job under a key
+abbrev pub KeepsUnder : State → List Exchange → Key → ℕ → Image → Type 0
+KeepsUnder s told key number image = (counted : List Command) × Passes s told counted × ImageKeeps image (state_after s counted) × IsAccountedForUnder s counted key number
 
 -- ---- the stretches that calls make
 

@@ -3,17 +3,20 @@ use Rattle.std.specs.Prelude.{ℕ, List}
 use Rattle.sqlite.specs.Store.{Ghosts}
 use Rattle.sqlite.specs.Held.{Held}
 use Rattle.sqlite.specs.State as db
+use Rattle.uu_core.specs.declared.custody.Key.{Key}
 use Rattle.uu_core.specs.declared.job.NewJob.{NewJob}
 use Rattle.uu_core.specs.State.{State}
 use Rattle.uu_store.specs.declared.spool.Spool.{Spool}
 use Rattle.uu_store.specs.Spool.{disk}
 use Rattle.uu_store.specs.Stretches.{StretchOver, Led, ShowsAfter, told}
-use Rattle.uu_store.specs.Acknowledged.{IsAcknowledged, ShowsJob}
+use Rattle.uu_store.specs.Acknowledged.{IsAcknowledged, IsAcknowledgedUnder, ShowsJob, ShowsUnder}
 
 -- Whatever stretches led to the connection that it was made of, it shows the state after every
 -- command that was answered, and at most one more of each stretch in which the store failed, and
--- each job whose number was told, unless an accepted command let it go.
+-- each job whose number was told, also under a key, unless an accepted command let it go.
 pub record Remembers {S : Type 0} {g : Ghosts S} (found : Held S) (spool : Spool S g) : Type 0 where
   pub commands : db.HasCleanDisk (disk spool) → (s : State) (before : Held S) (stretches : List (StretchOver S)) → Led g s before stretches found → ∥ ShowsAfter s (told g stretches) spool ∥₁
   pub jobs : db.HasCleanDisk (disk spool) → (s : State) (before : Held S) (stretches : List (StretchOver S)) → Led g s before stretches found
       → (new : NewJob) (number : ℕ) → IsAcknowledged (told g stretches) new number → ∥ ShowsJob s (told g stretches) new number spool ∥₁
+  pub keys : db.HasCleanDisk (disk spool) → (s : State) (before : Held S) (stretches : List (StretchOver S)) → Led g s before stretches found
+      → (key : Key) (new : NewJob) (number : ℕ) → IsAcknowledgedUnder (told g stretches) key new number → ∥ ShowsUnder s (told g stretches) key number spool ∥₁

@@ -1,6 +1,6 @@
 -- Stretches of work over a store: each from an opening to a stop, and the next opening finds what
 -- that stop may have left.
-use Rattle.std.specs.Prelude.{◌≡◌, ◌⊎◌, ◌≤◌, IsTrue, List, [], ◌∷◌, map, Option}
+use Rattle.std.specs.Prelude.{◌≡◌, ◌⊎◌, ◌≤◌, IsTrue, List, [], ◌∷◌, ◌++◌, map, Option}
 use Rattle.sqlite.specs.Tree.{Trees}
 use Rattle.sqlite.specs.Store.{Ghosts}
 use Rattle.sqlite.specs.Held.{Held, state}
@@ -17,7 +17,7 @@ use Rattle.uu_database.specs.Calls.{StaysUnclean}
 use Rattle.uu_store.specs.Kept.{Stores, KeepsOnly}
 use Rattle.uu_store.specs.Spool.{connection_of, disk, Shows}
 use Rattle.uu_store.specs.Runs.{Ran}
-use Rattle.uu_store.specs.Exchanges.{Exchange, none_given, given, Passes}
+use Rattle.uu_store.specs.Exchanges.{Exchange, none_given, given, Counts, Passes}
 
 -- ---- the calls at both ends
 
@@ -110,6 +110,17 @@ exchanges stretches = map (λ (it : Stretch). it.exchange) stretches
 -- what was found stores the state after commands that count
 abbrev pub StoresAfter : State → List Exchange → db.State → Type 0
 StoresAfter s exchanges found = (counted : List Command) × Passes s exchanges counted × Rests found × Stores found.now (state_after s counted)
+
+-- Each opening on the way, and the last one, found the state after the commands that count until
+-- then: one choice of what counts serves all of them.
+abbrev pub StoresThroughout : State → List Stretch → db.State → List Command → Type 0
+StoresThroughout s [] found counted = (counted ≡ []) × Rests found × Stores found.now s
+StoresThroughout s (it ∷ more) found counted =
+    Rests (opened_as it) × Stores (opened_as it).now s × (here : List Command) × (later : List Command) × (counted ≡ here ++ later) × Counts it.exchange s here
+    × StoresThroughout (state_after s here) more found later
+
+abbrev pub AllStore : State → List Stretch → db.State → Type 0
+AllStore s stretches found = (counted : List Command) × StoresThroughout s stretches found counted
 
 -- the spool shows the state after commands that count
 abbrev pub ShowsAfter : {S : Type 0} {g : Ghosts S} → State → List Exchange → Spool S g → Type 0

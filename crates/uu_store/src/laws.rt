@@ -1,5 +1,5 @@
 //! What follows from the definitions.
-ghost use Rattle.std.specs.Prelude.{◌≡◌, ◌++◌, ℕ, List, length, take, Option, None, IsTrue, []};
+ghost use Rattle.std.specs.Prelude.{◌≡◌, ◌++◌, ℕ, List, length, map, take, Option, None, IsTrue, []};
 ghost use Rattle.sqlite_disk.specs.declared.Files.{Files};
 ghost use Rattle.sqlite_store.specs.declared.store.FileStore.{FileStore};
 ghost use Rattle.sqlite.specs.declared.file.Leftover.{Leftover};
@@ -16,6 +16,7 @@ ghost use Rattle.sqlite_wal.specs.Recovery.{Image};
 ghost use Rattle.uu_sql.specs.Steps.{Rests};
 ghost use Rattle.uu_core.specs.declared.command.Command.{Command};
 ghost use Rattle.uu_core.specs.declared.command.Reply.{Reply};
+ghost use Rattle.uu_core.specs.declared.custody.Key.{Key};
 ghost use Rattle.uu_core.specs.declared.job.NewJob.{NewJob};
 ghost use Rattle.uu_core.specs.State.{State, IsWellFormed};
 ghost use Rattle.uu_schema.specs.declared.fault.StoreFault.{StoreFault};
@@ -32,9 +33,9 @@ ghost use Rattle.uu_store.specs.Spool.{connection_of};
 ghost use Rattle.uu_store.specs.Kept.{Stores, KeepsOnly};
 ghost use Rattle.uu_store.specs.Runs.{GoesOn, Ran};
 ghost use Rattle.uu_store.specs.Exchanges.{Exchange, exchange_of, Passes};
-ghost use Rattle.uu_store.specs.Stretches.{Stretch, StretchOver, IsLetGo, Reopens, LeadTo, StoresAfter, Led, exchanges, told};
-ghost use Rattle.uu_store.specs.Acknowledged.{IsAcknowledged, IsAccountedFor, StoresJob};
-ghost use Rattle.uu_store.specs.Files.{FileStretch, FilePassed, AllFilesPassed, last_left, file_exchanges, KeepsAfter, KeepsJob, IsStretch, IsClosedStretch};
+ghost use Rattle.uu_store.specs.Stretches.{Stretch, StretchOver, IsLetGo, Reopens, LeadTo, AllStore, StoresAfter, Led, exchanges, over, told};
+ghost use Rattle.uu_store.specs.Acknowledged.{IsAcknowledged, IsAcknowledgedUnder, IsAccountedFor, IsAccountedForUnder, StoresJob, StoresUnder};
+ghost use Rattle.uu_store.specs.Files.{FileStretch, FilePassed, AllFilesPassed, last_left, file_exchanges, AllKeep, KeepsAfter, KeepsJob, KeepsUnder, IsStretch, IsClosedStretch};
 ghost use Rattle.uu_store.specs.Files.{let_go_after, closed_after, not_started_for};
 ghost use Rattle.uu_store.specs.Openings.{ImageKeeps, IsTakenAsMade, LeavesAsKept, Started, may_be_left};
 ghost use Rattle.uu_store.specs.declared.remains.Remains.TheVariants as remains;
@@ -43,8 +44,8 @@ use sqlite::Alter;
 use sqlite_disk::Disk;
 use uu_check::laws::{tables_are_in_order, tables_are_readable, tables_tell_the_state};
 use uu_core::laws::{
-    jobs_are_handed_in, jobs_stay_through_runs, numbers_are_not_used_again,
-    runs_follow_one_another, states_stay_well_formed,
+    jobs_are_handed_in, jobs_stay_through_runs, keys_are_answered_again,
+    numbers_are_not_used_again, runs_follow_one_another, states_stay_well_formed,
 };
 
 /// A database encodes at most one state, by the tables of at most one version: whatever a call says
@@ -99,12 +100,16 @@ pub trait History {
 /// Whatever commands a spool is given, over any stretches, and wherever each of them is stopped:
 /// what is found then stores exactly the state that the machine reaches by the commands that count.
 /// Of each stretch these are a prefix, with every command that was answered, as it was answered,
-/// and where the store failed at most one more. A job whose number was told is there, unless an
-/// accepted command let it go.
+/// and where the store failed at most one more; and each opening on the way found what counts until
+/// then (`throughout`). A job whose number was told is there, unless an accepted command let it go;
+/// where it was told to a key, that is so of the job that was handed in first under it (`keys`).
 pub fn no_answered_command_is_lost<H: History>()
     ensures commands { (s : State) → KeepsOnly H.before s → LeadTo H.before H.stretches H.found → ∥ StoresAfter s (exchanges H.stretches) H.found ∥₁ }
     ensures jobs { (s : State) (new : NewJob) (number : ℕ) → KeepsOnly H.before s → LeadTo H.before H.stretches H.found
         → IsAcknowledged (exchanges H.stretches) new number → ∥ StoresJob s (exchanges H.stretches) new number H.found ∥₁ }
+    ensures keys { (s : State) (key : Key) (new : NewJob) (number : ℕ) → KeepsOnly H.before s → LeadTo H.before H.stretches H.found
+        → IsAcknowledgedUnder (exchanges H.stretches) key new number → ∥ StoresUnder s (exchanges H.stretches) key number H.found ∥₁ }
+    ensures throughout { (s : State) → KeepsOnly H.before s → LeadTo H.before H.stretches H.found → ∥ AllStore s H.stretches H.found ∥₁ }
 {
     runs_follow_one_another();
     states_stay_well_formed();
@@ -118,6 +123,10 @@ pub fn no_answered_command_is_lost_over<S: Alter>()
         → Led S.Store s before stretches found → ∥ StoresAfter s (told S.Store stretches) (state S.Store found) ∥₁ }
     ensures jobs { (s : State) (before : Held S) (stretches : List (StretchOver S)) (found : Held S) (new : NewJob) (number : ℕ)
         → Led S.Store s before stretches found → IsAcknowledged (told S.Store stretches) new number → ∥ StoresJob s (told S.Store stretches) new number (state S.Store found) ∥₁ }
+    ensures keys { (s : State) (before : Held S) (stretches : List (StretchOver S)) (found : Held S) (key : Key) (new : NewJob) (number : ℕ)
+        → Led S.Store s before stretches found → IsAcknowledgedUnder (told S.Store stretches) key new number → ∥ StoresUnder s (told S.Store stretches) key number (state S.Store found) ∥₁ }
+    ensures throughout { (s : State) (before : Held S) (stretches : List (StretchOver S)) (found : Held S)
+        → Led S.Store s before stretches found → ∥ AllStore s (map (over S.Store) stretches) (state S.Store found) ∥₁ }
 {
     runs_follow_one_another();
     states_stay_well_formed();
@@ -125,15 +134,20 @@ pub fn no_answered_command_is_lost_over<S: Alter>()
 }
 
 /// A job whose number was told is there with all its bytes after the commands that count, until an
-/// accepted one kills it or delivers it, and no other job has its number.
+/// accepted one kills it or delivers it, and no other job has its number. Where the number was told
+/// to a key, in the first attempt or a later one, that is so of the job that was handed in first
+/// under the key.
 pub fn acknowledged_jobs_are_accounted_for()
-    ensures { (s : State) (told : List Exchange) (counted : List Command) (new : NewJob) (number : ℕ)
+    ensures plain { (s : State) (told : List Exchange) (counted : List Command) (new : NewJob) (number : ℕ)
         → IsWellFormed s → Passes s told counted → IsAcknowledged told new number → IsAccountedFor s counted new number }
+    ensures under_keys { (s : State) (told : List Exchange) (counted : List Command) (key : Key) (new : NewJob) (number : ℕ)
+        → IsWellFormed s → Passes s told counted → IsAcknowledgedUnder told key new number → IsAccountedForUnder s counted key number }
 {
     runs_follow_one_another();
     numbers_are_not_used_again();
     jobs_stay_through_runs();
     jobs_are_handed_in();
+    keys_are_answered_again();
 }
 
 /// Stretches of work over the two files of a spool that follow one another, and what the files held
@@ -154,6 +168,11 @@ pub fn no_answered_command_is_lost_in_files<H: FileHistory>()
     // A job whose number was told is accounted for by the commands that count.
     ensures jobs { (s : State) (new : NewJob) (number : ℕ) → ImageKeeps H.before s → AllFilesPassed H.before H.stretches
         → IsAcknowledged (file_exchanges H.stretches) new number → ∥ KeepsJob s (file_exchanges H.stretches) new number (last_left H.before H.stretches) ∥₁ }
+    ensures keys { (s : State) (key : Key) (new : NewJob) (number : ℕ) → ImageKeeps H.before s → AllFilesPassed H.before H.stretches
+        → IsAcknowledgedUnder (file_exchanges H.stretches) key new number → ∥ KeepsUnder s (file_exchanges H.stretches) key number (last_left H.before H.stretches) ∥₁ }
+
+    // Each stretch begins with what counts until then.
+    ensures throughout { (s : State) → ImageKeeps H.before s → AllFilesPassed H.before H.stretches → ∥ AllKeep s H.before H.stretches ∥₁ }
 {
     runs_follow_one_another();
     states_stay_well_formed();

@@ -11,7 +11,7 @@ ghost use Rattle.uu_schema.specs.declared.fault.StoreKind.TheVariants.{Database}
 ghost use Rattle.uu_schema.specs.declared.version.Version.{Version};
 ghost use Rattle.uu_schema.specs.Schema.{site_of};
 ghost use Rattle.uu_database.specs.Adoption.{StopsAs};
-ghost use Rattle.uu_database.specs.Encoded.{EncodesAs};
+ghost use Rattle.uu_database.specs.Encoded.{EncodesAs, Leaves};
 ghost use Rattle.uu_database.specs.FoundTables.{HasNoneOrAll};
 ghost use Rattle.uu_store.specs.Openings.{ImageHasOther, ImageKeeps, IsFoundIfClean, IsRightFault, IsNotTaken, LeavesAlone, LeavesAsKept, LeavesSame, Started, remains_of};
 ghost use Rattle.uu_store.specs.Spool.{disk, has_failed, Shows};
@@ -56,6 +56,9 @@ pub fn open_spool<T: Start>(
     // It shows the state that the files kept.
     ensures shows { IfOk result (λ spool. HasCleanDisk (disk spool) → (s : State) → ImageKeeps (image_at T.Start) s → Shows spool s) }
 
+    // A stop at its end then leaves this state alone, in the tables of version 3.
+    ensures alone { IfOk result (λ spool. HasCleanDisk (disk spool) → (s : State) → ImageKeeps (image_at T.Start) s → Leaves (disk spool) s) }
+
     // A database in which one of the names is taken and no table tells a version is never taken.
     ensures never_other { IfOk result (λ spool. HasCleanDisk (disk spool) → ¬ ImageHasOther (image_at T.Start)) }
 
@@ -87,6 +90,7 @@ fn adopted_in_files<D: Disk + Drop>(
     ensures never_failed { IfErr result (λ e. e.fault ≢ StoreFault.Failed) }
     ensures started { (before : Image) → IsFoundIfClean over_files before conn → IfOk result (Started before) }
     ensures shows { (before : Image) → IsFoundIfClean over_files before conn → IfOk result (λ spool. HasCleanDisk (disk spool) → (s : State) → ImageKeeps before s → Shows spool s) }
+    ensures alone { (before : Image) → IsFoundIfClean over_files before conn → IfOk result (λ spool. HasCleanDisk (disk spool) → (s : State) → ImageKeeps before s → Leaves (disk spool) s) }
     ensures never_other { (before : Image) → IsFoundIfClean over_files before conn → IfOk result (λ spool. HasCleanDisk (disk spool) → ¬ ImageHasOther before) }
     ensures left_same { (before : Image) → IsFoundIfClean over_files before conn → IfOk result (λ spool. HasCleanDisk (disk spool) → LeavesSame before (disk spool).may_leave) }
     ensures named { (before : Image) → IsFoundIfClean over_files before conn → IfErr result (λ e. IsRightFault before e.fault (remains_of e)) }
@@ -111,6 +115,7 @@ pub(crate) fn adopted<S: Alter + Drop>(
     ensures taken { IfOk result (λ spool. HasNoneOrAll (state S.Store conn).now.schema) }
     ensures encoded { IfOk result (λ spool. (v : Version) → HasCleanDisk (disk spool) → Stands (site_of v) (state S.Store conn).now → (s : State) × EncodesAs v (state S.Store conn).now s) }
     ensures stop { IfOk result (λ spool. HasCleanDisk (disk spool) → Rests (state S.Store conn) → StopsAs (state S.Store conn) (disk spool)) }
+    ensures alone { IfOk result (λ spool. (s : State) → Shows spool s → Leaves (disk spool) s) }
     ensures away { IfErr result (λ e. IsNotTaken S.Store conn e.1 e.0) }
 {
     match Spool::adopt(alloc, conn) {

@@ -5,11 +5,13 @@ ghost use Rattle.sqlite.specs.View.{IsClean};
 ghost use Rattle.sqlite_wal.specs.Files.{image_at};
 ghost use Rattle.sqlite_wal.specs.Reads.{AreClean};
 ghost use Rattle.sqlite_store.specs.FileStore.{view};
+ghost use Rattle.uu_core.specs.declared.custody.Key.{Key};
 ghost use Rattle.uu_core.specs.declared.job.NewJob.{NewJob};
 ghost use Rattle.uu_core.specs.State.{State};
+ghost use Rattle.uu_database.specs.Encoded.{Leaves};
 ghost use Rattle.uu_schema.specs.declared.fault.StoreKind.{StoreKind};
 ghost use Rattle.uu_schema.specs.Faults.{IsFresh};
-ghost use Rattle.uu_store.specs.Acknowledged.{IsAcknowledged, ShowsJob};
+ghost use Rattle.uu_store.specs.Acknowledged.{IsAcknowledged, IsAcknowledgedUnder, ShowsJob, ShowsUnder};
 ghost use Rattle.uu_store.specs.Closing.{HasSomeCause, IsRunAndClosed, IsToldAfter};
 ghost use Rattle.uu_store.specs.Exchanges.{exchange_of};
 ghost use Rattle.uu_store.specs.Files.{AllFilesPassed, last_left, file_exchanges, IsStretch, IsClosedStretch};
@@ -123,7 +125,8 @@ fn run_and_close<D: Disk + Drop>(
 /// Opens the file again, after any stretches of work over it. While nobody else wrote the files,
 /// and the disk returned what was written, the spool shows exactly the state that the machine
 /// reaches by the commands that count; so a job whose number was told is there with all its bytes,
-/// until an accepted command kills it or delivers it, and no other job has its number.
+/// until an accepted command kills it or delivers it, and no other job has its number. To a key the
+/// number was told of the job that was handed in first under it.
 ///
 /// # Errors
 /// Those of [`open_spool`].
@@ -138,10 +141,14 @@ pub fn start_again<H: FileHistory, T: Start>(
     ensures jobs { IfOk result (λ spool. HasCleanDisk (disk spool)
         → (s : State) (new : NewJob) (number : ℕ) → ImageKeeps H.before s → AllFilesPassed H.before H.stretches → image_at T.Start ≡ last_left H.before H.stretches
         → IsAcknowledged (file_exchanges H.stretches) new number → ∥ ShowsJob s (file_exchanges H.stretches) new number spool ∥₁) }
+    ensures keys { IfOk result (λ spool. HasCleanDisk (disk spool)
+        → (s : State) (key : Key) (new : NewJob) (number : ℕ) → ImageKeeps H.before s → AllFilesPassed H.before H.stretches → image_at T.Start ≡ last_left H.before H.stretches
+        → IsAcknowledgedUnder (file_exchanges H.stretches) key new number → ∥ ShowsUnder s (file_exchanges H.stretches) key number spool ∥₁) }
 
     // Beside that, it is opened as any, so that further stretches go on from it.
     ensures usable { IfOk result (λ spool. has_failed spool ≡ false) }
     ensures started { IfOk result (Started (image_at T.Start)) }
+    ensures alone { IfOk result (λ spool. HasCleanDisk (disk spool) → (s : State) → ImageKeeps (image_at T.Start) s → Leaves (disk spool) s) }
     ensures never_other { IfOk result (λ spool. HasCleanDisk (disk spool) → ¬ ImageHasOther (image_at T.Start)) }
     ensures left_same { IfOk result (λ spool. HasCleanDisk (disk spool) → LeavesSame (image_at T.Start) (disk spool).may_leave) }
     ensures never_failed { IfErr result (λ e. e.fault ≢ StoreFault.Failed) }

@@ -39,7 +39,10 @@ fn expect_ended(
     };
     let visit = visit_files(rt, alloc, contents, Use::unstopped(LONG_LOG), &mut rest);
     assert!(rt; visit.is_taken(), "the files are no spool");
-    assert!(rt; rest.shown.as_str() == picture, "the spool shows something else");
+    assert!(rt;
+        rest.shown.as_str() == picture,
+        "the spool shows something else"
+    );
 }
 
 /// A stop at a call of one file: whether every command was answered before it.

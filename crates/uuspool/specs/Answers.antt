@@ -2,11 +2,13 @@
 -- project's choice.
 use Rattle.std.specs.Prelude.{◌≡◌, ℕ, Option, Some, None, List, [], ◌∷◌, ◌++◌, codes, map}
 use Rattle.std.specs.List.{flat_map}
+use Rattle.uu_times.specs.Printed.{sys_text}
 use Rattle.uu_times.specs.declared.zone.Zone.{Zone}
 use Rattle.uu_map.specs.Entry.{IsEntry}
 use Rattle.uu_map.specs.declared.entry.Entry.{Entry}
 use Rattle.uu_core.specs.State.{State, Job, MapEntry, head_of, job_at, entry_at}
-use Rattle.uu_core.specs.Due.{AreDue}
+use Rattle.uu_core.specs.Definitions.{definitions_of}
+use Rattle.uu_core.specs.Due.{AreDue, all_due}
 use Rattle.uu_core.specs.NextCalls.{AreNextCalls}
 use Rattle.uu_core.specs.Queues.{AreQueues}
 use Rattle.uu_core.specs.declared.due.Due.{Due}
@@ -14,7 +16,7 @@ use Rattle.uu_core.specs.declared.next_call.NextCall.{NextCall}
 use Rattle.uu_core.specs.declared.queue.Queue.{Queue}
 use Rattle.uu_questions.specs.Listing.{listed}
 use Rattle.uu_settings.specs.declared.settings.Settings.{Settings}
-use Rattle.uu_report.specs.Reports.{IsJobLine, IsJobsReport, IsNextCallsReport, IsQueuesReport, IsStatusReport, due_text, links_text}
+use Rattle.uu_report.specs.Reports.{IsJobLine, IsJobsReport, IsNextCallsReport, IsQueuesReport, IsStatusReport, due_text, line_of, links_text}
 use Rattle.uu_request.specs.declared.request.Question.{Question}
 use Rattle.uu_request.specs.declared.request.Question.TheVariants as question
 
@@ -41,10 +43,13 @@ IsAnswer settings s (question.Jobs filter) output status = IsJobsReport settings
 IsAnswer settings s (question.Job number) output status = IsShown settings.zone (job_at s number) output status
 IsAnswer settings s (question.Due at) output status =
     (dues : List Due) × AreDue s.systems (map head_of s.jobs) at dues × (output ≡ flat_map due_text dues) × (status ≡ 0)
+IsAnswer settings s (question.AllDue filter at) output status = (output ≡ flat_map due_text (all_due s.systems (listed filter s) at)) × (status ≡ 0)
 IsAnswer settings s (question.NextCalls filter at) output status =
     (calls : List NextCall) × AreNextCalls settings.zone s.systems (listed filter s) at.second calls
     × IsNextCallsReport settings.zone at.second calls output × (status ≡ 0)
 IsAnswer settings s (question.Queues filter) output status =
     (queues : List Queue) × AreQueues (listed filter s) queues × IsQueuesReport settings.zone queues output × (status ≡ 0)
 IsAnswer settings s question.Systems output status = IsStatusReport settings.zone s.systems output × (status ≡ 0)
+IsAnswer settings s (question.Definitions name) output status = (output ≡ sys_text (definitions_of name s.systems)) × (status ≡ 0)
 IsAnswer settings s (question.Entry host) output status = IsEntryShown (entry_at s host) output status
+IsAnswer settings s question.Name output status = (output ≡ line_of (settings.name ∷ [])) × (status ≡ 0)

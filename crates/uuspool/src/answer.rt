@@ -1,9 +1,11 @@
 //! Questions: what is asked of the spool, and what is printed of its answer.
 
-ghost use Rattle.std.specs.Prelude.{◌≡◌, ◌≤◌, ◌++◌, [], false, IfOk, IfErr, IsTrue, MatchResult, List};
-ghost use Rattle.std.specs.List.{AllByRecursion};
+ghost use Rattle.std.specs.Prelude.{◌≡◌, ◌≤◌, ◌++◌, ◌∷◌, [], false, IfOk, IfErr, IsTrue, MatchResult, List, option_copied};
+ghost use Rattle.std.specs.List.{AllByRecursion, flat_map};
 ghost use Rattle.std.specs.Io.KnownBytes.{Appends};
 ghost use Rattle.sqlite.specs.State.{HasCleanDisk};
+ghost use Rattle.uu_core.specs.Definitions.{definitions_of};
+ghost use Rattle.uu_core.specs.Due.{all_due};
 ghost use Rattle.uu_core.specs.NextCalls.{AreNextCalls};
 ghost use Rattle.uu_core.specs.Plain.{AreByName};
 ghost use Rattle.uu_core.specs.Queues.{AreQueues};
@@ -11,11 +13,12 @@ ghost use Rattle.uu_core.specs.declared.next_call.NextCall.{NextCall as AnyCall}
 ghost use Rattle.uu_core.specs.declared.queue.Queue.{Queue as AnyQueue};
 ghost use Rattle.uu_database.specs.HandedOut.{IsBounded};
 ghost use Rattle.uu_questions.specs.Listing.{listed};
-ghost use Rattle.uu_report.specs.Reports.{IsJobLine, IsNextCallsReport, IsQueuesReport};
+ghost use Rattle.uu_report.specs.Reports.{IsJobLine, IsNextCallsReport, IsQueuesReport, due_text, line_of};
 ghost use Rattle.uu_request.specs.declared.request.Question.TheVariants as question;
 ghost use Rattle.uu_request.specs.declared.request.Request.TheVariants as request;
 ghost use Rattle.uu_store.specs.Runs.{Ran, fault_in};
 ghost use Rattle.uu_store.specs.Spool.{Marks, Shows, disk, has_failed};
+ghost use Rattle.uu_times.specs.Printed.{sys_text};
 ghost use Rattle.uuspool.specs.Served.{IsServed};
 
 use crate::fault::Fault;
@@ -27,7 +30,7 @@ use sqlite::Alter;
 use std::alloc::{AllocError, Global};
 use std::io::Write;
 use std::mem::drop;
-use uu_core::{Filter, JobHead, SystemRow, next_calls, queues};
+use uu_core::{Filter, JobHead, SystemRow, all_due, definitions, next_calls, queues};
 use uu_map::{MapFault, read_entry};
 use uu_names::SiteName;
 use uu_report::job_line;
@@ -35,8 +38,8 @@ use uu_request::Question;
 use uu_settings::Settings;
 use uu_store::laws::runs_are_one_run;
 use uu_store::{Spool, StoreFault, StoreKind};
-use uu_times::Moment;
 use uu_times::moment::LAST_SECOND;
+use uu_times::{Moment, write_sys};
 
 /// Asks one question, and prints the answer.
 pub(crate) fn ask<S: Alter, W: Write>(
@@ -52,10 +55,13 @@ pub(crate) fn ask<S: Alter, W: Write>(
         Question::Jobs(filter) => list(alloc, filter, settings, spool, out),
         Question::Job(number) => show(alloc, *number, settings, spool, out),
         Question::Due(at) => due(alloc, at, settings, spool, out),
+        Question::AllDue(filter, at) => due_jobs(alloc, filter, at, settings, spool, out),
         Question::NextCalls(filter, at) => when(alloc, filter, at, settings, spool, out),
         Question::Queues(filter) => sum_up(alloc, filter, settings, spool, out),
         Question::Systems => status(alloc, settings, spool, out),
+        Question::Definitions(name) => systems(alloc, name.as_ref(), settings, spool, out),
         Question::Entry(host) => neighbours(alloc, host, settings, spool, out),
+        Question::Name => name(alloc, settings, spool, out),
     }
 }
 
@@ -126,6 +132,40 @@ fn due<S: Alter, W: Write>(
         Ok(dues) => print(report_due(alloc, &dues), 0, out),
         Err(fault) => Err(Fault::Store(fault)),
     }
+}
+
+// Prints the report of those of the jobs that fit that may go now.
+fn due_jobs<S: Alter, W: Write>(
+    alloc: Global,
+    filter: &Filter,
+    at: &Moment,
+    settings: &Settings,
+    spool: &mut Spool<S>,
+    out: &mut W,
+) -> Result<u8, Fault>
+    ensures { IsServed settings.now (request.Question (question.AllDue filter.now at.now)) spool.old spool.new (λ output. Appends (W.contents out.old) (W.contents out.new) output) result }
+{
+    match systems_and_jobs(alloc, filter, spool) {
+        Ok((systems, jobs)) => {
+            let text = due_jobs_text(alloc, &systems, &jobs, at);
+            print(text, 0, out)
+        }
+        Err(fault) => Err(Fault::Store(fault)),
+    }
+}
+
+// The report of those of these jobs that may go now.
+fn due_jobs_text(
+    alloc: Global,
+    systems: &[SystemRow],
+    jobs: &[JobHead],
+    at: &Moment,
+) -> Result<Vec<u8>, Fault>
+    ensures lines { IfOk result (λ text. text.items ≡ flat_map due_text (all_due systems.now jobs.now at.now)) }
+    ensures memory { IfErr result (λ fault. fault ≡ Fault.Memory) }
+{
+    let dues = all_due(alloc, systems, jobs, at)?;
+    report_due(alloc, &dues)
 }
 
 // Prints when each system can next be called, for the first of those of its jobs that fit.
@@ -228,6 +268,34 @@ fn status<S: Alter, W: Write>(
     }
 }
 
+// Prints the definitions of the systems, or of one, as a sys file.
+fn systems<S: Alter, W: Write>(
+    alloc: Global,
+    name: Option<&SiteName>,
+    settings: &Settings,
+    spool: &mut Spool<S>,
+    out: &mut W,
+) -> Result<u8, Fault>
+    ensures { IsServed settings.now (request.Question (question.Definitions (option_copied name.entry))) spool.old spool.new (λ output. Appends (W.contents out.old) (W.contents out.new) output) result }
+{
+    match spool.systems(alloc) {
+        Ok(rows) => print(systems_text(alloc, rows, name), 0, out),
+        Err(fault) => Err(Fault::Store(fault)),
+    }
+}
+
+// The sys file of the definitions of these systems, or of one of them.
+fn systems_text(
+    alloc: Global,
+    rows: Vec<SystemRow>,
+    name: Option<&SiteName>,
+) -> Result<Vec<u8>, AllocError>
+    ensures { IfOk result (λ text. text.items ≡ sys_text (definitions_of (option_copied name.entry) rows.items)) }
+{
+    let systems = definitions(alloc, rows, name)?;
+    write_sys(alloc, &systems)
+}
+
 // Prints the report of a host's links. A spool that is one keeps no entry that can't be read.
 fn neighbours<S: Alter, W: Write>(
     alloc: Global,
@@ -249,4 +317,28 @@ fn neighbours<S: Alter, W: Write>(
         Ok(None) => print(Vec::from_slice(alloc, b"no entry\n"), 1, out),
         Err(fault) => Err(Fault::Store(fault)),
     }
+}
+
+// Prints the site's own name. The spool is asked for its next number alone, so that of one that has
+// failed that is told, as by every question.
+fn name<S: Alter, W: Write>(
+    alloc: Global,
+    settings: &Settings,
+    spool: &mut Spool<S>,
+    out: &mut W,
+) -> Result<u8, Fault>
+    ensures { IsServed settings.now (request.Question question.Name) spool.old spool.new (λ output. Appends (W.contents out.old) (W.contents out.new) output) result }
+{
+    match spool.next() {
+        Ok(_) => print(name_text(alloc, settings), 0, out),
+        Err(fault) => Err(Fault::Store(fault)),
+    }
+}
+
+// The line of the site's name.
+fn name_text(alloc: Global, settings: &Settings) -> Result<Vec<u8>, AllocError>
+    ensures { IfOk result (λ text. text.items ≡ line_of (settings.now.name ∷ [])) }
+{
+    let name = settings.name.as_str();
+    Ok(format!(in alloc; "{name}\n")?.into_bytes())
 }

@@ -33,11 +33,13 @@ subcommands =
     ∷ (codes "when", [])
     ∷ (codes "queues", [])
     ∷ (codes "status", [])
+    ∷ (codes "systems", [])
     ∷ (codes "failed", codes "system" ∷ codes "why" ∷ [])
     ∷ (codes "done", codes "system" ∷ [])
     ∷ (codes "forget", codes "system" ∷ codes "job" ∷ [])
     ∷ (codes "map", [])
     ∷ (codes "neighbours", codes "host" ∷ [])
+    ∷ (codes "name", [])
     ∷ []
 
 -- the subcommand of a name

@@ -10,6 +10,9 @@ returns-in-Ok-clause-started g c before found = record { opened = c.args.conn; f
 pub returns-in-Ok-clause-shows : goal.returns-in-Ok-clause-shows
 returns-in-Ok-clause-shows g c before found = started_shows over_files before c.args.conn found c.in-Ok.spool c.in-Ok.ensures.adopted
 
+pub returns-in-Ok-clause-alone : goal.returns-in-Ok-clause-alone
+returns-in-Ok-clause-alone g c before found clean s keeps = c.in-Ok.ensures.alone s (returns-in-Ok-clause-shows g c before found clean s keeps)
+
 pub returns-in-Ok-clause-never_other : goal.returns-in-Ok-clause-never_other
 returns-in-Ok-clause-never_other g c before found = started_never_other over_files before c.args.conn found c.in-Ok.spool c.in-Ok.ensures.adopted c.in-Ok.ensures.taken
 

@@ -7,6 +7,9 @@ returns-in-Ok-clause-started g c = c.adopted_in_files.ensures.started (image_at 
 pub returns-in-Ok-clause-shows : goal.returns-in-Ok-clause-shows
 returns-in-Ok-clause-shows g c = c.adopted_in_files.ensures.shows (image_at g.T.Start) c.in-Ok.ensures.found
 
+pub returns-in-Ok-clause-alone : goal.returns-in-Ok-clause-alone
+returns-in-Ok-clause-alone g c = c.adopted_in_files.ensures.alone (image_at g.T.Start) c.in-Ok.ensures.found
+
 pub returns-in-Ok-clause-never_other : goal.returns-in-Ok-clause-never_other
 returns-in-Ok-clause-never_other g c = c.adopted_in_files.ensures.never_other (image_at g.T.Start) c.in-Ok.ensures.found
 

@@ -14,3 +14,8 @@ pub returns-clause-jobs : goal.returns-clause-jobs
 returns-clause-jobs g c = IfOk-weaker c.open_spool.result _ _ (λ spool shows clean s new number keeps all same told.
     ∥∥₁_map (c.no_answered_command_is_lost_in_files.ensures.jobs s new number keeps all told)
     (λ then. (then.0, then.1, shows clean (state_after s then.0) (subst (λ image. ImageKeeps image (state_after s then.0)) (sym same) then.2), then.3))) c.open_spool.ensures.shows
+
+pub returns-clause-keys : goal.returns-clause-keys
+returns-clause-keys g c = IfOk-weaker c.open_spool.result _ _ (λ spool shows clean s key new number keeps all same told.
+    ∥∥₁_map (c.no_answered_command_is_lost_in_files.ensures.keys s key new number keeps all told)
+    (λ then. (then.0, then.1, shows clean (state_after s then.0) (subst (λ image. ImageKeeps image (state_after s then.0)) (sym same) then.2), then.3))) c.open_spool.ensures.shows

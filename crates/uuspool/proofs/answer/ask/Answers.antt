@@ -1,6 +1,7 @@
-use Rattle.std.proofs.Common.{ℕ, List, subst, sym}
+use Rattle.std.proofs.Common.{ℕ, List, ap, subst, sym, ◌∙◌}
 use Rattle.std.specs.Io.KnownBytes.{Appends}
 use Rattle.uu_request.specs.declared.request.Question.{Question}
+use Rattle.uu_request.specs.declared.request.Question.TheVariants as question
 use Rattle.uu_request.specs.declared.request.Request.TheVariants as request
 use Rattle.uuspool.specs.Served.{IsServed}
 use Rattle.uuspool.proofs.answer.ask.Goals as goal
@@ -39,3 +40,19 @@ pub returns-in-Entry : goal.returns-in-Entry
 returns-in-Entry g c =
     let written : List ℕ → Type 0 = λ output. Appends (g.W.Write.contents c.args.out.now) (g.W.Write.contents c.neighbours.new.out) output in
     subst (λ (q : Question). IsServed c.args.settings.now (request.Question q) c.args.spool.now c.neighbours.new.spool written c.neighbours.result) (sym c.in-Entry.is) c.neighbours.ensures
+
+pub returns-in-AllDue : goal.returns-in-AllDue
+returns-in-AllDue g c =
+    let written : List ℕ → Type 0 = λ output. Appends (g.W.Write.contents c.args.out.now) (g.W.Write.contents c.due_jobs.new.out) output in
+    subst (λ (q : Question). IsServed c.args.settings.now (request.Question q) c.args.spool.now c.due_jobs.new.spool written c.due_jobs.result) (sym c.in-AllDue.is) c.due_jobs.ensures
+
+pub returns-in-Name : goal.returns-in-Name
+returns-in-Name g c =
+    let written : List ℕ → Type 0 = λ output. Appends (g.W.Write.contents c.args.out.now) (g.W.Write.contents c.name.new.out) output in
+    subst (λ (q : Question). IsServed c.args.settings.now (request.Question q) c.args.spool.now c.name.new.spool written c.name.result) (sym c.in-Name.is) c.name.ensures
+
+pub returns-in-Definitions : goal.returns-in-Definitions
+returns-in-Definitions g c =
+    let written : List ℕ → Type 0 = λ output. Appends (g.W.Write.contents c.args.out.now) (g.W.Write.contents c.systems.new.out) output in
+    let given = ap (λ name. question.Definitions name) c.as_ref.ensures.value ∙ sym c.in-Definitions.is in
+    subst (λ (q : Question). IsServed c.args.settings.now (request.Question q) c.args.spool.now c.systems.new.spool written c.systems.result) given c.systems.ensures

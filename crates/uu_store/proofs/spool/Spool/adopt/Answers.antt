@@ -71,6 +71,7 @@ pub returns-in-Ok-clause-remembers : goal.returns-in-Ok-clause-remembers
 returns-in-Ok-clause-remembers g c =
     remembers c.args.conn c.over.result (returns-in-Ok-clause-adopted g c) (λ s before stretches led. c.no_answered_command_is_lost_over.ensures.commands s before stretches c.args.conn led)
     (λ s before stretches new number led acknowledged. c.no_answered_command_is_lost_over.ensures.jobs s before stretches c.args.conn new number led acknowledged)
+    (λ s before stretches key new number led acknowledged. c.no_answered_command_is_lost_over.ensures.keys s before stretches c.args.conn key new number led acknowledged)
 
 pub returns-in-Ok-clause-taken_by_tables : goal.returns-in-Ok-clause-taken_by_tables
 returns-in-Ok-clause-taken_by_tables g c = rw c.in-Ok.is at c.prepare.ensures.taken

@@ -1,0 +1,101 @@
+-- A letter that crosses, as computed: its receiver is stopped with the letter in hand, it is asked
+-- for again, and the sender is stopped too.
+use Rattle.std.proofs.Common.{◌≡◌, ℕ, true, List, [], ◌∷◌, length, codes, Some, None, Contains, refl, arith}
+use Rattle.std.proofs.lemmas.List.Elements.{All-nil, All-cons}
+use Rattle.uu_times.specs.declared.moment.Moment.{Moment}
+use Rattle.uu_times.specs.System.{System}
+use Rattle.uu_core.specs.declared.command.Command.{Command}
+use Rattle.uu_core.specs.declared.command.Command.TheVariants.{Define, Queue, QueueOnce, Done}
+use Rattle.uu_core.specs.declared.command.Reply.TheVariants.{Done as Carried, Number}
+use Rattle.uu_core.specs.declared.job.Kind.TheVariants.{Execute}
+use Rattle.uu_core.specs.declared.job.NewJob.{NewJob}
+use Rattle.uu_core.specs.State.{State, empty, link_of, new_link, same_text}
+use Rattle.uu_core.specs.After.{job_of}
+use Rattle.uu_core.specs.Run.{state_after}
+use Rattle.uu_core.specs.Custody.{Crossing, Parcel, parcel_of, key_of}
+use Rattle.uu_schema.specs.declared.fault.StoreFault.TheVariants.{Store}
+use Rattle.uu_schema.specs.declared.fault.StoreKind.TheVariants.{Disk}
+use Rattle.uu_store.specs.Exchanges.{given, Passes}
+use Rattle.uu_custody.specs.Events.{Event, sender, receiver, waits, answered, stopped, noticed, Wire, Noted, IsTrueOf, sessions_at, exchanges_at, PassesTruly, MayBeGiven, KeepsToWire, nothing_sent}
+use Rattle.uu_custody.specs.Handovers.{handed_in}
+
+module _ (monday tuesday : Moment) where
+  abbrev system : List ℕ → System
+  system name = record { name = name; lines = []; max_retries = 26; success_wait = 0 }
+
+  -- a letter to joe at unc, and what duke makes of it
+  abbrev letter : NewJob
+  letter = record { system = codes "duke"; grade = 23; user = codes "ann"; kind = Execute (codes "rmail") (codes "unc!joe" ∷ []); bytes = codes "Hello"; at = monday }
+
+  abbrev forwarded : Moment → NewJob
+  forwarded at = record { system = codes "unc"; grade = 23; user = codes "ann"; kind = Execute (codes "rmail") (codes "joe" ∷ []); bytes = codes "Hello"; at = at }
+
+  abbrev mysite : State
+  mysite = state_after empty (Define (system (codes "duke")) ∷ Queue letter ∷ [])
+
+  abbrev duke : State
+  duke = state_after empty (Define (system (codes "mysite")) ∷ Define (system (codes "unc")) ∷ [])
+
+  abbrev crossing : Crossing
+  crossing = record { from = codes "mysite"; to = codes "duke"; mark = λ parcel. length parcel.bytes; makes = λ parcel new. same_text new.bytes parcel.bytes }
+
+  abbrev parcel : Parcel
+  parcel = parcel_of (job_of 1 letter)
+
+  abbrev handing : Moment → Command
+  handing at = QueueOnce (key_of crossing parcel) (forwarded at)
+
+  abbrev report : Command
+  report = Done (codes "duke") tuesday (1 ∷ [])
+
+  -- duke's store fails while the letter is in hand, and mysite's as it is to report it as gone
+  abbrev events : List Event
+  events =
+      noticed (waits (job_of 1 letter)) ∷ stopped receiver (handing monday ∷ []) (given (Some (Store Disk))) ∷ answered receiver (handing tuesday) (Number 1)
+      ∷ stopped sender (report ∷ []) (given (Some (Store Disk))) ∷ answered sender report Carried ∷ stopped sender [] (given None) ∷ stopped receiver [] (given None) ∷ []
+
+  abbrev IsTrueThen : Noted → Type 0
+  IsTrueThen note = IsTrueOf crossing (state_after mysite note.answered) note.notice
+
+  -- the notice was true, and duke carried out what it had in hand, while mysite did not
+  true_and_counted : PassesTruly crossing mysite (sessions_at sender events) (report ∷ [])
+  true_and_counted =
+      ([], report ∷ [], refl, record { rest = report ∷ []; prefix = refl; unheard = []; at_most_one = omega arith; settled = λ loose. refl; answers = refl },
+      All-cons IsTrueThen (record { answered = []; notice = waits (job_of 1 letter) }) [] ((0, omega arith, refl), refl) (All-nil IsTrueThen),
+      (report ∷ [], [], refl, record { rest = []; prefix = refl; unheard = []; at_most_one = omega arith; settled = λ settled. refl; answers = refl }, All-nil IsTrueThen, refl))
+
+  counted : Passes duke (exchanges_at receiver events) (handing monday ∷ handing tuesday ∷ [])
+  counted =
+      (handing monday ∷ [], handing tuesday ∷ [], refl, record { rest = []; prefix = refl; unheard = Number 1 ∷ []; at_most_one = omega arith; settled = λ settled. absurd settled; answers = refl },
+      (handing tuesday ∷ [], [], refl, record { rest = []; prefix = refl; unheard = []; at_most_one = omega arith; settled = λ settled. refl; answers = refl }, refl))
+
+  abbrev shown : Wire
+  shown = record { parcels = parcel ∷ []; answers = [] }
+
+  abbrev told : Wire
+  told = record { parcels = parcel ∷ []; answers = 1 ∷ [] }
+
+  from_wire : (at : Moment) → MayBeGiven crossing shown receiver (handing at)
+  from_wire at = λ own. record { parcel = parcel; there = (0, omega arith, refl); key_is = refl; made = refl }
+
+  was_answered : MayBeGiven crossing told sender report
+  was_answered = λ own. All-cons (Contains (1 ∷ [])) 1 [] (0, omega arith, refl) (All-nil (Contains (1 ∷ [])))
+
+  keeps : KeepsToWire crossing nothing_sent events
+  keeps =
+      (tt, (All-cons (MayBeGiven crossing shown receiver) (handing monday) [] (from_wire monday) (All-nil (MayBeGiven crossing shown receiver)), (from_wire tuesday,
+      (All-cons (MayBeGiven crossing told sender) report [] was_answered (All-nil (MayBeGiven crossing told sender)), (was_answered,
+      (All-nil (MayBeGiven crossing told sender), (All-nil (MayBeGiven crossing told receiver), tt)))))))
+
+  nothing_kept : link_of duke (codes "mysite") ≡ new_link (codes "mysite")
+  nothing_kept = refl
+
+  -- so it came once: duke queued it on Monday, and only answered on Tuesday
+  it_came_once : (state_after duke (handing monday ∷ handing tuesday ∷ [])).jobs ≡ job_of 1 (forwarded monday) ∷ []
+  it_came_once = refl
+
+  it_was_handed_in_once : handed_in crossing duke (handing monday ∷ handing tuesday ∷ []) ≡ record { number = 1; job = job_of 1 (forwarded monday) } ∷ []
+  it_was_handed_in_once = refl
+
+  it_went : (state_after mysite (report ∷ [])).jobs ≡ []
+  it_went = refl

@@ -1,0 +1,10 @@
+mod Lists
+mod Sessions
+mod Steps
+mod Proceeding
+mod Coming
+mod Routing
+mod Spools
+mod Sites
+mod Noticing
+mod Examples

@@ -1,0 +1,98 @@
+-- A message goes over several sites.
+use Rattle.std.proofs.Common.{◌≡◌, ◌⊎◌, ◌<◌, inl, inr, ℕ, List, [], ◌∷◌, ◌++◌, AllPairs, Contains, refl, sym, ap, subst, ◌∙◌, arith}
+use Rattle.std.proofs.lemmas.List.Elements.{All-contains, Contains-append_cases}
+use Rattle.uu_core.specs.declared.command.Command.{Command}
+use Rattle.uu_core.specs.State.{State, Job}
+use Rattle.uu_core.specs.After.{after}
+use Rattle.uu_core.specs.Run.{state_after}
+use Rattle.uu_core.specs.Custody.{Crossing, Handed, IsOf, parcel_of}
+use Rattle.uu_core.specs.Network.{Chart, IsRoute, GoesBy}
+use Rattle.uu_custody.specs.Handovers.{handed_of, handed_in, Waited, HasCome, IsInCustody, ComeOnce}
+use Rattle.uu_custody.specs.Routes.{Course, ComeOnceOverAll, handed_over, IsOnItsWay, CameTo}
+use Rattle.uu_custody.proofs.Lists.{first_or_later, none_in, pairs_first, pairs_rest}
+use Rattle.uu_custody.proofs.Coming.{there_then}
+
+-- ---- a job that came waits from then on for the next site
+
+-- after some of the commands it was there
+record WasThere (s : State) (commands : List Command) (job : Job) : Type 0 where
+  before : List Command
+  behind : List Command
+  commands_are : commands ≡ before ++ behind
+  there : Contains (state_after s before).jobs job
+
+was_there : (crossing : Crossing) (s : State) (commands : List Command) (handed : Handed) → Contains (handed_in crossing s commands) handed → WasThere s commands handed.job
+was_there crossing s [] handed inside = absurd (none_in handed inside)
+was_there crossing s (command ∷ commands) handed inside = elim (Contains-append_cases (handed_of crossing s command) (handed_in crossing (after s command).0 commands) handed inside) [
+  | inl own ↦ (record { before = command ∷ []; behind = commands; commands_are = refl; there = there_then crossing s command handed own })
+  | inr later ↦ (let it = was_there crossing (after s command).0 commands handed later in record { before = command ∷ it.before; behind = it.behind; commands_are = ap (λ l. command ∷ l) it.commands_are; there = it.there })
+]
+
+-- it goes by the rest of the route
+goes_on : (chart : Chart) (line : ℕ) (lines : List ℕ) (job : Job) (handed : Handed) → GoesBy chart (line ∷ lines) job → IsOf (chart.crossing line) (parcel_of job) handed → GoesBy chart lines handed.job
+goes_on chart line lines job handed goes of = subst (GoesBy chart lines) (sym of.job_is) (goes.1 handed.job.number of.new of.made)
+
+over_one : (chart : Chart) (course : Course) (line : ℕ) (lines : List ℕ) (job : Job)
+    → IsInCustody (chart.crossing line) (course.first (chart.begins line)) (course.counted (chart.begins line)) (course.first (chart.ends line)) (course.counted (chart.ends line)) job
+    → ((come : HasCome (chart.crossing line) (course.first (chart.ends line)) (course.counted (chart.ends line)) job) → IsOnItsWay chart course (chart.ends line) lines come.handed.job)
+    → IsOnItsWay chart course (chart.begins line) (line ∷ lines) job
+over_one chart course line lines job (inl waits) on = inl waits
+over_one chart course line lines job (inr (inl killed)) on = inr (inl killed)
+over_one chart course line lines job (inr (inr come)) on = inr (inr (come.handed, come.there, come.of, on come))
+
+-- what becomes of it over the first line
+first_line : (chart : Chart) (course : Course) (line site : ℕ) (lines : List ℕ) (job : Job) → IsRoute chart site (line ∷ lines) → ComeOnceOverAll chart course (line ∷ lines) → Waited (chart.crossing line) (course.first site) (course.counted site) job
+    → IsInCustody (chart.crossing line) (course.first (chart.begins line)) (course.counted (chart.begins line)) (course.first (chart.ends line)) (course.counted (chart.ends line)) job
+first_line chart course line site lines job route once waited = once.0.never_lost job (subst (λ n. Waited (chart.crossing line) (course.first n) (course.counted n) job) (sym route.0) waited)
+
+pub on_its_way : (chart : Chart) (course : Course) (lines : List ℕ) (line site : ℕ) (job : Job) → IsRoute chart site (line ∷ lines) → ComeOnceOverAll chart course (line ∷ lines) → GoesBy chart (line ∷ lines) job
+    → Waited (chart.crossing line) (course.first site) (course.counted site) job → IsOnItsWay chart course site (line ∷ lines) job
+on_its_way chart course [] line site job route once goes waited =
+    subst (λ n. IsOnItsWay chart course n (line ∷ []) job) route.0 (over_one chart course line [] job (first_line chart course line site [] job route once waited) (λ come. come.kept))
+on_its_way chart course (next ∷ more) line site job route once goes waited =
+    subst (λ n. IsOnItsWay chart course n (line ∷ next ∷ more) job) route.0
+    (over_one chart course line (next ∷ more) job (first_line chart course line site (next ∷ more) job route once waited)
+    (λ come.
+      let it = was_there (chart.crossing line) (course.first (chart.ends line)) (course.counted (chart.ends line)) come.handed come.there in
+      let on = goes_on chart line (next ∷ more) job come.handed goes come.of in
+      on_its_way chart course more next (chart.ends line) come.handed.job route.1 once.1 on (record { before = it.before; behind = it.behind; commands_are = it.commands_are; there = it.there; system = on.0 })))
+
+-- ---- at most once
+
+only_one : (handed : List Handed) (one other : Handed) → AllPairs (λ (a b : Handed). ¬ (a.number ≡ b.number)) handed → Contains handed one → Contains handed other → one.number ≡ other.number → one ≡ other
+only_one [] one other apart there here same = absurd (none_in one there)
+only_one (it ∷ handed) one other apart there here same = by-places (first_or_later it one handed there) (first_or_later it other handed here) (only_one handed one other (pairs_rest R it handed apart))
+  where
+    R : Handed → Handed → Type 0
+    R a b = ¬ (a.number ≡ b.number)
+
+    by-places : (it ≡ one) ⊎ Contains handed one → (it ≡ other) ⊎ Contains handed other → (Contains handed one → Contains handed other → one.number ≡ other.number → one ≡ other) → one ≡ other
+    by-places (inl a) (inl b) again = sym a ∙ b
+    by-places (inl a) (inr b) again = absurd (All-contains (R it) handed other (pairs_first R it handed apart) b (ap (λ (h : Handed). h.number) a ∙ same))
+    by-places (inr a) (inl b) again = absurd (All-contains (R it) handed one (pairs_first R it handed apart) a (ap (λ (h : Handed). h.number) b ∙ sym same))
+    by-places (inr a) (inr b) again = again a b same
+
+only_job : (handed : List Handed) (one other : Handed) → AllPairs (λ (a b : Handed). a.job.number < b.job.number) handed → Contains handed one → Contains handed other → one.job.number ≡ other.job.number → one ≡ other
+only_job [] one other rising there here same = absurd (none_in one there)
+only_job (it ∷ handed) one other rising there here same = by-places (first_or_later it one handed there) (first_or_later it other handed here) (only_job handed one other (pairs_rest R it handed rising))
+  where
+    R : Handed → Handed → Type 0
+    R a b = a.job.number < b.job.number
+
+    by-places : (it ≡ one) ⊎ Contains handed one → (it ≡ other) ⊎ Contains handed other → (Contains handed one → Contains handed other → one.job.number ≡ other.job.number → one ≡ other) → one ≡ other
+    by-places (inl a) (inl b) again = sym a ∙ b
+    by-places (inl a) (inr b) again = absurd (let l = All-contains (R it) handed other (pairs_first R it handed rising) b in let e = ap (λ (h : Handed). h.job.number) a in omega (arith, l, e, same))
+    by-places (inr a) (inl b) again = absurd (let l = All-contains (R it) handed one (pairs_first R it handed rising) a in let e = ap (λ (h : Handed). h.job.number) b in omega (arith, l, e, same))
+    by-places (inr a) (inr b) again = again a b same
+
+pub never_twice : (chart : Chart) (course : Course) (lines : List ℕ) (job one other : Job) → ComeOnceOverAll chart course lines → CameTo chart course lines job one → CameTo chart course lines job other → one ≡ other
+never_twice chart course [] job one other once first second = sym first ∙ second
+never_twice chart course (line ∷ lines) job one other once (handed, there, is, first) (again, here, same, second) =
+    let it : handed ≡ again = only_one (handed_over chart course line) handed again once.0.never_twice there here (is ∙ sym same) in
+    never_twice chart course lines handed.job one other once.1 first (subst (λ (h : Handed). CameTo chart course lines h.job other) (sym it) second)
+
+pub apart : (chart : Chart) (course : Course) (lines : List ℕ) (one other last same : Job) → ComeOnceOverAll chart course lines → CameTo chart course lines one last → CameTo chart course lines other same → last.number ≡ same.number → one.number ≡ other.number
+apart chart course [] one other last same once first second is = ap (λ (j : Job). j.number) first ∙ is ∙ sym (ap (λ (j : Job). j.number) second)
+apart chart course (line ∷ lines) one other last same once (handed, there, own, first) (again, here, its, second) is =
+    let it : handed ≡ again = only_job (handed_over chart course line) handed again once.0.apart there here (apart chart course lines handed.job again.job last same once.1 first second is) in
+    sym own ∙ ap (λ (h : Handed). h.number) it ∙ its

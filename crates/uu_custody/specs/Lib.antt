@@ -1,0 +1,5 @@
+pub mod Events
+pub mod Handovers
+pub mod Routes
+pub mod Spools
+pub mod Sites

@@ -1,0 +1,45 @@
+-- A message that goes over several sites, from each to the next by the custody of two.
+use Rattle.std.specs.Prelude.{◌≡◌, ◌⊎◌, ⊤, ℕ, List, [], ◌∷◌, Contains}
+use Rattle.uu_core.specs.declared.command.Command.{Command}
+use Rattle.uu_core.specs.State.{State, Job}
+use Rattle.uu_core.specs.Run.{state_after}
+use Rattle.uu_core.specs.Laws.{IsAmong}
+use Rattle.uu_core.specs.Custody.{parcel_of, Handed, IsOf}
+use Rattle.uu_core.specs.Network.{Chart}
+use Rattle.uu_custody.specs.Handovers.{handed_in, IsKeptOrGone, WasKilled, ComeOnce}
+
+-- of each site its first state, and the commands that count there
+pub record Course : Type 0 where
+  pub first : ℕ → State
+  pub counted : ℕ → List Command
+
+abbrev pub last_of : Course → ℕ → State
+last_of course site = state_after (course.first site) (course.counted site)
+
+-- over a line jobs come once
+abbrev pub ComeOnceOver : Chart → Course → ℕ → Type 0
+ComeOnceOver chart course line =
+    ComeOnce (chart.crossing line) (course.first (chart.begins line)) (course.counted (chart.begins line)) (course.first (chart.ends line)) (course.counted (chart.ends line))
+
+-- and over each of several
+abbrev pub ComeOnceOverAll : Chart → Course → List ℕ → Type 0
+ComeOnceOverAll chart course [] = ⊤
+ComeOnceOverAll chart course (line ∷ lines) = ComeOnceOver chart course line × ComeOnceOverAll chart course lines
+
+-- what the end of a line queued for its beginning
+abbrev pub handed_over : Chart → Course → ℕ → List Handed
+handed_over chart course line = handed_in (chart.crossing line) (course.first (chart.ends line)) (course.counted (chart.ends line))
+
+-- Where a message is on its way over these lines: it waits at the site before the first of them, or
+-- was killed there, or a job was made of it at the end of that line, which is on its way over the
+-- others. Behind the last line it is there, or was let go.
+abbrev pub IsOnItsWay : Chart → Course → ℕ → List ℕ → Job → Type 0
+IsOnItsWay chart course site [] job = IsKeptOrGone (course.first site) (course.counted site) job
+IsOnItsWay chart course site (line ∷ lines) job =
+    IsAmong (last_of course site).jobs job ⊎ WasKilled (course.first site) (course.counted site) job.number
+    ⊎ ((handed : Handed) × Contains (handed_over chart course line) handed × IsOf (chart.crossing line) (parcel_of job) handed × IsOnItsWay chart course (chart.ends line) lines handed.job)
+
+-- over these lines the job came to this one: each end queued a job for the number that it had before
+abbrev pub CameTo : Chart → Course → List ℕ → Job → Job → Type 0
+CameTo chart course [] job last = job ≡ last
+CameTo chart course (line ∷ lines) job last = (handed : Handed) × Contains (handed_over chart course line) handed × (handed.number ≡ job.number) × CameTo chart course lines handed.job last
