@@ -68,13 +68,15 @@ pub record ComeOnce (crossing : Crossing) (sender : State) (sent : List Command)
   pub same : All (IsOfWaiting crossing sender sent) (handed_in crossing receiver received)
   pub kept : All (λ handed. IsKeptOrGone receiver received handed.job) (handed_in crossing receiver received)
 
--- each job for the receiver whose number the sender told
+-- each job for the receiver that was handed in at the sender without a key, and whose number was
+-- told
 abbrev pub ToldAreInCustody : Crossing → List Exchange → State → List Command → State → List Command → Type 0
 ToldAreInCustody crossing exchanges sender sent receiver received =
     (new : NewJob) (number : ℕ) → IsAcknowledged exchanges new number → new.system ≡ crossing.to → IsInCustody crossing sender sent receiver received (job_of number new)
 
 -- The two spools are those of a world of custody that is reached (`uu_core/specs/Custody.antt`), so
--- what its law says of such worlds holds of them.
+-- what its law says of such worlds holds of them. (Whether the receiver forgot only what the sender
+-- had said is left open, so nothing follows here on what is in a job's way.)
 pub record AreOfWorld (crossing : Crossing) (sender : State) (sent : List Command) (receiver : State) (received : List Command) : Type 0 where
   pub world : World
   pub reached : IsReached crossing world

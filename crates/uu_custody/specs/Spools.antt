@@ -42,7 +42,7 @@ WereShownInFiles crossing before (session ∷ sessions) (it ∷ more) =
 
 -- ---- what follows
 
--- commands that count at both sites, by which each job has come once
+-- commands that count at both sites, by which no job is lost and none comes twice
 pub record HaveCome (crossing : Crossing) (a b : State) (events : List Event) (sent received : List Command) : Type 0 where
   pub sent_count : Passes a (exchanges_at sender events) sent
   pub received_count : Passes b (exchanges_at receiver events) received

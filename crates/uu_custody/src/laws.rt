@@ -37,9 +37,9 @@ use uu_store::laws::{
 
 /// Jobs that one spool hands on to another come once, whatever both are given and wherever each of
 /// them is stopped: where nothing goes over the wire but what was answered, and the commands that
-/// count at each are those that its exchanges tell of (`once`). So does each job whose number the
-/// sender told (`told`). The two spools are those of a world of custody, of which its law speaks
-/// (`world`).
+/// count at each are those that its exchanges tell of (`once`). So does each job that was handed in
+/// without a key, and whose number the sender told (`told`). The two spools are those of a world of
+/// custody, of which its law speaks (`world`).
 pub fn jobs_come_once_over_stops()
     ensures once { (crossing : Crossing) (a b : State) (events : List Event) (sent received : List Command)
         → IsWellFormed a → IsWellFormed b → link_of b crossing.from ≡ new_link crossing.from
