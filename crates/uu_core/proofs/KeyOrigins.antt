@@ -91,7 +91,7 @@ module _ (state : State) (key : Key) (row : Taken) where
               let own : other.from ≡ key.from = (bytes_decides other.from key.from).0 f in
               let new : Taken = record { number = other.number; mark = other.mark; job = state.next } in
               let link : link_of (take_in (First state.next) other job state) key.from ≡ with_taken new (link_of state other.from)
-                  = link_own (with_job job state) key.from (with_taken new (link_of state other.from)) (name_is state other.from ∙ own) (λ silent. absurd (taken_says new (link_of state other.from) silent)) in
+              = link_own (with_job job state) key.from (with_taken new (link_of state other.from)) (name_is state other.from ∙ own) (λ silent. absurd (taken_says new (link_of state other.from) silent)) in
               elim (found_with new (link_of state other.from) key.number row (sym (ap (λ (l : Link). taken_at l key.number) link) ∙ e)) [
                 | inl was ↦ inl (ap (λ n. taken_at (link_of state n) key.number) (sym own) ∙ was)
                 | inr it ↦ inr (record {
@@ -111,7 +111,7 @@ module _ (state : State) (key : Key) (row : Taken) where
       by-name true f =
           let own : system ≡ key.from = (bytes_decides system key.from).0 f in
           let link : link_of (accept state (Forget system below)) key.from ≡ forgotten below (link_of state system)
-              = link_own state key.from (forgotten below (link_of state system)) (name_is state system ∙ own) (λ silent. forgotten_says below (link_of state system) silent ∙ ap (link_of state) own) in
+          = link_own state key.from (forgotten below (link_of state system)) (name_is state system ∙ own) (λ silent. forgotten_says below (link_of state system) silent ∙ ap (link_of state) own) in
           ap (λ n. taken_at (link_of state n) key.number) (sym own)
           ∙ found_kept (λ n. leb below n) (link_of state system).taken key.number row (sym (ap (λ (l : Link). taken_at l key.number) link) ∙ e)
 
@@ -153,18 +153,21 @@ module _ (state : State) (key : Key) (row : Taken) where
 
 -- one command's is a run's
 of_one : (state : State) (key : Key) (number : ℕ) (command : Command) (commands : List Command) → IsOrigin state key (row_of key number) command → (first : NewJob) × IsFirstUnder state (command ∷ commands) key first number
-of_one state key number command commands it = (it.first, record {
-  before = [];
-  behind = commands;
-  run_is = ap (λ c. c ∷ commands) it.command_is;
-  made = record {
-    new = it.first;
-    command_is = refl;
-    accepted = ap (verdict state) (sym it.command_is) ∙ it.accepted;
-    first = ap (is_repeat state) (sym it.command_is) ∙ it.new;
-    job_is = ap (λ n. job_of n it.first) it.job;
-  };
-})
+of_one state key number command commands it = (
+  it.first,
+  record {
+    before = [];
+    behind = commands;
+    run_is = ap (λ c. c ∷ commands) it.command_is;
+    made = record {
+      new = it.first;
+      command_is = refl;
+      accepted = ap (verdict state) (sym it.command_is) ∙ it.accepted;
+      first = ap (is_repeat state) (sym it.command_is) ∙ it.new;
+      job_is = ap (λ n. job_of n it.first) it.job;
+    };
+  },
+)
 
 behind_one : (state : State) (key : Key) (number : ℕ) (command : Command) (commands : List Command) → (first : NewJob) × IsFirstUnder (after state command).0 commands key first number → (first : NewJob) × IsFirstUnder state (command ∷ commands) key first number
 behind_one state key number command commands (first, it) = (first, record { before = command ∷ it.before; behind = it.behind; run_is = ap (λ l. command ∷ l) it.run_is; made = it.made })

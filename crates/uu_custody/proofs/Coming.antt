@@ -1,6 +1,6 @@
 -- What becomes of the jobs, by the law of custody.
-use Rattle.std.proofs.Common.{◌≡◌, ◌⊎◌, ◌<◌, inl, inr, ℕ, Bool, true, false, cond, nat_le, List, [], ◌∷◌, ◌++◌, map, All, AllPairs, Contains, Option, Some, None, refl, sym, ap, subst, ◌∙◌, append_assoc, ◌+◌, arith}
-use Rattle.std.proofs.lemmas.List.Elements.{All-nil, All-cons, All-head, All-tail, Contains-append_cases, Contains-append_right}
+use Rattle.std.proofs.Common.{◌≡◌, ◌<◌, inl, inr, ℕ, Bool, true, false, cond, nat_le, List, [], ◌∷◌, ◌++◌, map, All, AllPairs, Contains, Option, Some, None, refl, sym, ap, subst, ◌∙◌, append_assoc, ◌+◌}
+use Rattle.std.proofs.lemmas.List.Elements.{All-nil, All-cons, All-head, All-tail, Contains-append_cases}
 use Rattle.uu_core.specs.declared.command.Command.{Command}
 use Rattle.uu_core.specs.declared.command.Command.TheVariants.{Define, Remove, Queue, QueueOnce, Kill, Regrade, Rejuvenate, Failed, Done, Entry, Forget}
 use Rattle.uu_core.specs.declared.command.Reply.TheVariants.{Number, Refused}
@@ -11,11 +11,11 @@ use Rattle.uu_core.specs.Verdict.{verdict}
 use Rattle.uu_core.specs.After.{after, after_verdict, job_of}
 use Rattle.uu_core.specs.Run.{state_after}
 use Rattle.uu_core.specs.Laws.{accepted_of, unless_refused, lets_go, IsAmong}
-use Rattle.uu_core.specs.Custody.{Parcel, parcel_of, Crossing, Handed, World, Step, MayGoOn, world_after, start, IsReached, IsOf, IsNotLost, added}
+use Rattle.uu_core.specs.Custody.{Parcel, Crossing, Handed, World, Step, MayGoOn, world_after, start, IsReached, IsOf, IsNotLost, added}
 use Rattle.uu_store.specs.Exchanges.{Passes}
 use Rattle.uu_custody.specs.Events.{Event, Session, Noted, sender, receiver, just_opened, with_first, begin_answered, ended, sessions_at, exchanges_at, answered, stopped, noticed, PassesTruly, KeepsToWire, nothing_sent}
 use Rattle.uu_store.specs.Acknowledged.{WasLetGo}
-use Rattle.uu_custody.specs.Handovers.{handed_of, handed_in, Waited, IsKeptOrGone, HasCome, IsInCustody, IsOfWaiting, AreOfWorld, ComeOnce}
+use Rattle.uu_custody.specs.Handovers.{handed_of, handed_in, Waited, IsKeptOrGone, IsInCustody, IsOfWaiting, AreOfWorld, ComeOnce}
 use Rattle.uu_store.proofs.Acknowledging.{Placed}
 use Rattle.uu_custody.proofs.Lists.{later_of, none_in, all_from, from_filter, from_map, all_or_one}
 use Rattle.uu_custody.proofs.Sessions.{truly}
@@ -128,8 +128,8 @@ module _
         let came = run.came job waited in
         let may = subst (MayGoOn crossing (start a b)) came.steps_are run.may_go in
         let then = not_lost crossing (world_after crossing (start a b) came.first) came.second job
-            (record { sender = a; receiver = b; steps = came.first; sender_is = good; receiver_is = well; nothing_kept = nothing; may_go = may_first crossing (start a b) came.first came.second may; world_is = refl })
-            (may_second crossing (start a b) came.first came.second may) came.there waited.system in
+        (record { sender = a; receiver = b; steps = came.first; sender_is = good; receiver_is = well; nothing_kept = nothing; may_go = may_first crossing (start a b) came.first came.second may; world_is = refl })
+        (may_second crossing (start a b) came.first came.second may) came.there waited.system in
         accounted job (subst (λ w. IsNotLost crossing w job) (sym (world_on crossing (start a b) came.first came.second) ∙ ap (world_after crossing (start a b)) (sym came.steps_are)) then)
 
     pub of_world : AreOfWorld crossing a sent b received

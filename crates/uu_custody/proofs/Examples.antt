@@ -1,6 +1,6 @@
 -- A letter that crosses, as computed: its receiver is stopped with the letter in hand, it is asked
 -- for again, and the sender is stopped too.
-use Rattle.std.proofs.Common.{◌≡◌, ℕ, true, List, [], ◌∷◌, length, codes, Some, None, Contains, refl, arith}
+use Rattle.std.proofs.Common.{◌≡◌, ℕ, List, [], ◌∷◌, length, codes, Some, None, Contains, refl, arith}
 use Rattle.std.proofs.lemmas.List.Elements.{All-nil, All-cons}
 use Rattle.uu_times.specs.declared.moment.Moment.{Moment}
 use Rattle.uu_times.specs.System.{System}
@@ -59,15 +59,23 @@ module _ (monday tuesday : Moment) where
 
   -- the notice was true, and duke carried out what it had in hand, while mysite did not
   true_and_counted : PassesTruly crossing mysite (sessions_at sender events) (report ∷ [])
-  true_and_counted =
-      ([], report ∷ [], refl, record { rest = report ∷ []; prefix = refl; unheard = []; at_most_one = omega arith; settled = λ loose. refl; answers = refl },
-      All-cons IsTrueThen (record { answered = []; notice = waits (job_of 1 letter) }) [] ((0, omega arith, refl), refl) (All-nil IsTrueThen),
-      (report ∷ [], [], refl, record { rest = []; prefix = refl; unheard = []; at_most_one = omega arith; settled = λ settled. refl; answers = refl }, All-nil IsTrueThen, refl))
+  true_and_counted = (
+    [],
+    report ∷ [],
+    refl,
+    record { rest = report ∷ []; prefix = refl; unheard = []; at_most_one = omega arith; settled = λ loose. refl; answers = refl },
+    All-cons IsTrueThen (record { answered = []; notice = waits (job_of 1 letter) }) [] ((0, omega arith, refl), refl) (All-nil IsTrueThen),
+    (report ∷ [], [], refl, record { rest = []; prefix = refl; unheard = []; at_most_one = omega arith; settled = λ settled. refl; answers = refl }, All-nil IsTrueThen, refl),
+  )
 
   counted : Passes duke (exchanges_at receiver events) (handing monday ∷ handing tuesday ∷ [])
-  counted =
-      (handing monday ∷ [], handing tuesday ∷ [], refl, record { rest = []; prefix = refl; unheard = Number 1 ∷ []; at_most_one = omega arith; settled = λ settled. absurd settled; answers = refl },
-      (handing tuesday ∷ [], [], refl, record { rest = []; prefix = refl; unheard = []; at_most_one = omega arith; settled = λ settled. refl; answers = refl }, refl))
+  counted = (
+    handing monday ∷ [],
+    handing tuesday ∷ [],
+    refl,
+    record { rest = []; prefix = refl; unheard = Number 1 ∷ []; at_most_one = omega arith; settled = λ settled. absurd settled; answers = refl },
+    (handing tuesday ∷ [], [], refl, record { rest = []; prefix = refl; unheard = []; at_most_one = omega arith; settled = λ settled. refl; answers = refl }, refl),
+  )
 
   abbrev shown : Wire
   shown = record { parcels = parcel ∷ []; answers = [] }
@@ -82,10 +90,22 @@ module _ (monday tuesday : Moment) where
   was_answered = λ own. All-cons (Contains (1 ∷ [])) 1 [] (0, omega arith, refl) (All-nil (Contains (1 ∷ [])))
 
   keeps : KeepsToWire crossing nothing_sent events
-  keeps =
-      (tt, (All-cons (MayBeGiven crossing shown receiver) (handing monday) [] (from_wire monday) (All-nil (MayBeGiven crossing shown receiver)), (from_wire tuesday,
-      (All-cons (MayBeGiven crossing told sender) report [] was_answered (All-nil (MayBeGiven crossing told sender)), (was_answered,
-      (All-nil (MayBeGiven crossing told sender), (All-nil (MayBeGiven crossing told receiver), tt)))))))
+  keeps = (
+    tt,
+    (
+      All-cons (MayBeGiven crossing shown receiver) (handing monday) [] (from_wire monday) (All-nil (MayBeGiven crossing shown receiver)),
+      (
+        from_wire tuesday,
+        (
+          All-cons (MayBeGiven crossing told sender) report [] was_answered (All-nil (MayBeGiven crossing told sender)),
+          (
+            was_answered,
+            (All-nil (MayBeGiven crossing told sender), (All-nil (MayBeGiven crossing told receiver), tt)),
+          ),
+        ),
+      ),
+    ),
+  )
 
   nothing_kept : link_of duke (codes "mysite") ≡ new_link (codes "mysite")
   nothing_kept = refl

@@ -7,7 +7,7 @@ use Rattle.uu_core.specs.After.{after}
 use Rattle.uu_core.specs.Run.{state_after}
 use Rattle.uu_core.specs.Custody.{Crossing, Handed, IsOf, parcel_of}
 use Rattle.uu_core.specs.Network.{Chart, IsRoute, GoesBy}
-use Rattle.uu_custody.specs.Handovers.{handed_of, handed_in, Waited, HasCome, IsInCustody, ComeOnce}
+use Rattle.uu_custody.specs.Handovers.{handed_of, handed_in, Waited, HasCome, IsInCustody}
 use Rattle.uu_custody.specs.Routes.{Course, ComeOnceOverAll, handed_over, IsOnItsWay, CameTo}
 use Rattle.uu_custody.proofs.Lists.{first_or_later, none_in, pairs_first, pairs_rest}
 use Rattle.uu_custody.proofs.Coming.{there_then}
@@ -53,9 +53,9 @@ on_its_way chart course (next ∷ more) line site job route once goes waited =
     subst (λ n. IsOnItsWay chart course n (line ∷ next ∷ more) job) route.0
     (over_one chart course line (next ∷ more) job (first_line chart course line site (next ∷ more) job route once waited)
     (λ come.
-      let it = was_there (chart.crossing line) (course.first (chart.ends line)) (course.counted (chart.ends line)) come.handed come.there in
-      let on = goes_on chart line (next ∷ more) job come.handed goes come.of in
-      on_its_way chart course more next (chart.ends line) come.handed.job route.1 once.1 on (record { before = it.before; behind = it.behind; commands_are = it.commands_are; there = it.there; system = on.0 })))
+    let it = was_there (chart.crossing line) (course.first (chart.ends line)) (course.counted (chart.ends line)) come.handed come.there in
+    let on = goes_on chart line (next ∷ more) job come.handed goes come.of in
+    on_its_way chart course more next (chart.ends line) come.handed.job route.1 once.1 on (record { before = it.before; behind = it.behind; commands_are = it.commands_are; there = it.there; system = on.0 })))
 
 -- ---- at most once
 

@@ -1,5 +1,5 @@
 -- Sessions of a site, event by event: what counts of them.
-use Rattle.std.proofs.Common.{◌≡◌, ◌⊎◌, ◌≤◌, inl, inr, ℕ, suc, List, [], ◌∷◌, ◌++◌, map, length, All, Contains, refl, sym, ap, subst, ◌∙◌, arith}
+use Rattle.std.proofs.Common.{◌≡◌, suc, List, [], ◌∷◌, ◌++◌, map, length, All, refl, sym, ap, subst, ◌∙◌, arith}
 use Rattle.std.proofs.lemmas.List.Elements.{All-head, All-tail, All-nil, All-cons}
 use Rattle.uu_core.specs.declared.command.Command.{Command}
 use Rattle.uu_core.specs.declared.command.Reply.{Reply}
@@ -112,9 +112,10 @@ first_passes crossing s command reply (session ∷ sessions) counted (here, late
 pub noticed_passes : (crossing : Crossing) (s : State) (notice : Notice) (sessions : List Session) (counted : List Command) → PassesTruly crossing s (with_first (begin_noticed notice) sessions) counted → IsTrueOf crossing s notice × PassesTruly crossing s sessions counted
 noticed_passes crossing s notice [] counted (here, later, is, counts, true, none) =
     (All-head (λ (note : Noted). IsTrueOf crossing (state_after s note.answered) note.notice) (record { answered = []; notice = notice }) [] true, is ∙ ap (λ l. here ++ l) none ∙ ap (λ l. l ++ []) (none_counts s here counts))
-noticed_passes crossing s notice (session ∷ sessions) counted (here, later, is, counts, true, passes) =
-    (All-head (λ (note : Noted). IsTrueOf crossing (state_after s note.answered) note.notice) (record { answered = []; notice = notice }) session.noted true,
-    (here, later, is, counts, All-tail (λ (note : Noted). IsTrueOf crossing (state_after s note.answered) note.notice) (record { answered = []; notice = notice }) session.noted true, passes))
+noticed_passes crossing s notice (session ∷ sessions) counted (here, later, is, counts, true, passes) = (
+  All-head (λ (note : Noted). IsTrueOf crossing (state_after s note.answered) note.notice) (record { answered = []; notice = notice }) session.noted true,
+  (here, later, is, counts, All-tail (λ (note : Noted). IsTrueOf crossing (state_after s note.answered) note.notice) (record { answered = []; notice = notice }) session.noted true, passes),
+)
 
 -- what counts at a stop, and the rest passes from the state after it
 pub record LastPasses (crossing : Crossing) (s : State) (unanswered : List Command) (sessions : List Session) (counted : List Command) : Type 0 where
@@ -136,10 +137,14 @@ exchanges_of sessions = map (λ (session : Session). session.exchange) sessions
 -- the receiver sends no notices, so its exchanges are sessions that pass
 pub truly : (crossing : Crossing) (s : State) (sessions : List Session) (counted : List Command) → All (λ (session : Session). session.noted ≡ []) sessions → Passes s (exchanges_of sessions) counted → PassesTruly crossing s sessions counted
 truly crossing s [] counted none passes = passes
-truly crossing s (session ∷ sessions) counted none (here, later, is, counts, passes) =
-    (here, later, is, counts,
-    subst (AreTrue crossing s) (sym (All-head (λ (session : Session). session.noted ≡ []) session sessions none)) (All-nil (λ (note : Noted). IsTrueOf crossing (state_after s note.answered) note.notice)),
-    truly crossing (state_after s here) sessions later (All-tail (λ (session : Session). session.noted ≡ []) session sessions none) passes)
+truly crossing s (session ∷ sessions) counted none (here, later, is, counts, passes) = (
+  here,
+  later,
+  is,
+  counts,
+  subst (AreTrue crossing s) (sym (All-head (λ (session : Session). session.noted ≡ []) session sessions none)) (All-nil (λ (note : Noted). IsTrueOf crossing (state_after s note.answered) note.notice)),
+  truly crossing (state_after s here) sessions later (All-tail (λ (session : Session). session.noted ≡ []) session sessions none) passes,
+)
 
 -- what passes so passes as exchanges
 pub plainly : (crossing : Crossing) (s : State) (sessions : List Session) (counted : List Command) → PassesTruly crossing s sessions counted → Passes s (exchanges_of sessions) counted

@@ -14,8 +14,8 @@ use Rattle.uu_store.specs.Openings.{ImageKeeps}
 use Rattle.uu_store.specs.Files.{FileStretch, file_exchanges, last_left, KeepsThroughout, AllKeep}
 use Rattle.uu_custody.specs.Events.{Event, sender, receiver, sessions_at, exchanges_at, PassesTruly, nothing_sent, KeepsToWire}
 use Rattle.uu_custody.specs.Handovers.{ComeOnce}
-use Rattle.uu_custody.specs.Routes.{Course, ComeOnceOverAll}
-use Rattle.uu_custody.specs.Sites.{HandsOver, AllHandOver, AllComeOnce}
+use Rattle.uu_custody.specs.Routes.{ComeOnceOverAll}
+use Rattle.uu_custody.specs.Sites.{AllHandOver, AllComeOnce}
 use Rattle.uu_custody.proofs.Spools.{Follow, truly_kept, last_keeps, good_kept}
 
 passes_kept : (stretches : List FileStretch) (before : Image) (s : State) (counted : List Command) → KeepsThroughout s before stretches counted → Passes s (file_exchanges stretches) counted
@@ -44,7 +44,7 @@ module _ (first : ℕ → State) (before : ℕ → Image) (stretches : ℕ → L
   module _
       (states : Follow) (none : IsWellFormed empty)
       (plain : (crossing : Crossing) (a b : State) (events : List Event) (sent received : List Command) → IsWellFormed a → IsWellFormed b → link_of b crossing.from ≡ new_link crossing.from
-        → PassesTruly crossing a (sessions_at sender events) sent → Passes b (exchanges_at receiver events) received → KeepsToWire crossing nothing_sent events → ComeOnce crossing a sent b received)
+      → PassesTruly crossing a (sessions_at sender events) sent → Passes b (exchanges_at receiver events) received → KeepsToWire crossing nothing_sent events → ComeOnce crossing a sent b received)
       (chart : Chart) (count : ℕ) (events : ℕ → List Event) (keep : (site : ℕ) → site < count → ImageKeeps (before site) (first site))
     where
       over_all : (lines : List ℕ) (counted : ℕ → List Command) → ((site : ℕ) → site < count → KeepsThroughout (first site) (before site) (stretches site) (counted site))
@@ -53,13 +53,14 @@ module _ (first : ℕ → State) (before : ℕ → Image) (stretches : ℕ → L
       over_all (line ∷ lines) counted through all =
           let it = all.0 in
           let one = chart.begins line in
-          let other = chart.ends line in
-          (plain (chart.crossing line) (first one) (first other) (events line) (counted one) (counted other)
-          (good_kept none (before one) (first one) (keep one it.begins)) (good_kept none (before other) (first other) (keep other it.ends)) it.handover.nothing_kept
-          (truly_kept (chart.crossing line) (stretches one) (sessions_at sender (events line)) (before one) (first one) (counted one) (through one it.begins) it.sent it.shown)
-          (subst (λ l. Passes (first other) l (counted other)) it.received (passes_kept (stretches other) (before other) (first other) (counted other) (through other it.ends)))
-          it.handover.keeps,
-          over_all lines counted through all.1)
+          let other = chart.ends line in (
+            plain (chart.crossing line) (first one) (first other) (events line) (counted one) (counted other)
+                (good_kept none (before one) (first one) (keep one it.begins)) (good_kept none (before other) (first other) (keep other it.ends)) it.handover.nothing_kept
+                (truly_kept (chart.crossing line) (stretches one) (sessions_at sender (events line)) (before one) (first one) (counted one) (through one it.begins) it.sent it.shown)
+                (subst (λ l. Passes (first other) l (counted other)) it.received (passes_kept (stretches other) (before other) (first other) (counted other) (through other it.ends)))
+                it.handover.keeps,
+            over_all lines counted through all.1,
+          )
 
       pub all_come : (lines : List ℕ) → ((site : ℕ) → site < count → ∥ AllKeep (first site) (before site) (stretches site) ∥₁) → AllHandOver chart count first before stretches events lines
           → ∥ AllComeOnce chart count first stretches (λ site. last_left (before site) (stretches site)) lines ∥₁

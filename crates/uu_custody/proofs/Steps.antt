@@ -1,7 +1,7 @@
 -- Steps of custody that commands of two sites make.
-use Rattle.std.proofs.Common.{◌≡◌, ◌⊎◌, inl, inr, ℕ, Bool, true, false, not, cond, List, [], ◌∷◌, ◌++◌, map, All, Contains, Option, Some, None, refl, sym, ap, subst, ◌∙◌, append_assoc, append-nil}
+use Rattle.std.proofs.Common.{◌≡◌, ◌⊎◌, inl, inr, ℕ, Bool, true, false, not, cond, List, [], ◌∷◌, ◌++◌, map, Contains, Option, Some, None, refl, sym, ap, subst, ◌∙◌, append_assoc, append-nil}
 use Rattle.std.specs.Cmp.Lexicographic.{bytes_decides}
-use Rattle.std.proofs.lemmas.List.Elements.{Contains-append_left, Contains-append_right, Contains-append_cases, Contains-push_cases}
+use Rattle.std.proofs.lemmas.List.Elements.{Contains-push_cases}
 use Rattle.uu_core.specs.declared.command.Command.{Command}
 use Rattle.uu_core.specs.declared.command.Command.TheVariants.{Define, Remove, Queue, QueueOnce, Kill, Regrade, Rejuvenate, Failed, Done, Entry, Forget}
 use Rattle.uu_core.specs.declared.refusal.Refusal.{Refusal}
@@ -11,7 +11,7 @@ use Rattle.uu_core.specs.Verdict.{verdict}
 use Rattle.uu_core.specs.After.{after}
 use Rattle.uu_core.specs.Run.{state_after}
 use Rattle.uu_core.specs.Laws.{accepted_of, unless_refused}
-use Rattle.uu_core.specs.Custody.{Parcel, parcel_of, Crossing, key_of, Handed, World, Step, IsLeast, MayRun, is_of_others, MayGo, MayGoOn, kills_in, handed_for, added, answer_to, go, world_after}
+use Rattle.uu_core.specs.Custody.{Parcel, parcel_of, Crossing, key_of, Handed, World, Step, IsLeast, MayRun, is_of_others, MayGoOn, kills_in, handed_for, added, go, world_after}
 use Rattle.uu_core.specs.Custody.Step.{SenderRuns, SenderShows, SenderSays, ReceiverTakes, ReceiverRuns}
 use Rattle.uu_custody.specs.Handovers.{handed_of, handed_in, Waited}
 

@@ -6,7 +6,7 @@ use Rattle.sqlite.specs.State as db
 use Rattle.sqlite_wal.specs.Recovery.{Image}
 use Rattle.uu_sql.specs.Steps.{Rests}
 use Rattle.uu_core.specs.declared.command.Command.{Command}
-use Rattle.uu_core.specs.State.{State, IsWellFormed, link_of, new_link}
+use Rattle.uu_core.specs.State.{State, link_of, new_link}
 use Rattle.uu_core.specs.Run.{state_after}
 use Rattle.uu_core.specs.Custody.{Crossing}
 use Rattle.uu_store.specs.Kept.{Stores}
@@ -14,7 +14,7 @@ use Rattle.uu_store.specs.Openings.{ImageKeeps}
 use Rattle.uu_store.specs.Exchanges.{Passes}
 use Rattle.uu_store.specs.Stretches.{StretchOver}
 use Rattle.uu_store.specs.Files.{FileStretch}
-use Rattle.uu_custody.specs.Events.{Event, Session, sender, receiver, sessions_at, exchanges_at, AreTrue, nothing_sent, KeepsToWire}
+use Rattle.uu_custody.specs.Events.{Event, Session, sender, receiver, exchanges_at, AreTrue, nothing_sent, KeepsToWire}
 use Rattle.uu_custody.specs.Handovers.{ComeOnce, ToldAreInCustody}
 
 -- ---- what is supposed of the history

@@ -254,8 +254,8 @@ module _
           then_alone job there is = elim (made at it.command job there) [
             | inl was ↦ (let low = below it.before was.later was.there in let same = was.same.number in absurd (omega (arith, low, same, is, next.0)))
             | inr ours ↦ (
-              let same : ours.new ≡ it.made.new = new_of ours.new it.made.new (sym ours.command_is ∙ it.made.command_is) in
-              subst (IsSameJob (job_of number new)) (it.made.job_is ∙ ap (job_of at.next) (sym same) ∙ sym ours.job_is) (itself (job_of number new)))
+                let same : ours.new ≡ it.made.new = new_of ours.new it.made.new (sym ours.command_is ∙ it.made.command_is) in
+                subst (IsSameJob (job_of number new)) (it.made.job_is ∙ ap (job_of at.next) (sym same) ∙ sym ours.job_is) (itself (job_of number new)))
           ]
 
           alone : (job : Job) → Contains (state_after then it.behind).jobs job → job.number ≡ number → IsSameJob (job_of number new) job
@@ -301,8 +301,13 @@ module _
             let at = state_after s it.before in
             let taken = accepts at (Queue new) it.told in
             let first : IsHandedIn at (Queue new) (job_of at.next new) = record { new = new; command_is = refl; accepted = taken; first = refl; job_is = refl } in
-            accounted_in counted new (record { before = it.before; command = Queue new; behind = it.behind; is = it.is;
-              made = record { new = new; command_is = refl; accepted = taken; first = refl; job_is = ap (λ n. job_of n new) (is_next at (Queue new) new first it.told) } })
+            accounted_in counted new (record {
+              before = it.before;
+              command = Queue new;
+              behind = it.behind;
+              is = it.is;
+              made = record { new = new; command_is = refl; accepted = taken; first = refl; job_is = ap (λ n. job_of n new) (is_next at (Queue new) new first it.told) };
+            })
 
         pub accounted_under : ((state : State) (key : Key) (job : NewJob) (given : ℕ) → (after state (QueueOnce key job)).1 ≡ Number given → IsKept (after state (QueueOnce key job)).0 key given)
             → ((state : State) (commands : List Command) (key : Key) (given : ℕ) → IsKept (state_after state commands) key given → IsKept state key given ⊎ ((first : NewJob) × IsFirstUnder state commands key first given))
@@ -319,5 +324,8 @@ module _
             by-origin (inl was) = inl (record { kept = was; job = kept_from s counted })
             by-origin (inr (first, h)) =
                 let is : counted ≡ h.before ++ QueueOnce key first ∷ (h.behind ++ it.behind) = counted_is ∙ ap (λ l. l ++ it.behind) h.run_is ∙ append_assoc h.before (QueueOnce key first ∷ h.behind) it.behind in
-                inr (first, record { before = h.before; behind = h.behind ++ it.behind; run_is = is; made = h.made },
-                accounted_in counted first (record { before = h.before; command = QueueOnce key first; behind = h.behind ++ it.behind; is = is; made = h.made }))
+                inr (
+                  first,
+                  record { before = h.before; behind = h.behind ++ it.behind; run_is = is; made = h.made },
+                  accounted_in counted first (record { before = h.before; command = QueueOnce key first; behind = h.behind ++ it.behind; is = is; made = h.made }),
+                )
