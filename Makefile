@@ -52,6 +52,7 @@ test:
 	@scripts/page-test
 	@scripts/carriers-test
 	@scripts/network
+	@scripts/uucico-test
 	@scripts/refused-memory
 
 install: build
