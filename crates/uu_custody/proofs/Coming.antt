@@ -11,11 +11,11 @@ use Rattle.uu_core.specs.Verdict.{verdict}
 use Rattle.uu_core.specs.After.{after, after_verdict, job_of}
 use Rattle.uu_core.specs.Run.{state_after}
 use Rattle.uu_core.specs.Laws.{accepted_of, unless_refused, lets_go, IsAmong}
-use Rattle.uu_core.specs.Custody.{Parcel, Crossing, Handed, World, Step, MayGoOn, world_after, start, IsReached, IsOf, IsNotLost, added}
+use Rattle.uu_core.specs.Custody.{Parcel, Crossing, Handed, World, Step, MayGoOn, world_after, start, IsReached, IsOf, IsNotLost, IsFree, added}
 use Rattle.uu_store.specs.Exchanges.{Passes}
-use Rattle.uu_custody.specs.Events.{Event, Session, Noted, sender, receiver, just_opened, with_first, begin_answered, ended, sessions_at, exchanges_at, answered, stopped, noticed, PassesTruly, KeepsToWire, nothing_sent}
+use Rattle.uu_custody.specs.Events.{Event, Session, Noted, sender, receiver, just_opened, with_first, begin_answered, ended, sessions_at, exchanges_at, answered, stopped, noticed, PassesTruly, KeepsToWire, nothing_sent, ForgetsWhatWasSaid}
 use Rattle.uu_store.specs.Acknowledged.{WasLetGo}
-use Rattle.uu_custody.specs.Handovers.{handed_of, handed_in, Waited, IsKeptOrGone, IsInCustody, IsOfWaiting, AreOfWorld, ComeOnce}
+use Rattle.uu_custody.specs.Handovers.{handed_of, handed_in, Waited, IsKeptOrGone, IsInCustody, IsOfWaiting, AreOfWorld, ComeOnce, NothingIsInTheWay}
 use Rattle.uu_store.proofs.Acknowledging.{Placed}
 use Rattle.uu_custody.proofs.Lists.{later_of, none_in, all_from, from_filter, from_map, all_or_one}
 use Rattle.uu_custody.proofs.Sessions.{truly}
@@ -94,7 +94,7 @@ module _
     (made : (crossing : Crossing) (world : World) (handed : Handed) → IsReached crossing world → Contains world.handed handed → (parcel : Parcel) × Contains world.shown parcel × IsOf crossing parcel handed)
     (stay : Stay)
     (crossing : Crossing) (a b : State) (sent received : List Command) (good : IsWellFormed a) (well : IsWellFormed b) (nothing : link_of b crossing.from ≡ new_link crossing.from)
-    (run : Proceeds crossing (start a b) sent received)
+    (events : List Event) (run : Proceeds (ForgetsWhatWasSaid crossing nothing_sent events) crossing (start a b) sent received)
   where
     abbrev last : World
     last = world_after crossing (start a b) run.steps
@@ -132,8 +132,8 @@ module _
         (may_second crossing (start a b) came.first came.second may) came.there waited.system in
         accounted job (subst (λ w. IsNotLost crossing w job) (sym (world_on crossing (start a b) came.first came.second) ∙ ap (world_after crossing (start a b)) (sym came.steps_are)) then)
 
-    pub of_world : AreOfWorld crossing a sent b received
-    of_world = record { world = last; reached = reached; sender_is = run.sender_is; receiver_is = run.receiver_is; handed_is = handed_is }
+    pub of_world : AreOfWorld crossing events a sent b received
+    of_world = record { world = last; reached = reached; sender_is = run.sender_is; receiver_is = run.receiver_is; handed_is = handed_is; heard = run.heard }
 
     pub come_once : ComeOnce crossing a sent b received
     come_once = record {
@@ -143,6 +143,15 @@ module _
       same = all_from (IsOfWaiting crossing a sent) (handed_in crossing b received) of_waiting;
       kept = all_from (λ (handed : Handed). IsKeptOrGone b received handed.job) (handed_in crossing b received) (kept stay crossing b received);
     }
+
+-- ---- what is in a job's way
+
+pub nothing_in_the_way : (crossing : Crossing) (a b : State) (events : List Event) (sent received : List Command)
+    → ((world : World) (job : Job) (new : NewJob) → IsReached crossing world → world.is_heard ≡ true → Contains world.sender.jobs job → job.system ≡ crossing.to → IsFree crossing world job new)
+    → AreOfWorld crossing events a sent b received → ForgetsWhatWasSaid crossing nothing_sent events → NothingIsInTheWay crossing a sent b received
+nothing_in_the_way crossing a b events sent received free of said job new there own =
+    subst (λ (s : State). IsFree crossing (start (state_after a sent) s) job new) of.receiver_is
+    (free of.world job new of.reached (of.heard said) (subst (λ (s : State). Contains s.jobs job) (sym of.sender_is) there) own)
 
 -- ---- a job whose number was told waited
 
@@ -168,7 +177,7 @@ told_waited crossing a sent new number follow used queued it own = record {
         apart : Refused refusal ≡ Number number → ⊥
         apart q = cc
 
-pub runs_proceed : (crossing : Crossing) (a b : State) (events : List Event) (sent received : List Command) → PassesTruly crossing a (sessions_at sender events) sent → Passes b (exchanges_at receiver events) received → KeepsToWire crossing nothing_sent events → Proceeds crossing (start a b) sent received
+pub runs_proceed : (crossing : Crossing) (a b : State) (events : List Event) (sent received : List Command) → PassesTruly crossing a (sessions_at sender events) sent → Passes b (exchanges_at receiver events) received → KeepsToWire crossing nothing_sent events → Proceeds (ForgetsWhatWasSaid crossing nothing_sent events) crossing (start a b) sent received
 runs_proceed crossing a b events sent received p q keeps =
-    proceeds crossing events (start a b) nothing_sent sent received (record { parcels = λ parcel there. absurd (none_in parcel there); answers = λ number there. absurd (none_in number there) })
-    p (truly crossing b (sessions_at receiver events) received (silent events) q) keeps
+    proceeds (ForgetsWhatWasSaid crossing nothing_sent events) crossing events (start a b) nothing_sent sent received (record { parcels = λ parcel there. absurd (none_in parcel there); answers = λ number there. absurd (none_in number there); said = λ number there. absurd (none_in number there) })
+    p (truly crossing b (sessions_at receiver events) received (silent events) q) keeps (λ h. h) (λ h. refl)

@@ -78,10 +78,10 @@ module _ (monday tuesday : Moment) where
   )
 
   abbrev shown : Wire
-  shown = record { parcels = parcel ∷ []; answers = [] }
+  shown = record { parcels = parcel ∷ []; answers = []; said = [] }
 
   abbrev told : Wire
-  told = record { parcels = parcel ∷ []; answers = 1 ∷ [] }
+  told = record { parcels = parcel ∷ []; answers = 1 ∷ []; said = [] }
 
   from_wire : (at : Moment) → MayBeGiven crossing shown receiver (handing at)
   from_wire at = λ own. record { parcel = parcel; there = (0, omega arith, refl); key_is = refl; made = refl }

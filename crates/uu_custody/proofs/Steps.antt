@@ -44,8 +44,9 @@ pub record IsOfOne (crossing : Crossing) (sender : State) (sent : List Command) 
   pub waited : Waited crossing sender sent job
   pub is : parcel ≡ parcel_of job
 
--- From a world steps go on, by which its sender and its receiver run these commands.
-pub record Proceeds (crossing : Crossing) (world : World) (sent received : List Command) : Type 0 where
+-- From a world steps go on, by which its sender and its receiver run these commands; where this is
+-- supposed, the receiver forgets only what was said.
+pub record Proceeds (H : Type 0) (crossing : Crossing) (world : World) (sent received : List Command) : Type 0 where
   pub steps : List Step
   pub may_go : MayGoOn crossing world steps
   pub sender_is : (world_after crossing world steps).sender ≡ state_after world.sender sent
@@ -54,9 +55,10 @@ pub record Proceeds (crossing : Crossing) (world : World) (sent received : List 
   pub killed_is : (world_after crossing world steps).killed ≡ world.killed ++ kills_in (accepted_of world.sender sent)
   pub shown_are : (parcel : Parcel) → Contains (world_after crossing world steps).shown parcel → Contains world.shown parcel ⊎ IsOfOne crossing world.sender sent parcel
   pub came : (job : Job) → Waited crossing world.sender sent job → Came crossing world steps job
+  pub heard : H → (world_after crossing world steps).is_heard ≡ true
 
-pub stays : (crossing : Crossing) (world : World) → Proceeds crossing world [] []
-stays crossing world = record {
+pub stays : {H : Type 0} (crossing : Crossing) (world : World) → (H → world.is_heard ≡ true) → Proceeds H crossing world [] []
+stays crossing world heard = record {
   steps = [];
   may_go = tt;
   sender_is = refl;
@@ -65,6 +67,7 @@ stays crossing world = record {
   killed_is = sym (append-nil world.killed);
   shown_are = λ parcel there. inl there;
   came = λ job waited. (record { first = []; second = []; steps_are = refl; there = at_first waited.before waited.behind waited.commands_are job waited.there });
+  heard = heard;
 }
   where
     at_first : (before behind : List Command) → [] ≡ before ++ behind → (job : Job) → Contains (state_after world.sender before).jobs job → Contains world.sender.jobs job
@@ -103,7 +106,7 @@ kills_first s command commands = by-verdict (verdict s command)
 waited_behind : (crossing : Crossing) (s : State) (command : Command) (commands : List Command) (job : Job) → Waited crossing (after s command).0 commands job → Waited crossing s (command ∷ commands) job
 waited_behind crossing s command commands job waited = record { before = command ∷ waited.before; behind = waited.behind; commands_are = ap (λ l. command ∷ l) waited.commands_are; there = waited.there; system = waited.system }
 
-pub sender_runs : (crossing : Crossing) (world : World) (command : Command) (sent received : List Command) → MayRun crossing world command → Proceeds crossing (go crossing world (SenderRuns command)) sent received → Proceeds crossing world (command ∷ sent) received
+pub sender_runs : {H : Type 0} (crossing : Crossing) (world : World) (command : Command) (sent received : List Command) → MayRun crossing world command → Proceeds H crossing (go crossing world (SenderRuns command)) sent received → Proceeds H crossing world (command ∷ sent) received
 sender_runs crossing world command sent received may on = record {
   steps = SenderRuns command ∷ on.steps;
   may_go = (may, on.may_go);
@@ -116,6 +119,7 @@ sender_runs crossing world command sent received may on = record {
     | inr it ↦ inr (record { job = it.job; waited = waited_behind crossing world.sender command sent it.job it.waited; is = it.is })
   ];
   came = λ job waited. at_first waited.before waited.behind waited.commands_are job waited.there waited.system;
+  heard = on.heard;
 }
   where
     heads : {x y : Command} {xs ys : List Command} → x ∷ xs ≡ y ∷ ys → y ≡ x
@@ -137,7 +141,7 @@ sender_runs crossing world command sent received may on = record {
 
 -- ---- what it shows
 
-pub sender_shows : (crossing : Crossing) (world : World) (job : Job) (sent received : List Command) → Contains world.sender.jobs job → job.system ≡ crossing.to → Proceeds crossing (go crossing world (SenderShows job)) sent received → Proceeds crossing world sent received
+pub sender_shows : {H : Type 0} (crossing : Crossing) (world : World) (job : Job) (sent received : List Command) → Contains world.sender.jobs job → job.system ≡ crossing.to → Proceeds H crossing (go crossing world (SenderShows job)) sent received → Proceeds H crossing world sent received
 sender_shows crossing world job sent received there own on = record {
   steps = SenderShows job ∷ on.steps;
   may_go = ((there, own), on.may_go);
@@ -153,9 +157,10 @@ sender_shows crossing world job sent received there own on = record {
     | inr it ↦ inr it
   ];
   came = λ other waited. came_behind crossing world (SenderShows job) on.steps other (on.came other waited);
+  heard = on.heard;
 }
 
-pub sender_says : (crossing : Crossing) (world : World) (below : ℕ) (sent received : List Command) → IsLeast crossing world.sender below → Proceeds crossing (go crossing world (SenderSays below)) sent received → Proceeds crossing world sent received
+pub sender_says : {H : Type 0} (crossing : Crossing) (world : World) (below : ℕ) (sent received : List Command) → IsLeast crossing world.sender below → Proceeds H crossing (go crossing world (SenderSays below)) sent received → Proceeds H crossing world sent received
 sender_says crossing world below sent received least on = record {
   steps = SenderSays below ∷ on.steps;
   may_go = (least, on.may_go);
@@ -165,6 +170,7 @@ sender_says crossing world below sent received least on = record {
   killed_is = on.killed_is;
   shown_are = on.shown_are;
   came = λ other waited. came_behind crossing world (SenderSays below) on.steps other (on.came other waited);
+  heard = on.heard;
 }
 
 -- ---- the receiver's commands
@@ -186,7 +192,7 @@ hands_none crossing state (Done system at jobs) e = refl
 hands_none crossing state (Entry bytes) e = refl
 hands_none crossing state (Forget system below) e = refl
 
-pub receiver_runs : (crossing : Crossing) (world : World) (command : Command) (sent received : List Command) → is_of_others crossing command ≡ true → Proceeds crossing (go crossing world (ReceiverRuns command)) sent received → Proceeds crossing world sent (command ∷ received)
+pub receiver_runs : {H : Type 0} (crossing : Crossing) (world : World) (command : Command) (sent received : List Command) → is_of_others crossing command ≡ true → Proceeds H crossing (go crossing world (ReceiverRuns command)) sent received → Proceeds H crossing world sent (command ∷ received)
 receiver_runs crossing world command sent received may on = record {
   steps = ReceiverRuns command ∷ on.steps;
   may_go = (may, on.may_go);
@@ -196,6 +202,7 @@ receiver_runs crossing world command sent received may on = record {
   killed_is = on.killed_is;
   shown_are = on.shown_are;
   came = λ job waited. came_behind crossing world (ReceiverRuns command) on.steps job (on.came job waited);
+  heard = on.heard;
 }
 
 own_hands : (crossing : Crossing) (state : State) (parcel : Parcel) (new : NewJob) → map (handed_for parcel) (added state (after state (QueueOnce (key_of crossing parcel) new)).0) ≡ handed_of crossing state (QueueOnce (key_of crossing parcel) new)
@@ -206,8 +213,8 @@ own_hands crossing state parcel new = by-name (same_text crossing.from crossing.
     by-name true e = refl
     by-name false e = absurd (cc)
 
-pub receiver_takes : (crossing : Crossing) (world : World) (parcel : Parcel) (new : NewJob) (sent received : List Command) → Contains world.shown parcel → crossing.makes parcel new ≡ true → Proceeds crossing (go crossing world (ReceiverTakes parcel new)) sent received
-    → Proceeds crossing world sent (QueueOnce (key_of crossing parcel) new ∷ received)
+pub receiver_takes : {H : Type 0} (crossing : Crossing) (world : World) (parcel : Parcel) (new : NewJob) (sent received : List Command) → Contains world.shown parcel → crossing.makes parcel new ≡ true → Proceeds H crossing (go crossing world (ReceiverTakes parcel new)) sent received
+    → Proceeds H crossing world sent (QueueOnce (key_of crossing parcel) new ∷ received)
 receiver_takes crossing world parcel new sent received there made on = record {
   steps = ReceiverTakes parcel new ∷ on.steps;
   may_go = ((there, made), on.may_go);
@@ -220,4 +227,5 @@ receiver_takes crossing world parcel new sent received there made on = record {
   killed_is = on.killed_is;
   shown_are = on.shown_are;
   came = λ job waited. came_behind crossing world (ReceiverTakes parcel new) on.steps job (on.came job waited);
+  heard = on.heard;
 }

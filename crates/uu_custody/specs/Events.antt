@@ -1,8 +1,8 @@
 -- What happens at two sites, of which one hands its jobs on to the other: a history of both, in the
 -- order in which it becomes known. (The sites, the wire and the history are this project's choice.)
-use Rattle.std.specs.Prelude.{◌≡◌, ⊤, ℕ, Bool, true, false, List, [], ◌∷◌, ◌++◌, map, take, All, Contains, None, if◌then◌else◌}
+use Rattle.std.specs.Prelude.{◌≡◌, ◌≤◌, ⊤, ℕ, Bool, true, false, List, [], ◌∷◌, ◌++◌, map, take, All, Contains, None, if◌then◌else◌}
 use Rattle.uu_core.specs.declared.command.Command.{Command}
-use Rattle.uu_core.specs.declared.command.Command.TheVariants.{Remove, QueueOnce, Done}
+use Rattle.uu_core.specs.declared.command.Command.TheVariants.{Remove, QueueOnce, Done, Forget}
 use Rattle.uu_core.specs.declared.command.Reply.{Reply}
 use Rattle.uu_core.specs.declared.custody.Key.{Key}
 use Rattle.uu_core.specs.declared.job.NewJob.{NewJob}
@@ -114,13 +114,15 @@ PassesTruly crossing s (session ∷ sessions) counted =
 -- ---- the wire between them
 
 -- what ever went over the wire, which keeps it, repeats it and mixes it up: the jobs that the sender
--- showed, and its numbers to which the receiver answered with one of its own
+-- showed, its numbers to which the receiver answered with one of its own, and the numbers below
+-- which the sender said that it will ask for none
 pub record Wire : Type 0 where
   pub parcels : List Parcel
   pub answers : List ℕ
+  pub said : List ℕ
 
 abbrev pub nothing_sent : Wire
-nothing_sent = record { parcels = []; answers = [] }
+nothing_sent = record { parcels = []; answers = []; said = [] }
 
 -- the sender's number, where the reply to a hand-in under its name is a number
 abbrev pub answers_in : Crossing → Command → Reply → List ℕ
@@ -133,7 +135,7 @@ after_event crossing wire (answered sender command reply) = wire
 after_event crossing wire (answered receiver command reply) = record wire { answers = wire.answers ++ answers_in crossing command reply }
 after_event crossing wire (stopped site unanswered ending) = wire
 after_event crossing wire (noticed (waits job)) = record wire { parcels = wire.parcels ++ parcel_of job ∷ [] }
-after_event crossing wire (noticed (no_more below)) = wire
+after_event crossing wire (noticed (no_more below)) = record wire { said = wire.said ++ below ∷ [] }
 
 -- a hand-in is one of a parcel on the wire: under its key, a job that the receiver's program makes
 -- of it
@@ -163,3 +165,22 @@ Keeps crossing wire (noticed notice) = ⊤
 abbrev pub KeepsToWire : Crossing → Wire → List Event → Type 0
 KeepsToWire crossing wire [] = ⊤
 KeepsToWire crossing wire (event ∷ events) = Keeps crossing wire event × KeepsToWire crossing (after_event crossing wire event) events
+
+-- ---- what the receiver forgets
+
+-- The receiver forgets of the sender's numbers only those below one that the sender has said, or
+-- below a lesser one. (That jobs come once needs no such rule.)
+abbrev pub MayForget : Crossing → Wire → Site → Command → Type 0
+MayForget crossing wire receiver (Forget system below) = system ≡ crossing.from → (said : ℕ) × Contains wire.said said × (below ≤ said)
+MayForget crossing wire site command = ⊤
+
+-- so does the command of an event, and the one in hand at a stop
+abbrev pub ForgetsAsSaid : Crossing → Wire → Event → Type 0
+ForgetsAsSaid crossing wire (answered site command reply) = MayForget crossing wire site command
+ForgetsAsSaid crossing wire (stopped site unanswered ending) = All (MayForget crossing wire site) (take 1 unanswered)
+ForgetsAsSaid crossing wire (noticed notice) = ⊤
+
+-- each of the events forgets only what was said before it
+abbrev pub ForgetsWhatWasSaid : Crossing → Wire → List Event → Type 0
+ForgetsWhatWasSaid crossing wire [] = ⊤
+ForgetsWhatWasSaid crossing wire (event ∷ events) = ForgetsAsSaid crossing wire event × ForgetsWhatWasSaid crossing (after_event crossing wire event) events

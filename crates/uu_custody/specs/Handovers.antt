@@ -1,5 +1,5 @@
 -- What becomes of jobs that one spool hands on to another, by the commands that count at both.
-use Rattle.std.specs.Prelude.{◌≡◌, ◌⊎◌, ◌<◌, ℕ, List, [], ◌∷◌, ◌++◌, map, All, AllPairs, Contains, if◌then◌else◌}
+use Rattle.std.specs.Prelude.{◌≡◌, ◌⊎◌, ◌<◌, ℕ, true, List, [], ◌∷◌, ◌++◌, map, All, AllPairs, Contains, if◌then◌else◌}
 use Rattle.uu_core.specs.declared.command.Command.{Command}
 use Rattle.uu_core.specs.declared.command.Command.TheVariants.{QueueOnce}
 use Rattle.uu_core.specs.declared.job.NewJob.{NewJob}
@@ -7,9 +7,10 @@ use Rattle.uu_core.specs.State.{State, Job, same_text}
 use Rattle.uu_core.specs.After.{after, job_of}
 use Rattle.uu_core.specs.Run.{state_after}
 use Rattle.uu_core.specs.Laws.{accepted_of, IsAmong}
-use Rattle.uu_core.specs.Custody.{parcel_of, Crossing, Handed, World, kills_in, added, IsReached, IsOf}
+use Rattle.uu_core.specs.Custody.{parcel_of, Crossing, Handed, World, kills_in, added, start, IsReached, IsOf, IsFree}
 use Rattle.uu_store.specs.Acknowledged.{IsAcknowledged, WasLetGo}
 use Rattle.uu_store.specs.Exchanges.{Exchange}
+use Rattle.uu_custody.specs.Events.{Event, nothing_sent, ForgetsWhatWasSaid}
 
 -- the jobs that a receiver's command queues under the sender's name, with their numbers there
 abbrev pub handed_of : Crossing → State → Command → List Handed
@@ -75,11 +76,18 @@ ToldAreInCustody crossing exchanges sender sent receiver received =
     (new : NewJob) (number : ℕ) → IsAcknowledged exchanges new number → new.system ≡ crossing.to → IsInCustody crossing sender sent receiver received (job_of number new)
 
 -- The two spools are those of a world of custody that is reached (`uu_core/specs/Custody.antt`), so
--- what its law says of such worlds holds of them. (Whether the receiver forgot only what the sender
--- had said is left open, so nothing follows here on what is in a job's way.)
-pub record AreOfWorld (crossing : Crossing) (sender : State) (sent : List Command) (receiver : State) (received : List Command) : Type 0 where
+-- what its law says of such worlds holds of them. Where the receiver forgot only what the sender had
+-- said, it did so there.
+pub record AreOfWorld (crossing : Crossing) (events : List Event) (sender : State) (sent : List Command) (receiver : State) (received : List Command) : Type 0 where
   pub world : World
   pub reached : IsReached crossing world
   pub sender_is : world.sender ≡ state_after sender sent
   pub receiver_is : world.receiver ≡ state_after receiver received
   pub handed_is : world.handed ≡ handed_in crossing receiver received
+  pub heard : ForgetsWhatWasSaid crossing nothing_sent events → world.is_heard ≡ true
+
+-- Nothing is in the way of a job that waits for the receiver but what would be in the way of any.
+-- (Of a world `IsFree` looks at the receiver's state alone.)
+abbrev pub NothingIsInTheWay : Crossing → State → List Command → State → List Command → Type 0
+NothingIsInTheWay crossing sender sent receiver received =
+    (job : Job) (new : NewJob) → Contains (state_after sender sent).jobs job → job.system ≡ crossing.to → IsFree crossing (start (state_after sender sent) (state_after receiver received)) job new

@@ -14,8 +14,8 @@ use Rattle.uu_store.specs.Openings.{ImageKeeps}
 use Rattle.uu_store.specs.Exchanges.{Passes}
 use Rattle.uu_store.specs.Stretches.{StretchOver}
 use Rattle.uu_store.specs.Files.{FileStretch}
-use Rattle.uu_custody.specs.Events.{Event, Session, sender, receiver, exchanges_at, AreTrue, nothing_sent, KeepsToWire}
-use Rattle.uu_custody.specs.Handovers.{ComeOnce, ToldAreInCustody}
+use Rattle.uu_custody.specs.Events.{Event, Session, sender, receiver, exchanges_at, AreTrue, nothing_sent, KeepsToWire, ForgetsWhatWasSaid}
+use Rattle.uu_custody.specs.Handovers.{ComeOnce, ToldAreInCustody, NothingIsInTheWay}
 
 -- ---- what is supposed of the history
 
@@ -42,12 +42,14 @@ WereShownInFiles crossing before (session ∷ sessions) (it ∷ more) =
 
 -- ---- what follows
 
--- commands that count at both sites, by which no job is lost and none comes twice
+-- commands that count at both sites, by which no job is lost, none comes twice, and, where the
+-- receiver forgets only what was said, none is kept back
 pub record HaveCome (crossing : Crossing) (a b : State) (events : List Event) (sent received : List Command) : Type 0 where
   pub sent_count : Passes a (exchanges_at sender events) sent
   pub received_count : Passes b (exchanges_at receiver events) received
   pub once : ComeOnce crossing a sent b received
   pub told : ToldAreInCustody crossing (exchanges_at sender events) a sent b received
+  pub free : ForgetsWhatWasSaid crossing nothing_sent events → NothingIsInTheWay crossing a sent b received
 
 -- both databases store the states after such commands
 pub record StoreOnce (crossing : Crossing) (a b : State) (events : List Event) (one other : db.State) : Type 0 where

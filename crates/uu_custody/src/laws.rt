@@ -12,8 +12,8 @@ ghost use Rattle.uu_core.specs.State.{State, Job, IsWellFormed, link_of, new_lin
 ghost use Rattle.uu_core.specs.Custody.{Crossing};
 ghost use Rattle.uu_core.specs.Network.{Chart, IsRoute, GoesBy};
 ghost use Rattle.uu_store.specs.Exchanges.{Passes};
-ghost use Rattle.uu_custody.specs.Events.{Event, Notice, IsTrueOf, sender, receiver, sessions_at, exchanges_at, PassesTruly, KeepsToWire, nothing_sent};
-ghost use Rattle.uu_custody.specs.Handovers.{AreOfWorld, ComeOnce, ToldAreInCustody, Waited};
+ghost use Rattle.uu_custody.specs.Events.{Event, Notice, IsTrueOf, sender, receiver, sessions_at, exchanges_at, PassesTruly, KeepsToWire, nothing_sent, ForgetsWhatWasSaid};
+ghost use Rattle.uu_custody.specs.Handovers.{AreOfWorld, ComeOnce, NothingIsInTheWay, ToldAreInCustody, Waited};
 ghost use Rattle.uu_custody.specs.Sites.{AllHandOver, AllComeOnce};
 ghost use Rattle.uu_custody.specs.Spools.{IsHandover, WereShown, WereShownInFiles, StoreOnce, KeepOnce};
 ghost use Rattle.uu_schema.specs.declared.fault.StoreFault.{StoreFault};
@@ -39,7 +39,8 @@ use uu_store::laws::{
 /// them is stopped: where nothing goes over the wire but what was answered, and the commands that
 /// count at each are those that its exchanges tell of (`once`). So does each job that was handed in
 /// without a key, and whose number the sender told (`told`). The two spools are those of a world of
-/// custody, of which its law speaks (`world`).
+/// custody, of which its law speaks (`world`). Where the receiver forgets only what the sender said,
+/// nothing is in the way of a job that waits but what would be in the way of any (`free`).
 pub fn jobs_come_once_over_stops()
     ensures once { (crossing : Crossing) (a b : State) (events : List Event) (sent received : List Command)
         → IsWellFormed a → IsWellFormed b → link_of b crossing.from ≡ new_link crossing.from
@@ -52,7 +53,11 @@ pub fn jobs_come_once_over_stops()
     ensures world { (crossing : Crossing) (a b : State) (events : List Event) (sent received : List Command)
         → IsWellFormed a → IsWellFormed b → link_of b crossing.from ≡ new_link crossing.from
         → PassesTruly crossing a (sessions_at sender events) sent → Passes b (exchanges_at receiver events) received
-        → KeepsToWire crossing nothing_sent events → AreOfWorld crossing a sent b received }
+        → KeepsToWire crossing nothing_sent events → AreOfWorld crossing events a sent b received }
+    ensures free { (crossing : Crossing) (a b : State) (events : List Event) (sent received : List Command)
+        → IsWellFormed a → IsWellFormed b → link_of b crossing.from ≡ new_link crossing.from
+        → PassesTruly crossing a (sessions_at sender events) sent → Passes b (exchanges_at receiver events) received
+        → KeepsToWire crossing nothing_sent events → ForgetsWhatWasSaid crossing nothing_sent events → NothingIsInTheWay crossing a sent b received }
 {
     handed_on_jobs_come_once();
     jobs_stay_through_runs();
