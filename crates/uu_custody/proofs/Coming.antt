@@ -5,12 +5,13 @@ use Rattle.uu_core.specs.declared.command.Command.{Command}
 use Rattle.uu_core.specs.declared.command.Command.TheVariants.{Define, Remove, Queue, QueueOnce, Kill, Regrade, Rejuvenate, Failed, Done, Entry, Forget}
 use Rattle.uu_core.specs.declared.command.Reply.TheVariants.{Number, Refused}
 use Rattle.uu_core.specs.declared.job.NewJob.{NewJob}
+use Rattle.uu_core.specs.declared.custody.Key.{Key}
 use Rattle.uu_core.specs.declared.refusal.Refusal.{Refusal}
 use Rattle.uu_core.specs.State.{State, Job, IsWellFormed, link_of, new_link, same_text}
 use Rattle.uu_core.specs.Verdict.{verdict}
 use Rattle.uu_core.specs.After.{after, after_verdict, job_of}
 use Rattle.uu_core.specs.Run.{state_after}
-use Rattle.uu_core.specs.Laws.{accepted_of, unless_refused, lets_go, IsAmong}
+use Rattle.uu_core.specs.Laws.{accepted_of, unless_refused, lets_go, IsAmong, is_repeat, IsFirstUnder}
 use Rattle.uu_core.specs.Custody.{Parcel, Crossing, Handed, World, Step, MayGoOn, world_after, start, IsReached, IsOf, IsNotLost, IsFree, added}
 use Rattle.uu_store.specs.Exchanges.{Passes}
 use Rattle.uu_custody.specs.Events.{Event, Session, Noted, sender, receiver, just_opened, with_first, begin_answered, ended, sessions_at, exchanges_at, answered, stopped, noticed, PassesTruly, KeepsToWire, nothing_sent, ForgetsWhatWasSaid}
@@ -176,6 +177,21 @@ told_waited crossing a sent new number follow used queued it own = record {
       where
         apart : Refused refusal ≡ Number number → ⊥
         apart q = cc
+
+-- the job that was handed in first under a key waited
+pub first_waited : (crossing : Crossing) (a : State) (sent : List Command) (key : Key) (first : NewJob) (number : ℕ)
+    → ((state : State) (one other : List Command) → state_after state (one ++ other) ≡ state_after (state_after state one) other)
+    → ((state : State) (key : Key) (job : NewJob) → verdict state (QueueOnce key job) ≡ None → is_repeat state (QueueOnce key job) ≡ false → Contains (after state (QueueOnce key job)).0.jobs (job_of state.next job))
+    → IsFirstUnder a sent key first number → first.system ≡ crossing.to → Waited crossing a sent (job_of number first)
+first_waited crossing a sent key first number follow queued it own = record {
+  before = it.before ++ QueueOnce key first ∷ [];
+  behind = it.behind;
+  commands_are = it.run_is ∙ sym (append_assoc it.before (QueueOnce key first ∷ []) it.behind);
+  there = subst (λ (s : State). Contains s.jobs (job_of number first)) (sym (follow a it.before (QueueOnce key first ∷ [])))
+      (subst (λ n. Contains (after (state_after a it.before) (QueueOnce key first)).0.jobs (job_of n first)) (sym (ap (λ (j : Job). j.number) it.made.job_is))
+      (queued (state_after a it.before) key first it.made.accepted it.made.first));
+  system = own;
+}
 
 pub runs_proceed : (crossing : Crossing) (a b : State) (events : List Event) (sent received : List Command) → PassesTruly crossing a (sessions_at sender events) sent → Passes b (exchanges_at receiver events) received → KeepsToWire crossing nothing_sent events → Proceeds (ForgetsWhatWasSaid crossing nothing_sent events) crossing (start a b) sent received
 runs_proceed crossing a b events sent received p q keeps =

@@ -17,7 +17,7 @@ use Rattle.uu_store.specs.Exchanges.{Counts, Passes}
 use Rattle.uu_store.specs.Stretches.{StretchOver, over, exchanges, StoresThroughout, AllStore}
 use Rattle.uu_store.specs.Files.{FileStretch, file_exchanges, last_left, KeepsThroughout, AllKeep, KeepsAfter}
 use Rattle.uu_custody.specs.Events.{Event, Session, sender, receiver, sessions_at, exchanges_at, PassesTruly, nothing_sent, ForgetsWhatWasSaid}
-use Rattle.uu_custody.specs.Handovers.{ComeOnce, ToldAreInCustody, NothingIsInTheWay}
+use Rattle.uu_custody.specs.Handovers.{ComeOnce, ToldAreInCustody, ToldUnderKeysAreInCustody, NothingIsInTheWay}
 use Rattle.uu_custody.specs.Spools.{WereShown, WereShownInFiles, HaveCome, StoreOnce, KeepOnce}
 use Rattle.uu_custody.proofs.Sessions.{exchanges_of, plainly}
 
@@ -80,12 +80,12 @@ Follow = (state : State) (first second : List Command) → state_after state (fi
 
 -- what the plain law says of two states and a history
 abbrev Comes : Crossing → State → State → List Event → Type 0
-Comes crossing a b events = (sent received : List Command) → PassesTruly crossing a (sessions_at sender events) sent → Passes b (exchanges_at receiver events) received → ComeOnce crossing a sent b received × ToldAreInCustody crossing (exchanges_at sender events) a sent b received × (ForgetsWhatWasSaid crossing nothing_sent events → NothingIsInTheWay crossing a sent b received)
+Comes crossing a b events = (sent received : List Command) → PassesTruly crossing a (sessions_at sender events) sent → Passes b (exchanges_at receiver events) received → ComeOnce crossing a sent b received × ToldAreInCustody crossing (exchanges_at sender events) a sent b received × ToldUnderKeysAreInCustody crossing (exchanges_at sender events) a sent b received × (ForgetsWhatWasSaid crossing nothing_sent events → NothingIsInTheWay crossing a sent b received)
 
 have_come : (crossing : Crossing) (a b : State) (events : List Event) (sent received : List Command) → Comes crossing a b events → PassesTruly crossing a (sessions_at sender events) sent → Passes b (exchanges_at receiver events) received → HaveCome crossing a b events sent received
 have_come crossing a b events sent received comes p q =
     let both = comes sent received p q in
-    record { sent_count = plainly crossing a (sessions_at sender events) sent p; received_count = q; once = both.0; told = both.1; free = both.2 }
+    record { sent_count = plainly crossing a (sessions_at sender events) sent p; received_count = q; once = both.0; told = both.1; told_under = both.2; free = both.3 }
 
 pub keep_once : Follow → (crossing : Crossing) (a b : State) (events : List Event) (before left : Image) (stretches : List FileStretch) (others : List FileStretch) → Comes crossing a b events
     → file_exchanges stretches ≡ exchanges_at sender events → file_exchanges others ≡ exchanges_at receiver events → WereShownInFiles crossing before (sessions_at sender events) stretches

@@ -2,13 +2,14 @@
 use Rattle.std.specs.Prelude.{◌≡◌, ◌⊎◌, ◌<◌, ℕ, true, List, [], ◌∷◌, ◌++◌, map, All, AllPairs, Contains, if◌then◌else◌}
 use Rattle.uu_core.specs.declared.command.Command.{Command}
 use Rattle.uu_core.specs.declared.command.Command.TheVariants.{QueueOnce}
+use Rattle.uu_core.specs.declared.custody.Key.{Key}
 use Rattle.uu_core.specs.declared.job.NewJob.{NewJob}
 use Rattle.uu_core.specs.State.{State, Job, same_text}
 use Rattle.uu_core.specs.After.{after, job_of}
 use Rattle.uu_core.specs.Run.{state_after}
-use Rattle.uu_core.specs.Laws.{accepted_of, IsAmong}
+use Rattle.uu_core.specs.Laws.{accepted_of, IsAmong, IsKept, IsFirstUnder}
 use Rattle.uu_core.specs.Custody.{parcel_of, Crossing, Handed, World, kills_in, added, start, IsReached, IsOf, IsFree}
-use Rattle.uu_store.specs.Acknowledged.{IsAcknowledged, WasLetGo}
+use Rattle.uu_store.specs.Acknowledged.{IsAcknowledged, IsAcknowledgedUnder, WasLetGo}
 use Rattle.uu_store.specs.Exchanges.{Exchange}
 use Rattle.uu_custody.specs.Events.{Event, nothing_sent, ForgetsWhatWasSaid}
 
@@ -74,6 +75,14 @@ pub record ComeOnce (crossing : Crossing) (sender : State) (sent : List Command)
 abbrev pub ToldAreInCustody : Crossing → List Exchange → State → List Command → State → List Command → Type 0
 ToldAreInCustody crossing exchanges sender sent receiver received =
     (new : NewJob) (number : ℕ) → IsAcknowledged exchanges new number → new.system ≡ crossing.to → IsInCustody crossing sender sent receiver received (job_of number new)
+
+-- Where a number was told to a key at the sender, the key was kept with it before the first of these
+-- commands, or the job that was handed in first under the key got it, and is in custody if it is for
+-- the receiver. So a relay's jobs are covered.
+abbrev pub ToldUnderKeysAreInCustody : Crossing → List Exchange → State → List Command → State → List Command → Type 0
+ToldUnderKeysAreInCustody crossing exchanges sender sent receiver received =
+    (key : Key) (new : NewJob) (number : ℕ) → IsAcknowledgedUnder exchanges key new number
+    → IsKept sender key number ⊎ ((first : NewJob) × IsFirstUnder sender sent key first number × (first.system ≡ crossing.to → IsInCustody crossing sender sent receiver received (job_of number first)))
 
 -- The two spools are those of a world of custody that is reached (`uu_core/specs/Custody.antt`), so
 -- what its law says of such worlds holds of them. Where the receiver forgot only what the sender had

@@ -15,7 +15,7 @@ use Rattle.uu_store.specs.Exchanges.{Passes}
 use Rattle.uu_store.specs.Stretches.{StretchOver}
 use Rattle.uu_store.specs.Files.{FileStretch}
 use Rattle.uu_custody.specs.Events.{Event, Session, sender, receiver, exchanges_at, AreTrue, nothing_sent, KeepsToWire, ForgetsWhatWasSaid}
-use Rattle.uu_custody.specs.Handovers.{ComeOnce, ToldAreInCustody, NothingIsInTheWay}
+use Rattle.uu_custody.specs.Handovers.{ComeOnce, ToldAreInCustody, ToldUnderKeysAreInCustody, NothingIsInTheWay}
 
 -- ---- what is supposed of the history
 
@@ -49,6 +49,7 @@ pub record HaveCome (crossing : Crossing) (a b : State) (events : List Event) (s
   pub received_count : Passes b (exchanges_at receiver events) received
   pub once : ComeOnce crossing a sent b received
   pub told : ToldAreInCustody crossing (exchanges_at sender events) a sent b received
+  pub told_under : ToldUnderKeysAreInCustody crossing (exchanges_at sender events) a sent b received
   pub free : ForgetsWhatWasSaid crossing nothing_sent events → NothingIsInTheWay crossing a sent b received
 
 -- both databases store the states after such commands

@@ -13,7 +13,7 @@ ghost use Rattle.uu_core.specs.Custody.{Crossing};
 ghost use Rattle.uu_core.specs.Network.{Chart, IsRoute, GoesBy};
 ghost use Rattle.uu_store.specs.Exchanges.{Passes};
 ghost use Rattle.uu_custody.specs.Events.{Event, Notice, IsTrueOf, sender, receiver, sessions_at, exchanges_at, PassesTruly, KeepsToWire, nothing_sent, ForgetsWhatWasSaid};
-ghost use Rattle.uu_custody.specs.Handovers.{AreOfWorld, ComeOnce, NothingIsInTheWay, ToldAreInCustody, Waited};
+ghost use Rattle.uu_custody.specs.Handovers.{AreOfWorld, ComeOnce, NothingIsInTheWay, ToldAreInCustody, ToldUnderKeysAreInCustody, Waited};
 ghost use Rattle.uu_custody.specs.Sites.{AllHandOver, AllComeOnce};
 ghost use Rattle.uu_custody.specs.Spools.{IsHandover, WereShown, WereShownInFiles, StoreOnce, KeepOnce};
 ghost use Rattle.uu_schema.specs.declared.fault.StoreFault.{StoreFault};
@@ -32,13 +32,15 @@ use uu_core::laws::{
     runs_follow_one_another, states_stay_well_formed,
 };
 use uu_store::laws::{
-    FileHistory, no_answered_command_is_lost_in_files, no_answered_command_is_lost_over,
+    FileHistory, acknowledged_jobs_are_accounted_for, no_answered_command_is_lost_in_files,
+    no_answered_command_is_lost_over,
 };
 
 /// Jobs that one spool hands on to another come once, whatever both are given and wherever each of
 /// them is stopped: where nothing goes over the wire but what was answered, and the commands that
 /// count at each are those that its exchanges tell of (`once`). So does each job that was handed in
-/// without a key, and whose number the sender told (`told`). The two spools are those of a world of
+/// without a key, and whose number the sender told (`told`); and where the number was told to a key,
+/// the job that was handed in first under it (`told_under`). The two spools are those of a world of
 /// custody, of which its law speaks (`world`). Where the receiver forgets only what the sender said,
 /// nothing is in the way of a job that waits but what would be in the way of any (`free`).
 pub fn jobs_come_once_over_stops()
@@ -50,6 +52,10 @@ pub fn jobs_come_once_over_stops()
         → IsWellFormed a → IsWellFormed b → link_of b crossing.from ≡ new_link crossing.from
         → PassesTruly crossing a (sessions_at sender events) sent → Passes b (exchanges_at receiver events) received
         → KeepsToWire crossing nothing_sent events → ToldAreInCustody crossing (exchanges_at sender events) a sent b received }
+    ensures told_under { (crossing : Crossing) (a b : State) (events : List Event) (sent received : List Command)
+        → IsWellFormed a → IsWellFormed b → link_of b crossing.from ≡ new_link crossing.from
+        → PassesTruly crossing a (sessions_at sender events) sent → Passes b (exchanges_at receiver events) received
+        → KeepsToWire crossing nothing_sent events → ToldUnderKeysAreInCustody crossing (exchanges_at sender events) a sent b received }
     ensures world { (crossing : Crossing) (a b : State) (events : List Event) (sent received : List Command)
         → IsWellFormed a → IsWellFormed b → link_of b crossing.from ≡ new_link crossing.from
         → PassesTruly crossing a (sessions_at sender events) sent → Passes b (exchanges_at receiver events) received
@@ -62,11 +68,13 @@ pub fn jobs_come_once_over_stops()
     handed_on_jobs_come_once();
     jobs_stay_through_runs();
     numbers_are_not_used_again();
+    acknowledged_jobs_are_accounted_for();
     runs_follow_one_another();
 }
 
 /// Both spools are stopped wherever, over any stretches of work, and databases over stores of any
-/// two kinds are found after them: these store states of both by which each job has come once.
+/// two kinds are found after them: these store states of both by which each job has come once, and
+/// no key is in a job's way where the receiver forgets only what the sender said.
 pub fn jobs_come_once_over<S: Alter, R: Alter>()
     ensures { (crossing : Crossing) (events : List Event) (a b : State) (before : Held S) (stretches : List (StretchOver S)) (found : Held S) (first : Held R) (others : List (StretchOver R)) (last : Held R)
         → Led S.Store a before stretches found → Led R.Store b first others last

@@ -12,5 +12,5 @@ returns g c crossing events a b keeps all kept every same_sent same_received sho
     let plain = c.jobs_come_once_over_stops.ensures in
     let good = good_kept none A.before a keeps in
     let well = good_kept none B.before b kept in
-    (plain.once crossing a b events sent received good well handover.nothing_kept p q handover.keeps, plain.told crossing a b events sent received good well handover.nothing_kept p q handover.keeps, plain.free crossing a b events sent received good well handover.nothing_kept p q handover.keeps))
+    (plain.once crossing a b events sent received good well handover.nothing_kept p q handover.keeps, plain.told crossing a b events sent received good well handover.nothing_kept p q handover.keeps, plain.told_under crossing a b events sent received good well handover.nothing_kept p q handover.keeps, plain.free crossing a b events sent received good well handover.nothing_kept p q handover.keeps))
     same_sent same_received shown (c.no_answered_command_is_lost_in_files.ensures.throughout a keeps all) (c.no_answered_command_is_lost_in_files-2.ensures.commands b kept every)

@@ -3,7 +3,8 @@ use Rattle.uu_core.specs.declared.command.Command.TheVariants.{Queue}
 use Rattle.uu_core.specs.declared.command.Reply.TheVariants.{Number}
 use Rattle.uu_custody.specs.Events.{sender, exchanges_at}
 use Rattle.uu_store.proofs.Acknowledging.{of_exchanges}
-use Rattle.uu_custody.proofs.Coming.{come_once, of_world, nothing_in_the_way, runs_proceed, told_waited}
+use Rattle.uu_custody.proofs.Coming.{come_once, of_world, nothing_in_the_way, runs_proceed, told_waited, first_waited}
+use Rattle.std.proofs.Common.{inl, inr}
 use Rattle.uu_custody.proofs.Sessions.{plainly}
 use Rattle.uu_custody.proofs.laws.jobs_come_once_over_stops.Goals as goal
 
@@ -30,3 +31,16 @@ pub returns-clause-free : goal.returns-clause-free
 returns-clause-free c crossing a b events sent received good well nothing p q keeps =
     nothing_in_the_way crossing a b events sent received (c.handed_on_jobs_come_once.ensures.gets_through crossing)
     (returns-clause-world c crossing a b events sent received good well nothing p q keeps)
+
+pub returns-clause-told_under : goal.returns-clause-told_under
+returns-clause-told_under c crossing a b events sent received good well nothing p q keeps key new number told =
+    elim (c.acknowledged_jobs_are_accounted_for.ensures.under_keys a (exchanges_at sender events) sent key new number good (plainly crossing a _ sent p) told) [
+      | inl was ↦ inl was.kept
+      | inr it ↦ inr (
+        it.0,
+        it.1,
+        λ own.
+            (returns-clause-once c crossing a b events sent received good well nothing p q keeps).never_lost (job_of number it.0)
+            (first_waited crossing a sent key it.0 number c.runs_follow_one_another.ensures.states c.jobs_stay_through_runs.ensures.queued_once it.1 own),
+      )
+    ]
