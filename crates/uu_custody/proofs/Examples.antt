@@ -5,7 +5,7 @@ use Rattle.std.proofs.lemmas.List.Elements.{All-nil, All-cons}
 use Rattle.uu_times.specs.declared.moment.Moment.{Moment}
 use Rattle.uu_times.specs.System.{System}
 use Rattle.uu_core.specs.declared.command.Command.{Command}
-use Rattle.uu_core.specs.declared.command.Command.TheVariants.{Define, Queue, QueueOnce, Done}
+use Rattle.uu_core.specs.declared.command.Command.TheVariants.{Define, Queue, QueueOnce, Done, Forget}
 use Rattle.uu_core.specs.declared.command.Reply.TheVariants.{Done as Carried, Number}
 use Rattle.uu_core.specs.declared.job.Kind.TheVariants.{Execute}
 use Rattle.uu_core.specs.declared.job.NewJob.{NewJob}
@@ -16,7 +16,7 @@ use Rattle.uu_core.specs.Custody.{Crossing, Parcel, parcel_of, key_of}
 use Rattle.uu_schema.specs.declared.fault.StoreFault.TheVariants.{Store}
 use Rattle.uu_schema.specs.declared.fault.StoreKind.TheVariants.{Disk}
 use Rattle.uu_store.specs.Exchanges.{given, Passes}
-use Rattle.uu_custody.specs.Events.{Event, sender, receiver, waits, answered, stopped, noticed, Wire, Noted, IsTrueOf, sessions_at, exchanges_at, PassesTruly, MayBeGiven, KeepsToWire, nothing_sent}
+use Rattle.uu_custody.specs.Events.{Event, sender, receiver, waits, no_more, answered, stopped, noticed, Wire, Noted, IsTrueOf, sessions_at, exchanges_at, PassesTruly, MayBeGiven, KeepsToWire, nothing_sent, ForgetsWhatWasSaid}
 use Rattle.uu_custody.specs.Handovers.{handed_in}
 
 module _ (monday tuesday : Moment) where
@@ -106,6 +106,16 @@ module _ (monday tuesday : Moment) where
       ),
     ),
   )
+
+  -- once mysite has said that it asks for none below 2, duke may forget these, and no sooner
+  abbrev forgetting : Event
+  forgetting = answered receiver (Forget (codes "mysite") 2) Carried
+
+  it_was_said : ForgetsWhatWasSaid crossing told (noticed (no_more 2) ∷ forgetting ∷ [])
+  it_was_said = (tt, (λ own. (2, (0, omega arith, refl), omega arith), tt))
+
+  it_was_not_said : ForgetsWhatWasSaid crossing told (forgetting ∷ []) → ⊥
+  it_was_not_said heard = omega (arith, (heard.0 refl).1.1)
 
   nothing_kept : link_of duke (codes "mysite") ≡ new_link (codes "mysite")
   nothing_kept = refl
