@@ -2,7 +2,7 @@
 use crate::leaves::four_jobs;
 use crate::refusing::{ALL, expect_none};
 use crate::values::{
-    SETTINGS, SUNDAY, Work, by, grade, moment, new_job, site, system, word, words_of,
+    SETTINGS, SUNDAY, Work, by, grade, key, moment, new_job, site, system, word, words_of,
 };
 use std::alloc::Global;
 use std::collections::BTreeMap;
@@ -10,8 +10,8 @@ use std::process::Abort;
 use uu_core::callable::{is_free, lower};
 use uu_core::plain::Machine;
 use uu_core::{
-    CallState, Filter, Outcome, Refusal, SystemRow, decide_done, decide_drop, decide_failed,
-    decide_job, decide_queue, held, limit,
+    CallState, Filter, Mark, Outcome, Refusal, SystemRow, decide_done, decide_drop, decide_failed,
+    decide_forget, decide_job, decide_queue, decide_queue_once, held, limit,
 };
 use uu_map::MapFault;
 use uu_names::text::{blanks_len, first_line, is_blank, len_before};
@@ -104,12 +104,13 @@ fn machines(rt: HostRuntime) {
     let nothing = (empty.next(), empty.systems().len());
     let found = (full.next(), full.systems().len(), full.job(1).is_some());
     let missing = (full.job(5).is_some(), full.entry(&duke).is_some());
-    let answers = (nothing, found, missing);
-    let want = "((1, 0), (5, 2, true), (false, false))";
+    let answers = (nothing, found, missing, full.links().len());
+    let want = "((1, 0), (5, 2, true), (false, false), 0)";
     let names = [
         "Machine::new",
         "Machine::next",
         "Machine::systems",
+        "Machine::links",
         "Machine::job",
         "Machine::entry",
     ];
@@ -208,6 +209,30 @@ fn decisions_on_jobs(rt: HostRuntime) {
     let answers = (decide_queue(true, 7, &job), decide_job(None, &bob));
     let names = ["decide_queue", "decide_job"];
     expect_none(&rt, alloc, &names, &answers, "(Ok(7), Err(NoJob))");
+}
+
+#[test]
+fn keys(rt: HostRuntime) {
+    let alloc = rt.alloc();
+    let key = key(&rt, alloc, "duke", 7, 5);
+    let job = new_job(&rt, alloc, "unc", b'N', Work::Send, 100);
+    ALL.begin(alloc);
+    let marks = (
+        Mark::of_number(1 << 63).is_some(),
+        Mark::of_digest(u64::MAX).number(),
+    );
+    let first = decide_queue_once(true, 3, 0, None, &key, &job);
+    let stale = decide_queue_once(true, 3, 8, None, &key, &job);
+    let answers = (marks, first, stale, decide_forget(false));
+    let want = "((false, 9223372036854775807), Ok(First(3)), Err(Stale), Err(NoSystem))";
+    let names = [
+        "Mark::of_number",
+        "Mark::of_digest",
+        "Mark::number",
+        "decide_queue_once",
+        "decide_forget",
+    ];
+    expect_none(&rt, alloc, &names, &answers, want);
 }
 
 #[test]

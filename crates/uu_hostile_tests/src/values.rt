@@ -204,7 +204,7 @@ fn entry(rt: &impl Abort, alloc: Global, text: &[u8]) -> Command {
     Command::Entry(Listed::from_vec(bytes))
 }
 
-fn key(rt: &impl Abort, alloc: Global, from: &str, number: u32, mark: u64) -> Key {
+pub(crate) fn key(rt: &impl Abort, alloc: Global, from: &str, number: u32, mark: u64) -> Key {
     Key {
         from: site(rt, alloc, from),
         number,
