@@ -6,7 +6,7 @@ use Rattle.sqlite.specs.Effect.{Database}
 use Rattle.sqlite.specs.Held.{state}
 use Rattle.sqlite.specs.State as db
 use Rattle.sqlite_wal.specs.Recovery.{Image}
-use Rattle.uu_sql.specs.Steps.{Rests}
+use Rattle.uu_schema.specs.Steps.{Rests}
 use Rattle.uu_core.specs.declared.command.Command.{Command}
 use Rattle.uu_core.specs.State.{State, IsWellFormed, empty}
 use Rattle.uu_core.specs.Run.{state_after}

@@ -5,8 +5,8 @@ use Rattle.std.specs.declared.alloc.Global.{Global}
 use Rattle.sqlite.specs.declared.error.Error.{Error}
 use Rattle.sqlite.specs.Order.{Row}
 use Rattle.sqlite.specs.State.{State as DbState, HasCleanDisk}
-use Rattle.uu_sql.specs.Steps.{Stands, Told}
-use Rattle.uu_sql.proofs.Steps.{told_also, told_not, told_told}
+use Rattle.uu_schema.specs.Steps.{Stands, Told}
+use Rattle.uu_schema.proofs.Steps.{told_also, told_not, told_told}
 use Rattle.uu_core.specs.State.{State, IsWellFormed}
 use Rattle.uu_schema.specs.Schema.{site}
 use Rattle.uu_questions.specs.Answers.{IsAt, IsOf, Answers}

@@ -16,8 +16,8 @@ use Rattle.sqlite_typed.proofs.TestLemmas.{then_key, last_key}
 use Rattle.sqlite_keyed.specs.Lists.{sort_by, insert_sorted}
 use Rattle.sqlite_keyed.proofs.ListLemmas.{ascending_weaker, ascending-filter}
 use Rattle.sqlite_keyed.proofs.SortLemmas.{IsPermutation-sort_by}
-use Rattle.uu_sql.proofs.Answers.{answer_of}
-use Rattle.uu_sql.proofs.Sorted.{rises-insert_sorted}
+use Rattle.uu_schema.proofs.Answers.{answer_of}
+use Rattle.uu_schema.proofs.Sorted.{rises-insert_sorted}
 use Rattle.uu_times.specs.declared.moment.Moment.{Moment}
 use Rattle.uu_core.specs.declared.job.JobHead.{JobHead}
 use Rattle.uu_core.specs.declared.due.Due.{Due}

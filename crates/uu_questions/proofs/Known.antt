@@ -20,9 +20,9 @@ use Rattle.sqlite.proofs.Callers.{one_permutation}
 use Rattle.sqlite_keyed.proofs.ListLemmas.{none_counted, slice_get-filter, ascending_weaker, ascending-filter, ascending-map}
 use Rattle.sqlite_typed.proofs.TestLemmas.{at_ints, at_texts, last_term, last_key}
 use Rattle.sqlite_value.proofs.OrderLemmas.{value_cmp-Int}
-use Rattle.uu_sql.specs.Layout.{where_is}
-use Rattle.uu_sql.proofs.Asks.{ordered}
-use Rattle.uu_sql.proofs.Answers.{answer_of, answer_moved}
+use Rattle.uu_schema.specs.Layout.{where_is}
+use Rattle.uu_schema.proofs.Asks.{ordered}
+use Rattle.uu_schema.proofs.Answers.{answer_of, answer_moved}
 use Rattle.uu_core.specs.declared.job.JobHead.{JobHead}
 use Rattle.uu_core.specs.State.{State, Job, has_system, is_waiting, job_at, head_of, same_text}
 use Rattle.uu_tables.specs.declared.rows.SystemColumns.{SystemColumns}

@@ -11,7 +11,7 @@ use Rattle.sqlite.specs.State as db
 use Rattle.sqlite_sql.specs.declared.ops.CompareOp.TheVariants.{Eq}
 use Rattle.sqlite_typed.proofs.TestLemmas.{at_ints, at_texts, then_term, last_term}
 use Rattle.sqlite_keyed.proofs.ListLemmas.{slice_get-filter}
-use Rattle.uu_sql.specs.Layout.{where_is}
+use Rattle.uu_schema.specs.Layout.{where_is}
 use Rattle.uu_core.specs.declared.custody.Taken.{Taken}
 use Rattle.uu_core.specs.State.{State, Link, ComesBefore, is_link, is_taken, new_link, link_of, taken_at, same_text}
 use Rattle.uu_tables.specs.declared.rows.LinkColumns.{LinkColumns}

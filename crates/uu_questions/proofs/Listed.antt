@@ -23,10 +23,10 @@ use Rattle.sqlite_trees.proofs.ListLemmas.{all-permutation}
 use Rattle.sqlite_typed.proofs.TestLemmas.{truth_or, at_ints, at_texts, at_or, at_is_null, then_term, last_term, then_key, last_key}
 use Rattle.sqlite_value.specs.Order.{value_cmp}
 use Rattle.sqlite_value.proofs.OrderLemmas.{value_cmp-Int}
-use Rattle.uu_sql.specs.Layout.{where_is}
-use Rattle.uu_sql.proofs.Asks.{ordered}
-use Rattle.uu_sql.proofs.Answers.{answer_of}
-use Rattle.uu_sql.proofs.Sorted.{IsPermutation-insert_sorted}
+use Rattle.uu_schema.specs.Layout.{where_is}
+use Rattle.uu_schema.proofs.Asks.{ordered}
+use Rattle.uu_schema.proofs.Answers.{answer_of}
+use Rattle.uu_schema.proofs.Sorted.{IsPermutation-insert_sorted}
 use Rattle.uu_core.specs.declared.job.JobHead.{JobHead}
 use Rattle.uu_core.specs.State.{State, Job, IsWellFormed, head_of, entry_at, same_text}
 use Rattle.uu_tables.specs.declared.rows.EntryColumns.{EntryColumns}

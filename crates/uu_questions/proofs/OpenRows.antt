@@ -20,7 +20,7 @@ use Rattle.sqlite_sql.specs.declared.ops.BinaryOp.TheVariants.{Compare}
 use Rattle.sqlite_sql.specs.declared.ops.CompareOp.TheVariants.{Eq, Le, Lt}
 use Rattle.sqlite_typed.proofs.TestLemmas.{truth_or, at_ints, at_texts, then_term, last_term, sum_fits}
 use Rattle.sqlite_keyed.proofs.ListLemmas.{filter-map, all_weaker}
-use Rattle.uu_sql.proofs.Answers.{answer_of}
+use Rattle.uu_schema.proofs.Answers.{answer_of}
 use Rattle.uu_core.specs.declared.system.SystemRow.{SystemRow}
 use Rattle.uu_core.specs.State.{State, IsCall, same_text}
 use Rattle.uu_core.specs.Waiting.{is_held}

@@ -7,8 +7,8 @@ use Rattle.sqlite.specs.Order.{Row}
 use Rattle.sqlite.specs.Given.{IsPlain}
 use Rattle.sqlite.specs.Listing.{understood}
 use Rattle.sqlite.specs.State.{State as DbState, HasCleanDisk, Shown, IsUnchanged, FailsToQuery, Survives, CommitsShowing}
-use Rattle.uu_sql.specs.Steps.{Stands, Told}
-use Rattle.uu_sql.proofs.Steps.{told_also, told_not}
+use Rattle.uu_schema.specs.Steps.{Stands, Told}
+use Rattle.uu_schema.proofs.Steps.{told_also, told_not}
 use Rattle.uu_core.specs.State.{State}
 use Rattle.uu_schema.specs.Schema.{site}
 use Rattle.uu_questions.specs.Answers.{Answers, IsOf}

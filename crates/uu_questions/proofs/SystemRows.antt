@@ -8,7 +8,7 @@ use Rattle.sqlite_sql.specs.declared.ops.CompareOp.TheVariants.{Eq}
 use Rattle.std.proofs.lemmas.Map.Text.{is_eq-slice_cmp}
 use Rattle.sqlite_typed.proofs.TestLemmas.{at_texts, last_term}
 use Rattle.sqlite_keyed.proofs.ListLemmas.{filter-map, map_back, ascending-map, slice_get-filter}
-use Rattle.uu_sql.specs.Layout.{where_is}
+use Rattle.uu_schema.specs.Layout.{where_is}
 use Rattle.uu_core.specs.declared.system.SystemRow.{SystemRow}
 use Rattle.uu_core.specs.State.{State, IsWellFormed, is_system, same_text, system_at}
 use Rattle.uu_tables.specs.declared.rows.SystemColumns.{SystemColumns}

@@ -11,8 +11,8 @@ use Rattle.sqlite.specs.Tree.{Trees}
 use Rattle.sqlite.specs.State.{State as DbState, HasCleanDisk, Survives, Fails, IsUnchanged, IsRolledBack, IsNotRun, FailsToQuery, CommitsShowing, Shown, ShowsRows}
 use Rattle.sqlite.proofs.StateLemmas.{survives_weaker, survives_then}
 use Rattle.sqlite.proofs.Callers.{never_commits, unchanged_then}
-use Rattle.uu_sql.specs.Steps.{Stands, Rests, Ready, Asked}
-use Rattle.uu_sql.proofs.Steps.{told_also, told_not}
+use Rattle.uu_schema.specs.Steps.{Stands, Rests, Ready, Asked}
+use Rattle.uu_schema.proofs.Steps.{told_also, told_not}
 use Rattle.uu_core.specs.State.{State}
 use Rattle.uu_schema.specs.Schema.{site}
 use Rattle.uu_questions.specs.Answers.{Answers, IsOf}

@@ -3,7 +3,7 @@ use Rattle.std.specs.Prelude.{◌≡◌, Result, IfOk, OnOk}
 use Rattle.sqlite.specs.declared.error.Error.{Error}
 use Rattle.sqlite.specs.State as db
 use Rattle.sqlite.specs.Effect.{Database}
-use Rattle.uu_sql.specs.Steps.{Stands, Told}
+use Rattle.uu_schema.specs.Steps.{Stands, Told}
 use Rattle.uu_core.specs.State.{State, IsWellFormed}
 use Rattle.uu_tables.specs.Tables.{tables_of}
 use Rattle.uu_schema.specs.Schema.{site}

@@ -5,7 +5,7 @@ use Rattle.std.specs.declared.alloc.Global.{Global}
 use Rattle.sqlite.specs.declared.error.Error.{Error}
 use Rattle.sqlite.specs.Order.{Row}
 use Rattle.sqlite.specs.State as db
-use Rattle.uu_sql.specs.Steps.{Stands, Told}
+use Rattle.uu_schema.specs.Steps.{Stands, Told}
 use Rattle.uu_schema.specs.Schema.{site}
 
 -- A question commits nothing and changes nothing, whatever it answers. What is read is read of the

@@ -3,7 +3,7 @@ use Rattle.std.specs.Prelude.{◌≡◌, ℕ, List, [], ◌∷◌, Result, OnOk}
 use Rattle.sqlite.specs.declared.error.Error.{Error}
 use Rattle.sqlite.specs.Order.{Row}
 use Rattle.sqlite.specs.State as db
-use Rattle.uu_sql.specs.Steps.{Stands, Told}
+use Rattle.uu_schema.specs.Steps.{Stands, Told}
 use Rattle.uu_schema.specs.Schema.{site}
 
 -- each of the rows, one after the other, took the one to the other

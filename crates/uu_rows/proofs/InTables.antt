@@ -11,8 +11,8 @@ use Rattle.sqlite.specs.Schema.{Schema}
 use Rattle.sqlite_keyed.proofs.ListLemmas.{ascending_weaker, ascending-filter}
 use Rattle.sqlite_typed.proofs.TestLemmas.{then_key, last_key}
 use Rattle.sqlite_value.proofs.OrderLemmas.{value_cmp-Int, value_cmp-Text}
-use Rattle.uu_sql.proofs.Asks.{Means, ordered}
-use Rattle.uu_sql.proofs.Answers.{answer_of}
+use Rattle.uu_schema.proofs.Asks.{Means, ordered}
+use Rattle.uu_schema.proofs.Answers.{answer_of}
 use Rattle.uu_core.specs.declared.job.JobHead.{JobHead}
 use Rattle.uu_tables.specs.declared.rows.SystemColumns.{SystemColumns}
 use Rattle.uu_tables.specs.declared.rows.LineColumns.{LineColumns}

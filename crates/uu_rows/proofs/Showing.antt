@@ -5,8 +5,8 @@ use Rattle.std.specs.declared.alloc.Global.{Global}
 use Rattle.sqlite.specs.declared.error.Error.{Error}
 use Rattle.sqlite.specs.Order.{Row}
 use Rattle.sqlite.specs.State.{State, HasCleanDisk, Shown, FailsToQuery, Survives, CommitsShowing}
-use Rattle.uu_sql.specs.Queries.{IsQuery}
-use Rattle.uu_sql.proofs.Questions.{same_read, told}
+use Rattle.uu_schema.specs.Queries.{IsQuery}
+use Rattle.uu_schema.proofs.Questions.{same_read, told}
 use Rattle.uu_schema.specs.Schema.{site}
 use Rattle.uu_rows.specs.Shows.{Shows}
 

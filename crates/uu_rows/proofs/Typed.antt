@@ -15,8 +15,8 @@ use Rattle.sqlite_value.specs.declared.keys.Key.{Key}
 use Rattle.sqlite_keyed.specs.Lists.{sort_by}
 use Rattle.sqlite_keyed.proofs.ListLemmas.{map-map, map_same, filter-map, filter_same, IsPermutation-filter, ascending-map, ascending_weaker}
 use Rattle.sqlite_keyed.proofs.SortLemmas.{sorted_unique, sorted_is-sort_by, sort_by-map}
-use Rattle.uu_sql.proofs.Asks.{ordered}
-use Rattle.uu_sql.proofs.Rows.{matched}
+use Rattle.uu_schema.proofs.Asks.{ordered}
+use Rattle.uu_schema.proofs.Rows.{matched}
 
 -- `shown` is what the table's rows show of themselves, and `see` makes of that a row of which the
 -- query says the same

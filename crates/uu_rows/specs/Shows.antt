@@ -6,7 +6,7 @@ use Rattle.sqlite.specs.declared.error.Error.{Error}
 use Rattle.sqlite.specs.declared.error.Error.TheVariants.{SqliteFailure}
 use Rattle.sqlite.specs.declared.error.ErrorCode.TheVariants.{OutOfMemory}
 use Rattle.sqlite.specs.State as db
-use Rattle.uu_sql.specs.Steps.{Told}
+use Rattle.uu_schema.specs.Steps.{Told}
 use Rattle.uu_schema.specs.Schema.{site}
 
 -- What a question in SQL shows are the rows that its text means, and it changes nothing, whatever

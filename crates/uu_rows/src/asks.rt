@@ -2,8 +2,8 @@
 ghost use Rattle.std.specs.Prelude.{◌≡◌, false, []};
 ghost use Rattle.sqlite.specs.Held.{state};
 ghost use Rattle.uu_rows.specs.Texts.{systems_text, lines_text, ranges_text, waits_text, links_text, taken_text};
-ghost use Rattle.uu_sql.specs.Queries.{IsQuery};
-ghost use Rattle.uu_sql.specs.Spares.{Spares};
+ghost use Rattle.uu_schema.specs.Queries.{IsQuery};
+ghost use Rattle.uu_schema.specs.Spares.{Spares};
 ghost use Rattle.uu_rows.specs.Shows.{Shows};
 
 use sqlite::{Alter, Connection, Error, Row};

@@ -8,7 +8,7 @@ ghost use Rattle.uu_rows.specs.Faults.{error_of, or_error, or_none};
 use sqlite::{Error, ErrorCode};
 use std::alloc::{AllocError, AllocFailed};
 use uu_names::NameFault;
-use uu_sql::is_memory;
+use uu_schema::is_memory;
 
 /// Why a row is not read.
 #[derive(Clone, Copy, Debug, PartialEq, Eq)]

@@ -7,8 +7,8 @@ use Rattle.sqlite.specs.Tree.{Trees}
 use Rattle.uu_schema.specs.Keyed.{Keyed}
 use Rattle.uu_tables.specs.Tables.{Tables}
 use Rattle.sqlite.specs.State.{State}
-use Rattle.uu_sql.specs.Steps.{Outcome}
-use Rattle.uu_sql.proofs.Steps.{weaker}
+use Rattle.uu_schema.specs.Steps.{Outcome}
+use Rattle.uu_schema.proofs.Steps.{weaker}
 use Rattle.uu_schema.specs.Schema.{site, site_of, first_site, spool, systems, lines, ranges, jobs, pieces, entries, success_waits, links, taken}
 use Rattle.uu_schema.specs.declared.version.Version.{Version}
 use Rattle.uu_schema.specs.declared.version.Version.TheVariants.{First, Second}

@@ -10,7 +10,7 @@ use Rattle.sqlite.specs.Store.{Ghosts}
 use Rattle.sqlite.specs.Held.{Held, state}
 use Rattle.sqlite.specs.State.{State, HasCleanDisk, KeepsCommit, IsRolledBack, Survives, ExecutesInside}
 use Rattle.sqlite.proofs.InsideLemmas.{inside_keeps}
-use Rattle.uu_sql.specs.Steps.{Outcome, Undid}
+use Rattle.uu_schema.specs.Steps.{Outcome, Undid}
 
 pub statement_keeps : (sql : List ℕ) (params : Row) (old new : State) (r : Result ℕ Error) → (old.in_transaction ≡ false → new ≡ old)
     → (HasCleanDisk new → IsTrue old.in_transaction → ExecutesInside 0 sql params old new r) → HasCleanDisk new → KeepsCommit old new

@@ -1,6 +1,17 @@
+pub mod Alive
+pub mod Asks
+pub mod Writes
+pub mod Steps
+pub mod Rows
+pub mod Answers
+pub mod Questions
+pub mod Sorted
+pub mod Objects
+pub mod Rowids
 pub mod Texts
 pub mod Keeps
 pub mod Made
 pub mod Begun
 pub mod Numbers
 pub mod Kept
+pub mod Resting

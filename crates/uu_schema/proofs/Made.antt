@@ -9,7 +9,7 @@ use Rattle.sqlite_value.proofs.OrderLemmas.{value_cmp-Int}
 use Rattle.sqlite_schema.specs.declared.program.Program.{Program}
 use Rattle.sqlite_rules.specs.Action.{Writes as WritesTrees}
 use Rattle.sqlite_rules.specs.Calls.{ids_of}
-use Rattle.uu_sql.specs.Layout.{over}
+use Rattle.uu_schema.specs.Layout.{over}
 use Rattle.sqlite.specs.Table.{Table}
 use Rattle.sqlite.specs.Schema.{Schema}
 use Rattle.sqlite.specs.Source.TheVariants.{Values}
@@ -26,9 +26,9 @@ use Rattle.sqlite_catalog.specs.Calls.{CreatesTable}
 use Rattle.sqlite.specs.Listing.{understood}
 use Rattle.sqlite.specs.State.{State, Writes, Executes}
 use Rattle.sqlite.proofs.Callers.{IsPlain, command_of, statement_of, runs_as, one_step, one_permutation}
-use Rattle.uu_sql.specs.Steps.{Stands}
-use Rattle.uu_sql.proofs.Rows.{cast_int, cast_null, over_rows}
-use Rattle.uu_sql.proofs.Writes.{went, same_value, insert_ran, insert_applies, inserted, update_ran, update_writes}
+use Rattle.uu_schema.specs.Steps.{Stands}
+use Rattle.uu_schema.proofs.Rows.{cast_int, cast_null, over_rows}
+use Rattle.uu_schema.proofs.Writes.{went, same_value, insert_ran, insert_applies, inserted, update_ran, update_writes}
 use Rattle.uu_schema.specs.Schema.{first_site, second_site, with_links, links, taken, create_links, create_taken, success_waits, create_success_waits, raise_version, site, no_schema, with_spool, with_systems, with_lines, with_ranges, with_jobs, with_pieces, spool, systems, lines, ranges, jobs, pieces, entries, create_spool, create_systems, create_lines, create_ranges, create_jobs, create_pieces, create_entries, insert_spool}
 use Rattle.uu_schema.specs.Made.{spool_row, IsMade, IsBegun, IsRaised}
 use Rattle.uu_schema.proofs.Keeps.{keeps_one}

@@ -20,7 +20,7 @@ use Rattle.sqlite_rules.specs.Lists.{Has}
 use Rattle.sqlite_rules.proofs.ListLemmas.{all_has, all_from, has_kept}
 use Rattle.sqlite_rules.proofs.TableLemmas.{int_is}
 use Rattle.sqlite_keyed.proofs.ListLemmas.{filter-map, filter_none, filter_same, IsPermutation-filter, all_weaker, all_unmap, all-map}
-use Rattle.uu_sql.specs.Rowids.{AreNumbered, OnceEach}
+use Rattle.uu_schema.specs.Rowids.{AreNumbered, OnceEach}
 use Rattle.uu_schema.specs.Keyed.{columns}
 
 -- no element or one passes a test that elements of one key alone pass

@@ -9,7 +9,7 @@ use Rattle.sqlite.specs.Change.{created}
 use Rattle.sqlite_tied.specs.Compute.{everything}
 use Rattle.sqlite.specs.Listing.{understood}
 use Rattle.sqlite.proofs.Callers.{IsPlain, command_of, statement_of}
-use Rattle.uu_sql.specs.Layout.{over}
+use Rattle.uu_schema.specs.Layout.{over}
 use Rattle.uu_schema.specs.Schema.{first_site, second_site, with_links, links, taken, create_links, create_taken, success_waits, create_success_waits, raise_version, site, no_schema, with_spool, with_systems, with_lines, with_ranges, with_jobs, with_pieces, spool, systems, lines, ranges, jobs, pieces, entries, create_spool, create_systems, create_lines, create_ranges, create_jobs, create_pieces, create_entries, insert_spool}
 
 pub create_spool_is : (command_of (understood no_schema create_spool) ≡ CreateTable) × (statement_of create_spool (understood no_schema create_spool) ≡ create_spool) × (table_defined_by create_spool ≡ Ok spool)

@@ -3,7 +3,7 @@ use Rattle.std.specs.Prelude.{◌≢◌, ℕ, List, map}
 use Rattle.std.specs.List.Sorted.{IsPermutation}
 use Rattle.sqlite.specs.Order.{Row, column}
 use Rattle.sqlite.specs.Tree.{IsAscending}
-use Rattle.uu_sql.specs.Rowids.{AreNumbered, OnceEach}
+use Rattle.uu_schema.specs.Rowids.{AreNumbered, OnceEach}
 
 -- the columns of a row at these places; at place 0 stands the rowid
 abbrev pub columns : List ℕ → Row → Row

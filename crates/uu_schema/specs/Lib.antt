@@ -1,6 +1,13 @@
+pub mod Layout
+pub mod Steps
+pub mod Spares
+pub mod Queries
+pub mod Objects
+pub mod Rowids
 pub mod Schema
 pub mod Keyed
 pub mod Made
 pub mod Cells
 pub mod Held
+pub mod Encoded
 pub mod Faults

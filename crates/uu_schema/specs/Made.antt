@@ -6,7 +6,7 @@ use Rattle.sqlite.specs.Order.{Row}
 use Rattle.sqlite.specs.Schema.{Schema}
 use Rattle.sqlite.specs.Table.{Table}
 use Rattle.sqlite.specs.Tree.{Trees}
-use Rattle.uu_sql.specs.Steps.{Both}
+use Rattle.uu_schema.specs.Steps.{Both}
 use Rattle.uu_schema.specs.Schema.{site, no_schema, with_spool, with_systems, with_lines, with_ranges, with_jobs, with_pieces, first_site, second_site, with_links, spool, systems, lines, ranges, jobs, pieces, entries, success_waits, links, taken}
 use Rattle.uu_schema.specs.declared.version.Version.{Version}
 use Rattle.uu_schema.specs.declared.version.Version.TheVariants.{First, Second, Third}

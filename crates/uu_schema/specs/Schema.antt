@@ -7,7 +7,7 @@ use Rattle.sqlite.specs.Kind.TheVariants.{Integer, Text, Blob}
 use Rattle.sqlite_schema.specs.declared.schema.Action.TheVariants.{NoAction, Cascade}
 use Rattle.sqlite_schema.specs.declared.schema.Reference.{Reference}
 use Rattle.sqlite_catalog.specs.Listing.{automatic}
-use Rattle.uu_sql.specs.Layout.{may, must, refers, by_number, by_key}
+use Rattle.uu_schema.specs.Layout.{may, must, refers, by_number, by_key}
 use Rattle.uu_schema.specs.declared.version.Version.{Version}
 use Rattle.uu_schema.specs.declared.version.Version.TheVariants.{First, Second, Third}
 

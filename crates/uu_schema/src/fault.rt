@@ -1,5 +1,5 @@
 // Why the store gives no answer.
-ghost use Rattle.std.specs.Prelude.{◌≡◌, false, IsTrue};
+ghost use Rattle.std.specs.Prelude.{◌≡◌, ◌↔◌, false, IsTrue};
 ghost use Rattle.sqlite.specs.Held.{state};
 ghost use Rattle.sqlite.specs.State.{HasCleanDisk, Survives, IsUnchanged};
 ghost use Rattle.uu_schema.specs.Faults.{IsFresh, fault_code, kind_of_error};
@@ -10,7 +10,6 @@ ghost use Rattle.sqlite.specs.declared.error.Error.{Error};
 use sqlite::{Alter, Connection, Error as SqlError, ErrorCode};
 use std::alloc::{AllocError, AllocFailed};
 use thiserror::Error;
-use uu_sql::{is_alive, is_memory};
 
 /// Which part of the store failed.
 #[derive(Clone, Copy, Debug, PartialEq, Eq)]
@@ -90,6 +89,25 @@ impl From<SqlError> for Halt {
     fn from(error: SqlError) -> Halt {
         Halt::Before(error)
     }
+}
+
+/// Whether the error says that memory was refused.
+pub fn is_memory(error: &SqlError) -> bool
+    ensures { IsTrue result ↔ (error.now ≡ SqlError.SqliteFailure ErrorCode.OutOfMemory) }
+{
+    matches!(error, SqlError::SqliteFailure(ErrorCode::OutOfMemory))
+}
+
+/// Whether the connection still answers. It is asked for a statement that begins with no word of
+/// SQL: a connection that answers refuses it by name, and takes no memory for that, so that the
+/// question is answered where memory is short, too.
+pub fn is_alive<S: Alter>(conn: &mut Connection<S>) -> bool
+    requires { conn.old.in_transaction ≡ false }
+    ensures idle { conn.new.in_transaction ≡ false }
+    ensures alive { HasCleanDisk (state S.Store conn.new) → IsTrue result → IsTrue (state S.Store conn.old).is_open × IsUnchanged (state S.Store conn.old) (state S.Store conn.new) }
+    ensures survives { Survives (state S.Store conn.old) (state S.Store conn.new) (λ _. ⊥) }
+{
+    matches!(conn.prepare("alive"), Err(SqlError::SqlInputError(_)))
 }
 
 /// Which part of the store an error of the database tells of.

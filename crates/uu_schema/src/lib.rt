@@ -3,9 +3,12 @@
 #![tactic(auto)]
 
 mod fault;
+pub mod laws;
 mod tables;
 mod version;
 
-pub use fault::{Halt, StoreFault, StoreKind, halt_fault, kind_of, store_fault};
+pub use fault::{
+    Halt, StoreFault, StoreKind, halt_fault, is_alive, is_memory, kind_of, store_fault,
+};
 pub use tables::{create, migrate};
 pub use version::Version;

@@ -3,7 +3,7 @@ ghost use Rattle.std.specs.Prelude.{◌≡◌, Err, false};
 ghost use Rattle.sqlite.specs.Held.{state};
 ghost use Rattle.sqlite.specs.State.{HasCleanDisk, KeepsCommit, Survives};
 ghost use Rattle.sqlite.specs.declared.error.Error.{Error};
-ghost use Rattle.uu_sql.specs.Steps.{Both, Outcome, Undid, Whole};
+ghost use Rattle.uu_schema.specs.Steps.{Both, Outcome, Undid, Whole};
 ghost use Rattle.uu_schema.specs.Schema.{no_schema, with_spool, with_systems, with_lines, with_ranges, with_jobs, with_pieces, first_site, second_site, with_links, site, site_of, spool, systems, lines, ranges, jobs, pieces, entries, success_waits, links, taken};
 ghost use Rattle.uu_schema.specs.Made.{IsMade, IsBegun, IsRaised, FromFirst, FromSecond, FromTaken, FromLinks, FromWaits, FromEntries, FromPieces, FromJobs, FromRanges, FromLines, FromSystems, AllMade};
 ghost use Rattle.uu_schema.specs.Held.{MakesEmpty, Migrates};

@@ -9,9 +9,9 @@ use Rattle.sqlite_rules.specs.Lists.{Has}
 use Rattle.sqlite.specs.Listing.{understood}
 use Rattle.sqlite.specs.State.{State, Executes}
 use Rattle.sqlite.proofs.Callers.{statement_of}
-use Rattle.uu_sql.specs.Steps.{Stands}
-use Rattle.uu_sql.proofs.Rows.{cast_int, cast_null}
-use Rattle.uu_sql.proofs.Writes.{inserted}
+use Rattle.uu_schema.specs.Steps.{Stands}
+use Rattle.uu_schema.proofs.Rows.{cast_int, cast_null}
+use Rattle.uu_schema.proofs.Writes.{inserted}
 use Rattle.uu_times.specs.System.{System}
 use Rattle.uu_core.specs.declared.job.JobHead.{JobHead}
 use Rattle.uu_tables.specs.declared.rows.LineColumns.{LineColumns}

@@ -29,10 +29,10 @@ use Rattle.sqlite_keyed.proofs.ListLemmas.{filter_same, all_weaker}
 use Rattle.sqlite.specs.Listing.{understood}
 use Rattle.sqlite.specs.State.{State, Executes}
 use Rattle.sqlite.proofs.Callers.{statement_of, runs_as, one_step, one_permutation}
-use Rattle.uu_sql.specs.Steps.{Stands}
-use Rattle.uu_sql.specs.Layout.{over, where_is}
-use Rattle.uu_sql.proofs.Rows.{cast_int, cast_null, over_rows, at_text, at_key}
-use Rattle.uu_sql.proofs.Writes.{update_ran, update_writes}
+use Rattle.uu_schema.specs.Steps.{Stands}
+use Rattle.uu_schema.specs.Layout.{over, where_is}
+use Rattle.uu_schema.proofs.Rows.{cast_int, cast_null, over_rows, at_text, at_key}
+use Rattle.uu_schema.proofs.Writes.{update_ran, update_writes}
 use Rattle.uu_core.specs.State.{same_text}
 use Rattle.uu_core.specs.declared.job.JobHead.{JobHead}
 use Rattle.uu_tables.specs.declared.rows.CallColumns.{CallColumns}

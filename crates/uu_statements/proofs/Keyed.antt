@@ -18,9 +18,9 @@ use Rattle.sqlite_rules.specs.Lists.{Has}
 use Rattle.sqlite_rules.proofs.ListLemmas.{all_from, has_filtered, has_kept}
 use Rattle.sqlite_rules.proofs.ProbeLemmas.{has_mapped, mapped_has}
 use Rattle.sqlite_keyed.proofs.ListLemmas.{filter-map, filter_same, along_permutation, all_weaker, all_unmap, all-map, all-filter, any_from_none, ascending-filter, ascending-map, ascending_weaker, IsPermutation-filter}
-use Rattle.uu_sql.specs.Rowids.{OnceEach}
-use Rattle.uu_sql.proofs.Rows.{put_permutes}
-use Rattle.uu_sql.proofs.Rowids.{has_moved, numbered_put, once_put, once_left}
+use Rattle.uu_schema.specs.Rowids.{OnceEach}
+use Rattle.uu_schema.proofs.Rows.{put_permutes}
+use Rattle.uu_schema.proofs.Rowids.{has_moved, numbered_put, once_put, once_left}
 use Rattle.uu_core.specs.After.{is_before}
 use Rattle.uu_tables.specs.Changes.{insert_by, insert_at, append, alter, without}
 use Rattle.uu_schema.specs.Keyed.{columns, Keyed}

@@ -21,9 +21,9 @@ use Rattle.sqlite_rules.specs.Lists.{Has}
 use Rattle.sqlite_rules.proofs.ListLemmas.{all_has, all_from, has_kept, has_filtered}
 use Rattle.sqlite_rules.proofs.ProbeLemmas.{has_mapped}
 use Rattle.sqlite_rules.proofs.TableLemmas.{int_is}
-use Rattle.uu_sql.proofs.Rows.{all_stay, cleared}
-use Rattle.uu_sql.proofs.Rowids.{has_moved}
-use Rattle.uu_sql.specs.Rowids.{AreNumbered, OnceEach}
+use Rattle.uu_schema.proofs.Rows.{all_stay, cleared}
+use Rattle.uu_schema.proofs.Rowids.{has_moved}
+use Rattle.uu_schema.specs.Rowids.{AreNumbered, OnceEach}
 use Rattle.uu_schema.specs.Keyed.{Keyed}
 
 -- what is true of the rows of a table with a key

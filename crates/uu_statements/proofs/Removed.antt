@@ -36,10 +36,10 @@ use Rattle.sqlite_rules.proofs.ListLemmas.{all_has, some_has, has_filtered}
 use Rattle.sqlite_trees.proofs.ListLemmas.{filter_same as filter_same_on}
 use Rattle.sqlite_keyed.proofs.ListLemmas.{filter_same, all_weaker}
 use Rattle.sqlite.specs.State.{State, Executes}
-use Rattle.uu_sql.specs.Steps.{Stands}
-use Rattle.uu_sql.specs.Layout.{where_is}
-use Rattle.uu_sql.proofs.Rows.{at_text, at_key}
-use Rattle.uu_sql.proofs.Rowids.{picked_gone}
+use Rattle.uu_schema.specs.Steps.{Stands}
+use Rattle.uu_schema.specs.Layout.{where_is}
+use Rattle.uu_schema.proofs.Rows.{at_text, at_key}
+use Rattle.uu_schema.proofs.Rowids.{picked_gone}
 use Rattle.uu_tables.specs.declared.rows.TakenColumns.{TakenColumns}
 use Rattle.uu_schema.specs.Keyed.{columns}
 use Rattle.uu_tables.specs.Tables.{Tables}

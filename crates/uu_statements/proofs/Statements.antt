@@ -37,11 +37,11 @@ use Rattle.sqlite_keyed.proofs.ListLemmas.{none_from_any}
 use Rattle.sqlite.specs.Listing.{understood}
 use Rattle.sqlite.specs.State.{State, Executes}
 use Rattle.sqlite.proofs.Callers.{IsPlain, command_of, statement_of, runs_as, one_permutation, one_step}
-use Rattle.uu_sql.specs.Rowids.{AreNumbered}
-use Rattle.uu_sql.specs.Steps.{Stands}
-use Rattle.uu_sql.specs.Layout.{over}
-use Rattle.uu_sql.proofs.Rows.{cast_int, cast_null, not_false, over_rows}
-use Rattle.uu_sql.proofs.Writes.{insert_ran, insert_applies, inserted, update_ran, update_writes, delete_ran, delete_writes}
+use Rattle.uu_schema.specs.Rowids.{AreNumbered}
+use Rattle.uu_schema.specs.Steps.{Stands}
+use Rattle.uu_schema.specs.Layout.{over}
+use Rattle.uu_schema.proofs.Rows.{cast_int, cast_null, not_false, over_rows}
+use Rattle.uu_schema.proofs.Writes.{insert_ran, insert_applies, inserted, update_ran, update_writes, delete_ran, delete_writes}
 use Rattle.uu_tables.specs.Changes.{alter}
 use Rattle.uu_schema.specs.Schema.{site}
 use Rattle.uu_schema.specs.Keyed.{columns, Keyed}

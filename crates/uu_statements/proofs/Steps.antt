@@ -6,8 +6,8 @@ use Rattle.sqlite.specs.State as db
 use Rattle.sqlite.specs.declared.error.Error.{Error}
 use Rattle.sqlite.proofs.StateLemmas.{survives_then}
 use Rattle.sqlite_catalog.specs.Listing.{IsSound}
-use Rattle.uu_sql.specs.Steps.{Rests, Asked, Told, Whole, Ends, Did}
-use Rattle.uu_sql.proofs.Steps.{told_same}
+use Rattle.uu_schema.specs.Steps.{Rests, Asked, Told, Whole, Ends, Did}
+use Rattle.uu_schema.proofs.Steps.{told_same}
 use Rattle.uu_core.specs.declared.command.Command.{Command}
 use Rattle.uu_core.specs.declared.command.Reply.{Reply}
 use Rattle.uu_core.specs.State.{State}

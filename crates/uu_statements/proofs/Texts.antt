@@ -10,7 +10,7 @@ use Rattle.sqlite.specs.Command.TheVariants.{Insert, Update, Delete}
 use Rattle.sqlite_tied.specs.Compute.{everything}
 use Rattle.sqlite.specs.Listing.{understood}
 use Rattle.sqlite.proofs.Callers.{IsPlain, command_of}
-use Rattle.uu_sql.specs.Layout.{over, where_is}
+use Rattle.uu_schema.specs.Layout.{over, where_is}
 use Rattle.uu_schema.specs.Schema.{site}
 use Rattle.uu_statements.specs.Texts.{insert_system, set_retries, set_calls, delete_system, insert_line, delete_lines, insert_range, insert_job, set_rank, set_second, delete_job, insert_piece, insert_entry, delete_entry, insert_wait, delete_wait, insert_link, delete_link, insert_taken, delete_taken, set_number}
 

@@ -20,9 +20,9 @@ use Rattle.sqlite_rules.specs.Lists.{Has}
 use Rattle.sqlite_rules.proofs.ListLemmas.{all_has}
 use Rattle.sqlite_rules.proofs.TableLemmas.{int_is, has_put}
 use Rattle.sqlite_keyed.proofs.ListLemmas.{none_from_any}
-use Rattle.uu_sql.specs.Rowids.{AreNumbered}
-use Rattle.uu_sql.proofs.Rows.{not_false, put_permutes}
-use Rattle.uu_sql.proofs.Rowids.{has_moved}
+use Rattle.uu_schema.specs.Rowids.{AreNumbered}
+use Rattle.uu_schema.proofs.Rows.{not_false, put_permutes}
+use Rattle.uu_schema.proofs.Rowids.{has_moved}
 use Rattle.uu_schema.specs.Schema.{site, systems, lines, ranges, pieces, entries, success_waits, links, taken}
 
 turned : (o : Ordering) → is_eq o ≡ false → is_ne (ordering_reverse o) ≡ true

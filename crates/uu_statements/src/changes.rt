@@ -3,7 +3,7 @@ ghost use Rattle.std.specs.Prelude.{◌≡◌, Err, false};
 ghost use Rattle.sqlite.specs.Held.{state};
 ghost use Rattle.sqlite.specs.State.{Survives};
 ghost use Rattle.sqlite.specs.declared.error.Error.{Error};
-ghost use Rattle.uu_sql.specs.Steps.{Outcome, Whole};
+ghost use Rattle.uu_schema.specs.Steps.{Outcome, Whole};
 ghost use Rattle.uu_schema.specs.Schema.{site};
 ghost use Rattle.uu_schema.specs.declared.fault.Halt.TheVariants.{Before};
 ghost use Rattle.uu_statements.specs.Makes.{Makes, MakesAll};

@@ -1,7 +1,7 @@
 // The statements on systems.
 ghost use Rattle.std.specs.Prelude.{◌≡◌, option_map};
 ghost use Rattle.sqlite.specs.Held.{state};
-ghost use Rattle.uu_sql.specs.Steps.{Outcome};
+ghost use Rattle.uu_schema.specs.Steps.{Outcome};
 ghost use Rattle.uu_tables.specs.declared.change.Change.{Change};
 ghost use Rattle.uu_schema.specs.Schema.{site};
 ghost use Rattle.uu_statements.specs.Makes.{Makes};

@@ -3,7 +3,7 @@ use Rattle.std.proofs.Common.{inl, inr, List, sym, subst}
 use Rattle.std.proofs.Math.Logic.{∥∥₁_elim, ∥∥₁_map}
 use Rattle.sqlite.specs.Tree.{Trees}
 use Rattle.sqlite.specs.State as db
-use Rattle.uu_sql.specs.Steps.{Rests}
+use Rattle.uu_schema.specs.Steps.{Rests}
 use Rattle.uu_core.specs.declared.command.Command.{Command}
 use Rattle.uu_core.specs.Run.{state_after}
 use Rattle.uu_core.specs.State.{State, IsWellFormed, empty}

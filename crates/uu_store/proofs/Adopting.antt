@@ -7,7 +7,7 @@ use Rattle.sqlite.specs.Held.{Held, state}
 use Rattle.sqlite.specs.State as db
 use Rattle.sqlite.specs.View.{IsClean}
 use Rattle.sqlite_catalog.specs.Listing.{IsSound}
-use Rattle.uu_sql.specs.Steps.{Rests}
+use Rattle.uu_schema.specs.Steps.{Rests}
 use Rattle.uu_core.specs.declared.command.Command.{Command}
 use Rattle.uu_core.specs.declared.command.Reply.{Reply}
 use Rattle.uu_core.specs.declared.custody.Key.{Key}
@@ -19,10 +19,11 @@ use Rattle.uu_schema.specs.declared.version.Version.TheVariants.{First, Second, 
 use Rattle.uu_schema.specs.Schema.{site_of, no_schema}
 use Rattle.uu_schema.specs.declared.fault.StoreFault.{StoreFault}
 use Rattle.uu_store.specs.declared.spool.Spool.{Spool}
-use Rattle.uu_database.specs.Adoption.{IsRefused, IsSpared, StopsAs}
-use Rattle.uu_database.specs.FoundTables.{HasNone, HasEarlier, IsEarlier}
-use Rattle.uu_database.specs.Calls.{CreatesTables, MigratesState, StaysUnclean}
-use Rattle.uu_database.specs.Encoded.{Encodes, EncodesAs, HoldsState, HoldsStateAs}
+use Rattle.uu_adopt.specs.Adoption.{IsRefused, IsSpared, StopsAs}
+use Rattle.uu_adopt.specs.FoundTables.{HasNone, HasEarlier, IsEarlier}
+use Rattle.uu_schema.specs.Steps.{StaysUnclean}
+use Rattle.uu_adopt.specs.Becoming.{CreatesTables, MigratesState}
+use Rattle.uu_schema.specs.Encoded.{Encodes, EncodesAs, HoldsState, HoldsStateAs}
 use Rattle.uu_store.specs.Kept.{Stores, KeepsOnly}
 use Rattle.uu_store.specs.Spool.{connection_of, has_failed, Shows}
 use Rattle.uu_store.specs.Runs.{Ran}
@@ -31,9 +32,9 @@ use Rattle.uu_store.specs.Exchanges.{exchange_of, not_given}
 use Rattle.uu_store.specs.Openings.{IsNotTaken}
 use Rattle.uu_store.specs.Acknowledged.{IsAcknowledged, IsAcknowledgedUnder, StoresJob, StoresUnder}
 use Rattle.uu_store.specs.Remembered.{Remembers}
-use Rattle.uu_database.proofs.Settling.{Settles}
+use Rattle.uu_adopt.proofs.Settling.{Settles}
 use Rattle.uu_store.proofs.Ending.{shows_again, clean_before}
-use Rattle.uu_database.proofs.Inspecting.{kept_as, stops_as}
+use Rattle.uu_adopt.proofs.Inspecting.{kept_as, stops_as}
 
 module _ {S : Type 0} (g : Ghosts S) (was now : Held S) where
   abbrev a : db.State

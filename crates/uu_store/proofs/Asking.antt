@@ -5,11 +5,12 @@ use Rattle.sqlite.specs.Held.{Held, state}
 use Rattle.uu_core.specs.State.{State}
 use Rattle.uu_schema.specs.declared.fault.StoreFault.{StoreFault}
 use Rattle.uu_schema.specs.declared.fault.StoreFault.TheVariants.{Memory, Failed}
-use Rattle.uu_database.specs.Calls.{StaysUnclean, IsAnswered}
+use Rattle.uu_schema.specs.Steps.{StaysUnclean}
+use Rattle.uu_store.specs.Calls.{IsAnswered}
 use Rattle.uu_store.specs.declared.spool.Spool.{Spool}
 use Rattle.uu_store.specs.Spool.{connection_of, disk, failure_of, has_failed, Shows, Marks, Notes}
 use Rattle.uu_store.specs.Questions.{IsQuestion}
-use Rattle.uu_database.proofs.Settling.{Settles}
+use Rattle.uu_adopt.proofs.Settling.{Settles}
 use Rattle.uu_store.proofs.Ending.{noted_memory, shows_again, clean_before}
 use Rattle.uu_store.proofs.Running.{ran_answered, ran_failed, ran_unanswered, still}
 

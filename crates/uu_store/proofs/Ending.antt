@@ -3,12 +3,12 @@ use Rattle.std.proofs.Common.{◌≡◌, Bool, false, sym, subst}
 use Rattle.sqlite.specs.State as db
 use Rattle.sqlite.specs.Store.{Ghosts}
 use Rattle.sqlite.specs.Held.{Held, state}
-use Rattle.uu_sql.specs.Steps.{Rests}
+use Rattle.uu_schema.specs.Steps.{Rests}
 use Rattle.uu_core.specs.State.{State}
 use Rattle.uu_schema.specs.declared.fault.StoreFault.{StoreFault}
 use Rattle.uu_schema.specs.declared.fault.StoreFault.TheVariants.{Memory}
 use Rattle.uu_store.specs.declared.spool.Spool.{Spool}
-use Rattle.uu_database.specs.Encoded.{Encodes}
+use Rattle.uu_schema.specs.Encoded.{Encodes}
 use Rattle.uu_store.specs.Spool.{connection_of, disk, has_failed, Shows, Marks}
 
 pub noted_memory : (before afterwards : Bool) (fault : StoreFault) → Marks before afterwards fault → fault ≡ Memory → afterwards ≡ false

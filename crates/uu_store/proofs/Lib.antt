@@ -1,3 +1,6 @@
+pub mod Answering
+pub mod Handing
+pub mod Stepping
 pub mod Ending
 pub mod Words
 pub mod CellsTell

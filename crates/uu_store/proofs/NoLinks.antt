@@ -7,8 +7,8 @@ use Rattle.uu_core.specs.State.{State, Link, IsLink, says_nothing}
 use Rattle.uu_tables.specs.Tables.{links_from, links_of, taken_columns, taken_rows}
 use Rattle.uu_schema.specs.declared.version.Version.{Version}
 use Rattle.uu_schema.specs.declared.version.Version.TheVariants.{First, Second, Third}
-use Rattle.uu_database.specs.Encoded.{EncodesAs}
-use Rattle.uu_database.specs.FoundTables.{IsEarlier}
+use Rattle.uu_schema.specs.Encoded.{EncodesAs}
+use Rattle.uu_adopt.specs.FoundTables.{IsEarlier}
 use Rattle.uu_store.proofs.NoWaits.{both_none}
 
 no_below : (name : List ℕ) (below : ℕ) → links_from name below ≡ [] → below ≡ 0

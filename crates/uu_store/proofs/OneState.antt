@@ -12,7 +12,7 @@ use Rattle.sqlite.specs.Tree.{Trees, IsAscending}
 use Rattle.sqlite_rules.specs.Lists.{Has}
 use Rattle.sqlite_rules.proofs.ListLemmas.{all_has}
 use Rattle.sqlite_rules.proofs.ProbeLemmas.{has_mapped, mapped_has}
-use Rattle.uu_sql.proofs.Rowids.{has_moved}
+use Rattle.uu_schema.proofs.Rowids.{has_moved}
 use Rattle.uu_core.specs.declared.job.JobHead.{JobHead}
 use Rattle.uu_core.specs.State.{State, IsWellFormed, ComesBefore}
 use Rattle.uu_tables.specs.declared.rows.SystemColumns.{SystemColumns}
@@ -31,7 +31,7 @@ use Rattle.uu_schema.specs.declared.version.Version.TheVariants.{First, Second, 
 use Rattle.uu_schema.specs.Made.{spool_row_of}
 use Rattle.uu_schema.specs.Held.{HoldsAs, AreWaitsOf, AreLinksOf, AreTakenOf}
 use Rattle.uu_schema.specs.Cells.{system_cells, line_cells, range_cells, job_cells, piece_cells, entry_cells, wait_cells, link_cells, taken_cells}
-use Rattle.uu_database.specs.Encoded.{HoldsStateAs}
+use Rattle.uu_schema.specs.Encoded.{HoldsStateAs}
 use Rattle.uu_store.proofs.CellsTell.{same_system, same_line, same_range, same_job, same_piece, same_entry, same_wait, same_link, same_taken}
 
 -- ---- lists in one strict order with the same members

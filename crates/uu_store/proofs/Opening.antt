@@ -25,7 +25,7 @@ use Rattle.sqlite_disk.specs.declared.Disk as disk
 use Rattle.sqlite_store.specs.declared.store.FileStore.{FileStore}
 use Rattle.sqlite_store.specs.FileStore.{view}
 use Rattle.sqlite_store.specs.FileStore as store
-use Rattle.uu_sql.specs.Steps.{Rests, Stands}
+use Rattle.uu_schema.specs.Steps.{Rests, Stands}
 use Rattle.uu_core.specs.State.{State, empty}
 use Rattle.uu_schema.specs.declared.version.Version.{Version}
 use Rattle.uu_schema.specs.Schema.{site_of, no_schema}
@@ -33,9 +33,9 @@ use Rattle.uu_store.specs.declared.remains.OpenFault.{OpenFault}
 use Rattle.uu_store.specs.declared.remains.Remains.{Remains}
 use Rattle.uu_store.specs.declared.remains.Remains.TheVariants as remains
 use Rattle.uu_store.specs.declared.spool.Spool.{Spool}
-use Rattle.uu_database.specs.Encoded.{EncodesAs}
-use Rattle.uu_database.specs.Adoption.{StopsAs, UnlessFailed}
-use Rattle.uu_taking.specs.Version.{IsLater}
+use Rattle.uu_schema.specs.Encoded.{EncodesAs}
+use Rattle.uu_adopt.specs.Adoption.{StopsAs, UnlessFailed}
+use Rattle.uu_adopt.specs.Version.{IsLater}
 use Rattle.uu_store.specs.Kept.{Keeps, Stores}
 use Rattle.uu_store.specs.Spool.{disk, Shows}
 use Rattle.uu_store.specs.Stretches.{Adopted, TurnedAway}
@@ -44,9 +44,9 @@ use Rattle.uu_schema.specs.declared.fault.StoreFault.TheVariants.{Memory, Store,
 use Rattle.uu_schema.specs.declared.fault.StoreKind.{StoreKind}
 use Rattle.uu_schema.specs.declared.fault.StoreKind.TheVariants as part
 use Rattle.uu_schema.specs.Faults.{kind_of_error}
-use Rattle.uu_database.specs.FoundTables.{HasNoneOrAll, HasOther}
+use Rattle.uu_adopt.specs.FoundTables.{HasNoneOrAll, HasOther}
 use Rattle.uu_store.specs.Openings.{HasSome, ImageHasOther, StaysAfter, ImageKeeps, IsFound, IsFoundIfClean, HasOpeningCause, IsRightFault, IsNotTaken, IsOfNoContents, IsToldRightly, LeavesAlone, LeavesAsKept, LeavesSame, remains_of, remains_of_opening}
-use Rattle.uu_database.proofs.Creating.{none_or_other, some_or_other}
+use Rattle.uu_adopt.proofs.Creating.{none_or_other, some_or_other}
 use Rattle.uu_store.proofs.Images.{unfound, stop_has}
 use Rattle.uu_store.proofs.Reopening.{simple_of, stands_again, stores_of}
 

@@ -7,9 +7,9 @@ use Rattle.sqlite.specs.Tree.{Trees}
 use Rattle.sqlite.specs.Held.{state}
 use Rattle.sqlite.specs.State as db
 use Rattle.sqlite_catalog.specs.Listing.{IsSound}
-use Rattle.uu_sql.specs.Objects.{IsSimple}
-use Rattle.uu_sql.specs.Steps.{Stands, Rests}
-use Rattle.uu_sql.proofs.Objects.{one_schema}
+use Rattle.uu_schema.specs.Objects.{IsSimple}
+use Rattle.uu_schema.specs.Steps.{Stands, Rests}
+use Rattle.uu_schema.proofs.Objects.{one_schema}
 use Rattle.uu_core.specs.declared.command.Command.{Command}
 use Rattle.uu_core.specs.State.{State}
 use Rattle.uu_core.specs.After.{after}

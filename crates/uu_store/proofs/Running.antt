@@ -15,12 +15,13 @@ use Rattle.uu_schema.specs.declared.fault.StoreFault.{StoreFault}
 use Rattle.uu_schema.specs.declared.fault.StoreFault.TheVariants.{Memory, Store, Failed, Foreign, Newer}
 use Rattle.uu_schema.specs.Faults.{IsFresh}
 use Rattle.uu_store.specs.declared.spool.Spool.{Spool}
-use Rattle.uu_database.specs.Calls.{StaysUnclean, IsAnswered}
+use Rattle.uu_schema.specs.Steps.{StaysUnclean}
+use Rattle.uu_store.specs.Calls.{IsAnswered}
 use Rattle.uu_store.specs.Closing.{IsToldAfter}
-use Rattle.uu_database.specs.Encoded.{Leaves, LeavesEither}
+use Rattle.uu_schema.specs.Encoded.{Leaves, LeavesEither}
 use Rattle.uu_store.specs.Spool.{connection_of, disk, has_failed, Shows, Marks}
 use Rattle.uu_store.specs.Runs.{GoesOn, RanFrom, Ran, reply_in, fault_in}
-use Rattle.uu_database.proofs.Settling.{Settles, leaves}
+use Rattle.uu_adopt.proofs.Settling.{Settles, leaves}
 use Rattle.uu_store.proofs.Ending.{noted_memory, shows_again, clean_before}
 
 -- ---- the first of a list

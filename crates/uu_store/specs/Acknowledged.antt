@@ -2,7 +2,7 @@
 use Rattle.std.specs.Prelude.{◌≡◌, ◌⊎◌, ℕ, true, List, Some, Contains, zip}
 use Rattle.sqlite.specs.State as db
 use Rattle.sqlite.specs.Store.{Ghosts}
-use Rattle.uu_sql.specs.Steps.{Rests}
+use Rattle.uu_schema.specs.Steps.{Rests}
 use Rattle.uu_core.specs.declared.command.Command.{Command}
 use Rattle.uu_core.specs.declared.command.Command.TheVariants.{Queue, QueueOnce}
 use Rattle.uu_core.specs.declared.command.Reply.TheVariants.{Number}

@@ -4,11 +4,11 @@ use Rattle.std.specs.Prelude.{◌≡◌, ◌⊎◌}
 use Rattle.sqlite.specs.Tree.{Trees}
 use Rattle.sqlite.specs.Effect.{Database}
 use Rattle.sqlite_catalog.specs.Listing.{IsSound}
-use Rattle.uu_sql.specs.Steps.{Stands}
+use Rattle.uu_schema.specs.Steps.{Stands}
 use Rattle.uu_core.specs.State.{State, empty}
 use Rattle.uu_schema.specs.declared.version.Version.{Version}
 use Rattle.uu_schema.specs.Schema.{site_of, no_schema}
-use Rattle.uu_database.specs.Encoded.{EncodesAs, HoldsStateAs}
+use Rattle.uu_schema.specs.Encoded.{EncodesAs, HoldsStateAs}
 
 -- the database encodes the state, or has no tables and the state is an empty spool's
 abbrev pub Stores : Database → State → Type 0

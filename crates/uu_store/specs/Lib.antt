@@ -1,3 +1,5 @@
+pub mod Calls
+pub mod HandedOut
 pub mod Kept
 pub mod Spool
 pub mod Runs

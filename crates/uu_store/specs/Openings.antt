@@ -29,13 +29,13 @@ use Rattle.uu_schema.specs.declared.fault.StoreFault.TheVariants.{Memory, Store,
 use Rattle.uu_schema.specs.declared.fault.StoreKind.{StoreKind}
 use Rattle.uu_schema.specs.declared.fault.StoreKind.TheVariants as kind
 use Rattle.uu_schema.specs.declared.fault.StoreKind.TheVariants.{Database}
-use Rattle.uu_database.specs.FoundTables.{HasNone, HasEarlier, HasNoneOrAll, HasOther}
-use Rattle.uu_database.specs.Adoption.{IsOfNone}
-use Rattle.uu_database.specs.Encoded.{EncodesAs}
-use Rattle.uu_sql.specs.Steps.{Stands, Rests}
+use Rattle.uu_adopt.specs.FoundTables.{HasNone, HasEarlier, HasNoneOrAll, HasOther}
+use Rattle.uu_adopt.specs.Adoption.{IsOfNone}
+use Rattle.uu_schema.specs.Encoded.{EncodesAs}
+use Rattle.uu_schema.specs.Steps.{Stands, Rests}
 use Rattle.uu_schema.specs.declared.version.Version.{Version}
 use Rattle.uu_schema.specs.Schema.{site_of}
-use Rattle.uu_taking.specs.Version.{IsLater}
+use Rattle.uu_adopt.specs.Version.{IsLater}
 use Rattle.uu_store.specs.Spool.{connection_of}
 use Rattle.uu_store.specs.Kept.{Keeps, Stores}
 use Rattle.uu_store.specs.Stretches.{Adopted, TurnedAway, IsLetGo}

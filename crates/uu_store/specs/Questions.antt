@@ -5,8 +5,8 @@ use Rattle.sqlite.specs.State.{HasCleanDisk}
 use Rattle.uu_core.specs.State.{State}
 use Rattle.uu_schema.specs.declared.fault.StoreFault.{StoreFault}
 use Rattle.uu_schema.specs.declared.fault.StoreFault.TheVariants.{Memory, Failed}
-use Rattle.uu_database.specs.Calls.{StaysUnclean}
-use Rattle.uu_database.specs.Encoded.{Leaves}
+use Rattle.uu_schema.specs.Steps.{StaysUnclean}
+use Rattle.uu_schema.specs.Encoded.{Leaves}
 use Rattle.uu_store.specs.declared.spool.Spool.{Spool}
 use Rattle.uu_store.specs.Spool.{disk, failure_of, has_failed, Shows, Marks, Notes}
 use Rattle.uu_store.specs.Runs.{Ran, fault_in}

@@ -10,8 +10,8 @@ use Rattle.uu_core.specs.Run.{state_after, replies_to}
 use Rattle.uu_schema.specs.declared.fault.StoreFault.{StoreFault}
 use Rattle.uu_schema.specs.declared.fault.StoreFault.TheVariants.{Memory, Store, Failed, Foreign, Newer}
 use Rattle.uu_store.specs.declared.spool.Spool.{Spool}
-use Rattle.uu_database.specs.Calls.{StaysUnclean}
-use Rattle.uu_database.specs.Encoded.{Leaves, LeavesEither}
+use Rattle.uu_schema.specs.Steps.{StaysUnclean}
+use Rattle.uu_schema.specs.Encoded.{Leaves, LeavesEither}
 use Rattle.uu_store.specs.Spool.{disk, Shows}
 
 -- the run ended by itself or for want of memory, so that the spool can be used

@@ -6,14 +6,14 @@ use Rattle.sqlite.specs.Store.{Ghosts}
 use Rattle.sqlite.specs.Held.{Held, state}
 use Rattle.sqlite.specs.View.{doubt, IsClean}
 use Rattle.sqlite.specs.State as db
-use Rattle.uu_sql.specs.Steps.{Rests}
+use Rattle.uu_schema.specs.Steps.{Rests}
 use Rattle.uu_core.specs.declared.command.Command.{Command}
 use Rattle.uu_core.specs.declared.command.Reply.{Reply}
 use Rattle.uu_core.specs.State.{State}
 use Rattle.uu_core.specs.Run.{state_after}
 use Rattle.uu_schema.specs.declared.fault.StoreFault.{StoreFault}
 use Rattle.uu_store.specs.declared.spool.Spool.{Spool}
-use Rattle.uu_database.specs.Calls.{StaysUnclean}
+use Rattle.uu_schema.specs.Steps.{StaysUnclean}
 use Rattle.uu_store.specs.Kept.{Stores, KeepsOnly}
 use Rattle.uu_store.specs.Spool.{connection_of, disk, Shows}
 use Rattle.uu_store.specs.Runs.{Ran}

@@ -2,15 +2,15 @@
 ghost use Rattle.std.specs.Prelude.{◌≡◌, ◌≢◌, false, Err, IfErr};
 ghost use Rattle.sqlite.specs.Held.{state};
 ghost use Rattle.sqlite.specs.State.{HasCleanDisk};
-ghost use Rattle.uu_sql.specs.Steps.{Rests};
-ghost use Rattle.uu_database.specs.Encoded.{EncodesAs};
-ghost use Rattle.uu_database.specs.FoundTables.{HasNone, HasNoneOrAll, HasOther, IsEarlier};
+ghost use Rattle.uu_schema.specs.Steps.{Rests};
+ghost use Rattle.uu_schema.specs.Encoded.{EncodesAs};
+ghost use Rattle.uu_adopt.specs.FoundTables.{HasNone, HasNoneOrAll, HasOther, IsEarlier};
 
 use crate::laws::no_answered_command_is_lost_over;
 use crate::spool::Spool;
 use sqlite::{Alter, Connection};
 use std::alloc::Global;
-use uu_database::prepare;
+use uu_adopt::prepare;
 use uu_schema::StoreFault;
 
 /// Why a database was not taken, and the connection to it, with no transaction open.
@@ -25,14 +25,14 @@ pub struct AdoptFault<S: Alter> {
 
 impl<S: Alter> Spool<S> {
     ghost use Rattle.std.specs.Prelude.{IfOk, IsErrAnd};
-    ghost use Rattle.uu_sql.specs.Steps.{Stands};
+    ghost use Rattle.uu_schema.specs.Steps.{Stands};
     ghost use Rattle.uu_schema.specs.declared.version.Version.{Version};
     ghost use Rattle.uu_schema.specs.Schema.{site_of, no_schema};
     ghost use Rattle.sqlite.specs.Tree.{Trees};
     ghost use Rattle.uu_core.specs.State.{empty};
-    ghost use Rattle.uu_database.specs.Encoded.{Leaves};
-    ghost use Rattle.uu_taking.specs.Version.{IsLater};
-    ghost use Rattle.uu_database.specs.Adoption.{UnlessFailed, IsAsBefore, StopsAs};
+    ghost use Rattle.uu_schema.specs.Encoded.{Leaves};
+    ghost use Rattle.uu_adopt.specs.Version.{IsLater};
+    ghost use Rattle.uu_adopt.specs.Adoption.{UnlessFailed, IsAsBefore, StopsAs};
     ghost use Rattle.uu_store.specs.Spool.{disk, has_failed};
     ghost use Rattle.uu_store.specs.Stretches.{Adopted, TurnedAway};
     ghost use Rattle.uu_store.specs.Remembered.{Remembers};

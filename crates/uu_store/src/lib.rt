@@ -2,6 +2,7 @@
 #![tactic(auto)]
 
 mod adopt;
+mod asked;
 mod close;
 pub mod laws;
 mod open;

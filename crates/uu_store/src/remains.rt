@@ -12,7 +12,7 @@ use sqlite::{Connection, Error, FileStore, Leftover, Start};
 use sqlite_disk::Disk;
 use uu_files::{SpoolFile, open_database};
 use uu_schema::{StoreFault, kind_of};
-use uu_sql::is_memory;
+use uu_schema::is_memory;
 
 /// What is left of the two files of a spool that was not opened.
 #[derive(Drop)]

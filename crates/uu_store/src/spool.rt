@@ -1,6 +1,7 @@
 // The spool over one connection.
 ghost use Rattle.std.specs.Prelude.{◌≡◌, false};
 
+use crate::asked;
 use sqlite::{Alter, Connection};
 use std::alloc::Global;
 use std::mem::drop;
@@ -29,14 +30,14 @@ impl<S: Alter> Spool<S> {
     ghost use Rattle.uu_core.specs.Due.{AreDue};
     ghost use Rattle.uu_questions.specs.Listing.{listed};
     ghost use Rattle.uu_questions.specs.Assembly.{holding};
-    ghost use Rattle.uu_database.specs.HandedOut.{IsBounded, IsTimed, job_shown};
+    ghost use Rattle.uu_store.specs.HandedOut.{IsBounded, IsTimed, job_shown};
     ghost use Rattle.sqlite.specs.State.{HasCleanDisk};
     ghost use Rattle.sqlite.specs.Held.{state};
     ghost use Rattle.sqlite.specs.View.{IsClean};
     ghost use Rattle.uu_core.specs.After.{after};
     ghost use Rattle.uu_schema.specs.Faults.{IsFresh};
-    ghost use Rattle.uu_database.specs.Calls.{StaysUnclean};
-    ghost use Rattle.uu_database.specs.Encoded.{Leaves, LeavesEither};
+    ghost use Rattle.uu_schema.specs.Steps.{StaysUnclean};
+    ghost use Rattle.uu_schema.specs.Encoded.{Leaves, LeavesEither};
     ghost use Rattle.uu_store.specs.Spool.{connection_of, disk, failure_of, has_failed, Shows, Marks, Notes};
     ghost use Rattle.uu_store.specs.Questions.{IsQuestion};
     ghost use Rattle.uu_store.specs.Runs.{Ran, reply_in, fault_in};
@@ -143,7 +144,7 @@ impl<S: Alter> Spool<S> {
             drop(command);
             return Err(StoreFault::Failed);
         }
-        let answer = uu_database::command(alloc, &mut self.conn, &command);
+        let answer = asked::command(alloc, &mut self.conn, &command);
         drop(command);
         match answer {
             Ok(reply) => Ok(reply),
@@ -164,7 +165,7 @@ impl<S: Alter> Spool<S> {
         if self.is_failed() {
             return Err(StoreFault::Failed);
         }
-        match uu_database::jobs(alloc, &mut self.conn, filter) {
+        match asked::jobs(alloc, &mut self.conn, filter) {
             Ok(answer) => Ok(answer),
             Err(fault) => Err(self.noted(fault)),
         }
@@ -186,7 +187,7 @@ impl<S: Alter> Spool<S> {
         if self.is_failed() {
             return Err(StoreFault::Failed);
         }
-        match uu_database::job(alloc, &mut self.conn, number) {
+        match asked::job(alloc, &mut self.conn, number) {
             Ok(answer) => Ok(answer),
             Err(fault) => Err(self.noted(fault)),
         }
@@ -204,7 +205,7 @@ impl<S: Alter> Spool<S> {
         if self.is_failed() {
             return Err(StoreFault::Failed);
         }
-        match uu_database::systems(alloc, &mut self.conn) {
+        match asked::systems(alloc, &mut self.conn) {
             Ok(answer) => Ok(answer),
             Err(fault) => Err(self.noted(fault)),
         }
@@ -221,7 +222,7 @@ impl<S: Alter> Spool<S> {
         if self.is_failed() {
             return Err(StoreFault::Failed);
         }
-        match uu_database::due(alloc, &mut self.conn, at) {
+        match asked::due(alloc, &mut self.conn, at) {
             Ok(answer) => Ok(answer),
             Err(fault) => Err(self.noted(fault)),
         }
@@ -237,7 +238,7 @@ impl<S: Alter> Spool<S> {
         if self.is_failed() {
             return Err(StoreFault::Failed);
         }
-        match uu_database::entry(alloc, &mut self.conn, host) {
+        match asked::entry(alloc, &mut self.conn, host) {
             Ok(answer) => Ok(answer),
             Err(fault) => Err(self.noted(fault)),
         }
@@ -253,7 +254,7 @@ impl<S: Alter> Spool<S> {
         if self.is_failed() {
             return Err(StoreFault::Failed);
         }
-        match uu_database::next(&mut self.conn) {
+        match asked::next(&mut self.conn) {
             Ok(answer) => Ok(answer),
             Err(fault) => Err(self.noted(fault)),
         }

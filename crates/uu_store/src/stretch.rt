@@ -8,7 +8,7 @@ ghost use Rattle.sqlite_store.specs.FileStore.{view};
 ghost use Rattle.uu_core.specs.declared.custody.Key.{Key};
 ghost use Rattle.uu_core.specs.declared.job.NewJob.{NewJob};
 ghost use Rattle.uu_core.specs.State.{State};
-ghost use Rattle.uu_database.specs.Encoded.{Leaves};
+ghost use Rattle.uu_schema.specs.Encoded.{Leaves};
 ghost use Rattle.uu_schema.specs.declared.fault.StoreKind.{StoreKind};
 ghost use Rattle.uu_schema.specs.Faults.{IsFresh};
 ghost use Rattle.uu_store.specs.Acknowledged.{IsAcknowledged, IsAcknowledgedUnder, ShowsJob, ShowsUnder};

@@ -15,7 +15,7 @@ use Rattle.uu_core.specs.declared.command.Reply.{Reply}
 use Rattle.uu_core.specs.declared.job.JobHead.{JobHead}
 use Rattle.uu_schema.specs.declared.fault.StoreFault.TheVariants.{Store}
 use Rattle.uu_schema.specs.declared.fault.StoreKind.{StoreKind}
-use Rattle.uu_database.specs.HandedOut.{job_with}
+use Rattle.uu_store.specs.HandedOut.{job_with}
 use Rattle.uu_store.specs.Runs.{Ran}
 use Rattle.uu_store.specs.declared.spool.Spool.{Spool}
 use Rattle.uu_report.specs.Reports.{links_text}

@@ -2,7 +2,7 @@
 use Rattle.std.proofs.Common.{◌≡◌, Bool, false, sym, subst, ◌∙◌, arith}
 use Rattle.sqlite.specs.Store.{Ghosts}
 use Rattle.sqlite.specs.State.{HasCleanDisk}
-use Rattle.uu_database.specs.Calls.{StaysUnclean}
+use Rattle.uu_schema.specs.Steps.{StaysUnclean}
 use Rattle.uu_schema.specs.declared.fault.StoreFault.{StoreFault}
 use Rattle.uu_store.specs.Spool as spool
 use Rattle.uu_store.specs.declared.spool.Spool.{Spool}

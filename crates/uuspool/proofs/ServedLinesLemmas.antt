@@ -12,7 +12,7 @@ use Rattle.uu_core.specs.Run.{replies_to, state_after}
 use Rattle.uu_core.specs.declared.command.Command.{Command}
 use Rattle.uu_core.specs.declared.command.Reply.{Reply}
 use Rattle.uu_schema.specs.declared.fault.StoreFault.{StoreFault}
-use Rattle.uu_database.specs.Encoded.{Leaves}
+use Rattle.uu_schema.specs.Encoded.{Leaves}
 use Rattle.uu_store.specs.Runs.{Ran, GoesOn}
 use Rattle.uu_store.specs.Spool.{Shows, disk, has_failed}
 use Rattle.uu_store.specs.declared.spool.Spool.{Spool}

@@ -7,7 +7,7 @@ use Rattle.uu_core.specs.State.{same_text}
 use Rattle.uu_core.specs.Queues.{AreQueues, jobs_for}
 use Rattle.uu_core.specs.declared.job.JobHead.{JobHead}
 use Rattle.uu_core.specs.declared.queue.Queue.{Queue}
-use Rattle.uu_database.specs.HandedOut.{IsBounded}
+use Rattle.uu_store.specs.HandedOut.{IsBounded}
 
 least_below : (first : ℕ) (others : List ℕ) → fold min first others ≤ first
 least_below first [] = omega arith

@@ -11,7 +11,7 @@ ghost use Rattle.uu_core.specs.Plain.{AreByName};
 ghost use Rattle.uu_core.specs.Queues.{AreQueues};
 ghost use Rattle.uu_core.specs.declared.next_call.NextCall.{NextCall as AnyCall};
 ghost use Rattle.uu_core.specs.declared.queue.Queue.{Queue as AnyQueue};
-ghost use Rattle.uu_database.specs.HandedOut.{IsBounded};
+ghost use Rattle.uu_store.specs.HandedOut.{IsBounded};
 ghost use Rattle.uu_questions.specs.Listing.{listed};
 ghost use Rattle.uu_report.specs.Reports.{IsJobLine, IsNextCallsReport, IsQueuesReport, due_text, line_of};
 ghost use Rattle.uu_request.specs.declared.request.Question.TheVariants as question;

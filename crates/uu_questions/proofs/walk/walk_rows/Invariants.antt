@@ -4,7 +4,7 @@ use Rattle.sqlite.specs.State.{HasCleanDisk, IsUnchanged, Survives}
 use Rattle.sqlite.specs.Held.{state}
 use Rattle.sqlite.specs.Values.{bound}
 use Rattle.sqlite.specs.Given.{HasGiven}
-use Rattle.uu_sql.specs.Steps.{Stands, Ready}
+use Rattle.uu_schema.specs.Steps.{Stands, Ready}
 use Rattle.uu_schema.specs.Schema.{site}
 use Rattle.uu_questions.specs.Walks.{Took}
 use Rattle.uu_questions.proofs.walk.walk_rows.Given as goal

@@ -1,6 +1,6 @@
 use Rattle.std.proofs.Common.{[]}
 use Rattle.sqlite.specs.Held.{state}
-use Rattle.uu_sql.proofs.Questions.{spares}
+use Rattle.uu_schema.proofs.Questions.{spares}
 use Rattle.uu_rows.proofs.Showing.{shows}
 use Rattle.uu_rows.proofs.asks.ask.Goals as goal
 

@@ -3,8 +3,8 @@ use Rattle.sqlite.specs.Held.{state}
 use Rattle.sqlite.specs.State.{Survives}
 use Rattle.sqlite.proofs.StateLemmas.{survives_then}
 use Rattle.sqlite.proofs.Callers.{survives_begin}
-use Rattle.uu_sql.specs.Steps.{Whole}
-use Rattle.uu_sql.proofs.Steps.{abandoned, committed, whole_as, weaker}
+use Rattle.uu_schema.specs.Steps.{Whole}
+use Rattle.uu_schema.proofs.Steps.{abandoned, committed, whole_as, weaker}
 use Rattle.uu_schema.specs.Schema.{site, no_schema}
 use Rattle.uu_schema.specs.Held.{MakesEmpty}
 use Rattle.uu_schema.proofs.Begun.{begins_empty}

@@ -1,5 +1,5 @@
 use Rattle.sqlite.specs.Held.{state}
-use Rattle.uu_sql.proofs.Steps.{outcome_then}
+use Rattle.uu_schema.proofs.Steps.{outcome_then}
 use Rattle.uu_schema.specs.Schema.{with_ranges, with_jobs, site}
 use Rattle.uu_schema.specs.Made.{FromPieces}
 use Rattle.uu_schema.proofs.tables.create_from_jobs.Goals as goal

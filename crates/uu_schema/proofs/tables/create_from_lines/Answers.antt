@@ -1,5 +1,5 @@
 use Rattle.sqlite.specs.Held.{state}
-use Rattle.uu_sql.proofs.Steps.{outcome_then}
+use Rattle.uu_schema.proofs.Steps.{outcome_then}
 use Rattle.uu_schema.specs.Schema.{with_systems, with_lines, site}
 use Rattle.uu_schema.specs.Made.{FromRanges}
 use Rattle.uu_schema.proofs.tables.create_from_lines.Goals as goal

@@ -1,5 +1,5 @@
 use Rattle.sqlite.specs.Held.{state}
-use Rattle.uu_sql.proofs.Steps.{outcome_then}
+use Rattle.uu_schema.proofs.Steps.{outcome_then}
 use Rattle.uu_schema.specs.Schema.{second_site, with_links, site}
 use Rattle.uu_schema.specs.Made.{FromTaken}
 use Rattle.uu_schema.proofs.tables.create_from_links.Goals as goal

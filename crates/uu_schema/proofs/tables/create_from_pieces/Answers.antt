@@ -1,5 +1,5 @@
 use Rattle.sqlite.specs.Held.{state}
-use Rattle.uu_sql.proofs.Steps.{outcome_then}
+use Rattle.uu_schema.proofs.Steps.{outcome_then}
 use Rattle.uu_schema.specs.Schema.{with_jobs, with_pieces, site}
 use Rattle.uu_schema.specs.Made.{FromEntries}
 use Rattle.uu_schema.proofs.tables.create_from_pieces.Goals as goal

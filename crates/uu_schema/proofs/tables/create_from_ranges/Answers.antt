@@ -1,5 +1,5 @@
 use Rattle.sqlite.specs.Held.{state}
-use Rattle.uu_sql.proofs.Steps.{outcome_then}
+use Rattle.uu_schema.proofs.Steps.{outcome_then}
 use Rattle.uu_schema.specs.Schema.{with_lines, with_ranges, site}
 use Rattle.uu_schema.specs.Made.{FromJobs}
 use Rattle.uu_schema.proofs.tables.create_from_ranges.Goals as goal

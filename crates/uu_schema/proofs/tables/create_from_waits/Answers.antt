@@ -1,5 +1,5 @@
 use Rattle.sqlite.specs.Held.{state}
-use Rattle.uu_sql.proofs.Steps.{outcome_then}
+use Rattle.uu_schema.proofs.Steps.{outcome_then}
 use Rattle.uu_schema.specs.Schema.{first_site, second_site, site}
 use Rattle.uu_schema.specs.Made.{FromLinks}
 use Rattle.uu_schema.proofs.tables.create_from_waits.Goals as goal

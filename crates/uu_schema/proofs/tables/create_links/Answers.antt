@@ -1,6 +1,6 @@
 use Rattle.std.proofs.Common.{ap}
 use Rattle.sqlite.specs.Held.{state}
-use Rattle.uu_sql.proofs.Steps.{statement}
+use Rattle.uu_schema.proofs.Steps.{statement}
 use Rattle.uu_schema.specs.Schema.{create_links, links, second_site, with_links}
 use Rattle.uu_schema.specs.Made.{IsMade}
 use Rattle.uu_schema.proofs.Made.{links_made}

@@ -1,5 +1,5 @@
 use Rattle.sqlite.specs.Held.{state}
-use Rattle.uu_sql.proofs.Steps.{statement}
+use Rattle.uu_schema.proofs.Steps.{statement}
 use Rattle.uu_schema.specs.Schema.{create_pieces, pieces, with_jobs, with_pieces}
 use Rattle.uu_schema.specs.Made.{IsMade}
 use Rattle.uu_schema.proofs.Made.{pieces_made}

@@ -1,6 +1,6 @@
 use Rattle.std.proofs.Common.{ap}
 use Rattle.sqlite.specs.Held.{state}
-use Rattle.uu_sql.proofs.Steps.{statement}
+use Rattle.uu_schema.proofs.Steps.{statement}
 use Rattle.uu_schema.specs.Schema.{create_success_waits, success_waits, first_site, second_site}
 use Rattle.uu_schema.specs.Made.{IsMade}
 use Rattle.uu_schema.proofs.Made.{success_waits_made}

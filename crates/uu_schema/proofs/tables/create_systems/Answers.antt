@@ -1,5 +1,5 @@
 use Rattle.sqlite.specs.Held.{state}
-use Rattle.uu_sql.proofs.Steps.{statement}
+use Rattle.uu_schema.proofs.Steps.{statement}
 use Rattle.uu_schema.specs.Schema.{create_systems, systems, with_spool, with_systems}
 use Rattle.uu_schema.specs.Made.{IsMade}
 use Rattle.uu_schema.proofs.Made.{systems_made}

@@ -1,5 +1,5 @@
 use Rattle.sqlite.specs.Held.{state}
-use Rattle.uu_sql.proofs.Steps.{outcome_then}
+use Rattle.uu_schema.proofs.Steps.{outcome_then}
 use Rattle.uu_schema.specs.Schema.{no_schema, with_spool, site}
 use Rattle.uu_schema.specs.Made.{FromSystems}
 use Rattle.uu_schema.proofs.tables.create_tables.Goals as goal

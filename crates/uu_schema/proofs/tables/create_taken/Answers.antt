@@ -1,6 +1,6 @@
 use Rattle.std.proofs.Common.{ap}
 use Rattle.sqlite.specs.Held.{state}
-use Rattle.uu_sql.proofs.Steps.{statement}
+use Rattle.uu_schema.proofs.Steps.{statement}
 use Rattle.uu_schema.specs.Schema.{create_taken, taken, with_links, site}
 use Rattle.uu_schema.specs.Made.{IsMade}
 use Rattle.uu_schema.proofs.Made.{taken_made}

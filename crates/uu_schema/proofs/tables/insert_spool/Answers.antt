@@ -1,5 +1,5 @@
 use Rattle.sqlite.specs.Held.{state}
-use Rattle.uu_sql.proofs.Steps.{statement}
+use Rattle.uu_schema.proofs.Steps.{statement}
 use Rattle.uu_schema.specs.Schema.{insert_spool, site}
 use Rattle.uu_schema.specs.Made.{IsBegun}
 use Rattle.uu_schema.proofs.Made.{spool_begun}

@@ -3,8 +3,8 @@ use Rattle.sqlite.specs.Held.{state}
 use Rattle.sqlite.specs.State.{HasCleanDisk, Survives}
 use Rattle.sqlite.proofs.StateLemmas.{survives_then}
 use Rattle.sqlite.proofs.Callers.{survives_begin}
-use Rattle.uu_sql.specs.Steps.{Undid, Whole}
-use Rattle.uu_sql.proofs.Steps.{abandoned, committed, whole_as}
+use Rattle.uu_schema.specs.Steps.{Undid, Whole}
+use Rattle.uu_schema.proofs.Steps.{abandoned, committed, whole_as}
 use Rattle.uu_schema.specs.Schema.{site, site_of}
 use Rattle.uu_schema.specs.Held.{Migrates}
 use Rattle.uu_schema.proofs.Kept.{rolled_back}

@@ -1,6 +1,6 @@
 use Rattle.sqlite.specs.Held.{state}
 use Rattle.sqlite.proofs.InsideLemmas.{keeps_then}
-use Rattle.uu_sql.proofs.Steps.{outcome_then}
+use Rattle.uu_schema.proofs.Steps.{outcome_then}
 use Rattle.uu_schema.specs.Schema.{first_site, second_site, site}
 use Rattle.uu_schema.specs.Made.{FromSecond}
 use Rattle.uu_schema.proofs.Kept.{clean_before}

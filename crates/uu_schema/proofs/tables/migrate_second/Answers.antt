@@ -1,7 +1,7 @@
 use Rattle.sqlite.specs.Held.{state}
 use Rattle.sqlite.proofs.InsideLemmas.{keeps_then}
-use Rattle.uu_sql.proofs.Steps.{outcome_then}
-use Rattle.uu_sql.specs.Steps.{Both}
+use Rattle.uu_schema.proofs.Steps.{outcome_then}
+use Rattle.uu_schema.specs.Steps.{Both}
 use Rattle.uu_schema.specs.Schema.{second_site, with_links, site, taken}
 use Rattle.uu_schema.specs.Made.{IsMade, IsRaised}
 use Rattle.uu_schema.proofs.Kept.{clean_before}

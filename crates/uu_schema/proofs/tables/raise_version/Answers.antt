@@ -1,6 +1,6 @@
 use Rattle.std.proofs.Common.{ap}
 use Rattle.sqlite.specs.Held.{state}
-use Rattle.uu_sql.proofs.Steps.{statement}
+use Rattle.uu_schema.proofs.Steps.{statement}
 use Rattle.uu_schema.specs.Schema.{raise_version, site}
 use Rattle.uu_schema.specs.Made.{IsRaised}
 use Rattle.uu_schema.proofs.Made.{version_raised}

@@ -3,8 +3,8 @@ use Rattle.sqlite.specs.Held.{state}
 use Rattle.sqlite.specs.State.{Survives}
 use Rattle.sqlite.proofs.StateLemmas.{survives_then}
 use Rattle.sqlite.proofs.Callers.{survives_begin}
-use Rattle.uu_sql.specs.Steps.{Whole}
-use Rattle.uu_sql.proofs.Steps.{abandoned, committed, whole_as}
+use Rattle.uu_schema.specs.Steps.{Whole}
+use Rattle.uu_schema.proofs.Steps.{abandoned, committed, whole_as}
 use Rattle.uu_schema.specs.Schema.{site}
 use Rattle.uu_statements.specs.Makes.{MakesAll}
 use Rattle.uu_statements.proofs.changes.commit.Goals as goal

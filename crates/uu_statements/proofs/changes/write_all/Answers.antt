@@ -1,7 +1,7 @@
 use Rattle.std.proofs.Common.{◌+◌, ◌++◌, ◌∷◌, [], take, sym, subst, ap, ◌∙◌, ◌≡◌, rules, arith}
 use Rattle.std.proofs.lemmas.List.{take_more}
 use Rattle.sqlite.specs.Held.{state}
-use Rattle.uu_sql.proofs.Steps.{inside_then, halted_then, weaker, halted_as}
+use Rattle.uu_schema.proofs.Steps.{inside_then, halted_then, weaker, halted_as}
 use Rattle.uu_schema.specs.Schema.{site}
 use Rattle.uu_statements.specs.Makes.{MakesAll}
 use Rattle.uu_statements.proofs.Loop.{one_more}

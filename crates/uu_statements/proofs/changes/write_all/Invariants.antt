@@ -1,6 +1,6 @@
 use Rattle.std.proofs.Common.{◌≡◌, take}
 use Rattle.sqlite.specs.Held.{state}
-use Rattle.uu_sql.specs.Steps.{Inside}
+use Rattle.uu_schema.specs.Steps.{Inside}
 use Rattle.uu_schema.specs.Schema.{site}
 use Rattle.uu_statements.specs.Makes.{MakesAll}
 use Rattle.uu_statements.proofs.changes.write_all.Given as goal

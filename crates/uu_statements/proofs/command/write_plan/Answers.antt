@@ -3,7 +3,7 @@ use Rattle.std.specs.Prelude.{is_ok}
 use Rattle.std.specs.Result.{is_err}
 use Rattle.std.proofs.Common.{subst}
 use Rattle.sqlite.specs.Held.{state}
-use Rattle.uu_sql.specs.Steps.{Whole}
+use Rattle.uu_schema.specs.Steps.{Whole}
 use Rattle.uu_schema.specs.Schema.{site}
 use Rattle.uu_statements.specs.Makes.{MakesAll}
 use Rattle.uu_statements.proofs.Steps.{step_written, step_unwritten}

@@ -1,5 +1,5 @@
 use Rattle.sqlite.specs.Held.{state}
-use Rattle.uu_sql.proofs.Steps.{statement}
+use Rattle.uu_schema.proofs.Steps.{statement}
 use Rattle.uu_tables.specs.declared.change.Change.TheVariants.{RemoveEntry}
 use Rattle.uu_schema.specs.Schema.{site}
 use Rattle.uu_statements.specs.Texts.{delete_entry}

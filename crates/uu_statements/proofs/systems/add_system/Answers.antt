@@ -1,6 +1,6 @@
 use Rattle.std.proofs.Common.{◌≡◌, ap}
 use Rattle.sqlite.specs.Held.{state}
-use Rattle.uu_sql.proofs.Steps.{statement}
+use Rattle.uu_schema.proofs.Steps.{statement}
 use Rattle.uu_times.specs.System.{System}
 use Rattle.uu_tables.specs.declared.change.Change.TheVariants.{AddSystem}
 use Rattle.uu_schema.specs.Schema.{site}

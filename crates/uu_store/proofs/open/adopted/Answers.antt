@@ -1,6 +1,6 @@
 use Rattle.sqlite.specs.Held.{state}
-use Rattle.uu_database.proofs.Creating.{none_found}
-use Rattle.uu_database.proofs.Settling.{leaves}
+use Rattle.uu_adopt.proofs.Creating.{none_found}
+use Rattle.uu_adopt.proofs.Settling.{leaves}
 use Rattle.uu_store.specs.Spool.{connection_of, disk}
 use Rattle.uu_store.proofs.Opening.{not_taken}
 use Rattle.uu_store.proofs.open.adopted.Goals as goal

@@ -4,7 +4,7 @@ use Rattle.uu_request.specs.declared.request.Question.TheVariants as question
 use Rattle.uuspool.specs.Answers.{IsShown, no_job}
 use Rattle.uuspool.proofs.ServedLemmas.{Answers, Appends-nothing, marked_is_of_call, marks_of_call, noted_of_call, printed, question_served, question_unanswered}
 use Rattle.uu_report.specs.Reports.{IsJobLine}
-use Rattle.uu_database.specs.HandedOut.{job_shown, job_with}
+use Rattle.uu_store.specs.HandedOut.{job_shown, job_with}
 use Rattle.uuspool.proofs.AnswerLemmas.{shown_head}
 use Rattle.uuspool.proofs.answer.show.Goals as goal
 

@@ -1,12 +1,12 @@
 use Rattle.std.proofs.Common.{Err, sym, ap, subst}
 use Rattle.sqlite.specs.Held.{state}
-use Rattle.uu_database.specs.Encoded.{Leaves}
-use Rattle.uu_database.specs.Adoption.{StopsAs}
+use Rattle.uu_schema.specs.Encoded.{Leaves}
+use Rattle.uu_adopt.specs.Adoption.{StopsAs}
 use Rattle.uu_core.specs.State.{empty}
-use Rattle.uu_database.proofs.Settling.{adopt_creates, adopt_migrates}
+use Rattle.uu_adopt.proofs.Settling.{adopt_creates, adopt_migrates}
 use Rattle.uu_store.proofs.Ending.{clean_before}
 use Rattle.uu_schema.specs.declared.fault.StoreFault.TheVariants.{Foreign}
-use Rattle.uu_database.proofs.Inspecting.{read_as, taken_as, refused_as, same_as, stops_as, unmade_as, not_ok, same_fault}
+use Rattle.uu_adopt.proofs.Inspecting.{read_as, taken_as, refused_as, same_as, stops_as, unmade_as, not_ok, same_fault}
 use Rattle.uu_store.proofs.Adopting.{adopted_as, turned_away_as, remembers}
 use Rattle.uu_store.proofs.spool.Spool.adopt.Goals as goal
 

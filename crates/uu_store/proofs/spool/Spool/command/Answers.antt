@@ -3,10 +3,10 @@ use Rattle.sqlite.specs.Held.{state}
 use Rattle.uu_schema.specs.declared.fault.StoreFault.{StoreFault}
 use Rattle.uu_core.specs.After.{after}
 use Rattle.uu_core.specs.State.{empty}
-use Rattle.uu_database.specs.Calls.{StaysUnclean}
-use Rattle.uu_database.specs.Encoded.{Leaves, LeavesEither}
+use Rattle.uu_schema.specs.Steps.{StaysUnclean}
+use Rattle.uu_schema.specs.Encoded.{Leaves, LeavesEither}
 use Rattle.uu_store.specs.Spool.{connection_of}
-use Rattle.uu_database.proofs.Settling.{leaves, leaves_either}
+use Rattle.uu_adopt.proofs.Settling.{leaves, leaves_either}
 use Rattle.uu_store.proofs.Ending.{noted_memory, shows_again, clean_before}
 use Rattle.uu_store.proofs.Running.{ran_one}
 use Rattle.uu_store.proofs.spool.Spool.command.Goals as goal

@@ -1,5 +1,5 @@
 use Rattle.sqlite.specs.Held.{state}
-use Rattle.uu_database.proofs.Settling.{leaves}
+use Rattle.uu_adopt.proofs.Settling.{leaves}
 use Rattle.uu_store.proofs.spool.Spool.release.Goals as goal
 
 pub returns-clause-stop : goal.returns-clause-stop

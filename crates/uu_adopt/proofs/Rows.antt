@@ -1,0 +1,163 @@
+-- The tables of a well-formed state are such as are read, each in the strict order of its key, and
+-- no key stands twice.
+use Rattle.std.proofs.Common.{◌≡◌, ℕ, ◌<◌, List, Less, Equal, Ordering, Option, None, Some, IfSome, refl, ap, arith}
+use Rattle.std.specs.List.{AllByRecursion}
+use Rattle.sqlite.specs.Order.{Row}
+use Rattle.sqlite.specs.Tree.{IsAscending}
+use Rattle.sqlite_keyed.proofs.ListLemmas.{ascending_weaker, all_weaker}
+use Rattle.uu_times.specs.System.{IsRetry}
+use Rattle.uu_core.specs.State.{State, IsWellFormed}
+use Rattle.uu_core.specs.declared.job.JobHead.{JobHead}
+use Rattle.uu_tables.specs.declared.rows.SystemColumns.{SystemColumns}
+use Rattle.uu_tables.specs.declared.rows.LineColumns.{LineColumns}
+use Rattle.uu_tables.specs.declared.rows.RangeColumns.{RangeColumns}
+use Rattle.uu_tables.specs.declared.rows.EntryColumns.{EntryColumns}
+use Rattle.uu_tables.specs.declared.rows.WaitColumns.{WaitColumns}
+use Rattle.uu_tables.specs.declared.rows.LinkColumns.{LinkColumns}
+use Rattle.uu_tables.specs.declared.rows.TakenColumns.{TakenColumns}
+use Rattle.uu_tables.specs.Tables.{Piece, tables_of, size_of}
+use Rattle.uu_check.specs.Order.{AreInOrder as AreTablesInOrder}
+use Rattle.uu_check.specs.Readable.{AreReadable, IsSystemRow, IsLineRow, IsRangeRow, IsPieceRow, IsEntryRow, IsWaitRow, IsLinkRow, IsTakenRow}
+use Rattle.uu_check.proofs.Rising.{in_order}
+use Rattle.uu_check.proofs.Reading.{readable}
+use Rattle.uu_schema.specs.Keyed.{Keyed}
+use Rattle.uu_schema.specs.Held.{system_key, line_key, range_key, job_key, piece_key, entry_key, wait_key, link_key, taken_key}
+use Rattle.uu_rows.specs.Readable.{IsSmall, IsSystem, IsLine, IsRange, IsHead, IsSize, IsEntry, IsWait, IsLink, IsTaken}
+use Rattle.uu_rows.specs.Order.{system_cmp, line_cmp, range_cmp, head_cmp, piece_cmp, entry_cmp, wait_cmp, link_cmp, taken_cmp}
+use Rattle.uu_adopt.specs.Taking.{AreInOrder, AreRows}
+use Rattle.uu_questions.proofs.InOrder.{ascending_pairs}
+use Rattle.uu_questions.proofs.OfState.{heads_good}
+use Rattle.uu_questions.proofs.Rising.{same_name, same_number}
+
+-- ---- what a state has can be read
+
+system_read : (c : SystemColumns) → IsSystemRow c → IsSystem c
+system_read c h = record {
+  name = h.name;
+  max_retries = (let k = h.max_retries in omega (arith, k));
+  last = (let k = h.last in omega (arith, k));
+  failures = (let k = h.failures in omega (arith, k));
+  wait = (let k = h.wait in omega (arith, k));
+  outcome = (let k = h.outcome in omega (arith, k));
+  why = h.why;
+}
+
+retry_small : (retry : Option ℕ) → IfSome retry IsRetry → IfSome retry IsSmall
+retry_small None h = tt
+retry_small (Some minutes) h = let k = h.1 in omega (arith, k)
+
+line_read : (l : LineColumns) → IsLineRow l → IsLine l
+line_read l h = record { system = h.system; place = (let k = h.place in omega (arith, k)); grade = h.grade; retry = retry_small l.retry h.retry }
+
+range_read : (r : RangeColumns) → IsRangeRow r → IsRange r
+range_read r h = record { system = h.system; place = (let k = h.place in omega (arith, k)); low = (let k = h.low in omega (arith, k)); high = (let k = h.high in omega (arith, k)) }
+
+size_read : (p : Piece) → IsPieceRow p → IsSize (size_of p)
+size_read p h = record { job = (let k = h.job in omega (arith, k)); place = (let k = h.place in omega (arith, k)); length = (let k = h.length in omega (arith, k)) }
+
+entry_read : (e : EntryColumns) → IsEntryRow e → IsEntry e
+entry_read e h = record { host = h.host }
+
+wait_read : (w : WaitColumns) → IsWaitRow w → IsWait w
+wait_read w h = record { system = h.system; wait = (let k = h.wait in omega (arith, k)) }
+
+link_read : (l : LinkColumns) → IsLinkRow l → IsLink l
+link_read l h = record { system = h.system; below = (let k = h.below in omega (arith, k)) }
+
+taken_read : (t : TakenColumns) → IsTakenRow t → IsTaken t
+taken_read t h = record { system = h.system; number = (let k = h.number in omega (arith, k)); mark = h.mark; job = (let k = h.job in omega (arith, k)) }
+
+-- ---- keys in strict order differ
+
+less_not_equal : (r : Ordering) → r ≡ Less → r ≡ Equal → ⊥
+less_not_equal r h k = absurd (cc)
+
+pub systems_apart : (a b : SystemColumns) → system_cmp a b ≡ Less → system_key a ≡ system_key b → ⊥
+systems_apart a b h e = less_not_equal _ h (rw e (same_name b.name))
+
+pub lines_apart : (a b : LineColumns) → line_cmp a b ≡ Less → line_key a ≡ line_key b → ⊥
+lines_apart a b h e =
+    let name : a.system ≡ b.system = ap (λ (k : List ℕ × ℕ). k.0) e in
+    let place : a.place ≡ b.place = ap (λ (k : List ℕ × ℕ). k.1) e in
+    less_not_equal _ h (rw (name, place, same_name b.system, same_number b.place) refl)
+
+pub ranges_apart : (a b : RangeColumns) → range_cmp a b ≡ Less → range_key a ≡ range_key b → ⊥
+ranges_apart a b h e =
+    let name : a.system ≡ b.system = ap (λ (k : List ℕ × ℕ × ℕ). k.0) e in
+    let place : a.place ≡ b.place = ap (λ (k : List ℕ × ℕ × ℕ). k.1) e in
+    let low : a.low ≡ b.low = ap (λ (k : List ℕ × ℕ × ℕ). k.2) e in
+    less_not_equal _ h (rw (name, place, low, same_name b.system, same_number b.place, same_number b.low) refl)
+
+pub heads_apart : (a b : JobHead) → head_cmp a b ≡ Less → job_key a ≡ job_key b → ⊥
+heads_apart a b h e = less_not_equal _ h (rw e (same_number b.number))
+
+pub pieces_apart : (a b : Piece) → piece_cmp a b ≡ Less → piece_key a ≡ piece_key b → ⊥
+pieces_apart a b h e =
+    let job : a.job ≡ b.job = ap (λ (k : ℕ × ℕ). k.0) e in
+    let place : a.place ≡ b.place = ap (λ (k : ℕ × ℕ). k.1) e in
+    less_not_equal _ h (rw (job, place, same_number b.job, same_number b.place) refl)
+
+pub entries_apart : (a b : EntryColumns) → entry_cmp a b ≡ Less → entry_key a ≡ entry_key b → ⊥
+entries_apart a b h e = less_not_equal _ h (rw e (same_name b.host))
+
+pub waits_apart : (a b : WaitColumns) → wait_cmp a b ≡ Less → wait_key a ≡ wait_key b → ⊥
+waits_apart a b h e = less_not_equal _ h (rw e (same_name b.system))
+
+pub links_apart : (a b : LinkColumns) → link_cmp a b ≡ Less → link_key a ≡ link_key b → ⊥
+links_apart a b h e = less_not_equal _ h (rw e (same_name b.system))
+
+pub taken_apart : (a b : TakenColumns) → taken_cmp a b ≡ Less → taken_key a ≡ taken_key b → ⊥
+taken_apart a b h e =
+    let name : a.system ≡ b.system = ap (λ (k : List ℕ × ℕ). k.0) e in
+    let number : a.taken.number ≡ b.taken.number = ap (λ (k : List ℕ × ℕ). k.1) e in
+    less_not_equal _ h (rw (name, number, same_name b.system, same_number b.taken.number) refl)
+
+-- rows of a list in strict order show it by its key
+pub keyed : {K X : Type 0} (key : X → K) (cells : X → Row) (places : List ℕ) (cmp : X → X → Ordering) (xs : List X) (rows : List Row) → ((a b : X) → cmp a b ≡ Less → key a ≡ key b → ⊥)
+    → IsAscending (λ a b. cmp a b ≡ Less) xs → AreRows cells places xs rows → Keyed key cells places xs rows
+keyed key cells places cmp xs rows apart rise h = record { same = h.same; numbered = h.numbered; once = h.once; apart = ascending_weaker _ _ apart xs rise }
+
+-- ---- a state's tables
+
+module _ (s : State) (good : IsWellFormed s) where
+  order : AreTablesInOrder (tables_of s)
+  order = in_order s good
+
+  fits : AreReadable (tables_of s)
+  fits = readable s good
+
+  pub next_small : IsSmall s.next
+  next_small = let k = fits.next in omega (arith, k)
+
+  pub systems_in_order : AreInOrder IsSystem system_cmp (tables_of s).systems
+  systems_in_order = record { readable = all_weaker _ _ system_read _ fits.systems; rise = ascending_pairs _ _ order.systems }
+
+  pub lines_in_order : AreInOrder IsLine line_cmp (tables_of s).lines
+  lines_in_order = record { readable = all_weaker _ _ line_read _ fits.lines; rise = ascending_pairs _ _ order.lines }
+
+  pub ranges_in_order : AreInOrder IsRange range_cmp (tables_of s).ranges
+  ranges_in_order = record { readable = all_weaker _ _ range_read _ fits.ranges; rise = ascending_pairs _ _ order.ranges }
+
+  below : (a b : JobHead) → a.number < b.number → head_cmp a b ≡ Less
+  below a b h = search (arith, h)
+
+  pub heads_in_order : AreInOrder IsHead head_cmp (tables_of s).jobs
+  heads_in_order = record { readable = heads_good s good; rise = ascending_weaker _ _ below _ (ascending_pairs _ _ order.jobs) }
+
+  pub sizes_good : AllByRecursion (λ p. IsSize (size_of p)) (tables_of s).pieces
+  sizes_good = all_weaker _ _ size_read _ fits.pieces
+
+  pub pieces_in_order : IsAscending (λ a b. piece_cmp a b ≡ Less) (tables_of s).pieces
+  pieces_in_order = ascending_pairs _ _ order.pieces
+
+  pub entries_in_order : AreInOrder IsEntry entry_cmp (tables_of s).entries
+  entries_in_order = record { readable = all_weaker _ _ entry_read _ fits.entries; rise = ascending_pairs _ _ order.entries }
+
+  pub waits_in_order : AreInOrder IsWait wait_cmp (tables_of s).success_waits
+  waits_in_order = record { readable = all_weaker _ _ wait_read _ fits.success_waits; rise = ascending_pairs _ _ order.success_waits }
+
+  pub links_in_order : AreInOrder IsLink link_cmp (tables_of s).links
+  links_in_order = record { readable = all_weaker _ _ link_read _ fits.links; rise = ascending_pairs _ _ order.links }
+
+  pub taken_in_order : AreInOrder IsTaken taken_cmp (tables_of s).taken
+  taken_in_order = record { readable = all_weaker _ _ taken_read _ fits.taken; rise = ascending_pairs _ _ order.taken }

@@ -1,0 +1,72 @@
+-- What a database is found to be when it is taken as a spool, and what that leaves.
+use Rattle.std.specs.Prelude.{◌≡◌, ◌⊎◌, Result, Ok, Err, OnOk, ⊤}
+use Rattle.sqlite.specs.Tree.{Trees}
+use Rattle.sqlite.specs.State as db
+use Rattle.sqlite_catalog.specs.Listing.{IsSound}
+use Rattle.uu_schema.specs.Steps.{Stands, Rests}
+use Rattle.uu_core.specs.State.{State, empty}
+use Rattle.uu_schema.specs.Schema.{site, no_schema, site_of}
+use Rattle.uu_schema.specs.declared.version.Version.{Version}
+use Rattle.uu_schema.specs.declared.fault.StoreFault.{StoreFault}
+use Rattle.uu_schema.specs.declared.fault.StoreFault.TheVariants.{Store, Newer, Foreign as ForeignFault}
+use Rattle.uu_adopt.specs.Version.{IsLater}
+use Rattle.uu_adopt.specs.declared.inspection.Finding.{Finding}
+use Rattle.uu_adopt.specs.declared.inspection.Finding.TheVariants.{Spool, Foreign, Later}
+use Rattle.uu_schema.specs.Encoded.{Encodes, HoldsState, HoldsStateAs, Leaves, Migrated}
+use Rattle.uu_adopt.specs.FoundTables.{HasNone, HasEarlier, IsEarlier}
+
+-- no state has these rows in the tables of this version
+abbrev pub IsOfNone : Version → Trees → Type 0
+IsOfNone v trees = (s : State) → ¬ HoldsStateAs v trees s
+
+-- what a finding says of the tables
+abbrev pub Finds : Version → Finding → Trees → Type 0
+Finds v Spool trees = (s : State) × HoldsStateAs v trees s
+Finds v Foreign trees = (¬ IsLater trees) × IsOfNone v trees
+Finds v Later trees = IsLater trees
+
+-- the fact, unless the store failed
+abbrev pub UnlessFailed : StoreFault → Type 0 → Type 0
+UnlessFailed (Store kind) Fact = ⊤
+UnlessFailed fault Fact = Fact
+
+abbrev pub UnlessStore : {T : Type 0} → Result T StoreFault → Type 0 → Type 0
+UnlessStore (Ok x) Fact = Fact
+UnlessStore (Err fault) Fact = UnlessFailed fault Fact
+
+-- A database that has the tables of a version is taken exactly where it encodes a state, told as
+-- that of a later version exactly where a row says so, and else as foreign.
+pub record IsInspected (v : Version) (old new : db.State) (r : Result (Unit {0}) StoreFault) : Type 0 where
+  pub ok : db.HasCleanDisk new → Stands (site_of v) old.now → OnOk r ((s : State) × HoldsStateAs v old.now.trees s)
+  pub newer : db.HasCleanDisk new → Stands (site_of v) old.now → r ≡ Err Newer → IsLater old.now.trees
+  pub foreign : db.HasCleanDisk new → Stands (site_of v) old.now → r ≡ Err ForeignFault → (¬ IsLater old.now.trees) × IsOfNone v old.now.trees
+
+-- a stop leaves nothing that it would not have left before
+abbrev pub LeavesNoMore : db.State → db.State → Type 0
+LeavesNoMore old new = (trees : Trees) → new.may_leave trees → old.may_leave trees
+
+-- a database was only looked at: it stays as it is, and a stop leaves what it would have left
+pub record IsSpared (old new : db.State) (r : Result (Unit {0}) StoreFault) : Type 0 where
+  pub same : db.HasCleanDisk new → Rests old → UnlessStore r (Rests new × (new.now ≡ old.now))
+  pub stop : db.HasCleanDisk new → LeavesNoMore old new
+
+-- refused, by what it holds or for want of memory, and not because the store failed
+abbrev pub IsRefused : Result (Unit {0}) StoreFault → Type 0
+IsRefused (Ok x) = ⊥
+IsRefused (Err (Store kind)) = ⊥
+IsRefused (Err fault) = ⊤
+
+-- a database with any of the spool's tables, whatever their shape and whatever stands beside them,
+-- or with no tables, is as it was
+pub record IsAsBefore (old new : db.State) : Type 0 where
+  pub some : ¬ HasNone old.now.schema → Rests new × (new.now ≡ old.now)
+  pub none : Stands no_schema old.now → Rests new × (new.now ≡ old.now)
+
+-- A stop leaves the state that a database encodes, of one with any of the spool's tables but those
+-- of an earlier version what it was, of an earlier version that or the one that is written of the
+-- same state, and of one without tables that or an empty spool.
+pub record StopsAs (old new : db.State) : Type 0 where
+  pub some : ¬ HasNone old.now.schema → ¬ HasEarlier old.now.schema → (trees : Trees) → new.may_leave trees → trees ≡ old.now.trees
+  pub state : (s : State) → Encodes old.now s → Leaves new s
+  pub earlier : (v : Version) → IsEarlier v → Stands (site_of v) old.now → (trees : Trees) → new.may_leave trees → (trees ≡ old.now.trees) ⊎ (IsSound site trees × Migrated v old.now.trees trees)
+  pub none : Stands no_schema old.now → (trees : Trees) → new.may_leave trees → (trees ≡ old.now.trees) ⊎ (IsSound site trees × HoldsState trees empty)

@@ -1,0 +1,136 @@
+-- Which of the spool's tables a database has, by their names and those of their columns, compared
+-- without regard to ASCII case as SQLite does.
+use Rattle.std.specs.Prelude.{◌≡◌, ◌⊎◌, ℕ, Bool, false, ◌&&◌, ◌||◌, if◌then◌else◌, List, [], ◌∷◌, codes, find, Option, Some, None, is_some, ⊤}
+use Rattle.std.specs.List.{list_any, list_all}
+use Rattle.std.specs.Option.{option_map_or}
+use Rattle.sqlite.specs.Schema.{Schema}
+use Rattle.sqlite.specs.Table.{Table}
+use Rattle.sqlite_schema.specs.Names.{same_name}
+use Rattle.uu_schema.specs.declared.version.Version.{Version}
+use Rattle.uu_schema.specs.declared.version.Version.TheVariants.{First, Second, Third}
+use Rattle.uu_adopt.specs.declared.tables.Found.{Found}
+use Rattle.uu_adopt.specs.declared.tables.Found.TheVariants.{Nothing, Spool, Other}
+
+abbrev pub table_of : Schema → List ℕ → Option Table
+table_of schema name = find (λ t. same_name t.name name) schema.tables
+
+abbrev pub has_column : Table → List ℕ → Bool
+has_column table name = list_any (λ c. same_name c.name name) table.columns
+
+abbrev pub has_table : Schema → List ℕ → List (List ℕ) → Bool
+has_table schema name columns = option_map_or (λ t. list_all (has_column t) columns) (table_of schema name) false
+
+-- ---- the columns of each table
+
+abbrev pub system_columns : List (List ℕ)
+system_columns = codes "name" ∷ codes "max_retries" ∷ codes "last" ∷ codes "failures" ∷ codes "wait" ∷ codes "outcome" ∷ codes "why" ∷ []
+
+abbrev pub line_columns : List (List ℕ)
+line_columns = codes "system" ∷ codes "place" ∷ codes "rank" ∷ codes "retry" ∷ []
+
+abbrev pub range_columns : List (List ℕ)
+range_columns = codes "system" ∷ codes "place" ∷ codes "low" ∷ codes "high" ∷ []
+
+abbrev pub job_columns : List (List ℕ)
+job_columns =
+    codes "number" ∷ codes "system" ∷ codes "rank" ∷ codes "user" ∷ codes "kind" ∷ codes "queued" ∷ codes "first_word" ∷ codes "second_word" ∷ codes "size" ∷ []
+
+abbrev pub piece_columns : List (List ℕ)
+piece_columns = codes "job" ∷ codes "place" ∷ codes "bytes" ∷ []
+
+abbrev pub entry_columns : List (List ℕ)
+entry_columns = codes "host" ∷ codes "bytes" ∷ []
+
+abbrev pub wait_columns : List (List ℕ)
+wait_columns = codes "system" ∷ codes "wait" ∷ []
+
+abbrev pub link_columns : List (List ℕ)
+link_columns = codes "system" ∷ codes "below" ∷ []
+
+abbrev pub taken_columns : List (List ℕ)
+taken_columns = codes "system" ∷ codes "number" ∷ codes "mark" ∷ codes "job" ∷ []
+
+-- ---- what is there
+
+-- the tables of the systems with all their columns
+abbrev pub has_systems : Schema → Bool
+has_systems schema = has_table schema (codes "systems") system_columns && has_table schema (codes "lines") line_columns && has_table schema (codes "ranges") range_columns
+
+-- those of the jobs and of the map entries
+abbrev pub has_jobs : Schema → Bool
+has_jobs schema = has_table schema (codes "jobs") job_columns && has_table schema (codes "pieces") piece_columns && has_table schema (codes "entries") entry_columns
+
+-- that of the success waits
+abbrev pub has_waits : Schema → Bool
+has_waits schema = has_table schema (codes "success_waits") wait_columns
+
+-- those of the links, and of what was taken by them
+abbrev pub has_links : Schema → Bool
+has_links schema = has_table schema (codes "links") link_columns && has_table schema (codes "taken") taken_columns
+
+-- the rest of the columns and tables of version 1 is there
+abbrev pub is_whole : Schema → Table → Bool
+is_whole schema spool = has_column spool (codes "next") && has_systems schema && has_jobs schema
+
+-- a table under this name
+abbrev pub is_taken : Schema → List ℕ → Bool
+is_taken schema name = is_some (table_of schema name)
+
+-- a table under one of the names of these two
+abbrev pub is_link_taken : Schema → Bool
+is_link_taken schema = is_taken schema (codes "links") || is_taken schema (codes "taken")
+
+-- a table under one of the names but `spool`
+abbrev pub is_any_taken : Schema → Bool
+is_any_taken schema = is_taken schema (codes "systems") || is_taken schema (codes "lines") || is_taken schema (codes "ranges") || is_taken schema (codes "jobs") || is_taken schema (codes "pieces") || is_taken schema (codes "entries") || is_taken schema (codes "success_waits") || is_link_taken schema
+
+-- the version that the tables tell that were added after version 1: it has all of its own, and of
+-- those of later ones no name is taken
+abbrev pub added_with : Schema → Option Version
+added_with schema =
+    if has_waits schema
+    then (if has_links schema then Some Third else (if is_link_taken schema then None else Some Second))
+    else (if is_taken schema (codes "success_waits") || is_link_taken schema then None else Some First)
+
+-- the version whose tables are there with all their columns
+abbrev pub tables_with : Schema → Table → Option Version
+tables_with schema spool = if is_whole schema spool then added_with schema else None
+
+-- what is found of a table `spool`, and beside it
+abbrev pub found_beside : Schema → Option Table → Found
+found_beside schema None = if is_any_taken schema then Other else Nothing
+found_beside schema (Some spool) =
+    if has_column spool (codes "id") && has_column spool (codes "version")
+    then Spool (tables_with schema spool)
+    else Other
+
+abbrev pub found_of : Schema → Found
+found_of schema = found_beside schema (table_of schema (codes "spool"))
+
+-- ---- the same in words
+
+-- none of the spool's tables is there
+abbrev pub HasNone : Schema → Type 0
+HasNone schema = found_of schema ≡ Nothing
+
+-- all of a version are, with all their columns
+abbrev pub HasAllOf : Version → Schema → Type 0
+HasAllOf v schema = found_of schema ≡ Spool (Some v)
+
+-- a version before the one that is written
+abbrev pub IsEarlier : Version → Type 0
+IsEarlier First = ⊤
+IsEarlier Second = ⊤
+IsEarlier Third = ⊥
+
+-- those of an earlier version, so that the rest is to be made
+abbrev pub HasEarlier : Schema → Type 0
+HasEarlier schema = (v : Version) × IsEarlier v × HasAllOf v schema
+
+-- none is, or all of a version
+abbrev pub HasNoneOrAll : Schema → Type 0
+HasNoneOrAll schema = HasNone schema ⊎ ((v : Version) × HasAllOf v schema)
+
+-- one of their names is taken, and no table `spool` has the columns that tell a version
+abbrev pub HasOther : Schema → Type 0
+HasOther schema = found_of schema ≡ Other

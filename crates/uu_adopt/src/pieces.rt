@@ -1,0 +1,106 @@
+// The pieces without their bytes, read when a database is looked at as a spool. Where a later piece
+// has a higher rowid, as in every file that a spool wrote, one question tells sizes and rowids;
+// else two do.
+ghost use Rattle.std.specs.Prelude.{◌≡◌, true, false, map, IfOk};
+ghost use Rattle.sqlite.specs.Tree.{IsAscending};
+ghost use Rattle.sqlite.specs.Held.{state};
+ghost use Rattle.uu_schema.specs.declared.version.Version.{Version};
+ghost use Rattle.uu_schema.specs.Schema.{pieces};
+ghost use Rattle.uu_rows.specs.Readable.{IsSize};
+ghost use Rattle.uu_adopt.specs.Taking.{numbered_cells, comes_before, IsBefore, AreNumberedSizes, FindsSizes, Takes};
+
+use crate::integer::{Integer, integer_in};
+use crate::taking::take_sizes_in_any_order;
+use sqlite::{Alter, Connection, Error, Row};
+use std::alloc::{AllocError, Global};
+use uu_rows::{RowFault, TypedRow, ask, has_width, number_in, read_all};
+use uu_tables::PieceSize;
+
+/// A row of the table `pieces` without its bytes, and its rowid.
+#[derive(Drop)]
+pub(crate) struct NumberedSize {
+    pub(crate) rowid: Integer,
+    pub(crate) size: PieceSize,
+}
+
+impl TypedRow for NumberedSize {
+    ghost cells = { numbered_cells };
+
+    ghost IsReadable = { λ numbered. IsSize numbered.size };
+
+    fn read(_alloc: Global, row: &Row) -> Result<NumberedSize, RowFault> {
+        has_width(row, 4)?;
+        Ok(NumberedSize {
+            rowid: integer_in(row)?,
+            size: PieceSize {
+                job: number_in(row, 1)?,
+                place: number_in(row, 2)?,
+                length: number_in(row, 3)?,
+            },
+        })
+    }
+}
+
+// Whether the second has a higher rowid, and a later job or a later place in the same job.
+fn comes_before(first: &NumberedSize, second: &NumberedSize) -> bool
+    ensures { result ≡ comes_before first.now second.now }
+{
+    first.rowid.value < second.rowid.value
+        && (first.size.job < second.size.job
+            || first.size.job == second.size.job && first.size.place < second.size.place)
+}
+
+// Whether they rise by rowid as by job and place.
+fn rise(sizes: &[NumberedSize]) -> bool
+    ensures { result ≡ true → IsAscending IsBefore sizes.now }
+{
+    let Some((first, rest)) = sizes.split_first() else {
+        return true;
+    };
+    let mut last = first;
+    for size in rest {
+        if !comes_before(last, size) {
+            return false;
+        }
+        last = size;
+    }
+    true
+}
+
+fn sizes_of(alloc: Global, numbered: Vec<NumberedSize>) -> Result<Vec<PieceSize>, AllocError>
+    ensures { IfOk result (λ sizes. sizes.items ≡ map (λ n. n.size) numbered.items) }
+{
+    numbered.into_iter().map(|one| one.size).collect(alloc)
+}
+
+// The sizes, if the rows are theirs and rise by rowid as by job and place.
+fn typed(alloc: Global, rows: &[Row]) -> Result<Vec<PieceSize>, RowFault>
+    ensures { IfOk result (λ all. AreNumberedSizes rows.now all.items) }
+{
+    let numbered: Vec<NumberedSize> = read_all(alloc, rows)?;
+    if rise(&numbered) {
+        Ok(sizes_of(alloc, numbered)?)
+    } else {
+        Err(RowFault::Bad)
+    }
+}
+
+/// Of each piece its job, its place and the number of its bytes, by job and place; no byte is read.
+/// None where a row of the table is no piece's, or two rows have one rowid.
+pub(crate) fn take_sizes<S: Alter>(
+    alloc: Global,
+    conn: &mut Connection<S>,
+) -> Result<Option<Vec<PieceSize>>, Error>
+    ensures idle { conn.old.in_transaction ≡ false → conn.new.in_transaction ≡ false }
+    ensures takes { (v : Version) → Takes v (λ trees found. FindsSizes (trees pieces.tree) found) (state S.Store conn.old) (state S.Store conn.new) result }
+{
+    let rows = ask(
+        conn,
+        "SELECT rowid, job, place, length(bytes) FROM pieces ORDER BY rowid",
+    )?;
+    match typed(alloc, &rows) {
+        Ok(all) => Ok(Some(all)),
+        Err(RowFault::Bad) => take_sizes_in_any_order(alloc, conn),
+        Err(RowFault::Memory) => Err(RowFault::Memory.as_error()),
+    }
+}

@@ -1,0 +1,201 @@
+// Which of the spool's tables a database has.
+ghost use Rattle.std.specs.Prelude.{◌≡◌, map};
+ghost use Rattle.std.specs.Option.{option_copied};
+ghost use Rattle.std.specs.List.{list_all};
+ghost use Rattle.uu_adopt.specs.FoundTables.{table_of, has_column, has_table, has_systems, has_jobs, has_waits, has_links, is_whole, is_taken, is_link_taken, is_any_taken, added_with, tables_with, found_of};
+
+use sqlite_schema::names::same_name;
+use sqlite_schema::schema::{Schema, Table};
+use uu_schema::Version;
+
+/// Which tables a database has.
+#[derive(Clone, Copy)]
+pub(crate) enum Found {
+    /// None of the spool's tables.
+    Nothing,
+    /// The table `spool` with the columns that tell its version, and the version whose tables are
+    /// all there.
+    Spool { tables: Option<Version> },
+    /// One of the names is taken, and there is no table `spool` with the columns that tell its
+    /// version.
+    Other,
+}
+
+const SYSTEMS: [&str; 7] = [
+    "name",
+    "max_retries",
+    "last",
+    "failures",
+    "wait",
+    "outcome",
+    "why",
+];
+
+const LINES: [&str; 4] = ["system", "place", "rank", "retry"];
+
+const RANGES: [&str; 4] = ["system", "place", "low", "high"];
+
+const JOBS: [&str; 9] = [
+    "number",
+    "system",
+    "rank",
+    "user",
+    "kind",
+    "queued",
+    "first_word",
+    "second_word",
+    "size",
+];
+
+const PIECES: [&str; 3] = ["job", "place", "bytes"];
+
+const ENTRIES: [&str; 2] = ["host", "bytes"];
+
+const SUCCESS_WAITS: [&str; 2] = ["system", "wait"];
+
+const LINKS: [&str; 2] = ["system", "below"];
+
+const TAKEN: [&str; 4] = ["system", "number", "mark", "job"];
+
+fn table_of<'a>(schema: &'a Schema, name: &str) -> Option<&'a Table>
+    ensures { option_copied result ≡ table_of schema.now name.now }
+{
+    schema
+        .tables
+        .as_slice()
+        .iter()
+        .find(|table| same_name(table.name.as_slice(), name.as_bytes()))
+}
+
+fn has_column(table: &Table, name: &str) -> bool
+    ensures { result ≡ has_column table.now name.now }
+{
+    table.columns.as_slice().iter().any(|column| same_name(column.name.as_slice(), name.as_bytes()))
+}
+
+fn has_columns(table: &Table, names: &[&str]) -> bool
+    ensures { result ≡ list_all (λ name. has_column table.now name.now) names.now }
+{
+    names.iter().all(|name| has_column(table, name))
+}
+
+fn has_table(schema: &Schema, name: &str, columns: &[&str]) -> bool
+    ensures { result ≡ has_table schema.now name.now (map (λ column. column.now) columns.now) }
+{
+    match table_of(schema, name) {
+        Some(table) => has_columns(table, columns),
+        None => false,
+    }
+}
+
+fn has_systems(schema: &Schema) -> bool
+    ensures { result ≡ has_systems schema.now }
+{
+    has_table(schema, "systems", &SYSTEMS)
+        && has_table(schema, "lines", &LINES)
+        && has_table(schema, "ranges", &RANGES)
+}
+
+fn has_jobs(schema: &Schema) -> bool
+    ensures { result ≡ has_jobs schema.now }
+{
+    has_table(schema, "jobs", &JOBS)
+        && has_table(schema, "pieces", &PIECES)
+        && has_table(schema, "entries", &ENTRIES)
+}
+
+fn has_waits(schema: &Schema) -> bool
+    ensures { result ≡ has_waits schema.now }
+{
+    has_table(schema, "success_waits", &SUCCESS_WAITS)
+}
+
+fn has_links(schema: &Schema) -> bool
+    ensures { result ≡ has_links schema.now }
+{
+    has_table(schema, "links", &LINKS) && has_table(schema, "taken", &TAKEN)
+}
+
+// Whether the rest of the columns and tables of version 1 is there.
+fn is_whole(schema: &Schema, spool: &Table) -> bool
+    ensures { result ≡ is_whole schema.now spool.now }
+{
+    has_column(spool, "next") && has_systems(schema) && has_jobs(schema)
+}
+
+fn is_taken(schema: &Schema, name: &str) -> bool
+    ensures { result ≡ is_taken schema.now name.now }
+{
+    table_of(schema, name).is_some()
+}
+
+// Whether a table stands under one of the names of the tables of links.
+fn is_link_taken(schema: &Schema) -> bool
+    ensures { result ≡ is_link_taken schema.now }
+{
+    is_taken(schema, "links") || is_taken(schema, "taken")
+}
+
+// Whether a table stands under one of the names but `spool`.
+fn is_any_taken(schema: &Schema) -> bool
+    ensures { result ≡ is_any_taken schema.now }
+{
+    is_taken(schema, "systems")
+        || is_taken(schema, "lines")
+        || is_taken(schema, "ranges")
+        || is_taken(schema, "jobs")
+        || is_taken(schema, "pieces")
+        || is_taken(schema, "entries")
+        || is_taken(schema, "success_waits")
+        || is_link_taken(schema)
+}
+
+// The version that the tables tell that were added after version 1: it has all of its own, and of
+// those of later ones no name is taken.
+fn added_with(schema: &Schema) -> Option<Version>
+    ensures { result ≡ added_with schema.now }
+{
+    if has_waits(schema) {
+        if has_links(schema) {
+            Some(Version::Third)
+        } else if is_link_taken(schema) {
+            None
+        } else {
+            Some(Version::Second)
+        }
+    } else if is_taken(schema, "success_waits") || is_link_taken(schema) {
+        None
+    } else {
+        Some(Version::First)
+    }
+}
+
+// The version whose tables are there with all their columns.
+fn tables_with(schema: &Schema, spool: &Table) -> Option<Version>
+    ensures { result ≡ tables_with schema.now spool.now }
+{
+    if is_whole(schema, spool) {
+        added_with(schema)
+    } else {
+        None
+    }
+}
+
+/// Which of the spool's tables there are, by their names and those of their columns.
+pub(crate) fn found_in(schema: &Schema) -> Found
+    ensures { result ≡ found_of schema.now }
+{
+    let Some(spool) = table_of(schema, "spool") else {
+        return if is_any_taken(schema) {
+            Found::Other
+        } else {
+            Found::Nothing
+        };
+    };
+    if !has_column(spool, "id") || !has_column(spool, "version") {
+        return Found::Other;
+    }
+    Found::Spool {
+        tables: tables_with(schema, spool),
+    }
+}

@@ -1,0 +1,238 @@
+// Every row of each table, read when a database is looked at as a spool.
+ghost use Rattle.std.specs.Prelude.{◌≡◌, ◌↔◌, true, false, List, map, Ok, Err, IfOk, IfErr, IsTrue, MatchOption};
+ghost use Rattle.std.specs.List.{AllByRecursion};
+ghost use Rattle.sqlite.specs.declared.error.Error.TheVariants.{SqliteFailure};
+ghost use Rattle.sqlite.specs.declared.error.ErrorCode.TheVariants.{OutOfMemory};
+ghost use Rattle.sqlite.specs.Held.{state};
+ghost use Rattle.uu_schema.specs.declared.version.Version.{Version};
+ghost use Rattle.uu_schema.specs.Schema.{systems, lines, ranges, pieces, entries};
+ghost use Rattle.uu_schema.specs.Held.{system_key, line_key, range_key, entry_key, system_places, line_places, range_places, entry_places};
+ghost use Rattle.uu_schema.specs.Cells.{system_cells, line_cells, range_cells, entry_cells};
+ghost use Rattle.uu_rows.specs.Readable.{IsSystem, IsLine, IsRange, IsEntry};
+ghost use Rattle.uu_rows.specs.Order.{system_cmp, line_cmp, range_cmp, entry_cmp};
+ghost use Rattle.uu_adopt.specs.Taking.{Rise, AreRowids, IsRead, FindsRows, FindsSizes, FindsWaits, FindsLinks, FindsTaken, HasWaits, Takes};
+
+use crate::integer::Integer;
+use sqlite::{Alter, Connection, Error, Row};
+use std::alloc::Global;
+use uu_rows::{
+    RowFault, TypedRow, ask, ask_lines, ask_links, ask_ranges, ask_systems, ask_taken, ask_waits,
+    or_none, read_all,
+};
+use uu_schema::Version;
+use uu_tables::{
+    EntryColumns, LineColumns, LinkColumns, PieceSize, RangeColumns, SystemColumns, TakenColumns,
+    WaitColumns,
+};
+
+// Whether each rowid is below the next.
+fn rises(ids: &[Integer]) -> bool
+    ensures { IsTrue result ↔ Rise ids.now }
+{
+    let Some((first, rest)) = ids.split_first() else {
+        return true;
+    };
+    let mut last = first.value;
+    for id in rest {
+        if last >= id.value {
+            return false;
+        }
+        last = id.value;
+    }
+    true
+}
+
+// Whether the rows are rowids that rise.
+fn are_rowids(alloc: Global, rows: &[Row]) -> Result<bool, RowFault>
+    ensures yes { result ≡ Ok true → AreRowids rows.now }
+    ensures none { result ≡ Ok false → ¬ AreRowids rows.now }
+    ensures bad { result ≡ Err RowFault.Bad → ¬ AreRowids rows.now }
+{
+    let ids: Vec<Integer> = read_all(alloc, rows)?;
+    Ok(rises(&ids))
+}
+
+// The typed rows, if the rows are theirs and the rowids beside them rise.
+fn typed<T: TypedRow>(alloc: Global, rows: &[Row], ids: &[Row]) -> Result<Vec<T>, RowFault>
+    ensures rows { IfOk result (λ all. rows.now ≡ map T.cells all.items) }
+    ensures readable { IfOk result (λ all. AllByRecursion T.IsReadable all.items) }
+    ensures ids { IfOk result (λ all. AreRowids ids.now) }
+    ensures bad { result ≡ Err RowFault.Bad → AreRowids ids.now → (all : List T) → AllByRecursion T.IsReadable all → rows.now ≡ map T.cells all → ⊥ }
+{
+    if !are_rowids(alloc, ids)? {
+        return Err(RowFault::Bad);
+    }
+    read_all(alloc, rows)
+}
+
+// The same, where want of memory is an error, and rows that are not typed rows are none.
+fn found<T: TypedRow>(alloc: Global, rows: &[Row], ids: &[Row]) -> Result<Option<Vec<T>>, Error>
+    ensures read { IfOk result (IsRead T.cells T.IsReadable rows.now ids.now) }
+    ensures memory { IfErr result (λ error. error ≡ SqliteFailure OutOfMemory) }
+{
+    or_none(typed(alloc, rows, ids))
+}
+
+/// The systems, by name. None where a row of the table is no system's, or two rows have one rowid.
+pub(crate) fn take_systems<S: Alter>(
+    alloc: Global,
+    conn: &mut Connection<S>,
+) -> Result<Option<Vec<SystemColumns>>, Error>
+    ensures idle { conn.old.in_transaction ≡ false → conn.new.in_transaction ≡ false }
+    ensures takes { (v : Version) → Takes v (λ trees found. FindsRows system_key system_cells system_places IsSystem system_cmp (trees systems.tree) found) (state S.Store conn.old) (state S.Store conn.new) result }
+{
+    let rows = ask_systems(conn)?;
+    let ids = ask(conn, "SELECT rowid FROM systems ORDER BY rowid")?;
+    found(alloc, &rows, &ids)
+}
+
+/// The lines, by system and place. None where a row of the table is no line's, or two rows have one
+/// rowid.
+pub(crate) fn take_lines<S: Alter>(
+    alloc: Global,
+    conn: &mut Connection<S>,
+) -> Result<Option<Vec<LineColumns>>, Error>
+    ensures idle { conn.old.in_transaction ≡ false → conn.new.in_transaction ≡ false }
+    ensures takes { (v : Version) → Takes v (λ trees found. FindsRows line_key line_cells line_places IsLine line_cmp (trees lines.tree) found) (state S.Store conn.old) (state S.Store conn.new) result }
+{
+    let rows = ask_lines(conn)?;
+    let ids = ask(conn, "SELECT rowid FROM lines ORDER BY rowid")?;
+    found(alloc, &rows, &ids)
+}
+
+/// The ranges, by system, place and first minute. None where a row of the table is no range's, or
+/// two rows have one rowid.
+pub(crate) fn take_ranges<S: Alter>(
+    alloc: Global,
+    conn: &mut Connection<S>,
+) -> Result<Option<Vec<RangeColumns>>, Error>
+    ensures idle { conn.old.in_transaction ≡ false → conn.new.in_transaction ≡ false }
+    ensures takes { (v : Version) → Takes v (λ trees found. FindsRows range_key range_cells range_places IsRange range_cmp (trees ranges.tree) found) (state S.Store conn.old) (state S.Store conn.new) result }
+{
+    let rows = ask_ranges(conn)?;
+    let ids = ask(conn, "SELECT rowid FROM ranges ORDER BY rowid")?;
+    found(alloc, &rows, &ids)
+}
+
+/// The map entries with their bytes, by host. None where a row of the table is no entry's, or two
+/// rows have one rowid.
+pub(crate) fn take_entries<S: Alter>(
+    alloc: Global,
+    conn: &mut Connection<S>,
+) -> Result<Option<Vec<EntryColumns>>, Error>
+    ensures idle { conn.old.in_transaction ≡ false → conn.new.in_transaction ≡ false }
+    ensures takes { (v : Version) → Takes v (λ trees found. FindsRows entry_key entry_cells entry_places IsEntry entry_cmp (trees entries.tree) found) (state S.Store conn.old) (state S.Store conn.new) result }
+{
+    let rows = ask(conn, "SELECT host, bytes FROM entries ORDER BY host")?;
+    let ids = ask(conn, "SELECT rowid FROM entries ORDER BY rowid")?;
+    found(alloc, &rows, &ids)
+}
+
+/// Of each piece its job, its place and the number of its bytes, by job and place; no byte is read.
+/// None where a row of the table is no piece's, or two rows have one rowid.
+pub(crate) fn take_sizes_in_any_order<S: Alter>(
+    alloc: Global,
+    conn: &mut Connection<S>,
+) -> Result<Option<Vec<PieceSize>>, Error>
+    ensures idle { conn.old.in_transaction ≡ false → conn.new.in_transaction ≡ false }
+    ensures takes { (v : Version) → Takes v (λ trees found. FindsSizes (trees pieces.tree) found) (state S.Store conn.old) (state S.Store conn.new) result }
+{
+    let rows = ask(
+        conn,
+        "SELECT job, place, length(bytes) FROM pieces ORDER BY job, place",
+    )?;
+    let ids = ask(conn, "SELECT rowid FROM pieces ORDER BY rowid")?;
+    found(alloc, &rows, &ids)
+}
+
+// The success waits, by system, of tables that have them.
+fn take_waits_of_table<S: Alter>(
+    alloc: Global,
+    conn: &mut Connection<S>,
+) -> Result<Option<Vec<WaitColumns>>, Error>
+    ensures idle { conn.old.in_transaction ≡ false → conn.new.in_transaction ≡ false }
+    ensures takes { (v : Version) → HasWaits v → Takes v (FindsWaits v) (state S.Store conn.old) (state S.Store conn.new) result }
+{
+    let rows = ask_waits(conn)?;
+    let ids = ask(conn, "SELECT rowid FROM success_waits ORDER BY rowid")?;
+    found(alloc, &rows, &ids)
+}
+
+/// The success waits, by system; an empty list of the first version, of which nothing is asked.
+/// None where a row of the table is no success wait's, or two rows have one rowid.
+pub(crate) fn take_waits<S: Alter>(
+    alloc: Global,
+    conn: &mut Connection<S>,
+    version: Version,
+) -> Result<Option<Vec<WaitColumns>>, Error>
+    ensures idle { conn.old.in_transaction ≡ false → conn.new.in_transaction ≡ false }
+    ensures takes { Takes version (FindsWaits version) (state S.Store conn.old) (state S.Store conn.new) result }
+{
+    match version {
+        Version::First => Ok(Some(Vec::new(alloc))),
+        Version::Second => take_waits_of_table(alloc, conn),
+        Version::Third => take_waits_of_table(alloc, conn),
+    }
+}
+
+// The numbers below which neighbours ask for none again, by system, of tables that have them.
+fn take_links_of_table<S: Alter>(
+    alloc: Global,
+    conn: &mut Connection<S>,
+) -> Result<Option<Vec<LinkColumns>>, Error>
+    ensures idle { conn.old.in_transaction ≡ false → conn.new.in_transaction ≡ false }
+    ensures takes { Takes Version.Third (FindsLinks Version.Third) (state S.Store conn.old) (state S.Store conn.new) result }
+{
+    let rows = ask_links(conn)?;
+    let ids = ask(conn, "SELECT rowid FROM links ORDER BY rowid")?;
+    found(alloc, &rows, &ids)
+}
+
+/// The numbers below which neighbours ask for none again, by system; an empty list of versions 1
+/// and 2, of which nothing is asked. None where a row of the table is not a link's, or two rows have
+/// one rowid.
+pub(crate) fn take_links<S: Alter>(
+    alloc: Global,
+    conn: &mut Connection<S>,
+    version: Version,
+) -> Result<Option<Vec<LinkColumns>>, Error>
+    ensures idle { conn.old.in_transaction ≡ false → conn.new.in_transaction ≡ false }
+    ensures takes { Takes version (FindsLinks version) (state S.Store conn.old) (state S.Store conn.new) result }
+{
+    match version {
+        Version::First => Ok(Some(Vec::new(alloc))),
+        Version::Second => Ok(Some(Vec::new(alloc))),
+        Version::Third => take_links_of_table(alloc, conn),
+    }
+}
+
+// The jobs that were taken from neighbours, by system and number, of tables that have them.
+fn take_taken_of_table<S: Alter>(
+    alloc: Global,
+    conn: &mut Connection<S>,
+) -> Result<Option<Vec<TakenColumns>>, Error>
+    ensures idle { conn.old.in_transaction ≡ false → conn.new.in_transaction ≡ false }
+    ensures takes { Takes Version.Third (FindsTaken Version.Third) (state S.Store conn.old) (state S.Store conn.new) result }
+{
+    let rows = ask_taken(conn)?;
+    let ids = ask(conn, "SELECT rowid FROM taken ORDER BY rowid")?;
+    found(alloc, &rows, &ids)
+}
+
+/// The jobs that were taken from neighbours, by system and number; an empty list of versions 1 and
+/// 2, of which nothing is asked. None where a row of the table is not such a job's, or two rows have
+/// one rowid.
+pub(crate) fn take_taken<S: Alter>(
+    alloc: Global,
+    conn: &mut Connection<S>,
+    version: Version,
+) -> Result<Option<Vec<TakenColumns>>, Error>
+    ensures idle { conn.old.in_transaction ≡ false → conn.new.in_transaction ≡ false }
+    ensures takes { Takes version (FindsTaken version) (state S.Store conn.old) (state S.Store conn.new) result }
+{
+    match version {
+        Version::First => Ok(Some(Vec::new(alloc))),
+        Version::Second => Ok(Some(Vec::new(alloc))),
+        Version::Third => take_taken_of_table(alloc, conn),
+    }
+}

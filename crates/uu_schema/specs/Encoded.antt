@@ -1,0 +1,49 @@
+-- What a database encodes, and what a stop may leave of it. (The tables are this project's choice.)
+use Rattle.std.specs.Prelude.{◌⊎◌}
+use Rattle.sqlite.specs.Tree.{Trees}
+use Rattle.sqlite.specs.Effect.{Database}
+use Rattle.sqlite.specs.State as db
+use Rattle.sqlite_catalog.specs.Listing.{IsSound}
+use Rattle.uu_schema.specs.Steps.{Stands}
+use Rattle.uu_core.specs.State.{State, IsWellFormed}
+use Rattle.uu_tables.specs.Tables.{tables_of}
+use Rattle.uu_schema.specs.declared.version.Version.{Version}
+use Rattle.uu_schema.specs.declared.version.Version.TheVariants.{Third}
+use Rattle.uu_schema.specs.Schema.{site, site_of}
+use Rattle.uu_schema.specs.Held.{HoldsAs}
+
+-- the rows of a version's tables are those of the state, in any order
+pub record HoldsStateAs (v : Version) (trees : Trees) (s : State) : Type 0 where
+  pub tables : HoldsAs v trees (tables_of s)
+  pub good : IsWellFormed s
+
+-- the same of the version that is written
+abbrev pub HoldsState : Trees → State → Type 0
+HoldsState = HoldsStateAs Third
+
+-- the database has the tables of a version, and their rows are those of the state
+pub record EncodesAs (v : Version) (database : Database) (s : State) : Type 0 where
+  pub stands : Stands (site_of v) database
+  pub holds : HoldsStateAs v database.trees s
+
+-- the same of the version that is written
+abbrev pub Encodes : Database → State → Type 0
+Encodes = EncodesAs Third
+
+-- what a version held of a state, the one that is written holds of it
+abbrev pub HoldsAgain : Version → Trees → Trees → Type 0
+HoldsAgain v old new = (s : State) → HoldsStateAs v old s → HoldsState new s
+
+-- a version held a state, and the one that is written holds the same
+pub record Migrated (v : Version) (old new : Trees) : Type 0 where
+  pub state : State
+  pub held : HoldsStateAs v old state
+  pub again : HoldsAgain v old new
+
+-- a stop may leave only what encodes the state
+abbrev pub Leaves : db.State → State → Type 0
+Leaves now s = (trees : Trees) → now.may_leave trees → IsSound site trees × HoldsState trees s
+
+-- a stop may leave only what encodes the one state or the other
+abbrev pub LeavesEither : db.State → State → State → Type 0
+LeavesEither now s t = (trees : Trees) → now.may_leave trees → IsSound site trees × (HoldsState trees s ⊎ HoldsState trees t)
