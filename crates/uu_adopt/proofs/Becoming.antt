@@ -12,7 +12,7 @@ use Rattle.uu_tables.specs.Tables.{tables_of}
 use Rattle.uu_schema.specs.Held.{MakesEmpty, Migrates}
 use Rattle.uu_schema.specs.Schema.{site, site_of}
 use Rattle.uu_schema.specs.declared.version.Version.{Version}
-use Rattle.uu_schema.specs.Faults.{IsFresh, kind_of_error}
+use Rattle.uu_schema.specs.Faults.{IsFaultOfThisCall, kind_of_error}
 use Rattle.sqlite.specs.declared.error.Error.{Error}
 use Rattle.uu_schema.specs.declared.fault.Halt.{Halt}
 use Rattle.uu_schema.specs.declared.fault.Halt.TheVariants.{Before, Commit}
@@ -62,7 +62,7 @@ migrates_states v old new step s held = record { tables = step (tables_of s) hel
 
 -- ---- where want of memory was told, nothing can have been committed
 
-pub halted_unmade : (a b d : db.State) (halt : Halt) (w : Result (Unit {0}) Halt) (fault : StoreFault) → w ≡ Err halt → IsFresh fault → ((error : Error) → w ≡ Err (Before error) → db.Survives a b (λ _. ⊥))
+pub halted_unmade : (a b d : db.State) (halt : Halt) (w : Result (Unit {0}) Halt) (fault : StoreFault) → w ≡ Err halt → IsFaultOfThisCall fault → ((error : Error) → w ≡ Err (Before error) → db.Survives a b (λ _. ⊥))
     → ((error : Error) → halt ≡ Commit error → fault ≡ Store (kind_of_error error)) → db.Survives b d (λ _. ⊥) → UnlessFailed fault (db.HasCleanDisk d → LeavesNoMore a d)
 halted_unmade a b d halt w (Store kind) is fresh before commit over = tt
 halted_unmade a b d halt w Failed is fresh before commit over = absurd fresh
@@ -109,12 +109,12 @@ module _ (v : Version) (a b d : db.State) (first : IsInspected v a b (Ok tt)) (s
       done clean rests stands (Ok x) it = (it.0, it.1, migrated clean rests stands d.now.trees it.2)
       done clean rests stands (Err e) it = tt
 
-  pub inspected_then : (r : Result (Unit {0}) StoreFault) → IfErr r IsFresh → IsInspected v a d r
+  pub inspected_then : (r : Result (Unit {0}) StoreFault) → IfErr r IsFaultOfThisCall → IsInspected v a d r
   inspected_then (Ok x) fresh = record { ok = λ clean stands. held clean stands; newer = λ clean stands is. absurd (cc); foreign = λ clean stands is. absurd (cc) }
   inspected_then (Err fault) fresh = record {
     ok = λ clean stands. tt;
-    newer = λ clean stands is. absurd (subst IsFresh (fault_is Newer is) fresh);
-    foreign = λ clean stands is. absurd (subst IsFresh (fault_is ForeignFault is) fresh);
+    newer = λ clean stands is. absurd (subst IsFaultOfThisCall (fault_is Newer is) fresh);
+    foreign = λ clean stands is. absurd (subst IsFaultOfThisCall (fault_is ForeignFault is) fresh);
   }
     where
       fault_is : (other : StoreFault) → ◌≡◌ {A = Result (Unit {0}) StoreFault} (Err fault) (Err other) → fault ≡ other
@@ -126,7 +126,7 @@ module _ (v : Version) (a b d : db.State) (first : IsInspected v a b (Ok tt)) (s
 
 -- ---- where memory was wanted before the commit, the database is as it was, whatever it holds
 
-pub halted_spared : (a b d : db.State) (halt : Halt) (w : Result (Unit {0}) Halt) (fault : StoreFault) → w ≡ Err halt → IsFresh fault → b.in_transaction ≡ false → ((error : Error) → w ≡ Err (Before error) → db.HasCleanDisk b → Undid a b)
+pub halted_spared : (a b d : db.State) (halt : Halt) (w : Result (Unit {0}) Halt) (fault : StoreFault) → w ≡ Err halt → IsFaultOfThisCall fault → b.in_transaction ≡ false → ((error : Error) → w ≡ Err (Before error) → db.HasCleanDisk b → Undid a b)
     → ((error : Error) → halt ≡ Commit error → fault ≡ Store (kind_of_error error)) → (db.HasCleanDisk d → fault ≡ Memory → IsTrue b.is_open × db.IsUnchanged b d) → db.Survives b d (λ _. ⊥)
     → UnlessFailed fault (db.HasCleanDisk d → LeavesNoMore a d) → IsRefused (Err fault) → IsSpared a d (Err fault)
 halted_spared a b d halt w (Store kind) is fresh idle undone commit memory over less refused = absurd refused

@@ -11,7 +11,7 @@ use Rattle.uu_schema.specs.declared.version.Version.{Version}
 use Rattle.uu_schema.specs.declared.version.Version.TheVariants.{First, Second, Third}
 use Rattle.uu_adopt.specs.declared.tables.Found.{Found}
 use Rattle.uu_adopt.specs.declared.tables.Found.TheVariants.{Nothing, Spool, Other}
-use Rattle.uu_adopt.specs.FoundTables.{found_of, HasNone, HasAllOf, HasEarlier, IsEarlier, HasNoneOrAll, HasOther}
+use Rattle.uu_adopt.specs.FoundTables.{found_of, HasNone, HasAllOf, HasEarlier, IsEarlier, HasNoneOrAll, HasUnversionedTables}
 
 found_first : found_of first_site ≡ Spool (Some First)
 unfolding same_name
@@ -73,10 +73,10 @@ last_found d stands earlier =
     let is : earlier.0 ≡ Third = cc in
     not_last earlier.0 earlier.1 is
 
-pub none_or_other : (schema : Schema) → HasNone schema → HasOther schema → ⊥
+pub none_or_other : (schema : Schema) → HasNone schema → HasUnversionedTables schema → ⊥
 none_or_other schema none other = cc
 
-pub some_or_other : (schema : Schema) (tables : Option Version) → found_of schema ≡ Spool tables → HasOther schema → ⊥
+pub some_or_other : (schema : Schema) (tables : Option Version) → found_of schema ≡ Spool tables → HasUnversionedTables schema → ⊥
 some_or_other schema tables some other = cc
 
 pub some_or_none : (schema : Schema) (tables : Option Version) → found_of schema ≡ Spool tables → HasNone schema → ⊥

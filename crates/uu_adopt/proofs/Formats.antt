@@ -13,7 +13,7 @@ use Rattle.uu_schema.specs.declared.version.Version.{Version}
 use Rattle.uu_schema.specs.declared.version.Version.TheVariants.{First, Second, Third}
 use Rattle.uu_adopt.specs.declared.tables.Found.{Found}
 use Rattle.uu_adopt.specs.declared.tables.Found.TheVariants.{Nothing, Spool, Other}
-use Rattle.uu_adopt.specs.FoundTables.{system_columns, line_columns, range_columns, job_columns, piece_columns, entry_columns, wait_columns, link_columns, taken_columns, table_of, has_column, has_table, has_systems, has_jobs, has_waits, has_links, is_whole, is_taken, is_link_taken, is_any_taken, added_with, tables_with, found_beside, found_of, HasNone, HasAllOf, HasOther}
+use Rattle.uu_adopt.specs.FoundTables.{system_columns, line_columns, range_columns, job_columns, piece_columns, entry_columns, wait_columns, link_columns, taken_columns, table_of, has_column, has_table, has_systems, has_jobs, has_waits, has_links, is_whole, is_taken, is_link_taken, is_any_taken, added_with, tables_with, found_beside, found_of, HasNone, HasAllOf, HasUnversionedTables}
 use Rattle.uu_adopt.specs.Format.{IsFree, HasColumn, HasTable, HasTableOf, HasNoName, HasTablesOf, TellsVersion}
 
 -- ---- a name
@@ -320,10 +320,10 @@ module _ (schema : Schema) where
   some_or_other : (tables : Option Version) → found_of schema ≡ Spool tables → found_of schema ≡ Other → ⊥
   some_or_other tables some other = cc
 
-  pub other_is : HasOther schema → (¬ HasNoName schema) × (¬ TellsVersion schema)
+  pub other_is : HasUnversionedTables schema → (¬ HasNoName schema) × (¬ TellsVersion schema)
   other_is other = ((λ none. none_or_other (is_none none) other), (λ it. some_or_other (tables_with schema it.table) (tells it) other))
 
-  pub is_other : ¬ HasNoName schema → ¬ TellsVersion schema → HasOther schema
+  pub is_other : ¬ HasNoName schema → ¬ TellsVersion schema → HasUnversionedTables schema
   is_other named untold = go (found_of schema) refl
     where
       go : (found : Found) → found_of schema ≡ found → found_of schema ≡ Other

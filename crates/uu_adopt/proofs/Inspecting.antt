@@ -15,7 +15,7 @@ use Rattle.uu_tables.specs.Tables.{tables_of}
 use Rattle.sqlite.specs.Tree.{Trees}
 use Rattle.sqlite.specs.Schema.{Schema}
 use Rattle.uu_core.specs.State.{State}
-use Rattle.uu_schema.specs.Faults.{IsFresh}
+use Rattle.uu_schema.specs.Faults.{IsFaultOfThisCall}
 use Rattle.uu_schema.specs.Encoded.{HoldsStateAs, Encodes, EncodesAs}
 use Rattle.uu_adopt.specs.Becoming.{Becomes, CreatesTables, MigratesState}
 use Rattle.uu_adopt.specs.FoundTables.{HasNone, HasEarlier, IsEarlier}
@@ -53,11 +53,11 @@ module _ (v : Version) (a b : db.State) where
   pub inspected_later : (db.HasCleanDisk b → Stands (site_of v) a.now → IsLater a.now.trees) → IsInspected v a b (Err Newer)
   inspected_later finds = record { ok = λ clean stands. tt; newer = λ clean stands is. finds clean stands; foreign = λ clean stands is. absurd (cc) }
 
-  pub inspected_err : (fault : StoreFault) → IsFresh fault → IsInspected v a b (Err fault)
+  pub inspected_err : (fault : StoreFault) → IsFaultOfThisCall fault → IsInspected v a b (Err fault)
   inspected_err fault fresh = record {
     ok = λ clean stands. tt;
-    newer = λ clean stands is. absurd (subst IsFresh (fault_is Newer is) fresh);
-    foreign = λ clean stands is. absurd (subst IsFresh (fault_is ForeignFault is) fresh);
+    newer = λ clean stands is. absurd (subst IsFaultOfThisCall (fault_is Newer is) fresh);
+    foreign = λ clean stands is. absurd (subst IsFaultOfThisCall (fault_is ForeignFault is) fresh);
   }
     where
       fault_is : (other : StoreFault) → ◌≡◌ {A = Result (Unit {0}) StoreFault} (Err fault) (Err other) → fault ≡ other
@@ -72,7 +72,7 @@ module _ (a b : db.State) where
     stop = λ clean trees may. elim (h.survives.crash clean trees may) [ inl was ↦ was | inr none ↦ absurd none ];
   }
 
-  pub spared_err : {T E : Type 0} (q : Result T E) (d : db.State) (fault : StoreFault) → Spares a b q → IsFresh fault → (db.HasCleanDisk d → fault ≡ Memory → IsTrue b.is_open × db.IsUnchanged b d) → db.Survives b d (λ _. ⊥) → IsSpared a d (Err fault)
+  pub spared_err : {T E : Type 0} (q : Result T E) (d : db.State) (fault : StoreFault) → Spares a b q → IsFaultOfThisCall fault → (db.HasCleanDisk d → fault ≡ Memory → IsTrue b.is_open × db.IsUnchanged b d) → db.Survives b d (λ _. ⊥) → IsSpared a d (Err fault)
   spared_err q d fault h fresh memory over = record {
     same = λ clean. same fault fresh (memory clean) clean;
     stop = λ clean trees may. elim (over.crash clean trees may) [
@@ -81,7 +81,7 @@ module _ (a b : db.State) where
     ];
   }
     where
-      same : (fault : StoreFault) → IsFresh fault → (fault ≡ Memory → IsTrue b.is_open × db.IsUnchanged b d) → db.HasCleanDisk d → Rests a → UnlessStore {T = Unit {0}} (Err fault) (Rests d × (d.now ≡ a.now))
+      same : (fault : StoreFault) → IsFaultOfThisCall fault → (fault ≡ Memory → IsTrue b.is_open × db.IsUnchanged b d) → db.HasCleanDisk d → Rests a → UnlessStore {T = Unit {0}} (Err fault) (Rests d × (d.now ≡ a.now))
       same Memory fresh memory clean rests =
           let m = memory refl in
           let it = h.same (omega (arith, over.clean)) rests m.0 in rests_same a b d m.1 it.0 it.1

@@ -132,5 +132,5 @@ abbrev pub HasNoneOrAll : Schema → Type 0
 HasNoneOrAll schema = HasNone schema ⊎ ((v : Version) × HasAllOf v schema)
 
 -- one of their names is taken, and no table `spool` has the columns that tell a version
-abbrev pub HasOther : Schema → Type 0
-HasOther schema = found_of schema ≡ Other
+abbrev pub HasUnversionedTables : Schema → Type 0
+HasUnversionedTables schema = found_of schema ≡ Other

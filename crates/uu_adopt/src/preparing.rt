@@ -3,14 +3,14 @@
 ghost use Rattle.std.specs.Prelude.{◌≡◌, ◌≢◌, false, Some, None, Err, IfErr, IsErr, OnOk};
 ghost use Rattle.sqlite.specs.Held.{state};
 ghost use Rattle.sqlite.specs.State.{HasCleanDisk};
-ghost use Rattle.uu_schema.specs.Faults.{IsFresh};
+ghost use Rattle.uu_schema.specs.Faults.{IsFaultOfThisCall};
 ghost use Rattle.uu_schema.specs.Schema.{site, site_of};
 ghost use Rattle.uu_schema.specs.declared.version.Version.{Version};
 ghost use Rattle.uu_schema.specs.Encoded.{HoldsAgain};
 ghost use Rattle.uu_schema.specs.Steps.{StaysUnclean};
 ghost use Rattle.uu_adopt.specs.Becoming.{Becomes, CreatesTables, MigratesState};
 ghost use Rattle.uu_adopt.specs.Adoption.{IsInspected, IsRefused, IsSpared, LeavesNoMore, UnlessFailed};
-ghost use Rattle.uu_adopt.specs.FoundTables.{HasEarlier, HasNone, HasNoneOrAll, HasOther, IsEarlier};
+ghost use Rattle.uu_adopt.specs.FoundTables.{HasEarlier, HasNone, HasNoneOrAll, HasUnversionedTables, IsEarlier};
 
 use crate::inspection::inspect;
 use crate::tables::{Found, found_in};
@@ -22,7 +22,7 @@ use uu_schema::{StoreFault, Version, create, halt_fault, migrate};
 // An empty spool in a database that has none of its tables.
 fn create_tables<S: Alter>(conn: &mut Connection<S>) -> Result<(), StoreFault>
     requires { conn.old.in_transaction ≡ false }
-    ensures fresh { IfErr result IsFresh }
+    ensures fresh { IfErr result IsFaultOfThisCall }
     ensures idle { conn.new.in_transaction ≡ false }
     ensures creates { CreatesTables (state S.Store conn.old) (state S.Store conn.new) result }
     ensures unmade { IfErr result (λ fault. UnlessFailed fault (HasCleanDisk (state S.Store conn.new) → LeavesNoMore (state S.Store conn.old) (state S.Store conn.new))) }
@@ -38,7 +38,7 @@ fn create_tables<S: Alter>(conn: &mut Connection<S>) -> Result<(), StoreFault>
 // The tables of version 3 in a database that has those of this version.
 fn migrate_tables<S: Alter>(conn: &mut Connection<S>, from: Version) -> Result<(), StoreFault>
     requires { conn.old.in_transaction ≡ false }
-    ensures fresh { IfErr result IsFresh }
+    ensures fresh { IfErr result IsFaultOfThisCall }
     ensures idle { conn.new.in_transaction ≡ false }
     ensures migrates { Becomes (site_of from) site (HoldsAgain from) (state S.Store conn.old) (state S.Store conn.new) result }
     ensures spared { IsRefused result → IsSpared (state S.Store conn.old) (state S.Store conn.new) result }
@@ -96,7 +96,7 @@ pub fn prepare<S: Alter>(alloc: Global, conn: &mut Connection<S>) -> Result<(), 
     ensures creates { CreatesTables (state S.Store conn.old) (state S.Store conn.new) result }
     ensures unmade { IfErr result (λ fault. UnlessFailed fault (HasCleanDisk (state S.Store conn.new) → LeavesNoMore (state S.Store conn.old) (state S.Store conn.new))) }
     ensures taken { OnOk result (HasNoneOrAll (state S.Store conn.old).now.schema) }
-    ensures other { HasOther (state S.Store conn.old).now.schema → (result ≡ Err StoreFault.Foreign) × (conn.new ≡ conn.old) }
+    ensures other { HasUnversionedTables (state S.Store conn.old).now.schema → (result ≡ Err StoreFault.Foreign) × (conn.new ≡ conn.old) }
     ensures empty_never_refused { HasNone (state S.Store conn.old).now.schema → IfErr result (λ fault. (fault ≢ StoreFault.Foreign) × (fault ≢ StoreFault.Newer)) }
     ensures clean { StaysUnclean (state S.Store conn.old) (state S.Store conn.new) }
 {

@@ -29,9 +29,9 @@ fault_code Foreign = 4
 fault_code Newer = 5
 
 -- a fault of the store beside those that only an opening or an earlier failure gives
-abbrev pub IsFresh : StoreFault → Type 0
-IsFresh Memory = ⊤
-IsFresh (Store kind) = ⊤
-IsFresh Failed = ⊥
-IsFresh Foreign = ⊥
-IsFresh Newer = ⊥
+abbrev pub IsFaultOfThisCall : StoreFault → Type 0
+IsFaultOfThisCall Memory = ⊤
+IsFaultOfThisCall (Store kind) = ⊤
+IsFaultOfThisCall Failed = ⊥
+IsFaultOfThisCall Foreign = ⊥
+IsFaultOfThisCall Newer = ⊥

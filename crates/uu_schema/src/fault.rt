@@ -2,7 +2,7 @@
 ghost use Rattle.std.specs.Prelude.{◌≡◌, ◌↔◌, false, IsTrue};
 ghost use Rattle.sqlite.specs.Held.{state};
 ghost use Rattle.sqlite.specs.State.{HasCleanDisk, Survives, IsUnchanged};
-ghost use Rattle.uu_schema.specs.Faults.{IsFresh, fault_code, kind_of_error};
+ghost use Rattle.uu_schema.specs.Faults.{IsFaultOfThisCall, fault_code, kind_of_error};
 ghost use Rattle.uu_schema.specs.declared.fault.StoreFault.TheVariants.{Memory};
 ghost use Rattle.uu_schema.specs.declared.fault.Halt.TheVariants.{Before, Commit};
 ghost use Rattle.sqlite.specs.declared.error.Error.{Error};
@@ -128,7 +128,7 @@ pub fn kind_of(error: &SqlError) -> StoreKind
 pub fn store_fault<S: Alter>(conn: &mut Connection<S>, error: &SqlError) -> StoreFault
     requires { conn.old.in_transaction ≡ false }
     ensures idle { conn.new.in_transaction ≡ false }
-    ensures fresh { IsFresh result }
+    ensures fresh { IsFaultOfThisCall result }
     ensures kind { (kind : _) → result ≡ StoreFault.Store kind → kind ≡ kind_of_error error.now }
     ensures memory { HasCleanDisk (state S.Store conn.new) → result ≡ Memory → IsTrue (state S.Store conn.old).is_open × IsUnchanged (state S.Store conn.old) (state S.Store conn.new) }
     ensures survives { Survives (state S.Store conn.old) (state S.Store conn.new) (λ _. ⊥) }
@@ -145,7 +145,7 @@ pub fn store_fault<S: Alter>(conn: &mut Connection<S>, error: &SqlError) -> Stor
 pub fn halt_fault<S: Alter>(conn: &mut Connection<S>, halt: &Halt) -> StoreFault
     requires { conn.old.in_transaction ≡ false }
     ensures idle { conn.new.in_transaction ≡ false }
-    ensures fresh { IsFresh result }
+    ensures fresh { IsFaultOfThisCall result }
     ensures commit { (error : Error) → halt.now ≡ Commit error → result ≡ StoreFault.Store (kind_of_error error) }
     ensures memory { HasCleanDisk (state S.Store conn.new) → result ≡ Memory → IsTrue (state S.Store conn.old).is_open × IsUnchanged (state S.Store conn.old) (state S.Store conn.new) }
     ensures survives { Survives (state S.Store conn.old) (state S.Store conn.new) (λ _. ⊥) }

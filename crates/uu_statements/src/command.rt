@@ -7,7 +7,7 @@ ghost use Rattle.sqlite.specs.declared.error.Error.{Error};
 ghost use Rattle.uu_core.specs.declared.command.Command.{Command};
 ghost use Rattle.uu_core.specs.State.{State};
 ghost use Rattle.uu_tables.specs.Plans.{IsPlan};
-ghost use Rattle.uu_schema.specs.Faults.{IsFresh};
+ghost use Rattle.uu_schema.specs.Faults.{IsFaultOfThisCall};
 ghost use Rattle.uu_schema.specs.declared.fault.Halt.TheVariants.{Before};
 ghost use Rattle.uu_schema.specs.declared.fault.StoreFault.TheVariants.{Memory};
 ghost use Rattle.uu_statements.specs.Step.{IsWrittenStep, IsToldStep};
@@ -49,7 +49,7 @@ pub fn carry_out<S: Alter>(
 ) -> Result<Reply, StoreFault>
     requires { conn.old.in_transaction ≡ false }
     ensures idle { conn.new.in_transaction ≡ false }
-    ensures fresh { IfErr result IsFresh }
+    ensures fresh { IfErr result IsFaultOfThisCall }
     ensures clean { doubt (state S.Store conn.old).is_clean ≤ doubt (state S.Store conn.new).is_clean }
     ensures untouched { plan.entry.changes.items ≡ [] → (result ≡ Ok plan.entry.reply) × (conn.new ≡ conn.old) }
     ensures step { (s : State) → (command : Command) → IsPlan s command plan.entry → IsToldStep s command (state S.Store conn.old) (state S.Store conn.new) result }

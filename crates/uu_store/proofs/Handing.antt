@@ -11,7 +11,7 @@ use Rattle.uu_core.specs.State.{Job, head_of, job_at}
 use Rattle.uu_questions.specs.Answers.{Answers}
 use Rattle.uu_questions.specs.Listing.{handed_out, whole}
 use Rattle.uu_core.specs.declared.system.SystemRow.{SystemRow}
-use Rattle.uu_schema.specs.Faults.{IsFresh}
+use Rattle.uu_schema.specs.Faults.{IsFaultOfThisCall}
 use Rattle.uu_schema.specs.declared.fault.StoreFault.{StoreFault}
 use Rattle.uu_store.specs.HandedOut.{IsBounded, IsTimed, is_bounded, is_found_bounded, is_timed, job_with, job_shown, within_limits}
 
@@ -55,10 +55,10 @@ within_ok {T} P fine answer r is passed = subst (λ r. IfOk r P) (sym is) (by_te
     by_test true h = h refl
     by_test false h = tt
 
-pub within_fresh : {T : Type 0} (fine : Bool) (answer : T) (r : Result T StoreFault) → r ≡ within_limits fine answer → IfErr r IsFresh
-within_fresh {T} fine answer r is = subst (λ r. IfErr r IsFresh) (sym is) (by_test fine)
+pub within_fresh : {T : Type 0} (fine : Bool) (answer : T) (r : Result T StoreFault) → r ≡ within_limits fine answer → IfErr r IsFaultOfThisCall
+within_fresh {T} fine answer r is = subst (λ r. IfErr r IsFaultOfThisCall) (sym is) (by_test fine)
   where
-    by_test : (fine : Bool) → IfErr (within_limits {T = T} fine answer) IsFresh
+    by_test : (fine : Bool) → IfErr (within_limits {T = T} fine answer) IsFaultOfThisCall
     by_test true = tt
     by_test false = tt
 

@@ -44,8 +44,8 @@ use Rattle.uu_schema.specs.declared.fault.StoreFault.TheVariants.{Memory, Store,
 use Rattle.uu_schema.specs.declared.fault.StoreKind.{StoreKind}
 use Rattle.uu_schema.specs.declared.fault.StoreKind.TheVariants as part
 use Rattle.uu_schema.specs.Faults.{kind_of_error}
-use Rattle.uu_adopt.specs.FoundTables.{HasNoneOrAll, HasOther}
-use Rattle.uu_store.specs.Openings.{HasSome, ImageHasOther, StaysAfter, ImageKeeps, IsFound, IsFoundIfClean, HasOpeningCause, IsRightFault, IsNotTaken, IsOfNoContents, IsToldRightly, LeavesAlone, LeavesAsKept, LeavesSame, remains_of, remains_of_opening}
+use Rattle.uu_adopt.specs.FoundTables.{HasNoneOrAll, HasUnversionedTables}
+use Rattle.uu_store.specs.Openings.{HasSome, ImageHasUnversionedTables, StaysAfter, ImageKeeps, IsFound, IsFoundIfClean, HasOpeningCause, IsRightFault, IsNotTaken, IsOfNoContents, IsToldRightly, LeavesAlone, LeavesAsKept, LeavesSame, remains_of, remains_of_opening}
 use Rattle.uu_adopt.proofs.Creating.{none_or_other, some_or_other}
 use Rattle.uu_store.proofs.Images.{unfound, stop_has}
 use Rattle.uu_store.proofs.Reopening.{simple_of, stands_again, stores_of}
@@ -83,7 +83,7 @@ found_stores image s opened found keeps = (rests, stores_of opened s found.live 
     keeps_now (inr none) = none_fits s none.1 opened.now.trees (ap (λ (trees : Trees). trees catalog_tree) now_is ∙ unfound image none.0 opened.committed.trees found.finds.reads)
 
 -- what is opened has something else under one of the names, where the files' database has
-pub other_found : (image : Image) (opened : db.State) → IsFound image opened → ImageHasOther image → HasOther opened.now.schema
+pub other_found : (image : Image) (opened : db.State) → IsFound image opened → ImageHasUnversionedTables image → HasUnversionedTables opened.now.schema
 other_found image opened found it =
     let trees_are = ap (λ (d : Database). d.trees) found.opens.clean ∙ found.finds.holds it.0 it.1 in
     it.2 opened.now.schema (subst (IsSound opened.now.schema) trees_are (found.live found.opens.is_open).0)
@@ -97,7 +97,7 @@ module _ {S : Type 0} (g : Ghosts S) (image : Image) (opened : Held S) (found : 
       let it = found_stores image s (state g opened) (found (omega (arith, adopted.clean, clean))) keeps in
       adopted.shows clean s it.0 it.1
 
-  pub started_never_other : (spool : Spool S g) → Adopted opened spool → HasNoneOrAll (state g opened).now.schema → db.HasCleanDisk (disk spool) → ImageHasOther image → ⊥
+  pub started_never_other : (spool : Spool S g) → Adopted opened spool → HasNoneOrAll (state g opened).now.schema → db.HasCleanDisk (disk spool) → ImageHasUnversionedTables image → ⊥
   started_never_other spool adopted taken clean it =
       let schema = (state g opened).now.schema in
       let other = other_found image (state g opened) (found (omega (arith, adopted.clean, clean))) it in
@@ -113,7 +113,7 @@ module _ {S : Type 0} (g : Ghosts S) (image : Image) (opened : Held S) (found : 
 
 pub not_taken : {S : Type 0} (g : Ghosts S) (was last : Held S) (stopped : S) (fault : StoreFault) → TurnedAway g was last → IsQuiet g.view g.faults g.recovers g.is_shielded last.store stopped
     → (IsClean (g.view stopped) → IsTrue (g.view stopped).is_numbered) → (db.HasCleanDisk (state g last) → (v : Version) (s : State) → EncodesAs v (state g was).now s → (fault ≢ Foreign) × (fault ≢ Newer))
-    → (Stands no_schema (state g was).now → (fault ≢ Foreign) × (fault ≢ Newer)) → (HasOther (state g was).now.schema → fault ≡ Foreign)
+    → (Stands no_schema (state g was).now → (fault ≢ Foreign) × (fault ≢ Newer)) → (HasUnversionedTables (state g was).now.schema → fault ≡ Foreign)
     → (db.HasCleanDisk (state g last) → Rests (state g was) → StopsAs (state g was) (state g last))
     → (db.HasCleanDisk (state g last) → Rests (state g was) → UnlessFailed fault ((trees : Trees) → (state g last).may_leave trees → trees ≡ (state g was).now.trees))
     → (db.HasCleanDisk (state g last) → (v : Version) → Stands (site_of v) (state g was).now → fault ≡ Newer → IsLater (state g was).now.trees)
@@ -145,7 +145,7 @@ module _ {D : Type 0} {g : disk.Ghosts D} (image : Image) (opened : Held (FileSt
   away_ours : (s : State) → ImageKeeps image s → (fault ≢ Foreign) × (fault ≢ Newer)
   away_ours s keeps = away.ours (no_doubt (view stopped).is_clean clean) s (found_stores image s (file_state opened) found_away keeps).1
 
-  away_other : ImageHasOther image → fault ≡ Foreign
+  away_other : ImageHasUnversionedTables image → fault ≡ Foreign
   away_other it = away.other (other_found image (file_state opened) found_away it)
 
   found_rests : Rests (file_state opened)
@@ -160,7 +160,7 @@ module _ {D : Type 0} {g : disk.Ghosts D} (image : Image) (opened : Held (FileSt
       let stands = stands_again (site_of v) (simple_of v) (file_state opened) found_away.live found_rests (subst (IsSound (site_of v)) (sym same) sound) in
       subst (λ trees. IsToldRightly v trees fault) same (away.whole v (no_doubt (view stopped).is_clean clean) stands)
 
-  pub away_rightly : ((s : State) → ImageKeeps image s → (fault ≢ Foreign) × (fault ≢ Newer)) × (ImageHasOther image → fault ≡ Foreign)
+  pub away_rightly : ((s : State) → ImageKeeps image s → (fault ≢ Foreign) × (fault ≢ Newer)) × (ImageHasUnversionedTables image → fault ≡ Foreign)
       × ((v : Version) (trees : Trees) → HoldsDatabase image trees → IsSound (site_of v) trees → IsToldRightly v trees fault)
   away_rightly = (away_ours, away_other, away_told)
 

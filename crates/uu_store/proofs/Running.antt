@@ -13,7 +13,7 @@ use Rattle.uu_core.specs.After.{after}
 use Rattle.uu_core.specs.Run.{state_after, replies_to}
 use Rattle.uu_schema.specs.declared.fault.StoreFault.{StoreFault}
 use Rattle.uu_schema.specs.declared.fault.StoreFault.TheVariants.{Memory, Store, Failed, Foreign, Newer}
-use Rattle.uu_schema.specs.Faults.{IsFresh}
+use Rattle.uu_schema.specs.Faults.{IsFaultOfThisCall}
 use Rattle.uu_store.specs.declared.spool.Spool.{Spool}
 use Rattle.uu_schema.specs.Steps.{StaysUnclean}
 use Rattle.uu_store.specs.Calls.{IsAnswered}
@@ -273,7 +273,7 @@ module _ {S : Type 0} {g : Ghosts S} (old new : Spool S g) (commands : List Comm
 
 -- ---- which fault ends a run of a spool that can be used
 
-pub stopped_fresh : (stopped : Option StoreFault) (before later : Bool) → before ≡ false → MatchOption stopped ((before ≡ false) × (later ≡ false)) (Marks before later) → IfSome stopped IsFresh
+pub stopped_fresh : (stopped : Option StoreFault) (before later : Bool) → before ≡ false → MatchOption stopped ((before ≡ false) × (later ≡ false)) (Marks before later) → IfSome stopped IsFaultOfThisCall
 stopped_fresh None before later usable marks = tt
 stopped_fresh (Some Memory) before later usable marks = tt
 stopped_fresh (Some (Store kind)) before later usable marks = tt

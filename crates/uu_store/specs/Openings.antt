@@ -29,7 +29,7 @@ use Rattle.uu_schema.specs.declared.fault.StoreFault.TheVariants.{Memory, Store,
 use Rattle.uu_schema.specs.declared.fault.StoreKind.{StoreKind}
 use Rattle.uu_schema.specs.declared.fault.StoreKind.TheVariants as kind
 use Rattle.uu_schema.specs.declared.fault.StoreKind.TheVariants.{Database}
-use Rattle.uu_adopt.specs.FoundTables.{HasNone, HasEarlier, HasNoneOrAll, HasOther}
+use Rattle.uu_adopt.specs.FoundTables.{HasNone, HasEarlier, HasNoneOrAll, HasUnversionedTables}
 use Rattle.uu_adopt.specs.Adoption.{IsOfNone}
 use Rattle.uu_schema.specs.Encoded.{EncodesAs}
 use Rattle.uu_schema.specs.Steps.{Stands, Rests}
@@ -60,8 +60,8 @@ ImageHasSome image trees = HoldsDatabase image trees × ((schema : Schema) → I
 
 -- the files hold a database in which a name of the spool's tables is taken, and no table tells a
 -- version: so says each schema that fits it
-abbrev pub ImageHasOther : Image → Type 0
-ImageHasOther image = (trees : Trees) × HoldsDatabase image trees × ((schema : Schema) → IsSound schema trees → HasOther schema)
+abbrev pub ImageHasUnversionedTables : Image → Type 0
+ImageHasUnversionedTables image = (trees : Trees) × HoldsDatabase image trees × ((schema : Schema) → IsSound schema trees → HasUnversionedTables schema)
 
 -- where the files' database has any of the spool's tables, and not those of an earlier version,
 -- whatever stands beside them, only this database may be left
@@ -120,7 +120,7 @@ pub record IsNotTaken {S : Type 0} (g : Ghosts S) (was : Held S) (stopped : S) (
   pub let_go : IsLetGo g last.store stopped
   pub numbered : IsClean (g.view stopped) → IsTrue (g.view stopped).is_numbered
   pub ours : IsClean (g.view stopped) → (s : State) → Stores (state g was).now s → IsOfNoContents fault
-  pub other : HasOther (state g was).now.schema → fault ≡ Foreign
+  pub other : HasUnversionedTables (state g was).now.schema → fault ≡ Foreign
   pub whole : (v : Version) → IsClean (g.view stopped) → Stands (site_of v) (state g was).now → IsToldRightly v (state g was).now.trees fault
   pub some : IsClean (g.view stopped) → Rests (state g was) → StaysAfter fault (state g was).now.schema → (trees : Trees) → g.recovers stopped trees → trees ≡ (state g was).now.trees
 
@@ -183,5 +183,5 @@ module _ {D : Type 0} {g : disk.Ghosts D} where
   IsRightFault before fault remains.Unopened = (fault ≡ Memory) ⊎ (fault ≡ Store Database)
   IsRightFault before fault (remains.Files it) = IsOfNoContents fault × (IsCleanLeft it → (which : StoreKind) → fault ≡ Store which → HasOpeningCause before which it)
   IsRightFault before fault (remains.Store it) =
-      IsTrue (store.view it).is_clean → ((s : State) → ImageKeeps before s → IsOfNoContents fault) × (ImageHasOther before → fault ≡ Foreign)
+      IsTrue (store.view it).is_clean → ((s : State) → ImageKeeps before s → IsOfNoContents fault) × (ImageHasUnversionedTables before → fault ≡ Foreign)
       × ((v : Version) (trees : Trees) → HoldsDatabase before trees → IsSound (site_of v) trees → IsToldRightly v trees fault)

@@ -4,7 +4,7 @@ ghost use Rattle.sqlite.specs.Held.{state};
 ghost use Rattle.sqlite.specs.State.{HasCleanDisk};
 ghost use Rattle.uu_schema.specs.Steps.{Rests};
 ghost use Rattle.uu_schema.specs.Encoded.{EncodesAs};
-ghost use Rattle.uu_adopt.specs.FoundTables.{HasNone, HasNoneOrAll, HasOther, IsEarlier};
+ghost use Rattle.uu_adopt.specs.FoundTables.{HasNone, HasNoneOrAll, HasUnversionedTables, IsEarlier};
 
 use crate::laws::no_answered_command_is_lost_over;
 use crate::spool::Spool;
@@ -68,7 +68,7 @@ impl<S: Alter> Spool<S> {
         // theirs is taken and no table tells a version is foreign, and comes back as it was handed
         // in.
         ensures taken_by_tables { IfOk result (λ spool. HasNoneOrAll (state S.Store conn).now.schema) }
-        ensures other_is_foreign { HasOther (state S.Store conn).now.schema → IsErrAnd result (λ e. (e.fault ≡ StoreFault.Foreign) × (e.conn ≡ conn)) }
+        ensures other_is_foreign { HasUnversionedTables (state S.Store conn).now.schema → IsErrAnd result (λ e. (e.fault ≡ StoreFault.Foreign) × (e.conn ≡ conn)) }
 
         // A spool is never refused by name, and neither is a database that has none of the tables.
         ensures spool_never_refused { IfErr result (λ e. HasCleanDisk (state S.Store e.conn) → (v : Version) (s : _) → EncodesAs v (state S.Store conn).now s → (e.fault ≢ StoreFault.Foreign) × (e.fault ≢ StoreFault.Newer)) }

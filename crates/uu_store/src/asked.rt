@@ -6,7 +6,7 @@ ghost use Rattle.sqlite.specs.View.{doubt};
 ghost use Rattle.uu_core.specs.State.{State, IsWellFormed, head_of, job_at, entry_at};
 ghost use Rattle.uu_core.specs.Due.{AreDue};
 ghost use Rattle.uu_tables.specs.Plans.{AreFacts};
-ghost use Rattle.uu_schema.specs.Faults.{IsFresh};
+ghost use Rattle.uu_schema.specs.Faults.{IsFaultOfThisCall};
 ghost use Rattle.uu_questions.specs.Listing.{listed};
 ghost use Rattle.uu_questions.specs.Assembly.{holding};
 ghost use Rattle.uu_store.specs.HandedOut.{IsBounded, IsTimed, is_bounded, is_found_bounded, is_timed, job_shown, within_limits};
@@ -38,7 +38,7 @@ fn carry_out_with<S: Alter>(
 ) -> Result<Reply, StoreFault>
     requires { conn.old.in_transaction ≡ false }
     ensures idle { conn.new.in_transaction ≡ false }
-    ensures fresh { IfErr result IsFresh }
+    ensures fresh { IfErr result IsFaultOfThisCall }
     ensures clean { doubt (state S.Store conn.old).is_clean ≤ doubt (state S.Store conn.new).is_clean }
     ensures step { (s : State) → IsWellFormed s → AreFacts facts.now s command.now → IsToldStep s command.now (state S.Store conn.old) (state S.Store conn.new) result }
 {
@@ -57,7 +57,7 @@ pub(crate) fn command<S: Alter>(
 ) -> Result<Reply, StoreFault>
     requires { conn.old.in_transaction ≡ false }
     ensures idle { conn.new.in_transaction ≡ false }
-    ensures fresh { IfErr result IsFresh }
+    ensures fresh { IfErr result IsFaultOfThisCall }
     ensures step { (s : State) → IsStep s command.now (state S.Store conn.old) (state S.Store conn.new) result }
 {
     commands_are_sound(command);
@@ -76,7 +76,7 @@ pub(crate) fn command<S: Alter>(
 pub(crate) fn next<S: Alter>(conn: &mut Connection<S>) -> Result<u32, StoreFault>
     requires { conn.old.in_transaction ≡ false }
     ensures idle { conn.new.in_transaction ≡ false }
-    ensures fresh { IfErr result IsFresh }
+    ensures fresh { IfErr result IsFaultOfThisCall }
     ensures answered { IsAnswered (λ s next. next ≡ s.next) (state S.Store conn.old) (state S.Store conn.new) result }
 {
     match next_number(conn) {
@@ -152,7 +152,7 @@ pub(crate) fn jobs<S: Alter>(
 ) -> Result<Vec<JobHead>, StoreFault>
     requires { conn.old.in_transaction ≡ false }
     ensures idle { conn.new.in_transaction ≡ false }
-    ensures fresh { IfErr result IsFresh }
+    ensures fresh { IfErr result IsFaultOfThisCall }
     ensures answered { IsAnswered (λ s heads. heads.items ≡ listed filter.now s) (state S.Store conn.old) (state S.Store conn.new) result }
     ensures bounds { IfOk result (λ heads. AllByRecursion IsBounded heads.items) }
 {
@@ -170,7 +170,7 @@ pub(crate) fn job<S: Alter>(
 ) -> Result<Option<(JobHead, Vec<u8>)>, StoreFault>
     requires { conn.old.in_transaction ≡ false }
     ensures idle { conn.new.in_transaction ≡ false }
-    ensures fresh { IfErr result IsFresh }
+    ensures fresh { IfErr result IsFaultOfThisCall }
     ensures answered { IsAnswered (λ s found. (option_map job_shown found ≡ job_at s number) × IfSome found (λ job. job.0.size ≡ length job.1.items)) (state S.Store conn.old) (state S.Store conn.new) result }
     ensures size { IfOk result (λ found. IfSome found (λ job. job.0.size ≡ length job.1.items)) }
     ensures bounds { IfOk result (λ found. IfSome found (λ job. IsBounded job.0)) }
@@ -188,7 +188,7 @@ pub(crate) fn systems<S: Alter>(
 ) -> Result<Vec<SystemRow>, StoreFault>
     requires { conn.old.in_transaction ≡ false }
     ensures idle { conn.new.in_transaction ≡ false }
-    ensures fresh { IfErr result IsFresh }
+    ensures fresh { IfErr result IsFaultOfThisCall }
     ensures answered { IsAnswered (λ s systems. systems.items ≡ s.systems) (state S.Store conn.old) (state S.Store conn.new) result }
     ensures formed { IfOk result (λ systems. IsWellFormed (holding systems.items)) }
     ensures bounds { IfOk result (λ systems. AllByRecursion IsTimed systems.items) }
@@ -207,7 +207,7 @@ pub(crate) fn entry<S: Alter>(
 ) -> Result<Option<Vec<u8>>, StoreFault>
     requires { conn.old.in_transaction ≡ false }
     ensures idle { conn.new.in_transaction ≡ false }
-    ensures fresh { IfErr result IsFresh }
+    ensures fresh { IfErr result IsFaultOfThisCall }
     ensures answered { IsAnswered (λ s found. option_map (λ text. text.items) found ≡ option_map (λ entry. entry.bytes) (entry_at s host.now)) (state S.Store conn.old) (state S.Store conn.new) result }
 {
     match entry_of_host(alloc, conn, host) {
@@ -224,7 +224,7 @@ pub(crate) fn due<S: Alter>(
 ) -> Result<Vec<Due>, StoreFault>
     requires { conn.old.in_transaction ≡ false }
     ensures idle { conn.new.in_transaction ≡ false }
-    ensures fresh { IfErr result IsFresh }
+    ensures fresh { IfErr result IsFaultOfThisCall }
     ensures answered { IsAnswered (λ s dues. AreDue s.systems (map head_of s.jobs) at.now dues.items) (state S.Store conn.old) (state S.Store conn.new) result }
 {
     match systems_due(alloc, conn, at) {

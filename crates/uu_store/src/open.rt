@@ -13,7 +13,7 @@ ghost use Rattle.uu_schema.specs.Schema.{site_of};
 ghost use Rattle.uu_adopt.specs.Adoption.{StopsAs};
 ghost use Rattle.uu_schema.specs.Encoded.{EncodesAs, Leaves};
 ghost use Rattle.uu_adopt.specs.FoundTables.{HasNoneOrAll};
-ghost use Rattle.uu_store.specs.Openings.{ImageHasOther, ImageKeeps, IsFoundIfClean, IsRightFault, IsNotTaken, LeavesAlone, LeavesAsKept, LeavesSame, Started, remains_of};
+ghost use Rattle.uu_store.specs.Openings.{ImageHasUnversionedTables, ImageKeeps, IsFoundIfClean, IsRightFault, IsNotTaken, LeavesAlone, LeavesAsKept, LeavesSame, Started, remains_of};
 ghost use Rattle.uu_store.specs.Spool.{disk, has_failed, Shows};
 ghost use Rattle.uu_store.specs.Stretches.{Adopted};
 
@@ -60,7 +60,7 @@ pub fn open_spool<T: Start>(
     ensures alone { IfOk result (λ spool. HasCleanDisk (disk spool) → (s : State) → ImageKeeps (image_at T.Start) s → Leaves (disk spool) s) }
 
     // A database in which one of the names is taken and no table tells a version is never taken.
-    ensures never_other { IfOk result (λ spool. HasCleanDisk (disk spool) → ¬ ImageHasOther (image_at T.Start)) }
+    ensures never_other { IfOk result (λ spool. HasCleanDisk (disk spool) → ¬ ImageHasUnversionedTables (image_at T.Start)) }
 
     // One that has any of the spool's tables, and not those of an earlier version, is left as it
     // was, whatever stands beside them.
@@ -91,7 +91,7 @@ fn adopted_in_files<D: Disk + Drop>(
     ensures started { (before : Image) → IsFoundIfClean over_files before conn → IfOk result (Started before) }
     ensures shows { (before : Image) → IsFoundIfClean over_files before conn → IfOk result (λ spool. HasCleanDisk (disk spool) → (s : State) → ImageKeeps before s → Shows spool s) }
     ensures alone { (before : Image) → IsFoundIfClean over_files before conn → IfOk result (λ spool. HasCleanDisk (disk spool) → (s : State) → ImageKeeps before s → Leaves (disk spool) s) }
-    ensures never_other { (before : Image) → IsFoundIfClean over_files before conn → IfOk result (λ spool. HasCleanDisk (disk spool) → ¬ ImageHasOther before) }
+    ensures never_other { (before : Image) → IsFoundIfClean over_files before conn → IfOk result (λ spool. HasCleanDisk (disk spool) → ¬ ImageHasUnversionedTables before) }
     ensures left_same { (before : Image) → IsFoundIfClean over_files before conn → IfOk result (λ spool. HasCleanDisk (disk spool) → LeavesSame before (disk spool).may_leave) }
     ensures named { (before : Image) → IsFoundIfClean over_files before conn → IfErr result (λ e. IsRightFault before e.fault (remains_of e)) }
     ensures left { (before : Image) → IsFoundIfClean over_files before conn → IfErr result (λ e. LeavesAsKept before (remains_of e)) }

@@ -1,7 +1,7 @@
 // A list of commands over a spool.
 ghost use Rattle.std.specs.Prelude.{◌≡◌, ◌↔◌, ◌≤◌, ◌<◌, ◌+◌, ◌++◌, ◌∷◌, [], false, None, IfSome, length};
 ghost use Rattle.std.specs.Vec.{vec_len, vec_capacity};
-ghost use Rattle.uu_schema.specs.Faults.{IsFresh};
+ghost use Rattle.uu_schema.specs.Faults.{IsFaultOfThisCall};
 ghost use Rattle.uu_store.specs.Spool.{has_failed};
 ghost use Rattle.uu_store.specs.Stretches.{IsRunAndLetGo};
 
@@ -108,7 +108,7 @@ impl<S: Alter> Spool<S> {
 
         // Nothing stopped it exactly where all were answered.
         ensures every { IfOk result (λ end. (end.0.stopped ≡ None) ↔ (length end.0.replies.items ≡ length commands.items)) }
-        ensures fresh { IfOk result (λ end. IfSome end.0.stopped IsFresh) }
+        ensures fresh { IfOk result (λ end. IfSome end.0.stopped IsFaultOfThisCall) }
         ensures never_failed { IfErr result (λ e. e.0 ≢ StoreFault.Failed) }
         ensures away { IfErr result (λ e. IsNotTaken S.Store conn e.1 e.0) }
         ensures not_given { IfErr result (λ e. IsClean (S.Store.view e.1) → Passed (stretch S.Store conn (not_given commands.items) e.1)) }
@@ -128,7 +128,7 @@ pub(crate) fn run_and_let_go<S: Alter + Drop>(
 ) -> (RunEnd, S)
     ensures worked { IsRunAndLetGo spool commands.items result.0.replies.items result.0.stopped result.1 }
     ensures every { has_failed spool ≡ false → ((result.0.stopped ≡ None) ↔ (length result.0.replies.items ≡ length commands.items)) }
-    ensures fresh { has_failed spool ≡ false → IfSome result.0.stopped IsFresh }
+    ensures fresh { has_failed spool ≡ false → IfSome result.0.stopped IsFaultOfThisCall }
 {
     let mut spool = spool;
     let end = spool.run(alloc, commands);

@@ -35,7 +35,7 @@ impl<S: Alter> Spool<S> {
     ghost use Rattle.sqlite.specs.Held.{state};
     ghost use Rattle.sqlite.specs.View.{IsClean};
     ghost use Rattle.uu_core.specs.After.{after};
-    ghost use Rattle.uu_schema.specs.Faults.{IsFresh};
+    ghost use Rattle.uu_schema.specs.Faults.{IsFaultOfThisCall};
     ghost use Rattle.uu_schema.specs.Steps.{StaysUnclean};
     ghost use Rattle.uu_schema.specs.Encoded.{Leaves, LeavesEither};
     ghost use Rattle.uu_store.specs.Spool.{connection_of, disk, failure_of, has_failed, Shows, Marks, Notes};
@@ -104,7 +104,7 @@ impl<S: Alter> Spool<S> {
         requires usable { has_failed self.old ≡ false }
         ensures same { result ≡ fault }
         ensures connection { connection_of self.new ≡ connection_of self.old }
-        ensures marked { IsFresh fault → Marks (has_failed self.old) (has_failed self.new) fault }
+        ensures marked { IsFaultOfThisCall fault → Marks (has_failed self.old) (has_failed self.new) fault }
         ensures noted { Notes (failure_of self.new) fault }
     {
         if let StoreFault::Store(kind) = fault {

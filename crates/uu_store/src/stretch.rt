@@ -10,12 +10,12 @@ ghost use Rattle.uu_core.specs.declared.job.NewJob.{NewJob};
 ghost use Rattle.uu_core.specs.State.{State};
 ghost use Rattle.uu_schema.specs.Encoded.{Leaves};
 ghost use Rattle.uu_schema.specs.declared.fault.StoreKind.{StoreKind};
-ghost use Rattle.uu_schema.specs.Faults.{IsFresh};
+ghost use Rattle.uu_schema.specs.Faults.{IsFaultOfThisCall};
 ghost use Rattle.uu_store.specs.Acknowledged.{IsAcknowledged, IsAcknowledgedUnder, ShowsJob, ShowsUnder};
 ghost use Rattle.uu_store.specs.Closing.{HasSomeCause, IsRunAndClosed, IsToldAfter};
 ghost use Rattle.uu_store.specs.Exchanges.{exchange_of};
 ghost use Rattle.uu_store.specs.Files.{AllFilesPassed, last_left, file_exchanges, IsStretch, IsClosedStretch};
-ghost use Rattle.uu_store.specs.Openings.{ImageHasOther, ImageKeeps, IsRightFault, LeavesAlone, LeavesAsKept, LeavesSame, Started, WasStarted, remains_of};
+ghost use Rattle.uu_store.specs.Openings.{ImageHasUnversionedTables, ImageKeeps, IsRightFault, LeavesAlone, LeavesAsKept, LeavesSame, Started, WasStarted, remains_of};
 ghost use Rattle.uu_store.specs.Spool.{disk, has_failed};
 ghost use Rattle.uu_store.specs.Stretches.{ShowsAfter};
 
@@ -47,11 +47,11 @@ pub fn work<T: Start>(
     // Commands are given only to what an opening takes, so never to a database in which one of the
     // names is taken and no table tells a version.
     ensures started { IfOk result (λ end. IsClean (view end.1) → WasStarted ⟦<SpoolFile<T> as Disk>⟧ (image_at T.Start)) }
-    ensures never_other { IfOk result (λ end. IsClean (view end.1) → ¬ ImageHasOther (image_at T.Start)) }
+    ensures never_other { IfOk result (λ end. IsClean (view end.1) → ¬ ImageHasUnversionedTables (image_at T.Start)) }
 
     // Nothing stopped it exactly where all were answered.
     ensures every { IfOk result (λ end. (end.0.stopped ≡ None) ↔ (length end.0.replies.items ≡ length commands.items)) }
-    ensures fresh { IfOk result (λ end. IfSome end.0.stopped IsFresh) }
+    ensures fresh { IfOk result (λ end. IfSome end.0.stopped IsFaultOfThisCall) }
     ensures never_failed { IfErr result (λ e. e.fault ≢ StoreFault.Failed) }
     ensures named { IfErr result (λ e. IsRightFault (image_at T.Start) e.fault (remains_of e)) }
     ensures left { IfErr result (λ e. LeavesAsKept (image_at T.Start) (remains_of e)) }
@@ -91,9 +91,9 @@ pub fn work_and_close<T: Start>(
         (λ files. AreClean ⟦<SpoolFile<T> as Disk>⟧ files.log files.db → WasStarted ⟦<SpoolFile<T> as Disk>⟧ (image_at T.Start))
         (λ e. IsClean (view e.1) → WasStarted ⟦<SpoolFile<T> as Disk>⟧ (image_at T.Start))) }
     ensures never_other { IfOk result (λ end. MatchResult end.1
-        (λ files. AreClean ⟦<SpoolFile<T> as Disk>⟧ files.log files.db → ¬ ImageHasOther (image_at T.Start)) (λ e. IsClean (view e.1) → ¬ ImageHasOther (image_at T.Start))) }
+        (λ files. AreClean ⟦<SpoolFile<T> as Disk>⟧ files.log files.db → ¬ ImageHasUnversionedTables (image_at T.Start)) (λ e. IsClean (view e.1) → ¬ ImageHasUnversionedTables (image_at T.Start))) }
     ensures every { IfOk result (λ end. (end.0.stopped ≡ None) ↔ (length end.0.replies.items ≡ length commands.items)) }
-    ensures fresh { IfOk result (λ end. IfSome end.0.stopped IsFresh) }
+    ensures fresh { IfOk result (λ end. IfSome end.0.stopped IsFaultOfThisCall) }
     ensures never_failed { IfErr result (λ e. e.fault ≢ StoreFault.Failed) }
     ensures named { IfErr result (λ e. IsRightFault (image_at T.Start) e.fault (remains_of e)) }
     ensures left { IfErr result (λ e. LeavesAsKept (image_at T.Start) (remains_of e)) }
@@ -115,7 +115,7 @@ fn run_and_close<D: Disk + Drop>(
     ensures told { has_failed spool ≡ false → IfErr result.1 (λ e. IsToldAfter result.0.stopped e.0) }
     ensures cause { IfErr result.1 (λ e. IsClean (view e.1) → (kind : StoreKind) → e.0 ≡ StoreFault.Store kind → HasSomeCause kind e.1) }
     ensures every { has_failed spool ≡ false → ((result.0.stopped ≡ None) ↔ (length result.0.replies.items ≡ length commands.items)) }
-    ensures fresh { has_failed spool ≡ false → IfSome result.0.stopped IsFresh }
+    ensures fresh { has_failed spool ≡ false → IfSome result.0.stopped IsFaultOfThisCall }
 {
     let mut spool = spool;
     let end = spool.run(alloc, commands);
@@ -149,7 +149,7 @@ pub fn start_again<H: FileHistory, T: Start>(
     ensures usable { IfOk result (λ spool. has_failed spool ≡ false) }
     ensures started { IfOk result (Started (image_at T.Start)) }
     ensures alone { IfOk result (λ spool. HasCleanDisk (disk spool) → (s : State) → ImageKeeps (image_at T.Start) s → Leaves (disk spool) s) }
-    ensures never_other { IfOk result (λ spool. HasCleanDisk (disk spool) → ¬ ImageHasOther (image_at T.Start)) }
+    ensures never_other { IfOk result (λ spool. HasCleanDisk (disk spool) → ¬ ImageHasUnversionedTables (image_at T.Start)) }
     ensures left_same { IfOk result (λ spool. HasCleanDisk (disk spool) → LeavesSame (image_at T.Start) (disk spool).may_leave) }
     ensures never_failed { IfErr result (λ e. e.fault ≢ StoreFault.Failed) }
     ensures named { IfErr result (λ e. IsRightFault (image_at T.Start) e.fault (remains_of e)) }
