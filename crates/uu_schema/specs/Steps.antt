@@ -4,9 +4,22 @@ use Rattle.std.specs.Prelude.{◌≡◌, ◌≤◌, true, false, IsTrue, OnOk, R
 use Rattle.sqlite.specs.Schema.{Schema}
 use Rattle.sqlite.specs.Tree.{Trees}
 use Rattle.sqlite.specs.Effect.{Database}
+use Rattle.sqlite.specs.Held.{Held}
 use Rattle.sqlite.specs.State.{State, HasCleanDisk, Survives}
 use Rattle.sqlite.specs.View.{doubt}
 use Rattle.sqlite_catalog.specs.Listing.{IsSound}
+
+-- ---- connections
+
+-- no transaction is open on the connection
+abbrev pub IsIdle : {S : Type 0} → Held S → Type 0
+IsIdle conn = conn.in_transaction ≡ false
+
+-- a connection on which no transaction is open is left with none
+abbrev pub StaysIdle : {S : Type 0} → Held S → Held S → Type 0
+StaysIdle old new = IsIdle old → IsIdle new
+
+-- ---- steps inside a transaction
 
 -- the database has this schema, and its trees list it and obey it
 pub record Stands (site : Schema) (db : Database) : Type 0 where
