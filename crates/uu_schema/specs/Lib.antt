@@ -11,3 +11,4 @@ pub mod Cells
 pub mod Held
 pub mod Encoded
 pub mod Faults
+pub mod Statements
