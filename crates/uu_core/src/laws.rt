@@ -1,5 +1,5 @@
 //! Laws of the machine that the contracts of this crate speak of.
-ghost use Rattle.std.specs.Prelude.{◌≡◌, ◌++◌, ◌+◌, ◌≤◌, ◌⊎◌, ◌<◌, ℕ, List, Option, Some, None, Ok, Contains, Bool, false, All, AllPairs, IsPermutation, [], ◌∷◌, ◌↔◌, true, length, map, sum_by, take};
+ghost use Rattle.std.specs.Prelude.{◌≡◌, ◌++◌, ◌+◌, ◌≤◌, ◌⊎◌, ◌<◌, ℕ, List, Option, Some, None, Ok, Contains, Bool, false, not, ◌&&◌, if◌then◌else◌, All, AllPairs, IsPermutation, [], ◌∷◌, ◌↔◌, true, length, map, sum_by, take};
 ghost use Rattle.uu_core.specs.declared.command.Command.{Command};
 ghost use Rattle.uu_core.specs.declared.command.Command.TheVariants.{Define, Queue, QueueOnce};
 ghost use Rattle.uu_core.specs.declared.custody.Key.{Key};
@@ -27,7 +27,7 @@ ghost use Rattle.uu_core.specs.Network.{Chart, Network, Move, world_of, MayMoveO
 ghost use Rattle.uu_core.specs.Refusal.{AreInTurn};
 ghost use Rattle.uu_core.specs.Verdict.{verdict, reasons, done_reasons, are_known};
 ghost use Rattle.uu_core.specs.Definitions.{definitions_of};
-ghost use Rattle.uu_core.specs.Due.{AreDue, AreInOrder, all_due, dues_of, is_listed, walk, with_next};
+ghost use Rattle.uu_core.specs.Due.{AreDue, AreInOrder, all_due, due_of, dues_of, is_listed, may_go};
 ghost use Rattle.uu_core.specs.After.{after, job_of};
 ghost use Rattle.uu_core.specs.Run.{state_after, replies_to};
 ghost use Rattle.uu_core.specs.Laws.{accepted_of, lets_go, lets_forget, numbers_in, new_numbers, has_key, is_repeat, IsAmong, IsHandedIn, IsOfRun, IsKept, IsFirstUnder, AreFound};
@@ -188,15 +188,14 @@ pub fn messages_cross_sites_once()
         → IsRoute chart site lines → Contains (network.site site).jobs job → GoesBy chart lines job → IsWelcomeOn chart network lines job → MayArrive chart network site lines job }
 {}
 
-/// What is due is what a walk along the jobs by grade and number lists.
-pub fn walks_list_what_is_due()
-    ensures { (rows : List SystemRow) (at : Moment) (jobs ordered : List JobHead) → IsPermutation jobs ordered → AreInOrder ordered → AreDue rows jobs at (walk rows ordered at) }
-{}
-
-/// A walk can go one job at a time: what it has listed decides whether the next job is listed.
-pub fn walks_go_job_by_job()
-    ensures start { (rows : List SystemRow) (at : Moment) → walk rows [] at ≡ [] }
-    ensures step { (rows : List SystemRow) (at : Moment) (jobs : List JobHead) (job : JobHead) → walk rows (jobs ++ job ∷ []) at ≡ with_next rows at (walk rows jobs at) job }
+/// What is due is found job by job, by grade and number: of no jobs nothing is due (`none`), and one
+/// more, behind the others, is due too where its system may be called for it and isn't listed yet
+/// (`more`). The same is due of the jobs in any order (`any_order`).
+pub fn dues_are_found_job_by_job()
+    ensures none { (rows : List SystemRow) (at : Moment) → AreDue rows [] at [] }
+    ensures more { (rows : List SystemRow) (at : Moment) (jobs : List JobHead) (job : JobHead) (dues : List Due) → AreInOrder (jobs ++ job ∷ []) → AreDue rows jobs at dues
+        → AreDue rows (jobs ++ job ∷ []) at (if may_go rows at job && not (is_listed dues job.system) then dues ++ due_of job ∷ [] else dues) }
+    ensures any_order { (rows : List SystemRow) (at : Moment) (jobs ordered : List JobHead) (dues : List Due) → IsPermutation jobs ordered → AreDue rows ordered at dues → AreDue rows jobs at dues }
 {}
 
 /// Of a system's jobs by grade and number that may go, the first is what is due of the system, and
