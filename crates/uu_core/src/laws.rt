@@ -33,7 +33,7 @@ ghost use Rattle.uu_core.specs.Run.{state_after, replies_to};
 ghost use Rattle.uu_core.specs.Laws.{accepted_of, lets_go, lets_forget, numbers_in, new_numbers, has_key, is_repeat, IsAmong, IsHandedIn, IsOfRun, IsKept, IsFirstUnder, AreFound};
 ghost use Rattle.uu_core.specs.WellFormed.{IsCommand};
 
-pub use crate::sound::commands_are_sound;
+pub use crate::sound::{commands_are_sound, mark_is_sound};
 use uu_times::laws::printed_systems_are_read;
 
 /// A refused command leaves the state, and its reply is the refusal.
