@@ -8,6 +8,7 @@ use crate::walk::{Owner, Ranked};
 use uu_core::limits::{MAX_ARGUMENTS, MAX_BYTES};
 use uu_core::{JobHead, Kind};
 use uu_names::Word;
+use uu_names::laws::{grade_is_sound, name_is_sound, word_is_sound};
 use uu_tables::{PIECE_BYTES, PieceSize};
 use uu_times::moment::LAST_SECOND;
 
@@ -15,7 +16,7 @@ fn words_are_words(words: &[Word])
     ensures { list_all is_word words.now ≡ true }
 {
     for word in words {
-        let _ = word.as_str();
+        word_is_sound(word);
     }
 }
 
@@ -24,12 +25,12 @@ fn is_kind(kind: &Kind) -> bool
 {
     match kind {
         Kind::Send { source, target } | Kind::Request { source, target } => {
-            let _ = source.as_str();
-            let _ = target.as_str();
+            word_is_sound(source);
+            word_is_sound(target);
             true
         }
         Kind::Execute { command, arguments } => {
-            let _ = command.as_str();
+            word_is_sound(command);
             words_are_words(arguments.as_slice());
             arguments.as_slice().len() <= MAX_ARGUMENTS
         }
@@ -39,9 +40,9 @@ fn is_kind(kind: &Kind) -> bool
 fn is_head(head: &JobHead) -> bool
     ensures { result ≡ is_head head.now }
 {
-    let _ = head.system.as_str();
-    let _ = head.user.as_str();
-    let _ = head.grade.rank();
+    name_is_sound(&head.system);
+    word_is_sound(&head.user);
+    grade_is_sound(&head.grade);
     head.number >= 1 && head.queued <= LAST_SECOND && head.size <= MAX_BYTES && is_kind(&head.kind)
 }
 

@@ -5,6 +5,7 @@ ghost use Rattle.uu_check.specs.Tests.{owns_link, fits_link, owns_taken, fits_ta
 ghost use Rattle.uu_check.specs.Walk.{rises};
 
 use crate::walk::{Owner, Ranked, rise, walk_owners};
+use uu_core::laws::mark_is_sound;
 use uu_core::limits::NUMBERS_END;
 use uu_tables::{LinkColumns, SystemColumns, TakenColumns};
 
@@ -51,7 +52,7 @@ impl Owner<TakenColumns> for SystemColumns {
 fn is_given(next: u32, row: &TakenColumns) -> bool
     ensures { result ≡ is_given next row.now }
 {
-    let _ = row.taken.mark.number();
+    mark_is_sound(&row.taken.mark);
     row.taken.job >= 1 && row.taken.job < next && row.taken.number <= NUMBERS_END
 }
 

@@ -4,6 +4,7 @@ ghost use Rattle.uu_check.specs.Tests.{are_ranges, is_retry, owns_range, fits_li
 
 use crate::walk::{Owner, Ranked};
 use uu_core::limits::{MAX_FAILURES, MAX_WAIT};
+use uu_names::laws::{grade_is_sound, name_is_sound, word_is_sound};
 use uu_tables::{
     CALL_FAILED, CALL_MADE, LineColumns, NEVER_CALLED, RangeColumns, SystemColumns, WaitColumns,
 };
@@ -43,7 +44,7 @@ impl Owner<RangeColumns> for LineColumns {
     }
 
     fn fits(&self, children: &[RangeColumns]) -> bool {
-        let _ = self.grade.rank();
+        grade_is_sound(&self.grade);
         is_retry(self.retry) && are_ranges(children)
     }
 }
@@ -60,7 +61,7 @@ fn is_outcome(cells: &SystemColumns) -> bool
                     && cells.call.wait == 0
         }
         Some(why) => {
-            let _ = why.as_str();
+            word_is_sound(why);
             cells.call.outcome == CALL_FAILED
         }
     }
@@ -98,7 +99,7 @@ impl Owner<LineColumns> for SystemColumns {
     }
 
     fn fits(&self, children: &[LineColumns]) -> bool {
-        let _ = self.name.as_str();
+        name_is_sound(&self.name);
         self.max_retries <= MAX_RETRIES_LIMIT
             && is_call(self)
             && children.len() <= LINE_LIMIT

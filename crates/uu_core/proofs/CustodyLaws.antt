@@ -19,7 +19,7 @@ use Rattle.uu_core.specs.declared.refusal.Refusal.{Refusal}
 use Rattle.uu_core.specs.declared.refusal.Refusal.TheVariants.{NoSystem, NoJob, JobTwice, OtherSystem, TooLarge, Stale, Differs}
 use Rattle.uu_core.specs.Refusal.{first_reason}
 use Rattle.uu_core.specs.State.{State, Job, IsWellFormed, same_text, has_system, head_of, is_taken}
-use Rattle.uu_core.specs.Verdict.{verdict, queue_reasons, fresh_reasons, is_again, is_other, are_known, taken_of, has_other, has_number, is_missing_one, has_repeat, done_refusal}
+use Rattle.uu_core.specs.Verdict.{verdict, queue_reasons, fresh_reasons, is_again, is_other, are_known, taken_of, has_other, has_number, is_missing_one, has_repeat, done_reasons}
 use Rattle.uu_core.specs.After.{after, after_verdict, hand_in, take_in, number_of, is_among}
 use Rattle.uu_core.specs.Laws.{IsSameJob, IsAmong, lets_go, accepted_of, unless_refused}
 use Rattle.uu_core.specs.Custody.{Parcel, parcel_of, Crossing, key_of, World, Step, IsLeast, least_of, MayRun, MayGo, MayGoOn, kills_in, handed_for, added, answer_to, go, world_after, IsQueued, IsNotLost, IsFree, MayCross}
@@ -241,7 +241,7 @@ never_lost crossing world steps job h may there own =
 -- ---- a job that waits may cross
 
 -- a report of one job that waits for the system is accepted
-pub done-accepted : (state : State) (system : List ℕ) (job : Job) → AllPairs (λ (a b : Job). a.number < b.number) state.jobs → has_system state system ≡ true → Contains state.jobs job → job.system ≡ system → done_refusal (has_system state system) system (job.number ∷ []) (map head_of state.jobs) ≡ None
+pub done-accepted : (state : State) (system : List ℕ) (job : Job) → AllPairs (λ (a b : Job). a.number < b.number) state.jobs → has_system state system ≡ true → Contains state.jobs job → job.system ≡ system → first_reason (done_reasons (has_system state system) system (job.number ∷ []) (map head_of state.jobs)) ≡ None
 done-accepted state system job rising known there own =
     ap (λ t. first_reason ((false, TooLarge) ∷ (not t, NoSystem) ∷ (is_missing_one numbers heads, NoJob) ∷ (false, JobTwice) ∷ (has_other system numbers heads, OtherSystem) ∷ [])) known
     ∙ ap (λ t. first_reason ((not t || false, NoJob) ∷ (false, JobTwice) ∷ (has_other system numbers heads, OtherSystem) ∷ [])) found

@@ -7,9 +7,8 @@ use Rattle.std.proofs.lemmas.Map.Made.{distinct_count-le}
 use Rattle.std.proofs.lemmas.Bool.Decides.{nat_tests}
 use Rattle.uu_core.specs.declared.job.JobHead.{JobHead}
 use Rattle.uu_core.specs.declared.refusal.Refusal.TheVariants.{NoSystem, NoJob, JobTwice, OtherSystem, TooLarge}
-use Rattle.uu_core.specs.Refusal.{first_reason}
 use Rattle.uu_core.specs.State.{same_text}
-use Rattle.uu_core.specs.Verdict.{has_number, is_missing_one, has_repeat, has_other, done_refusal}
+use Rattle.uu_core.specs.Verdict.{has_number, is_missing_one, has_repeat, has_other, done_reasons}
 use Rattle.uu_core.specs.Laws.{is_named, AreFound}
 use Rattle.uu_core.proofs.Members.{first_of, later_of, some_passes, passing_one}
 
@@ -71,7 +70,7 @@ module _ (numbers : List ℕ) (jobs found : List JobHead) (h : AreFound numbers 
   other-same system =
       found-any (λ (job : JobHead). is_named numbers job && not (same_text job.system system)) (λ job e. and-first (is_named numbers job) (not (same_text job.system system)) e)
 
-  pub named_decide : (known : Bool) (system : List ℕ) → done_refusal known system numbers found ≡ done_refusal known system numbers jobs
+  pub named_decide : (known : Bool) (system : List ℕ) → done_reasons known system numbers found ≡ done_reasons known system numbers jobs
   named_decide known system =
-      ap (λ missing. first_reason ((ltb 256 (length numbers), TooLarge) ∷ (not known, NoSystem) ∷ (missing, NoJob) ∷ (has_repeat numbers, JobTwice) ∷ (has_other system numbers found, OtherSystem) ∷ [])) missing-same
-      ∙ ap (λ other. first_reason ((ltb 256 (length numbers), TooLarge) ∷ (not known, NoSystem) ∷ (is_missing_one numbers jobs, NoJob) ∷ (has_repeat numbers, JobTwice) ∷ (other, OtherSystem) ∷ [])) (other-same system)
+      ap (λ missing. (ltb 256 (length numbers), TooLarge) ∷ (not known, NoSystem) ∷ (missing, NoJob) ∷ (has_repeat numbers, JobTwice) ∷ (has_other system numbers found, OtherSystem) ∷ []) missing-same
+      ∙ ap (λ other. (ltb 256 (length numbers), TooLarge) ∷ (not known, NoSystem) ∷ (is_missing_one numbers jobs, NoJob) ∷ (has_repeat numbers, JobTwice) ∷ (other, OtherSystem) ∷ []) (other-same system)

@@ -1,12 +1,12 @@
--- The jobs of a system that may go, beside what is due of it.
+-- The jobs of a system that may go, beside what is due of it, and what is due job by job.
 use Rattle.std.proofs.Common.{◌≡◌, ℕ, ◌<◌, Bool, true, false, not, cond, ◌&&◌, ◌+◌, List, [], ◌∷◌, ◌++◌, length, get_or, take, map, filter, AllPairs, Contains, IsPermutation, refl, ap, sym, ◌∙◌, subst, arith, inl, inr, ◌⊎◌}
 use Rattle.std.specs.List.{list_all}
 use Rattle.std.specs.Cmp.Lexicographic.{bytes_decides}
 use Rattle.std.proofs.lemmas.Bool.Decides.{nat_tests}
 use Rattle.std.proofs.lemmas.List.Kept.{AllPairs-filter}
-use Rattle.std.proofs.lemmas.List.{map-append, take_more}
+use Rattle.std.proofs.lemmas.List.{map-append, take_more, length-append, get_or_append_left}
 use Rattle.std.proofs.lemmas.List.Elements.{All-contains, filter-append}
-use Rattle.std.proofs.lemmas.List.Sorted.{IsPermutation-sym, Contains-permutation}
+use Rattle.std.proofs.lemmas.List.Sorted.{IsPermutation-refl, IsPermutation-sym, Contains-permutation}
 use Rattle.uu_times.specs.declared.moment.Moment.{Moment}
 use Rattle.uu_core.specs.declared.due.Due.{Due}
 use Rattle.uu_core.specs.declared.job.JobHead.{JobHead}
@@ -15,7 +15,8 @@ use Rattle.uu_core.specs.State.{same_text}
 use Rattle.uu_core.specs.Queues.{jobs_for}
 use Rattle.uu_core.specs.Due.{may_go, goes_before, is_due, due_of, all_due, dues_of, ComesFirst, AreDue, AreInOrder}
 use Rattle.uu_core.proofs.Members.{first_of, later_of, first_or_later, kept, from_filter, none_in}
-use Rattle.uu_core.proofs.WellFormedLemmas.{pairs-first, pairs-rest}
+use Rattle.uu_core.proofs.WellFormedLemmas.{pairs-first, pairs-rest, pairs-nil}
+use Rattle.uu_core.proofs.DueLemmas.{walk, with_next, walk_step, walk_is_due, due_same}
 
 -- ---- lists
 
@@ -192,3 +193,72 @@ module _ (rows : List SystemRow) (at : Moment) (jobs own : List JobHead) (name :
 
   pub first_to_go : dues_of name dues ≡ take 1 (all_due rows own at)
   first_to_go = by_going going refl
+
+-- ---- job by job
+
+-- two lists of the same elements, each in one order, are one list
+one_list : {X : Type 0} (R : X → X → Type 0) → ((a b : X) → R a b → R b a → ⊥) → (xs ys : List X) → AllPairs R xs → AllPairs R ys
+    → ((x : X) → Contains xs x → Contains ys x) → ((y : X) → Contains ys y → Contains xs y) → xs ≡ ys
+one_list R apart [] [] pairs others there back = refl
+one_list R apart [] (y ∷ ys) pairs others there back = absurd (none_in y (back y (first_of y ys)))
+one_list R apart (x ∷ xs) [] pairs others there back = absurd (none_in x (there x (first_of x xs)))
+one_list {X} R apart (x ∷ xs) (y ∷ ys) pairs others there back =
+    by-first (one_list R apart xs ys (pairs-rest R x xs pairs) (pairs-rest R y ys others)) (first_or_later y x ys (there x (first_of x xs))) (first_or_later x y xs (back y (first_of y ys)))
+  where
+    behind : (z : X) → Contains xs z → R x z
+    behind z in_xs = All-contains (R x) xs z (pairs-first R x xs pairs) in_xs
+
+    behind_other : (z : X) → Contains ys z → R y z
+    behind_other z in_ys = All-contains (R y) ys z (pairs-first R y ys others) in_ys
+
+    -- what is behind an element isn't that element
+    later_than : (a z : X) → R a z → (a ≡ z) → ⊥
+    later_than a z r same = apart a a (subst (R a) (sym same) r) (subst (R a) (sym same) r)
+
+    Rest : Type 0
+    Rest = ((z : X) → Contains xs z → Contains ys z) → ((z : X) → Contains ys z → Contains xs z) → xs ≡ ys
+
+    rest : Rest → x ≡ y → xs ≡ ys
+    rest again same =
+        again
+        (λ z in_xs. elim (first_or_later y z ys (there z (later_of x z xs in_xs))) [ inl first ↦ absurd (later_than x z (behind z in_xs) (same ∙ first)) | inr later ↦ later ])
+        (λ z in_ys. elim (first_or_later x z xs (back z (later_of y z ys in_ys))) [ inl first ↦ absurd (later_than y z (behind_other z in_ys) (sym same ∙ first)) | inr later ↦ later ])
+
+    by-first : Rest → (y ≡ x) ⊎ Contains ys x → (x ≡ y) ⊎ Contains xs y → x ∷ xs ≡ y ∷ ys
+    by-first again (inl same) other = (λ i. sym same i ∷ rest again (sym same) i)
+    by-first again (inr later) (inl same) = (λ i. same i ∷ rest again same i)
+    by-first again (inr later) (inr behind_x) = absurd (apart x y (behind y behind_x) (behind_other x later))
+
+-- the first of some in an order
+in_front : {X : Type 0} (R : X → X → Type 0) (xs ys : List X) → AllPairs R (xs ++ ys) → AllPairs R xs
+in_front R xs ys pairs i j d below within =
+    let long = length-append xs ys in
+    subst (λ a. R a (get_or xs j d)) (get_or_append_left xs ys d i (omega (arith, below, within)))
+    (subst (R (get_or (xs ++ ys) i d)) (get_or_append_left xs ys d j within) (pairs i j d below (omega (arith, long, within))))
+
+one_first : (a b : Due) → ComesFirst a b → ComesFirst b a → ⊥
+one_first a b h k = grind (arith, nat_tests)
+
+-- what is due of jobs in order is what a walk along them lists
+due_is_walked : (rows : List SystemRow) (at : Moment) (jobs : List JobHead) (dues : List Due) → AreInOrder jobs → AreDue rows jobs at dues → walk rows jobs at ≡ dues
+due_is_walked rows at jobs dues order due =
+    let walked = walk_is_due rows at jobs jobs (IsPermutation-refl jobs) order in
+    one_list ComesFirst one_first (walk rows jobs at) dues walked.in_order due.in_order (λ d there. due.complete d (walked.sound d there)) (λ d there. walked.complete d (due.sound d there))
+
+pub none_due : (rows : List SystemRow) (at : Moment) → AreDue rows [] at []
+none_due rows at = walk_is_due rows at [] [] (IsPermutation-refl []) (pairs-nil (λ a b. goes_before a b ≡ true))
+
+pub one_more_due : (rows : List SystemRow) (at : Moment) (jobs : List JobHead) (job : JobHead) (dues : List Due) → AreInOrder (jobs ++ job ∷ []) → AreDue rows jobs at dues
+    → AreDue rows (jobs ++ job ∷ []) at (with_next rows at dues job)
+one_more_due rows at jobs job dues order due =
+    subst (AreDue rows (jobs ++ job ∷ []) at)
+    (walk_step rows at jobs job ∙ ap (λ l. with_next rows at l job) (due_is_walked rows at jobs dues (in_front (λ a b. goes_before a b ≡ true) jobs (job ∷ []) order) due))
+    (walk_is_due rows at (jobs ++ job ∷ []) (jobs ++ job ∷ []) (IsPermutation-refl (jobs ++ job ∷ [])) order)
+
+pub due_in_any_order : (rows : List SystemRow) (at : Moment) (jobs ordered : List JobHead) (dues : List Due) → IsPermutation jobs ordered → AreDue rows ordered at dues → AreDue rows jobs at dues
+due_in_any_order rows at jobs ordered dues same due = record {
+  sound = λ d there. let it = due.sound d there in
+      record { job = it.job; there = Contains-permutation ordered jobs it.job (IsPermutation-sym jobs ordered same) it.there; first = due_same rows at jobs ordered it.job same ∙ it.first; is = it.is };
+  complete = λ d it. due.complete d (record { job = it.job; there = Contains-permutation jobs ordered it.job same it.there; first = sym (due_same rows at jobs ordered it.job same) ∙ it.first; is = it.is });
+  in_order = due.in_order;
+}

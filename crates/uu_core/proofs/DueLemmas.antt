@@ -14,8 +14,28 @@ use Rattle.uu_core.specs.declared.job.JobHead.{JobHead}
 use Rattle.uu_core.specs.declared.system.SystemRow.{SystemRow}
 use Rattle.uu_core.specs.declared.due.Due.{Due}
 use Rattle.uu_core.specs.State.{same_text, is_system}
-use Rattle.uu_core.specs.Due.{limit_now, is_within, may_be_called, may_go, goes_before, is_due, due_of, ComesFirst, AreDue, HaveNumbers, is_next, walk, walk_after, is_listed, with_next, AreInOrder}
+use Rattle.uu_core.specs.Due.{limit_now, is_within, may_be_called, may_go, goes_before, is_due, due_of, ComesFirst, AreDue, HaveNumbers, is_listed, AreInOrder}
 use Rattle.uu_core.proofs.Members.{first_of, kept, from_filter, mapped, from_map}
+
+-- ---- the walk
+
+-- it lists a job whose system may be called for it and for none of the jobs seen before it
+abbrev pub is_next : List SystemRow → Moment → List JobHead → JobHead → Bool
+is_next rows at seen job = may_go rows at job && not (list_any (λ other. same_text other.system job.system && may_go rows at other) seen)
+
+abbrev pub walk_after : List SystemRow → Moment → List JobHead → List JobHead → List Due
+walk_after rows at seen [] = []
+walk_after rows at seen (job ∷ jobs) =
+    cond (is_next rows at seen job) (due_of job ∷ walk_after rows at (seen ++ job ∷ []) jobs) (walk_after rows at (seen ++ job ∷ []) jobs)
+
+abbrev pub walk : List SystemRow → List JobHead → Moment → List Due
+walk rows jobs at = walk_after rows at [] jobs
+
+-- what is listed after one more job
+abbrev pub with_next : List SystemRow → Moment → List Due → JobHead → List Due
+with_next rows at dues job = cond (may_go rows at job && not (is_listed dues job.system)) (dues ++ due_of job ∷ []) dues
+
+-- ---- limits
 
 -- the greater of a limit that is there and another one
 abbrev pub with_limit : Option ℕ → ℕ → ℕ
@@ -247,7 +267,7 @@ not-any p (z ∷ zs) = by-test (p z) (not-any p zs)
 all-permutation : {X : Type 0} (p : X → Bool) (xs ys : List X) → IsPermutation xs ys → list_all p xs ≡ list_all p ys
 all-permutation p xs ys same = not-any p xs ∙ ap not (list_any-IsPermutation (λ x. not (p x)) xs ys same) ∙ sym (not-any p ys)
 
-due_same : (rows : List SystemRow) (at : Moment) (jobs ordered : List JobHead) (job : JobHead) → IsPermutation jobs ordered → is_due rows jobs at job ≡ is_due rows ordered at job
+pub due_same : (rows : List SystemRow) (at : Moment) (jobs ordered : List JobHead) (job : JobHead) → IsPermutation jobs ordered → is_due rows jobs at job ≡ is_due rows ordered at job
 due_same rows at jobs ordered job same = ap (λ b. may_go rows at job && b) (all-permutation (not_after rows at job) jobs ordered same)
 
 pub map_at : {X Y : Type 0} (f : X → Y) (xs : List X) (k : ℕ) (d : Y) (e : X) → k < length xs → get_or (map f xs) k d ≡ f (get_or xs k e)

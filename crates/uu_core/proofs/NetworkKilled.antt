@@ -8,7 +8,8 @@ use Rattle.uu_core.specs.declared.command.Command.TheVariants.{Define, Remove, Q
 use Rattle.uu_core.specs.declared.job.By.{By}
 use Rattle.uu_core.specs.declared.refusal.Refusal.{Refusal}
 use Rattle.uu_core.specs.State.{State, Job, is_job, job_at, head_of}
-use Rattle.uu_core.specs.Verdict.{verdict, job_refusal}
+use Rattle.uu_core.specs.Refusal.{first_reason}
+use Rattle.uu_core.specs.Verdict.{verdict, job_reasons}
 use Rattle.uu_core.specs.After.{after, after_verdict}
 use Rattle.uu_core.specs.Plain.{IsInOrder}
 use Rattle.uu_core.specs.Laws.{IsAmong, unless_refused}
@@ -48,7 +49,7 @@ module _ (state : State) (order : IsInOrder state) where
     none = λ job there same. apart (is-it job.number number same) (from_filter (λ (other : Job). not (is_job number other)) state.jobs job there).1;
   }
     where
-      by-found : (o : Option Job) → job_at state number ≡ o → job_refusal (option_map head_of o) by ≡ None → number < state.next
+      by-found : (o : Option Job) → job_at state number ≡ o → first_reason (job_reasons (option_map head_of o) by) ≡ None → number < state.next
       by-found None is e = absurd (cc)
       by-found (Some job) is e =
           let found = find-there (is_job number) state.jobs job is in

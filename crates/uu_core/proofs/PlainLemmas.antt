@@ -30,9 +30,9 @@ use Rattle.uu_core.specs.declared.refusal.Refusal.{Refusal}
 use Rattle.uu_core.specs.declared.refusal.Refusal.TheVariants.{NoSystem, BadEntry}
 use Rattle.uu_core.specs.declared.system.CallState.{CallState}
 use Rattle.uu_core.specs.declared.system.SystemRow.{SystemRow}
-use Rattle.uu_core.specs.Refusal.{decided, first_reason}
+use Rattle.uu_core.specs.Refusal.{decided, first_reason, value_unless}
 use Rattle.uu_core.specs.State.{State, Job, MapEntry, Link, is_link, link_of, taken_at, says_nothing, ComesBefore, is_job, is_system, system_at, has_system, head_of, numbers_end, most_bytes}
-use Rattle.uu_core.specs.Verdict.{verdict, queue_refusal, fresh_reasons, once_refusal, is_other, are_known, taken_of, done_refusal, is_too_large, has_many_arguments}
+use Rattle.uu_core.specs.Verdict.{verdict, queue_reasons, fresh_reasons, once_reasons, is_other, are_known, taken_of, done_reasons, is_too_large, has_many_arguments}
 use Rattle.uu_core.specs.After.{after, after_verdict, accept, reply_to, hand_in, hand_in_of, number_of, take_in, with_job, with_taken, forgotten, put_link, is_before, put_by, change_job, change_call, keep_entry, job_of, is_among, failed_call, failed_decision, done_call, done_call_of, call_of}
 use Rattle.uu_core.specs.Due.{HaveNumbers}
 use Rattle.uu_core.specs.Run.{state_after, replies_to}
@@ -49,25 +49,19 @@ carried state command e = ap (λ v. after_verdict v state command) e
 pub turned_down : (state : State) (command : Command) (refusal : Refusal) → verdict state command ≡ Some refusal → after state command ≡ (state, Refused refusal)
 turned_down state command refusal e = ap (λ v. after_verdict v state command) e
 
-pub none_decided : {V : Type 0} (v : Option Refusal) (value x : V) → decided v value ≡ Ok x → (v ≡ None) × (value ≡ x)
-none_decided None value x e = (refl, same)
+pub none_decided : {V : Type 0} (reasons : List (Bool × Refusal)) (value x : V) → decided reasons value ≡ Ok x → (first_reason reasons ≡ None) × (value ≡ x)
+none_decided {V} reasons value x e = by-first (first_reason reasons) e
   where
-    same : value ≡ x
-    same = cc
-none_decided {V} (Some refusal) value x e = absurd apart
-  where
-    apart : ⊥
-    apart = cc
+    by-first : (v : Option Refusal) → value_unless v value ≡ Ok x → (v ≡ None) × (value ≡ x)
+    by-first None e = (refl, cc)
+    by-first (Some refusal) e = absurd (cc)
 
-pub some_decided : {V : Type 0} (v : Option Refusal) (value : V) (refusal : Refusal) → decided v value ≡ Err refusal → v ≡ Some refusal
-some_decided None value refusal e = absurd apart
+pub some_decided : {V : Type 0} (reasons : List (Bool × Refusal)) (value : V) (refusal : Refusal) → decided reasons value ≡ Err refusal → first_reason reasons ≡ Some refusal
+some_decided {V} reasons value refusal e = by-first (first_reason reasons) e
   where
-    apart : ⊥
-    apart = cc
-some_decided (Some other) value refusal e = ap Some same
-  where
-    same : other ≡ refusal
-    same = cc
+    by-first : (v : Option Refusal) → value_unless v value ≡ Err refusal → v ≡ Some refusal
+    by-first None e = absurd (cc)
+    by-first (Some other) e = cc
 
 -- ---- the order is kept
 
@@ -308,45 +302,45 @@ no_call_set name call rows none = sym (untouched name (λ _. call) rows none)
 -- ---- a job that is handed in
 
 -- why it is accepted: it is small enough, and a number is left
-pub queue_accepted : (known : Bool) (next : ℕ) (job : NewJob) (number : ℕ) → Ok number ≡ decided (queue_refusal known next job) next → (length job.bytes ≤ most_bytes) × ((next == numbers_end) ≡ false) × (next ≡ number)
+pub queue_accepted : (known : Bool) (next : ℕ) (job : NewJob) (number : ℕ) → Ok number ≡ decided (queue_reasons known next job) next → (length job.bytes ≤ most_bytes) × ((next == numbers_end) ≡ false) × (next ≡ number)
 queue_accepted known next job number e =
-    let d = none_decided (queue_refusal known next job) next number (sym e) in
+    let d = none_decided (queue_reasons known next job) next number (sym e) in
     let first = none_first (is_too_large job) _ _ d.0 in
     let second = none_first (not known) _ _ first.1 in
     (within most_bytes (length job.bytes) (or_false _ (has_many_arguments job.kind) first.0).0, (none_first (next == numbers_end) _ _ second.1).0, d.1)
 
-pub queue_refused : (state : State) (job : NewJob) (known : Bool) (refusal : Refusal) → known ≡ has_system state job.system → Err refusal ≡ decided (queue_refusal known state.next job) state.next → (state, Refused refusal) ≡ after state (Queue job)
+pub queue_refused : (state : State) (job : NewJob) (known : Bool) (refusal : Refusal) → known ≡ has_system state job.system → Err refusal ≡ decided (queue_reasons known state.next job) state.next → (state, Refused refusal) ≡ after state (Queue job)
 queue_refused state job known refusal k e =
-    sym (turned_down state (Queue job) refusal (ap (λ b. queue_refusal b state.next job) (sym k) ∙ some_decided (queue_refusal known state.next job) state.next refusal (sym e)))
+    sym (turned_down state (Queue job) refusal (ap (λ b. first_reason (queue_reasons b state.next job)) (sym k) ∙ some_decided (queue_reasons known state.next job) state.next refusal (sym e)))
 
 -- ---- a job that is handed in under a key
 
 -- what was decided on what was found is what the definitions decide
 module _ (state : State) (key : Key) (job : NewJob) (known : Bool) (link : Link) (below : ℕ) (taken : Option Taken) (k : known ≡ are_known state key job) (l : link ≡ link_of state key.from) (b : below ≡ link.below) (t : taken ≡ taken_at link key.number) where
-  pub once_found : (hand_in_of taken key state.next ≡ hand_in state key) × (once_refusal known state.next below taken key job ≡ verdict state (QueueOnce key job))
+  pub once_found : (hand_in_of taken key state.next ≡ hand_in state key) × (first_reason (once_reasons known state.next below taken key job) ≡ verdict state (QueueOnce key job))
   once_found =
       let same : taken ≡ taken_of state key = t ∙ ap (λ (x : Link). taken_at x key.number) l in (
         ap (λ row. hand_in_of row key state.next) same,
-        ap (λ known. once_refusal known state.next below taken key job) k
-            ∙ ap (λ n. once_refusal (are_known state key job) state.next n taken key job) (b ∙ ap (λ (x : Link). x.below) l)
-            ∙ ap (λ row. once_refusal (are_known state key job) state.next (link_of state key.from).below row key job) same,
+        ap (λ known. first_reason (once_reasons known state.next below taken key job)) k
+            ∙ ap (λ n. first_reason (once_reasons (are_known state key job) state.next n taken key job)) (b ∙ ap (λ (x : Link). x.below) l)
+            ∙ ap (λ row. first_reason (once_reasons (are_known state key job) state.next (link_of state key.from).below row key job)) same,
       )
 
-  pub once_accepts : (comes : HandIn) → Ok comes ≡ decided (once_refusal known state.next below taken key job) (hand_in_of taken key state.next) → (hand_in state key ≡ comes) × (verdict state (QueueOnce key job) ≡ None)
+  pub once_accepts : (comes : HandIn) → Ok comes ≡ decided (once_reasons known state.next below taken key job) (hand_in_of taken key state.next) → (hand_in state key ≡ comes) × (verdict state (QueueOnce key job) ≡ None)
   once_accepts comes e =
-      let d = none_decided (once_refusal known state.next below taken key job) (hand_in_of taken key state.next) comes (sym e) in
+      let d = none_decided (once_reasons known state.next below taken key job) (hand_in_of taken key state.next) comes (sym e) in
       (sym once_found.0 ∙ d.1, sym once_found.1 ∙ d.0)
 
-  pub once_refused : (refusal : Refusal) → Err refusal ≡ decided (once_refusal known state.next below taken key job) (hand_in_of taken key state.next) → (state, Refused refusal) ≡ after state (QueueOnce key job)
+  pub once_refused : (refusal : Refusal) → Err refusal ≡ decided (once_reasons known state.next below taken key job) (hand_in_of taken key state.next) → (state, Refused refusal) ≡ after state (QueueOnce key job)
   once_refused refusal e =
-      sym (turned_down state (QueueOnce key job) refusal (sym once_found.1 ∙ some_decided (once_refusal known state.next below taken key job) (hand_in_of taken key state.next) refusal (sym e)))
+      sym (turned_down state (QueueOnce key job) refusal (sym once_found.1 ∙ some_decided (once_reasons known state.next below taken key job) (hand_in_of taken key state.next) refusal (sym e)))
 
-  pub once_again : (number : ℕ) → Ok (Again number) ≡ decided (once_refusal known state.next below taken key job) (hand_in_of taken key state.next) → (state, Number number) ≡ after state (QueueOnce key job)
+  pub once_again : (number : ℕ) → Ok (Again number) ≡ decided (once_reasons known state.next below taken key job) (hand_in_of taken key state.next) → (state, Number number) ≡ after state (QueueOnce key job)
   once_again number e =
       let d = once_accepts (Again number) e in
       sym (carried state (QueueOnce key job) d.1 ∙ ap (λ comes. (take_in comes key job state, Number (number_of comes))) d.0)
 
-  pub once_first : {E : Type 0} (number : ℕ) (result : Result Reply E) (new : State) → Ok (First number) ≡ decided (once_refusal known state.next below taken key job) (hand_in_of taken key state.next)
+  pub once_first : {E : Type 0} (number : ℕ) (result : Result Reply E) (new : State) → Ok (First number) ≡ decided (once_reasons known state.next below taken key job) (hand_in_of taken key state.next)
       → MatchResult result (λ reply. (new ≡ take_in (First number) key job state) × (reply ≡ Number number)) (λ _. new ≡ state) → IsGiven state (QueueOnce key job) result new
   once_first number (Ok reply) new e m =
       let d = once_accepts (First number) e in
@@ -355,9 +349,9 @@ module _ (state : State) (key : Key) (job : NewJob) (known : Bool) (link : Link)
   once_first number (Err fault) new e m = m
 
 -- why a job that comes for the first time is accepted: it is small enough, and a number is left
-pub first_accepted : (known : Bool) (next below : ℕ) (taken : Option Taken) (key : Key) (job : NewJob) (number : ℕ) → Ok (First number) ≡ decided (once_refusal known next below taken key job) (hand_in_of taken key next) → (length job.bytes ≤ most_bytes) × ((next == numbers_end) ≡ false) × (next ≡ number)
+pub first_accepted : (known : Bool) (next below : ℕ) (taken : Option Taken) (key : Key) (job : NewJob) (number : ℕ) → Ok (First number) ≡ decided (once_reasons known next below taken key job) (hand_in_of taken key next) → (length job.bytes ≤ most_bytes) × ((next == numbers_end) ≡ false) × (next ≡ number)
 first_accepted known next below taken key job number e =
-    let d = none_decided (once_refusal known next below taken key job) (hand_in_of taken key next) (First number) (sym e) in
+    let d = none_decided (once_reasons known next below taken key job) (hand_in_of taken key next) (First number) (sym e) in
     let first = first_is taken key next number d.1 in
     let why = once_accepted known next below (is_other taken key) key job (ap (λ again. first_reason (cond again [] (fresh_reasons known next below (is_other taken key) key job))) (sym first.0) ∙ d.0) in
     (within most_bytes (length job.bytes) (or_false _ (has_many_arguments job.kind) why.0).0, why.2, first.1)
@@ -426,20 +420,20 @@ found-known state name (Some row) f = sym (find-any (is_system name) state.syste
 done_once : (found : Option SystemRow) (row : SystemRow) (at : Moment) → found ≡ Some row → done_call row at ≡ done_call_of found at
 done_once found row at is = ap (λ o. done_call_of o at) (sym is)
 
-pub done_accepted : (state : State) (name : List ℕ) (at : Moment) (numbers : List ℕ) (found : Option SystemRow) (heads : List JobHead) (call : CallState) (jobs : List Job) (rows : List SystemRow) → IsInOrder state → found ≡ system_at state name → heads ≡ map head_of state.jobs → Ok call ≡ decided (done_refusal (is_some found) name numbers heads) (done_call_of found at) → jobs ≡ filter (λ (job : Job). not (is_among numbers job)) state.jobs → rows ≡ change_call name (λ _. call) state.systems → (record state { jobs = jobs; systems = rows }, Carried) ≡ after state (Done name at numbers)
+pub done_accepted : (state : State) (name : List ℕ) (at : Moment) (numbers : List ℕ) (found : Option SystemRow) (heads : List JobHead) (call : CallState) (jobs : List Job) (rows : List SystemRow) → IsInOrder state → found ≡ system_at state name → heads ≡ map head_of state.jobs → Ok call ≡ decided (done_reasons (is_some found) name numbers heads) (done_call_of found at) → jobs ≡ filter (λ (job : Job). not (is_among numbers job)) state.jobs → rows ≡ change_call name (λ _. call) state.systems → (record state { jobs = jobs; systems = rows }, Carried) ≡ after state (Done name at numbers)
 done_accepted state name at numbers found heads call jobs rows h f hs e j r =
     let known = is_some found in
     let k = found-known state name found f in
-    let d = none_decided (done_refusal known name numbers heads) (done_call_of found at) call (sym e) in
+    let d = none_decided (done_reasons known name numbers heads) (done_call_of found at) call (sym e) in
     ap (λ js. (record state { jobs = js; systems = rows }, Carried)) j
     ∙ ap (λ systems. (record state { jobs = filter (λ (job : Job). not (is_among numbers job)) state.jobs; systems = systems }, Carried)) (r ∙ called_once name (λ other. done_call other at) call state.systems h.by_name (λ other q. done_once found other at (f ∙ q) ∙ d.1))
-    ∙ sym (carried state (Done name at numbers) (ap (λ b. done_refusal b name numbers (map head_of state.jobs)) (sym k) ∙ ap (λ l. done_refusal known name numbers l) (sym hs) ∙ d.0))
+    ∙ sym (carried state (Done name at numbers) (ap (λ b. first_reason (done_reasons b name numbers (map head_of state.jobs))) (sym k) ∙ ap (λ l. first_reason (done_reasons known name numbers l)) (sym hs) ∙ d.0))
 
-pub done_refused : (state : State) (name : List ℕ) (at : Moment) (numbers : List ℕ) (found : Option SystemRow) (heads : List JobHead) (refusal : Refusal) → found ≡ system_at state name → heads ≡ map head_of state.jobs → Err refusal ≡ decided (done_refusal (is_some found) name numbers heads) (done_call_of found at) → (state, Refused refusal) ≡ after state (Done name at numbers)
+pub done_refused : (state : State) (name : List ℕ) (at : Moment) (numbers : List ℕ) (found : Option SystemRow) (heads : List JobHead) (refusal : Refusal) → found ≡ system_at state name → heads ≡ map head_of state.jobs → Err refusal ≡ decided (done_reasons (is_some found) name numbers heads) (done_call_of found at) → (state, Refused refusal) ≡ after state (Done name at numbers)
 done_refused state name at numbers found heads refusal f hs e =
     let known = is_some found in
     let k = found-known state name found f in
-    sym (turned_down state (Done name at numbers) refusal (ap (λ b. done_refusal b name numbers (map head_of state.jobs)) (sym k) ∙ ap (λ l. done_refusal known name numbers l) (sym hs) ∙ some_decided (done_refusal known name numbers heads) (done_call_of found at) refusal (sym e)))
+    sym (turned_down state (Done name at numbers) refusal (ap (λ b. first_reason (done_reasons b name numbers (map head_of state.jobs))) (sym k) ∙ ap (λ l. first_reason (done_reasons known name numbers l)) (sym hs) ∙ some_decided (done_reasons known name numbers heads) (done_call_of found at) refusal (sym e)))
 
 -- ---- map entries
 

@@ -11,10 +11,9 @@ use Rattle.uu_core.specs.declared.job.By.{By}
 use Rattle.uu_core.specs.declared.job.NewJob.{NewJob}
 use Rattle.uu_core.specs.declared.job.JobHead.{JobHead}
 use Rattle.uu_core.specs.declared.refusal.Refusal.{Refusal}
-use Rattle.uu_core.specs.declared.refusal.Refusal.TheVariants.{NotYours}
-use Rattle.uu_core.specs.Refusal.{turn_of, AreInTurn, first_reason}
+use Rattle.uu_core.specs.Refusal.{turn_of, AreInTurn}
 use Rattle.uu_core.specs.State.{State, job_at, head_of, link_of}
-use Rattle.uu_core.specs.Verdict.{may_touch, job_refusal, job_reasons, verdict, reasons, is_again, is_other, taken_of, are_known, fresh_reasons}
+use Rattle.uu_core.specs.Verdict.{job_reasons, reasons, is_again, is_other, taken_of, are_known, fresh_reasons}
 
 abbrev rises : List (Bool × Refusal) → Bool
 rises [] = true
@@ -58,24 +57,3 @@ reasons_in_turn state (Failed system at why) = in_turn (reasons state (Failed sy
 reasons_in_turn state (Done system at jobs) = in_turn (reasons state (Done system at jobs)) refl
 reasons_in_turn state (Entry bytes) = in_turn (reasons state (Entry bytes)) refl
 reasons_in_turn state (Forget system below) = in_turn (reasons state (Forget system below)) refl
-
-job_told : (job : Option JobHead) (by : By) → job_refusal job by ≡ first_reason (job_reasons job by)
-job_told None by = refl
-job_told (Some job) by = by-test (may_touch by job)
-  where
-    by-test : (may : Bool) → cond may None (Some NotYours) ≡ cond (not may) (Some NotYours) None
-    by-test true = refl
-    by-test false = refl
-
-pub reasons_told : (state : State) (command : Command) → verdict state command ≡ first_reason (reasons state command)
-reasons_told state (Define def) = refl
-reasons_told state (Remove name) = refl
-reasons_told state (Queue job) = refl
-reasons_told state (QueueOnce key job) = refl
-reasons_told state (Kill job by) = job_told (option_map head_of (job_at state job)) by
-reasons_told state (Regrade job grade by) = job_told (option_map head_of (job_at state job)) by
-reasons_told state (Rejuvenate job at by) = job_told (option_map head_of (job_at state job)) by
-reasons_told state (Failed system at why) = refl
-reasons_told state (Done system at jobs) = refl
-reasons_told state (Entry bytes) = refl
-reasons_told state (Forget system below) = refl

@@ -31,7 +31,7 @@ use Rattle.uu_core.specs.Marks.{marks_end}
 use Rattle.uu_core.specs.Refusal.{first_reason}
 use Rattle.uu_core.specs.State.{State, Job, MapEntry, Link, IsLink, is_link, link_of, new_link, says_nothing, IsWellFormed, IsJob, IsKind, IsCall, IsDefinition, ComesBefore, same_text, has_system, is_waiting, is_system, system_at, is_job, numbers_end, most_bytes, empty}
 use Rattle.uu_core.specs.Waiting.{one_more, lines_at, limit_at, line_at, retry_minutes, growing_minutes, wait_after}
-use Rattle.uu_core.specs.Verdict.{verdict, is_too_large, has_many_arguments, are_known, taken_of, once_reasons, fresh_reasons, fresh_refusal}
+use Rattle.uu_core.specs.Verdict.{verdict, is_too_large, has_many_arguments, are_known, taken_of, once_reasons, fresh_reasons}
 use Rattle.uu_core.specs.After.{after, after_verdict, accept, take_in, hand_in_of, with_job, with_taken, forgotten, put_link, is_before, put_by, put_system, call_of, change_job, change_call, job_of, failed_call, done_call, keep_entry, is_among}
 use Rattle.uu_core.specs.Run.{state_after}
 use Rattle.uu_core.specs.WellFormed.{IsCommand, IsKey, IsNewJob, HasWords}
@@ -197,7 +197,7 @@ and_true true b e = (refl, e)
 and_true false b e = absurd (cc)
 
 -- why a job that comes for the first time under a key is accepted
-pub once_accepted : (known : Bool) (next below : ℕ) (other : Bool) (key : Key) (job : NewJob) → fresh_refusal known next below other key job ≡ None → (is_too_large job ≡ false) × (known ≡ true) × ((next == numbers_end) ≡ false) × (below ≤ key.number) × (other ≡ false)
+pub once_accepted : (known : Bool) (next below : ℕ) (other : Bool) (key : Key) (job : NewJob) → first_reason (fresh_reasons known next below other key job) ≡ None → (is_too_large job ≡ false) × (known ≡ true) × ((next == numbers_end) ≡ false) × (below ≤ key.number) × (other ≡ false)
 once_accepted known next below other key job e =
     let first = none_first (is_too_large job) _ _ e in
     let second = none_first (not known) _ _ first.1 in
@@ -556,7 +556,7 @@ module _ (state : State) (h : IsWellFormed state) where
   link-known : (name : List ℕ) → has_system state name ≡ true → IsTrue (has_system state (link_of state name).name)
   link-known name e = ap (λ n. has_system state n) (link-named state.links name) ∙ e
 
-still-once : (state : State) (key : Key) (job : NewJob) (other : Bool) → IsWellFormed state → IsKey key → IsNewJob job → fresh_refusal (are_known state key job) state.next (link_of state key.from).below other key job ≡ None → IsWellFormed (take_in (First state.next) key job state)
+still-once : (state : State) (key : Key) (job : NewJob) (other : Bool) → IsWellFormed state → IsKey key → IsNewJob job → first_reason (fresh_reasons (are_known state key job) state.next (link_of state key.from).below other key job) ≡ None → IsWellFormed (take_in (First state.next) key job state)
 still-once state key job other h good fine e =
     let why = once_accepted (are_known state key job) state.next (link_of state key.from).below other key job e in
     let both = and_true (has_system state key.from) (has_system state job.system) why.1 in

@@ -13,7 +13,8 @@ use Rattle.uu_core.specs.declared.custody.Key.{Key}
 use Rattle.uu_core.specs.declared.job.Kind.{Kind}
 use Rattle.uu_core.specs.declared.job.NewJob.{NewJob}
 use Rattle.uu_core.specs.State.{State, Job, IsWellFormed, same_text, link_of, new_link}
-use Rattle.uu_core.specs.Verdict.{verdict, queue_refusal, are_known}
+use Rattle.uu_core.specs.Refusal.{first_reason}
+use Rattle.uu_core.specs.Verdict.{verdict, queue_reasons, are_known}
 use Rattle.uu_core.specs.After.{after, job_of}
 use Rattle.uu_core.specs.Laws.{accepted_of, numbers_in, IsAmong}
 
@@ -190,7 +191,7 @@ abbrev pub IsFree : Crossing → World → Job → NewJob → Type 0
 IsFree crossing world job new =
     let key = key_of crossing (parcel_of job) in
     let found = verdict world.receiver (QueueOnce key new) in
-    (found ≡ None) ⊎ (found ≡ queue_refusal (are_known world.receiver key new) world.receiver.next new)
+    (found ≡ None) ⊎ (found ≡ first_reason (queue_reasons (are_known world.receiver key new) world.receiver.next new))
 
 -- steps may follow after which the receiver has queued the job, and it waits no more
 pub record MayCross (crossing : Crossing) (world : World) (job : Job) : Type 0 where

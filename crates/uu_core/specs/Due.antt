@@ -1,7 +1,7 @@
 -- Which systems may be called now, and for which job. (That a grade limits a call: Taylor UUCP 1.07
 -- manual, on the time commands of the sys file; that each system is listed once, and in which
 -- order, is this project's choice.)
-use Rattle.std.specs.Prelude.{◌≡◌, ℕ, nat_eq, [], ◌∷◌, ◌++◌, true, Contains, Bool, not, ◌&&◌, ◌||◌, ◌==◌, nat_le, nat_lt, List, map, filter, Option, Some, None, AllPairs, IsTrue, false, if◌then◌else◌}
+use Rattle.std.specs.Prelude.{◌≡◌, ℕ, nat_eq, true, Contains, Bool, not, ◌&&◌, ◌||◌, ◌==◌, nat_le, nat_lt, List, map, filter, Option, Some, None, AllPairs, IsTrue, false, if◌then◌else◌}
 use Rattle.std.specs.List.{list_any, list_all, IsDistinct}
 use Rattle.uu_times.specs.declared.moment.Moment.{Moment}
 use Rattle.uu_core.specs.declared.job.JobHead.{JobHead}
@@ -71,24 +71,6 @@ HaveNumbers jobs = IsDistinct nat_eq (map (λ job. job.number) jobs)
 abbrev pub AreInOrder : List JobHead → Type 0
 AreInOrder jobs = AllPairs (λ a b. goes_before a b ≡ true) jobs
 
--- A walk along jobs that stand so lists each job whose system may be called for it and for none of
--- the jobs seen before it.
-abbrev pub is_next : List SystemRow → Moment → List JobHead → JobHead → Bool
-is_next rows at seen job = may_go rows at job && not (list_any (λ other. same_text other.system job.system && may_go rows at other) seen)
-
-abbrev pub walk_after : List SystemRow → Moment → List JobHead → List JobHead → List Due
-walk_after rows at seen [] = []
-walk_after rows at seen (job ∷ jobs) =
-    if is_next rows at seen job then due_of job ∷ walk_after rows at (seen ++ job ∷ []) jobs else walk_after rows at (seen ++ job ∷ []) jobs
-
-abbrev pub walk : List SystemRow → List JobHead → Moment → List Due
-walk rows jobs at = walk_after rows at [] jobs
-
 -- the system is one of those that are listed
 abbrev pub is_listed : List Due → List ℕ → Bool
 is_listed dues name = list_any (λ due. same_text due.system name) dues
-
--- what is listed after one more job: that job too, where its system may be called for it and isn't
--- listed
-abbrev pub with_next : List SystemRow → Moment → List Due → JobHead → List Due
-with_next rows at dues job = if may_go rows at job && not (is_listed dues job.system) then dues ++ due_of job ∷ [] else dues

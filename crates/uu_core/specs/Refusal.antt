@@ -46,7 +46,11 @@ abbrev pub first_reason : List (Bool × Refusal) → Option Refusal
 first_reason [] = None
 first_reason (reason ∷ reasons) = if reason.0 then Some reason.1 else first_reason reasons
 
--- the value, unless there is a reason to refuse it
-abbrev pub decided : {V : Type 0} → Option Refusal → V → Result V Refusal
-decided None value = Ok value
-decided (Some refusal) value = Err refusal
+-- the value, unless it is refused
+abbrev pub value_unless : {V : Type 0} → Option Refusal → V → Result V Refusal
+value_unless None value = Ok value
+value_unless (Some refusal) value = Err refusal
+
+-- the value, unless one of the reasons to refuse it applies: then the first of these
+abbrev pub decided : {V : Type 0} → List (Bool × Refusal) → V → Result V Refusal
+decided reasons value = value_unless (first_reason reasons) value

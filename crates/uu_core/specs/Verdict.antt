@@ -25,9 +25,6 @@ use Rattle.uu_core.specs.State.{State, same_text, has_system, is_waiting, job_at
 abbrev pub drop_reasons : Bool → Bool → List (Bool × Refusal)
 drop_reasons known waiting = (not known, NoSystem) ∷ (waiting, Busy) ∷ []
 
-abbrev pub drop_refusal : Bool → Bool → Option Refusal
-drop_refusal known waiting = first_reason (drop_reasons known waiting)
-
 abbrev pub has_many_arguments : Kind → Bool
 has_many_arguments (Send source target) = false
 has_many_arguments (Request source target) = false
@@ -37,9 +34,6 @@ has_many_arguments (Execute command arguments) = nat_lt most_arguments (length a
 abbrev pub known_reasons : Bool → List (Bool × Refusal)
 known_reasons known = (not known, NoSystem) ∷ []
 
-abbrev pub known_refusal : Bool → Option Refusal
-known_refusal known = first_reason (known_reasons known)
-
 -- too many bytes or arguments
 abbrev pub is_too_large : NewJob → Bool
 is_too_large job = nat_lt most_bytes (length job.bytes) || has_many_arguments job.kind
@@ -47,9 +41,6 @@ is_too_large job = nat_lt most_bytes (length job.bytes) || has_many_arguments jo
 -- a job may be handed in where it is not too large, its system is known and a number is left
 abbrev pub queue_reasons : Bool → ℕ → NewJob → List (Bool × Refusal)
 queue_reasons known next job = (is_too_large job, TooLarge) ∷ (not known, NoSystem) ∷ (next == numbers_end, NumbersOut) ∷ []
-
-abbrev pub queue_refusal : Bool → ℕ → NewJob → Option Refusal
-queue_refusal known next job = first_reason (queue_reasons known next job)
 
 -- ---- a job that a neighbour hands on under a key; `taken` is what was taken under its number
 
@@ -68,16 +59,10 @@ is_other (Some taken) key = not (taken.mark == key.mark)
 abbrev pub fresh_reasons : Bool → ℕ → ℕ → Bool → Key → NewJob → List (Bool × Refusal)
 fresh_reasons known next below other key job = queue_reasons known next job ++ (nat_lt key.number below, Stale) ∷ (other, Differs) ∷ []
 
-abbrev pub fresh_refusal : Bool → ℕ → ℕ → Bool → Key → NewJob → Option Refusal
-fresh_refusal known next below other key job = first_reason (fresh_reasons known next below other key job)
-
 -- to a neighbour that asks again nothing stands in the way, whatever became of its systems since
 abbrev pub once_reasons : Bool → ℕ → ℕ → Option Taken → Key → NewJob → List (Bool × Refusal)
 once_reasons known next below taken key job =
     if is_again taken key then [] else fresh_reasons known next below (is_other taken key) key job
-
-abbrev pub once_refusal : Bool → ℕ → ℕ → Option Taken → Key → NewJob → Option Refusal
-once_refusal known next below taken key job = first_reason (once_reasons known next below taken key job)
 
 -- the neighbour and the job's system are known
 abbrev pub are_known : State → Key → NewJob → Bool
@@ -97,11 +82,7 @@ once_reasons_in state key job =
 abbrev pub may_touch : By → JobHead → Bool
 may_touch by job = by.admin || same_text by.user job.user
 
-abbrev pub job_refusal : Option JobHead → By → Option Refusal
-job_refusal None by = Some NoJob
-job_refusal (Some job) by = if may_touch by job then None else Some NotYours
-
--- the same as a list
+-- a job may be killed, regraded or rejuvenated where it is there, by those who may touch it
 abbrev pub job_reasons : Option JobHead → By → List (Bool × Refusal)
 job_reasons None by = (true, NoJob) ∷ []
 job_reasons (Some job) by = (not (may_touch by job), NotYours) ∷ []
@@ -128,23 +109,6 @@ done_reasons known system numbers jobs =
     (nat_lt most_done (length numbers), TooLarge) ∷ (not known, NoSystem) ∷ (is_missing_one numbers jobs, NoJob) ∷ (has_repeat numbers, JobTwice)
     ∷ (has_other system numbers jobs, OtherSystem) ∷ []
 
-abbrev pub done_refusal : Bool → List ℕ → List ℕ → List JobHead → Option Refusal
-done_refusal known system numbers jobs = first_reason (done_reasons known system numbers jobs)
-
--- why a command is refused in a state, if it is
-abbrev pub verdict : State → Command → Option Refusal
-verdict state (Define def) = None
-verdict state (Remove name) = drop_refusal (has_system state name) (is_waiting state name)
-verdict state (Queue job) = queue_refusal (has_system state job.system) state.next job
-verdict state (QueueOnce key job) = first_reason (once_reasons_in state key job)
-verdict state (Kill job by) = job_refusal (option_map head_of (job_at state job)) by
-verdict state (Regrade job grade by) = job_refusal (option_map head_of (job_at state job)) by
-verdict state (Rejuvenate job at by) = job_refusal (option_map head_of (job_at state job)) by
-verdict state (Failed system at why) = first_reason ((not (has_system state system), NoSystem) ∷ [])
-verdict state (Done system at jobs) = done_refusal (has_system state system) system jobs (map head_of state.jobs)
-verdict state (Entry bytes) = first_reason ((is_err (host_of bytes), BadEntry) ∷ [])
-verdict state (Forget system below) = known_refusal (has_system state system)
-
 -- each reason for which a command may be refused, with whether it applies in a state
 abbrev pub reasons : State → Command → List (Bool × Refusal)
 reasons state (Define def) = []
@@ -154,7 +118,11 @@ reasons state (QueueOnce key job) = once_reasons_in state key job
 reasons state (Kill job by) = job_reasons (option_map head_of (job_at state job)) by
 reasons state (Regrade job grade by) = job_reasons (option_map head_of (job_at state job)) by
 reasons state (Rejuvenate job at by) = job_reasons (option_map head_of (job_at state job)) by
-reasons state (Failed system at why) = (not (has_system state system), NoSystem) ∷ []
+reasons state (Failed system at why) = known_reasons (has_system state system)
 reasons state (Done system at jobs) = done_reasons (has_system state system) system jobs (map head_of state.jobs)
 reasons state (Entry bytes) = (is_err (host_of bytes), BadEntry) ∷ []
 reasons state (Forget system below) = known_reasons (has_system state system)
+
+-- why a command is refused in a state, if it is: the first of these that applies
+abbrev pub verdict : State → Command → Option Refusal
+verdict state command = first_reason (reasons state command)

@@ -10,7 +10,8 @@ use uu_times::{Moment, SystemDef};
 pub enum Command {
     /// The definition is added, or replaces the one of its name; the calls so far stay.
     Define(SystemDef),
-    /// The system and its calls go.
+    /// The system goes, and with it how its calls went and its link, what is kept of the keys under
+    /// which it handed jobs on.
     Remove(SiteName),
     /// The job is added under the next number.
     Queue(NewJob),

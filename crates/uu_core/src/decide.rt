@@ -2,7 +2,7 @@
 ghost use Rattle.std.specs.Prelude.{◌≡◌, ◌==◌, is_some, option_copied};
 ghost use Rattle.std.specs.List.{list_any};
 ghost use Rattle.uu_core.specs.Refusal.{decided};
-ghost use Rattle.uu_core.specs.Verdict.{drop_refusal, queue_refusal, once_refusal, fresh_refusal, known_refusal, job_refusal, has_many_arguments, is_too_large, may_touch, has_repeat, has_number, is_missing_one, has_other, done_refusal};
+ghost use Rattle.uu_core.specs.Verdict.{drop_reasons, queue_reasons, once_reasons, fresh_reasons, known_reasons, job_reasons, has_many_arguments, is_too_large, may_touch, has_repeat, has_number, is_missing_one, has_other, done_reasons};
 ghost use Rattle.uu_core.specs.After.{failed_decision, done_call_of, hand_in_of};
 
 use crate::custody::{HandIn, Key, Taken};
@@ -20,7 +20,7 @@ use uu_times::Moment;
 /// [`Refusal::NoSystem`] where it is not known, and then [`Refusal::Busy`] where a job waits for
 /// it.
 pub fn decide_drop(known: bool, waiting: bool) -> Result<(), Refusal>
-    ensures { result ≡ decided (drop_refusal known waiting) tt }
+    ensures { result ≡ decided (drop_reasons known waiting) tt }
 {
     if !known {
         Err(Refusal::NoSystem)
@@ -54,7 +54,7 @@ fn is_too_large(job: &NewJob) -> bool
 /// [`Refusal::NoSystem`] where its system is not known, and then [`Refusal::NumbersOut`] where
 /// `next` is 4,294,967,295.
 pub fn decide_queue(known: bool, next: u32, job: &NewJob) -> Result<u32, Refusal>
-    ensures { result ≡ decided (queue_refusal known next job.now) next }
+    ensures { result ≡ decided (queue_reasons known next job.now) next }
 {
     if is_too_large(job) {
         Err(Refusal::TooLarge)
@@ -83,7 +83,7 @@ pub fn decide_queue_once(
     key: &Key,
     job: &NewJob,
 ) -> Result<HandIn, Refusal>
-    ensures { result ≡ decided (once_refusal known next below taken key.now job.now) (hand_in_of taken key.now next) }
+    ensures { result ≡ decided (once_reasons known next below taken key.now job.now) (hand_in_of taken key.now next) }
 {
     match taken {
         Some(taken) if taken.mark == key.mark => Ok(HandIn::Again(taken.job)),
@@ -101,7 +101,7 @@ fn decide_first(
     key: &Key,
     job: &NewJob,
 ) -> Result<HandIn, Refusal>
-    ensures { result ≡ decided (fresh_refusal known next below other key.now job.now) (HandIn.First next) }
+    ensures { result ≡ decided (fresh_reasons known next below other key.now job.now) (HandIn.First next) }
 {
     match decide_queue(known, next, job) {
         Err(refusal) => Err(refusal),
@@ -116,7 +116,7 @@ fn decide_first(
 /// # Errors
 /// [`Refusal::NoSystem`] where it is not known.
 pub fn decide_forget(known: bool) -> Result<(), Refusal>
-    ensures { result ≡ decided (known_refusal known) tt }
+    ensures { result ≡ decided (known_reasons known) tt }
 {
     if known {
         Ok(())
@@ -137,7 +137,7 @@ fn may_touch(by: &By, job: &JobHead) -> bool
 /// [`Refusal::NoJob`] where there is none, and [`Refusal::NotYours`] where it is another user's and
 /// `by` is no administrator.
 pub fn decide_job(job: Option<&JobHead>, by: &By) -> Result<(), Refusal>
-    ensures { result ≡ decided (job_refusal (option_copied job.entry) by.now) tt }
+    ensures { result ≡ decided (job_reasons (option_copied job.entry) by.now) tt }
 {
     match job {
         None => Err(Refusal::NoJob),
@@ -220,7 +220,7 @@ pub fn decide_done(
     found: &[JobHead],
     at: &Moment,
 ) -> Result<CallState, Refusal>
-    ensures { result ≡ decided (done_refusal (is_some (option_copied system.entry)) name.now numbers.now found.now) (done_call_of (option_copied system.entry) at.now) }
+    ensures { result ≡ decided (done_reasons (is_some (option_copied system.entry)) name.now numbers.now found.now) (done_call_of (option_copied system.entry) at.now) }
 {
     if numbers.len() > MAX_DONE {
         return Err(Refusal::TooLarge);

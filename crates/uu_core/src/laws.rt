@@ -1,5 +1,5 @@
 //! Laws of the machine that the contracts of this crate speak of.
-ghost use Rattle.std.specs.Prelude.{◌≡◌, ◌++◌, ◌+◌, ◌≤◌, ◌⊎◌, ◌<◌, ℕ, List, Option, Some, None, Ok, Contains, Bool, false, All, AllPairs, IsPermutation, [], ◌∷◌, ◌↔◌, true, length, map, sum_by, take};
+ghost use Rattle.std.specs.Prelude.{◌≡◌, ◌++◌, ◌+◌, ◌≤◌, ◌⊎◌, ◌<◌, ℕ, List, Option, Some, None, Ok, Contains, Bool, false, not, ◌&&◌, if◌then◌else◌, All, AllPairs, IsPermutation, [], ◌∷◌, ◌↔◌, true, length, map, sum_by, take};
 ghost use Rattle.uu_core.specs.declared.command.Command.{Command};
 ghost use Rattle.uu_core.specs.declared.command.Command.TheVariants.{Define, Queue, QueueOnce};
 ghost use Rattle.uu_core.specs.declared.custody.Key.{Key};
@@ -24,16 +24,16 @@ ghost use Rattle.uu_core.specs.declared.system.SystemRow.{SystemRow};
 ghost use Rattle.uu_core.specs.State.{State, Job, IsWellFormed, empty, has_system};
 ghost use Rattle.uu_core.specs.Custody.{Crossing, World, Parcel, Handed, Step, parcel_of, key_of, MayGoOn, world_after, IsReached, IsOf, IsQueued, IsNotLost, IsFree, IsLeast, least_of, MayCross};
 ghost use Rattle.uu_core.specs.Network.{Chart, Network, Move, world_of, MayMoveOn, network_after, IsReachedNetwork, IsRoute, GoesBy, ComesTo, IsMadeOf, Stands, AreNamedApart, by_line, IsWelcome, next_of, IsWelcomeOn, IsAcross, MayArrive};
-ghost use Rattle.uu_core.specs.Refusal.{first_reason, AreInTurn};
-ghost use Rattle.uu_core.specs.Verdict.{verdict, reasons, done_refusal, queue_refusal, are_known};
+ghost use Rattle.uu_core.specs.Refusal.{AreInTurn};
+ghost use Rattle.uu_core.specs.Verdict.{verdict, reasons, done_reasons, are_known};
 ghost use Rattle.uu_core.specs.Definitions.{definitions_of};
-ghost use Rattle.uu_core.specs.Due.{AreDue, AreInOrder, all_due, dues_of, is_listed, walk, with_next};
+ghost use Rattle.uu_core.specs.Due.{AreDue, AreInOrder, all_due, due_of, dues_of, is_listed, may_go};
 ghost use Rattle.uu_core.specs.After.{after, job_of};
 ghost use Rattle.uu_core.specs.Run.{state_after, replies_to};
 ghost use Rattle.uu_core.specs.Laws.{accepted_of, lets_go, lets_forget, numbers_in, new_numbers, has_key, is_repeat, IsAmong, IsHandedIn, IsOfRun, IsKept, IsFirstUnder, AreFound};
 ghost use Rattle.uu_core.specs.WellFormed.{IsCommand};
 
-pub use crate::sound::commands_are_sound;
+pub use crate::sound::{commands_are_sound, mark_is_sound};
 use uu_times::laws::printed_systems_are_read;
 
 /// A refused command leaves the state, and its reply is the refusal.
@@ -42,11 +42,10 @@ pub fn refusals_change_nothing()
 {}
 
 /// Where several reasons apply, [`Refusal::TooLarge`](crate::Refusal::TooLarge) is told first, and
-/// else the one of the least number: the reasons of each command stand in that order, and the first
-/// that applies is told.
+/// else the one of the least number: the first reason that applies is told, and the reasons of each
+/// command stand in that order.
 pub fn refusals_are_told_in_order()
-    ensures order { (state : State) (command : Command) → AreInTurn (reasons state command) }
-    ensures told { (state : State) (command : Command) → verdict state command ≡ first_reason (reasons state command) }
+    ensures { (state : State) (command : Command) → AreInTurn (reasons state command) }
 {}
 
 /// A run of some commands followed by others is the run of the others from the state after the
@@ -189,15 +188,14 @@ pub fn messages_cross_sites_once()
         → IsRoute chart site lines → Contains (network.site site).jobs job → GoesBy chart lines job → IsWelcomeOn chart network lines job → MayArrive chart network site lines job }
 {}
 
-/// What is due is what a walk along the jobs by grade and number lists.
-pub fn walks_list_what_is_due()
-    ensures { (rows : List SystemRow) (at : Moment) (jobs ordered : List JobHead) → IsPermutation jobs ordered → AreInOrder ordered → AreDue rows jobs at (walk rows ordered at) }
-{}
-
-/// A walk can go one job at a time: what it has listed decides whether the next job is listed.
-pub fn walks_go_job_by_job()
-    ensures start { (rows : List SystemRow) (at : Moment) → walk rows [] at ≡ [] }
-    ensures step { (rows : List SystemRow) (at : Moment) (jobs : List JobHead) (job : JobHead) → walk rows (jobs ++ job ∷ []) at ≡ with_next rows at (walk rows jobs at) job }
+/// What is due is found job by job, by grade and number: of no jobs nothing is due (`none`), and one
+/// more, behind the others, is due too where its system may be called for it and isn't listed yet
+/// (`more`). The same is due of the jobs in any order (`any_order`).
+pub fn dues_are_found_job_by_job()
+    ensures none { (rows : List SystemRow) (at : Moment) → AreDue rows [] at [] }
+    ensures more { (rows : List SystemRow) (at : Moment) (jobs : List JobHead) (job : JobHead) (dues : List Due) → AreInOrder (jobs ++ job ∷ []) → AreDue rows jobs at dues
+        → AreDue rows (jobs ++ job ∷ []) at (if may_go rows at job && not (is_listed dues job.system) then dues ++ due_of job ∷ [] else dues) }
+    ensures any_order { (rows : List SystemRow) (at : Moment) (jobs ordered : List JobHead) (dues : List Due) → IsPermutation jobs ordered → AreDue rows ordered at dues → AreDue rows jobs at dues }
 {}
 
 /// Of a system's jobs by grade and number that may go, the first is what is due of the system, and
@@ -244,5 +242,5 @@ pub fn queues_sum_up_all_jobs()
 /// Of all jobs only those that a report of a call names decide on it: any of the jobs, in any
 /// order, decide as all of them do if these are among them.
 pub fn named_jobs_decide()
-    ensures { (known : Bool) (system numbers : List ℕ) (jobs found : List JobHead) → AreFound numbers jobs found → done_refusal known system numbers found ≡ done_refusal known system numbers jobs }
+    ensures { (known : Bool) (system numbers : List ℕ) (jobs found : List JobHead) → AreFound numbers jobs found → done_reasons known system numbers found ≡ done_reasons known system numbers jobs }
 {}

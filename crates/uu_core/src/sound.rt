@@ -1,26 +1,29 @@
 // What the types of a command see to.
-ghost use Rattle.std.specs.Prelude.{All, IsTrue};
+ghost use Rattle.std.specs.Prelude.{◌<◌, ◌≤◌, All, IsTrue};
 ghost use Rattle.uu_names.specs.Name.{is_word};
-ghost use Rattle.uu_core.specs.State.{IsDefinition, IsLine};
+ghost use Rattle.uu_core.specs.Marks.{marks_end};
+ghost use Rattle.uu_core.specs.State.{IsDefinition, IsLine, numbers_end};
 ghost use Rattle.uu_core.specs.WellFormed.{IsCommand, IsKey, IsNewJob, HasWords};
 
 use crate::command::Command;
-use crate::custody::Key;
+use crate::custody::{Key, Mark};
 use crate::job::{Kind, NewJob};
 use uu_names::Word;
+use uu_names::laws::{grade_is_sound, name_is_sound, word_is_sound};
+use uu_times::laws::windows_are_sound;
 use uu_times::{Line, SystemDef};
 
 fn line_is_sound(line: &Line)
     ensures { IsLine line.now }
 {
-    let _ = line.grade.rank();
-    let _ = line.windows.ranges();
+    grade_is_sound(&line.grade);
+    windows_are_sound(&line.windows);
 }
 
 fn definition_is_sound(def: &SystemDef)
     ensures { IsDefinition def.now }
 {
-    let _ = def.name.as_str();
+    name_is_sound(&def.name);
     for line in def.lines() {
         line_is_sound(line);
     }
@@ -30,7 +33,7 @@ fn words_are_sound(words: &[Word])
     ensures { All (λ word. IsTrue (is_word word)) words.now }
 {
     for word in words {
-        let _ = word.as_str();
+        word_is_sound(word);
     }
 }
 
@@ -39,11 +42,11 @@ fn kind_is_sound(kind: &Kind)
 {
     match kind {
         Kind::Send { source, target } | Kind::Request { source, target } => {
-            let _ = source.as_str();
-            let _ = target.as_str();
+            word_is_sound(source);
+            word_is_sound(target);
         }
         Kind::Execute { command, arguments } => {
-            let _ = command.as_str();
+            word_is_sound(command);
             words_are_sound(arguments.as_slice());
         }
     }
@@ -52,18 +55,29 @@ fn kind_is_sound(kind: &Kind)
 fn job_is_sound(job: &NewJob)
     ensures { IsNewJob job.now }
 {
-    let _ = job.system.as_str();
-    let _ = job.grade.rank();
-    let _ = job.user.as_str();
+    name_is_sound(&job.system);
+    grade_is_sound(&job.grade);
+    word_is_sound(&job.user);
     kind_is_sound(&job.kind);
+}
+
+fn number_is_sound(number: u32)
+    ensures { number ≤ numbers_end }
+{}
+
+/// A value of type [`Mark`] has 63 bits at most.
+pub fn mark_is_sound(mark: &Mark)
+    ensures { mark.now < marks_end }
+{
+    mark.number();
 }
 
 fn key_is_sound(key: &Key)
     ensures { IsKey key.now }
 {
-    let _ = key.from.as_str();
-    let _number = key.number;
-    let _ = key.mark.number();
+    name_is_sound(&key.from);
+    number_is_sound(key.number);
+    mark_is_sound(&key.mark);
 }
 
 /// The names, words, grades, moments and numbers of each command are such, as its types see to it:
@@ -78,15 +92,9 @@ pub fn commands_are_sound(command: &Command)
             key_is_sound(key);
             job_is_sound(job);
         }
-        Command::Regrade { grade, .. } => {
-            let _ = grade.rank();
-        }
-        Command::Failed { why, .. } => {
-            let _ = why.as_str();
-        }
-        Command::Forget { below, .. } => {
-            let _below = *below;
-        }
+        Command::Regrade { grade, .. } => grade_is_sound(grade),
+        Command::Failed { why, .. } => word_is_sound(why),
+        Command::Forget { below, .. } => number_is_sound(*below),
         Command::Remove(_)
         | Command::Kill { .. }
         | Command::Rejuvenate { .. }

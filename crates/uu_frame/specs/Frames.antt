@@ -69,8 +69,8 @@ BeginsWithTooMuch limit bytes =
     (count : ℕ) × (words : List (List ℕ)) × IsHead count words × (limit < count) × (rest : List ℕ) × (bytes ≡ head_line count words ++ 10 ∷ rest)
 
 -- the bytes begin with the line of a request whose input has no more bytes than the limit
-abbrev pub BeginsWithin : ℕ → List ℕ → Type 0
-BeginsWithin limit bytes =
+abbrev pub BeginsWithHeadWithin : ℕ → List ℕ → Type 0
+BeginsWithHeadWithin limit bytes =
     (count : ℕ) × (words : List (List ℕ)) × IsHead count words × (count ≤ limit) × (rest : List ℕ) × (bytes ≡ head_line count words ++ 10 ∷ rest)
 
 -- of the next line not more was read than a request's has, and not its end
@@ -83,6 +83,6 @@ IsWithinLine had left = (front : List ℕ) × All (λ byte. byte ≢ 10) front �
 abbrev pub IsCause : ℕ → Option (List ℕ) → Option (List ℕ) → FrameFault → Type 0
 IsCause limit had left fault.NoRequest = IfSome had BeginsWithNoRequest
 IsCause limit had left fault.TooLarge = IfSome had (BeginsWithTooMuch limit)
-IsCause limit had left fault.Read = IsWithinLine had left ⊎ IfSome had (BeginsWithin limit)
+IsCause limit had left fault.Read = IsWithinLine had left ⊎ IfSome had (BeginsWithHeadWithin limit)
 IsCause limit had left fault.Write = ⊥
 IsCause limit had left fault.Memory = ⊤

@@ -58,7 +58,7 @@ fn next_byte<R: BufRead>(reader: &mut R) -> Result<Option<u8>, FrameFault>
 }
 
 // So many bytes of the stream.
-pub(crate) fn read_input<R: BufRead>(
+pub(crate) fn read_bytes<R: BufRead>(
     alloc: Global,
     count: u32,
     reader: &mut R,

@@ -5,7 +5,7 @@ ghost use Rattle.uu_frame.specs.Frames.{IsCause, IsHead, request_frame};
 
 use crate::fault::FrameFault;
 use crate::head::head_of;
-use crate::reading::{read_input, read_line};
+use crate::reading::{read_bytes, read_line};
 use std::alloc::Global;
 use std::io::BufRead;
 
@@ -50,7 +50,7 @@ pub fn read_request<R: BufRead>(
     if head.count as usize > limit {
         return Err(FrameFault::TooLarge);
     }
-    match read_input(alloc, head.count, reader) {
+    match read_bytes(alloc, head.count, reader) {
         Ok(input) => Ok(Some(Frame {
             words: head.words,
             input,

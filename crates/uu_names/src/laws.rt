@@ -1,7 +1,11 @@
-//! Laws of the definitions that the contracts cite.
-ghost use Rattle.std.specs.Prelude.{◌≡◌, ℕ, List, IsTrue};
+//! Laws of the definitions that the contracts cite, and what the types see to.
+ghost use Rattle.std.specs.Prelude.{◌≡◌, ◌<◌, ℕ, List, IsTrue};
+ghost use Rattle.uu_names.specs.Grade.{grade_count};
+ghost use Rattle.uu_names.specs.Name.{is_site_name, is_word};
 ghost use Rattle.uu_names.specs.Path.{BangPath, path_text, has_path_form};
 ghost use Rattle.uu_names.specs.ReturnPath.{Sender, HasLeadingLines, IsReturnPath};
+
+use crate::{Grade, SiteName, Word};
 
 /// A path is the one cut of its text into sites and a local part, lengths left aside.
 pub fn a_text_has_one_path()
@@ -13,3 +17,24 @@ pub fn a_text_has_one_way_back()
     ensures run { (text : List ℕ) (senders others : List Sender) (body end : ℕ) → HasLeadingLines text senders body → HasLeadingLines text others end → (senders ≡ others) × (body ≡ end) }
     ensures path { (text path other : List ℕ) (body end : ℕ) → IsReturnPath text path body → IsReturnPath text other end → (path ≡ other) × (body ≡ end) }
 {}
+
+/// A value of type [`SiteName`] is a site name.
+pub fn name_is_sound(name: &SiteName)
+    ensures { IsTrue (is_site_name name.now) }
+{
+    name.as_str();
+}
+
+/// A value of type [`Word`] is a word.
+pub fn word_is_sound(word: &Word)
+    ensures { IsTrue (is_word word.now) }
+{
+    word.as_str();
+}
+
+/// A value of type [`Grade`] is one of the 62 ranks.
+pub fn grade_is_sound(grade: &Grade)
+    ensures { grade.now < grade_count }
+{
+    grade.rank();
+}

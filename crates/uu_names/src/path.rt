@@ -105,6 +105,7 @@ impl Path {
         ensures text { result.now ≡ self.now }
         ensures path { IsPathText self.now }
     {
+        // The clause `path` speaks of the text and of where its first site ends.
         let _ = &self.hop_len;
         self.text.as_str()
     }

@@ -5,7 +5,7 @@ use Rattle.std.specs.Cmp.{IsTotalOrder, ranked}
 use Rattle.std.specs.Ordering.{is_eq, is_gt, ordering_then, MatchOrdering}
 use Rattle.std.proofs.lemmas.Cmp.{nat_cmp_total, then_total}
 use Rattle.std.proofs.lemmas.Bool.Decides.{nat_tests}
-use Rattle.std.proofs.lemmas.List.{take_more}
+use Rattle.std.proofs.lemmas.List.{take_more, length-append, get_or_append_left}
 use Rattle.std.proofs.lemmas.List.Kept.{AllPairs-cons}
 use Rattle.std.proofs.lemmas.List.Sorted.{IsPermutation-sym}
 use Rattle.sqlite.specs.Order.{Row}
@@ -24,7 +24,7 @@ use Rattle.uu_core.specs.declared.due.Due.{Due}
 use Rattle.uu_core.specs.declared.filter.Filter.{Filter}
 use Rattle.uu_core.specs.declared.system.SystemRow.{SystemRow}
 use Rattle.uu_core.specs.State.{State, IsWellFormed, same_text, head_of}
-use Rattle.uu_core.specs.Due.{is_within, may_be_called, goes_before, due_of, is_listed, walk, with_next, AreInOrder, AreDue}
+use Rattle.uu_core.specs.Due.{is_within, may_be_called, may_go, goes_before, due_of, is_listed, AreInOrder, AreDue}
 use Rattle.uu_schema.specs.Schema.{site, jobs}
 use Rattle.uu_schema.specs.Keyed.{columns}
 use Rattle.uu_schema.specs.Held.{job_places}
@@ -81,17 +81,30 @@ left_after may dues due name grade old new h e =
 
 -- ---- the whole walk
 
+-- the first of jobs in order
+in_front : (front behind : List JobHead) → AreInOrder (front ++ behind) → AreInOrder front
+in_front front behind order i j d below within =
+    let long = length-append front behind in
+    subst (λ a. goes_before a (get_or front j d) ≡ true) (get_or_append_left front behind d i (omega (arith, below, within)))
+    (subst (λ b. goes_before (get_or (front ++ behind) i d) b ≡ true) (get_or_append_left front behind d j within) (order i j d below (omega (arith, long, within))))
+
+-- what is due after one more job (`dues_are_found_job_by_job`)
+abbrev pub More : Type 0
+More = (rows : List SystemRow) (at : Moment) (jobs : List JobHead) (job : JobHead) (dues : List Due) → AreInOrder (jobs ++ job ∷ []) → AreDue rows jobs at dues
+    → AreDue rows (jobs ++ job ∷ []) at (cond (may_go rows at job && not (is_listed dues job.system)) (dues ++ due_of job ∷ []) dues)
+
 module _ {X : Type 0} (limit : X → List ℕ → Option ℕ) (dues : X → List Due) where
   abbrev pub Walked : X → Row → X → Type 0
   Walked old row new = TakesRow (limit old) (dues old) row (limit new) (dues new)
 
-  pub walked_on : ((rows : List SystemRow) (at : Moment) (jobs : List JobHead) (job : JobHead) → walk rows (jobs ++ job ∷ []) at ≡ with_next rows at (walk rows jobs at) job)
-      → (rows : List SystemRow) (at : Moment) (seen rest : List JobHead) (before after : X) → Took Walked before (map (λ j. due_cells (due_of j)) rest) after → IsLeft (may_be_called rows at) (limit before) (dues before) → dues before ≡ walk rows seen at
-      → dues after ≡ walk rows (seen ++ rest) at
-  walked_on law rows at seen [] before after h free is = ap dues (sym h) ∙ is ∙ ap (λ l. walk rows l at) (sym (append-nil seen))
-  walked_on law rows at seen (j ∷ rest) before after h free is =
+  pub walked_on : More → (rows : List SystemRow) (at : Moment) (seen rest : List JobHead) (before after : X) → AreInOrder (seen ++ rest) → Took Walked before (map (λ j. due_cells (due_of j)) rest) after
+      → IsLeft (may_be_called rows at) (limit before) (dues before) → AreDue rows seen at (dues before) → AreDue rows (seen ++ rest) at (dues after)
+  walked_on more rows at seen [] before after order h free due = subst (λ l. AreDue rows l at (dues after)) (sym (append-nil seen)) (subst (λ x. AreDue rows seen at (dues x)) h due)
+  walked_on more rows at seen (j ∷ rest) before after order h free due =
       let one = h.1 (may_be_called rows at) (due_of j) refl free in
-      walked_on law rows at (seen ++ j ∷ []) rest h.0 after h.2 one.0 (one.1 ∙ ap (λ d. with_next rows at d j) is ∙ sym (law rows at seen j)) ∙ ap (λ l. walk rows l at) (append_assoc seen (j ∷ []) rest)
+      let placed : AreInOrder ((seen ++ j ∷ []) ++ rest) = subst AreInOrder (sym (append_assoc seen (j ∷ []) rest)) order in
+      let next : AreDue rows (seen ++ j ∷ []) at (dues h.0) = subst (AreDue rows (seen ++ j ∷ []) at) (sym one.1) (more rows at seen j (dues before) (in_front (seen ++ j ∷ []) rest placed) due) in
+      subst (λ l. AreDue rows l at (dues after)) (append_assoc seen (j ∷ []) rest) (walked_on more rows at (seen ++ j ∷ []) rest h.0 after placed h.2 one.0 next)
 
 -- ---- the jobs by grade and number
 
@@ -164,18 +177,19 @@ due_rows old new s rows of h =
     ∙ ap (λ l. map (λ j. due_cells (due_of j)) (by_grade l)) (all_pass (map head_of s.jobs))
 
 module _ {X : Type 0} (limit : X → List ℕ → Option ℕ) (dues : X → List Due)
-    (law : (rows : List SystemRow) (at : Moment) (jobs : List JobHead) (job : JobHead) → walk rows (jobs ++ job ∷ []) at ≡ with_next rows at (walk rows jobs at) job)
-    (start : (rows : List SystemRow) (at : Moment) → walk rows [] at ≡ [])
-    (lists : (rows : List SystemRow) (at : Moment) (jobs ordered : List JobHead) → IsPermutation jobs ordered → AreInOrder ordered → AreDue rows jobs at (walk rows ordered at)) where
+    (none : (rows : List SystemRow) (at : Moment) → AreDue rows [] at [])
+    (more : More)
+    (any_order : (rows : List SystemRow) (at : Moment) (jobs ordered : List JobHead) (dues : List Due) → IsPermutation jobs ordered → AreDue rows ordered at dues → AreDue rows jobs at dues) where
   and-not : (b : Bool) → b ≡ (b && true)
   and-not true = refl
   and-not false = refl
 
   pub are_due : (old new : db.State) (s : State) (shown : List Row) (before after : X) → IsOf s old → db.Shown due_jobs_text [] old new shown → Took (Walked limit dues) before shown after → dues before ≡ []
       → (rows : List SystemRow) (at : Moment) → ((name : List ℕ) (grade : ℕ) → is_within (limit before name) grade ≡ may_be_called rows at name grade) → AreDue rows (map head_of s.jobs) at (dues after)
-  are_due old new s shown before after of h took none rows at callable =
-      let ordered = by_grade (map head_of s.jobs) in
-      let left : IsLeft (may_be_called rows at) (limit before) (dues before) = λ name grade. callable name grade ∙ and-not (may_be_called rows at name grade) ∙ ap (λ l. may_be_called rows at name grade && not (is_listed l name)) (sym none) in
+  are_due old new s shown before after of h took start rows at callable =
+      let heads = map head_of s.jobs in
+      let ordered = by_grade heads in
+      let left : IsLeft (may_be_called rows at) (limit before) (dues before) = λ name grade. callable name grade ∙ and-not (may_be_called rows at name grade) ∙ ap (λ l. may_be_called rows at name grade && not (is_listed l name)) (sym start) in
       let went = subst (λ rs. Took (Walked limit dues) before rs after) (due_rows old new s shown of h) took in
-      let all : dues after ≡ walk rows ordered at = walked_on limit dues law rows at [] ordered before after went left (none ∙ sym (start rows at)) in
-      subst (AreDue rows (map head_of s.jobs) at) (sym all) (lists rows at (map head_of s.jobs) ordered (IsPermutation-sym _ _ (IsPermutation-sort_by by_rank ranks_total (map head_of s.jobs))) (in_order s of.good))
+      any_order rows at heads ordered (dues after) (IsPermutation-sym _ _ (IsPermutation-sort_by by_rank ranks_total heads))
+      (walked_on limit dues more rows at [] ordered before after (in_order s of.good) went left (subst (AreDue rows [] at) (sym start) (none rows at)))

@@ -25,7 +25,7 @@ use std::alloc::{AllocError, Global};
 use std::collections::BTreeMap;
 use uu_core::Due;
 use uu_core::callable::is_free;
-use uu_core::laws::{walks_go_job_by_job, walks_list_what_is_due};
+use uu_core::laws::dues_are_found_job_by_job;
 use uu_names::{Grade, SiteName};
 use uu_rows::{RowFault, grade_in, name_in, number_in, or_error};
 use uu_times::Moment;
@@ -96,8 +96,7 @@ fn due_within<S: Alter>(
         → ((name : List ℕ) (grade : ℕ) → is_within (get (slice_cmp nat_cmp) limits name) grade ≡ may_be_called rows at name grade)
         → AreDue rows (map head_of s.jobs) at dues.items) (state S.Store conn.old) (state S.Store conn.new) result }
 {
-    walks_go_job_by_job();
-    walks_list_what_is_due();
+    dues_are_found_job_by_job();
     let mut walk = DueWalk {
         alloc,
         left: limits,

@@ -20,7 +20,7 @@ use Rattle.uu_core.specs.declared.job.NewJob.{NewJob}
 use Rattle.uu_core.specs.declared.refusal.Refusal.TheVariants.{TooLarge, NoSystem, NumbersOut, Stale, Differs}
 use Rattle.uu_core.specs.Refusal.{first_reason}
 use Rattle.uu_core.specs.State.{State, Link, IsWellFormed, is_link, is_taken, new_link, link_of, says_nothing, same_text}
-use Rattle.uu_core.specs.Verdict.{taken_of, fresh_reasons, once_refusal}
+use Rattle.uu_core.specs.Verdict.{taken_of, fresh_reasons, once_reasons}
 use Rattle.uu_core.specs.After.{accept, put_by, put_link, with_taken, with_key, with_job, forgotten, hand_in_of}
 use Rattle.uu_tables.specs.declared.rows.TakenColumns.{TakenColumns}
 use Rattle.uu_tables.specs.Tables.{tables_of, links_from, links_of, taken_columns, taken_rows}
@@ -309,7 +309,7 @@ forgets s good name below first = λ i. record (tables_of s) { links = links_cha
 -- ---- what is decided on a key
 
 -- a job that comes for the first time is accepted only where none was taken under its number
-pub first_is : (known : Bool) (next below : ℕ) (taken : Option Taken) (key : Key) (job : NewJob) (number : ℕ) → hand_in_of taken key next ≡ First number → once_refusal known next below taken key job ≡ None → (taken ≡ None) × (next ≡ number)
+pub first_is : (known : Bool) (next below : ℕ) (taken : Option Taken) (key : Key) (job : NewJob) (number : ℕ) → hand_in_of taken key next ≡ First number → first_reason (once_reasons known next below taken key job) ≡ None → (taken ≡ None) × (next ≡ number)
 first_is known next below None key job number e none = (refl, cc)
 first_is known next below (Some taken) key job number e none = by_test (taken.mark == key.mark) e none
   where

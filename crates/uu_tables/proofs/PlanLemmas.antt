@@ -1,9 +1,9 @@
 -- Plans of commands that are accepted and of those that are refused.
-use Rattle.std.proofs.Common.{◌≡◌, List, [], ◌∷◌, ◌++◌, Option, Some, None, Result, Ok, Err, IfOk, refl, sym, ap, ◌∙◌}
+use Rattle.std.proofs.Common.{◌≡◌, Bool, List, [], ◌∷◌, ◌++◌, Option, Some, None, Result, Ok, Err, IfOk, refl, sym, ap, ◌∙◌}
 use Rattle.uu_core.specs.declared.command.Command.{Command}
 use Rattle.uu_core.specs.declared.command.Reply.TheVariants.{Refused}
 use Rattle.uu_core.specs.declared.refusal.Refusal.{Refusal}
-use Rattle.uu_core.specs.Refusal.{decided}
+use Rattle.uu_core.specs.Refusal.{first_reason, value_unless, decided}
 use Rattle.uu_core.specs.State.{State}
 use Rattle.uu_core.specs.Verdict.{verdict}
 use Rattle.uu_core.specs.After.{accept, reply_to}
@@ -15,13 +15,19 @@ use Rattle.uu_tables.specs.Plans.{IsPlan}
 
 -- ---- what a decision says
 
-pub when_accepted : {V : Type 0} (o : Option Refusal) (value given : V) → decided o value ≡ Ok given → (o ≡ None) × (value ≡ given)
-when_accepted None value given h = (refl, cc)
-when_accepted (Some refusal) value given h = absurd (cc)
+pub when_accepted : {V : Type 0} (reasons : List (Bool × Refusal)) (value given : V) → decided reasons value ≡ Ok given → (first_reason reasons ≡ None) × (value ≡ given)
+when_accepted {V} reasons value given h = by_first (first_reason reasons) h
+  where
+    by_first : (o : Option Refusal) → value_unless o value ≡ Ok given → (o ≡ None) × (value ≡ given)
+    by_first None h = (refl, cc)
+    by_first (Some refusal) h = absurd (cc)
 
-pub when_refused : {V : Type 0} (o : Option Refusal) (value : V) (refusal : Refusal) → decided o value ≡ Err refusal → o ≡ Some refusal
-when_refused None value refusal h = absurd (cc)
-when_refused (Some other) value refusal h = cc
+pub when_refused : {V : Type 0} (reasons : List (Bool × Refusal)) (value : V) (refusal : Refusal) → decided reasons value ≡ Err refusal → first_reason reasons ≡ Some refusal
+when_refused {V} reasons value refusal h = by_first (first_reason reasons) h
+  where
+    by_first : (o : Option Refusal) → value_unless o value ≡ Err refusal → o ≡ Some refusal
+    by_first None h = absurd (cc)
+    by_first (Some other) h = cc
 
 -- ---- any command
 

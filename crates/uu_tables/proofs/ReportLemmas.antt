@@ -11,8 +11,8 @@ use Rattle.uu_core.specs.declared.system.CallState.{CallState}
 use Rattle.uu_core.specs.declared.system.SystemRow.{SystemRow}
 use Rattle.uu_core.specs.declared.refusal.Refusal.TheVariants.{NoSystem, TooLarge, NoJob, JobTwice, OtherSystem}
 use Rattle.uu_core.specs.declared.job.JobHead.{JobHead}
-use Rattle.uu_core.specs.Refusal.{first_reason, decided}
-use Rattle.uu_core.specs.Verdict.{verdict, done_refusal, is_missing_one, has_repeat, has_other}
+use Rattle.uu_core.specs.Refusal.{first_reason, value_unless, decided}
+use Rattle.uu_core.specs.Verdict.{verdict, done_reasons, is_missing_one, has_repeat, has_other}
 use Rattle.uu_core.specs.State.{State, Job, head_of, is_system, system_at, has_system, most_wait}
 use Rattle.uu_core.specs.Waiting.{one_more}
 use Rattle.uu_core.specs.After.{accept, failed_call, failed_decision, done_call, done_call_of, is_among}
@@ -127,13 +127,16 @@ failed_is_refused s name at why o refusal facts decided =
 -- ---- what is decided on a call that went well
 
 -- its wait is a year at most
-pub success_wait_is_within : (o : Option SystemRow) (at : Moment) (result : Result CallState Refusal) (refusal : Option Refusal) → result ≡ decided refusal (done_call_of o at) → IfSome o (λ row. row.def.success_wait ≤ most_wait) → IfOk result (λ call. call.wait ≤ most_wait)
-success_wait_is_within None at result None is within = rw is (omega arith)
-success_wait_is_within (Some row) at result None is within = rw is within
-success_wait_is_within o at result (Some refusal) is within = rw is tt
+pub success_wait_is_within : (o : Option SystemRow) (at : Moment) (result : Result CallState Refusal) (reasons : List (Bool × Refusal)) → result ≡ decided reasons (done_call_of o at) → IfSome o (λ row. row.def.success_wait ≤ most_wait) → IfOk result (λ call. call.wait ≤ most_wait)
+success_wait_is_within o at result reasons is within = by_first o (first_reason reasons) is within
+  where
+    by_first : (o : Option SystemRow) (refusal : Option Refusal) → result ≡ value_unless refusal (done_call_of o at) → IfSome o (λ row. row.def.success_wait ≤ most_wait) → IfOk result (λ call. call.wait ≤ most_wait)
+    by_first None None is within = rw is (omega arith)
+    by_first (Some row) None is within = rw is within
+    by_first o (Some refusal) is within = rw is tt
 
 -- where it is accepted, the system is known, and its calls are those
-pub done_is_found : (o : Option SystemRow) (at : Moment) (call : CallState) (name : List ℕ) (numbers : List ℕ) (heads : List JobHead) → done_refusal (is_some o) name numbers heads ≡ None → done_call_of o at ≡ call → (row : SystemRow) × (o ≡ Some row) × (done_call row at ≡ call)
+pub done_is_found : (o : Option SystemRow) (at : Moment) (call : CallState) (name : List ℕ) (numbers : List ℕ) (heads : List JobHead) → first_reason (done_reasons (is_some o) name numbers heads) ≡ None → done_call_of o at ≡ call → (row : SystemRow) × (o ≡ Some row) × (done_call row at ≡ call)
 done_is_found None at call name numbers heads none is = absurd (no_none (nat_lt 256 (length numbers)) none)
   where
     no_none : (many : Bool) → first_reason ((many, TooLarge) ∷ (true, NoSystem) ∷ (is_missing_one numbers heads, NoJob) ∷ (has_repeat numbers, JobTwice) ∷ (has_other name numbers heads, OtherSystem) ∷ []) ≡ None → ⊥

@@ -7,7 +7,7 @@ use Rattle.uu_times.specs.declared.days.Days.{Days}
 use Rattle.uu_times.specs.declared.days.Simple.{Simple}
 use Rattle.uu_times.specs.declared.scan.Found.{Found}
 use Rattle.uu_times.specs.declared.scan.Place.{Place}
-use Rattle.uu_times.specs.declared.scan.Place.TheVariants.{Start, Letter, An, Named, From, Dash, To, Whole}
+use Rattle.uu_times.specs.declared.scan.Place.TheVariants.{Start, Letter, LettersAn, Named, From, Dash, To, Whole}
 use Rattle.uu_times.specs.Days.{spans, in_hours}
 use Rattle.uu_times.specs.Grammar.{DayWord, word_days, Spelling, Spells, bounds_of, has_spelled, IsLongestFront, is_separator, lower}
 use Rattle.uu_times.specs.Internal.Simples.{no_days, with_days, has_day, has_minute, two_letters, days_of, simple_of}
@@ -26,7 +26,7 @@ pub data IsUnit : ℕ → Type 0 where
 abbrev pub Live : Place → Type 0
 Live Start = Unit {0}
 Live (Letter days first) = list_any (λ letter. nat_eq letter first) (115 ∷ 109 ∷ 116 ∷ 119 ∷ 102 ∷ 97 ∷ []) ≡ true
-Live (An days) = Unit {0}
+Live (LettersAn days) = Unit {0}
 Live (Named days) = Unit {0}
 Live (From days counts digits) = IsUnit counts × (is_time digits ≡ true)
 Live (Dash days start) = Unit {0}
@@ -69,9 +69,9 @@ live-start days counts digits letter is =
 live-next : (place : Place) (letter : ℕ) → Live place → IfSome (next_place place letter) Live
 live-next Start letter live = live-first no_days letter
 live-next (Letter days first) letter live =
-    cond_both (nat_eq first 97 && nat_eq letter 110) (Some (An days)) (option_map (λ more. Named (with_days days more)) (two_letters first letter)) (λ o. IfSome o Live)
+    cond_both (nat_eq first 97 && nat_eq letter 110) (Some (LettersAn days)) (option_map (λ more. Named (with_days days more)) (two_letters first letter)) (λ o. IfSome o Live)
     (λ yes. tt) (λ no. live-named (two_letters first letter) (λ more. with_days days more))
-live-next (An days) letter live = guarded (nat_eq letter 121) (Named (with_days days (0, 6))) Live (λ e. tt)
+live-next (LettersAn days) letter live = guarded (nat_eq letter 121) (Named (with_days days (0, 6))) Live (λ e. tt)
 live-next (Named days) letter live =
     cond_both (is_ascii_digit letter) (start_digit days 1000 0 letter) (first_letter days letter) (λ o. IfSome o Live)
     (λ digit. live-start days 1000 0 letter thousand) (λ other. live-first days letter)
@@ -148,13 +148,13 @@ ends-word days first letter more plain leads =
     let ends = ends-named (with_days days more) in
     (letter ∷ ends.0, ends.1, scan-next (Letter days first) (Named (with_days days more)) letter ends.0 ends.1 plain leads ends.2)
 
-ends-an : (days : Days) → Ends (An days)
+ends-an : (days : Days) → Ends (LettersAn days)
 ends-an days =
     let ends = ends-named (with_days days (0, 6)) in
-    (121 ∷ ends.0, ends.1, scan-next (An days) (Named (with_days days (0, 6))) 121 ends.0 ends.1 refl refl ends.2)
+    (121 ∷ ends.0, ends.1, scan-next (LettersAn days) (Named (with_days days (0, 6))) 121 ends.0 ends.1 refl refl ends.2)
 
 ends-a : (days : Days) → Ends (Letter days 97)
-ends-a days = let ends = ends-an days in (110 ∷ ends.0, ends.1, scan-next (Letter days 97) (An days) 110 ends.0 ends.1 refl refl ends.2)
+ends-a days = let ends = ends-an days in (110 ∷ ends.0, ends.1, scan-next (Letter days 97) (LettersAn days) 110 ends.0 ends.1 refl refl ends.2)
 
 at-letter : (days : Days) (letter first : ℕ) → nat_eq letter first ≡ true → Ends (Letter days letter) → Ends (Letter days first)
 at-letter days letter first same ends = subst (λ (l : ℕ). Ends (Letter days l)) (eqb-true letter first same) ends
@@ -191,7 +191,7 @@ ends-start =
 ends-any : (place : Place) → Live place → Ends place
 ends-any Start live = ends-start
 ends-any (Letter days first) live = ends-letter days first live
-ends-any (An days) live = ends-an days
+ends-any (LettersAn days) live = ends-an days
 ends-any (Named days) live = ends-named days
 ends-any (From days counts digits) live = ends-from days counts digits live.0 live.1
 ends-any (Dash days start) live = ends-dash days start

@@ -8,7 +8,7 @@ use Rattle.uu_times.specs.declared.days.Days.{Days}
 use Rattle.uu_times.specs.declared.days.Simple.{Simple}
 use Rattle.uu_times.specs.declared.scan.Found.{Found}
 use Rattle.uu_times.specs.declared.scan.Place.{Place}
-use Rattle.uu_times.specs.declared.scan.Place.TheVariants.{Start, Letter, An, Named, From, Dash, To, Whole}
+use Rattle.uu_times.specs.declared.scan.Place.TheVariants.{Start, Letter, LettersAn, Named, From, Dash, To, Whole}
 use Rattle.uu_times.specs.Internal.Simples.{no_days, with_days, two_letters, days_of, simple_of}
 use Rattle.uu_times.specs.Grammar.{DayWord, su, mo, tu, we, th, fr, sa, wk, any, word_text, word_days, Hours, Spelling, two_digits, hours_text, spelled, IsTime, IsEnd, AreHours, IsSpelling, Spells, bounds_of, is_separator}
 use Rattle.uu_times.specs.Internal.Scan.{is_time, is_end, more_digits, start_digit, end_digit, first_letter, second_letter, next_place, simple_at, after, ending, going_on, scan}
@@ -138,7 +138,7 @@ pub data Digits : ℕ → ℕ → List ℕ → Type 0 where
 abbrev pub Pending : Place → List ℕ → Type 0
 Pending Start text = text ≡ []
 Pending (Letter days first) text = (front : List ℕ) × Words days front × (text ≡ front ++ first ∷ [])
-Pending (An days) text = (front : List ℕ) × Words days front × (text ≡ front ++ 97 ∷ 110 ∷ [])
+Pending (LettersAn days) text = (front : List ℕ) × Words days front × (text ≡ front ++ 97 ∷ 110 ∷ [])
 Pending (Named days) text = Named' days text
 Pending (From days unit digits) text = (front part : List ℕ) × Named' days front × Digits unit digits part × (text ≡ front ++ part)
 Pending (Dash days start) text = (front part : List ℕ) × Named' days front × Clock IsTime start part × (text ≡ front ++ part)
@@ -189,8 +189,8 @@ step-second : (days : Days) (first letter : ℕ) (text front : List ℕ) (next :
     → Pending next (text ++ letter ∷ [])
 step-second days first letter text front next words is same =
     let whole : text ++ letter ∷ [] ≡ front ++ first ∷ letter ∷ [] = ap (λ t. t ++ letter ∷ []) is ∙ append_assoc front (first ∷ []) (letter ∷ []) in
-    elim (choice (nat_eq first 97 && nat_eq letter 110) (An days) next (option_map (λ more. Named (with_days days more)) (two_letters first letter)) same) [
-      | inl an ↦ there (An days) next (text ++ letter ∷ []) an.1 (front, words, whole ∙ ap (λ t. front ++ t) (sym (both first letter 97 110 an.0)))
+    elim (choice (nat_eq first 97 && nat_eq letter 110) (LettersAn days) next (option_map (λ more. Named (with_days days more)) (two_letters first letter)) same) [
+      | inl an ↦ there (LettersAn days) next (text ++ letter ∷ []) an.1 (front, words, whole ∙ ap (λ t. front ++ t) (sym (both first letter 97 110 an.0)))
       | inr later ↦
           let found = mapped (λ (more : ℕ × ℕ). Named (with_days days more)) (two_letters first letter) next later in
           let word = two-word first letter found.0 found.1 in
@@ -282,7 +282,7 @@ step-next : (place next : Place) (letter : ℕ) (text : List ℕ) → next_place
 step-next Start next letter text same pending =
     step-first no_days text letter next (subst (Words no_days) (sym pending) no-words) same
 step-next (Letter days first) next letter text same (front, words, is) = step-second days first letter text front next words is same
-step-next (An days) next letter text same (front, words, is) =
+step-next (LettersAn days) next letter text same (front, words, is) =
     let passed = guard-passed (nat_eq letter 121) (Named (with_days days (0, 6))) next same in
     there (Named (with_days days (0, 6))) next (text ++ letter ∷ []) passed.1
     (subst (λ (t : List ℕ). Named' (with_days days (0, 6)) t)
@@ -331,7 +331,7 @@ ended-with days hours front text simple are words is same = record {
 ends-at : (place : Place) (text : List ℕ) (simple : Simple) → Pending place text → simple_at place ≡ Some simple → Ended text simple
 ends-at Start text simple pending same = absurd (none-some simple None refl same)
 ends-at (Letter days first) text simple pending same = absurd (none-some simple None refl same)
-ends-at (An days) text simple pending same = absurd (none-some simple None refl same)
+ends-at (LettersAn days) text simple pending same = absurd (none-some simple None refl same)
 ends-at (Named days) text simple pending same = ended-with days None text text simple tt pending (sym (append-nil text)) same
 ends-at (From days unit digits) text simple pending same = absurd (none-some simple None refl same)
 ends-at (Dash days start) text simple pending same = absurd (none-some simple None refl same)

@@ -9,7 +9,7 @@ use Rattle.uu_times.specs.declared.days.Days.{Days}
 use Rattle.uu_times.specs.declared.days.Simple.{Simple}
 use Rattle.uu_times.specs.declared.scan.Found.{Found}
 use Rattle.uu_times.specs.declared.scan.Place.{Place}
-use Rattle.uu_times.specs.declared.scan.Place.TheVariants.{Start, Letter, An, Named, From, Dash, To, Whole}
+use Rattle.uu_times.specs.declared.scan.Place.TheVariants.{Start, Letter, LettersAn, Named, From, Dash, To, Whole}
 use Rattle.uu_times.specs.Internal.Scan.{is_time, is_end, minute_of, last_minute, first_letter, second_letter, more_digits, start_digit, next_place, simple_at, after, step, ending, going_on, scan, list_of}
 use Rattle.uu_times.specs.Grammar.{is_separator, lower}
 use Rattle.uu_times.specs.Internal.Simples.{no_days, with_days, two_letters}
@@ -19,7 +19,7 @@ use Rattle.uu_times.specs.Internal.Union.{IsDaily}
 abbrev pub HasTimes : Place → Type 0
 HasTimes Start = Unit {0}
 HasTimes (Letter days first) = Unit {0}
-HasTimes (An days) = Unit {0}
+HasTimes (LettersAn days) = Unit {0}
 HasTimes (Named days) = Unit {0}
 HasTimes (From days unit digits) = Unit {0}
 HasTimes (Dash days start) = is_time start ≡ true
@@ -40,7 +40,7 @@ times-map days (Some more) f = tt
 
 times-second : (days : Days) (first letter : ℕ) → IfSome (second_letter days first letter) HasTimes
 times-second days first letter =
-    cond_both (nat_eq first (byte "a") && nat_eq letter (byte "n")) (Some (An days)) (option_map (λ more. Named (with_days days more)) (two_letters first letter)) (λ o. IfSome o HasTimes)
+    cond_both (nat_eq first (byte "a") && nat_eq letter (byte "n")) (Some (LettersAn days)) (option_map (λ more. Named (with_days days more)) (two_letters first letter)) (λ o. IfSome o HasTimes)
     (λ yes. tt) (λ no. times-map days (two_letters first letter) (λ more. with_days days more))
 
 times-start_digits : (days : Days) (unit : ℕ) (found : Option ℕ)
@@ -61,7 +61,7 @@ times-end_digits days start unit (Some more) begins =
 times-next : (place : Place) (letter : ℕ) → HasTimes place → IfSome (next_place place letter) HasTimes
 times-next Start letter has = times-first no_days letter
 times-next (Letter days first) letter has = times-second days first letter
-times-next (An days) letter has = guarded (nat_eq letter (byte "y")) (Named (with_days days (0, 6))) HasTimes (λ e. tt)
+times-next (LettersAn days) letter has = guarded (nat_eq letter (byte "y")) (Named (with_days days (0, 6))) HasTimes (λ e. tt)
 times-next (Named days) letter has =
     cond_both (is_ascii_digit letter) (start_digit days 1000 0 letter) (first_letter days letter) (λ o. IfSome o HasTimes)
     (λ digit. times-start_digits days 1000 (more_digits 1000 0 letter)) (λ other. times-first days letter)
@@ -89,7 +89,7 @@ minute-end digits is =
 daily-at : (place : Place) → HasTimes place → IfSome (simple_at place) IsDaily
 daily-at Start has = tt
 daily-at (Letter days first) has = tt
-daily-at (An days) has = tt
+daily-at (LettersAn days) has = tt
 daily-at (Named days) has = tt
 daily-at (From days unit digits) has = tt
 daily-at (Dash days start) has = tt

@@ -1,4 +1,4 @@
-//! Laws of the definitions that the contracts cite.
+//! Laws of the definitions that the contracts cite, and what the types see to.
 ghost use Rattle.std.specs.Prelude.{◌≡◌, ◌<◌, ◌≤◌, [], ◌∷◌, length, ℕ, ℤ, pos, Bool, List, None, Some, Ok, Err, All, IsTrue, IfOk, IfErr, map, if◌then◌else◌};
 ghost use Rattle.std.specs.List.{filter_map, last_or};
 ghost use Rattle.uu_times.specs.Internal.Simples.{has_minute, simple_of};
@@ -13,12 +13,14 @@ ghost use Rattle.jiff_tz.specs.PosixText.{DstText};
 ghost use Rattle.uu_times.specs.Rule.{ChangesInside, HasDay, IsOfYear, IsOneDay, is_daylight};
 ghost use Rattle.uu_times.specs.Printed.{sys_text, system_text, IsSystem, NamesDiffer};
 ghost use Rattle.uu_times.specs.SysFile.{sys_file_of};
-ghost use Rattle.uu_times.specs.System.{System};
+ghost use Rattle.uu_times.specs.System.{System, AreWithinLimits};
 ghost use Rattle.uu_names.specs.Text.{most_text};
 ghost use Rattle.uu_times.specs.Zone.{offset_at, said};
 ghost use Rattle.uu_times.specs.declared.days.Simple.{Simple};
 ghost use Rattle.uu_times.specs.declared.zone.Zone.{Zone};
 ghost use Rattle.uu_times.specs.declared.directive.Directive.{Directive};
+
+use crate::{SystemDef, Windows};
 
 /// A set of week minutes is the union of its maximal runs, which are in order and apart; and a list
 /// that [`Windows::from_ranges`](crate::Windows::from_ranges) accepts is the list of the maximal
@@ -85,3 +87,17 @@ pub fn printed_systems_are_read()
     ensures read { (systems : List System) → All IsSystem systems → NamesDiffer systems → sys_file_of (sys_text systems) ≡ Ok (record { systems = systems; skipped = [] }) }
     ensures short { (system : System) → IsSystem system → length (sys_text (system ∷ [])) ≤ most_text }
 {}
+
+/// A value of type [`Windows`] is a list of runs, in order and apart.
+pub fn windows_are_sound(windows: &Windows)
+    ensures { AreRuns windows.now }
+{
+    windows.ranges();
+}
+
+/// The lines and numbers of a definition are within their limits.
+pub fn limits_are_kept(def: &SystemDef)
+    ensures { AreWithinLimits def.now.lines def.now.max_retries def.now.success_wait }
+{
+    def.lines();
+}

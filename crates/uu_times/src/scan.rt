@@ -15,8 +15,8 @@ pub enum Place {
     Start,
     /// Behind the first letter, in lower case, of a day word.
     Letter(Days, u8),
-    /// Behind `an`.
-    An(Days),
+    /// Behind `an`, of `any`.
+    LettersAn(Days),
     /// Behind a day word.
     Named(Days),
     /// Within the time at which the hours begin: what the next digit counts, and the digits so far,
@@ -92,7 +92,7 @@ fn second_letter(days: Days, first: u8, letter: u8) -> Option<Place>
     ensures { result ≡ second_letter days first letter }
 {
     if first == b'a' && letter == b'n' {
-        return Some(Place::An(days));
+        return Some(Place::LettersAn(days));
     }
     let more = two_letters(first, letter)?;
     Some(Place::Named(days.with(more)))
@@ -142,13 +142,13 @@ fn next_place(place: Place, letter: u8) -> Option<Place>
     match place {
         Place::Start => first_letter(NO_DAYS, letter),
         Place::Letter(days, first) => second_letter(days, first, letter),
-        Place::An(days) if letter == b'y' => Some(Place::Named(days.with((0, 6)))),
+        Place::LettersAn(days) if letter == b'y' => Some(Place::Named(days.with((0, 6)))),
         Place::Named(days) if letter.is_ascii_digit() => start_digit(days, 1000, 0, letter),
         Place::Named(days) => first_letter(days, letter),
         Place::From(days, unit, digits) => start_digit(days, unit, digits, letter),
         Place::Dash(days, start) if letter == b'-' => Some(Place::To(days, start, 1000, 0)),
         Place::To(days, start, unit, digits) => end_digit(days, start, unit, digits, letter),
-        Place::An(_) | Place::Dash(_, _) | Place::Whole(_, _, _) => None,
+        Place::LettersAn(_) | Place::Dash(_, _) | Place::Whole(_, _, _) => None,
     }
 }
 

@@ -6,7 +6,7 @@ use Rattle.std.specs.Io.KnownBytes.{Appends, Consumes}
 use Rattle.std.proofs.KnownBytes.{Appends-nil, Appends-trans, Consumes-nil, Consumes-trans}
 use Rattle.std.proofs.lemmas.List.Concat.{flat_map-append}
 use Rattle.sqlite.specs.Store.{Ghosts}
-use Rattle.uu_frame.specs.Frames.{BeginsWithin, IsHead, head_line, request_frame}
+use Rattle.uu_frame.specs.Frames.{BeginsWithHeadWithin, IsHead, head_line, request_frame}
 use Rattle.uu_names.specs.Text.{most_text}
 use Rattle.uu_settings.specs.declared.settings.Settings.{Settings}
 use Rattle.uu_store.specs.declared.spool.Spool.{Spool}
@@ -90,7 +90,7 @@ module _ {S : Type 0} {g : Ghosts S} (settings : Settings) where
 
 -- a request within the limit was read
 pub began_within : (had left : Option (List ℕ)) (words : List (List ℕ)) (input : List ℕ) → IsHead (length input) words → length input ≤ most_text
-    → Consumes had left (request_frame words input) → IfSome had (BeginsWithin most_text)
+    → Consumes had left (request_frame words input) → IfSome had (BeginsWithHeadWithin most_text)
 began_within None left words input head fits read = tt
 began_within (Some bytes) None words input head fits read = absurd read
 began_within (Some bytes) (Some rest) words input head fits read =

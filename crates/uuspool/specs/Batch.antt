@@ -5,7 +5,7 @@ use Rattle.std.specs.List.{AllByRecursion, FoldsTo, flat_map}
 use Rattle.std.specs.String.{string_bytes}
 use Rattle.std.specs.Io.KnownBytes.{Appends, Consumes, IsAtEnd}
 use Rattle.sqlite.specs.Store.{Ghosts}
-use Rattle.uu_frame.specs.Frames.{BeginsWithNoRequest, BeginsWithTooMuch, BeginsWithin, IsHead, IsWithinLine, answer_frame, request_frame}
+use Rattle.uu_frame.specs.Frames.{BeginsWithNoRequest, BeginsWithTooMuch, BeginsWithHeadWithin, IsHead, IsWithinLine, answer_frame, request_frame}
 use Rattle.uu_frame.specs.Writing.{IsBegun}
 use Rattle.uu_names.specs.Text.{most_text}
 use Rattle.uu_settings.specs.declared.settings.Settings.{Settings}
@@ -65,7 +65,7 @@ no_request = named (codes "no request")
 abbrev pub IsOfStream : Option (List ℕ) → Option (List ℕ) → Fault → Type 0
 IsOfStream left rest (fault.Words text help) = (string_bytes text ≡ no_request) × (help ≡ false) × IfSome left BeginsWithNoRequest
 IsOfStream left rest fault.Input = IfSome left (BeginsWithTooMuch most_text)
-IsOfStream left rest fault.Read = IsWithinLine left rest ⊎ IfSome left (BeginsWithin most_text)
+IsOfStream left rest fault.Read = IsWithinLine left rest ⊎ IfSome left (BeginsWithHeadWithin most_text)
 IsOfStream left rest fault.Memory = ⊤
 IsOfStream left rest _ = ⊥
 

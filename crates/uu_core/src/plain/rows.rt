@@ -3,7 +3,7 @@ ghost use Rattle.std.specs.Prelude.{◌≡◌, ℕ, List, ◌==◌, ◌&&◌, no
 ghost use Rattle.std.specs.List.{list_any};
 ghost use Rattle.uu_core.specs.Refusal.{decided};
 ghost use Rattle.uu_core.specs.State.{is_job, is_system, is_entry, is_link, same_text, head_of};
-ghost use Rattle.uu_core.specs.Verdict.{job_refusal};
+ghost use Rattle.uu_core.specs.Verdict.{job_reasons};
 ghost use Rattle.uu_core.specs.After.{put_by, put_link, call_of, change_call, change_job, is_among};
 ghost use Rattle.uu_core.specs.Plain.{AreByName};
 
@@ -59,7 +59,7 @@ pub(super) fn entry_at<'a>(entries: &'a [PlainEntry], host: &SiteName) -> Option
 
 // Whether the job of a number, if there is one, may be touched.
 pub(super) fn decide_on(jobs: &[PlainJob], number: u32, by: &By) -> Result<(), Refusal>
-    ensures { result ≡ decided (job_refusal (option_map head_of (find (is_job number) jobs.now)) by.now) tt }
+    ensures { result ≡ decided (job_reasons (option_map head_of (find (is_job number) jobs.now)) by.now) tt }
 {
     decide_job(job_at(jobs, number).map(|job| job.head()), by)
 }

@@ -4,7 +4,7 @@ ghost use Rattle.uu_core.specs.declared.command.Command.TheVariants.{Failed, Don
 ghost use Rattle.uu_core.specs.State.{State, IsWellFormed, last_second, most_wait};
 ghost use Rattle.uu_core.specs.declared.job.JobHead.{JobHead};
 ghost use Rattle.uu_core.specs.Refusal.{decided};
-ghost use Rattle.uu_core.specs.Verdict.{done_refusal};
+ghost use Rattle.uu_core.specs.Verdict.{done_reasons};
 ghost use Rattle.uu_core.specs.Laws.{AreFound};
 ghost use Rattle.uu_core.specs.After.{failed_decision, done_call_of};
 ghost use Rattle.uu_tables.specs.Tables.{Tables, call_columns, outcome_number, reason_of};
@@ -102,7 +102,7 @@ fn done_call(
 ) -> Result<CallState, Refusal>
     ensures last { IfOk result (λ call. call.last ≤ last_second) }
     ensures wait { IfOk result (λ call. call.wait ≤ most_wait) }
-    ensures call { (all : List JobHead) → AreFound jobs.now all found.now → result ≡ decided (done_refusal (is_some (option_copied row.entry)) system.now jobs.now all) (done_call_of (option_copied row.entry) at.now) }
+    ensures call { (all : List JobHead) → AreFound jobs.now all found.now → result ≡ decided (done_reasons (is_some (option_copied row.entry)) system.now jobs.now all) (done_call_of (option_copied row.entry) at.now) }
 {
     named_jobs_decide();
     if let Some(row) = row {

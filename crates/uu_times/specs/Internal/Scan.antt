@@ -8,7 +8,7 @@ use Rattle.uu_times.specs.declared.days.Days.{Days}
 use Rattle.uu_times.specs.declared.days.Simple.{Simple}
 use Rattle.uu_times.specs.declared.scan.Place.{Place}
 use Rattle.uu_times.specs.declared.scan.Found.{Found}
-use Rattle.uu_times.specs.declared.scan.Place.TheVariants.{Start, Letter, An, Named, From, Dash, To, Whole}
+use Rattle.uu_times.specs.declared.scan.Place.TheVariants.{Start, Letter, LettersAn, Named, From, Dash, To, Whole}
 use Rattle.uu_times.specs.Internal.Simples.{no_days, with_days, two_letters}
 use Rattle.uu_times.specs.Grammar.{is_separator, lower}
 
@@ -35,7 +35,7 @@ first_letter days letter = if list_any (λ first. first == letter) (codes "smtwf
 -- it goes on
 abbrev pub second_letter : Days → ℕ → ℕ → Option Place
 second_letter days first letter =
-    if first == byte "a" && letter == byte "n" then Some (An days)
+    if first == byte "a" && letter == byte "n" then Some (LettersAn days)
     else option_map (λ more. Named (with_days days more)) (two_letters first letter)
 
 -- the digits of a time with one more, which counts so many times its value
@@ -60,7 +60,7 @@ end_digit days start unit digits letter =
 abbrev pub next_place : Place → ℕ → Option Place
 next_place Start letter = first_letter no_days letter
 next_place (Letter days first) letter = second_letter days first letter
-next_place (An days) letter = if letter == byte "y" then Some (Named (with_days days (0, 6))) else None
+next_place (LettersAn days) letter = if letter == byte "y" then Some (Named (with_days days (0, 6))) else None
 next_place (Named days) letter = if is_ascii_digit letter then start_digit days 1000 0 letter else first_letter days letter
 next_place (From days unit digits) letter = start_digit days unit digits letter
 next_place (Dash days start) letter = if letter == byte "-" then Some (To days start 1000 0) else None
@@ -73,7 +73,7 @@ simple_at (Named days) = Some (record { days = days; hours = None })
 simple_at (Whole days start end) = Some (record { days = days; hours = Some (minute_of start, last_minute end) })
 simple_at Start = None
 simple_at (Letter days first) = None
-simple_at (An days) = None
+simple_at (LettersAn days) = None
 simple_at (From days unit digits) = None
 simple_at (Dash days start) = None
 simple_at (To days start unit digits) = None

@@ -4,8 +4,8 @@ use Rattle.std.specs.BTreeMap.{get}
 use Rattle.std.specs.Cmp.Lexicographic.{slice_cmp, texts_ties}
 use Rattle.std.proofs.lemmas.List.{take_more, drop_all, length-map}
 use Rattle.uu_core.specs.declared.job.JobHead.{JobHead}
-use Rattle.uu_core.specs.Due.{is_within, may_be_called, may_go, is_next, walk, walk_after, due_of, AreDue, AreInOrder}
-use Rattle.uu_core.proofs.DueLemmas.{is_called_before, free_listed, free_passed, step_listed, step_passed, walk_is_due, map_at, and-left}
+use Rattle.uu_core.specs.Due.{is_within, may_be_called, may_go, due_of, AreDue, AreInOrder}
+use Rattle.uu_core.proofs.DueLemmas.{is_next, walk, walk_after, is_called_before, free_listed, free_passed, step_listed, step_passed, walk_is_due, map_at, and-left}
 use Rattle.uu_core.proofs.due.choose.Goals as goal
 use Rattle.uu_core.proofs.due.choose.Goals.{then-is_free+in_ok-list, else-is_free}
 

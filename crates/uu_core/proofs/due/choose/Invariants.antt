@@ -2,8 +2,8 @@ use Rattle.std.proofs.Common.{◌≡◌, ◌++◌, ◌&&◌, ℕ, List, take, dr
 use Rattle.std.specs.Ordering.{nat_cmp}
 use Rattle.std.specs.Cmp.Lexicographic.{slice_cmp}
 use Rattle.std.specs.BTreeMap.{get}
-use Rattle.uu_core.specs.Due.{may_be_called, is_within, walk, walk_after}
-use Rattle.uu_core.proofs.DueLemmas.{is_called_before}
+use Rattle.uu_core.specs.Due.{may_be_called, is_within}
+use Rattle.uu_core.proofs.DueLemmas.{walk, walk_after, is_called_before}
 use Rattle.uu_core.proofs.due.choose.Given as goal
 
 abbrev pub invariant-loop-job : goal.invariant-loop-job

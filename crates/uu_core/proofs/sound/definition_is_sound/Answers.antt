@@ -11,7 +11,7 @@ loop-line-preserved c =
 
 pub returns : goal.returns
 returns c = record {
-  name = subst (λ (def : System). IsTrue (is_site_name def.name)) c.def.view_is c.as_str.ensures.name;
+  name = subst (λ (def : System). IsTrue (is_site_name def.name)) c.def.view_is c.name_is_sound.ensures;
   lines = subst (All IsLine) c.lines-line-items.ensures.value (all_of IsLine c.lines-line-items.result.now c.loop-line.line-index (omega arith) c.loop-line.invariant);
   limits = c.lines-line-items.ensures.within;
 }

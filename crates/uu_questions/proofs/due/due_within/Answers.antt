@@ -20,4 +20,4 @@ returns-clause-answers g c =
     let left = λ (w : DueWalk). get (slice_cmp nat_cmp) w.left in
     let dues = λ (w : DueWalk). w.dues.items in
     walk_answers _ (Walked left dues) due_jobs_text [] a b _ c.walk_rows.new.taker c.walk_rows.result (Ok c.walk_rows.new.taker.dues) c.walk_rows.ensures.walks (λ ok. answered _ _ c.in_ok-walk_rows.was)
-    (λ s of rows shown took. are_due left dues c.walks_go_job_by_job.ensures.step c.walks_go_job_by_job.ensures.start c.walks_list_what_is_due.ensures a b s rows _ c.walk_rows.new.taker of shown took c.new.ensures.items)
+    (λ s of rows shown took. are_due left dues c.dues_are_found_job_by_job.ensures.none c.dues_are_found_job_by_job.ensures.more c.dues_are_found_job_by_job.ensures.any_order a b s rows _ c.walk_rows.new.taker of shown took c.new.ensures.items)

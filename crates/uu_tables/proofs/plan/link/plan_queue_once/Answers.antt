@@ -2,7 +2,7 @@ use Rattle.std.proofs.Common.{◌≡◌, ◌∙◌, None, Ok, sym, ap}
 use Rattle.uu_core.specs.declared.command.Command.TheVariants.{QueueOnce}
 use Rattle.uu_core.specs.declared.command.Reply.TheVariants.{Number}
 use Rattle.uu_core.specs.declared.custody.HandIn.TheVariants.{First, Again}
-use Rattle.uu_core.specs.Verdict.{once_refusal, taken_of}
+use Rattle.uu_core.specs.Verdict.{once_reasons, taken_of}
 use Rattle.uu_core.specs.After.{hand_in_of, hand_in, number_of, take_in}
 use Rattle.uu_tables.specs.Tables.{tables_of}
 use Rattle.uu_tables.specs.Parts.{with_new_job, with_new_key}
@@ -16,7 +16,7 @@ returns-in_ok-changes-in-Ok-First c s good facts =
     let job = c.args.job.now in
     let f = c.args.facts.now in
     let number = c.in-Ok-First.number in
-    let decided = when_accepted (once_refusal f.is_known f.next f.below f.taken key job) (hand_in_of f.taken key f.next) (First number) (sym (ap Ok (sym c.in-Ok-First.field-0-is) ∙ c.in-Ok-First.ensures)) in
+    let decided = when_accepted (once_reasons f.is_known f.next f.below f.taken key job) (hand_in_of f.taken key f.next) (First number) (sym (ap Ok (sym c.in-Ok-First.field-0-is) ∙ c.in-Ok-First.ensures)) in
     let first = first_is f.is_known f.next f.below f.taken key job number decided.1 decided.0 in
     let free : taken_of s key ≡ None = sym facts.3 ∙ first.0 in
     let next : number ≡ s.next = sym first.1 ∙ facts.1 in
@@ -30,7 +30,7 @@ returns-in-Ok-Again c s good facts =
     let job = c.args.job.now in
     let f = c.args.facts.now in
     let number = c.in-Ok-Again.number in
-    let decided = when_accepted (once_refusal f.is_known f.next f.below f.taken key job) (hand_in_of f.taken key f.next) (Again number) (sym (ap Ok (sym c.in-Ok-Again.field-0-is) ∙ c.in-Ok-Again.ensures)) in
+    let decided = when_accepted (once_reasons f.is_known f.next f.below f.taken key job) (hand_in_of f.taken key f.next) (Again number) (sym (ap Ok (sym c.in-Ok-Again.field-0-is) ∙ c.in-Ok-Again.ensures)) in
     let handed : hand_in s key ≡ Again number = rw (facts.1, facts.3) at decided.1 in
     accepts s (QueueOnce key job) _ (rw (facts.0, facts.1, facts.2, facts.3) at decided.0) (c.unchanged.ensures.reply ∙ ap (λ h. Number (number_of h)) (sym handed))
     (rw c.unchanged.ensures.none (ap (λ h. tables_of (take_in h key job s)) (sym handed)))
@@ -40,5 +40,5 @@ returns-in-Err c s good facts =
     let key = c.args.key.now in
     let job = c.args.job.now in
     let f = c.args.facts.now in
-    let some = when_refused (once_refusal f.is_known f.next f.below f.taken key job) (hand_in_of f.taken key f.next) c.in-Err.refusal (sym c.decide_queue_once.ensures ∙ c.in-Err.is) in
+    let some = when_refused (once_reasons f.is_known f.next f.below f.taken key job) (hand_in_of f.taken key f.next) c.in-Err.refusal (sym c.decide_queue_once.ensures ∙ c.in-Err.is) in
     refuses s (QueueOnce key job) _ c.in-Err.refusal (rw (facts.0, facts.1, facts.2, facts.3) at some) c.refused.ensures.reply c.refused.ensures.none

@@ -1,7 +1,7 @@
 use Rattle.std.proofs.Common.{◌∙◌, map, refl, sym, ap, is_some}
 use Rattle.uu_core.specs.declared.command.Command.TheVariants.{Done}
 use Rattle.uu_core.specs.State.{head_of}
-use Rattle.uu_core.specs.Verdict.{done_refusal}
+use Rattle.uu_core.specs.Verdict.{done_reasons}
 use Rattle.uu_core.specs.After.{done_call, done_call_of}
 use Rattle.uu_tables.specs.Tables.{tables_of}
 use Rattle.uu_tables.specs.Changes.{applied}
@@ -19,7 +19,7 @@ returns-in_ok-remove_jobs-in-Ok c s good facts =
     let o = c.args.facts.now.system in
     let heads = map head_of s.jobs in
     let call = rw c.as_ref.ensures.value at (sym (c.done_call.ensures.call heads (rw c.as_slice.ensures.value facts.1)) ∙ c.in-Ok.is) in
-    let decided = when_accepted (done_refusal (is_some o) name numbers heads) (done_call_of o at) c.in-Ok.call call in
+    let decided = when_accepted (done_reasons (is_some o) name numbers heads) (done_call_of o at) c.in-Ok.call call in
     let known = done_is_found o at c.in-Ok.call name numbers heads decided.0 decided.1 in
     let ordered = pairs_by_recursion (before (λ row. row.def.name)) s.systems good.by_name in
     accepts s (Done name at numbers) _ (rw (is_known s name o facts.0) at decided.0) refl (c.in_ok-remove_jobs-in-Ok.ensures (tables_of s)
@@ -35,5 +35,5 @@ returns-in-Err c s good facts =
     let o = c.args.facts.now.system in
     let heads = map head_of s.jobs in
     let call = rw c.as_ref.ensures.value at (sym (c.done_call.ensures.call heads (rw c.as_slice.ensures.value facts.1)) ∙ c.in-Err.is) in
-    let some = when_refused (done_refusal (is_some o) name numbers heads) (done_call_of o at) c.in-Err.refusal call in
+    let some = when_refused (done_reasons (is_some o) name numbers heads) (done_call_of o at) c.in-Err.refusal call in
     refuses s (Done name at numbers) _ c.in-Err.refusal (rw (is_known s name o facts.0) at some) c.refused.ensures.reply c.refused.ensures.none

@@ -2,7 +2,7 @@ use Rattle.std.proofs.Common.{arith, ◌∙◌, ap, map, find, is_some}
 use Rattle.std.specs.Option.{option_copied}
 use Rattle.uu_core.specs.Refusal.{decided}
 use Rattle.uu_core.specs.State.{is_system, head_of}
-use Rattle.uu_core.specs.Verdict.{done_refusal}
+use Rattle.uu_core.specs.Verdict.{done_reasons}
 use Rattle.uu_core.specs.After.{change_call, done_call_of}
 use Rattle.std.specs.Vec.{with_items}
 use Rattle.std.proofs.lemmas.List.{with_items_is}
@@ -19,7 +19,7 @@ returns-in-Ok c =
     c.requires
     (c.system_at-row.ensures ∙ ap (find (is_system name)) c.as_slice-2.ensures.value)
     (c.in_ok-heads.ensures ∙ ap (map head_of) c.as_slice.ensures.value)
-    (c.in-Ok.ensures ∙ ap (λ heads. decided (done_refusal (is_some found) name numbers heads) (done_call_of found c.args.at.now)) c.as_slice-3.ensures.value)
+    (c.in-Ok.ensures ∙ ap (λ heads. decided (done_reasons (is_some found) name numbers heads) (done_call_of found c.args.at.now)) c.as_slice-3.ensures.value)
     c.drop_jobs.ensures
     (with_items_is c.args.self.now.systems c.set_call.new.rows (omega (arith, c.set_call.auto.rows, c.as_mut_slice.ensures.len)) ∙ c.set_call.ensures ∙ ap (change_call name (λ _. c.in-Ok.call)) c.as_mut_slice.ensures.value)
 
@@ -31,4 +31,4 @@ returns c =
     done_refused (state_of c.args.self.now) name c.args.at.now numbers found c.in_ok-heads.heads.items c.in-Err.refusal
     (c.system_at-row.ensures ∙ ap (find (is_system name)) c.as_slice-2.ensures.value)
     (c.in_ok-heads.ensures ∙ ap (map head_of) c.as_slice.ensures.value)
-    (c.in-Err.ensures ∙ ap (λ heads. decided (done_refusal (is_some found) name numbers heads) (done_call_of found c.args.at.now)) c.as_slice-3.ensures.value)
+    (c.in-Err.ensures ∙ ap (λ heads. decided (done_reasons (is_some found) name numbers heads) (done_call_of found c.args.at.now)) c.as_slice-3.ensures.value)
