@@ -13,5 +13,4 @@ pub mod Texts
 pub mod Keeps
 pub mod Made
 pub mod Begun
-pub mod Numbers
 pub mod Resting
