@@ -7,9 +7,10 @@
 #                                   `uuspool show` prints it
 #        CARRIER SYSTEM <JOB        one job
 #
-# With -a it prints `done NUMBER` for each job that left, as soon as that is known, and at the end
-# `failed WHY` where others did not. The status is 0 where all left. A job that is refused has left
-# too: it is kept as refused/NUMBER in the site's folder, on the disk.
+# With -a it prints, as soon as that is known, `done NUMBER` for each job that left and
+# `refused NUMBER WHY` for each that never will be taken, and at the end `failed WHY` where others
+# wait. The status is 75 where one waits, else 0; without -a it is 69 where the job is refused. A
+# refused job is kept first, as refused/NUMBER in the site's folder, on the disk.
 #
 # $UUSPOOL is the program that is asked about the sender's spool, as night-calls names it;
 # $UUSPOOL_DIR the site's folder, else the working directory; $UUSPOOL_FILE the spool's file, else
@@ -73,32 +74,37 @@ tell_sender() {
 
 # Takes each answer as it comes. One about no job of these is none.
 take_answers() {
-    left=" $(printf %s "$numbers" | tr '\n' ' ') " why='' ended=''
+    left=" $(printf %s "$numbers" | tr '\n' ' ') " why='' ended='' status=0
     while read -r answer number reason; do
         case $answer:$left in
-        done:*" $number "*) leave ;;
+        done:*" $number "*) leave 'done' ;;
         refused:*" $number "*)
             complain "job $number refused: $reason"
-            if keep; then leave; else why='a refused job cannot be kept'; fi
+            if keep; then leave refused "$reason"; else why='a refused job cannot be kept'; fi
             ;;
         waits:*" $number "*) why=${why:-$reason} ;;
         failed:*) why=$number${reason:+ $reason} ;;
         ended:*) ended=$number ;;
         esac
     done
-    [ -n "${left# }" ] || return 0
+    [ -n "${left# }" ] || return "$status"
     why=${why:-the line ended with ${ended:-half an answer}}
     complain "$system: $why"
     [ -z "$all" ] || printf 'failed %s\n' "$why"
     return 75
 }
 
+# The job waits no longer, and how it went is told: by a line, or by the status where it is alone.
 leave() {
     left="${left%%" $number "*} ${left#*" $number "}"
-    [ -z "$all" ] || printf 'done %s\n' "$number" || exit 75
+    if [ -n "$all" ]; then
+        printf '%s %s%s\n' "$1" "$number" "${2:+ $2}" || exit 75
+    elif [ "$1" = refused ]; then
+        status=69
+    fi
 }
 
-# What the neighbour refused is on the disk before it leaves the spool.
+# What the neighbour refused is on the disk before it is told of, and killed.
 keep() {
     kept=$site_folder/refused
     mkdir -p -- "$kept" && cp -- "$folder/$number" "$kept/$number" &&

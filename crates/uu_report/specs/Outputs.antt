@@ -4,8 +4,8 @@ use Rattle.std.specs.Prelude.{ℕ, List, [], ◌∷◌, ◌++◌, codes, if◌th
 use Rattle.std.specs.Fmt.{decimal}
 use Rattle.std.specs.List.{flat_map, list_any, zip}
 use Rattle.uu_core.specs.declared.command.Reply.{Reply}
-use Rattle.uu_report.specs.declared.output.Subject.{Subject}
-use Rattle.uu_report.specs.declared.output.Subject.TheVariants.{Line, Site, Entry}
+use Rattle.uu_core.specs.declared.subject.Subject.{Subject}
+use Rattle.uu_core.specs.declared.subject.Subject.TheVariants.{Line, Site, Entry}
 use Rattle.uu_report.specs.Replies.{reply_text, is_refused}
 use Rattle.uu_report.specs.Reports.{skipped_text}
 

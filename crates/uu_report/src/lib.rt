@@ -16,7 +16,7 @@ pub use due::due_report;
 pub use jobs::{job_line, jobs_report};
 pub use links::links_report;
 pub use next_calls::next_calls_report;
-pub use output::{Subject, answer_lines, output_of, status_of};
+pub use output::{answer_lines, output_of, status_of};
 pub use queues::queues_report;
 pub use reply::reply_line;
 pub use status::status_report;

@@ -9,19 +9,7 @@ ghost use Rattle.uu_report.specs.Outputs.{answer_text, answers_text, output_text
 use crate::links::append_skipped;
 use crate::reply::{is_refused, reply_line};
 use std::alloc::{AllocError, Global};
-use uu_core::Reply;
-use uu_names::SiteName;
-
-/// What a reply is told of.
-#[derive(Drop)]
-pub enum Subject {
-    /// The line itself, so that the reply stands alone.
-    Line,
-    /// The system or host of this name.
-    Site(SiteName),
-    /// The map entry that begins at this line of the input, counted from 1, and names no host.
-    Entry(u32),
-}
+use uu_core::{Reply, Subject};
 
 /// The lines of the replies, in their order, each after what its subject says of itself.
 pub fn answer_lines(

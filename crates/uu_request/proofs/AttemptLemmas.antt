@@ -25,7 +25,7 @@ key_first [] = None
 key_first (command ∷ commands) = key_in command
 
 abbrev key_asked : Result Request RequestFault → Option Key
-key_asked (Ok (request.Commands batch)) = key_first batch.commands
+key_asked (Ok (request.Commands list)) = key_first list.commands
 key_asked (Ok (request.Question question)) = None
 key_asked (Err fault) = None
 

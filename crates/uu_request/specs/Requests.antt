@@ -33,8 +33,8 @@ use Rattle.uu_request.specs.declared.request.Question.{Question}
 use Rattle.uu_request.specs.declared.request.Question.TheVariants as question
 use Rattle.uu_request.specs.declared.request.Request.{Request}
 use Rattle.uu_request.specs.declared.request.Request.TheVariants as request
-use Rattle.uu_report.specs.declared.output.Subject.{Subject}
-use Rattle.uu_report.specs.declared.output.Subject.TheVariants as subject
+use Rattle.uu_core.specs.declared.subject.Subject.{Subject}
+use Rattle.uu_core.specs.declared.subject.Subject.TheVariants as subject
 
 -- ---- one command
 

@@ -10,4 +10,4 @@ mod request;
 mod systems;
 
 pub use fault::RequestFault;
-pub use request::{Batch, Question, Request, request_of};
+pub use request::{CommandList, Question, Request, request_of};

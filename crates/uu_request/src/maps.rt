@@ -8,11 +8,10 @@ ghost use Rattle.uu_request.specs.Requests.{AnswersUnlessMemory, bytes_at, subje
 ghost use Rattle.uu_request.specs.Requests as spec;
 
 use crate::fault::RequestFault;
-use crate::request::{Batch, Request};
+use crate::request::{CommandList, Request};
 use std::alloc::{AllocError, Global};
-use uu_core::Command;
+use uu_core::{Command, Subject};
 use uu_map::{EntryText, Listed, entry_host, split};
-use uu_report::Subject;
 
 /// The entries of a map text, handed in one by one in the order of the text.
 pub(crate) fn entries(alloc: Global, input: &[u8]) -> Result<Request, RequestFault>
@@ -24,7 +23,7 @@ pub(crate) fn entries(alloc: Global, input: &[u8]) -> Result<Request, RequestFau
     };
     let commands = commands_at(alloc, input, &places)?;
     let subjects = subjects_at(alloc, input, &places)?;
-    Ok(Request::Commands(Batch {
+    Ok(Request::Commands(CommandList {
         commands: Listed::from_vec(commands),
         subjects: Listed::from_vec(subjects),
         skipped: Listed::from_vec(Vec::new(alloc)),

@@ -15,11 +15,10 @@ use crate::marks::{execution_key, file_key, message_key};
 use crate::systems::load;
 use std::alloc::Global;
 use std::mem::drop;
-use uu_core::{By, Command, Filter, Key, Kind, NewJob};
+use uu_core::{By, Command, Filter, Key, Kind, NewJob, Subject};
 use uu_line::{CommandLine, Task};
 use uu_names::text::MAX_TEXT;
 use uu_names::{Grade, Listed, SiteName, Word};
-use uu_report::Subject;
 use uu_settings::Settings;
 use uu_times::Moment;
 
@@ -27,14 +26,14 @@ use uu_times::Moment;
 #[derive(Drop)]
 pub enum Request {
     /// Commands, given one after the other.
-    Commands(Batch),
+    Commands(CommandList),
     /// One question, which changes nothing.
     Question(Question),
 }
 
 /// Commands, and how their replies are printed.
 #[derive(Drop)]
-pub struct Batch {
+pub struct CommandList {
     /// The commands, in the order in which they are given.
     pub commands: Listed<Command>,
     /// For each command, what its reply is told of.
@@ -209,7 +208,7 @@ pub(crate) fn one(alloc: Global, command: Command) -> Result<Request, RequestFau
     commands.push(command)?;
     let mut subjects = Vec::new(alloc);
     subjects.push(Subject::Line)?;
-    Ok(Request::Commands(Batch {
+    Ok(Request::Commands(CommandList {
         commands: Listed::from_vec(commands),
         subjects: Listed::from_vec(subjects),
         skipped: Listed::from_vec(Vec::new(alloc)),

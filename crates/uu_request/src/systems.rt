@@ -3,17 +3,16 @@
 ghost use Rattle.std.specs.Prelude.{◌≡◌, ◌≤◌, Ok, IfOk, length, map};
 ghost use Rattle.uu_names.specs.Text.{most_text};
 ghost use Rattle.uu_core.specs.declared.command.Command.TheVariants as command;
-ghost use Rattle.uu_report.specs.declared.output.Subject.TheVariants as subject;
+ghost use Rattle.uu_core.specs.declared.subject.Subject.TheVariants as subject;
 ghost use Rattle.uu_times.specs.SysFile.{sys_file_of};
 ghost use Rattle.uu_request.specs.Requests.{AnswersUnlessMemory, load_request};
 ghost use Rattle.uu_request.specs.Requests as spec;
 
 use crate::fault::RequestFault;
-use crate::request::{Batch, Request};
+use crate::request::{CommandList, Request};
 use std::alloc::{AllocError, Global};
-use uu_core::Command;
+use uu_core::{Command, Subject};
 use uu_names::Listed;
-use uu_report::Subject;
 use uu_times::{SysFile, SystemDef, TimeFault, read_sys};
 
 /// The definitions of the systems of a sys file, in the order of the text.
@@ -39,7 +38,7 @@ fn definitions(alloc: Global, file: SysFile) -> Result<Request, RequestFault>
         .into_iter()
         .map(|system| Command::Define(system))
         .collect(alloc)?;
-    Ok(Request::Commands(Batch {
+    Ok(Request::Commands(CommandList {
         commands: Listed::from_vec(commands),
         subjects: Listed::from_vec(subjects),
         skipped: Listed::from_vec(file.skipped.into_vec()),

@@ -1,15 +1,12 @@
 -- The tables that are made are those of an empty spool, and those that are migrated hold what they
 -- held.
-use Rattle.std.proofs.Common.{◌≡◌, ℕ, List, [], ◌∷◌, Result, Ok, Err, refl, subst, sym, ◌∙◌}
+use Rattle.std.proofs.Common.{◌≡◌, ℕ, List, [], ◌∷◌, refl, subst, sym, ◌∙◌}
 use Rattle.std.proofs.lemmas.List.Sorted.{IsPermutation-refl}
 use Rattle.sqlite.specs.Order.{Row}
 use Rattle.sqlite.specs.Tree.{Trees}
 use Rattle.uu_schema.specs.Keyed.{Keyed}
 use Rattle.uu_tables.specs.Tables.{Tables}
-use Rattle.sqlite.specs.State.{State}
-use Rattle.uu_schema.specs.Steps.{Outcome}
-use Rattle.uu_schema.proofs.Steps.{weaker}
-use Rattle.uu_schema.specs.Schema.{site, site_of, first_site, spool, systems, lines, ranges, jobs, pieces, entries, success_waits, links, taken}
+use Rattle.uu_schema.specs.Schema.{first_site, spool, systems, lines, ranges, jobs, pieces, entries, success_waits, links, taken}
 use Rattle.uu_schema.specs.declared.version.Version.{Version}
 use Rattle.uu_schema.specs.declared.version.Version.TheVariants.{First, Second}
 use Rattle.uu_schema.specs.Made.{AllMade, IsEmpty, IsMade, FromFirst, FromSecond, spool_row_of}
@@ -127,15 +124,3 @@ migrates_second old new both t held =
 
 pub migrates_first : (old new : Trees) → FromFirst old new → Migrates First old new
 migrates_first old new both t held = from_second First both.mid new both.second t (waits_added old both.mid both.first t held)
-
--- as the outcome of the statements
-module _ {E : Type 0} (old new : State) where
-  as_migration : {T : Type 0} (from : Version) (Step : Trees → Trees → Type 0) → ((a b : Trees) → Step a b → Migrates from a b) → (r : Result T E) → Outcome (site_of from) site Step old new r → Outcome (site_of from) site (Migrates from) old new r
-  as_migration from Step is (Ok x) done = weaker (site_of from) site (Migrates from) old new is done
-  as_migration from Step is (Err e) halted = halted
-
-  pub first_migrated : {T : Type 0} (r : Result T E) → Outcome (site_of First) site FromFirst old new r → Outcome (site_of First) site (Migrates First) old new r
-  first_migrated = as_migration First FromFirst migrates_first
-
-  pub second_migrated : {T : Type 0} (r : Result T E) → Outcome (site_of Second) site FromSecond old new r → Outcome (site_of Second) site (Migrates Second) old new r
-  second_migrated = as_migration Second FromSecond migrates_second

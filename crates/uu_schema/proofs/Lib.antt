@@ -2,6 +2,7 @@ pub mod Alive
 pub mod Asks
 pub mod Writes
 pub mod Steps
+pub mod Statements
 pub mod Rows
 pub mod Answers
 pub mod Questions
@@ -12,6 +13,4 @@ pub mod Texts
 pub mod Keeps
 pub mod Made
 pub mod Begun
-pub mod Numbers
-pub mod Kept
 pub mod Resting

@@ -1,8 +1,8 @@
 -- Rows by their rowid, what INSERT makes of a table's rows, and which rows a WHERE picks.
-use Rattle.std.proofs.Common.{◌≡◌, ◌⊎◌, inl, inr, ℕ, ℤ, List, [], ◌∷◌, map, filter, Bool, true, false, cond, Some, refl, sym, ap, subst, ◌∙◌, Ordering, Less, Equal, Greater, true≢false}
+use Rattle.std.proofs.Common.{◌≡◌, inl, inr, ℕ, ℤ, List, [], ◌∷◌, map, filter, Bool, true, false, cond, Some, refl, sym, ap, subst, ◌∙◌, Ordering, Less, Equal, Greater, true≢false}
 use Rattle.std.specs.Prelude.{flat_map, ◌&&◌, not}
-use Rattle.std.specs.List.{AllByRecursion, list_all}
-use Rattle.std.specs.Ordering.{is_eq, is_lt}
+use Rattle.std.specs.List.{list_all}
+use Rattle.std.specs.Ordering.{is_eq}
 use Rattle.std.specs.List.Sorted.{IsPermutation}
 use Rattle.std.proofs.lemmas.List.Sorted.{IsPermutation-map, IsPermutation-refl, IsPermutation-cons, IsPermutation-swap, IsPermutation-trans}
 use Rattle.std.proofs.lemmas.Bool.{or_parts}
@@ -17,7 +17,6 @@ use Rattle.sqlite.specs.declared.types.Value.{Value}
 use Rattle.sqlite.specs.declared.types.Value.TheVariants.{Null, Int, Real, Text, Blob}
 use Rattle.std.proofs.Common.{arith}
 use Rattle.std.proofs.lemmas.Int.{ints}
-use Rattle.std.proofs.lemmas.Bool.Decides.{nat_tests}
 use Rattle.sqlite.specs.Order.{Row, column, value_cmp}
 use Rattle.sqlite.specs.Term.{Term, Env, eval_all, holds}
 use Rattle.sqlite.specs.Ops.{binary, is_true, from_truth}
@@ -27,22 +26,15 @@ use Rattle.sqlite.specs.Collation.TheVariants.{Binary}
 use Rattle.sqlite.specs.Query.{Query, IsAnswer, output, Output}
 use Rattle.sqlite.specs.Program.{overlay}
 use Rattle.sqlite.specs.Tree.{Trees, rowid, IsTable, has_rowid, without_rowid}
-use Rattle.sqlite.specs.View.{View, is_int, IsOrdered, IsShaped}
-use Rattle.sqlite.specs.Held.{Serves}
-use Rattle.sqlite.specs.Schema.{Schema}
-use Rattle.sqlite.specs.Table.{Table}
-use Rattle.sqlite_trees.specs.Objects.{catalog_tree, IsListed}
-use Rattle.sqlite_catalog.proofs.LayoutLemmas.{table_shape, objects_rise}
+use Rattle.sqlite.specs.View.{is_int}
 use Rattle.sqlite.specs.Edit.{id_in, without_all}
-use Rattle.sqlite_rules.proofs.TableLemmas.{int_is, some_found}
-use Rattle.sqlite_trees.proofs.TreeLemmas.{later_rowids}
-use Rattle.sqlite_trees.proofs.ListLemmas.{map-map, filter_none, filter_same}
-use Rattle.std.specs.Prelude.{IsTrue}
+use Rattle.sqlite_rules.proofs.TableLemmas.{int_is}
+use Rattle.sqlite_trees.proofs.ListLemmas.{map-map, filter_same}
 use Rattle.std.proofs.lemmas.Cmp.{tied_itself}
 use Rattle.sqlite_rules.specs.Lists.{Has}
 use Rattle.sqlite_rules.proofs.ListLemmas.{all_has, all_from, test_from, fails_from}
 use Rattle.sqlite_rules.proofs.PlaceLemmas.{tied_same}
-use Rattle.sqlite_value.proofs.OrderLemmas.{value_cmp_total, value_cmp-Int}
+use Rattle.sqlite_value.proofs.OrderLemmas.{value_cmp_total}
 use Rattle.uu_schema.specs.Layout.{over, where_is}
 use Rattle.uu_schema.specs.Rowids.{AreNumbered, OnceEach}
 
@@ -84,18 +76,6 @@ at_text place text more r = go (column r place)
     go (Real x) = as_truth _
     go (Text t) = as_truth _
     go (Blob b) = as_truth _
-
-pub one_or_none : (n : ℤ) (rows : List Row) → IsTable rows → (filter (has_rowid n) rows ≡ []) ⊎ ((x : Row) × (filter (has_rowid n) rows ≡ x ∷ []))
-one_or_none n [] up = inl refl
-one_or_none n (r ∷ rows) up = elim (cases_Bool (has_rowid n r)) [
-  | inl here ↦ inr (r, rw here (ap (λ l. r ∷ l) (filter_none (has_rowid n) rows (later_rowids (Int n) r rows (not_less _ here) up.0))))
-  | inr other ↦ rw other (one_or_none n rows up.1)
-]
-  where
-    not_less : (o : Ordering) → is_eq o ≡ true → is_lt o ≡ false
-    not_less Less h = absurd (cc)
-    not_less Equal h = refl
-    not_less Greater h = refl
 
 filter_both : {X : Type 0} (p q : X → Bool) (xs : List X) → filter q (filter p xs) ≡ filter (λ x. p x && q x) xs
 filter_both p q [] = refl
@@ -139,21 +119,6 @@ cleared p rows ids up ints sound complete = without_is ids rows ∙ filter_same 
       let same = up r it.0 h it.1 (equal_is _ (rw it.3 tie)) in
       true≢false (sym it.2 ∙ ap p (sym same) ∙ other)))))
 ]))
-
-tied_int : (v : Value) (id : ℤ) → is_int v ≡ true → is_eq (value_cmp v (Int id)) ≡ true → v ≡ Int id
-tied_int Null id h e = absurd (cc)
-tied_int (Int n) id h e = let same = sym (value_cmp-Int n id) ∙ equal_is _ e in ap Int (grind (arith, ints, nat_tests))
-tied_int (Real x) id h e = absurd (cc)
-tied_int (Text t) id h e = absurd (cc)
-tied_int (Blob b) id h e = absurd (cc)
-
-pub key_is : (n : ℤ) (rows : List Row) (x : Row) → AllByRecursion (λ r. IsTrue (is_int (rowid r))) rows → filter (has_rowid n) rows ≡ x ∷ [] → rowid x ≡ Int n
-key_is n rows x keyed found = let it = some_found n rows x found in tied_int (rowid x) n (all_has _ rows x keyed it.0) it.1
-
--- while the store is sound, the rowids of each table of the schema rise
-pub rows_rise : (v : View) (schema : Schema) → Serves v schema → IsListed (v.trees catalog_tree) v.shape v.reals → IsOrdered v.shape v.trees → (t : Table) → Has schema.tables t
-    → IsTable (v.trees t.tree) × AllByRecursion (λ r. IsTrue (is_int (rowid r))) (v.trees t.tree)
-rows_rise v schema serves listed ordered t h = subst (λ s. IsShaped s (v.trees t.tree)) (table_shape listed (objects_rise v listed ordered).0 serves.sound.lists.listed t h).0 (ordered t.tree)
 
 -- ---- INSERT
 

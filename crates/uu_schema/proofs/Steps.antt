@@ -1,6 +1,7 @@
 -- Calls inside a transaction, one after the other, and its end.
-use Rattle.std.proofs.Common.{OnOk, Result, Ok, Err, ◌≡◌, ◌⊎◌, inl, inr, true, false, refl, sym, ap, subst, ◌∙◌, arith, ℕ, List, []}
+use Rattle.std.proofs.Common.{OnOk, Result, Ok, Err, ◌≡◌, inl, inr, true, false, refl, sym, ap, subst, ◌∙◌, arith, ℕ, List, []}
 use Rattle.std.specs.Prelude.{IsTrue, IfErr, IsErr, IsOk, is_ok}
+use Rattle.std.proofs.lemmas.Bool.{cases_Bool}
 use Rattle.sqlite.specs.Tree.{Trees}
 use Rattle.sqlite.specs.Order.{Row}
 use Rattle.sqlite.specs.Effect.{Database}
@@ -8,66 +9,62 @@ use Rattle.sqlite.specs.Schema.{Schema}
 use Rattle.sqlite.specs.Store.{Ghosts}
 use Rattle.sqlite.specs.declared.error.Error.{Error}
 use Rattle.sqlite.specs.Steps.{FailsToCommit}
-use Rattle.sqlite.specs.State.{State, HasCleanDisk, Survives, Shows, KeepsCounts, IsUnchanged, IsRolledBack, Executes, ExecutesInside}
+use Rattle.sqlite.specs.State.{State, HasCleanDisk, Survives, Shows, KeepsCommit, KeepsCounts, IsRolledBack, Executes, ExecutesInside}
 use Rattle.sqlite.specs.Held.{Held, state}
 use Rattle.sqlite.proofs.StateLemmas.{survives_then}
 use Rattle.sqlite.proofs.Callers.{survives_begin}
 use Rattle.sqlite_catalog.specs.Listing.{IsSound}
-use Rattle.uu_schema.specs.Steps.{Stands, Ready, Asked, Told, Went, Inside, Halted, Outcome, Both, Undid, Ends, Whole}
+use Rattle.sqlite.proofs.InsideLemmas.{inside_keeps, keeps_then}
+use Rattle.uu_schema.specs.Steps.{Stands, Ready, Asked, Told, Went, Outcome, Both, Undid, Ends, Whole}
 
 still : (a b c : State) → Survives a b (λ _. ⊥) → Survives b c (λ _. ⊥) → Survives a c (λ _. ⊥)
 still a b c p q = survives_then a b c (λ _. ⊥) (λ _. ⊥) (λ _. ⊥) (λ _ db none. none) (λ _ db none. none) p q
 
 -- ---- one statement
 
-kept_by : (old new : State) → IsUnchanged old new ⊎ IsRolledBack old new → IsTrue new.is_open → new.committed ≡ old.committed
-kept_by old new (inl same) is_open = same.0.committed_is
-kept_by old new (inr back) is_open = (back.undone is_open).1
+module _ (from to : Schema) (Step : Trees → Trees → Type 0) (sql : List ℕ) (params : Row) (old new : State) where
+  -- outside a transaction it does nothing
+  keeps : (r : Result ℕ Error) → (old.in_transaction ≡ false → new ≡ old) → (HasCleanDisk new → IsTrue old.in_transaction → ExecutesInside 0 sql params old new r) → HasCleanDisk new → KeepsCommit old new
+  keeps r ended runs clean = elim (cases_Bool old.in_transaction) [
+    | inl inside ↦ inside_keeps old new 0 false sql params r (runs clean inside)
+    | inr outside ↦ subst (KeepsCommit old) (sym (ended outside)) (record { was_open = λ is_open. is_open; committed = λ is_open. refl })
+  ]
 
-kept_inside : (sql : List ℕ) (params : Row) (old new : State) (e : Error) → ExecutesInside 0 sql params old new (Err e) → IsTrue new.is_open → new.committed ≡ old.committed
-kept_inside sql params old new e (inl ran) is_open = kept_by old new ran.1 is_open
-kept_inside sql params old new e (inr held) is_open = held.2.0.committed_is
+  module _ (means : (count : ℕ) → Stands from old.now → Executes sql params old new (Ok count) → Stands to new.now × Step old.now.trees new.now.trees) where
+    took : (r : Result ℕ Error) → ExecutesInside 0 sql params old new r → Stands from old.now → OnOk r (Went to Step old new)
+    took (Ok count) ran stands = let made = means count stands ran.0 in record { inside = ran.1.mode; committed = ran.1.committed_is; stands = made.0; step = made.1 }
+    took (Err e) ran stands = tt
 
-module _ (from mid to : Schema) where
-  pub inside_then : {A B : Trees → Trees → Type 0} (a b c : State) → Inside from mid A a b → Inside mid to B b c → Inside from to (Both A B) a c
-  inside_then a b c p q = record {
-    goes = λ clean inside stands.
-        let one = p.goes (omega (arith, q.survives.clean)) inside stands in
-        let two = q.goes clean (rw one.inside) one.stands in
-        record { inside = two.inside; committed = two.committed ∙ one.committed; stands = two.stands; step = record { mid = b.now.trees; first = one.step; second = two.step } };
+    pub statement : (r : Result ℕ Error) → (old.in_transaction ≡ false → new ≡ old) → (HasCleanDisk new → IsTrue old.in_transaction → ExecutesInside 0 sql params old new r) → Survives old new (λ _. ⊥)
+        → Outcome from to Step old new r
+    statement r ended runs survives = record { went = λ clean inside stands. took r (runs clean inside) stands; kept = keeps r ended runs; survives = survives }
+
+-- ---- one call after the other
+
+module _ {T E : Type 0} (from mid to : Schema) (A B : Trees → Trees → Type 0) (a b c : State) (r : Result T E) where
+  both : (r : Result T E) → Went mid A a b → OnOk r (Went to B b c) → OnOk r (Went to (Both A B) a c)
+  both (Ok x) one two = record { inside = two.inside; committed = two.committed ∙ one.committed; stands = two.stands; step = record { mid = b.now.trees; first = one.step; second = two.step } }
+  both (Err e) one two = tt
+
+  pub outcome_then : {U F : Type 0} (x : U) → Outcome {E = F} from mid A a b (Ok x) → Outcome mid to B b c r → Outcome from to (Both A B) a c r
+  outcome_then x p q = record {
+    went = λ clean inside stands. let one = p.went (omega (arith, q.survives.clean)) inside stands in both r one (q.went clean (rw one.inside) one.stands);
+    kept = λ clean. keeps_then a b c (p.kept (omega (arith, q.survives.clean))) (q.kept clean);
     survives = still a b c p.survives q.survives;
   }
 
-  pub halted_then : {A : Trees → Trees → Type 0} (a b c : State) → Inside from mid A a b → Halted mid b c → Halted from a c
-  halted_then a b c p q = record {
-    kept = λ clean inside stands is_open. let one = p.goes (omega (arith, q.survives.clean)) inside stands in q.kept clean (rw one.inside) one.stands is_open ∙ one.committed;
-    survives = still a b c p.survives q.survives;
-  }
+module _ {T E : Type 0} (from to : Schema) (a b : State) where
+  also : (A B : Trees → Trees → Type 0) → ((x y : Trees) → A x y → B x y) → (r : Result T E) → OnOk r (Went to A a b) → OnOk r (Went to B a b)
+  also A B is (Ok x) w = record { inside = w.inside; committed = w.committed; stands = w.stands; step = is _ _ w.step }
+  also A B is (Err e) w = tt
 
-  pub outcome_then : {T E : Type 0} {A : Trees → Trees → Type 0} (B : Trees → Trees → Type 0) (a b c : State) (r : Result T E) → Inside from mid A a b → Outcome mid to B b c r → Outcome from to (Both A B) a c r
-  outcome_then B a b c (Ok x) p q = inside_then a b c p q
-  outcome_then B a b c (Err e) p q = halted_then a b c p q
+  pub weaker : (A B : Trees → Trees → Type 0) → ((x y : Trees) → A x y → B x y) → (r : Result T E) → Outcome from to A a b r → Outcome from to B a b r
+  weaker A B is r p = record { went = λ clean inside stands. also A B is r (p.went clean inside stands); kept = p.kept; survives = p.survives }
 
-module _ (from to : Schema) where
-  pub halted_as : {T E : Type 0} (A : Trees → Trees → Type 0) (a b : State) (r : Result T E) → IsErr r → Halted from a b → Outcome from to A a b r
-  halted_as A a b (Ok x) fails h = absurd (cc)
-  halted_as A a b (Err e) fails h = h
-
-  pub weaker : {A : Trees → Trees → Type 0} (B : Trees → Trees → Type 0) (a b : State) → ((x y : Trees) → A x y → B x y) → Inside from to A a b → Inside from to B a b
-  weaker B a b f p = record {
-    goes = λ clean inside stands. let w = p.goes clean inside stands in record { inside = w.inside; committed = w.committed; stands = w.stands; step = f _ _ w.step };
-    survives = p.survives;
-  }
-
-  pub statement : (Step : Trees → Trees → Type 0) (sql : List ℕ) (params : Row) (old new : State) (r : Result ℕ Error) → Survives old new (λ _. ⊥)
-      → (HasCleanDisk new → IsTrue old.in_transaction → ExecutesInside 0 sql params old new r)
-      → ((count : ℕ) → Stands from old.now → Executes sql params old new (Ok count) → Stands to new.now × Step old.now.trees new.now.trees) → Outcome from to Step old new r
-  statement Step sql params old new (Ok count) survives runs means = record {
-    goes = λ clean inside stands. let ran = runs clean inside in let made = means count stands ran.0 in
-        record { inside = ran.1.mode; committed = ran.1.committed_is; stands = made.0; step = made.1 };
-    survives = survives;
-  }
-  statement Step sql params old new (Err e) survives runs means = record { kept = λ clean inside stands is_open. kept_inside sql params old new e (runs clean inside) is_open; survives = survives }
+  -- what was refused took no step
+  pub refused : (A : Trees → Trees → Type 0) → (r : Result T E) → IsErr r → (HasCleanDisk b → KeepsCommit a b) → Survives a b (λ _. ⊥) → Outcome from to A a b r
+  refused A (Ok x) fails kept survives = absurd (cc)
+  refused A (Err e) fails kept survives = record { went = λ clean inside stands. tt; kept = kept; survives = survives }
 
 -- ---- the whole transaction
 
@@ -86,26 +83,31 @@ module _ (from to : Schema) {S : Type 0} (g : Ghosts S) (A : Trees → Trees →
   undid : (HasCleanDisk end → IsTrue end.is_open → (end.now ≡ was.committed) × (end.committed ≡ was.committed)) → HasCleanDisk end → Undid was end
   undid back clean = record { undone = back clean; left = λ is_open db may. settled db is_open may ∙ ap (λ (d : Database). d.trees) (back clean is_open).1 }
 
+  -- one that is rolled back leaves what was committed as it began
+  pub rolled_back : (HasCleanDisk last → KeepsCommit begun last) → (HasCleanDisk end → IsRolledBack last end) → Survives last end (λ _. ⊥) → HasCleanDisk end → Undid was end
+  rolled_back kept back over = undid (λ clean is_open.
+      let it = back clean in
+      let same = (kept (omega (arith, clean, over.clean))).committed (it.was_open is_open) in ((it.undone is_open).0 ∙ same, (it.undone is_open).1 ∙ same))
+
   ends_err : {T E : Type 0} (r : Result T E) → IsErr r → Undid was end → Ends to A was end r
   ends_err (Ok x) fails u = absurd (cc)
   ends_err (Err e) fails u = u
 
-  pub abandoned : {T E : Type 0} (r : Result T E) → IsErr r → Halted from begun last → (HasCleanDisk end → IsRolledBack last end) → Survives last end (λ _. ⊥) → Whole from to A was end r
-  abandoned r fails h back over = record {
-    ends = λ clean stands. ends_err r fails (undid (λ clean is_open.
-        let b = back clean in
-        let kept = h.kept (omega (arith, over.clean)) refl stands (b.was_open is_open) in ((b.undone is_open).0 ∙ kept, (b.undone is_open).1 ∙ kept)) clean);
-    survives = survives_then was last end (λ _. ⊥) (λ _. ⊥) After (λ _ db none. absurd none) (λ _ db none. absurd none) (survives_begin g old last (λ _. ⊥) h.survives) over;
+  pub abandoned : {T E : Type 0} (r : Result T E) → IsErr r → (HasCleanDisk last → KeepsCommit begun last) → Survives begun last (λ _. ⊥) → (HasCleanDisk end → IsRolledBack last end) → Survives last end (λ _. ⊥)
+      → Whole from to A was end r
+  abandoned r fails kept first back over = record {
+    ends = λ clean stands. ends_err r fails (rolled_back kept back over clean);
+    survives = survives_then was last end (λ _. ⊥) (λ _. ⊥) After (λ _ db none. absurd none) (λ _ db none. absurd none) (survives_begin g old last (λ _. ⊥) first) over;
     idle = ended;
   }
 
-  pub committed : (r : Result (Unit {0}) Error) → Inside from to A begun last → Survives last end (λ db. db ≡ last.now.trees)
+  pub committed : {T E : Type 0} (x : T) (r : Result (Unit {0}) Error) → Outcome {E = E} from to A begun last (Ok x) → Survives last end (λ db. db ≡ last.now.trees)
       → (HasCleanDisk end → OnOk r (IsTrue last.in_transaction × Shows last end last.now last.now false × KeepsCounts last end × (end.marks ≡ [])))
       → (HasCleanDisk end → IfErr r (FailsToCommit last end)) → Whole from to A was end r
-  committed r h over ok err = record {
-    ends = λ clean stands. each r (h.goes (omega (arith, over.clean)) refl stands) (ok clean) (err clean) clean;
+  committed x r h over ok err = record {
+    ends = λ clean stands. each r (h.went (omega (arith, over.clean)) refl stands) (ok clean) (err clean) clean;
     survives = survives_then was last end (λ _. ⊥) (λ db. db ≡ last.now.trees) After (λ _ db none. absurd none)
-        (λ clean db is stands. let went = h.goes (omega (arith, over.clean)) refl stands in (subst (A was.now.trees) (sym is) went.step, subst (IsSound to) (sym is) went.stands.sound))
+        (λ clean db is stands. let went = h.went (omega (arith, over.clean)) refl stands in (subst (A was.now.trees) (sym is) went.step, subst (IsSound to) (sym is) went.stands.sound))
         (survives_begin g old last (λ _. ⊥) h.survives) over;
     idle = ended;
   }

@@ -1,5 +1,5 @@
 -- The faults of the store. (Their numbers are this project's choice.)
-use Rattle.std.specs.Prelude.{ℕ, ⊤}
+use Rattle.std.specs.Prelude.{◌≡◌, ℕ, ⊤}
 use Rattle.sqlite.specs.declared.error.ErrorCode.{ErrorCode}
 use Rattle.sqlite.specs.declared.error.ErrorCode.TheVariants.{SystemIoFailure, DatabaseCorrupt, DiskFull, TooBig}
 use Rattle.sqlite.specs.declared.error.Error.{Error}
@@ -8,6 +8,8 @@ use Rattle.uu_schema.specs.declared.fault.StoreKind.{StoreKind}
 use Rattle.uu_schema.specs.declared.fault.StoreKind.TheVariants.{Disk, Size, Database}
 use Rattle.uu_schema.specs.declared.fault.StoreFault.{StoreFault}
 use Rattle.uu_schema.specs.declared.fault.StoreFault.TheVariants.{Memory, Store, Failed, Foreign, Newer}
+use Rattle.uu_schema.specs.declared.fault.Halt.{Halt}
+use Rattle.uu_schema.specs.declared.fault.Halt.TheVariants.{Commit}
 
 -- which part of the store an error of the database tells of
 abbrev pub kind_of_code : ErrorCode → StoreKind
@@ -35,3 +37,11 @@ IsFaultOfThisCall (Store kind) = ⊤
 IsFaultOfThisCall Failed = ⊥
 IsFaultOfThisCall Foreign = ⊥
 IsFaultOfThisCall Newer = ⊥
+
+-- a part of the store that it names is that of the error
+abbrev pub NamesPartOf : Error → StoreFault → Type 0
+NamesPartOf error fault = (kind : StoreKind) → fault ≡ Store kind → kind ≡ kind_of_error error
+
+-- of a commit that was refused it names the part, and is never want of memory
+abbrev pub NamesPartOfCommit : Halt → StoreFault → Type 0
+NamesPartOfCommit halt fault = (error : Error) → halt ≡ Commit error → fault ≡ Store (kind_of_error error)

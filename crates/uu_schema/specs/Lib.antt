@@ -1,9 +1,11 @@
+-- for any schema
 pub mod Layout
+pub mod Rowids
+pub mod Objects
+pub mod Queries
 pub mod Steps
 pub mod Spares
-pub mod Queries
-pub mod Objects
-pub mod Rowids
+-- the tables of the spool
 pub mod Schema
 pub mod Keyed
 pub mod Made
@@ -11,3 +13,4 @@ pub mod Cells
 pub mod Held
 pub mod Encoded
 pub mod Faults
+pub mod Statements

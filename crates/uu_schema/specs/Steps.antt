@@ -1,11 +1,12 @@
 -- What a call does inside a transaction, what a whole transaction does, and what a stop leaves of
 -- it.
 use Rattle.std.specs.Prelude.{◌≡◌, ◌≤◌, true, false, IsTrue, OnOk, Result, Ok, Err}
+use Rattle.sqlite.specs.Store.{Ghosts}
 use Rattle.sqlite.specs.Schema.{Schema}
 use Rattle.sqlite.specs.Tree.{Trees}
 use Rattle.sqlite.specs.Effect.{Database}
-use Rattle.sqlite.specs.Held.{Held}
-use Rattle.sqlite.specs.State.{State, HasCleanDisk, Survives}
+use Rattle.sqlite.specs.Held.{Held, state}
+use Rattle.sqlite.specs.State.{State, HasCleanDisk, Survives, IsUnchanged, KeepsCommit}
 use Rattle.sqlite.specs.View.{doubt}
 use Rattle.sqlite_catalog.specs.Listing.{IsSound}
 
@@ -18,6 +19,14 @@ IsIdle conn = conn.in_transaction ≡ false
 -- a connection on which no transaction is open is left with none
 abbrev pub StaysIdle : {S : Type 0} → Held S → Held S → Type 0
 StaysIdle old new = IsIdle old → IsIdle new
+
+-- a stop leaves only what it could leave before
+abbrev pub CommitsNothing : {S : Type 0} → Ghosts S → Held S → Held S → Type 0
+CommitsNothing g old new = Survives (state g old) (state g new) (λ _. ⊥)
+
+-- where this is found, the connection was open, and nothing changed
+abbrev pub UnchangedIf : {S : Type 0} → Ghosts S → Type 0 → Held S → Held S → Type 0
+UnchangedIf g Found old new = HasCleanDisk (state g new) → Found → IsTrue (state g old).is_open × IsUnchanged (state g old) (state g new)
 
 -- ---- steps inside a transaction
 
@@ -39,20 +48,12 @@ pub record Both (First Second : Trees → Trees → Type 0) (old new : Trees) : 
   pub first : First old mid
   pub second : Second mid new
 
--- inside a transaction on a database of the first schema the call took the step, to one of the
--- second, and it committed nothing
-pub record Inside (from to : Schema) (Step : Trees → Trees → Type 0) (old new : State) : Type 0 where
-  pub goes : HasCleanDisk new → IsTrue old.in_transaction → Stands from old.now → Went to Step old new
+-- A call inside a transaction: on a database of the first schema it took the step, to one of the
+-- second, or it was refused. Whatever the database, it committed nothing.
+pub record Outcome {T E : Type 0} (from to : Schema) (Step : Trees → Trees → Type 0) (old new : State) (r : Result T E) : Type 0 where
+  pub went : HasCleanDisk new → IsTrue old.in_transaction → Stands from old.now → OnOk r (Went to Step old new)
+  pub kept : HasCleanDisk new → KeepsCommit old new
   pub survives : Survives old new (λ _. ⊥)
-
--- the call was refused, and what was committed stays
-pub record Halted (from : Schema) (old new : State) : Type 0 where
-  pub kept : HasCleanDisk new → IsTrue old.in_transaction → Stands from old.now → IsTrue new.is_open → new.committed ≡ old.committed
-  pub survives : Survives old new (λ _. ⊥)
-
-abbrev pub Outcome : {T E : Type 0} → Schema → Schema → (Trees → Trees → Type 0) → State → State → Result T E → Type 0
-Outcome from to Step old new (Ok x) = Inside from to Step old new
-Outcome from to Step old new (Err e) = Halted from old new
 
 -- no transaction is open, the connection answers, and what it shows is what was committed
 pub record Rests (s : State) : Type 0 where

@@ -1,11 +1,9 @@
 // Why the store gives no answer.
-ghost use Rattle.std.specs.Prelude.{◌≡◌, ◌↔◌, false, IsTrue};
-ghost use Rattle.sqlite.specs.Held.{state};
-ghost use Rattle.sqlite.specs.State.{HasCleanDisk, Survives, IsUnchanged};
-ghost use Rattle.uu_schema.specs.Faults.{IsFaultOfThisCall, fault_code, kind_of_error};
+ghost use Rattle.std.specs.Prelude.{◌≡◌, ◌↔◌, IsTrue};
+ghost use Rattle.uu_schema.specs.Steps.{IsIdle, UnchangedIf, CommitsNothing};
+ghost use Rattle.uu_schema.specs.Faults.{IsFaultOfThisCall, NamesPartOf, NamesPartOfCommit, fault_code, kind_of_error};
 ghost use Rattle.uu_schema.specs.declared.fault.StoreFault.TheVariants.{Memory};
-ghost use Rattle.uu_schema.specs.declared.fault.Halt.TheVariants.{Before, Commit};
-ghost use Rattle.sqlite.specs.declared.error.Error.{Error};
+ghost use Rattle.uu_schema.specs.declared.fault.Halt.TheVariants.{Before};
 
 use sqlite::{Alter, Connection, Error as SqlError, ErrorCode};
 use std::alloc::{AllocError, AllocFailed};
@@ -102,10 +100,10 @@ pub fn is_memory(error: &SqlError) -> bool
 /// SQL: a connection that answers refuses it by name, and takes no memory for that, so that the
 /// question is answered where memory is short, too.
 pub fn is_alive<S: Alter>(conn: &mut Connection<S>) -> bool
-    requires { conn.old.in_transaction ≡ false }
-    ensures idle { conn.new.in_transaction ≡ false }
-    ensures alive { HasCleanDisk (state S.Store conn.new) → IsTrue result → IsTrue (state S.Store conn.old).is_open × IsUnchanged (state S.Store conn.old) (state S.Store conn.new) }
-    ensures survives { Survives (state S.Store conn.old) (state S.Store conn.new) (λ _. ⊥) }
+    requires { IsIdle conn.old }
+    ensures idle { IsIdle conn.new }
+    ensures alive { UnchangedIf S.Store (IsTrue result) conn.old conn.new }
+    ensures survives { CommitsNothing S.Store conn.old conn.new }
 {
     matches!(conn.prepare("alive"), Err(SqlError::SqlInputError(_)))
 }
@@ -126,12 +124,12 @@ pub fn kind_of(error: &SqlError) -> StoreKind
 /// What an error of the database means for the caller. It is want of memory only where the
 /// connection still answers.
 pub fn store_fault<S: Alter>(conn: &mut Connection<S>, error: &SqlError) -> StoreFault
-    requires { conn.old.in_transaction ≡ false }
-    ensures idle { conn.new.in_transaction ≡ false }
+    requires { IsIdle conn.old }
+    ensures idle { IsIdle conn.new }
     ensures fresh { IsFaultOfThisCall result }
-    ensures kind { (kind : _) → result ≡ StoreFault.Store kind → kind ≡ kind_of_error error.now }
-    ensures memory { HasCleanDisk (state S.Store conn.new) → result ≡ Memory → IsTrue (state S.Store conn.old).is_open × IsUnchanged (state S.Store conn.old) (state S.Store conn.new) }
-    ensures survives { Survives (state S.Store conn.old) (state S.Store conn.new) (λ _. ⊥) }
+    ensures kind { NamesPartOf error.now result }
+    ensures memory { UnchangedIf S.Store (result ≡ Memory) conn.old conn.new }
+    ensures survives { CommitsNothing S.Store conn.old conn.new }
 {
     if is_memory(error) && is_alive(conn) {
         StoreFault::Memory
@@ -143,12 +141,12 @@ pub fn store_fault<S: Alter>(conn: &mut Connection<S>, error: &SqlError) -> Stor
 /// What a command that stopped means for the caller. A commit that was refused is never want of
 /// memory, since what it left is not known; the database is not asked any more then.
 pub fn halt_fault<S: Alter>(conn: &mut Connection<S>, halt: &Halt) -> StoreFault
-    requires { conn.old.in_transaction ≡ false }
-    ensures idle { conn.new.in_transaction ≡ false }
+    requires { IsIdle conn.old }
+    ensures idle { IsIdle conn.new }
     ensures fresh { IsFaultOfThisCall result }
-    ensures commit { (error : Error) → halt.now ≡ Commit error → result ≡ StoreFault.Store (kind_of_error error) }
-    ensures memory { HasCleanDisk (state S.Store conn.new) → result ≡ Memory → IsTrue (state S.Store conn.old).is_open × IsUnchanged (state S.Store conn.old) (state S.Store conn.new) }
-    ensures survives { Survives (state S.Store conn.old) (state S.Store conn.new) (λ _. ⊥) }
+    ensures commit { NamesPartOfCommit halt.now result }
+    ensures memory { UnchangedIf S.Store (result ≡ Memory) conn.old conn.new }
+    ensures survives { CommitsNothing S.Store conn.old conn.new }
 {
     match halt {
         Halt::Before(error) => store_fault(conn, error),

@@ -1,5 +1,7 @@
 //! The ten tables of the spool in a database: their schema, the rows that hold the typed ones, an
-//! empty spool, and why the store gives no answer.
+//! empty spool, and why the store gives no answer. Below them, for any schema, what statements and
+//! transactions of the port of SQLite mean, and what a stop leaves of them: those lemmas stand in
+//! `proofs/`, for the crates above.
 #![tactic(auto)]
 
 mod fault;

@@ -15,9 +15,9 @@ use Rattle.sqlite.specs.Edit.{is_taken}
 use Rattle.sqlite_value.proofs.OrderLemmas.{value_cmp_total}
 use Rattle.sqlite_trees.proofs.ListLemmas.{all-permutation, filter_same as filter_alike_on}
 use Rattle.sqlite_rules.specs.Lists.{Has}
-use Rattle.sqlite_rules.proofs.ListLemmas.{all_from, has_filtered, has_kept}
+use Rattle.sqlite_rules.proofs.ListLemmas.{all_has, all_from, has_filtered, has_kept}
 use Rattle.sqlite_rules.proofs.ProbeLemmas.{has_mapped, mapped_has}
-use Rattle.sqlite_keyed.proofs.ListLemmas.{filter-map, filter_same, along_permutation, all_weaker, all_unmap, all-map, all-filter, any_from_none, ascending-filter, ascending-map, ascending_weaker, IsPermutation-filter}
+use Rattle.sqlite_keyed.proofs.ListLemmas.{filter-map, filter_none, filter_same, along_permutation, all_weaker, all_unmap, all-map, all-filter, any_from_none, ascending-filter, ascending-map, ascending_weaker, IsPermutation-filter}
 use Rattle.uu_schema.specs.Rowids.{OnceEach}
 use Rattle.uu_schema.proofs.Rows.{put_permutes}
 use Rattle.uu_schema.proofs.Rowids.{has_moved, numbered_put, once_put, once_left}
@@ -26,6 +26,21 @@ use Rattle.uu_tables.specs.Changes.{insert_by, insert_at, append, alter, without
 use Rattle.uu_schema.specs.Keyed.{columns, Keyed}
 
 -- ---- lists
+
+-- no element or one passes a test that elements of one key alone pass
+pub picked : {K X : Type 0} (key : X → K) (p : X → Bool) → ((x y : X) → p x ≡ true → p y ≡ true → key x ≡ key y) → (xs : List X) → IsAscending (λ a b. key a ≢ key b) xs
+    → (filter p xs ≡ []) ⊎ ((x : X) × (filter p xs ≡ x ∷ []))
+picked key p one [] apart = inl refl
+picked key p one (x ∷ xs) apart = elim (cases_Bool (p x)) [
+  | inl here ↦ inr (
+    x,
+    rw here (ap (λ l. x ∷ l) (filter_none p xs (all_from (λ y. p y ≡ false) xs (λ y h. elim (cases_Bool (p y)) [
+      | inl also ↦ absurd (all_has (λ b. key x ≢ key b) xs y apart.0 h (one x y here also))
+      | inr other ↦ other
+    ])))),
+  )
+  | inr other ↦ rw other (picked key p one xs apart.1)
+]
 
 -- those that pass change and the others stay, in some order
 changed : {X : Type 0} (p : X → Bool) (f : X → X) (xs : List X) → IsPermutation (map f (filter p xs) ++ filter (λ x. not (p x)) xs) (alter p f xs)

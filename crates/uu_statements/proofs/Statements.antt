@@ -47,8 +47,7 @@ use Rattle.uu_schema.specs.Schema.{site}
 use Rattle.uu_schema.specs.Keyed.{columns, Keyed}
 use Rattle.uu_schema.specs.Made.{Keeps}
 use Rattle.uu_schema.proofs.Keeps.{keeps_one}
-use Rattle.uu_schema.proofs.Numbers.{picked}
-use Rattle.uu_statements.proofs.Keyed.{reordered, one_more, picked_rows, altered, none_change, no_permutation, none_mapped, one_mapped}
+use Rattle.uu_statements.proofs.Keyed.{reordered, one_more, picked, picked_rows, altered, none_change, no_permutation, none_mapped, one_mapped}
 use Rattle.uu_statements.proofs.Unique.{fresh_key}
 
 -- ---- keys that are new

@@ -1,13 +1,13 @@
 -- How a command ends, once for all commands.
-use Rattle.std.proofs.Common.{◌≡◌, ◌⊎◌, refl, inl, inr, [], Result, Ok, Err, sym, ap, subst, ◌∙◌, arith}
+use Rattle.std.proofs.Common.{◌≡◌, ◌⊎◌, refl, inl, inr, Result, Ok, Err, sym, subst, ◌∙◌, arith}
 use Rattle.std.specs.Prelude.{IsTrue, IsOk, IsErr}
 use Rattle.sqlite.specs.Tree.{Trees}
 use Rattle.sqlite.specs.State as db
 use Rattle.sqlite.specs.declared.error.Error.{Error}
 use Rattle.sqlite.proofs.StateLemmas.{survives_then}
 use Rattle.sqlite_catalog.specs.Listing.{IsSound}
-use Rattle.uu_schema.specs.Steps.{Rests, Asked, Told, Whole, Ends, Did}
-use Rattle.uu_schema.proofs.Steps.{told_same}
+use Rattle.uu_schema.specs.Steps.{Rests, Whole, Ends, Did}
+use Rattle.uu_schema.proofs.Resting.{is_memory}
 use Rattle.uu_core.specs.declared.command.Command.{Command}
 use Rattle.uu_core.specs.declared.command.Reply.{Reply}
 use Rattle.uu_core.specs.State.{State}
@@ -68,9 +68,6 @@ module _ (s : State) (command : Command) (a : db.State) where
 
 -- ---- the fault that the caller is told
 
-pub is_memory : {T : Type 0} (fault : StoreFault) → ◌≡◌ {A = Result T StoreFault} (Err fault) (Err Memory) → fault ≡ Memory
-is_memory fault h = cc
-
 store_is_not_memory : (kind : StoreKind) → Store kind ≡ Memory → ⊥
 store_is_not_memory kind h = absurd (cc)
 
@@ -101,46 +98,3 @@ module _ (s : State) (command : Command) (a b : db.State) where
     stop = λ clean rests enc trees may. elim (over.crash clean trees may) [ inl was ↦ step.stop (omega (arith, over.clean)) rests enc trees was | inr none ↦ absurd none ];
     clean = omega (arith, step.clean, over.clean);
   }
-
-  -- a question was answered, and no other call was made
-  pub told_unplanned : {T E : Type 0} (q : Result T E) → IsOk q → Told site a b q → (fault : StoreFault) → IsToldStep s command a b (Err fault)
-  told_unplanned q ok told fault = record {
-    ok = λ clean rests enc. tt;
-    memory = λ clean rests enc is. here clean rests enc;
-    stop = λ clean rests enc trees may. elim (told.asked.survives.crash clean trees may) [ inl was ↦ inl was | inr never ↦ absurd (never (record { rests = rests; stands = enc.stands })) ];
-    clean = told.asked.survives.clean;
-  }
-    where
-      here : db.HasCleanDisk b → Rests a → HasTables a.now s → Rests b × HasTables b.now s
-      here clean rests enc = let it = told_same site a b q ok told clean (record { rests = rests; stands = enc.stands }) in (it.0.rests, subst (λ now. HasTables now s) (sym it.1) enc)
-
-  -- a question was refused
-  pub told_unanswered : (d : db.State) (fault : StoreFault) → Asked site a b → (db.HasCleanDisk d → fault ≡ Memory → IsTrue b.is_open × db.IsUnchanged b d) → db.Survives b d (λ _. ⊥) → IsToldStep s command a d (Err fault)
-  told_unanswered d fault asked memory over = record {
-    ok = λ clean rests enc. tt;
-    memory = λ clean rests enc is.
-        let m = memory clean (is_memory fault is) in
-        let it = asked.same (omega (arith, over.clean)) (record { rests = rests; stands = enc.stands }) m.0 in unchanged s b d m.1 it.0.rests (subst (λ now. HasTables now s) (sym it.1) enc);
-    stop = λ clean rests enc trees may. elim (over.crash clean trees may) [
-      | inl was ↦ elim (asked.survives.crash (omega (arith, over.clean)) trees was) [ inl first ↦ inl first | inr never ↦ absurd (never (record { rests = rests; stands = enc.stands })) ]
-      | inr none ↦ absurd none
-    ];
-    clean = omega (arith, asked.survives.clean, over.clean);
-  }
-
-  -- a question that was answered, and then the command
-  pub told_then_step : {T E : Type 0} (c : db.State) (q : Result T E) → IsOk q → Told site a b q → (r : Result Reply StoreFault) → IsToldStep s command b c r → IsToldStep s command a c r
-  told_then_step c q ok told r step = record {
-    ok = λ clean rests enc. let it = here clean rests enc in step.ok clean it.0 it.1;
-    memory = λ clean rests enc is. let it = here clean rests enc in step.memory clean it.0 it.1 is;
-    stop = λ clean rests enc trees may.
-        let it = here clean rests enc in
-        elim (step.stop clean it.0 it.1 trees may) [
-          | inl was ↦ elim (told.asked.survives.crash (omega (arith, step.clean)) trees was) [ inl first ↦ inl first | inr never ↦ absurd (never (record { rests = rests; stands = enc.stands })) ]
-          | inr made ↦ inr made
-        ];
-    clean = omega (arith, told.asked.survives.clean, step.clean);
-  }
-    where
-      here : db.HasCleanDisk c → Rests a → HasTables a.now s → Rests b × HasTables b.now s
-      here clean rests enc = let it = told_same site a b q ok told (omega (arith, step.clean)) (record { rests = rests; stands = enc.stands }) in (it.0.rests, subst (λ now. HasTables now s) (sym it.1) enc)

@@ -1,6 +1,6 @@
 use Rattle.std.proofs.Common.{rules, ◌<◌, ◌∙◌, ap, length}
 use Rattle.uu_times.specs.System.{System}
-use Rattle.uu_report.specs.declared.output.Subject.TheVariants.{Site}
+use Rattle.uu_core.specs.declared.subject.Subject.TheVariants.{Site}
 use Rattle.uu_request.proofs.Lists.{items_grow}
 use Rattle.uu_request.proofs.systems.names_of.Goals as goal
 

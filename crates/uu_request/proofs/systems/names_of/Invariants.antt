@@ -1,5 +1,5 @@
 use Rattle.std.proofs.Common.{◌≡◌, map, take}
-use Rattle.uu_report.specs.declared.output.Subject.TheVariants.{Site}
+use Rattle.uu_core.specs.declared.subject.Subject.TheVariants.{Site}
 use Rattle.uu_request.proofs.systems.names_of.Given as goal
 
 -- the names of the systems before this one

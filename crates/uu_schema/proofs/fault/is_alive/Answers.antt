@@ -1,9 +1,9 @@
-use Rattle.std.proofs.Common.{◌≡◌, [], subst, sym, ◌∙◌}
+use Rattle.std.proofs.Common.{[], subst, sym, ◌∙◌}
 use Rattle.sqlite.specs.Held.{state}
 use Rattle.sqlite.specs.State.{IsNotRun}
 use Rattle.uu_schema.proofs.Alive.{refused_by_name}
-use Rattle.uu_schema.proofs.is_alive.Goals.{in-Err-SqlInputError, in_default, in_default-2}
-use Rattle.uu_schema.proofs.is_alive.Goals as goal
+use Rattle.uu_schema.proofs.fault.is_alive.Goals.{in-Err-SqlInputError, in_default, in_default-2}
+use Rattle.uu_schema.proofs.fault.is_alive.Goals as goal
 
 pub returns-clause-alive : goal.returns-clause-alive
 returns-clause-alive g c clean alive =

@@ -1,12 +1,7 @@
-use Rattle.sqlite.specs.Held.{state}
-use Rattle.uu_schema.proofs.Steps.{statement}
-use Rattle.uu_schema.specs.Schema.{create_lines, lines, with_systems, with_lines}
-use Rattle.uu_schema.specs.Made.{IsMade}
+use Rattle.uu_schema.proofs.Statements.{executed}
+use Rattle.uu_schema.specs.Schema.{create_lines}
 use Rattle.uu_schema.proofs.Made.{lines_made}
 use Rattle.uu_schema.proofs.tables.create_lines.Goals as goal
 
-pub returns-clause-outcome : goal.returns-clause-outcome
-returns-clause-outcome g c =
-    let old = state g.S.Store c.args.tx.now.conn.now in
-    let new = state g.S.Store c.execute.new.self.conn.now in
-    statement with_systems with_lines (IsMade with_systems lines.tree) create_lines _ old new c.execute.result c.execute.ensures.survives c.execute.ensures.runs (λ count stands ran. lines_made old new count stands ran)
+pub returns : goal.returns
+returns g c = executed create_lines _ c.execute.ensures.same_reference c.execute.ensures.ended c.execute.ensures.runs c.execute.ensures.survives (λ count. lines_made _ _ count)

@@ -1,20 +1,7 @@
-use Rattle.std.proofs.Common.{ap}
-use Rattle.sqlite.specs.Held.{state}
-use Rattle.uu_schema.proofs.Steps.{statement}
-use Rattle.uu_schema.specs.Schema.{create_links, links, second_site, with_links}
-use Rattle.uu_schema.specs.Made.{IsMade}
+use Rattle.uu_schema.proofs.Statements.{executed}
+use Rattle.uu_schema.specs.Schema.{create_links}
 use Rattle.uu_schema.proofs.Made.{links_made}
-use Rattle.uu_schema.proofs.Kept.{statement_keeps}
 use Rattle.uu_schema.proofs.tables.create_links.Goals as goal
 
-pub returns-clause-outcome : goal.returns-clause-outcome
-returns-clause-outcome g c =
-    let old = state g.S.Store c.args.tx.now.conn.now in
-    let new = state g.S.Store c.execute.new.self.conn.now in
-    statement second_site with_links (IsMade second_site links.tree) create_links _ old new c.execute.result c.execute.ensures.survives c.execute.ensures.runs (λ count stands ran. links_made old new count stands ran)
-
-pub returns-clause-kept : goal.returns-clause-kept
-returns-clause-kept g c =
-    let old = state g.S.Store c.args.tx.now.conn.now in
-    let new = state g.S.Store c.execute.new.self.conn.now in
-    statement_keeps create_links _ old new c.execute.result (λ outside. ap (state g.S.Store) (c.execute.ensures.ended outside).1) c.execute.ensures.runs
+pub returns : goal.returns
+returns g c = executed create_links _ c.execute.ensures.same_reference c.execute.ensures.ended c.execute.ensures.runs c.execute.ensures.survives (λ count. links_made _ _ count)

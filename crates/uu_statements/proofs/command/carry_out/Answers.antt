@@ -1,5 +1,6 @@
 use Rattle.sqlite.specs.Held.{state}
-use Rattle.uu_statements.proofs.Steps.{told_written, told_unwritten, memory_before, is_memory}
+use Rattle.uu_schema.proofs.Resting.{is_memory}
+use Rattle.uu_statements.proofs.Steps.{told_written, told_unwritten, memory_before}
 use Rattle.uu_statements.proofs.command.carry_out.Goals as goal
 
 pub returns-in-Ok-clause-step : goal.returns-in-Ok-clause-step
