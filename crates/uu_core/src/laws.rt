@@ -188,9 +188,9 @@ pub fn messages_cross_sites_once()
         → IsRoute chart site lines → Contains (network.site site).jobs job → GoesBy chart lines job → IsWelcomeOn chart network lines job → MayArrive chart network site lines job }
 {}
 
-/// What is due is found job by job, by grade and number: of no jobs nothing is due (`none`), and one
-/// more, behind the others, is due too where its system may be called for it and isn't listed yet
-/// (`more`). The same is due of the jobs in any order (`any_order`).
+/// What is due is found job by job, by grade and number: of no jobs nothing is due (`none`), and
+/// one more, behind the others, is due too where its system may be called for it and isn't listed
+/// yet (`more`). The same is due of the jobs in any order (`any_order`).
 pub fn dues_are_found_job_by_job()
     ensures none { (rows : List SystemRow) (at : Moment) → AreDue rows [] at [] }
     ensures more { (rows : List SystemRow) (at : Moment) (jobs : List JobHead) (job : JobHead) (dues : List Due) → AreInOrder (jobs ++ job ∷ []) → AreDue rows jobs at dues
