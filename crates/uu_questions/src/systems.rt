@@ -1,5 +1,5 @@
 // Systems with their lines, the ranges of these, their success waits, and their calls.
-ghost use Rattle.std.specs.Prelude.{◌≡◌, ◌≢◌, ℕ, List, Vec, map, filter, IfOk, IfErr, slice_get};
+ghost use Rattle.std.specs.Prelude.{◌≡◌, ◌≢◌, List, map, filter, IfOk, IfErr, slice_get};
 ghost use Rattle.sqlite.specs.Held.{state};
 ghost use Rattle.uu_schema.specs.Steps.{StaysIdle};
 ghost use Rattle.uu_core.specs.State.{IsWellFormed, system_at, is_system, same_text};
