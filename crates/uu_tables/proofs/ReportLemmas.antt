@@ -91,8 +91,9 @@ failed s name at why row ordered found = one_called s name (λ r. failed_call r 
 
 -- ---- the wait after a call that failed
 
-pub wait_is_within : (row : SystemRow) (at : Moment) (why : List ℕ) (result : Result CallState Refusal) → result ≡ Ok (failed_call row at why) → AreWithinLimits row.def.lines row.def.max_retries row.def.success_wait → IfOk result (λ call. call.wait ≤ most_wait)
-wait_is_within row at why result is limits = rw is (wait_within row.def at.week (one_more row.call.failures) limits)
+pub wait_is_within : (o : Option SystemRow) (at : Moment) (why : List ℕ) (result : Result CallState Refusal) → result ≡ failed_decision o at why → IfSome o (λ row. AreWithinLimits row.def.lines row.def.max_retries row.def.success_wait) → IfOk result (λ call. call.wait ≤ most_wait)
+wait_is_within None at why result is limits = rw is tt
+wait_is_within (Some row) at why result is limits = rw is (wait_within row.def at.week (one_more row.call.failures) limits)
 
 -- ---- what is decided on a call that failed
 
@@ -127,9 +128,9 @@ failed_is_refused s name at why o refusal facts decided =
 -- ---- what is decided on a call that went well
 
 -- its wait is a year at most
-pub success_wait_is_within : (o : Option SystemRow) (at : Moment) (result : Result CallState Refusal) (refusal : Option Refusal) → result ≡ decided refusal (done_call_of o at) → IfSome o (λ row. row.def.success_wait ≤ most_wait) → IfOk result (λ call. call.wait ≤ most_wait)
+pub success_wait_is_within : (o : Option SystemRow) (at : Moment) (result : Result CallState Refusal) (refusal : Option Refusal) → result ≡ decided refusal (done_call_of o at) → IfSome o (λ row. AreWithinLimits row.def.lines row.def.max_retries row.def.success_wait) → IfOk result (λ call. call.wait ≤ most_wait)
 success_wait_is_within None at result None is within = rw is (omega arith)
-success_wait_is_within (Some row) at result None is within = rw is within
+success_wait_is_within (Some row) at result None is within = rw is within.3
 success_wait_is_within o at result (Some refusal) is within = rw is tt
 
 -- where it is accepted, the system is known, and its calls are those
