@@ -1,5 +1,6 @@
 pub mod Meanings
 pub mod Answering
+pub mod Asking
 pub mod InOrder
 pub mod OfState
 pub mod Known

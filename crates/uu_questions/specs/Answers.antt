@@ -1,9 +1,11 @@
 -- What a question of the spool does.
 use Rattle.std.specs.Prelude.{◌≡◌, Result, IfOk, OnOk}
 use Rattle.sqlite.specs.declared.error.Error.{Error}
-use Rattle.sqlite.specs.State as db
 use Rattle.sqlite.specs.Effect.{Database}
-use Rattle.uu_schema.specs.Steps.{Stands, Told}
+use Rattle.sqlite.specs.Held.{Held, state}
+use Rattle.sqlite.specs.State as db
+use Rattle.sqlite.specs.Store.{Ghosts}
+use Rattle.uu_schema.specs.Steps.{Stands, StaysIdle, Told}
 use Rattle.uu_core.specs.State.{State, IsWellFormed}
 use Rattle.uu_tables.specs.Tables.{tables_of}
 use Rattle.uu_schema.specs.Schema.{site}
@@ -24,3 +26,8 @@ pub record Answers {T : Type 0} (IsAnswer : State → T → Type 0) (old new : d
   pub told : Told site old new r
   pub same : db.HasCleanDisk new → Stands site old.now → OnOk r (new.now ≡ old.now)
   pub exact : db.HasCleanDisk new → (s : State) → IsOf s old → IfOk r (IsAnswer s)
+
+-- The question is asked over a connection: it is answered so, and an idle connection stays idle.
+pub record Asks {S T : Type 0} (g : Ghosts S) (IsAnswer : State → T → Type 0) (old new : Held S) (r : Result T Error) : Type 0 where
+  pub idle : StaysIdle old new
+  pub answers : Answers IsAnswer (state g old) (state g new) r

@@ -29,10 +29,14 @@ is_among systems name = list_any (λ system. same_text system.name name) systems
 abbrev pub due_cells : Due → Row
 due_cells due = Text due.system ∷ Int (pos due.grade) ∷ Int (pos due.number) ∷ []
 
+-- each system has the limit that lets those grades through for which it may be called
+abbrev pub AreLimits : (List ℕ → Option ℕ) → (List ℕ → ℕ → Bool) → Type 0
+AreLimits limit may = (name : List ℕ) (grade : ℕ) → is_within (limit name) grade ≡ may name grade
+
 -- the limit that is left of each system lets those grades through for which it may be called, until
 -- it is listed
 abbrev pub IsLeft : (List ℕ → ℕ → Bool) → (List ℕ → Option ℕ) → List Due → Type 0
-IsLeft may limit dues = (name : List ℕ) (grade : ℕ) → is_within (limit name) grade ≡ (may name grade && not (is_listed dues name))
+IsLeft may limit dues = AreLimits limit (λ name grade. may name grade && not (is_listed dues name))
 
 -- a job more is listed where its system may be called for it and isn't listed
 abbrev pub with_due : (List ℕ → ℕ → Bool) → List Due → Due → List Due

@@ -3,9 +3,11 @@ use Rattle.std.specs.Prelude.{◌≡◌, ℕ, nat_eq, Bool, not, List, length, m
 use Rattle.std.specs.List.{AllByRecursion}
 use Rattle.std.specs.declared.alloc.Global.{Global}
 use Rattle.sqlite.specs.declared.error.Error.{Error}
+use Rattle.sqlite.specs.Held.{Held, state}
 use Rattle.sqlite.specs.Order.{Row}
 use Rattle.sqlite.specs.State as db
-use Rattle.uu_schema.specs.Steps.{Stands, Told}
+use Rattle.sqlite.specs.Store.{Ghosts}
+use Rattle.uu_schema.specs.Steps.{Stands, StaysIdle, Told}
 use Rattle.uu_schema.specs.Schema.{site}
 
 -- A question commits nothing and changes nothing, whatever it answers. What is read is read of the
@@ -14,6 +16,11 @@ pub record Reads {T : Type 0} (IsRead : List Row → T → Type 0) (text : List 
   pub told : Told site old new r
   pub same : db.HasCleanDisk new → Stands site old.now → OnOk r (new.now ≡ old.now)
   pub rows : db.HasCleanDisk new → IfOk r (λ read. (rows : List Row) × db.Shown text params old new rows × IsRead rows read)
+
+-- The text is asked over a connection, and this is read of its rows; an idle connection stays idle.
+pub record AsksAndReads {S T : Type 0} (g : Ghosts S) (IsRead : List Row → T → Type 0) (text : List ℕ) (params : Row) (old new : Held S) (r : Result T Error) : Type 0 where
+  pub idle : StaysIdle old new
+  pub reads : Reads IsRead text params (state g old) (state g new) r
 
 -- all of the rows, as typed rows whose values are those of their types
 abbrev pub AreTyped : {T : Type 0} → (T → Row) → (T → Type 0) → List Row → Vec T Global → Type 0

@@ -1,9 +1,11 @@
 -- The rows of an answer, taken one at a time.
 use Rattle.std.specs.Prelude.{◌≡◌, ℕ, List, [], ◌∷◌, Result, OnOk}
 use Rattle.sqlite.specs.declared.error.Error.{Error}
+use Rattle.sqlite.specs.Held.{Held, state}
 use Rattle.sqlite.specs.Order.{Row}
 use Rattle.sqlite.specs.State as db
-use Rattle.uu_schema.specs.Steps.{Stands, Told}
+use Rattle.sqlite.specs.Store.{Ghosts}
+use Rattle.uu_schema.specs.Steps.{Stands, StaysIdle, Told}
 use Rattle.uu_schema.specs.Schema.{site}
 
 -- each of the rows, one after the other, took the one to the other
@@ -17,3 +19,9 @@ pub record Walks {X T : Type 0} (takes : X → Row → X → Type 0) (text : Lis
   pub told : Told site old new r
   pub same : db.HasCleanDisk new → Stands site old.now → OnOk r (new.now ≡ old.now)
   pub rows : db.HasCleanDisk new → Stands site old.now → OnOk r ((rows : List Row) × db.Shown text params old new rows × Took takes before rows after)
+
+-- The text is asked over a connection, and its rows are taken one at a time; an idle connection
+-- stays idle.
+pub record AsksAndWalks {S X T : Type 0} (g : Ghosts S) (takes : X → Row → X → Type 0) (text : List ℕ) (params : Row) (old new : Held S) (before after : X) (r : Result T Error) : Type 0 where
+  pub idle : StaysIdle old new
+  pub walks : Walks takes text params (state g old) (state g new) before after r

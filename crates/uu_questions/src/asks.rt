@@ -1,11 +1,9 @@
 // Questions in SQL whose rows are read at once.
-ghost use Rattle.std.specs.Prelude.{◌≡◌, false};
-ghost use Rattle.sqlite.specs.Held.{state};
 ghost use Rattle.sqlite.specs.Values.{bound};
 ghost use Rattle.sqlite.specs.Given.{IsPlain};
 ghost use Rattle.sqlite.specs.Listing.{understood};
 ghost use Rattle.uu_schema.specs.Schema.{site};
-ghost use Rattle.uu_questions.specs.Reading.{Reads, AreTyped, IsFirst, IsThere};
+ghost use Rattle.uu_questions.specs.Reading.{AsksAndReads, AreTyped, IsFirst, IsThere};
 
 use sqlite::types::ValueRef;
 use sqlite::{Alter, Connection, Error};
@@ -20,8 +18,7 @@ pub(crate) fn typed_rows<S: Alter, T: TypedRow>(
     params: &[ValueRef<'_>],
 ) -> Result<Vec<T>, Error>
     requires { IsPlain (understood site sql.now) }
-    ensures idle { conn.old.in_transaction ≡ false → conn.new.in_transaction ≡ false }
-    ensures reads { Reads (AreTyped T.cells T.IsReadable) sql.now (bound params.now) (state S.Store conn.old) (state S.Store conn.new) result }
+    ensures { AsksAndReads S.Store (AreTyped T.cells T.IsReadable) sql.now (bound params.now) conn.old conn.new result }
 {
     let rows = conn.query_all(sql, params)?;
     read_rows(alloc, &rows)
@@ -35,8 +32,7 @@ pub(crate) fn typed_row<S: Alter, T: TypedRow>(
     params: &[ValueRef<'_>],
 ) -> Result<Option<T>, Error>
     requires { IsPlain (understood site sql.now) }
-    ensures idle { conn.old.in_transaction ≡ false → conn.new.in_transaction ≡ false }
-    ensures reads { Reads (IsFirst T.cells T.IsReadable) sql.now (bound params.now) (state S.Store conn.old) (state S.Store conn.new) result }
+    ensures { AsksAndReads S.Store (IsFirst T.cells T.IsReadable) sql.now (bound params.now) conn.old conn.new result }
 {
     let rows = conn.query_all(sql, params)?;
     first_row(alloc, &rows)
@@ -49,8 +45,7 @@ pub(crate) fn has_row<S: Alter>(
     params: &[ValueRef<'_>],
 ) -> Result<bool, Error>
     requires { IsPlain (understood site sql.now) }
-    ensures idle { conn.old.in_transaction ≡ false → conn.new.in_transaction ≡ false }
-    ensures reads { Reads IsThere sql.now (bound params.now) (state S.Store conn.old) (state S.Store conn.new) result }
+    ensures { AsksAndReads S.Store IsThere sql.now (bound params.now) conn.old conn.new result }
 {
     let rows = conn.query_all(sql, params)?;
     Ok(!rows.is_empty())

@@ -1,14 +1,13 @@
 // Which systems may be called now, and for which grades.
-ghost use Rattle.std.specs.Prelude.{◌≡◌, ◌&&◌, not, false, ℕ, List, map, filter, IfOk};
+ghost use Rattle.std.specs.Prelude.{◌≡◌, ◌&&◌, not, ℕ, List, map, filter, IfOk};
 ghost use Rattle.std.specs.Ordering.{nat_cmp};
 ghost use Rattle.std.specs.Cmp.Lexicographic.{slice_cmp};
 ghost use Rattle.std.specs.BTreeMap.{get};
-ghost use Rattle.sqlite.specs.Held.{state};
 ghost use Rattle.uu_core.specs.Waiting.{is_held};
 ghost use Rattle.uu_core.specs.Due.{is_within, may_be_called};
 ghost use Rattle.uu_tables.specs.Tables.{system_columns};
-ghost use Rattle.uu_questions.specs.Answers.{Answers};
-ghost use Rattle.uu_questions.specs.Dues.{lets_through, is_open, is_among};
+ghost use Rattle.uu_questions.specs.Answers.{Asks};
+ghost use Rattle.uu_questions.specs.Dues.{AreLimits, lets_through, is_open, is_among};
 
 use crate::asks::typed_rows;
 use sqlite::{Alter, Connection, Error, params};
@@ -41,8 +40,7 @@ fn held_systems<S: Alter>(
     conn: &mut Connection<S>,
     at: &Moment,
 ) -> Result<Vec<SystemColumns>, Error>
-    ensures idle { conn.old.in_transaction ≡ false → conn.new.in_transaction ≡ false }
-    ensures answers { Answers (λ s held. held.items ≡ map system_columns (filter (λ row. is_held row.call at.now.second) s.systems)) (state S.Store conn.old) (state S.Store conn.new) result }
+    ensures { Asks S.Store (λ s held. held.items ≡ map system_columns (filter (λ row. is_held row.call at.now.second) s.systems)) conn.old conn.new result }
 {
     typed_rows(
         alloc,
@@ -58,8 +56,7 @@ fn open_lines<S: Alter>(
     conn: &mut Connection<S>,
     at: &Moment,
 ) -> Result<Vec<LineColumns>, Error>
-    ensures idle { conn.old.in_transaction ≡ false → conn.new.in_transaction ≡ false }
-    ensures answers { Answers (λ s lines. (name : List ℕ) (grade : ℕ) → lets_through lines.items name grade ≡ is_open s.systems at.now.week name grade) (state S.Store conn.old) (state S.Store conn.new) result }
+    ensures { Asks S.Store (λ s lines. (name : List ℕ) (grade : ℕ) → lets_through lines.items name grade ≡ is_open s.systems at.now.week name grade) conn.old conn.new result }
 {
     typed_rows(
         alloc,
@@ -73,7 +70,7 @@ fn open_lines<S: Alter>(
 
 // The lowest grade of the lines of each system.
 fn lowest_of(alloc: Global, lines: &[LineColumns]) -> Result<BTreeMap<SiteName, Grade>, AllocError>
-    ensures { IfOk result (λ limits. (name : List ℕ) (grade : ℕ) → is_within (get (slice_cmp nat_cmp) limits name) grade ≡ lets_through lines.now name grade) }
+    ensures { IfOk result (λ limits. AreLimits (get (slice_cmp nat_cmp) limits) (lets_through lines.now)) }
 {
     let mut limits = BTreeMap::new(alloc);
     for line in lines {
@@ -87,7 +84,7 @@ fn without(
     limits: BTreeMap<SiteName, Grade>,
     systems: &[SystemColumns],
 ) -> BTreeMap<SiteName, Grade>
-    ensures { (name : List ℕ) (grade : ℕ) → is_within (get (slice_cmp nat_cmp) result name) grade ≡ (is_within (get (slice_cmp nat_cmp) limits name) grade && not (is_among systems.now name)) }
+    ensures { AreLimits (get (slice_cmp nat_cmp) result) (λ name grade. is_within (get (slice_cmp nat_cmp) limits name) grade && not (is_among systems.now name)) }
 {
     let mut left = limits;
     for system in systems {
@@ -103,7 +100,7 @@ fn limits(
     lines: &[LineColumns],
     held: &[SystemColumns],
 ) -> Result<BTreeMap<SiteName, Grade>, Error>
-    ensures { IfOk result (λ limits. (name : List ℕ) (grade : ℕ) → is_within (get (slice_cmp nat_cmp) limits name) grade ≡ (lets_through lines.now name grade && not (is_among held.now name))) }
+    ensures { IfOk result (λ limits. AreLimits (get (slice_cmp nat_cmp) limits) (λ name grade. lets_through lines.now name grade && not (is_among held.now name))) }
 {
     let lowest = lowest_of(alloc, lines)?;
     Ok(without(lowest, held))
@@ -117,8 +114,7 @@ pub(crate) fn callable<S: Alter>(
     conn: &mut Connection<S>,
     at: &Moment,
 ) -> Result<BTreeMap<SiteName, Grade>, Error>
-    ensures idle { conn.old.in_transaction ≡ false → conn.new.in_transaction ≡ false }
-    ensures answers { Answers (λ s limits. (name : List ℕ) (grade : ℕ) → is_within (get (slice_cmp nat_cmp) limits name) grade ≡ may_be_called s.systems at.now name grade) (state S.Store conn.old) (state S.Store conn.new) result }
+    ensures { Asks S.Store (λ s limits. AreLimits (get (slice_cmp nat_cmp) limits) (may_be_called s.systems at.now)) conn.old conn.new result }
 {
     let lines = open_lines(alloc, conn, at)?;
     let held = held_systems(alloc, conn, at)?;

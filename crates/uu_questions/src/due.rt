@@ -1,22 +1,21 @@
 // For which job each system is called now.
-ghost use Rattle.std.specs.Prelude.{◌≡◌, ◌≢◌, ◌<◌, false, ℕ, Bool, List, map, IfOk, IfErr, OnOk, IsTrue};
+ghost use Rattle.std.specs.Prelude.{◌≡◌, ◌≢◌, ◌<◌, ℕ, Bool, List, map, IfOk, IfErr, OnOk, IsTrue};
 ghost use Rattle.std.specs.Ordering.{nat_cmp};
 ghost use Rattle.std.specs.Cmp.Lexicographic.{slice_cmp};
 ghost use Rattle.std.specs.BTreeMap.{get};
-ghost use Rattle.sqlite.specs.Held.{state};
 ghost use Rattle.uu_times.specs.declared.moment.Moment.{Moment};
 ghost use Rattle.uu_core.specs.declared.due.Due.{Due};
 ghost use Rattle.uu_core.specs.declared.system.SystemRow.{SystemRow};
 ghost use Rattle.uu_core.specs.State.{head_of};
-ghost use Rattle.uu_core.specs.Due.{is_within, may_be_called, AreDue};
+ghost use Rattle.uu_core.specs.Due.{may_be_called, AreDue};
 ghost use Rattle.sqlite.specs.declared.error.Error.TheVariants.{SqliteFailure, QueryReturnedNoRows};
 ghost use Rattle.sqlite.specs.declared.error.ErrorCode.TheVariants.{OutOfMemory};
 ghost use Rattle.uu_names.specs.Grade.{grade_count};
 ghost use Rattle.uu_names.specs.Name.{is_site_name};
 ghost use Rattle.uu_rows.specs.Readable.{IsSmall};
 ghost use Rattle.uu_rows.specs.Values.{NotIf};
-ghost use Rattle.uu_questions.specs.Answers.{Answers};
-ghost use Rattle.uu_questions.specs.Dues.{IsLeft, TakesRow, due_cells, with_due};
+ghost use Rattle.uu_questions.specs.Answers.{Asks};
+ghost use Rattle.uu_questions.specs.Dues.{AreLimits, IsLeft, TakesRow, due_cells, with_due};
 
 use crate::callable::callable;
 use crate::walk::{RowTaker, walk_rows};
@@ -91,10 +90,9 @@ fn due_within<S: Alter>(
     conn: &mut Connection<S>,
     limits: BTreeMap<SiteName, Grade>,
 ) -> Result<Vec<Due>, Error>
-    ensures idle { conn.old.in_transaction ≡ false → conn.new.in_transaction ≡ false }
-    ensures answers { Answers (λ s dues. (rows : List SystemRow) (at : Moment)
-        → ((name : List ℕ) (grade : ℕ) → is_within (get (slice_cmp nat_cmp) limits name) grade ≡ may_be_called rows at name grade)
-        → AreDue rows (map head_of s.jobs) at dues.items) (state S.Store conn.old) (state S.Store conn.new) result }
+    ensures { Asks S.Store (λ s dues. (rows : List SystemRow) (at : Moment)
+        → AreLimits (get (slice_cmp nat_cmp) limits) (may_be_called rows at)
+        → AreDue rows (map head_of s.jobs) at dues.items) conn.old conn.new result }
 {
     walks_go_job_by_job();
     walks_list_what_is_due();
@@ -121,8 +119,7 @@ pub fn systems_due<S: Alter>(
     conn: &mut Connection<S>,
     at: &Moment,
 ) -> Result<Vec<Due>, Error>
-    ensures idle { conn.old.in_transaction ≡ false → conn.new.in_transaction ≡ false }
-    ensures answers { Answers (λ s dues. AreDue s.systems (map head_of s.jobs) at.now dues.items) (state S.Store conn.old) (state S.Store conn.new) result }
+    ensures { Asks S.Store (λ s dues. AreDue s.systems (map head_of s.jobs) at.now dues.items) conn.old conn.new result }
 {
     let limits = callable(alloc, conn, at)?;
     due_within(alloc, conn, limits)

@@ -1,9 +1,8 @@
 // Map entries.
-ghost use Rattle.std.specs.Prelude.{◌≡◌, false, option_map, IfOk};
-ghost use Rattle.sqlite.specs.Held.{state};
+ghost use Rattle.std.specs.Prelude.{◌≡◌, option_map};
 ghost use Rattle.uu_core.specs.State.{entry_at};
 ghost use Rattle.uu_tables.specs.Tables.{entry_columns};
-ghost use Rattle.uu_questions.specs.Answers.{Answers};
+ghost use Rattle.uu_questions.specs.Answers.{Asks};
 
 use crate::asks::typed_row;
 use sqlite::{Alter, Connection, Error, params};
@@ -17,8 +16,7 @@ fn row_of_host<S: Alter>(
     conn: &mut Connection<S>,
     host: &SiteName,
 ) -> Result<Option<EntryColumns>, Error>
-    ensures idle { conn.old.in_transaction ≡ false → conn.new.in_transaction ≡ false }
-    ensures answers { Answers (λ s found. found ≡ option_map entry_columns (entry_at s host.now)) (state S.Store conn.old) (state S.Store conn.new) result }
+    ensures { Asks S.Store (λ s found. found ≡ option_map entry_columns (entry_at s host.now)) conn.old conn.new result }
 {
     typed_row(
         alloc,
@@ -34,8 +32,7 @@ pub fn entry_of_host<S: Alter>(
     conn: &mut Connection<S>,
     host: &SiteName,
 ) -> Result<Option<Vec<u8>>, Error>
-    ensures idle { conn.old.in_transaction ≡ false → conn.new.in_transaction ≡ false }
-    ensures answers { Answers (λ s found. option_map (λ text. text.items) found ≡ option_map (λ entry. entry.bytes) (entry_at s host.now)) (state S.Store conn.old) (state S.Store conn.new) result }
+    ensures { Asks S.Store (λ s found. option_map (λ text. text.items) found ≡ option_map (λ entry. entry.bytes) (entry_at s host.now)) conn.old conn.new result }
 {
     match row_of_host(alloc, conn, host)? {
         Some(row) => Ok(Some(row.bytes.into_vec())),

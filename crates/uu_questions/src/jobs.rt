@@ -1,13 +1,14 @@
 // Jobs without their bytes, and one job with them.
-ghost use Rattle.std.specs.Prelude.{◌≡◌, ◌≢◌, ◌↔◌, ◌==◌, ◌++◌, false, ℕ, List, length, Some, IsTrue, IfOk, IfErr, IfSome, filter, flat_map, option_map};
+ghost use Rattle.std.specs.Prelude.{◌≡◌, ◌≢◌, ◌↔◌, ◌==◌, ◌++◌, ℕ, List, length, Some, IsTrue, IfOk, IfErr, IfSome, filter, flat_map, option_map};
 ghost use Rattle.sqlite.specs.declared.error.Error.TheVariants.{QueryReturnedNoRows};
 ghost use Rattle.sqlite.specs.Held.{state};
 ghost use Rattle.sqlite.specs.Order.{Row, column};
 ghost use Rattle.sqlite.specs.declared.types.Value.TheVariants.{Blob};
+ghost use Rattle.uu_schema.specs.Steps.{StaysIdle};
 ghost use Rattle.uu_core.specs.declared.filter.Filter.{Filter};
 ghost use Rattle.uu_core.specs.State.{job_at};
 ghost use Rattle.uu_tables.specs.Tables.{tables_of};
-ghost use Rattle.uu_questions.specs.Answers.{Answers};
+ghost use Rattle.uu_questions.specs.Answers.{Answers, Asks};
 ghost use Rattle.uu_questions.specs.Listing.{WantsAll, listed, handed_out, whole};
 
 use crate::asks::typed_rows;
@@ -27,8 +28,7 @@ fn wants_all(filter: &Filter) -> bool
 
 // All jobs, which are those that fit where neither the system nor the user matters.
 fn list_all_jobs<S: Alter>(alloc: Global, conn: &mut Connection<S>) -> Result<Vec<JobHead>, Error>
-    ensures idle { conn.old.in_transaction ≡ false → conn.new.in_transaction ≡ false }
-    ensures answers { (f : Filter) → WantsAll f → Answers (λ s heads. heads.items ≡ listed f s) (state S.Store conn.old) (state S.Store conn.new) result }
+    ensures { Asks S.Store (λ s heads. (f : Filter) → WantsAll f → heads.items ≡ listed f s) conn.old conn.new result }
 {
     typed_rows(
         alloc,
@@ -44,8 +44,7 @@ fn list_fitting_jobs<S: Alter>(
     conn: &mut Connection<S>,
     filter: &Filter,
 ) -> Result<Vec<JobHead>, Error>
-    ensures idle { conn.old.in_transaction ≡ false → conn.new.in_transaction ≡ false }
-    ensures answers { Answers (λ s heads. heads.items ≡ listed filter.now s) (state S.Store conn.old) (state S.Store conn.new) result }
+    ensures { Asks S.Store (λ s heads. heads.items ≡ listed filter.now s) conn.old conn.new result }
 {
     let system = filter.system_text();
     let user = filter.user_text();
@@ -63,8 +62,7 @@ pub fn list_jobs<S: Alter>(
     conn: &mut Connection<S>,
     filter: &Filter,
 ) -> Result<Vec<JobHead>, Error>
-    ensures idle { conn.old.in_transaction ≡ false → conn.new.in_transaction ≡ false }
-    ensures answers { Answers (λ s heads. heads.items ≡ listed filter.now s) (state S.Store conn.old) (state S.Store conn.new) result }
+    ensures { Asks S.Store (λ s heads. heads.items ≡ listed filter.now s) conn.old conn.new result }
 {
     if wants_all(filter) {
         list_all_jobs(alloc, conn)
@@ -99,8 +97,7 @@ fn bytes_of_job<S: Alter>(
     conn: &mut Connection<S>,
     number: u32,
 ) -> Result<Vec<u8>, Error>
-    ensures idle { conn.old.in_transaction ≡ false → conn.new.in_transaction ≡ false }
-    ensures answers { Answers (λ s bytes. bytes.items ≡ flat_map (λ piece. piece.bytes) (filter (λ piece. piece.job == number) (tables_of s).pieces)) (state S.Store conn.old) (state S.Store conn.new) result }
+    ensures { Asks S.Store (λ s bytes. bytes.items ≡ flat_map (λ piece. piece.bytes) (filter (λ piece. piece.job == number) (tables_of s).pieces)) conn.old conn.new result }
 {
     let mut joined = Joined {
         bytes: Vec::new(alloc),
@@ -135,7 +132,7 @@ pub fn job_of_number<S: Alter>(
     conn: &mut Connection<S>,
     number: u32,
 ) -> Result<Option<(JobHead, Vec<u8>)>, Error>
-    ensures idle { conn.old.in_transaction ≡ false → conn.new.in_transaction ≡ false }
+    ensures idle { StaysIdle conn.old conn.new }
     ensures answers { Answers (λ s found. option_map handed_out found ≡ option_map whole (job_at s number)) (state S.Store conn.old) (state S.Store conn.new) result }
     ensures size { IfOk result (λ found. IfSome found (λ job. job.0.size ≡ length job.1.items)) }
 {

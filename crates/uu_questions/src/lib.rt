@@ -1,4 +1,4 @@
-//! The questions that the spool's store asks of its eight tables, each with its answer: what is
+//! The questions that the spool's store asks of its ten tables, each with its answer: what is
 //! asked before a command, and what users ask. A question commits nothing and changes nothing,
 //! whatever it answers. Want of memory is `OutOfMemory`; a row that the tables allow and the format
 //! does not is `QueryReturnedNoRows`.

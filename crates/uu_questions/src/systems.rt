@@ -1,9 +1,10 @@
 // Systems with their lines, the ranges of these, their success waits, and their calls.
-ghost use Rattle.std.specs.Prelude.{◌≡◌, ◌≢◌, false, ℕ, List, Vec, map, filter, IfOk, IfErr, slice_get};
+ghost use Rattle.std.specs.Prelude.{◌≡◌, ◌≢◌, ℕ, List, Vec, map, filter, IfOk, IfErr, slice_get};
 ghost use Rattle.sqlite.specs.Held.{state};
+ghost use Rattle.uu_schema.specs.Steps.{StaysIdle};
 ghost use Rattle.uu_core.specs.State.{IsWellFormed, system_at, is_system, same_text};
 ghost use Rattle.uu_tables.specs.Tables.{tables_of, system_columns};
-ghost use Rattle.uu_questions.specs.Answers.{Answers};
+ghost use Rattle.uu_questions.specs.Answers.{Answers, Asks};
 ghost use Rattle.uu_questions.specs.Assembly.{AreRowsOfSystems, holding};
 ghost use Rattle.uu_core.specs.declared.system.SystemRow.{SystemRow};
 ghost use Rattle.sqlite.specs.declared.error.Error.TheVariants.{SqliteFailure, QueryReturnedNoRows};
@@ -24,8 +25,7 @@ fn columns_of<S: Alter>(
     conn: &mut Connection<S>,
     name: &str,
 ) -> Result<Vec<SystemColumns>, Error>
-    ensures idle { conn.old.in_transaction ≡ false → conn.new.in_transaction ≡ false }
-    ensures answers { Answers (λ s found. found.items ≡ map system_columns (filter (is_system name.now) s.systems)) (state S.Store conn.old) (state S.Store conn.new) result }
+    ensures { Asks S.Store (λ s found. found.items ≡ map system_columns (filter (is_system name.now) s.systems)) conn.old conn.new result }
 {
     typed_rows(
         alloc,
@@ -41,8 +41,7 @@ fn lines_of<S: Alter>(
     conn: &mut Connection<S>,
     name: &str,
 ) -> Result<Vec<LineColumns>, Error>
-    ensures idle { conn.old.in_transaction ≡ false → conn.new.in_transaction ≡ false }
-    ensures answers { Answers (λ s lines. lines.items ≡ filter (λ line. same_text line.system name.now) (tables_of s).lines) (state S.Store conn.old) (state S.Store conn.new) result }
+    ensures { Asks S.Store (λ s lines. lines.items ≡ filter (λ line. same_text line.system name.now) (tables_of s).lines) conn.old conn.new result }
 {
     typed_rows(
         alloc,
@@ -58,8 +57,7 @@ fn ranges_of<S: Alter>(
     conn: &mut Connection<S>,
     name: &str,
 ) -> Result<Vec<RangeColumns>, Error>
-    ensures idle { conn.old.in_transaction ≡ false → conn.new.in_transaction ≡ false }
-    ensures answers { Answers (λ s ranges. ranges.items ≡ filter (λ range. same_text range.system name.now) (tables_of s).ranges) (state S.Store conn.old) (state S.Store conn.new) result }
+    ensures { Asks S.Store (λ s ranges. ranges.items ≡ filter (λ range. same_text range.system name.now) (tables_of s).ranges) conn.old conn.new result }
 {
     typed_rows(
         alloc,
@@ -75,8 +73,7 @@ fn waits_of<S: Alter>(
     conn: &mut Connection<S>,
     name: &str,
 ) -> Result<Vec<WaitColumns>, Error>
-    ensures idle { conn.old.in_transaction ≡ false → conn.new.in_transaction ≡ false }
-    ensures answers { Answers (λ s waits. waits.items ≡ filter (λ wait. same_text wait.system name.now) (tables_of s).success_waits) (state S.Store conn.old) (state S.Store conn.new) result }
+    ensures { Asks S.Store (λ s waits. waits.items ≡ filter (λ wait. same_text wait.system name.now) (tables_of s).success_waits) conn.old conn.new result }
 {
     typed_rows(
         alloc,
@@ -91,8 +88,7 @@ fn all_columns<S: Alter>(
     alloc: Global,
     conn: &mut Connection<S>,
 ) -> Result<Vec<SystemColumns>, Error>
-    ensures idle { conn.old.in_transaction ≡ false → conn.new.in_transaction ≡ false }
-    ensures answers { Answers (λ s found. found.items ≡ map system_columns s.systems) (state S.Store conn.old) (state S.Store conn.new) result }
+    ensures { Asks S.Store (λ s found. found.items ≡ map system_columns s.systems) conn.old conn.new result }
 {
     let rows = ask_systems(conn)?;
     read_rows(alloc, &rows)
@@ -100,8 +96,7 @@ fn all_columns<S: Alter>(
 
 // The rows of all lines.
 fn all_lines<S: Alter>(alloc: Global, conn: &mut Connection<S>) -> Result<Vec<LineColumns>, Error>
-    ensures idle { conn.old.in_transaction ≡ false → conn.new.in_transaction ≡ false }
-    ensures answers { Answers (λ s lines. lines.items ≡ (tables_of s).lines) (state S.Store conn.old) (state S.Store conn.new) result }
+    ensures { Asks S.Store (λ s lines. lines.items ≡ (tables_of s).lines) conn.old conn.new result }
 {
     let rows = ask_lines(conn)?;
     read_rows(alloc, &rows)
@@ -109,8 +104,7 @@ fn all_lines<S: Alter>(alloc: Global, conn: &mut Connection<S>) -> Result<Vec<Li
 
 // The rows of all ranges.
 fn all_ranges<S: Alter>(alloc: Global, conn: &mut Connection<S>) -> Result<Vec<RangeColumns>, Error>
-    ensures idle { conn.old.in_transaction ≡ false → conn.new.in_transaction ≡ false }
-    ensures answers { Answers (λ s ranges. ranges.items ≡ (tables_of s).ranges) (state S.Store conn.old) (state S.Store conn.new) result }
+    ensures { Asks S.Store (λ s ranges. ranges.items ≡ (tables_of s).ranges) conn.old conn.new result }
 {
     let rows = ask_ranges(conn)?;
     read_rows(alloc, &rows)
@@ -118,8 +112,7 @@ fn all_ranges<S: Alter>(alloc: Global, conn: &mut Connection<S>) -> Result<Vec<R
 
 // The rows of all success waits.
 fn all_waits<S: Alter>(alloc: Global, conn: &mut Connection<S>) -> Result<Vec<WaitColumns>, Error>
-    ensures idle { conn.old.in_transaction ≡ false → conn.new.in_transaction ≡ false }
-    ensures answers { Answers (λ s waits. waits.items ≡ (tables_of s).success_waits) (state S.Store conn.old) (state S.Store conn.new) result }
+    ensures { Asks S.Store (λ s waits. waits.items ≡ (tables_of s).success_waits) conn.old conn.new result }
 {
     let rows = ask_waits(conn)?;
     read_rows(alloc, &rows)
@@ -139,10 +132,9 @@ fn line_rows_of<S: Alter>(
     conn: &mut Connection<S>,
     name: &str,
 ) -> Result<LineRows, Error>
-    ensures idle { conn.old.in_transaction ≡ false → conn.new.in_transaction ≡ false }
-    ensures answers { Answers (λ s rows. (rows.lines.items ≡ filter (λ line. same_text line.system name.now) (tables_of s).lines)
+    ensures { Asks S.Store (λ s rows. (rows.lines.items ≡ filter (λ line. same_text line.system name.now) (tables_of s).lines)
         × (rows.ranges.items ≡ filter (λ range. same_text range.system name.now) (tables_of s).ranges)
-        × (rows.waits.items ≡ filter (λ wait. same_text wait.system name.now) (tables_of s).success_waits)) (state S.Store conn.old) (state S.Store conn.new) result }
+        × (rows.waits.items ≡ filter (λ wait. same_text wait.system name.now) (tables_of s).success_waits)) conn.old conn.new result }
 {
     let lines = lines_of(alloc, conn, name)?;
     let ranges = ranges_of(alloc, conn, name)?;
@@ -156,8 +148,9 @@ fn line_rows_of<S: Alter>(
 
 // The rows of all lines, of their ranges and of all success waits.
 fn all_line_rows<S: Alter>(alloc: Global, conn: &mut Connection<S>) -> Result<LineRows, Error>
-    ensures idle { conn.old.in_transaction ≡ false → conn.new.in_transaction ≡ false }
-    ensures answers { Answers (λ s rows. (rows.lines.items ≡ (tables_of s).lines) × (rows.ranges.items ≡ (tables_of s).ranges) × (rows.waits.items ≡ (tables_of s).success_waits)) (state S.Store conn.old) (state S.Store conn.new) result }
+    ensures { Asks S.Store (λ s rows. (rows.lines.items ≡ (tables_of s).lines)
+        × (rows.ranges.items ≡ (tables_of s).ranges)
+        × (rows.waits.items ≡ (tables_of s).success_waits)) conn.old conn.new result }
 {
     let lines = all_lines(alloc, conn)?;
     let ranges = all_ranges(alloc, conn)?;
@@ -199,8 +192,7 @@ pub(crate) fn system_of_name<S: Alter>(
     conn: &mut Connection<S>,
     name: &SiteName,
 ) -> Result<Option<SystemRow>, Error>
-    ensures idle { conn.old.in_transaction ≡ false → conn.new.in_transaction ≡ false }
-    ensures answers { Answers (λ s found. found ≡ system_at s name.now) (state S.Store conn.old) (state S.Store conn.new) result }
+    ensures { Asks S.Store (λ s found. found ≡ system_at s name.now) conn.old conn.new result }
 {
     let columns = columns_of(alloc, conn, name.as_str())?;
     let rows = line_rows_of(alloc, conn, name.as_str())?;
@@ -213,7 +205,7 @@ pub fn all_systems<S: Alter>(
     alloc: Global,
     conn: &mut Connection<S>,
 ) -> Result<Vec<SystemRow>, Error>
-    ensures idle { conn.old.in_transaction ≡ false → conn.new.in_transaction ≡ false }
+    ensures idle { StaysIdle conn.old conn.new }
     ensures answers { Answers (λ s systems. systems.items ≡ s.systems) (state S.Store conn.old) (state S.Store conn.new) result }
     ensures formed { IfOk result (λ systems. IsWellFormed (holding systems.items)) }
 {

@@ -1,12 +1,11 @@
 // The rows of an answer, taken one at a time.
-ghost use Rattle.std.specs.Prelude.{◌≡◌, false, OnOk};
+ghost use Rattle.std.specs.Prelude.{OnOk};
 ghost use Rattle.sqlite.specs.Order.{Row};
-ghost use Rattle.sqlite.specs.Held.{state};
 ghost use Rattle.sqlite.specs.Values.{bound};
 ghost use Rattle.sqlite.specs.Given.{IsPlain};
 ghost use Rattle.sqlite.specs.Listing.{understood};
 ghost use Rattle.uu_schema.specs.Schema.{site};
-ghost use Rattle.uu_questions.specs.Walks.{Walks};
+ghost use Rattle.uu_questions.specs.Walks.{AsksAndWalks};
 
 use sqlite::types::ValueRef;
 use sqlite::{Alter, Connection, Error, Row};
@@ -29,8 +28,7 @@ pub(crate) fn walk_rows<S: Alter, T: RowTaker>(
     taker: &mut T,
 ) -> Result<(), Error>
     requires { IsPlain (understood site sql.now) }
-    ensures idle { conn.old.in_transaction ≡ false → conn.new.in_transaction ≡ false }
-    ensures walks { Walks T.takes sql.now (bound params.now) (state S.Store conn.old) (state S.Store conn.new) taker.old taker.new result }
+    ensures { AsksAndWalks S.Store T.takes sql.now (bound params.now) conn.old conn.new taker.old taker.new result }
 {
     let mut rows = conn.query(sql, params)?;
     'rows: for _ in 0..u64::MAX {

@@ -6,13 +6,23 @@ use Rattle.uu_questions.proofs.Reading.{none_read, then_reads}
 use Rattle.uu_rows.proofs.Showing.{answered}
 use Rattle.uu_questions.proofs.asks.typed_rows.Goals as goal
 
-pub returns-in_err-rows-clause-reads : goal.returns-in_err-rows-clause-reads
-returns-in_err-rows-clause-reads g c =
-    none_read c.args.sql.now (bound c.args.params.now) (state g.S.Store c.args.conn.now) (state g.S.Store c.query_all.new.self) c.requires (AreTyped g.T.TypedRow.cells g.T.TypedRow.IsReadable)
-    c.query_all.result c.query_all.ensures.ok c.query_all.ensures.err c.query_all.ensures.survives c.from_residual.result c.from_residual.ensures.0
+pub returns-in_err-rows : goal.returns-in_err-rows
+returns-in_err-rows g c =
+    let old = state g.S.Store c.args.conn.now in
+    let new = state g.S.Store c.query_all.new.self in
+    let it = c.query_all.ensures in
+    record {
+      idle = it.mode;
+      reads = none_read c.args.sql.now (bound c.args.params.now) old new c.requires (AreTyped g.T.TypedRow.cells g.T.TypedRow.IsReadable) c.query_all.result it.ok it.err it.survives c.from_residual.result c.from_residual.ensures.0;
+    }
 
-pub returns-clause-reads : goal.returns-clause-reads
-returns-clause-reads g c =
-    then_reads c.args.sql.now (bound c.args.params.now) (state g.S.Store c.args.conn.now) (state g.S.Store c.query_all.new.self) c.requires (AreTyped g.T.TypedRow.cells g.T.TypedRow.IsReadable)
-    c.query_all.result c.query_all.ensures.ok c.query_all.ensures.err c.query_all.ensures.survives c.read_rows.result (answered _ _ c.in_ok-rows.was)
-    (λ clean. both_ok c.read_rows.result _ _ _ (λ typed is good. (c.in_ok-rows.rows.items, c.in_ok-rows.ensures.ok clean, (rw c.deref.ensures.value at is, good))) c.read_rows.ensures.rows c.read_rows.ensures.readable)
+pub returns : goal.returns
+returns g c =
+    let old = state g.S.Store c.args.conn.now in
+    let new = state g.S.Store c.query_all.new.self in
+    let it = c.query_all.ensures in
+    record {
+      idle = it.mode;
+      reads = then_reads c.args.sql.now (bound c.args.params.now) old new c.requires (AreTyped g.T.TypedRow.cells g.T.TypedRow.IsReadable) c.query_all.result it.ok it.err it.survives c.read_rows.result (answered _ _ c.in_ok-rows.was)
+          (λ clean. both_ok c.read_rows.result _ _ _ (λ typed is good. (c.in_ok-rows.rows.items, c.in_ok-rows.ensures.ok clean, (rw c.deref.ensures.value at is, good))) c.read_rows.ensures.rows c.read_rows.ensures.readable);
+    }

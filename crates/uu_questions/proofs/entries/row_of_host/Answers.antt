@@ -1,20 +1,18 @@
-use Rattle.std.proofs.Common.{[], ◌∷◌, ap, ◌∙◌, option_map}
-use Rattle.sqlite.specs.declared.types.Value.TheVariants.{Text}
+use Rattle.std.proofs.Common.{ap, ◌∙◌, option_map}
 use Rattle.sqlite.specs.Held.{state}
 use Rattle.uu_core.specs.State.{entry_at}
 use Rattle.uu_tables.specs.Tables.{entry_columns}
-use Rattle.uu_questions.specs.Texts.{entry_text}
 use Rattle.uu_questions.proofs.Meanings.{entry_means}
 use Rattle.uu_questions.proofs.Listed.{entry_found}
-use Rattle.uu_questions.proofs.Reading.{read_answers}
+use Rattle.uu_questions.proofs.Asking.{asks_read}
 use Rattle.uu_questions.proofs.entries.row_of_host.Goals as goal
 
 pub typed_row-requires : goal.typed_row-requires
 typed_row-requires g c = entry_means.plain
 
-pub returns-clause-answers : goal.returns-clause-answers
-returns-clause-answers g c =
+pub returns : goal.returns
+returns g c =
     let a = state g.S.Store c.args.conn.now in
     let b = state g.S.Store c.typed_row.new.conn in
-    read_answers _ _ entry_text (Text c.as_str.result.now ∷ []) a b c.typed_row.result (rw c.params-to_sql.ensures at c.typed_row.ensures.reads)
+    asks_read (rw c.params-to_sql.ensures at c.typed_row.ensures)
     (λ s of rows shown found it. entry_found a b s c.as_str.result.now rows of shown found it.0 ∙ ap (λ h. option_map entry_columns (entry_at s h)) c.as_str.ensures.text)

@@ -1,14 +1,12 @@
 use Rattle.std.proofs.lemmas.Result.{IfOk-weaker}
 use Rattle.sqlite.specs.Held.{state}
-use Rattle.uu_rows.specs.Texts.{systems_text}
-use Rattle.uu_questions.proofs.Answering.{then_read}
-use Rattle.uu_rows.proofs.Showing.{answered}
+use Rattle.uu_questions.proofs.Asking.{asks_shown}
 use Rattle.uu_questions.proofs.SystemRows.{systems_found}
 use Rattle.uu_questions.proofs.systems.all_columns.Goals as goal
 
-pub returns-clause-answers : goal.returns-clause-answers
-returns-clause-answers g c =
+pub returns : goal.returns
+returns g c =
     let a = state g.S.Store c.args.conn.now in
     let b = state g.S.Store c.ask_systems.new.conn in
-    then_read _ systems_text _ a b c.ask_systems.result _ c.ask_systems.ensures.shows (answered _ _ c.in_ok-rows.was)
+    asks_shown c.ask_systems.ensures c.in_ok-rows.was
     (λ clean s of. IfOk-weaker c.read_rows.result _ _ (λ found read. systems_found a b s c.in_ok-rows.rows.items of (c.in_ok-rows.ensures.shows.rows clean) found.items (rw c.deref.ensures.value at read)) c.read_rows.ensures.rows)

@@ -1,34 +1,13 @@
-use Rattle.sqlite.specs.Held.{state}
-use Rattle.uu_questions.proofs.Answering.{then_answers, beside_first, answer_in, none_ok, none_known}
-use Rattle.uu_rows.proofs.Showing.{answered}
+use Rattle.uu_questions.proofs.Asking.{asks_both, asks_beside, asks_refused}
 use Rattle.uu_questions.proofs.systems.all_line_rows.Goals as goal
 
-pub returns-clause-answers : goal.returns-clause-answers
-returns-clause-answers g c =
-    let a = state g.S.Store c.args.conn.now in
-    let b = state g.S.Store c.all_lines.new.conn in
-    let d = state g.S.Store c.all_ranges.new.conn in
-    let e = state g.S.Store c.all_waits.new.conn in
-    let both = beside_first _ a b c.all_lines.result c.all_lines.ensures.answers _ c.in_ok-lines.was _ d c.all_ranges.result c.all_ranges.ensures.answers in
-    then_answers _ a d c.all_ranges.result both (answered _ _ c.in_ok-ranges.was) _ e c.all_waits.result c.all_waits.ensures.answers _ _ (λ ok. answered _ _ c.in_ok-waits.was)
-    (λ s good h k. let known = answer_in _ c.all_ranges.result _ c.in_ok-ranges.was h in (known.0, known.1, answer_in _ c.all_waits.result _ c.in_ok-waits.was k))
+pub returns : goal.returns
+returns g c =
+    asks_both (asks_beside c.all_lines.ensures c.in_ok-lines.was c.all_ranges.ensures) c.in_ok-ranges.was c.all_waits.ensures c.in_ok-waits.was (λ s good known waits. (known.0, known.1, waits))
 
-pub returns-in_err-ranges-clause-answers : goal.returns-in_err-ranges-clause-answers
-returns-in_err-ranges-clause-answers g c =
-    let a = state g.S.Store c.args.conn.now in
-    let b = state g.S.Store c.all_lines.new.conn in
-    let d = state g.S.Store c.all_ranges.new.conn in
-    let r = c.from_residual-in_err-ranges.result in
-    let fails = c.from_residual-in_err-ranges.ensures.0 in
-    then_answers _ a b c.all_lines.result c.all_lines.ensures.answers (answered _ _ c.in_ok-lines.was) _ d c.all_ranges.result c.all_ranges.ensures.answers _ r (none_ok r c.all_ranges.result fails) (λ s good h k. none_known _ r fails)
+pub returns-in_err-ranges : goal.returns-in_err-ranges
+returns-in_err-ranges g c = asks_refused (asks_beside c.all_lines.ensures c.in_ok-lines.was c.all_ranges.ensures) c.from_residual-in_err-ranges.ensures.0
 
-pub returns-in_err-waits-clause-answers : goal.returns-in_err-waits-clause-answers
-returns-in_err-waits-clause-answers g c =
-    let a = state g.S.Store c.args.conn.now in
-    let b = state g.S.Store c.all_lines.new.conn in
-    let d = state g.S.Store c.all_ranges.new.conn in
-    let e = state g.S.Store c.all_waits.new.conn in
-    let r = c.from_residual-in_err-waits.result in
-    let fails = c.from_residual-in_err-waits.ensures.0 in
-    let both = beside_first _ a b c.all_lines.result c.all_lines.ensures.answers _ c.in_ok-lines.was _ d c.all_ranges.result c.all_ranges.ensures.answers in
-    then_answers _ a d c.all_ranges.result both (answered _ _ c.in_ok-ranges.was) _ e c.all_waits.result c.all_waits.ensures.answers _ r (none_ok r c.all_waits.result fails) (λ s good h k. none_known _ r fails)
+pub returns-in_err-waits : goal.returns-in_err-waits
+returns-in_err-waits g c =
+    asks_refused (asks_beside (asks_beside c.all_lines.ensures c.in_ok-lines.was c.all_ranges.ensures) c.in_ok-ranges.was c.all_waits.ensures) c.from_residual-in_err-waits.ensures.0

@@ -1,17 +1,14 @@
-use Rattle.std.proofs.Common.{[], ◌∷◌}
-use Rattle.sqlite.specs.declared.types.Value.TheVariants.{Text}
 use Rattle.sqlite.specs.Held.{state}
-use Rattle.uu_questions.specs.Texts.{system_text}
 use Rattle.uu_questions.proofs.Meanings.{system_means}
-use Rattle.uu_questions.proofs.Reading.{read_answers}
+use Rattle.uu_questions.proofs.Asking.{asks_read}
 use Rattle.uu_questions.proofs.SystemRows.{system_found}
 use Rattle.uu_questions.proofs.systems.columns_of.Goals as goal
 
 pub typed_rows-requires : goal.typed_rows-requires
 typed_rows-requires g c = system_means.plain
 
-pub returns-clause-answers : goal.returns-clause-answers
-returns-clause-answers g c =
+pub returns : goal.returns
+returns g c =
     let a = state g.S.Store c.args.conn.now in
     let b = state g.S.Store c.typed_rows.new.conn in
-    read_answers _ _ system_text (Text c.args.name.now ∷ []) a b c.typed_rows.result (rw c.params-to_sql.ensures at c.typed_rows.ensures.reads) (λ s of rows shown found it. system_found a b s rows of c.args.name.now shown found.items it.0)
+    asks_read (rw c.params-to_sql.ensures at c.typed_rows.ensures) (λ s of rows shown found it. system_found a b s rows of c.args.name.now shown found.items it.0)

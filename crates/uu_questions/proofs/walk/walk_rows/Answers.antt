@@ -3,20 +3,23 @@ use Rattle.sqlite.specs.Given.{IsRefused}
 use Rattle.sqlite.specs.Held.{state}
 use Rattle.sqlite.specs.Values.{bound}
 use Rattle.sqlite.proofs.Callers.{begun_plain, unchanged_then}
-use Rattle.uu_questions.specs.Walks.{Walks}
+use Rattle.uu_questions.specs.Walks.{Walks, AsksAndWalks}
 use Rattle.uu_questions.proofs.WalkLemmas.{plain_here, refused, refused_by, commits_nothing, asked, failed, walked, err_of, on_ok_of, then_refused, survives_on, took_more}
 use Rattle.uu_questions.proofs.walk.walk_rows.Goals as goal
 
-pub returns-in_err-rows-clause-walks : goal.returns-in_err-rows-clause-walks
-returns-in_err-rows-clause-walks g c =
+pub returns-in_err-rows : goal.returns-in_err-rows
+returns-in_err-rows g c =
     let sql = c.args.sql.now in
     let params = bound c.args.params.now in
     let old = state g.S.Store c.args.conn.now in
     let new = state g.S.Store c.query.follows.lender-at-none in
     let held = c.query.follows.holds-at-none in
     let it : IsRefused g.S.Store sql params c.args.conn.now c.query.result c.query.follows.lender-at-none = search rules in
-    failed g.T.RowTaker.takes sql params old new c.args.taker.now c.args.taker.now c.from_residual.result c.from_residual.ensures.0
-    (asked old new (λ clean stands. refused sql params old new c.requires stands _ (err_of _ c.query.result _ c.in_err-rows.was (it.err clean))) (commits_nothing sql params old new c.requires it.survives))
+    record {
+      idle = it.mode;
+      walks = failed g.T.RowTaker.takes sql params old new c.args.taker.now c.args.taker.now c.from_residual.result c.from_residual.ensures.0
+          (asked old new (λ clean stands. refused sql params old new c.requires stands _ (err_of _ c.query.result _ c.in_err-rows.was (it.err clean))) (commits_nothing sql params old new c.requires it.survives));
+    }
 
 pub rows-init : goal.rows-init
 rows-init g c =
@@ -30,8 +33,8 @@ rows-init g c =
       λ clean stands. let b = begun_plain g.S.Store _ _ c.args.conn.now _ (plain_here c.args.sql.now params old now c.requires stands) (made.begun clean) in ([], b.0, b.1, refl),
     )
 
-pub returns-in_err-row-clause-walks : goal.returns-in_err-row-clause-walks
-returns-in_err-row-clause-walks g c =
+pub returns-in_err-row : goal.returns-in_err-row
+returns-in_err-row g c =
     let same : c.next.follows.lender-at-none.conn.now ≡ c.conn-in_err-row-1.given.0 = search rules in
     let moved = c.next.follows.holds-at-none in
     let old = state g.S.Store c.args.conn.now in
@@ -42,10 +45,10 @@ returns-in_err-row-clause-walks g c =
     (asked old now
     (λ clean stands. let was = c.rows.invariant.3 (omega (arith, moved.survives.clean)) stands in then_refused old mid now was.2 (refused_by mid now _ (err_of _ c.next.result _ c.in_err-row.was (moved.kept clean))))
     (survives_on old mid now _ c.rows.invariant.2 moved.survives)) in
-    subst (λ h. Walks {T = Unit {0}} g.T.RowTaker.takes c.args.sql.now (bound c.args.params.now) old (state g.S.Store h) c.args.taker.now c.rows.taker c.from_residual-in_err-row.result) same it
+    subst (λ h. AsksAndWalks {T = Unit {0}} g.S.Store g.T.RowTaker.takes c.args.sql.now (bound c.args.params.now) c.args.conn.now h c.args.taker.now c.rows.taker c.from_residual-in_err-row.result) same (record { idle = λ before. moved.mode (c.rows.invariant.1 before); walks = it })
 
-pub returns-in_default-clause-walks : goal.returns-in_default-clause-walks
-returns-in_default-clause-walks g c =
+pub returns-in_default : goal.returns-in_default
+returns-in_default g c =
     let same : c.next.follows.lender-at-none.conn.now ≡ c.conn-in_default-1.given.0 = search rules in
     let moved = c.next.follows.holds-at-none in
     let sql = c.args.sql.now in
@@ -59,10 +62,10 @@ returns-in_default-clause-walks g c =
     let was = c.rows.invariant.3 (omega (arith, moved.survives.clean)) stands in
     let shown = (rw (c.in_ok-row.was, c.in_default.is) at (moved.ok clean)) sql params was.0 was.1 in
     (was.0, was.2, on_ok_of _ c.next.result _ c.in_ok-row.was (moved.same clean), shown, was.3)) in
-    subst (λ h. Walks {T = Unit {0}} g.T.RowTaker.takes sql params old (state g.S.Store h) c.args.taker.now c.rows.taker (Ok tt)) same it
+    subst (λ h. AsksAndWalks {T = Unit {0}} g.S.Store g.T.RowTaker.takes sql params c.args.conn.now h c.args.taker.now c.rows.taker (Ok tt)) same (record { idle = λ before. moved.mode (c.rows.invariant.1 before); walks = it })
 
-pub returns-in_err-take-clause-walks : goal.returns-in_err-take-clause-walks
-returns-in_err-take-clause-walks g c =
+pub returns-in_err-take : goal.returns-in_err-take
+returns-in_err-take g c =
     let same : c.next.follows.lender-at-none.conn.now ≡ c.conn-in_err-take-1.given.0 = search rules in
     let moved = c.next.follows.holds-at-none in
     let old = state g.S.Store c.args.conn.now in
@@ -73,7 +76,7 @@ returns-in_err-take-clause-walks g c =
     (asked old now
     (λ clean stands. let was = c.rows.invariant.3 (omega (arith, moved.survives.clean)) stands in inl (unchanged_then old mid now was.2 (on_ok_of _ c.next.result _ c.in_ok-row.was (moved.same clean))))
     (survives_on old mid now _ c.rows.invariant.2 moved.survives)) in
-    subst (λ h. Walks {T = Unit {0}} g.T.RowTaker.takes c.args.sql.now (bound c.args.params.now) old (state g.S.Store h) c.args.taker.now c.take.new.self c.from_residual-in_err-take.result) same it
+    subst (λ h. AsksAndWalks {T = Unit {0}} g.S.Store g.T.RowTaker.takes c.args.sql.now (bound c.args.params.now) c.args.conn.now h c.args.taker.now c.take.new.self c.from_residual-in_err-take.result) same (record { idle = λ before. moved.mode (c.rows.invariant.1 before); walks = it })
 
 pub rows-preserved : goal.rows-preserved
 rows-preserved g c =
