@@ -1,22 +1,22 @@
 // What is asked before a command: the facts that it is planned by.
-ghost use Rattle.std.specs.Prelude.{◌≡◌, ◌&&◌, false, ℕ, pos, [], ◌∷◌, option_map, map, IfOk, IfErr};
-ghost use Rattle.sqlite.specs.Held.{state};
+ghost use Rattle.std.specs.Prelude.{◌≡◌, ℕ, pos, [], ◌∷◌, option_map, map, IfOk, IfErr};
 ghost use Rattle.sqlite.specs.declared.types.Value.TheVariants.{Int};
 ghost use Rattle.sqlite.specs.declared.error.Error.TheVariants.{SqliteFailure};
 ghost use Rattle.sqlite.specs.declared.error.ErrorCode.TheVariants.{OutOfMemory};
 ghost use Rattle.uu_core.specs.State.{has_system, system_at, is_waiting, job_at, head_of, link_of, taken_at};
 ghost use Rattle.uu_core.specs.Verdict.{are_known, taken_of};
 ghost use Rattle.uu_core.specs.Laws.{AreFound};
-ghost use Rattle.uu_tables.specs.Plans.{AreFacts};
+ghost use Rattle.uu_tables.specs.declared.facts.Facts.{Facts};
+ghost use Rattle.uu_tables.specs.Plans.{AreFacts, AreOfSuccess};
 ghost use Rattle.uu_rows.specs.Readable.{IsSmall};
-ghost use Rattle.uu_questions.specs.Answers.{Answers};
+ghost use Rattle.uu_questions.specs.Answers.{Asks};
 ghost use Rattle.uu_questions.specs.Links.{below_in, taken_in};
 
 use crate::asks::{has_row, typed_row};
 use crate::systems::system_of_name;
 use sqlite::{Alter, Connection, Error, Row, params};
 use std::alloc::Global;
-use uu_core::{Command, JobHead, Key, NewJob, SystemRow, Taken};
+use uu_core::{Command, JobHead, Key, NewJob, Taken};
 use uu_names::SiteName;
 use uu_tables::{Facts, LinkColumns, TakenColumns};
 
@@ -24,8 +24,7 @@ use uu_tables::{Facts, LinkColumns, TakenColumns};
 
 // Whether a system of this name is known.
 fn is_known<S: Alter>(conn: &mut Connection<S>, name: &SiteName) -> Result<bool, Error>
-    ensures idle { conn.old.in_transaction ≡ false → conn.new.in_transaction ≡ false }
-    ensures answers { Answers (λ s known. known ≡ has_system s name.now) (state S.Store conn.old) (state S.Store conn.new) result }
+    ensures { Asks S.Store (λ s known. known ≡ has_system s name.now) conn.old conn.new result }
 {
     has_row(
         conn,
@@ -36,8 +35,7 @@ fn is_known<S: Alter>(conn: &mut Connection<S>, name: &SiteName) -> Result<bool,
 
 // Whether a job waits for the system of this name.
 fn is_waiting<S: Alter>(conn: &mut Connection<S>, name: &SiteName) -> Result<bool, Error>
-    ensures idle { conn.old.in_transaction ≡ false → conn.new.in_transaction ≡ false }
-    ensures answers { Answers (λ s waiting. waiting ≡ is_waiting s name.now) (state S.Store conn.old) (state S.Store conn.new) result }
+    ensures { Asks S.Store (λ s waiting. waiting ≡ is_waiting s name.now) conn.old conn.new result }
 {
     has_row(
         conn,
@@ -59,8 +57,7 @@ fn next_in(rows: &[Row]) -> Result<u32, Error>
 
 /// The number of the next job.
 pub fn next_number<S: Alter>(conn: &mut Connection<S>) -> Result<u32, Error>
-    ensures idle { conn.old.in_transaction ≡ false → conn.new.in_transaction ≡ false }
-    ensures answers { Answers (λ s next. next ≡ s.next) (state S.Store conn.old) (state S.Store conn.new) result }
+    ensures { Asks S.Store (λ s next. next ≡ s.next) conn.old conn.new result }
 {
     let rows = conn.query_all("SELECT next FROM spool WHERE id = 1", &[])?;
     next_in(rows.as_slice())
@@ -72,8 +69,7 @@ pub(crate) fn head_of_job<S: Alter>(
     conn: &mut Connection<S>,
     number: u32,
 ) -> Result<Option<JobHead>, Error>
-    ensures idle { conn.old.in_transaction ≡ false → conn.new.in_transaction ≡ false }
-    ensures answers { Answers (λ s head. head ≡ option_map head_of (job_at s number)) (state S.Store conn.old) (state S.Store conn.new) result }
+    ensures { Asks S.Store (λ s head. head ≡ option_map head_of (job_at s number)) conn.old conn.new result }
 {
     typed_row(
         alloc,
@@ -90,8 +86,7 @@ fn heads_of_jobs<S: Alter>(
     conn: &mut Connection<S>,
     numbers: &[u32],
 ) -> Result<Vec<JobHead>, Error>
-    ensures idle { conn.old.in_transaction ≡ false → conn.new.in_transaction ≡ false }
-    ensures answers { Answers (λ s found. AreFound numbers.now (map head_of s.jobs) found.items) (state S.Store conn.old) (state S.Store conn.new) result }
+    ensures { Asks S.Store (λ s found. AreFound numbers.now (map head_of s.jobs) found.items) conn.old conn.new result }
 {
     let mut found = Vec::new(alloc);
     for number in numbers {
@@ -118,8 +113,7 @@ fn row_of_link<S: Alter>(
     conn: &mut Connection<S>,
     name: &SiteName,
 ) -> Result<Option<LinkColumns>, Error>
-    ensures idle { conn.old.in_transaction ≡ false → conn.new.in_transaction ≡ false }
-    ensures answers { Answers (λ s row. below_in row ≡ (link_of s name.now).below) (state S.Store conn.old) (state S.Store conn.new) result }
+    ensures { Asks S.Store (λ s row. below_in row ≡ (link_of s name.now).below) conn.old conn.new result }
 {
     typed_row(
         alloc,
@@ -135,8 +129,7 @@ fn below_of<S: Alter>(
     conn: &mut Connection<S>,
     name: &SiteName,
 ) -> Result<u32, Error>
-    ensures idle { conn.old.in_transaction ≡ false → conn.new.in_transaction ≡ false }
-    ensures answers { Answers (λ s below. below ≡ (link_of s name.now).below) (state S.Store conn.old) (state S.Store conn.new) result }
+    ensures { Asks S.Store (λ s below. below ≡ (link_of s name.now).below) conn.old conn.new result }
 {
     let row = row_of_link(alloc, conn, name)?;
     Ok(below_in(row))
@@ -159,8 +152,7 @@ fn row_of_taken<S: Alter>(
     name: &SiteName,
     number: u32,
 ) -> Result<Option<TakenColumns>, Error>
-    ensures idle { conn.old.in_transaction ≡ false → conn.new.in_transaction ≡ false }
-    ensures answers { Answers (λ s row. taken_in row ≡ taken_at (link_of s name.now) number) (state S.Store conn.old) (state S.Store conn.new) result }
+    ensures { Asks S.Store (λ s row. taken_in row ≡ taken_at (link_of s name.now) number) conn.old conn.new result }
 {
     typed_row(
         alloc,
@@ -177,8 +169,7 @@ fn taken_of<S: Alter>(
     name: &SiteName,
     number: u32,
 ) -> Result<Option<Taken>, Error>
-    ensures idle { conn.old.in_transaction ≡ false → conn.new.in_transaction ≡ false }
-    ensures answers { Answers (λ s taken. taken ≡ taken_at (link_of s name.now) number) (state S.Store conn.old) (state S.Store conn.new) result }
+    ensures { Asks S.Store (λ s taken. taken ≡ taken_at (link_of s name.now) number) conn.old conn.new result }
 {
     let row = row_of_taken(alloc, conn, name, number)?;
     Ok(taken_in(row))
@@ -186,165 +177,75 @@ fn taken_of<S: Alter>(
 
 // ---- the facts of each command
 
-// Nothing was asked.
-fn unasked(alloc: Global) -> Facts {
-    Facts {
-        is_known: false,
-        is_waiting: false,
-        system: None,
-        next: 1,
-        head: None,
-        found: Vec::new(alloc),
-        below: 0,
-        taken: None,
-    }
+fn definition<S: Alter>(conn: &mut Connection<S>, system: &SiteName) -> Result<Facts, Error>
+    ensures { Asks S.Store (λ s facts. facts ≡ Facts.Definition (has_system s system.now)) conn.old conn.new result }
+{
+    let known = is_known(conn, system)?;
+    Ok(Facts::Definition { known })
 }
 
-// That a system is known or not, and nothing else.
-fn facts_of_system(alloc: Global, is_known: bool, is_waiting: bool, next: u32) -> Facts
-    ensures known { result.is_known ≡ is_known }
-    ensures waiting { result.is_waiting ≡ is_waiting }
-    ensures next { result.next ≡ next }
+fn removal<S: Alter>(conn: &mut Connection<S>, system: &SiteName) -> Result<Facts, Error>
+    ensures { Asks S.Store (λ s facts. facts ≡ Facts.Removal (has_system s system.now) (is_waiting s system.now)) conn.old conn.new result }
 {
-    let mut facts = unasked(alloc);
-    facts.is_known = is_known;
-    facts.is_waiting = is_waiting;
-    facts.next = next;
-    facts
+    let known = is_known(conn, system)?;
+    let waiting = is_waiting(conn, system)?;
+    Ok(Facts::Removal { known, waiting })
 }
 
-fn facts_of_row(alloc: Global, system: Option<SystemRow>) -> Facts
-    ensures { result.system ≡ system }
+fn queueing<S: Alter>(conn: &mut Connection<S>, system: &SiteName) -> Result<Facts, Error>
+    ensures { Asks S.Store (λ s facts. facts ≡ Facts.Queueing (has_system s system.now) s.next) conn.old conn.new result }
 {
-    let mut facts = unasked(alloc);
-    facts.system = system;
-    facts
-}
-
-fn facts_of_head(alloc: Global, head: Option<JobHead>) -> Facts
-    ensures { result.head ≡ head }
-{
-    let mut facts = unasked(alloc);
-    facts.head = head;
-    facts
-}
-
-fn facts_of_row_and_jobs(alloc: Global, system: Option<SystemRow>, found: Vec<JobHead>) -> Facts
-    ensures system { result.system ≡ system }
-    ensures found { result.found ≡ found }
-{
-    let mut facts = unasked(alloc);
-    facts.system = system;
-    facts.found = found;
-    facts
-}
-
-// What is known of a link, and whether its systems are.
-fn facts_of_link(
-    alloc: Global,
-    is_known: bool,
-    next: u32,
-    below: u32,
-    taken: Option<Taken>,
-) -> Facts
-    ensures known { result.is_known ≡ is_known }
-    ensures next { result.next ≡ next }
-    ensures below { result.below ≡ below }
-    ensures taken { result.taken ≡ taken }
-{
-    let mut facts = unasked(alloc);
-    facts.is_known = is_known;
-    facts.next = next;
-    facts.below = below;
-    facts.taken = taken;
-    facts
-}
-
-fn known<S: Alter>(
-    alloc: Global,
-    conn: &mut Connection<S>,
-    system: &SiteName,
-) -> Result<Facts, Error>
-    ensures idle { conn.old.in_transaction ≡ false → conn.new.in_transaction ≡ false }
-    ensures answers { Answers (λ s facts. facts.is_known ≡ has_system s system.now) (state S.Store conn.old) (state S.Store conn.new) result }
-{
-    let is_known = is_known(conn, system)?;
-    Ok(facts_of_system(alloc, is_known, false, 1))
-}
-
-fn known_and_waiting<S: Alter>(
-    alloc: Global,
-    conn: &mut Connection<S>,
-    system: &SiteName,
-) -> Result<Facts, Error>
-    ensures idle { conn.old.in_transaction ≡ false → conn.new.in_transaction ≡ false }
-    ensures answers { Answers (λ s facts. (facts.is_known ≡ has_system s system.now) × (facts.is_waiting ≡ is_waiting s system.now)) (state S.Store conn.old) (state S.Store conn.new) result }
-{
-    let is_known = is_known(conn, system)?;
-    let is_waiting = is_waiting(conn, system)?;
-    Ok(facts_of_system(alloc, is_known, is_waiting, 1))
-}
-
-fn known_and_next<S: Alter>(
-    alloc: Global,
-    conn: &mut Connection<S>,
-    system: &SiteName,
-) -> Result<Facts, Error>
-    ensures idle { conn.old.in_transaction ≡ false → conn.new.in_transaction ≡ false }
-    ensures answers { Answers (λ s facts. (facts.is_known ≡ has_system s system.now) × (facts.next ≡ s.next)) (state S.Store conn.old) (state S.Store conn.new) result }
-{
-    let is_known = is_known(conn, system)?;
+    let known = is_known(conn, system)?;
     let next = next_number(conn)?;
-    Ok(facts_of_system(alloc, is_known, false, next))
+    Ok(Facts::Queueing { known, next })
 }
 
 fn head<S: Alter>(alloc: Global, conn: &mut Connection<S>, number: u32) -> Result<Facts, Error>
-    ensures idle { conn.old.in_transaction ≡ false → conn.new.in_transaction ≡ false }
-    ensures answers { Answers (λ s facts. facts.head ≡ option_map head_of (job_at s number)) (state S.Store conn.old) (state S.Store conn.new) result }
+    ensures { Asks S.Store (λ s facts. facts ≡ Facts.Head (option_map head_of (job_at s number))) conn.old conn.new result }
 {
     let head = head_of_job(alloc, conn, number)?;
-    Ok(facts_of_head(alloc, head))
+    Ok(Facts::Head(head))
 }
 
-fn row<S: Alter>(alloc: Global, conn: &mut Connection<S>, system: &SiteName) -> Result<Facts, Error>
-    ensures idle { conn.old.in_transaction ≡ false → conn.new.in_transaction ≡ false }
-    ensures answers { Answers (λ s facts. facts.system ≡ system_at s system.now) (state S.Store conn.old) (state S.Store conn.new) result }
+fn failure<S: Alter>(
+    alloc: Global,
+    conn: &mut Connection<S>,
+    system: &SiteName,
+) -> Result<Facts, Error>
+    ensures { Asks S.Store (λ s facts. facts ≡ Facts.Failure (system_at s system.now)) conn.old conn.new result }
 {
     let row = system_of_name(alloc, conn, system)?;
-    Ok(facts_of_row(alloc, row))
+    Ok(Facts::Failure(row))
 }
 
-fn row_and_found<S: Alter>(
+fn success<S: Alter>(
     alloc: Global,
     conn: &mut Connection<S>,
     system: &SiteName,
     numbers: &[u32],
 ) -> Result<Facts, Error>
-    ensures idle { conn.old.in_transaction ≡ false → conn.new.in_transaction ≡ false }
-    ensures answers { Answers (λ s facts. (facts.system ≡ system_at s system.now) × AreFound numbers.now (map head_of s.jobs) facts.found.items) (state S.Store conn.old) (state S.Store conn.new) result }
+    ensures { Asks S.Store (λ s facts. AreOfSuccess facts s system.now numbers.now) conn.old conn.new result }
 {
     let row = system_of_name(alloc, conn, system)?;
     let found = heads_of_jobs(alloc, conn, numbers)?;
-    Ok(facts_of_row_and_jobs(alloc, row, found))
+    Ok(Facts::Success { row, found })
 }
 
-fn known_and_below<S: Alter>(
+fn forgetting<S: Alter>(
     alloc: Global,
     conn: &mut Connection<S>,
     system: &SiteName,
 ) -> Result<Facts, Error>
-    ensures idle { conn.old.in_transaction ≡ false → conn.new.in_transaction ≡ false }
-    ensures answers { Answers (λ s facts. (facts.is_known ≡ has_system s system.now) × (facts.below ≡ (link_of s system.now).below)) (state S.Store conn.old) (state S.Store conn.new) result }
+    ensures { Asks S.Store (λ s facts. facts ≡ Facts.Forgetting (has_system s system.now) (link_of s system.now).below) conn.old conn.new result }
 {
-    let is_known = is_known(conn, system)?;
-    let below = below_of(alloc, conn, system)?;
-    Ok(facts_of_link(alloc, is_known, 1, below, None))
+    let known = is_known(conn, system)?;
+    let before = below_of(alloc, conn, system)?;
+    Ok(Facts::Forgetting { known, before })
 }
 
 // Whether the neighbour and the job's system are known.
 fn are_known<S: Alter>(conn: &mut Connection<S>, key: &Key, job: &NewJob) -> Result<bool, Error>
-    ensures idle { conn.old.in_transaction ≡ false → conn.new.in_transaction ≡ false }
-    ensures answers { Answers (λ s known. known ≡ are_known s key.now job.now) (state S.Store conn.old) (state S.Store conn.new) result }
+    ensures { Asks S.Store (λ s known. known ≡ are_known s key.now job.now) conn.old conn.new result }
 {
     let from = is_known(conn, &key.from)?;
     let system = is_known(conn, &job.system)?;
@@ -357,8 +258,7 @@ fn are_known_and_next<S: Alter>(
     key: &Key,
     job: &NewJob,
 ) -> Result<(bool, u32), Error>
-    ensures idle { conn.old.in_transaction ≡ false → conn.new.in_transaction ≡ false }
-    ensures answers { Answers (λ s pair. (pair.0 ≡ are_known s key.now job.now) × (pair.1 ≡ s.next)) (state S.Store conn.old) (state S.Store conn.new) result }
+    ensures { Asks S.Store (λ s pair. (pair.0 ≡ are_known s key.now job.now) × (pair.1 ≡ s.next)) conn.old conn.new result }
 {
     let known = are_known(conn, key, job)?;
     let next = next_number(conn)?;
@@ -371,26 +271,29 @@ fn below_and_taken<S: Alter>(
     conn: &mut Connection<S>,
     key: &Key,
 ) -> Result<(u32, Option<Taken>), Error>
-    ensures idle { conn.old.in_transaction ≡ false → conn.new.in_transaction ≡ false }
-    ensures answers { Answers (λ s pair. (pair.0 ≡ (link_of s key.now.from).below) × (pair.1 ≡ taken_of s key.now)) (state S.Store conn.old) (state S.Store conn.new) result }
+    ensures { Asks S.Store (λ s pair. (pair.0 ≡ (link_of s key.now.from).below) × (pair.1 ≡ taken_of s key.now)) conn.old conn.new result }
 {
     let below = below_of(alloc, conn, &key.from)?;
     let taken = taken_of(alloc, conn, &key.from, key.number)?;
     Ok((below, taken))
 }
 
-fn key_and_job<S: Alter>(
+fn keyed_queueing<S: Alter>(
     alloc: Global,
     conn: &mut Connection<S>,
     key: &Key,
     job: &NewJob,
 ) -> Result<Facts, Error>
-    ensures idle { conn.old.in_transaction ≡ false → conn.new.in_transaction ≡ false }
-    ensures answers { Answers (λ s facts. (facts.is_known ≡ are_known s key.now job.now) × (facts.next ≡ s.next) × (facts.below ≡ (link_of s key.now.from).below) × (facts.taken ≡ taken_of s key.now)) (state S.Store conn.old) (state S.Store conn.new) result }
+    ensures { Asks S.Store (λ s facts. facts ≡ Facts.KeyedQueueing (are_known s key.now job.now) s.next (link_of s key.now.from).below (taken_of s key.now)) conn.old conn.new result }
 {
     let (known, next) = are_known_and_next(conn, key, job)?;
     let (below, taken) = below_and_taken(alloc, conn, key)?;
-    Ok(facts_of_link(alloc, known, next, below, taken))
+    Ok(Facts::KeyedQueueing {
+        known,
+        next,
+        below,
+        taken,
+    })
 }
 
 /// What is to be known before the command is planned, as far as the command names it.
@@ -399,22 +302,19 @@ pub fn facts_for<S: Alter>(
     conn: &mut Connection<S>,
     command: &Command,
 ) -> Result<Facts, Error>
-    ensures idle { conn.old.in_transaction ≡ false → conn.new.in_transaction ≡ false }
-    ensures answers { Answers (λ s facts. AreFacts facts s command.now) (state S.Store conn.old) (state S.Store conn.new) result }
+    ensures { Asks S.Store (λ s facts. AreFacts facts s command.now) conn.old conn.new result }
 {
     match command {
-        Command::Define(def) => known(alloc, conn, &def.name),
-        Command::Remove(system) => known_and_waiting(alloc, conn, system),
-        Command::Queue(job) => known_and_next(alloc, conn, &job.system),
-        Command::QueueOnce(key, job) => key_and_job(alloc, conn, key, job),
+        Command::Define(def) => definition(conn, &def.name),
+        Command::Remove(system) => removal(conn, system),
+        Command::Queue(job) => queueing(conn, &job.system),
+        Command::QueueOnce(key, job) => keyed_queueing(alloc, conn, key, job),
         Command::Kill { job, .. }
         | Command::Regrade { job, .. }
         | Command::Rejuvenate { job, .. } => head(alloc, conn, *job),
-        Command::Failed { system, .. } => row(alloc, conn, system),
-        Command::Done { system, jobs, .. } => {
-            row_and_found(alloc, conn, system, jobs.as_slice())
-        }
-        Command::Entry(_) => Ok(unasked(alloc)),
-        Command::Forget { system, .. } => known_and_below(alloc, conn, system),
+        Command::Failed { system, .. } => failure(alloc, conn, system),
+        Command::Done { system, jobs, .. } => success(alloc, conn, system, jobs.as_slice()),
+        Command::Entry(_) => Ok(Facts::Nothing),
+        Command::Forget { system, .. } => forgetting(alloc, conn, system),
     }
 }

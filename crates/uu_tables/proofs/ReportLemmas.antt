@@ -91,8 +91,9 @@ failed s name at why row ordered found = one_called s name (λ r. failed_call r 
 
 -- ---- the wait after a call that failed
 
-pub wait_is_within : (row : SystemRow) (at : Moment) (why : List ℕ) (result : Result CallState Refusal) → result ≡ Ok (failed_call row at why) → AreWithinLimits row.def.lines row.def.max_retries row.def.success_wait → IfOk result (λ call. call.wait ≤ most_wait)
-wait_is_within row at why result is limits = rw is (wait_within row.def at.week (one_more row.call.failures) limits)
+pub wait_is_within : (o : Option SystemRow) (at : Moment) (why : List ℕ) (result : Result CallState Refusal) → result ≡ failed_decision o at why → IfSome o (λ row. AreWithinLimits row.def.lines row.def.max_retries row.def.success_wait) → IfOk result (λ call. call.wait ≤ most_wait)
+wait_is_within None at why result is limits = rw is tt
+wait_is_within (Some row) at why result is limits = rw is (wait_within row.def at.week (one_more row.call.failures) limits)
 
 -- ---- what is decided on a call that failed
 
@@ -127,12 +128,12 @@ failed_is_refused s name at why o refusal facts decided =
 -- ---- what is decided on a call that went well
 
 -- its wait is a year at most
-pub success_wait_is_within : (o : Option SystemRow) (at : Moment) (result : Result CallState Refusal) (reasons : List (Bool × Refusal)) → result ≡ decided reasons (done_call_of o at) → IfSome o (λ row. row.def.success_wait ≤ most_wait) → IfOk result (λ call. call.wait ≤ most_wait)
+pub success_wait_is_within : (o : Option SystemRow) (at : Moment) (result : Result CallState Refusal) (reasons : List (Bool × Refusal)) → result ≡ decided reasons (done_call_of o at) → IfSome o (λ row. AreWithinLimits row.def.lines row.def.max_retries row.def.success_wait) → IfOk result (λ call. call.wait ≤ most_wait)
 success_wait_is_within o at result reasons is within = by_first o (first_reason reasons) is within
   where
-    by_first : (o : Option SystemRow) (refusal : Option Refusal) → result ≡ value_unless refusal (done_call_of o at) → IfSome o (λ row. row.def.success_wait ≤ most_wait) → IfOk result (λ call. call.wait ≤ most_wait)
+    by_first : (o : Option SystemRow) (refusal : Option Refusal) → result ≡ value_unless refusal (done_call_of o at) → IfSome o (λ row. AreWithinLimits row.def.lines row.def.max_retries row.def.success_wait) → IfOk result (λ call. call.wait ≤ most_wait)
     by_first None None is within = rw is (omega arith)
-    by_first (Some row) None is within = rw is within
+    by_first (Some row) None is within = rw is within.3
     by_first o (Some refusal) is within = rw is tt
 
 -- where it is accepted, the system is known, and its calls are those

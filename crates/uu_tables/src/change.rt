@@ -41,7 +41,8 @@ pub enum Change<'a> {
         /// How they went.
         call: CallColumns,
     },
-    /// The system goes, and its lines, their ranges, its success wait and its link with it.
+    /// The system goes, and with it its lines, their ranges, its success wait, and its link: the
+    /// number below which it asks for none again, and what was taken from it.
     RemoveSystem {
         /// The system.
         system: &'a SiteName,

@@ -1,27 +1,58 @@
 // What is asked of the tables before a command.
 use uu_core::{JobHead, SystemRow, Taken};
 
-/// What is asked of the tables before a command, as far as the command names it. What it doesn't
-/// name isn't asked.
+/// What was asked of the tables before a command: what the command names, and nothing else. A fact
+/// that was not asked can't be read.
 #[derive(Drop)]
-pub struct Facts {
-    /// Whether the system is known: asked for `Define`, `Remove`, `Queue` and `Forget`; whether the
-    /// neighbour and the job's system both are: asked for `QueueOnce`.
-    pub is_known: bool,
-    /// Whether a job waits for the system: asked for `Remove`.
-    pub is_waiting: bool,
-    /// The system, if it is known, with its definition and its calls: asked for `Failed` and
-    /// `Done`.
-    pub system: Option<SystemRow>,
-    /// The number of the next job: asked for `Queue` and `QueueOnce`.
-    pub next: u32,
-    /// The job of the number, if it is there: asked for `Kill`, `Regrade` and `Rejuvenate`.
-    pub head: Option<JobHead>,
-    /// The jobs whose numbers are named, those that are there: asked for `Done`.
-    pub found: Vec<JobHead>,
-    /// The number below which the neighbour asks for none again: asked for `QueueOnce` and
-    /// `Forget`.
-    pub below: u32,
-    /// What was taken from the neighbour under the key's number: asked for `QueueOnce`.
-    pub taken: Option<Taken>,
+pub enum Facts {
+    /// Before `Define`.
+    Definition {
+        /// Whether the system is known.
+        known: bool,
+    },
+    /// Before `Remove`.
+    Removal {
+        /// Whether the system is known.
+        known: bool,
+        /// Whether a job waits for it.
+        waiting: bool,
+    },
+    /// Before `Queue`.
+    Queueing {
+        /// Whether the job's system is known.
+        known: bool,
+        /// The number of the next job.
+        next: u32,
+    },
+    /// Before `QueueOnce`.
+    KeyedQueueing {
+        /// Whether the neighbour and the job's system are known.
+        known: bool,
+        /// The number of the next job.
+        next: u32,
+        /// The number below which the neighbour asks for none again.
+        below: u32,
+        /// What was taken from it under the key's number.
+        taken: Option<Taken>,
+    },
+    /// Before `Kill`, `Regrade` and `Rejuvenate`: the job of the number, if it is there.
+    Head(Option<JobHead>),
+    /// Before `Failed`: the system with its definition and its calls, if it is known.
+    Failure(Option<SystemRow>),
+    /// Before `Done`.
+    Success {
+        /// The system with its definition and its calls, if it is known.
+        row: Option<SystemRow>,
+        /// The jobs whose numbers are named, those that are there.
+        found: Vec<JobHead>,
+    },
+    /// Before `Entry`: nothing.
+    Nothing,
+    /// Before `Forget`.
+    Forgetting {
+        /// Whether the neighbour is known.
+        known: bool,
+        /// The number below which it asks for none again so far.
+        before: u32,
+    },
 }

@@ -72,17 +72,44 @@ pub fn make_plan<'a>(
 ) -> Result<Plan<'a>, AllocError>
     ensures { (s : State) → IsWellFormed s → AreFacts facts.now s command.now → IfOk result (IsPlan s command.now) }
 {
-    match command {
-        Command::Define(def) => plan_define(alloc, facts, def),
-        Command::Remove(system) => plan_remove(alloc, facts, system),
-        Command::Queue(job) => plan_queue(alloc, facts, job),
-        Command::QueueOnce(key, job) => plan_queue_once(alloc, facts, key, job),
-        Command::Kill { job, by } => plan_kill(alloc, facts, *job, by),
-        Command::Regrade { job, grade, by } => plan_regrade(alloc, facts, *job, *grade, by),
-        Command::Rejuvenate { job, at, by } => plan_rejuvenate(alloc, facts, *job, at, by),
-        Command::Failed { system, at, why } => plan_failed(alloc, facts, system, at, why),
-        Command::Done { system, at, jobs } => plan_done(alloc, facts, system, at, jobs.as_slice()),
-        Command::Entry(bytes) => plan_entry(alloc, bytes.as_slice()),
-        Command::Forget { system, below } => plan_forget(alloc, facts, system, *below),
+    match (command, facts) {
+        (Command::Define(def), Facts::Definition { known }) => plan_define(alloc, *known, def),
+        (Command::Remove(system), Facts::Removal { known, waiting }) => {
+            plan_remove(alloc, *known, *waiting, system)
+        }
+        (Command::Queue(job), Facts::Queueing { known, next }) => {
+            plan_queue(alloc, *known, *next, job)
+        }
+        (
+            Command::QueueOnce(key, job),
+            Facts::KeyedQueueing {
+                known,
+                next,
+                below,
+                taken,
+            },
+        ) => { plan_queue_once(alloc, *known, *next, *below, *taken, key, job) }
+        (Command::Kill { job, by }, Facts::Head(head)) => {
+            plan_kill(alloc, head.as_ref(), *job, by)
+        }
+        (Command::Regrade { job, grade, by }, Facts::Head(head)) => {
+            plan_regrade(alloc, head.as_ref(), *job, *grade, by)
+        }
+        (Command::Rejuvenate { job, at, by }, Facts::Head(head)) => {
+            plan_rejuvenate(alloc, head.as_ref(), *job, at, by)
+        }
+        (Command::Failed { system, at, why }, Facts::Failure(row)) => {
+            plan_failed(alloc, row.as_ref(), system, at, why)
+        }
+        (Command::Done { system, at, jobs }, Facts::Success { row, found }) => {
+            plan_done(alloc, row.as_ref(), found, system, at, jobs.as_slice())
+        }
+        (Command::Entry(bytes), Facts::Nothing) => plan_entry(alloc, bytes.as_slice()),
+        (Command::Forget { system, below }, Facts::Forgetting { known, before }) => {
+            plan_forget(alloc, *known, *before, system, *below)
+        }
+        // Facts that were asked for another command. The clause says that none that were asked for
+        // this one come here.
+        _ => Ok(refused(alloc, Refusal::NoSystem)),
     }
 }

@@ -1,27 +1,26 @@
 // Commands on one job.
-ghost use Rattle.std.specs.Prelude.{IfOk};
+ghost use Rattle.std.specs.Prelude.{◌≡◌, IfOk, option_copied, option_map};
 ghost use Rattle.uu_core.specs.declared.command.Command.TheVariants.{Kill, Regrade, Rejuvenate};
-ghost use Rattle.uu_core.specs.State.{State};
-ghost use Rattle.uu_tables.specs.Plans.{AreFacts, IsPlan};
+ghost use Rattle.uu_core.specs.State.{State, job_at, head_of};
+ghost use Rattle.uu_tables.specs.Plans.{IsPlan};
 
 use super::{Plan, one_change, refused};
 use crate::change::Change;
-use crate::facts::Facts;
 use std::alloc::{AllocError, Global};
-use uu_core::{By, decide_job};
+use uu_core::{By, JobHead, decide_job};
 use uu_names::Grade;
 use uu_times::Moment;
 
 /// A job that goes, with its pieces.
 pub(crate) fn plan_kill<'a>(
     alloc: Global,
-    facts: &Facts,
+    head: Option<&JobHead>,
     number: u32,
     by: &By,
 ) -> Result<Plan<'a>, AllocError>
-    ensures { (s : State) → AreFacts facts.now s (Kill number by.now) → IfOk result (IsPlan s (Kill number by.now)) }
+    ensures { (s : State) → option_copied head.entry ≡ option_map head_of (job_at s number) → IfOk result (IsPlan s (Kill number by.now)) }
 {
-    match decide_job(facts.head.as_ref(), by) {
+    match decide_job(head, by) {
         Ok(()) => one_change(alloc, Change::RemoveJob { number }),
         Err(refusal) => Ok(refused(alloc, refusal)),
     }
@@ -30,14 +29,14 @@ pub(crate) fn plan_kill<'a>(
 /// Another grade for a job, whose number stays.
 pub(crate) fn plan_regrade<'a>(
     alloc: Global,
-    facts: &Facts,
+    head: Option<&JobHead>,
     number: u32,
     grade: Grade,
     by: &By,
 ) -> Result<Plan<'a>, AllocError>
-    ensures { (s : State) → AreFacts facts.now s (Regrade number grade by.now) → IfOk result (IsPlan s (Regrade number grade by.now)) }
+    ensures { (s : State) → option_copied head.entry ≡ option_map head_of (job_at s number) → IfOk result (IsPlan s (Regrade number grade by.now)) }
 {
-    match decide_job(facts.head.as_ref(), by) {
+    match decide_job(head, by) {
         Ok(()) => one_change(alloc, Change::SetGrade { number, grade }),
         Err(refusal) => Ok(refused(alloc, refusal)),
     }
@@ -46,14 +45,14 @@ pub(crate) fn plan_regrade<'a>(
 /// A job that counts as handed in at this moment.
 pub(crate) fn plan_rejuvenate<'a>(
     alloc: Global,
-    facts: &Facts,
+    head: Option<&JobHead>,
     number: u32,
     at: &Moment,
     by: &By,
 ) -> Result<Plan<'a>, AllocError>
-    ensures { (s : State) → AreFacts facts.now s (Rejuvenate number at.now by.now) → IfOk result (IsPlan s (Rejuvenate number at.now by.now)) }
+    ensures { (s : State) → option_copied head.entry ≡ option_map head_of (job_at s number) → IfOk result (IsPlan s (Rejuvenate number at.now by.now)) }
 {
-    match decide_job(facts.head.as_ref(), by) {
+    match decide_job(head, by) {
         Ok(()) => {
             let queued = at.second as u32;
             one_change(alloc, Change::SetQueued { number, queued })

@@ -2,17 +2,16 @@
 ghost use Rattle.std.specs.Prelude.{◌≡◌, ◌<◌, ◌∷◌, [], IfOk, false};
 ghost use Rattle.uu_tables.specs.declared.change.Change.{Change};
 ghost use Rattle.uu_core.specs.declared.command.Command.TheVariants.{QueueOnce, Forget};
-ghost use Rattle.uu_core.specs.State.{State, IsWellFormed, numbers_end};
-ghost use Rattle.uu_core.specs.Verdict.{is_too_large};
+ghost use Rattle.uu_core.specs.State.{State, IsWellFormed, has_system, link_of, numbers_end};
+ghost use Rattle.uu_core.specs.Verdict.{are_known, is_too_large, taken_of};
 ghost use Rattle.uu_tables.specs.Tables.{Tables};
 ghost use Rattle.uu_tables.specs.Changes.{applied};
 ghost use Rattle.uu_tables.specs.Parts.{with_new_job, with_new_key};
-ghost use Rattle.uu_tables.specs.Plans.{AreFacts, IsPlan};
+ghost use Rattle.uu_tables.specs.Plans.{IsPlan};
 
 use super::queue::add_queued;
 use super::{Plan, refused, unchanged};
 use crate::change::Change;
-use crate::facts::Facts;
 use std::alloc::{AllocError, Global};
 use uu_core::{HandIn, Key, NewJob, Reply, Taken, decide_forget, decide_queue_once};
 use uu_names::SiteName;
@@ -44,20 +43,16 @@ fn take_in<'a>(
 /// A job that a neighbour hands on: queued with its key, or nothing where the key is there.
 pub(crate) fn plan_queue_once<'a>(
     alloc: Global,
-    facts: &Facts,
+    known: bool,
+    next: u32,
+    below: u32,
+    taken: Option<Taken>,
     key: &'a Key,
     job: &'a NewJob,
 ) -> Result<Plan<'a>, AllocError>
-    ensures { (s : State) → IsWellFormed s → AreFacts facts.now s (QueueOnce key.now job.now) → IfOk result (IsPlan s (QueueOnce key.now job.now)) }
+    ensures { (s : State) → IsWellFormed s → known ≡ are_known s key.now job.now → next ≡ s.next → below ≡ (link_of s key.now.from).below → taken ≡ taken_of s key.now → IfOk result (IsPlan s (QueueOnce key.now job.now)) }
 {
-    match decide_queue_once(
-        facts.is_known,
-        facts.next,
-        facts.below,
-        facts.taken,
-        key,
-        job,
-    ) {
+    match decide_queue_once(known, next, below, taken, key, job) {
         Ok(HandIn::First(number)) => {
             let changes = take_in(alloc, number, key, job)?;
             Ok(Plan {
@@ -89,14 +84,15 @@ fn forget<'a>(
 /// A neighbour that won't ask for some numbers again: nothing changes where it said so before.
 pub(crate) fn plan_forget<'a>(
     alloc: Global,
-    facts: &Facts,
+    known: bool,
+    before: u32,
     system: &'a SiteName,
     below: u32,
 ) -> Result<Plan<'a>, AllocError>
-    ensures { (s : State) → IsWellFormed s → AreFacts facts.now s (Forget system.now below) → IfOk result (IsPlan s (Forget system.now below)) }
+    ensures { (s : State) → IsWellFormed s → known ≡ has_system s system.now → before ≡ (link_of s system.now).below → IfOk result (IsPlan s (Forget system.now below)) }
 {
-    match decide_forget(facts.is_known) {
-        Ok(()) if below <= facts.below => Ok(unchanged(alloc, Reply::Done)),
+    match decide_forget(known) {
+        Ok(()) if below <= before => Ok(unchanged(alloc, Reply::Done)),
         Ok(()) => {
             let changes = forget(alloc, system, below)?;
             Ok(Plan {

@@ -1,17 +1,16 @@
 // A job that is handed in, with its bytes in pieces.
 ghost use Rattle.std.specs.Prelude.{◌≡◌, ◌<◌, ◌≤◌, ℕ, IfOk, length, false};
 ghost use Rattle.uu_core.specs.declared.command.Command.TheVariants.{Queue};
-ghost use Rattle.uu_core.specs.State.{State, most_bytes, numbers_end, head_of};
+ghost use Rattle.uu_core.specs.State.{State, has_system, most_bytes, numbers_end, head_of};
 ghost use Rattle.uu_core.specs.Verdict.{is_too_large};
 ghost use Rattle.uu_core.specs.After.{job_of};
 ghost use Rattle.uu_tables.specs.Tables.{Tables};
 ghost use Rattle.uu_tables.specs.Changes.{applied, new_job};
 ghost use Rattle.uu_tables.specs.Parts.{with_pieces, with_new_job};
-ghost use Rattle.uu_tables.specs.Plans.{AreFacts, IsPlan};
+ghost use Rattle.uu_tables.specs.Plans.{IsPlan};
 
 use super::{Plan, refused};
 use crate::change::{Change, JobColumns};
-use crate::facts::Facts;
 use std::alloc::{AllocError, Global};
 use uu_core::{NewJob, Reply, decide_queue};
 
@@ -75,12 +74,13 @@ pub(crate) fn add_queued<'a>(
 /// A job that is handed in.
 pub(crate) fn plan_queue<'a>(
     alloc: Global,
-    facts: &Facts,
+    known: bool,
+    next: u32,
     job: &'a NewJob,
 ) -> Result<Plan<'a>, AllocError>
-    ensures { (s : State) → AreFacts facts.now s (Queue job.now) → IfOk result (IsPlan s (Queue job.now)) }
+    ensures { (s : State) → known ≡ has_system s job.now.system → next ≡ s.next → IfOk result (IsPlan s (Queue job.now)) }
 {
-    match decide_queue(facts.is_known, facts.next, job) {
+    match decide_queue(known, next, job) {
         Ok(number) => {
             let changes = add_queued(alloc, number, job)?;
             Ok(Plan {

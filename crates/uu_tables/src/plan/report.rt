@@ -1,7 +1,8 @@
 // Reports of calls.
-ghost use Rattle.std.specs.Prelude.{◌≡◌, ◌≤◌, List, IfOk, is_some, option_copied};
+ghost use Rattle.std.specs.Prelude.{◌≡◌, ◌≤◌, List, IfOk, IfSome, is_some, map, option_copied};
 ghost use Rattle.uu_core.specs.declared.command.Command.TheVariants.{Failed, Done};
-ghost use Rattle.uu_core.specs.State.{State, IsWellFormed, last_second, most_wait};
+ghost use Rattle.uu_times.specs.System.{AreWithinLimits};
+ghost use Rattle.uu_core.specs.State.{State, IsWellFormed, head_of, last_second, most_wait, system_at};
 ghost use Rattle.uu_core.specs.declared.job.JobHead.{JobHead};
 ghost use Rattle.uu_core.specs.Refusal.{decided};
 ghost use Rattle.uu_core.specs.Verdict.{done_reasons};
@@ -10,11 +11,10 @@ ghost use Rattle.uu_core.specs.After.{failed_decision, done_call_of};
 ghost use Rattle.uu_tables.specs.Tables.{Tables, call_columns, outcome_number, reason_of};
 ghost use Rattle.uu_tables.specs.Changes.{applied};
 ghost use Rattle.uu_tables.specs.Parts.{without_jobs};
-ghost use Rattle.uu_tables.specs.Plans.{AreFacts, IsPlan};
+ghost use Rattle.uu_tables.specs.Plans.{IsPlan};
 
 use super::{Plan, one_change, refused};
 use crate::change::Change;
-use crate::facts::Facts;
 use crate::rows::{CALL_FAILED, CALL_MADE, CallColumns, NEVER_CALLED};
 use std::alloc::{AllocError, Global};
 use uu_core::laws::named_jobs_decide;
@@ -49,30 +49,37 @@ fn call_columns(call: CallState) -> CallColumns
     }
 }
 
+// A law: retry numbers and success waits are within their limits, as each definition keeps them.
+fn definitions_are_within_limits(row: Option<&SystemRow>)
+    ensures { IfSome (option_copied row.entry) (λ row. AreWithinLimits row.def.lines row.def.max_retries row.def.success_wait) }
+{
+    if let Some(row) = row {
+        let _ = row.def.lines();
+    }
+}
+
 // The calls of a system, if it is known, after one that failed: its wait is a year at most, since
 // its retry numbers are.
-fn failed_call(system: Option<&SystemRow>, at: &Moment, why: Word) -> Result<CallState, Refusal>
-    ensures call { result ≡ failed_decision (option_copied system.entry) at.now why }
+fn failed_call(row: Option<&SystemRow>, at: &Moment, why: Word) -> Result<CallState, Refusal>
+    ensures call { result ≡ failed_decision (option_copied row.entry) at.now why }
     ensures last { IfOk result (λ call. call.last ≤ last_second) }
     ensures wait { IfOk result (λ call. call.wait ≤ most_wait) }
 {
-    if let Some(row) = system {
-        let _ = row.def.lines();
-    }
-    decide_failed(system, at, why)
+    definitions_are_within_limits(row);
+    decide_failed(row, at, why)
 }
 
 /// A call that failed: the system's calls change.
 pub(crate) fn plan_failed<'a>(
     alloc: Global,
-    facts: &Facts,
+    row: Option<&SystemRow>,
     system: &'a SiteName,
     at: &Moment,
     why: &Word,
 ) -> Result<Plan<'a>, AllocError>
-    ensures { (s : State) → IsWellFormed s → AreFacts facts.now s (Failed system.now at.now why.now) → IfOk result (IsPlan s (Failed system.now at.now why.now)) }
+    ensures { (s : State) → IsWellFormed s → option_copied row.entry ≡ system_at s system.now → IfOk result (IsPlan s (Failed system.now at.now why.now)) }
 {
-    match failed_call(facts.system.as_ref(), at, why.clone()?) {
+    match failed_call(row, at, why.clone()?) {
         Ok(call) => {
             let call = call_columns(call);
             one_change(alloc, Change::SetCall { system, call })
@@ -105,29 +112,22 @@ fn done_call(
     ensures call { (all : List JobHead) → AreFound jobs.now all found.now → result ≡ decided (done_reasons (is_some (option_copied row.entry)) system.now jobs.now all) (done_call_of (option_copied row.entry) at.now) }
 {
     named_jobs_decide();
-    if let Some(row) = row {
-        let _ = row.def.lines();
-    }
+    definitions_are_within_limits(row);
     decide_done(row, system, jobs, found, at)
 }
 
 /// A call in which jobs went through: the system's calls change, and the jobs go.
 pub(crate) fn plan_done<'a>(
     alloc: Global,
-    facts: &Facts,
+    row: Option<&SystemRow>,
+    found: &[JobHead],
     system: &'a SiteName,
     at: &Moment,
     jobs: &[u32],
 ) -> Result<Plan<'a>, AllocError>
-    ensures { (s : State) → IsWellFormed s → AreFacts facts.now s (Done system.now at.now jobs.now) → IfOk result (IsPlan s (Done system.now at.now jobs.now)) }
+    ensures { (s : State) → IsWellFormed s → option_copied row.entry ≡ system_at s system.now → AreFound jobs.now (map head_of s.jobs) found.now → IfOk result (IsPlan s (Done system.now at.now jobs.now)) }
 {
-    match done_call(
-        facts.system.as_ref(),
-        facts.found.as_slice(),
-        system,
-        at,
-        jobs,
-    ) {
+    match done_call(row, found, system, at, jobs) {
         Ok(call) => {
             let call = call_columns(call);
             let mut changes = vec![in alloc; Change::SetCall { system, call }]?;

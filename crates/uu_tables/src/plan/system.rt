@@ -1,15 +1,14 @@
 // Systems that are defined and removed.
 ghost use Rattle.std.specs.Prelude.{◌≡◌, IfOk, map};
 ghost use Rattle.uu_core.specs.declared.command.Command.TheVariants.{Define, Remove};
-ghost use Rattle.uu_core.specs.State.{State, IsWellFormed};
+ghost use Rattle.uu_core.specs.State.{State, IsWellFormed, has_system, is_waiting};
 ghost use Rattle.uu_tables.specs.Tables.{Tables, placed_from, range_columns, waits_from};
 ghost use Rattle.uu_tables.specs.Changes.{applied};
 ghost use Rattle.uu_tables.specs.Parts.{with_ranges, with_lines, with_waits, with_definition};
-ghost use Rattle.uu_tables.specs.Plans.{AreFacts, IsPlan};
+ghost use Rattle.uu_tables.specs.Plans.{IsPlan};
 
 use super::{Plan, one_change, refused};
 use crate::change::Change;
-use crate::facts::Facts;
 use std::alloc::{AllocError, Global};
 use uu_core::{Reply, decide_drop};
 use uu_names::SiteName;
@@ -94,12 +93,12 @@ fn add_success_wait<'a>(changes: &mut Vec<Change<'a>>, def: &'a SystemDef) -> Re
 /// are those of the definition alone.
 pub(crate) fn plan_define<'a>(
     alloc: Global,
-    facts: &Facts,
+    known: bool,
     def: &'a SystemDef,
 ) -> Result<Plan<'a>, AllocError>
-    ensures { (s : State) → IsWellFormed s → AreFacts facts.now s (Define def.now) → IfOk result (IsPlan s (Define def.now)) }
+    ensures { (s : State) → IsWellFormed s → known ≡ has_system s def.now.name → IfOk result (IsPlan s (Define def.now)) }
 {
-    let mut changes = definition(alloc, facts.is_known, def)?;
+    let mut changes = definition(alloc, known, def)?;
     add_success_wait(&mut changes, def)?;
     add_lines(&mut changes, def)?;
     Ok(Plan {
@@ -108,15 +107,17 @@ pub(crate) fn plan_define<'a>(
     })
 }
 
-/// A system that goes, with its calls, its lines, their ranges and its success wait.
+/// A system that goes, with its calls, its lines, their ranges, its success wait, and its link: the
+/// number below which it asks for none again, and what was taken from it.
 pub(crate) fn plan_remove<'a>(
     alloc: Global,
-    facts: &Facts,
+    known: bool,
+    waiting: bool,
     system: &'a SiteName,
 ) -> Result<Plan<'a>, AllocError>
-    ensures { (s : State) → AreFacts facts.now s (Remove system.now) → IfOk result (IsPlan s (Remove system.now)) }
+    ensures { (s : State) → known ≡ has_system s system.now → waiting ≡ is_waiting s system.now → IfOk result (IsPlan s (Remove system.now)) }
 {
-    match decide_drop(facts.is_known, facts.is_waiting) {
+    match decide_drop(known, waiting) {
         Ok(()) => one_change(alloc, Change::RemoveSystem { system }),
         Err(refusal) => Ok(refused(alloc, refusal)),
     }

@@ -1,12 +1,12 @@
-use Rattle.std.proofs.Common.{Ok, ◌∙◌}
-use Rattle.sqlite.specs.Held.{state}
-use Rattle.uu_questions.proofs.Answering.{answers_as, answer_in}
+use Rattle.std.proofs.Common.{ap}
+use Rattle.uu_tables.specs.declared.facts.Facts.TheVariants.{Head}
+use Rattle.uu_questions.proofs.Answering.{answer_in}
 use Rattle.uu_rows.proofs.Showing.{answered}
+use Rattle.uu_questions.proofs.Asking.{asks_as, asks_refused}
 use Rattle.uu_questions.proofs.facts.head.Goals as goal
 
-pub returns-clause-answers : goal.returns-clause-answers
-returns-clause-answers g c =
-    let a = state g.S.Store c.args.conn.now in
-    let b = state g.S.Store c.head_of_job.new.conn in
-    answers_as _ _ a b c.head_of_job.result (Ok c.facts_of_head.result) c.head_of_job.ensures.answers (λ ok. answered _ _ c.in_ok-head.was)
-    (λ s good h. c.facts_of_head.ensures ∙ answer_in _ c.head_of_job.result _ c.in_ok-head.was h)
+pub returns : goal.returns
+returns g c = asks_as c.head_of_job.ensures (λ ok. answered _ _ c.in_ok-head.was) (λ s good it. ap Head (answer_in _ c.head_of_job.result _ c.in_ok-head.was it))
+
+pub returns-in_err-head : goal.returns-in_err-head
+returns-in_err-head g c = asks_refused c.head_of_job.ensures c.from_residual.ensures.0

@@ -1,17 +1,14 @@
-use Rattle.std.proofs.Common.{pos, [], ◌∷◌}
-use Rattle.sqlite.specs.declared.types.Value.TheVariants.{Int}
 use Rattle.sqlite.specs.Held.{state}
-use Rattle.uu_questions.specs.Texts.{head_text}
 use Rattle.uu_questions.proofs.Meanings.{head_means}
 use Rattle.uu_questions.proofs.Known.{head_found}
-use Rattle.uu_questions.proofs.Reading.{read_answers}
+use Rattle.uu_questions.proofs.Asking.{asks_read}
 use Rattle.uu_questions.proofs.facts.head_of_job.Goals as goal
 
 pub typed_row-requires : goal.typed_row-requires
 typed_row-requires g c = head_means.plain
 
-pub returns-clause-answers : goal.returns-clause-answers
-returns-clause-answers g c =
+pub returns : goal.returns
+returns g c =
     let a = state g.S.Store c.args.conn.now in
     let b = state g.S.Store c.typed_row.new.conn in
-    read_answers _ _ head_text (Int (pos c.args.number) ∷ []) a b c.typed_row.result (rw c.params-to_sql.ensures at c.typed_row.ensures.reads) (λ s of rows shown found it. head_found a b s c.args.number rows found of shown it.1 it.0)
+    asks_read (rw c.params-to_sql.ensures at c.typed_row.ensures) (λ s of rows shown found it. head_found a b s c.args.number rows found of shown it.1 it.0)

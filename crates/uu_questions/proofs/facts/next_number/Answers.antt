@@ -8,15 +8,20 @@ use Rattle.uu_rows.proofs.Showing.{answered, shows}
 use Rattle.uu_questions.proofs.Known.{next_rows}
 use Rattle.uu_questions.proofs.facts.next_number.Goals as goal
 
-pub returns-in_err-rows-clause-answers : goal.returns-in_err-rows-clause-answers
-returns-in_err-rows-clause-answers g c =
+pub returns-in_err-rows : goal.returns-in_err-rows
+returns-in_err-rows g c =
     let a = state g.S.Store c.args.conn.now in
     let b = state g.S.Store c.query_all.new.self in
-    not_shown _ next_text [] a b c.query_all.result _ (shows next_text [] a b next_ask c.query_all.result c.query_all.ensures.ok c.query_all.ensures.err c.query_all.ensures.survives) c.from_residual.ensures.0
+    let it = c.query_all.ensures in
+    record { idle = it.mode; answers = not_shown _ next_text [] a b c.query_all.result _ (shows next_text [] a b next_ask c.query_all.result it.ok it.err it.survives) c.from_residual.ensures.0 }
 
-pub returns-clause-answers : goal.returns-clause-answers
-returns-clause-answers g c =
+pub returns : goal.returns
+returns g c =
     let a = state g.S.Store c.args.conn.now in
     let b = state g.S.Store c.query_all.new.self in
-    then_read _ next_text [] a b c.query_all.result _ (shows next_text [] a b next_ask c.query_all.result c.query_all.ensures.ok c.query_all.ensures.err c.query_all.ensures.survives) (answered _ _ c.in_ok-rows.was)
-    (λ clean s of. IfOk-weaker c.next_in.result _ _ (λ next h. h s.next (c.as_slice.ensures.value ∙ next_rows a b s c.in_ok-rows.rows.items of (c.in_ok-rows.ensures.ok clean))) c.next_in.ensures.next)
+    let it = c.query_all.ensures in
+    record {
+      idle = it.mode;
+      answers = then_read _ next_text [] a b c.query_all.result _ (shows next_text [] a b next_ask c.query_all.result it.ok it.err it.survives) (answered _ _ c.in_ok-rows.was)
+          (λ clean s of. IfOk-weaker c.next_in.result _ _ (λ next h. h s.next (c.as_slice.ensures.value ∙ next_rows a b s c.in_ok-rows.rows.items of (c.in_ok-rows.ensures.ok clean))) c.next_in.ensures.next);
+    }

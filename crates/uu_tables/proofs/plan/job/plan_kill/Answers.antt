@@ -1,4 +1,5 @@
 use Rattle.std.proofs.Common.{◌∙◌, ◌∷◌, [], sym}
+use Rattle.std.specs.Option.{option_copied}
 use Rattle.uu_core.specs.declared.command.Command.TheVariants.{Kill}
 use Rattle.uu_core.specs.Verdict.{job_reasons}
 use Rattle.uu_tables.specs.declared.change.Change.TheVariants.{RemoveJob}
@@ -7,7 +8,7 @@ use Rattle.uu_tables.proofs.JobLemmas.{killed}
 use Rattle.uu_tables.proofs.plan.job.plan_kill.Goals as goal
 
 pub returns-in-Ok : goal.returns-in-Ok
-returns-in-Ok c s facts =
+returns-in-Ok c s found =
     let by = c.args.by.now in
-    let decided = when_accepted (job_reasons c.args.facts.now.head by) tt c.in-Ok.field-0 (rw c.as_ref.ensures.value at (sym c.decide_job.ensures ∙ c.in-Ok.is)) in
-    accepts_with s (Kill c.args.number by) (RemoveJob c.args.number ∷ []) _ (rw facts at decided.0) c.one_change.ensures.reply c.one_change.ensures.changes (killed s c.args.number by)
+    let decided = when_accepted (job_reasons (option_copied c.args.head) by) tt c.in-Ok.field-0 (sym c.decide_job.ensures ∙ c.in-Ok.is) in
+    accepts_with s (Kill c.args.number by) (RemoveJob c.args.number ∷ []) _ (rw found at decided.0) c.one_change.ensures.reply c.one_change.ensures.changes (killed s c.args.number by)

@@ -11,34 +11,31 @@ use Rattle.uu_tables.proofs.LinkLemmas.{first_is, keyed}
 use Rattle.uu_tables.proofs.plan.link.plan_queue_once.Goals as goal
 
 pub returns-in_ok-changes-in-Ok-First : goal.returns-in_ok-changes-in-Ok-First
-returns-in_ok-changes-in-Ok-First c s good facts =
+returns-in_ok-changes-in-Ok-First c s good known next below taken =
     let key = c.args.key.now in
     let job = c.args.job.now in
-    let f = c.args.facts.now in
     let number = c.in-Ok-First.number in
-    let decided = when_accepted (once_reasons f.is_known f.next f.below f.taken key job) (hand_in_of f.taken key f.next) (First number) (sym (ap Ok (sym c.in-Ok-First.field-0-is) ∙ c.in-Ok-First.ensures)) in
-    let first = first_is f.is_known f.next f.below f.taken key job number decided.1 decided.0 in
-    let free : taken_of s key ≡ None = sym facts.3 ∙ first.0 in
-    let next : number ≡ s.next = sym first.1 ∙ facts.1 in
-    let handed : hand_in s key ≡ First s.next = ap (λ taken. hand_in_of taken key s.next) free in
-    accepts s (QueueOnce key job) _ (rw (facts.0, facts.1, facts.2, facts.3) at decided.0) (ap Number (next ∙ ap number_of (sym handed)))
-    (c.in_ok-changes-in-Ok-First.ensures (tables_of s) ∙ ap (λ n. with_new_key key n (with_new_job n job (tables_of s))) next ∙ keyed s good key job free ∙ ap (λ h. tables_of (take_in h key job s)) (sym handed))
+    let decided = when_accepted (once_reasons c.args.known c.args.next c.args.below c.args.taken key job) (hand_in_of c.args.taken key c.args.next) (First number) (sym (ap Ok (sym c.in-Ok-First.field-0-is) ∙ c.in-Ok-First.ensures)) in
+    let first = first_is c.args.known c.args.next c.args.below c.args.taken key job number decided.1 decided.0 in
+    let free : taken_of s key ≡ None = sym taken ∙ first.0 in
+    let given : number ≡ s.next = sym first.1 ∙ next in
+    let handed : hand_in s key ≡ First s.next = ap (λ o. hand_in_of o key s.next) free in
+    accepts s (QueueOnce key job) _ (rw (known, next, below, taken) at decided.0) (ap Number (given ∙ ap number_of (sym handed)))
+    (c.in_ok-changes-in-Ok-First.ensures (tables_of s) ∙ ap (λ n. with_new_key key n (with_new_job n job (tables_of s))) given ∙ keyed s good key job free ∙ ap (λ h. tables_of (take_in h key job s)) (sym handed))
 
 pub returns-in-Ok-Again : goal.returns-in-Ok-Again
-returns-in-Ok-Again c s good facts =
+returns-in-Ok-Again c s good known next below taken =
     let key = c.args.key.now in
     let job = c.args.job.now in
-    let f = c.args.facts.now in
     let number = c.in-Ok-Again.number in
-    let decided = when_accepted (once_reasons f.is_known f.next f.below f.taken key job) (hand_in_of f.taken key f.next) (Again number) (sym (ap Ok (sym c.in-Ok-Again.field-0-is) ∙ c.in-Ok-Again.ensures)) in
-    let handed : hand_in s key ≡ Again number = rw (facts.1, facts.3) at decided.1 in
-    accepts s (QueueOnce key job) _ (rw (facts.0, facts.1, facts.2, facts.3) at decided.0) (c.unchanged.ensures.reply ∙ ap (λ h. Number (number_of h)) (sym handed))
+    let decided = when_accepted (once_reasons c.args.known c.args.next c.args.below c.args.taken key job) (hand_in_of c.args.taken key c.args.next) (Again number) (sym (ap Ok (sym c.in-Ok-Again.field-0-is) ∙ c.in-Ok-Again.ensures)) in
+    let handed : hand_in s key ≡ Again number = rw (next, taken) at decided.1 in
+    accepts s (QueueOnce key job) _ (rw (known, next, below, taken) at decided.0) (c.unchanged.ensures.reply ∙ ap (λ h. Number (number_of h)) (sym handed))
     (rw c.unchanged.ensures.none (ap (λ h. tables_of (take_in h key job s)) (sym handed)))
 
 pub returns-in-Err : goal.returns-in-Err
-returns-in-Err c s good facts =
+returns-in-Err c s good known next below taken =
     let key = c.args.key.now in
     let job = c.args.job.now in
-    let f = c.args.facts.now in
-    let some = when_refused (once_reasons f.is_known f.next f.below f.taken key job) (hand_in_of f.taken key f.next) c.in-Err.refusal (sym c.decide_queue_once.ensures ∙ c.in-Err.is) in
-    refuses s (QueueOnce key job) _ c.in-Err.refusal (rw (facts.0, facts.1, facts.2, facts.3) at some) c.refused.ensures.reply c.refused.ensures.none
+    let some = when_refused (once_reasons c.args.known c.args.next c.args.below c.args.taken key job) (hand_in_of c.args.taken key c.args.next) c.in-Err.refusal (sym c.decide_queue_once.ensures ∙ c.in-Err.is) in
+    refuses s (QueueOnce key job) _ c.in-Err.refusal (rw (known, next, below, taken) at some) c.refused.ensures.reply c.refused.ensures.none

@@ -9,14 +9,14 @@ use Rattle.uu_tables.proofs.PieceLemmas.{queued}
 use Rattle.uu_tables.proofs.plan.queue.plan_queue.Goals as goal
 
 pub returns-in_ok-changes-in-Ok : goal.returns-in_ok-changes-in-Ok
-returns-in_ok-changes-in-Ok c s facts =
+returns-in_ok-changes-in-Ok c s known next =
     let job = c.args.job.now in
-    let decided = when_accepted (queue_reasons c.args.facts.now.is_known c.args.facts.now.next job) c.args.facts.now.next c.in-Ok.number (sym c.decide_queue.ensures ∙ c.in-Ok.is) in
-    let number : c.in-Ok.number ≡ s.next = sym decided.1 ∙ facts.1 in
-    accepts s (Queue job) _ (rw (facts.0, facts.1) at decided.0) (ap Number number) (c.in_ok-changes-in-Ok.ensures (tables_of s) ∙ ap (λ n. with_new_job n job (tables_of s)) number ∙ queued s job)
+    let decided = when_accepted (queue_reasons c.args.known c.args.next job) c.args.next c.in-Ok.number (sym c.decide_queue.ensures ∙ c.in-Ok.is) in
+    let number : c.in-Ok.number ≡ s.next = sym decided.1 ∙ next in
+    accepts s (Queue job) _ (rw (known, next) at decided.0) (ap Number number) (c.in_ok-changes-in-Ok.ensures (tables_of s) ∙ ap (λ n. with_new_job n job (tables_of s)) number ∙ queued s job)
 
 pub returns-in-Err : goal.returns-in-Err
-returns-in-Err c s facts =
+returns-in-Err c s known next =
     let job = c.args.job.now in
-    let some = when_refused (queue_reasons c.args.facts.now.is_known c.args.facts.now.next job) c.args.facts.now.next c.in-Err.refusal (sym c.decide_queue.ensures ∙ c.in-Err.is) in
-    refuses s (Queue job) _ c.in-Err.refusal (rw (facts.0, facts.1) at some) c.refused.ensures.reply c.refused.ensures.none
+    let some = when_refused (queue_reasons c.args.known c.args.next job) c.args.next c.in-Err.refusal (sym c.decide_queue.ensures ∙ c.in-Err.is) in
+    refuses s (Queue job) _ c.in-Err.refusal (rw (known, next) at some) c.refused.ensures.reply c.refused.ensures.none

@@ -4,17 +4,12 @@ use Rattle.uu_core.specs.Refusal.{decided}
 use Rattle.uu_core.specs.Verdict.{done_reasons}
 use Rattle.uu_core.specs.After.{done_call_of}
 use Rattle.uu_tables.proofs.ReportLemmas.{success_wait_is_within}
-use Rattle.uu_tables.proofs.plan.report.done_call.Goals.{in-Some, in_default}
 use Rattle.uu_tables.proofs.plan.report.done_call.Goals as goal
 
 pub returns-clause-wait : goal.returns-clause-wait
 returns-clause-wait c =
     let row = option_copied c.args.row in
-    let reasons = done_reasons (is_some row) c.args.system.now c.args.jobs.now c.args.found.now in
-    elim c.match-row.branch [
-      | in-Some w ↦ success_wait_is_within row c.args.at.now c.decide_done.result reasons c.decide_done.ensures (rw w.in-Some.is w.lines.ensures.within.3)
-      | in_default w ↦ success_wait_is_within row c.args.at.now c.decide_done.result reasons c.decide_done.ensures (rw w.in_default.is tt)
-    ]
+    success_wait_is_within row c.args.at.now c.decide_done.result (done_reasons (is_some row) c.args.system.now c.args.jobs.now c.args.found.now) c.decide_done.ensures c.definitions_are_within_limits.ensures
 
 pub returns-clause-call : goal.returns-clause-call
 returns-clause-call c all found =
