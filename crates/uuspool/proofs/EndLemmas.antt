@@ -17,10 +17,10 @@ use Rattle.uu_store.specs.declared.run.RunEnd.{RunEnd}
 use Rattle.uu_store.specs.declared.spool.Spool.{Spool}
 use Rattle.uu_frame.specs.Writing.{IsCut}
 use Rattle.uu_settings.specs.declared.settings.Settings.{Settings}
-use Rattle.uu_report.specs.declared.output.Subject.{Subject}
+use Rattle.uu_core.specs.declared.subject.Subject.{Subject}
 use Rattle.uu_report.specs.Outputs.{answers_text, output_text, replies_status, subject_text}
 use Rattle.uu_report.specs.Replies.{reply_text}
-use Rattle.uu_request.specs.declared.request.Batch.{Batch}
+use Rattle.uu_request.specs.declared.request.CommandList.{CommandList}
 use Rattle.uu_request.specs.declared.request.Request.TheVariants as request
 use Rattle.uuspool.proofs.ServedLemmas.{IsOfPrinting, broken_of_nothing, end_is_late, marked_is_of_call, printed, printed_as}
 use Rattle.uuspool.specs.Served.{IsBrokenOff, IsEvery, IsNoted, IsOfCall, IsOutput, IsPrinted, IsPrintedEnd, IsServed, Marks}
@@ -110,38 +110,38 @@ pub marked_stop : (stopped : Option StoreFault) (Whole : Type 0) (before after :
 marked_stop None Whole before after marked = tt
 marked_stop (Some why) Whole before after marked = marked_is_of_call before after why marked
 
-pub run_served : {S : Type 0} {g : Ghosts S} (settings : Settings) (batch : Batch) (old new : Spool S g) (written : List ℕ → Type 0) (end : RunEnd) (r : Result ℕ Fault)
-    → Ran batch.commands old new end.replies.items end.stopped → IsEvery (spool.has_failed old) (request.Commands batch) end.replies.items end.stopped
+pub run_served : {S : Type 0} {g : Ghosts S} (settings : Settings) (list : CommandList) (old new : Spool S g) (written : List ℕ → Type 0) (end : RunEnd) (r : Result ℕ Fault)
+    → Ran list.commands old new end.replies.items end.stopped → IsEvery (spool.has_failed old) (request.Commands list) end.replies.items end.stopped
     → Marks (spool.has_failed old) (spool.has_failed new) end.stopped → IsNoted old new end.stopped
     → (IsTrue (spool.has_failed old) → (end.stopped ≡ Some store.Failed) × (end.replies.items ≡ []) × (new ≡ old))
-    → IfSome end.stopped IsOfCall → IsPrintedEnd batch.subjects batch.skipped end written r → IsServed settings (request.Commands batch) old new written r
-run_served settings batch old new written end r ran every marked noted failed call ends = record {
+    → IfSome end.stopped IsOfCall → IsPrintedEnd list.subjects list.skipped end written r → IsServed settings (request.Commands list) old new written r
+run_served settings list old new written end r ran every marked noted failed call ends = record {
   replies = end.replies.items;
   stopped = end.stopped;
   ran = ran;
   every = every;
-  printed = λ none. printed_as (IsWhole batch.subjects batch.skipped end) _ written written r (λ output status is. (is, output_in none output status is)) (λ output wrote. wrote) (ends_by None none);
+  printed = λ none. printed_as (IsWhole list.subjects list.skipped end) _ written written r (λ output status is. (is, output_in none output status is)) (λ output wrote. wrote) (ends_by None none);
   shows = λ none clean s shown. subst (λ commands. spool.Shows new (state_after s commands)) (all none) ((ran.from clean s shown).shows (subst GoesOn (sym none) tt));
   broken_off = λ why same. ends_by (Some why) same;
-  late = end_is_late end.stopped (IsWhole batch.subjects batch.skipped end) (answers_text batch.subjects end.replies.items) written r call ends;
+  late = end_is_late end.stopped (IsWhole list.subjects list.skipped end) (answers_text list.subjects end.replies.items) written r call ends;
   marked = marked;
   noted = noted;
   failed = λ had.
       let was = failed had in
-      let told = broken_of_nothing store.Failed (answers_text batch.subjects end.replies.items) written r (no_reply batch.subjects end.replies.items (ap length was.1)) (ends_by (Some store.Failed) was.0) in
+      let told = broken_of_nothing store.Failed (answers_text list.subjects end.replies.items) written r (no_reply list.subjects end.replies.items (ap length was.1)) (ends_by (Some store.Failed) was.0) in
       (told.0, told.1, was.2);
 }
   where
-    ends_by : (stopped : Option StoreFault) → end.stopped ≡ stopped → Ends batch.subjects batch.skipped end written r stopped
-    ends_by stopped same = subst (Ends batch.subjects batch.skipped end written r) same ends
+    ends_by : (stopped : Option StoreFault) → end.stopped ≡ stopped → Ends list.subjects list.skipped end written r stopped
+    ends_by stopped same = subst (Ends list.subjects list.skipped end written r) same ends
 
-    all : end.stopped ≡ None → take (length end.replies.items) batch.commands ≡ batch.commands
+    all : end.stopped ≡ None → take (length end.replies.items) list.commands ≡ list.commands
     all none =
-        let enough : length batch.commands ≤ length end.replies.items = omega (arith, (every.0 none).1) in
-        take_all (length end.replies.items) batch.commands enough
+        let enough : length list.commands ≤ length end.replies.items = omega (arith, (every.0 none).1) in
+        take_all (length end.replies.items) list.commands enough
 
-    output_in : end.stopped ≡ None → (output : List ℕ) (status : ℕ) → IsWhole batch.subjects batch.skipped end output status
-        → HasCleanDisk (spool.disk new) → (s : State) → spool.Shows old s → IsOutput settings s (request.Commands batch) output status
+    output_in : end.stopped ≡ None → (output : List ℕ) (status : ℕ) → IsWhole list.subjects list.skipped end output status
+        → HasCleanDisk (spool.disk new) → (s : State) → spool.Shows old s → IsOutput settings s (request.Commands list) output status
     output_in none output status is clean s shown =
-        let replied : end.replies.items ≡ replies_to s batch.commands = (ran.from clean s shown).answers ∙ ap (replies_to s) (all none) in
-        (is.0 ∙ ap (output_text batch.subjects batch.skipped) replied, is.1 ∙ ap replies_status replied)
+        let replied : end.replies.items ≡ replies_to s list.commands = (ran.from clean s shown).answers ∙ ap (replies_to s) (all none) in
+        (is.0 ∙ ap (output_text list.subjects list.skipped) replied, is.1 ∙ ap replies_status replied)

@@ -51,7 +51,7 @@ not_stopped (Some why) output written r status same broken = absurd (subst (IsBr
 -- where nothing stopped it, each of its commands was answered
 all_answered : (failed : Bool) (request : Request) (replies : List Reply) (stopped : Option StoreFault) → IsEvery failed request replies stopped → stopped ≡ None
     → length replies ≡ length (commands_of request)
-all_answered failed (Commands batch) replies stopped every none = (every.0 none).1
+all_answered failed (Commands list) replies stopped every none = (every.0 none).1
 all_answered failed (Question question) replies stopped every none = ap length every
 
 module _ (settings : Settings) (s : State) (request : Request) (replies : List Reply) (output : List ℕ) where

@@ -21,7 +21,7 @@ use Rattle.uu_frame.specs.Writing.{IsCut}
 use Rattle.uu_line.specs.Lines.{AreRefused, MeansLine}
 use Rattle.uu_line.specs.declared.line.CommandLine.{CommandLine}
 use Rattle.uu_settings.specs.declared.settings.Settings.{Settings}
-use Rattle.uu_report.specs.declared.output.Subject.{Subject}
+use Rattle.uu_core.specs.declared.subject.Subject.{Subject}
 use Rattle.uu_report.specs.Outputs.{answers_text, output_text, replies_status}
 use Rattle.uu_request.specs.Requests.{request_of}
 use Rattle.uu_request.specs.declared.fault.RequestFault.{RequestFault}
@@ -58,24 +58,24 @@ pub record Ask (settings : Settings) (words : List (List ℕ)) (now : ℕ) (inpu
 
 -- the commands of a request; a question is none
 abbrev pub commands_of : Request → List Command
-commands_of (Commands batch) = batch.commands
+commands_of (Commands list) = list.commands
 commands_of (Question question) = []
 
 -- the output and the status of a request in a state: of commands those of the machine's replies
 abbrev pub IsOutput : Settings → State → Request → List ℕ → ℕ → Type 0
-IsOutput settings s (Commands batch) output status =
-    (output ≡ output_text batch.subjects batch.skipped (replies_to s batch.commands)) × (status ≡ replies_status (replies_to s batch.commands))
+IsOutput settings s (Commands list) output status =
+    (output ≡ output_text list.subjects list.skipped (replies_to s list.commands)) × (status ≡ replies_status (replies_to s list.commands))
 IsOutput settings s (Question question) output status = IsAnswer settings s question output status
 
 -- the output of the commands that were answered, where others were not
 abbrev pub answered_text : Request → List Reply → List ℕ
-answered_text (Commands batch) replies = answers_text batch.subjects replies
+answered_text (Commands list) replies = answers_text list.subjects replies
 answered_text (Question question) replies = []
 
 -- the output and the status of commands are those of the replies that came; an answer to a question
 -- is no reply
 abbrev pub IsOfReplies : Request → List Reply → List ℕ → ℕ → Type 0
-IsOfReplies (Commands batch) replies output status = (output ≡ output_text batch.subjects batch.skipped replies) × (status ≡ replies_status replies)
+IsOfReplies (Commands list) replies output status = (output ≡ output_text list.subjects list.skipped replies) × (status ≡ replies_status replies)
 IsOfReplies (Question question) replies output status = ⊤
 
 -- How a request ends of which all was answered: with the status of an output that was written; or
@@ -142,7 +142,7 @@ IsNoted old new stopped =
 -- Nothing stopped commands exactly where each was answered, by a spool that had not failed. A
 -- question has no reply.
 abbrev pub IsEvery : Bool → Request → List Reply → Option StoreFault → Type 0
-IsEvery failed (Commands batch) replies stopped = (stopped ≡ None) ↔ ((failed ≡ false) × (length replies ≡ length batch.commands))
+IsEvery failed (Commands list) replies stopped = (stopped ≡ None) ↔ ((failed ≡ false) × (length replies ≡ length list.commands))
 IsEvery failed (Question question) replies stopped = replies ≡ []
 
 -- A request was served: it was a run of its commands, so that the replies are the machine's, the

@@ -20,9 +20,10 @@ use sqlite::Alter;
 use std::alloc::Global;
 use std::io::Write;
 use std::mem::drop;
+use uu_core::Subject;
 use uu_line::CommandLine;
-use uu_report::{Subject, answer_lines, output_of, status_of};
-use uu_request::{Batch, Request, request_of};
+use uu_report::{answer_lines, output_of, status_of};
+use uu_request::{CommandList, Request, request_of};
 use uu_settings::Settings;
 use uu_store::{Reply, RunEnd, Spool};
 use uu_times::Moment;
@@ -135,7 +136,7 @@ pub fn serve_line<S: Alter, W: Write>(
     ensures fault { IfErr result (IsFaultOfLine settings.now line at input.items) }
 {
     match request_of(alloc, line, settings, at, input) {
-        Ok(Request::Commands(batch)) => run(alloc, batch, settings, spool, out),
+        Ok(Request::Commands(list)) => run(alloc, list, settings, spool, out),
         Ok(Request::Question(question)) => ask(alloc, &question, settings, spool, out),
         Err(fault) => Err(Fault::from(fault)),
     }
@@ -144,18 +145,18 @@ pub fn serve_line<S: Alter, W: Write>(
 // Gives these commands, and prints what is answered.
 fn run<S: Alter, W: Write>(
     alloc: Global,
-    batch: Batch,
+    list: CommandList,
     settings: &Settings,
     spool: &mut Spool<S>,
     out: &mut W,
 ) -> Result<u8, Fault>
-    ensures { IsServed settings.now (request.Commands batch) spool.old spool.new (λ output. Appends (W.contents out.old) (W.contents out.new) output) result }
+    ensures { IsServed settings.now (request.Commands list) spool.old spool.new (λ output. Appends (W.contents out.old) (W.contents out.new) output) result }
 {
-    let Batch {
+    let CommandList {
         commands,
         subjects,
         skipped,
-    } = batch;
+    } = list;
     let end = spool.run(alloc, commands.into_vec());
     print_end(alloc, subjects.as_slice(), skipped.as_slice(), &end, out)
 }

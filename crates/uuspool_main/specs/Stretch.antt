@@ -30,8 +30,8 @@ use Rattle.uuspool.specs.Batch.{EndsWith, IsRequestLine, most_requests}
 use Rattle.uuspool.specs.ServedLines.{AreServed, IsOneRun, Line, commands_in}
 use Rattle.uuspool.specs.declared.fault.Fault.{Fault}
 use Rattle.uuspool.specs.declared.fault.Fault.TheVariants as fault
-use Rattle.uuspool_main.specs.declared.stretch.Work.{Work}
-use Rattle.uuspool_main.specs.declared.stretch.Work.TheVariants as work
+use Rattle.uuspool_main.specs.declared.stretch.Invocation.{Invocation}
+use Rattle.uuspool_main.specs.declared.stretch.Invocation.TheVariants as invocation
 use Rattle.uuspool_main.specs.declared.stretch.Rest.{Rest}
 use Rattle.uuspool_main.specs.declared.stretch.Rest.TheVariants as rest
 
@@ -52,9 +52,9 @@ module _ {D : Type 0} {g : disk.Ghosts D} where
 -- ---- what was given and answered
 
 -- the moment of a line is that of its second, or where it gives none of another
-abbrev pub HasMoment : Settings → Work → Type 0
-HasMoment settings (work.Line line at input) = (now : ℕ) × IsMomentOf settings (second_of line now) at
-HasMoment settings work.Requests = ⊤
+abbrev pub HasMoment : Settings → Invocation → Type 0
+HasMoment settings (invocation.Line line at input) = (now : ℕ) × IsMomentOf settings (second_of line now) at
+HasMoment settings invocation.Requests = ⊤
 
 -- a spool was given commands, and what came of them is such an exchange
 abbrev pub WasGiven : {S : Type 0} {g : Ghosts S} → Spool S g → Spool S g → (Exchange → Type 0) → Type 0
@@ -99,21 +99,22 @@ module _ {S : Type 0} {g : Ghosts S} (settings : Settings) (begun ended : Spool 
       × (it : IsOneRun settings lines begun ended) × (exchange ≡ exchange_of (commands_in it.asked) it.replies it.stopped)
       × EndsBatch lines result
 
-  -- This work was done, and these are the commands and the replies of its line or of its lines.
-  -- What is said of the line is said of all words that mean it at its moment.
-  abbrev pub IsOfWork : Work → Result ℕ Fault → Exchange → Type 0
-  IsOfWork (work.Line line at input) result exchange =
+  -- What the program was invoked for was done, and these are the commands and the replies of its
+  -- line or of its lines. What is said of the line is said of all words that mean it at its moment.
+  abbrev pub IsOfInvocation : Invocation → Result ℕ Fault → Exchange → Type 0
+  IsOfInvocation (invocation.Line line at input) result exchange =
       IsOfLine line at input.items result exchange
       × ((words : List (List ℕ)) (now : ℕ) → MeansLine words line → IsMomentOf settings (second_of line now) at → IsOfWords words now input.items result exchange)
-  IsOfWork work.Requests result exchange = IsOfLines result exchange
+  IsOfInvocation invocation.Requests result exchange = IsOfLines result exchange
 
--- A run over files that held this: a spool was started over them, this work was done over it, and
--- it was let go; that is a stretch of work, of the commands and the replies of this work.
-pub record IsRun {D : Type 0} {g : disk.Ghosts D} (settings : Settings) (what : Work) (before : Image) (result : Result ℕ Fault) (left : Rest D g) : Type 0 where
+-- A run over files that held this: a spool was started over them, what the program was invoked for
+-- was done over it, and it was let go; that is a stretch of work, of the commands and the replies of
+-- this invocation.
+pub record IsRun {D : Type 0} {g : disk.Ghosts D} (settings : Settings) (what : Invocation) (before : Image) (result : Result ℕ Fault) (left : Rest D g) : Type 0 where
   pub begun : Spool (FileStore D g) over_files
   pub ended : Spool (FileStore D g) over_files
   pub exchange : Exchange
   pub started : Started before begun
-  pub done : IsOfWork settings begun ended what result exchange
+  pub done : IsOfInvocation settings begun ended what result exchange
   pub gone : LetsGo ended left
   pub stretch : EndsStretch before exchange left

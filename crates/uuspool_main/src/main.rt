@@ -9,7 +9,7 @@ ghost use Rattle.std.specs.Prelude.{IfOk, unwrap_or};
 ghost use Rattle.uuspool.specs.Served.{IsMomentOf, second_of};
 ghost use Rattle.uuspool_main.specs.Stretch.{HasMoment};
 
-use crate::stretch::{Rest, Work, work_on_file};
+use crate::stretch::{Invocation, Rest, work_on_file};
 use sqlite::Wary;
 use sqlite_disk::Disk;
 use std::io::Write;
@@ -48,7 +48,7 @@ fn run(rt: &HostRuntime) -> Result<u8, Fault> {
 // Answers the requests on standard input, with the settings of this path.
 fn run_batch(rt: &HostRuntime, path: &str) -> Result<u8, Fault> {
     let settings = settings_in(rt, path)?;
-    run_on_file(rt, &settings, Work::Requests)
+    run_on_file(rt, &settings, Invocation::Requests)
 }
 
 // Serves the line that these words mean.
@@ -61,7 +61,7 @@ fn run_line(rt: &HostRuntime, words: &[String]) -> Result<u8, Fault> {
                 at,
                 input,
             } = given;
-            run_on_file(rt, &settings, Work::Line { line, at, input })
+            run_on_file(rt, &settings, Invocation::Line { line, at, input })
         }
         Err(fault) => {
             drop(line);
@@ -150,10 +150,10 @@ fn input_for(rt: &HostRuntime, takes_input: bool) -> Result<Vec<u8>, Fault> {
 // Does the work over the spool's file that the settings name, by a function whose clauses speak of
 // all contents.
 // What is left of the files is dropped.
-fn run_on_file(rt: &HostRuntime, settings: &Settings, work: Work) -> Result<u8, Fault>
-    requires { HasMoment settings.now work }
+fn run_on_file(rt: &HostRuntime, settings: &Settings, invocation: Invocation) -> Result<u8, Fault>
+    requires { HasMoment settings.now invocation }
 {
-    match work_on_file(rt, settings, work, Wary) {
+    match work_on_file(rt, settings, invocation, Wary) {
         Ok(worked) => end_of(worked),
         Err(failed) => Err(Fault::Store(failed.fault)),
     }

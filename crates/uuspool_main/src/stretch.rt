@@ -3,7 +3,7 @@ ghost use Rattle.std.specs.Prelude.{◌≢◌, IfOk, IfErr};
 ghost use Rattle.sqlite_wal.specs.Files.{image_at};
 ghost use Rattle.sqlite_wal.specs.Recovery.{Image};
 ghost use Rattle.uu_store.specs.Openings.{IsRightFault, LeavesAlone, LeavesAsKept, Started, remains_of};
-ghost use Rattle.uuspool_main.specs.Stretch.{HasMoment, IsOfWork, IsRun, LetsGo, WasGiven};
+ghost use Rattle.uuspool_main.specs.Stretch.{HasMoment, IsOfInvocation, IsRun, LetsGo, WasGiven};
 
 use crate::batching::batch_on;
 use crate::is_log_long;
@@ -17,9 +17,9 @@ use uu_times::Moment;
 use uuspool::laws::lines_are_one_run;
 use uuspool::{CommandLine, Fault, Settings, serve_line};
 
-/// What is done over the spool.
+/// What the program was invoked for: what it does over the spool.
 #[derive(Drop)]
-pub(crate) enum Work {
+pub(crate) enum Invocation {
     /// A line, at this moment, with this input.
     Line {
         line: CommandLine,
@@ -49,20 +49,20 @@ pub(crate) enum Rest<D: Disk> {
 pub(crate) fn work_on_file<T: Start>(
     rt: &HostRuntime,
     settings: &Settings,
-    work: Work,
+    invocation: Invocation,
     start: T,
 ) -> Result<(Result<u8, Fault>, Rest<SpoolFile<T>>), OpenFault<SpoolFile<T>>>
-    requires { HasMoment settings.now work }
-    ensures stretch { IfOk result (λ end. IsRun settings.now work (image_at T.Start) end.0 end.1) }
+    requires { HasMoment settings.now invocation }
+    ensures stretch { IfOk result (λ end. IsRun settings.now invocation (image_at T.Start) end.0 end.1) }
     ensures named { IfErr result (λ e. IsRightFault (image_at T.Start) e.fault (remains_of e)) }
     ensures never_failed { IfErr result (λ e. e.fault ≢ StoreFault.Failed) }
     ensures left { IfErr result (λ e. LeavesAsKept (image_at T.Start) (remains_of e)) }
     ensures left_alone { IfErr result (λ e. LeavesAlone (image_at T.Start) e.fault (remains_of e)) }
 {
     match open_spool(rt, settings.spool.as_str(), start) {
-        Ok(spool) => Ok(work_on(rt, settings, work, spool)),
+        Ok(spool) => Ok(work_on(rt, settings, invocation, spool)),
         Err(failed) => {
-            drop(work);
+            drop(invocation);
             Err(failed)
         }
     }
@@ -73,15 +73,15 @@ pub(crate) fn work_on_file<T: Start>(
 fn work_on<D: Disk + Drop>(
     rt: &HostRuntime,
     settings: &Settings,
-    work: Work,
+    invocation: Invocation,
     spool: Spool<FileStore<D>>,
 ) -> (Result<u8, Fault>, Rest<D>)
-    requires { HasMoment settings.now work }
-    ensures { (before : Image) → Started before spool → IsRun settings.now work before result.0 result.1 }
+    requires { HasMoment settings.now invocation }
+    ensures { (before : Image) → Started before spool → IsRun settings.now invocation before result.0 result.1 }
 {
     calls_make_a_stretch::<D>();
     let mut spool = spool;
-    let end = do_work(rt, settings, work, &mut spool);
+    let end = do_work(rt, settings, invocation, &mut spool);
     let closes = end.is_ok() && is_log_long(rt, settings.spool.as_str());
     let rest = let_go(spool, closes);
     (end, rest)
@@ -91,19 +91,19 @@ fn work_on<D: Disk + Drop>(
 fn do_work<S: Alter>(
     rt: &HostRuntime,
     settings: &Settings,
-    work: Work,
+    invocation: Invocation,
     spool: &mut Spool<S>,
 ) -> Result<u8, Fault>
-    requires { HasMoment settings.now work }
-    ensures { WasGiven spool.old spool.new (IsOfWork settings.now spool.old spool.new work result) }
+    requires { HasMoment settings.now invocation }
+    ensures { WasGiven spool.old spool.new (IsOfInvocation settings.now spool.old spool.new invocation result) }
 {
     lines_are_one_run::<S>();
-    match work {
-        Work::Line { line, at, input } => {
+    match invocation {
+        Invocation::Line { line, at, input } => {
             let mut out = io::writer(rt);
             serve_line(rt.alloc(), line, settings, at, input, spool, &mut out)
         }
-        Work::Requests => batch_on(rt, settings, spool),
+        Invocation::Requests => batch_on(rt, settings, spool),
     }
 }
 

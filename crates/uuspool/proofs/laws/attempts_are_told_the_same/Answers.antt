@@ -5,7 +5,7 @@ use Rattle.uu_core.specs.Run.{replies_to, state_after}
 use Rattle.uu_core.specs.declared.command.Command.TheVariants.{QueueOnce}
 use Rattle.uu_core.specs.declared.command.Reply.{Reply}
 use Rattle.uu_report.specs.Outputs.{output_text, replies_status}
-use Rattle.uu_report.specs.declared.output.Subject.TheVariants.{Line}
+use Rattle.uu_core.specs.declared.subject.Subject.TheVariants.{Line}
 use Rattle.uuspool.proofs.laws.attempts_are_told_the_same.Goals as goal
 
 pub returns : goal.returns

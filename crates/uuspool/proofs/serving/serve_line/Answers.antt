@@ -9,7 +9,7 @@ use Rattle.uuspool.proofs.serving.serve_line.Goals as goal
 pub returns-in-Ok-Commands-clause-ends : goal.returns-in-Ok-Commands-clause-ends
 returns-in-Ok-Commands-clause-ends g c =
     ends_served c.run.result _ _ c.run.ensures.late (
-      request.Commands c.in-Ok-Commands.batch,
+      request.Commands c.in-Ok-Commands.list,
       subst (λ (r : Request). request_of c.args.settings.now c.args.at c.args.input.items c.args.line ≡ Ok r) c.in-Ok-Commands.field-0-is (sym c.in-Ok-Commands.ensures),
       c.run.ensures,
     )
@@ -17,7 +17,7 @@ returns-in-Ok-Commands-clause-ends g c =
 pub returns-in-Ok-Commands-clause-fault : goal.returns-in-Ok-Commands-clause-fault
 returns-in-Ok-Commands-clause-fault g c =
     late_fault c.args.settings.now c.args.line c.args.at c.args.input.items c.run.result c.run.ensures.late (
-      request.Commands c.in-Ok-Commands.batch,
+      request.Commands c.in-Ok-Commands.list,
       subst (λ (r : Request). request_of c.args.settings.now c.args.at c.args.input.items c.args.line ≡ Ok r) c.in-Ok-Commands.field-0-is (sym c.in-Ok-Commands.ensures),
     )
 

@@ -2,15 +2,15 @@ use Rattle.std.proofs.Common.{◌≡◌, Ok, subst, sym}
 use Rattle.uu_request.specs.Requests.{request_of}
 use Rattle.uu_times.specs.Moment.{Shows, local_second}
 use Rattle.uu_store.specs.Exchanges.{exchange_of}
-use Rattle.uuspool_main.specs.Stretch.{HasMoment, IsOfLine, IsOfWork, WasGiven}
-use Rattle.uuspool_main.specs.declared.stretch.Work.{Work}
-use Rattle.uuspool_main.specs.declared.stretch.Work.TheVariants as work
+use Rattle.uuspool_main.specs.Stretch.{HasMoment, IsOfLine, IsOfInvocation, WasGiven}
+use Rattle.uuspool_main.specs.declared.stretch.Invocation.{Invocation}
+use Rattle.uuspool_main.specs.declared.stretch.Invocation.TheVariants as invocation
 use Rattle.uuspool_main.proofs.StretchLemmas.{line_given, of_words}
 use Rattle.uuspool_main.proofs.stretch.do_work.Goals as goal
 
 pub serve_line-requires : goal.serve_line-requires
 serve_line-requires g c =
-    let has : HasMoment c.args.settings.now (work.Line c.in-Line.line c.in-Line.at c.in-Line.input) = subst (HasMoment c.args.settings.now) c.in-Line.is c.requires in
+    let has : HasMoment c.args.settings.now (invocation.Line c.in-Line.line c.in-Line.at c.in-Line.input) = subst (HasMoment c.args.settings.now) c.in-Line.is c.requires in
     subst (λ second. Shows c.in-Line.at.local (local_second c.args.settings.now.zone second)) (sym has.1.second) has.1.local
 
 pub returns-in-Line : goal.returns-in-Line
@@ -21,7 +21,7 @@ returns-in-Line g c =
     let input = c.in-Line.input.items in
     let begun = c.args.spool.now in
     let ended = c.serve_line.new.spool in
-    subst (λ (what : Work). WasGiven begun ended (IsOfWork settings begun ended what c.serve_line.result)) (sym c.in-Line.is)
+    subst (λ (what : Invocation). WasGiven begun ended (IsOfInvocation settings begun ended what c.serve_line.result)) (sym c.in-Line.is)
     (let (commands, replies, stopped, ran, done) =
     line_given settings begun ended (λ request. request_of settings at input line ≡ Ok request) _ (c.lines_are_one_run.ensures.none begun) c.serve_line.result c.serve_line.ensures.ends
     in let is : IsOfLine settings begun ended line at input c.serve_line.result (exchange_of commands replies stopped) = (done, c.serve_line.ensures.fault) in
@@ -29,5 +29,5 @@ returns-in-Line g c =
 
 pub returns-in-Requests : goal.returns-in-Requests
 returns-in-Requests g c =
-    subst (λ (what : Work). WasGiven c.args.spool.now c.batch_on.new.spool (IsOfWork c.args.settings.now c.args.spool.now c.batch_on.new.spool what c.batch_on.result))
+    subst (λ (what : Invocation). WasGiven c.args.spool.now c.batch_on.new.spool (IsOfInvocation c.args.settings.now c.args.spool.now c.batch_on.new.spool what c.batch_on.result))
     (sym c.in-Requests.is) c.batch_on.ensures
