@@ -21,6 +21,7 @@ use uu_core::laws::named_jobs_decide;
 use uu_core::{CallState, JobHead, Outcome, Refusal, Reply, SystemRow, decide_done, decide_failed};
 use uu_names::{SiteName, Word};
 use uu_times::Moment;
+use uu_times::laws::limits_are_kept;
 
 // The number of an outcome, and the reason of one that failed.
 fn outcome_columns(outcome: Outcome) -> (u32, Option<Word>)
@@ -49,12 +50,12 @@ fn call_columns(call: CallState) -> CallColumns
     }
 }
 
-// A law: retry numbers and success waits are within their limits, as each definition keeps them.
+// A law: retry numbers and success waits of a system are within their limits, if it is known.
 fn definitions_are_within_limits(row: Option<&SystemRow>)
     ensures { IfSome (option_copied row.entry) (λ row. AreWithinLimits row.def.lines row.def.max_retries row.def.success_wait) }
 {
     if let Some(row) = row {
-        let _ = row.def.lines();
+        limits_are_kept(&row.def);
     }
 }
 
