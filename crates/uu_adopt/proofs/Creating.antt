@@ -61,7 +61,7 @@ pub all_found : (v : Version) (d : Database) → Stands (site_of v) d → ¬ Has
 all_found v d stands none = let all = all_of_version v d stands in cc
 
 -- the last version is none before it
-not_last : (v : Version) → IsEarlier v → v ≡ Third → ⊥
+pub not_last : (v : Version) → IsEarlier v → v ≡ Third → ⊥
 not_last First early is = cc
 not_last Second early is = cc
 not_last Third early is = early

@@ -232,7 +232,7 @@ module _ (schema : Schema) where
       (table_found schema (codes "jobs") job_columns d) (table_found schema (codes "pieces") piece_columns e) (table_found schema (codes "entries") entry_columns f))
 
   abbrev chosen : Bool → Bool → Bool → Bool → Bool → Option Version
-  chosen whole waits links waits_taken link_taken = cond whole (cond waits (cond links (Some Third) (cond link_taken None (Some Second))) (cond (waits_taken || link_taken) None (Some First))) None
+  chosen whole waits links finds_waits link_taken = cond whole (cond waits (cond links (Some Third) (cond link_taken None (Some Second))) (cond (finds_waits || link_taken) None (Some First))) None
 
   third_chosen : (w h l t n : Bool) → chosen w h l t n ≡ Some Third → (w ≡ true) × (h ≡ true) × (l ≡ true)
   third_chosen true true true t n is = (refl, refl, refl)

@@ -1,5 +1,5 @@
 -- How looking at a database ends, with the fault that the caller is told.
-use Rattle.std.proofs.Common.{◌≡◌, ◌≢◌, inl, inr, Result, Ok, Err, refl, sym, ap, subst, ◌∙◌, arith}
+use Rattle.std.proofs.Common.{◌≡◌, ◌≢◌, inl, inr, Option, Some, Result, Ok, Err, refl, sym, ap, subst, ◌∙◌, arith}
 use Rattle.std.specs.Prelude.{IsTrue, IsOk}
 use Rattle.sqlite.specs.State as db
 use Rattle.uu_schema.specs.Steps.{Stands, Rests}
@@ -20,7 +20,7 @@ use Rattle.uu_schema.specs.Encoded.{HoldsStateAs, Encodes, EncodesAs}
 use Rattle.uu_adopt.specs.Becoming.{Becomes, CreatesTables, MigratesState}
 use Rattle.uu_adopt.specs.FoundTables.{HasNone, HasEarlier, IsEarlier}
 use Rattle.uu_adopt.specs.Version.{IsLater}
-use Rattle.uu_adopt.specs.Adoption.{IsOfNone, IsInspected, IsRefused, IsSpared, LeavesNoMore, UnlessStore, UnlessFailed, IsAsBefore, StopsAs}
+use Rattle.uu_adopt.specs.Adoption.{IsOfNone, Inspects, IsInspected, IsRefused, IsSpared, LeavesNoMore, UnlessStore, UnlessFailed, IsAsBefore, StopsAs}
 use Rattle.uu_schema.proofs.Resting.{moved}
 use Rattle.uu_adopt.proofs.Creating.{none_found, all_found, last_found}
 use Rattle.uu_adopt.proofs.Becoming.{unless_weaker}
@@ -89,6 +89,10 @@ module _ (a b : db.State) where
       same Failed fresh memory clean rests = absurd fresh
       same ForeignFault fresh memory clean rests = absurd fresh
       same Newer fresh memory clean rests = absurd fresh
+
+  -- what the rows show is told
+  pub inspects_told : {T E : Type 0} (tables : Option Version) (q : Result T E) (r : Result (Unit {0}) StoreFault) → IsOk q → Spares a b q → ((v : Version) → tables ≡ Some v → IsInspected v a b r) → Inspects tables a b r
+  inspects_told tables q r ok h inspected = record { inspected = inspected; spared = spared_told q r ok h; clean = h.survives.clean }
 
 -- of a database without the spool's tables nothing is said
 pub inspected_never : (v : Version) (a b : db.State) (r : Result (Unit {0}) StoreFault) → (Stands (site_of v) a.now → ⊥) → IsInspected v a b r

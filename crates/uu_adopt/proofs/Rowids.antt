@@ -29,7 +29,7 @@ use Rattle.uu_schema.proofs.Rowids.{has_moved}
 use Rattle.uu_schema.proofs.Sorted.{IsPermutation-insert_sorted, rises-insert_sorted}
 use Rattle.uu_schema.proofs.Answers.{answer_moved, answer_sorted}
 use Rattle.uu_adopt.specs.declared.integer.Integer.{Integer}
-use Rattle.uu_adopt.specs.Taking.{id_cells, Rise, AreRowids}
+use Rattle.uu_adopt.specs.Reading.{id_cells, Rise, AreRowids}
 use Rattle.uu_rows.proofs.Meanings.{at_places, by_places}
 use Rattle.uu_adopt.proofs.Meanings.{rowids_of}
 

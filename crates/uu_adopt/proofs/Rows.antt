@@ -24,10 +24,8 @@ use Rattle.uu_schema.specs.Keyed.{Keyed}
 use Rattle.uu_schema.specs.Held.{system_key, line_key, range_key, job_key, piece_key, entry_key, wait_key, link_key, taken_key}
 use Rattle.uu_rows.specs.Readable.{IsSmall, IsSystem, IsLine, IsRange, IsHead, IsSize, IsEntry, IsWait, IsLink, IsTaken}
 use Rattle.uu_rows.specs.Order.{system_cmp, line_cmp, range_cmp, head_cmp, piece_cmp, entry_cmp, wait_cmp, link_cmp, taken_cmp}
-use Rattle.uu_adopt.specs.Taking.{AreInOrder, AreRows}
-use Rattle.uu_questions.proofs.InOrder.{ascending_pairs}
-use Rattle.uu_questions.proofs.OfState.{heads_good}
-use Rattle.uu_questions.proofs.Rising.{same_name, same_number}
+use Rattle.uu_adopt.specs.Reading.{AreInOrder, AreRows}
+use Rattle.uu_adopt.proofs.OfState.{ascending_pairs, heads_good, same_name, same_number}
 
 -- ---- what a state has can be read
 

@@ -31,7 +31,7 @@ use Rattle.uu_schema.specs.Cells.{piece_cells}
 use Rattle.uu_rows.specs.Readable.{IsSize, size_cells}
 use Rattle.uu_rows.specs.Order.{piece_cmp}
 use Rattle.uu_adopt.specs.Texts.{sizes_text, piece_rowids_text}
-use Rattle.uu_adopt.specs.Taking.{FindsSizes, IsRead}
+use Rattle.uu_adopt.specs.Reading.{FindsSizes, IsRead}
 use Rattle.uu_adopt.proofs.Meanings.{size_terms, rowids_of, sizes_means, piece_rowids_means}
 use Rattle.uu_rows.proofs.Meanings.{by_places}
 use Rattle.uu_rows.proofs.Comparing.{beside, int_cmp-nat}
@@ -40,7 +40,7 @@ use Rattle.uu_rows.proofs.InTables.{all_pass}
 use Rattle.uu_rows.proofs.Back.{same_all, size_back, size_returns, number_back, text_back}
 use Rattle.uu_adopt.proofs.Rowids.{ids_found, ids_held}
 use Rattle.uu_adopt.proofs.Sound.{HasBytes, piece_rows_are}
-use Rattle.uu_adopt.proofs.TakenTables.{ids_answer}
+use Rattle.uu_adopt.proofs.ReadTables.{ids_answer}
 
 -- what the question shows of a row
 abbrev pub size_shown : Row → Row
@@ -114,14 +114,14 @@ module _ (v : Version) (a b c : db.State) (rows ids : List Row) (stands : Stands
       let shown : IsAscending (λ x y. columns piece_places x ≡ columns piece_places y → ⊥) from.0 = ascending_from_map other (columns piece_places) from.0 (subst (IsAscending other) from.2 apart) in
       (from.0, IsPermutation-sym table from.0 from.1, ascending_weaker _ other (λ x y n e. n (ap (columns piece_places) e)) from.0 shown)
 
-  pub sizes_taken : (found : Option (Vec PieceSize Global)) → IsRead size_cells IsSize rows ids found → FindsSizes table found
-  sizes_taken None none = record {
+  pub finds_sizes : (found : Option (Vec PieceSize Global)) → IsRead size_cells IsSize rows ids found → FindsSizes table found
+  finds_sizes None none = record {
     all = tt;
     only = λ ps good rise keyed.
         let rs = distinct ps keyed in
         none (map size_of ps) (record { rows_are = only ps keyed.same rise; readable = all_map IsSize size_of ps good; rowids = ids_held pieces.tree a.now.trees ids refl id_rows rs.0 rs.1 rs.2 keyed.numbered keyed.once });
   }
-  sizes_taken (Some all) read = record {
+  finds_sizes (Some all) read = record {
     all = (
         let back = pull_back size_shown _ _ (subst (IsPermutation (map size_shown table)) read.rows_are moved) table refl in
         let it = built back.0 all.items (all-permutation HasBytes table back.0 back.1 (piece_rows_are v a.now.trees stands.sound)) (sym back.2) in

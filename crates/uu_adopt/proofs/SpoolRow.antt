@@ -16,7 +16,7 @@ use Rattle.uu_schema.specs.Schema.{site_of, spool}
 use Rattle.uu_schema.specs.Made.{spool_row_of}
 use Rattle.uu_rows.specs.Readable.{IsSmall}
 use Rattle.uu_adopt.specs.Texts.{spool_text}
-use Rattle.uu_adopt.specs.Taking.{spool_cells}
+use Rattle.uu_adopt.specs.Reading.{spool_cells}
 use Rattle.uu_rows.proofs.Meanings.{at_places}
 use Rattle.uu_adopt.proofs.Meanings.{spool_means}
 use Rattle.uu_adopt.proofs.Sound.{IsSpoolRow, spool_rows_are}

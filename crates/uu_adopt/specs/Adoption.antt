@@ -1,9 +1,10 @@
 -- What a database is found to be when it is taken as a spool, and what that leaves.
-use Rattle.std.specs.Prelude.{◌≡◌, ◌⊎◌, Result, Ok, Err, OnOk, ⊤}
+use Rattle.std.specs.Prelude.{◌≡◌, ◌⊎◌, Option, Some, Result, Ok, Err, IfErr, OnOk, ⊤}
 use Rattle.sqlite.specs.Tree.{Trees}
 use Rattle.sqlite.specs.State as db
+use Rattle.sqlite.specs.Schema.{Schema}
 use Rattle.sqlite_catalog.specs.Listing.{IsSound}
-use Rattle.uu_schema.specs.Steps.{Stands, Rests}
+use Rattle.uu_schema.specs.Steps.{Stands, Rests, StaysUnclean}
 use Rattle.uu_core.specs.State.{State, empty}
 use Rattle.uu_schema.specs.Schema.{site, no_schema, site_of}
 use Rattle.uu_schema.specs.declared.version.Version.{Version}
@@ -14,6 +15,7 @@ use Rattle.uu_adopt.specs.declared.inspection.Finding.{Finding}
 use Rattle.uu_adopt.specs.declared.inspection.Finding.TheVariants.{Spool, Foreign, Later}
 use Rattle.uu_schema.specs.Encoded.{Encodes, HoldsState, HoldsStateAs, Leaves, Migrated}
 use Rattle.uu_adopt.specs.FoundTables.{HasNone, HasEarlier, IsEarlier}
+use Rattle.uu_adopt.specs.Becoming.{Becomes, CreatesTables, MigratesState}
 
 -- no state has these rows in the tables of this version
 abbrev pub IsOfNone : Version → Trees → Type 0
@@ -55,6 +57,46 @@ abbrev pub IsRefused : Result (Unit {0}) StoreFault → Type 0
 IsRefused (Ok x) = ⊥
 IsRefused (Err (Store kind)) = ⊥
 IsRefused (Err fault) = ⊤
+
+-- an error leaves what a stop leaves as it was, unless the store failed
+abbrev pub IsUnmade : db.State → db.State → Result (Unit {0}) StoreFault → Type 0
+IsUnmade old new r = IfErr r (λ fault. UnlessFailed fault (db.HasCleanDisk new → LeavesNoMore old new))
+
+-- ---- what each function does
+
+-- a database with a table `spool`, and all the tables of this version or not all of any, is looked
+-- at
+pub record Inspects (tables : Option Version) (old new : db.State) (r : Result (Unit {0}) StoreFault) : Type 0 where
+  pub inspected : (v : Version) → tables ≡ Some v → IsInspected v old new r
+  pub spared : IsSpared old new r
+  pub clean : StaysUnclean old new
+
+-- a database of one schema is made one of another by a step of its trees
+pub record Makes (from to : Schema) (Step : Trees → Trees → Type 0) (old new : db.State) (r : Result (Unit {0}) StoreFault) : Type 0 where
+  pub becomes : Becomes from to Step old new r
+  pub unmade : IsUnmade old new r
+  pub clean : StaysUnclean old new
+
+-- a database with a table `spool` is looked at, and the tables of an earlier version become those
+-- of this one
+pub record AdoptsSpool (tables : Option Version) (old new : db.State) (r : Result (Unit {0}) StoreFault) : Type 0 where
+  pub inspected : (v : Version) → tables ≡ Some v → IsInspected v old new r
+  pub spared : ((v : Version) → IsEarlier v → tables ≡ Some v → IsRefused r) → IsSpared old new r
+  pub migrates : (v : Version) → IsEarlier v → tables ≡ Some v → MigratesState v old new r
+  pub unmade : IsUnmade old new r
+  pub clean : StaysUnclean old new
+
+-- any database: one without the spool's tables gets them, one with those of an earlier version gets
+-- those of this one, and every other is looked at alone
+pub record Adopts (old new : db.State) (r : Result (Unit {0}) StoreFault) : Type 0 where
+  pub inspected : (v : Version) → IsInspected v old new r
+  pub spared : ¬ HasNone old.now.schema → (HasEarlier old.now.schema → IsRefused r) → IsSpared old new r
+  pub migrates : (v : Version) → IsEarlier v → MigratesState v old new r
+  pub creates : CreatesTables old new r
+  pub unmade : IsUnmade old new r
+  pub clean : StaysUnclean old new
+
+-- ---- what is left of a database
 
 -- a database with any of the spool's tables, whatever their shape and whatever stands beside them,
 -- or with no tables, is as it was

@@ -1,8 +1,8 @@
 pub mod Texts
-pub mod Taking
+pub mod Reading
 pub mod Version
 pub mod FoundTables
 pub mod Format
 pub mod Becoming
 pub mod Adoption
-pub mod Reading
+pub mod AllRows

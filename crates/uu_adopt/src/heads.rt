@@ -1,17 +1,10 @@
 // The jobs without their bytes, read when a database is looked at as a spool. A job's number is its
 // rowid, so one question tells both.
-ghost use Rattle.std.specs.Prelude.{◌≡◌, ◌↔◌, false, List, map, Err, IfOk, IfErr, IsTrue, MatchOption};
-ghost use Rattle.std.specs.List.{AllByRecursion};
+ghost use Rattle.std.specs.Prelude.{◌≡◌, ◌↔◌, List, Err, IfOk, IfErr, IsTrue, MatchOption};
 ghost use Rattle.sqlite.specs.declared.error.Error.TheVariants.{SqliteFailure};
 ghost use Rattle.sqlite.specs.declared.error.ErrorCode.TheVariants.{OutOfMemory};
-ghost use Rattle.sqlite.specs.Held.{state};
 ghost use Rattle.uu_schema.specs.declared.version.Version.{Version};
-ghost use Rattle.uu_schema.specs.Schema.{jobs};
-ghost use Rattle.uu_schema.specs.Held.{job_key, job_places};
-ghost use Rattle.uu_schema.specs.Cells.{job_cells};
-ghost use Rattle.uu_rows.specs.Readable.{IsHead};
-ghost use Rattle.uu_rows.specs.Order.{head_cmp};
-ghost use Rattle.uu_adopt.specs.Taking.{AreNumbersRising, AreHeads, FindsRows, Takes};
+ghost use Rattle.uu_adopt.specs.Reading.{AreNumbersRising, AreHeads, FindsJobs, ReadsFrom};
 
 use sqlite::{Alter, Connection, Error, Row};
 use std::alloc::Global;
@@ -57,12 +50,11 @@ fn found(alloc: Global, rows: &[Row]) -> Result<Option<Vec<JobHead>>, Error>
 }
 
 /// The jobs without their bytes, by number. None, where the rows of the table are not such rows.
-pub(crate) fn take_heads<S: Alter>(
+pub(crate) fn read_heads<S: Alter>(
     alloc: Global,
     conn: &mut Connection<S>,
 ) -> Result<Option<Vec<JobHead>>, Error>
-    ensures idle { conn.old.in_transaction ≡ false → conn.new.in_transaction ≡ false }
-    ensures takes { (v : Version) → Takes v (λ trees found. FindsRows job_key job_cells job_places IsHead head_cmp (trees jobs.tree) found) (state S.Store conn.old) (state S.Store conn.new) result }
+    ensures { (v : Version) → ReadsFrom S.Store v FindsJobs conn.old conn.new result }
 {
     let rows = ask(
         conn,

@@ -3,7 +3,7 @@ ghost use Rattle.std.specs.Prelude.{◌≡◌, ℤ, IfOk, ⊤};
 ghost use Rattle.sqlite.specs.Order.{column};
 ghost use Rattle.sqlite.specs.declared.types.Value.TheVariants.{Int};
 ghost use Rattle.uu_rows.specs.Values.{NotIf};
-ghost use Rattle.uu_adopt.specs.Taking.{id_cells};
+ghost use Rattle.uu_adopt.specs.Reading.{id_cells};
 
 use sqlite::Row;
 use std::alloc::Global;

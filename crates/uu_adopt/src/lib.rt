@@ -3,16 +3,16 @@
 //! earlier one.
 #![tactic(auto)]
 
+mod adoption;
+mod all_rows;
 mod heads;
 mod inspection;
 mod integer;
 pub mod laws;
 mod pieces;
-mod preparing;
 mod reading;
 mod spool;
 mod tables;
-mod taking;
 mod version;
 
-pub use preparing::prepare;
+pub use adoption::adopt_database;

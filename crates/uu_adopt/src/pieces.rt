@@ -1,16 +1,14 @@
 // The pieces without their bytes, read when a database is looked at as a spool. Where a later piece
 // has a higher rowid, as in every file that a spool wrote, one question tells sizes and rowids;
 // else two do.
-ghost use Rattle.std.specs.Prelude.{◌≡◌, true, false, map, IfOk};
+ghost use Rattle.std.specs.Prelude.{◌≡◌, true, map, IfOk};
 ghost use Rattle.sqlite.specs.Tree.{IsAscending};
-ghost use Rattle.sqlite.specs.Held.{state};
 ghost use Rattle.uu_schema.specs.declared.version.Version.{Version};
-ghost use Rattle.uu_schema.specs.Schema.{pieces};
 ghost use Rattle.uu_rows.specs.Readable.{IsSize};
-ghost use Rattle.uu_adopt.specs.Taking.{numbered_cells, comes_before, IsBefore, AreNumberedSizes, FindsSizes, Takes};
+ghost use Rattle.uu_adopt.specs.Reading.{numbered_cells, comes_before, IsBefore, AreNumberedSizes, FindsPieces, ReadsFrom};
 
 use crate::integer::{Integer, integer_in};
-use crate::taking::take_sizes_in_any_order;
+use crate::reading::read_sizes_in_any_order;
 use sqlite::{Alter, Connection, Error, Row};
 use std::alloc::{AllocError, Global};
 use uu_rows::{RowFault, TypedRow, ask, has_width, number_in, read_all};
@@ -87,12 +85,11 @@ fn typed(alloc: Global, rows: &[Row]) -> Result<Vec<PieceSize>, RowFault>
 
 /// Of each piece its job, its place and the number of its bytes, by job and place; no byte is read.
 /// None where a row of the table is no piece's, or two rows have one rowid.
-pub(crate) fn take_sizes<S: Alter>(
+pub(crate) fn read_sizes<S: Alter>(
     alloc: Global,
     conn: &mut Connection<S>,
 ) -> Result<Option<Vec<PieceSize>>, Error>
-    ensures idle { conn.old.in_transaction ≡ false → conn.new.in_transaction ≡ false }
-    ensures takes { (v : Version) → Takes v (λ trees found. FindsSizes (trees pieces.tree) found) (state S.Store conn.old) (state S.Store conn.new) result }
+    ensures { (v : Version) → ReadsFrom S.Store v FindsPieces conn.old conn.new result }
 {
     let rows = ask(
         conn,
@@ -100,7 +97,7 @@ pub(crate) fn take_sizes<S: Alter>(
     )?;
     match typed(alloc, &rows) {
         Ok(all) => Ok(Some(all)),
-        Err(RowFault::Bad) => take_sizes_in_any_order(alloc, conn),
+        Err(RowFault::Bad) => read_sizes_in_any_order(alloc, conn),
         Err(RowFault::Memory) => Err(RowFault::Memory.as_error()),
     }
 }

@@ -1,249 +1,221 @@
-// Every row of a database, read to tell whether they are those of a spool.
-ghost use Rattle.std.specs.Prelude.{◌≡◌, false, IfOk, IfErr};
+// Every row of each table, read when a database is looked at as a spool.
+ghost use Rattle.std.specs.Prelude.{◌≡◌, ◌↔◌, true, false, List, map, Ok, Err, IfOk, IfErr, IsTrue};
+ghost use Rattle.std.specs.List.{AllByRecursion};
 ghost use Rattle.sqlite.specs.declared.error.Error.TheVariants.{SqliteFailure};
 ghost use Rattle.sqlite.specs.declared.error.ErrorCode.TheVariants.{OutOfMemory};
-ghost use Rattle.sqlite.specs.Tree.{Trees};
-ghost use Rattle.sqlite.specs.Held.{state};
-ghost use Rattle.uu_core.specs.State.{State};
-ghost use Rattle.uu_adopt.specs.Taking.{Takes, Tells};
 ghost use Rattle.uu_schema.specs.declared.version.Version.{Version};
-ghost use Rattle.uu_adopt.specs.Taking.{FindsWaits, FindsLinks, FindsTaken};
-ghost use Rattle.uu_schema.specs.Encoded.{HoldsStateAs};
-ghost use Rattle.uu_adopt.specs.Adoption.{IsOfNone};
-ghost use Rattle.uu_adopt.specs.Reading.{FindsSystems, FindsLines, FindsRanges, FindsJobs, FindsPieces, FindsEntries, FindsNext, AreCallers, AreWaiting, AreAdded, AreTheRest, AreAllRows, OrNone};
+ghost use Rattle.uu_adopt.specs.Reading.{Rise, AreRowids, IsRead, HasWaits, FindsSystems, FindsLines, FindsRanges, FindsEntries, FindsPieces, FindsWaits, FindsLinks, FindsTaken, ReadsFrom};
 
-use crate::heads::take_heads;
-use crate::pieces::take_sizes;
-use crate::spool::take_next;
-use crate::taking::{
-    take_entries, take_lines, take_links, take_ranges, take_systems, take_taken, take_waits,
+use crate::integer::Integer;
+use sqlite::{Alter, Connection, Error, Row};
+use std::alloc::Global;
+use uu_rows::{
+    RowFault, TypedRow, ask, ask_lines, ask_links, ask_ranges, ask_systems, ask_taken, ask_waits,
+    or_none, read_all,
 };
-use sqlite::{Alter, Connection, Error, ErrorCode};
-use std::alloc::{AllocError, Global};
-use uu_check::{Rows, are_tables};
-use uu_core::JobHead;
 use uu_schema::Version;
 use uu_tables::{
     EntryColumns, LineColumns, LinkColumns, PieceSize, RangeColumns, SystemColumns, TakenColumns,
     WaitColumns,
 };
 
-/// The rows that say who is called, and when.
-#[derive(Drop)]
-struct Callers {
-    systems: Vec<SystemColumns>,
-    lines: Vec<LineColumns>,
-    ranges: Vec<RangeColumns>,
-}
-
-/// The rows of the jobs, without their bytes.
-#[derive(Drop)]
-struct Waiting {
-    jobs: Vec<JobHead>,
-    pieces: Vec<PieceSize>,
-}
-
-/// The rows of the tables that versions after the first added.
-#[derive(Drop)]
-struct Added {
-    success_waits: Vec<WaitColumns>,
-    links: Vec<LinkColumns>,
-    taken: Vec<TakenColumns>,
-}
-
-/// The next number, the map entries, and the rows of the tables that were added.
-#[derive(Drop)]
-struct Rest {
-    next: u32,
-    entries: Vec<EntryColumns>,
-    added: Added,
-}
-
-/// The rows of all tables, each table in the order of its key.
-#[derive(Drop)]
-struct AllRows {
-    callers: Callers,
-    waiting: Waiting,
-    rest: Rest,
-}
-
-fn callers_of(
-    systems: Option<Vec<SystemColumns>>,
-    lines: Option<Vec<LineColumns>>,
-    ranges: Option<Vec<RangeColumns>>,
-) -> Option<Callers>
-    ensures { (v : Version) (trees : Trees) → FindsSystems trees systems → FindsLines trees lines → FindsRanges trees ranges → OrNone v AreCallers trees result }
+// Whether each rowid is below the next.
+fn rises(ids: &[Integer]) -> bool
+    ensures { IsTrue result ↔ Rise ids.now }
 {
-    let systems = systems?;
-    let lines = lines?;
-    let ranges = ranges?;
-    Some(Callers {
-        systems,
-        lines,
-        ranges,
-    })
+    let Some((first, rest)) = ids.split_first() else {
+        return true;
+    };
+    let mut last = first.value;
+    for id in rest {
+        if last >= id.value {
+            return false;
+        }
+        last = id.value;
+    }
+    true
 }
 
-fn take_callers<S: Alter>(alloc: Global, conn: &mut Connection<S>) -> Result<Option<Callers>, Error>
-    ensures idle { conn.old.in_transaction ≡ false → conn.new.in_transaction ≡ false }
-    ensures takes { (v : Version) → Takes v (OrNone v AreCallers) (state S.Store conn.old) (state S.Store conn.new) result }
+// Whether the rows are rowids that rise.
+fn are_rowids(alloc: Global, rows: &[Row]) -> Result<bool, RowFault>
+    ensures yes { result ≡ Ok true → AreRowids rows.now }
+    ensures none { result ≡ Ok false → ¬ AreRowids rows.now }
+    ensures bad { result ≡ Err RowFault.Bad → ¬ AreRowids rows.now }
 {
-    let systems = take_systems(alloc, conn)?;
-    let lines = take_lines(alloc, conn)?;
-    let ranges = take_ranges(alloc, conn)?;
-    Ok(callers_of(systems, lines, ranges))
+    let ids: Vec<Integer> = read_all(alloc, rows)?;
+    Ok(rises(&ids))
 }
 
-fn waiting_of(jobs: Option<Vec<JobHead>>, pieces: Option<Vec<PieceSize>>) -> Option<Waiting>
-    ensures { (v : Version) (trees : Trees) → FindsJobs trees jobs → FindsPieces trees pieces → OrNone v AreWaiting trees result }
+// The typed rows, if the rows are theirs and the rowids beside them rise.
+fn typed<T: TypedRow>(alloc: Global, rows: &[Row], ids: &[Row]) -> Result<Vec<T>, RowFault>
+    ensures rows { IfOk result (λ all. rows.now ≡ map T.cells all.items) }
+    ensures readable { IfOk result (λ all. AllByRecursion T.IsReadable all.items) }
+    ensures ids { IfOk result (λ all. AreRowids ids.now) }
+    ensures bad { result ≡ Err RowFault.Bad → AreRowids ids.now → (all : List T) → AllByRecursion T.IsReadable all → rows.now ≡ map T.cells all → ⊥ }
 {
-    let jobs = jobs?;
-    let pieces = pieces?;
-    Some(Waiting { jobs, pieces })
+    if !are_rowids(alloc, ids)? {
+        return Err(RowFault::Bad);
+    }
+    read_all(alloc, rows)
 }
 
-fn take_waiting<S: Alter>(alloc: Global, conn: &mut Connection<S>) -> Result<Option<Waiting>, Error>
-    ensures idle { conn.old.in_transaction ≡ false → conn.new.in_transaction ≡ false }
-    ensures takes { (v : Version) → Takes v (OrNone v AreWaiting) (state S.Store conn.old) (state S.Store conn.new) result }
-{
-    let jobs = take_heads(alloc, conn)?;
-    let pieces = take_sizes(alloc, conn)?;
-    Ok(waiting_of(jobs, pieces))
-}
-
-fn added_of(
-    success_waits: Option<Vec<WaitColumns>>,
-    links: Option<Vec<LinkColumns>>,
-    taken: Option<Vec<TakenColumns>>,
-) -> Option<Added>
-    ensures { (v : Version) (trees : Trees) → FindsWaits v trees success_waits → FindsLinks v trees links → FindsTaken v trees taken → OrNone v (AreAdded v) trees result }
-{
-    let success_waits = success_waits?;
-    let links = links?;
-    let taken = taken?;
-    Some(Added {
-        success_waits,
-        links,
-        taken,
-    })
-}
-
-fn take_added<S: Alter>(
-    alloc: Global,
-    conn: &mut Connection<S>,
-    version: Version,
-) -> Result<Option<Added>, Error>
-    ensures idle { conn.old.in_transaction ≡ false → conn.new.in_transaction ≡ false }
-    ensures takes { Takes version (OrNone version (AreAdded version)) (state S.Store conn.old) (state S.Store conn.new) result }
-{
-    let success_waits = take_waits(alloc, conn, version)?;
-    let links = take_links(alloc, conn, version)?;
-    let taken = take_taken(alloc, conn, version)?;
-    Ok(added_of(success_waits, links, taken))
-}
-
-fn rest_of(
-    next: Option<u32>,
-    entries: Option<Vec<EntryColumns>>,
-    added: Option<Added>,
-) -> Option<Rest>
-    ensures { (v : Version) (trees : Trees) → FindsNext v trees next → FindsEntries trees entries → OrNone v (AreAdded v) trees added → OrNone v (AreTheRest v) trees result }
-{
-    let next = next?;
-    let entries = entries?;
-    let added = added?;
-    Some(Rest {
-        next,
-        entries,
-        added,
-    })
-}
-
-fn take_rest<S: Alter>(
-    alloc: Global,
-    conn: &mut Connection<S>,
-    version: Version,
-) -> Result<Option<Rest>, Error>
-    ensures idle { conn.old.in_transaction ≡ false → conn.new.in_transaction ≡ false }
-    ensures takes { Takes version (OrNone version (AreTheRest version)) (state S.Store conn.old) (state S.Store conn.new) result }
-{
-    let next = take_next(conn, version)?;
-    let entries = take_entries(alloc, conn)?;
-    let added = take_added(alloc, conn, version)?;
-    Ok(rest_of(next, entries, added))
-}
-
-fn all_of(callers: Option<Callers>, waiting: Option<Waiting>, rest: Option<Rest>) -> Option<AllRows>
-    ensures { (v : Version) (trees : Trees) → OrNone v AreCallers trees callers → OrNone v AreWaiting trees waiting → OrNone v (AreTheRest v) trees rest → OrNone v (AreAllRows v) trees result }
-{
-    let callers = callers?;
-    let waiting = waiting?;
-    let rest = rest?;
-    Some(AllRows {
-        callers,
-        waiting,
-        rest,
-    })
-}
-
-fn take_all<S: Alter>(
-    alloc: Global,
-    conn: &mut Connection<S>,
-    version: Version,
-) -> Result<Option<AllRows>, Error>
-    ensures idle { conn.old.in_transaction ≡ false → conn.new.in_transaction ≡ false }
-    ensures takes { Takes version (OrNone version (AreAllRows version)) (state S.Store conn.old) (state S.Store conn.new) result }
-{
-    let callers = take_callers(alloc, conn)?;
-    let waiting = take_waiting(alloc, conn)?;
-    let rest = take_rest(alloc, conn, version)?;
-    Ok(all_of(callers, waiting, rest))
-}
-
-// Whether the rows are those of a state.
-fn make_a_state(alloc: Global, all: &AllRows) -> Result<bool, AllocError>
-    ensures { (v : Version) (trees : Trees) → AreAllRows v trees all.now → IfOk result (λ good. Tells good ((s : State) × HoldsStateAs v trees s) (IsOfNone v trees)) }
-{
-    are_tables(
-        alloc,
-        &Rows {
-            next: all.rest.next,
-            systems: &all.callers.systems,
-            lines: &all.callers.lines,
-            ranges: &all.callers.ranges,
-            jobs: &all.waiting.jobs,
-            pieces: &all.waiting.pieces,
-            entries: &all.rest.entries,
-            success_waits: &all.rest.added.success_waits,
-            links: &all.rest.added.links,
-            taken: &all.rest.added.taken,
-        },
-    )
-}
-
-// The same of rows that were read, or are none of a state's; want of memory is an error.
-fn verdict_on(alloc: Global, all: Option<AllRows>) -> Result<bool, Error>
-    ensures verdict { (v : Version) (trees : Trees) → OrNone v (AreAllRows v) trees all → IfOk result (λ good. Tells good ((s : State) × HoldsStateAs v trees s) (IsOfNone v trees)) }
+// The same, where want of memory is an error, and rows that are not typed rows are none.
+fn found<T: TypedRow>(alloc: Global, rows: &[Row], ids: &[Row]) -> Result<Option<Vec<T>>, Error>
+    ensures read { IfOk result (IsRead T.cells T.IsReadable rows.now ids.now) }
     ensures memory { IfErr result (λ error. error ≡ SqliteFailure OutOfMemory) }
 {
-    let Some(all) = all else {
-        return Ok(false);
-    };
-    match make_a_state(alloc, &all) {
-        Ok(good) => Ok(good),
-        Err(AllocError) => Err(Error::SqliteFailure(ErrorCode::OutOfMemory)),
+    or_none(typed(alloc, rows, ids))
+}
+
+/// The systems, by name. None where a row of the table is no system's, or two rows have one rowid.
+pub(crate) fn read_systems<S: Alter>(
+    alloc: Global,
+    conn: &mut Connection<S>,
+) -> Result<Option<Vec<SystemColumns>>, Error>
+    ensures { (v : Version) → ReadsFrom S.Store v FindsSystems conn.old conn.new result }
+{
+    let rows = ask_systems(conn)?;
+    let ids = ask(conn, "SELECT rowid FROM systems ORDER BY rowid")?;
+    found(alloc, &rows, &ids)
+}
+
+/// The lines, by system and place. None where a row of the table is no line's, or two rows have one
+/// rowid.
+pub(crate) fn read_lines<S: Alter>(
+    alloc: Global,
+    conn: &mut Connection<S>,
+) -> Result<Option<Vec<LineColumns>>, Error>
+    ensures { (v : Version) → ReadsFrom S.Store v FindsLines conn.old conn.new result }
+{
+    let rows = ask_lines(conn)?;
+    let ids = ask(conn, "SELECT rowid FROM lines ORDER BY rowid")?;
+    found(alloc, &rows, &ids)
+}
+
+/// The ranges, by system, place and first minute. None where a row of the table is no range's, or
+/// two rows have one rowid.
+pub(crate) fn read_ranges<S: Alter>(
+    alloc: Global,
+    conn: &mut Connection<S>,
+) -> Result<Option<Vec<RangeColumns>>, Error>
+    ensures { (v : Version) → ReadsFrom S.Store v FindsRanges conn.old conn.new result }
+{
+    let rows = ask_ranges(conn)?;
+    let ids = ask(conn, "SELECT rowid FROM ranges ORDER BY rowid")?;
+    found(alloc, &rows, &ids)
+}
+
+/// The map entries with their bytes, by host. None where a row of the table is no entry's, or two
+/// rows have one rowid.
+pub(crate) fn read_entries<S: Alter>(
+    alloc: Global,
+    conn: &mut Connection<S>,
+) -> Result<Option<Vec<EntryColumns>>, Error>
+    ensures { (v : Version) → ReadsFrom S.Store v FindsEntries conn.old conn.new result }
+{
+    let rows = ask(conn, "SELECT host, bytes FROM entries ORDER BY host")?;
+    let ids = ask(conn, "SELECT rowid FROM entries ORDER BY rowid")?;
+    found(alloc, &rows, &ids)
+}
+
+/// Of each piece its job, its place and the number of its bytes, by job and place; no byte is read.
+/// None where a row of the table is no piece's, or two rows have one rowid.
+pub(crate) fn read_sizes_in_any_order<S: Alter>(
+    alloc: Global,
+    conn: &mut Connection<S>,
+) -> Result<Option<Vec<PieceSize>>, Error>
+    ensures { (v : Version) → ReadsFrom S.Store v FindsPieces conn.old conn.new result }
+{
+    let rows = ask(
+        conn,
+        "SELECT job, place, length(bytes) FROM pieces ORDER BY job, place",
+    )?;
+    let ids = ask(conn, "SELECT rowid FROM pieces ORDER BY rowid")?;
+    found(alloc, &rows, &ids)
+}
+
+// The success waits, by system, of tables that have them.
+fn read_waits_of_table<S: Alter>(
+    alloc: Global,
+    conn: &mut Connection<S>,
+) -> Result<Option<Vec<WaitColumns>>, Error>
+    ensures { (v : Version) → HasWaits v → ReadsFrom S.Store v (FindsWaits v) conn.old conn.new result }
+{
+    let rows = ask_waits(conn)?;
+    let ids = ask(conn, "SELECT rowid FROM success_waits ORDER BY rowid")?;
+    found(alloc, &rows, &ids)
+}
+
+/// The success waits, by system; an empty list of the first version, of which nothing is asked.
+/// None where a row of the table is no success wait's, or two rows have one rowid.
+pub(crate) fn read_waits<S: Alter>(
+    alloc: Global,
+    conn: &mut Connection<S>,
+    version: Version,
+) -> Result<Option<Vec<WaitColumns>>, Error>
+    ensures { ReadsFrom S.Store version (FindsWaits version) conn.old conn.new result }
+{
+    match version {
+        Version::First => Ok(Some(Vec::new(alloc))),
+        Version::Second => read_waits_of_table(alloc, conn),
+        Version::Third => read_waits_of_table(alloc, conn),
     }
 }
 
-/// Whether the rows of all tables of a version are those of a state.
-pub(crate) fn are_of_a_state<S: Alter>(
+// The numbers below which neighbours ask for none again, by system, of tables that have them.
+fn read_links_of_table<S: Alter>(
+    alloc: Global,
+    conn: &mut Connection<S>,
+) -> Result<Option<Vec<LinkColumns>>, Error>
+    ensures { ReadsFrom S.Store Version.Third (FindsLinks Version.Third) conn.old conn.new result }
+{
+    let rows = ask_links(conn)?;
+    let ids = ask(conn, "SELECT rowid FROM links ORDER BY rowid")?;
+    found(alloc, &rows, &ids)
+}
+
+/// The numbers below which neighbours ask for none again, by system; an empty list of versions 1
+/// and 2, of which nothing is asked. None where a row of the table is not a link's, or two rows
+/// have one rowid.
+pub(crate) fn read_links<S: Alter>(
     alloc: Global,
     conn: &mut Connection<S>,
     version: Version,
-) -> Result<bool, Error>
-    ensures idle { conn.old.in_transaction ≡ false → conn.new.in_transaction ≡ false }
-    ensures takes { Takes version (λ trees good. Tells good ((s : State) × HoldsStateAs version trees s) (IsOfNone version trees)) (state S.Store conn.old) (state S.Store conn.new) result }
+) -> Result<Option<Vec<LinkColumns>>, Error>
+    ensures { ReadsFrom S.Store version (FindsLinks version) conn.old conn.new result }
 {
-    let all = take_all(alloc, conn, version)?;
-    verdict_on(alloc, all)
+    match version {
+        Version::First => Ok(Some(Vec::new(alloc))),
+        Version::Second => Ok(Some(Vec::new(alloc))),
+        Version::Third => read_links_of_table(alloc, conn),
+    }
+}
+
+// The jobs that were taken from neighbours, by system and number, of tables that have them.
+fn read_taken_of_table<S: Alter>(
+    alloc: Global,
+    conn: &mut Connection<S>,
+) -> Result<Option<Vec<TakenColumns>>, Error>
+    ensures { ReadsFrom S.Store Version.Third (FindsTaken Version.Third) conn.old conn.new result }
+{
+    let rows = ask_taken(conn)?;
+    let ids = ask(conn, "SELECT rowid FROM taken ORDER BY rowid")?;
+    found(alloc, &rows, &ids)
+}
+
+/// The jobs that were taken from neighbours, by system and number; an empty list of versions 1 and
+/// 2, of which nothing is asked. None where a row of the table is not such a job's, or two rows
+/// have one rowid.
+pub(crate) fn read_taken<S: Alter>(
+    alloc: Global,
+    conn: &mut Connection<S>,
+    version: Version,
+) -> Result<Option<Vec<TakenColumns>>, Error>
+    ensures { ReadsFrom S.Store version (FindsTaken version) conn.old conn.new result }
+{
+    match version {
+        Version::First => Ok(Some(Vec::new(alloc))),
+        Version::Second => Ok(Some(Vec::new(alloc))),
+        Version::Third => read_taken_of_table(alloc, conn),
+    }
 }

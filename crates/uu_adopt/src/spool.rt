@@ -1,16 +1,15 @@
 // The one row of the table `spool`.
-ghost use Rattle.std.specs.Prelude.{◌≡◌, ◌≢◌, ℕ, false, [], ◌∷◌, IfOk, IfErr, MatchOption};
+ghost use Rattle.std.specs.Prelude.{◌≡◌, ◌≢◌, ℕ, [], ◌∷◌, IfOk, IfErr, MatchOption};
 ghost use Rattle.sqlite.specs.declared.error.Error.TheVariants.{SqliteFailure};
 ghost use Rattle.sqlite.specs.declared.error.ErrorCode.TheVariants.{OutOfMemory};
 ghost use Rattle.sqlite.specs.Held.{state};
 ghost use Rattle.sqlite.specs.State.{HasCleanDisk};
 ghost use Rattle.uu_rows.specs.Shows.{IsRefused};
 ghost use Rattle.uu_adopt.specs.Texts.{spool_text};
-ghost use Rattle.uu_schema.specs.Schema.{spool};
-ghost use Rattle.uu_schema.specs.Made.{number_of, spool_row_of};
+ghost use Rattle.uu_schema.specs.Made.{number_of};
 ghost use Rattle.uu_rows.specs.Values.{NotIf};
 ghost use Rattle.uu_rows.specs.Readable.{IsSmall};
-ghost use Rattle.uu_adopt.specs.Taking.{Takes, spool_cells};
+ghost use Rattle.uu_adopt.specs.Reading.{FindsNext, ReadsFrom, spool_cells};
 
 use sqlite::{Alter, Connection, Error, Row};
 use uu_rows::{RowFault, ask, has_width, number_in, or_none};
@@ -56,9 +55,11 @@ fn found_next(rows: &[Row], wanted: Version) -> Result<Option<u32>, Error>
 
 /// The next number, of the one row of the table `spool`. None, where the table has not this one row
 /// with this version and a number of 32 bits.
-pub(crate) fn take_next<S: Alter>(conn: &mut Connection<S>, version: Version) -> Result<Option<u32>, Error>
-    ensures idle { conn.old.in_transaction ≡ false → conn.new.in_transaction ≡ false }
-    ensures takes { Takes version (λ trees found. MatchOption found ((next : ℕ) → IsSmall next → trees spool.tree ≢ spool_row_of version next ∷ []) (λ next. trees spool.tree ≡ spool_row_of version next ∷ [])) (state S.Store conn.old) (state S.Store conn.new) result }
+pub(crate) fn read_next<S: Alter>(
+    conn: &mut Connection<S>,
+    version: Version,
+) -> Result<Option<u32>, Error>
+    ensures reads { ReadsFrom S.Store version (FindsNext version) conn.old conn.new result }
     ensures refused { HasCleanDisk (state S.Store conn.new) → IfErr result (IsRefused spool_text [] (state S.Store conn.old) (state S.Store conn.new)) }
 {
     let rows = ask(conn, "SELECT id, version, next FROM spool")?;

@@ -182,7 +182,7 @@ fn tables_with(schema: &Schema, spool: &Table) -> Option<Version>
 }
 
 /// Which of the spool's tables there are, by their names and those of their columns.
-pub(crate) fn found_in(schema: &Schema) -> Found
+pub(crate) fn inspect_schema(schema: &Schema) -> Found
     ensures { result ≡ found_of schema.now }
 {
     let Some(spool) = table_of(schema, "spool") else {

@@ -8,7 +8,7 @@ ghost use Rattle.sqlite.specs.State.{HasCleanDisk};
 ghost use Rattle.uu_rows.specs.Shows.{IsRefused};
 ghost use Rattle.uu_adopt.specs.Texts.{version_text};
 ghost use Rattle.uu_adopt.specs.Version.{HasLater, ShowsLater, IsLater};
-ghost use Rattle.uu_adopt.specs.Taking.{Takes, Tells};
+ghost use Rattle.uu_adopt.specs.Reading.{ReadsFrom, Tells};
 
 use crate::integer::integer_in;
 use sqlite::{Alter, Connection, Error, Row};
@@ -55,8 +55,7 @@ fn found_later(rows: &[Row]) -> Result<bool, Error>
 /// Whether the table `spool` names a later version than this program's. Asked before all else,
 /// since the other tables of a later version may differ.
 pub(crate) fn names_later<S: Alter>(conn: &mut Connection<S>) -> Result<bool, Error>
-    ensures idle { conn.old.in_transaction ≡ false → conn.new.in_transaction ≡ false }
-    ensures takes { (v : Version) → Takes v (λ trees later. Tells later (IsLater trees) (¬ IsLater trees)) (state S.Store conn.old) (state S.Store conn.new) result }
+    ensures reads { (v : Version) → ReadsFrom S.Store v (λ trees later. Tells later (IsLater trees) (¬ IsLater trees)) conn.old conn.new result }
     ensures refused { HasCleanDisk (state S.Store conn.new) → IfErr result (IsRefused version_text [] (state S.Store conn.old) (state S.Store conn.new)) }
 {
     let rows = ask(conn, "SELECT version FROM spool WHERE id = 1")?;

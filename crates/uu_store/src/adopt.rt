@@ -10,7 +10,7 @@ use crate::laws::no_answered_command_is_lost_over;
 use crate::spool::Spool;
 use sqlite::{Alter, Connection};
 use std::alloc::Global;
-use uu_adopt::prepare;
+use uu_adopt::adopt_database;
 use uu_schema::StoreFault;
 
 /// Why a database was not taken, and the connection to it, with no transaction open.
@@ -97,7 +97,7 @@ impl<S: Alter> Spool<S> {
     {
         no_answered_command_is_lost_over::<S>();
         let mut conn = conn;
-        match prepare(alloc, &mut conn) {
+        match adopt_database(alloc, &mut conn) {
             Ok(()) => Ok(Spool::over(conn)),
             Err(fault) => Err(AdoptFault { fault, conn }),
         }

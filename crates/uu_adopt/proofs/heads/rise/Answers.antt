@@ -1,6 +1,6 @@
 use Rattle.std.proofs.Common.{◌≡◌, true, false, arith}
 use Rattle.std.proofs.lemmas.Grind.{common_steps}
-use Rattle.uu_adopt.proofs.TakenHeads.{rises, as_rise}
+use Rattle.uu_adopt.proofs.ReadHeads.{rises, as_rise}
 use Rattle.uu_adopt.proofs.heads.rise.Goals as goal
 
 pub returns-then-last-head : goal.returns-then-last-head

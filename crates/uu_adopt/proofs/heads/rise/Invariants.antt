@@ -1,5 +1,5 @@
 use Rattle.std.proofs.Common.{◌≡◌, drop}
-use Rattle.uu_adopt.proofs.TakenHeads.{rises, rise_from}
+use Rattle.uu_adopt.proofs.ReadHeads.{rises, rise_from}
 use Rattle.uu_adopt.proofs.heads.rise.Given as goal
 
 abbrev pub invariant-loop-head : goal.invariant-loop-head

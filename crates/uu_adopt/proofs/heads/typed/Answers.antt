@@ -2,7 +2,7 @@ use Rattle.std.proofs.Common.{◌≡◌, false, true≢false, sym, subst, ◌∙
 use Rattle.uu_schema.specs.Cells.{job_cells}
 use Rattle.uu_rows.specs.Readable.{IsHead}
 use Rattle.uu_rows.proofs.Back.{same_all, head_back, head_returns}
-use Rattle.uu_adopt.specs.Taking.{AreNumbersRising}
+use Rattle.uu_adopt.specs.Reading.{AreNumbersRising}
 use Rattle.uu_adopt.proofs.heads.typed.Goals as goal
 
 pub returns-else-rise-clause-bad : goal.returns-else-rise-clause-bad

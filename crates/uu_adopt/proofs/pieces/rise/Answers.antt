@@ -1,6 +1,6 @@
 use Rattle.std.proofs.Common.{◌≡◌, true, arith}
 use Rattle.std.proofs.lemmas.Grind.{common_steps}
-use Rattle.uu_adopt.proofs.TakenPieces.{rises, risen}
+use Rattle.uu_adopt.proofs.ReadPieces.{rises, risen}
 use Rattle.uu_adopt.proofs.pieces.rise.Goals as goal
 
 pub returns : goal.returns

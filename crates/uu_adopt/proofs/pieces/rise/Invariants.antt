@@ -1,5 +1,5 @@
 use Rattle.std.proofs.Common.{◌≡◌, drop}
-use Rattle.uu_adopt.proofs.TakenPieces.{rises, rises_from}
+use Rattle.uu_adopt.proofs.ReadPieces.{rises, rises_from}
 use Rattle.uu_adopt.proofs.pieces.rise.Given as goal
 
 abbrev pub invariant-loop-size : goal.invariant-loop-size

@@ -3,7 +3,7 @@ use Rattle.std.specs.Prelude.{IfOk, IfErr}
 use Rattle.uu_rows.specs.declared.fault.RowFault.{RowFault}
 use Rattle.uu_rows.specs.declared.fault.RowFault.TheVariants.{Memory, Bad}
 use Rattle.uu_rows.proofs.Told.{told_ok, told_memory}
-use Rattle.uu_adopt.specs.Taking.{Tells}
+use Rattle.uu_adopt.specs.Reading.{Tells}
 use Rattle.uu_adopt.proofs.version.found_later.Goals as goal
 
 tells : (r : Result Bool RowFault) (Yes No : Type 0) → (r ≡ Ok true → Yes) → (r ≡ Ok false → No) → IfOk r (λ good. Tells good Yes No)

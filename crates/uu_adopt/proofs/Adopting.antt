@@ -1,0 +1,98 @@
+-- How a database is adopted: looked at, and made one of the version that is written.
+use Rattle.std.proofs.Common.{◌≡◌, Option, Some, None, Result, Ok, Err, sym, ap, subst, ◌∙◌, arith}
+use Rattle.std.specs.Prelude.{IfErr}
+use Rattle.sqlite.specs.State as db
+use Rattle.uu_core.specs.State.{empty}
+use Rattle.uu_schema.specs.Steps.{Stands}
+use Rattle.uu_schema.specs.Faults.{IsFaultOfThisCall}
+use Rattle.uu_schema.specs.Encoded.{HoldsAgain, HoldsState}
+use Rattle.uu_schema.specs.Schema.{site, site_of, no_schema}
+use Rattle.uu_schema.specs.declared.fault.StoreFault.{StoreFault}
+use Rattle.uu_schema.specs.declared.fault.StoreFault.TheVariants.{Foreign}
+use Rattle.uu_schema.specs.declared.version.Version.{Version}
+use Rattle.uu_schema.specs.declared.version.Version.TheVariants.{Third}
+use Rattle.uu_adopt.specs.declared.tables.Found.TheVariants.{Nothing, Spool, Other}
+use Rattle.uu_adopt.specs.FoundTables.{found_of, IsEarlier}
+use Rattle.uu_adopt.specs.Becoming.{MigratesState}
+use Rattle.uu_adopt.specs.Adoption.{Adopts, AdoptsSpool, Inspects, IsInspected, IsRefused, IsSpared, Makes}
+use Rattle.uu_adopt.proofs.Creating.{all_of_version, none_found, not_last, not_nothing, not_other, none_or_other, same_tables, some_or_none}
+use Rattle.uu_adopt.proofs.Becoming.{migrated_then, inspected_then, unmade_then, spared_then, spared_migrates, spared_unmade}
+use Rattle.uu_adopt.proofs.Composing.{same_version, not_some}
+use Rattle.uu_adopt.proofs.Inspecting.{inspected_never, inspected_if, becomes_if, spared_self}
+
+-- ---- a database with a table `spool`
+
+-- the tables are those of an earlier version, and were migrated
+pub adopts_migrated : (tables : Option Version) (w : Version) (a b d : db.State) (r : Result (Unit {0}) StoreFault) → IsEarlier w → tables ≡ Some w → Inspects tables a b (Ok tt) → IfErr r IsFaultOfThisCall → Makes (site_of w) site (HoldsAgain w) b d r → (IsRefused r → IsSpared b d r) → AdoptsSpool tables a d r
+adopts_migrated tables w a b d r early is looked fresh makes spared =
+    let first = looked.inspected w is in
+    let clean : db.HasCleanDisk d → db.HasCleanDisk b = λ clean. omega (arith, clean, makes.clean) in
+    record {
+      inspected = λ v other. subst (λ u. IsInspected u a d r) (same_version tables w v is other) (inspected_then w a b d first looked.spared clean r fresh);
+      spared = λ refused. spared_then a b d r looked.spared clean (spared (refused w early is));
+      migrates = λ v _ other. subst (λ u. MigratesState u a d r) (same_version tables w v is other) (migrated_then w a b d first looked.spared clean r makes.becomes);
+      unmade = unmade_then w a b d first looked.spared clean r makes.unmade;
+      clean = omega (arith, looked.clean, makes.clean);
+    }
+
+pub third_is_current : (tables : Option Version) → tables ≡ Some Third → (v : Version) → IsEarlier v → tables ≡ Some v → ⊥
+third_is_current tables third v early is = not_last v early (same_version tables v Third is third)
+
+pub none_is_current : (tables : Option Version) → tables ≡ None → (v : Version) → IsEarlier v → tables ≡ Some v → ⊥
+none_is_current tables none v early is = not_some tables v none is
+
+-- they are those of this version, and stay
+pub adopts_current : (tables : Option Version) (a b : db.State) → ((v : Version) → IsEarlier v → tables ≡ Some v → ⊥) → Inspects tables a b (Ok tt) → AdoptsSpool tables a b (Ok tt)
+adopts_current tables a b current looked = record { inspected = looked.inspected; spared = λ refused. looked.spared; migrates = λ v early is. absurd (current v early is); unmade = tt; clean = looked.clean }
+
+-- it is refused
+pub adopts_refused : (tables : Option Version) (a b : db.State) (fault : StoreFault) → Inspects tables a b (Err fault) → AdoptsSpool tables a b (Err fault)
+adopts_refused tables a b fault looked = record {
+  inspected = looked.inspected;
+  spared = λ refused. looked.spared;
+  migrates = λ v early is. spared_migrates v a b fault looked.spared;
+  unmade = spared_unmade a b fault looked.spared;
+  clean = looked.clean;
+}
+
+-- ---- any database
+
+module _ (a b : db.State) where
+  pub adopts_none : (r : Result (Unit {0}) StoreFault) → found_of a.now.schema ≡ Nothing → Makes no_schema site (λ old new. HoldsState new empty) a b r → Adopts a b r
+  adopts_none r is makes = record {
+    inspected = λ v. inspected_never v a b r (never v);
+    spared = λ some refused. absurd (some is);
+    migrates = λ v early. becomes_if _ _ _ a b r (λ stands. absurd (never v stands));
+    creates = makes.becomes;
+    unmade = makes.unmade;
+    clean = makes.clean;
+  }
+    where
+      never : (v : Version) → Stands (site_of v) a.now → ⊥
+      never v stands = not_nothing v (sym is ∙ all_of_version v a.now stands)
+
+  pub adopts_some : (tables : Option Version) (r : Result (Unit {0}) StoreFault) → found_of a.now.schema ≡ Spool tables → AdoptsSpool tables a b r → Adopts a b r
+  adopts_some tables r is it = record {
+    inspected = λ v. inspected_if v a b r (λ stands. it.inspected v (same v stands));
+    spared = λ some refused. it.spared (λ v early with_them. refused (v, early, is ∙ ap Spool with_them));
+    migrates = λ v early. becomes_if _ _ _ a b r (λ stands. it.migrates v early (same v stands));
+    creates = becomes_if _ _ _ a b r (λ stands. absurd (some_or_none a.now.schema tables is (none_found a.now stands)));
+    unmade = it.unmade;
+    clean = it.clean;
+  }
+    where
+      same : (v : Version) → Stands (site_of v) a.now → tables ≡ Some v
+      same v stands = same_tables tables (Some v) (sym is ∙ all_of_version v a.now stands)
+
+pub adopts_other : (a : db.State) → found_of a.now.schema ≡ Other → Adopts a a (Err Foreign)
+adopts_other a is = record {
+  inspected = λ v. inspected_never v a a _ (never v);
+  spared = λ some refused. spared_self a _;
+  migrates = λ v early. becomes_if _ _ _ a a _ (λ stands. absurd (never v stands));
+  creates = becomes_if _ _ _ a a _ (λ stands. absurd (none_or_other a.now.schema (none_found a.now stands) is));
+  unmade = λ clean trees may. may;
+  clean = omega arith;
+}
+  where
+    never : (v : Version) → Stands (site_of v) a.now → ⊥
+    never v stands = not_other v (sym is ∙ all_of_version v a.now stands)

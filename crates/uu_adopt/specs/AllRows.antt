@@ -1,0 +1,40 @@
+-- Whether the rows of all tables are those of a state.
+use Rattle.std.specs.Prelude.{◌≡◌, Bool, IsSomeAnd}
+use Rattle.sqlite.specs.Tree.{Trees}
+use Rattle.uu_core.specs.State.{State}
+use Rattle.uu_check.specs.declared.spool.Rows.{Rows}
+use Rattle.uu_schema.specs.declared.version.Version.{Version}
+use Rattle.uu_schema.specs.Encoded.{HoldsStateAs}
+use Rattle.uu_adopt.specs.Reading.{FindsSystems, FindsLines, FindsRanges, FindsJobs, FindsPieces, FindsEntries, FindsNext, FindsWaits, FindsLinks, FindsTaken, Tells}
+use Rattle.uu_adopt.specs.Adoption.{IsOfNone}
+use Rattle.uu_adopt.specs.declared.all_rows.AllRows.{AllRows}
+
+-- each table's rows are found, or that it has none of a state's
+pub record FindsAllRows (v : Version) (trees : Trees) (all : AllRows) : Type 0 where
+  pub next : FindsNext v trees all.next
+  pub systems : FindsSystems trees all.systems
+  pub lines : FindsLines trees all.lines
+  pub ranges : FindsRanges trees all.ranges
+  pub jobs : FindsJobs trees all.jobs
+  pub pieces : FindsPieces trees all.pieces
+  pub entries : FindsEntries trees all.entries
+  pub success_waits : FindsWaits v trees all.success_waits
+  pub links : FindsLinks v trees all.links
+  pub taken : FindsTaken v trees all.taken
+
+-- every table's rows were found, and these are they
+pub record AreRowsOf (all : AllRows) (rows : Rows) : Type 0 where
+  pub next : IsSomeAnd all.next (λ next. rows.next ≡ next)
+  pub systems : IsSomeAnd all.systems (λ found. rows.systems.now ≡ found.items)
+  pub lines : IsSomeAnd all.lines (λ found. rows.lines.now ≡ found.items)
+  pub ranges : IsSomeAnd all.ranges (λ found. rows.ranges.now ≡ found.items)
+  pub jobs : IsSomeAnd all.jobs (λ found. rows.jobs.now ≡ found.items)
+  pub pieces : IsSomeAnd all.pieces (λ found. rows.pieces.now ≡ found.items)
+  pub entries : IsSomeAnd all.entries (λ found. rows.entries.now ≡ found.items)
+  pub success_waits : IsSomeAnd all.success_waits (λ found. rows.success_waits.now ≡ found.items)
+  pub links : IsSomeAnd all.links (λ found. rows.links.now ≡ found.items)
+  pub taken : IsSomeAnd all.taken (λ found. rows.taken.now ≡ found.items)
+
+-- yes where a state has these rows in the tables of a version, no where none has
+abbrev pub TellsState : Version → Trees → Bool → Type 0
+TellsState v trees good = Tells good ((s : State) × HoldsStateAs v trees s) (IsOfNone v trees)
