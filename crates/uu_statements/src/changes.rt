@@ -1,11 +1,7 @@
 // Changes, one statement each, and some of them all or none.
-ghost use Rattle.std.specs.Prelude.{◌≡◌, Err, false};
-ghost use Rattle.sqlite.specs.Held.{state};
-ghost use Rattle.sqlite.specs.State.{Survives};
-ghost use Rattle.sqlite.specs.declared.error.Error.{Error};
-ghost use Rattle.uu_schema.specs.Steps.{Outcome, Whole};
+ghost use Rattle.uu_schema.specs.Steps.{IsIdle};
+ghost use Rattle.uu_schema.specs.Statements.{Writes, Transacts};
 ghost use Rattle.uu_schema.specs.Schema.{site};
-ghost use Rattle.uu_schema.specs.declared.fault.Halt.TheVariants.{Before};
 ghost use Rattle.uu_statements.specs.Makes.{Makes, MakesAll};
 
 use crate::entries::{add_entry, remove_entry};
@@ -26,8 +22,7 @@ fn write<S: Alter>(
     tx: &mut Transaction<'_, S>,
     change: &Change<'_>,
 ) -> Result<usize, Error>
-    ensures same_reference { tx.new.conn.ghost_name ≡ tx.old.conn.ghost_name }
-    ensures outcome { Outcome site site (Makes change.now) (state S.Store tx.old.conn.now) (state S.Store tx.new.conn.now) result }
+    ensures { Writes S.Store (Makes change.now) tx.old tx.new result }
 {
     match change {
         Change::AddSystem(def) => add_system(tx, def),
@@ -72,8 +67,7 @@ fn write_all<S: Alter>(
     tx: &mut Transaction<'_, S>,
     changes: &[Change<'_>],
 ) -> Result<(), Error>
-    ensures same_reference { tx.new.conn.ghost_name ≡ tx.old.conn.ghost_name }
-    ensures outcome { Outcome site site (MakesAll changes.now) (state S.Store tx.old.conn.now) (state S.Store tx.new.conn.now) result }
+    ensures { Writes S.Store (MakesAll changes.now) tx.old tx.new result }
 {
     for change in changes {
         write(alloc, tx, change)?;
@@ -87,13 +81,8 @@ pub(crate) fn commit<S: Alter>(
     conn: &mut Connection<S>,
     changes: &[Change<'_>],
 ) -> Result<(), Halt>
-    requires { conn.old.in_transaction ≡ false }
-    ensures idle { conn.new.in_transaction ≡ false }
-    ensures whole { Whole site site (MakesAll changes.now) (state S.Store conn.old) (state S.Store conn.new) result }
-
-    // Nothing of a transaction that stopped before its commit can be kept, whatever the database. A
-    // commit that was refused is not such a one.
-    ensures before { (error : Error) → result ≡ Err (Before error) → Survives (state S.Store conn.old) (state S.Store conn.new) (λ _. ⊥) }
+    requires { IsIdle conn.old }
+    ensures { Transacts S.Store site site (MakesAll changes.now) conn.old conn.new result }
 {
     let mut tx = conn.transaction();
     write_all(alloc, &mut tx, changes)?;

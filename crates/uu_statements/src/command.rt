@@ -1,12 +1,11 @@
 // A command over a connection: planned without it, and carried out in one transaction.
-ghost use Rattle.std.specs.Prelude.{◌≡◌, ◌≤◌, [], IfErr, Ok, Err, false};
-ghost use Rattle.sqlite.specs.View.{doubt};
+ghost use Rattle.std.specs.Prelude.{◌≡◌, [], IfErr, Ok, Err};
 ghost use Rattle.sqlite.specs.Held.{state};
-ghost use Rattle.sqlite.specs.State.{Survives};
 ghost use Rattle.sqlite.specs.declared.error.Error.{Error};
 ghost use Rattle.uu_core.specs.declared.command.Command.{Command};
 ghost use Rattle.uu_core.specs.State.{State};
 ghost use Rattle.uu_tables.specs.Plans.{IsPlan};
+ghost use Rattle.uu_schema.specs.Steps.{IsIdle, CommitsNothing, StaysUnclean};
 ghost use Rattle.uu_schema.specs.Faults.{IsFaultOfThisCall};
 ghost use Rattle.uu_schema.specs.declared.fault.Halt.TheVariants.{Before};
 ghost use Rattle.uu_schema.specs.declared.fault.StoreFault.TheVariants.{Memory};
@@ -26,12 +25,12 @@ fn write_plan<S: Alter>(
     conn: &mut Connection<S>,
     plan: Plan<'_>,
 ) -> Result<Reply, Halt>
-    requires { conn.old.in_transaction ≡ false }
-    ensures idle { conn.new.in_transaction ≡ false }
-    ensures clean { doubt (state S.Store conn.old).is_clean ≤ doubt (state S.Store conn.new).is_clean }
+    requires { IsIdle conn.old }
+    ensures idle { IsIdle conn.new }
+    ensures clean { StaysUnclean (state S.Store conn.old) (state S.Store conn.new) }
     ensures untouched { plan.entry.changes.items ≡ [] → (result ≡ Ok plan.entry.reply) × (conn.new ≡ conn.old) }
     ensures step { (s : State) → (command : Command) → IsPlan s command plan.entry → IsWrittenStep s command (state S.Store conn.old) (state S.Store conn.new) result }
-    ensures before { (error : Error) → result ≡ Err (Before error) → Survives (state S.Store conn.old) (state S.Store conn.new) (λ _. ⊥) }
+    ensures before { (error : Error) → result ≡ Err (Before error) → CommitsNothing S.Store conn.old conn.new }
 {
     if plan.changes.is_empty() {
         return Ok(plan.reply);
@@ -47,16 +46,16 @@ pub fn carry_out<S: Alter>(
     conn: &mut Connection<S>,
     plan: Plan<'_>,
 ) -> Result<Reply, StoreFault>
-    requires { conn.old.in_transaction ≡ false }
-    ensures idle { conn.new.in_transaction ≡ false }
+    requires { IsIdle conn.old }
+    ensures idle { IsIdle conn.new }
     ensures fresh { IfErr result IsFaultOfThisCall }
-    ensures clean { doubt (state S.Store conn.old).is_clean ≤ doubt (state S.Store conn.new).is_clean }
+    ensures clean { StaysUnclean (state S.Store conn.old) (state S.Store conn.new) }
     ensures untouched { plan.entry.changes.items ≡ [] → (result ≡ Ok plan.entry.reply) × (conn.new ≡ conn.old) }
     ensures step { (s : State) → (command : Command) → IsPlan s command plan.entry → IsToldStep s command (state S.Store conn.old) (state S.Store conn.new) result }
 
     // Want of memory is never told of a commit that was refused: a stop leaves what it could leave
     // before, whatever the database.
-    ensures memory { result ≡ Err Memory → Survives (state S.Store conn.old) (state S.Store conn.new) (λ _. ⊥) }
+    ensures memory { result ≡ Err Memory → CommitsNothing S.Store conn.old conn.new }
 {
     match write_plan(alloc, conn, plan) {
         Ok(reply) => Ok(reply),

@@ -1,13 +1,10 @@
 // The statements on jobs, their pieces and the next number.
-ghost use Rattle.std.specs.Prelude.{◌≡◌};
-ghost use Rattle.sqlite.specs.Held.{state};
-ghost use Rattle.uu_schema.specs.Steps.{Outcome};
+ghost use Rattle.uu_schema.specs.Statements.{Writes};
 ghost use Rattle.uu_tables.specs.declared.change.Change.{Change};
-ghost use Rattle.uu_schema.specs.Schema.{site};
 ghost use Rattle.uu_statements.specs.Makes.{Makes};
-ghost use Rattle.uu_statements.specs.Words.{IsWork};
+ghost use Rattle.uu_statements.specs.Words.{AreKindColumns};
 
-use crate::words::{Work, work_of};
+use crate::words::{KindColumns, arguments_of, kind_columns};
 use sqlite::{Alter, Error, ErrorCode, Transaction, params};
 use std::alloc::Global;
 use uu_names::Grade;
@@ -17,11 +14,10 @@ fn insert_job<S: Alter>(
     tx: &mut Transaction<'_, S>,
     number: u32,
     columns: &JobColumns<'_>,
-    work: &Work<'_>,
+    kind: &KindColumns<'_>,
 ) -> Result<usize, Error>
-    requires work { IsWork columns.now.kind.now work.now }
-    ensures same_reference { tx.new.conn.ghost_name ≡ tx.old.conn.ghost_name }
-    ensures outcome { Outcome site site (Makes (Change.AddJob number columns.now)) (state S.Store tx.old.conn.now) (state S.Store tx.new.conn.now) result }
+    requires kind { AreKindColumns columns.now.kind.now kind.now }
+    ensures { Writes S.Store (Makes (Change.AddJob number columns.now)) tx.old tx.new result }
 {
     tx.execute(
         "INSERT INTO jobs (number, system, rank, user, kind, queued, first_word, second_word, size) VALUES (?1, ?2, ?3, ?4, ?5, ?6, ?7, ?8, ?9)",
@@ -30,10 +26,10 @@ fn insert_job<S: Alter>(
             columns.system.as_str(),
             u32::from(columns.grade.rank()),
             columns.user.as_str(),
-            work.kind,
+            kind.kind,
             columns.queued,
-            work.first_word,
-            work.second_word.as_str(),
+            kind.first_word,
+            kind.second_word,
             columns.size
         ],
     )
@@ -45,11 +41,13 @@ pub(crate) fn add_job<S: Alter>(
     number: u32,
     columns: &JobColumns<'_>,
 ) -> Result<usize, Error>
-    ensures same_reference { tx.new.conn.ghost_name ≡ tx.old.conn.ghost_name }
-    ensures outcome { Outcome site site (Makes (Change.AddJob number columns.now)) (state S.Store tx.old.conn.now) (state S.Store tx.new.conn.now) result }
+    ensures { Writes S.Store (Makes (Change.AddJob number columns.now)) tx.old tx.new result }
 {
-    match work_of(alloc, columns.kind) {
-        Ok(work) => insert_job(tx, number, columns, &work),
+    match arguments_of(alloc, columns.kind) {
+        Ok(arguments) => {
+            let kind = kind_columns(columns.kind, arguments.as_str());
+            insert_job(tx, number, columns, &kind)
+        }
         Err(_) => Err(Error::SqliteFailure(ErrorCode::OutOfMemory)),
     }
 }
@@ -59,8 +57,7 @@ pub(crate) fn set_grade<S: Alter>(
     number: u32,
     grade: Grade,
 ) -> Result<usize, Error>
-    ensures same_reference { tx.new.conn.ghost_name ≡ tx.old.conn.ghost_name }
-    ensures outcome { Outcome site site (Makes (Change.SetGrade number grade)) (state S.Store tx.old.conn.now) (state S.Store tx.new.conn.now) result }
+    ensures { Writes S.Store (Makes (Change.SetGrade number grade)) tx.old tx.new result }
 {
     tx.execute(
         "UPDATE jobs SET rank = ?2 WHERE number = ?1",
@@ -73,8 +70,7 @@ pub(crate) fn set_queued<S: Alter>(
     number: u32,
     queued: u32,
 ) -> Result<usize, Error>
-    ensures same_reference { tx.new.conn.ghost_name ≡ tx.old.conn.ghost_name }
-    ensures outcome { Outcome site site (Makes (Change.SetQueued number queued)) (state S.Store tx.old.conn.now) (state S.Store tx.new.conn.now) result }
+    ensures { Writes S.Store (Makes (Change.SetQueued number queued)) tx.old tx.new result }
 {
     tx.execute(
         "UPDATE jobs SET queued = ?2 WHERE number = ?1",
@@ -83,8 +79,7 @@ pub(crate) fn set_queued<S: Alter>(
 }
 
 pub(crate) fn remove_job<S: Alter>(tx: &mut Transaction<'_, S>, number: u32) -> Result<usize, Error>
-    ensures same_reference { tx.new.conn.ghost_name ≡ tx.old.conn.ghost_name }
-    ensures outcome { Outcome site site (Makes (Change.RemoveJob number)) (state S.Store tx.old.conn.now) (state S.Store tx.new.conn.now) result }
+    ensures { Writes S.Store (Makes (Change.RemoveJob number)) tx.old tx.new result }
 {
     tx.execute("DELETE FROM jobs WHERE number = ?1", params![number])
 }
@@ -95,8 +90,7 @@ pub(crate) fn add_piece<S: Alter>(
     place: u32,
     bytes: &[u8],
 ) -> Result<usize, Error>
-    ensures same_reference { tx.new.conn.ghost_name ≡ tx.old.conn.ghost_name }
-    ensures outcome { Outcome site site (Makes (Change.AddPiece job place bytes.entry)) (state S.Store tx.old.conn.now) (state S.Store tx.new.conn.now) result }
+    ensures { Writes S.Store (Makes (Change.AddPiece job place bytes.entry)) tx.old tx.new result }
 {
     tx.execute(
         "INSERT INTO pieces (job, place, bytes) VALUES (?1, ?2, ?3)",
@@ -105,8 +99,7 @@ pub(crate) fn add_piece<S: Alter>(
 }
 
 pub(crate) fn set_next<S: Alter>(tx: &mut Transaction<'_, S>, next: u32) -> Result<usize, Error>
-    ensures same_reference { tx.new.conn.ghost_name ≡ tx.old.conn.ghost_name }
-    ensures outcome { Outcome site site (Makes (Change.SetNext next)) (state S.Store tx.old.conn.now) (state S.Store tx.new.conn.now) result }
+    ensures { Writes S.Store (Makes (Change.SetNext next)) tx.old tx.new result }
 {
     tx.execute("UPDATE spool SET next = ?1", params![next])
 }

@@ -1,9 +1,6 @@
 // The statements on lines and their ranges.
-ghost use Rattle.std.specs.Prelude.{◌≡◌};
-ghost use Rattle.sqlite.specs.Held.{state};
-ghost use Rattle.uu_schema.specs.Steps.{Outcome};
+ghost use Rattle.uu_schema.specs.Statements.{Writes};
 ghost use Rattle.uu_tables.specs.declared.change.Change.{Change};
-ghost use Rattle.uu_schema.specs.Schema.{site};
 ghost use Rattle.uu_statements.specs.Makes.{Makes};
 
 use sqlite::{Alter, Error, Transaction, params};
@@ -16,8 +13,7 @@ pub(crate) fn add_line<S: Alter>(
     place: u32,
     line: &Line,
 ) -> Result<usize, Error>
-    ensures same_reference { tx.new.conn.ghost_name ≡ tx.old.conn.ghost_name }
-    ensures outcome { Outcome site site (Makes (Change.AddLine system.entry place line.entry)) (state S.Store tx.old.conn.now) (state S.Store tx.new.conn.now) result }
+    ensures { Writes S.Store (Makes (Change.AddLine system.entry place line.entry)) tx.old tx.new result }
 {
     tx.execute(
         "INSERT INTO lines (system, place, rank, retry) VALUES (?1, ?2, ?3, ?4)",
@@ -34,8 +30,7 @@ pub(crate) fn remove_lines<S: Alter>(
     tx: &mut Transaction<'_, S>,
     system: &SiteName,
 ) -> Result<usize, Error>
-    ensures same_reference { tx.new.conn.ghost_name ≡ tx.old.conn.ghost_name }
-    ensures outcome { Outcome site site (Makes (Change.RemoveLines system.entry)) (state S.Store tx.old.conn.now) (state S.Store tx.new.conn.now) result }
+    ensures { Writes S.Store (Makes (Change.RemoveLines system.entry)) tx.old tx.new result }
 {
     tx.execute(
         "DELETE FROM lines WHERE system = ?1",
@@ -50,8 +45,7 @@ pub(crate) fn add_range<S: Alter>(
     low: u32,
     high: u32,
 ) -> Result<usize, Error>
-    ensures same_reference { tx.new.conn.ghost_name ≡ tx.old.conn.ghost_name }
-    ensures outcome { Outcome site site (Makes (Change.AddRange system.entry place low high)) (state S.Store tx.old.conn.now) (state S.Store tx.new.conn.now) result }
+    ensures { Writes S.Store (Makes (Change.AddRange system.entry place low high)) tx.old tx.new result }
 {
     tx.execute(
         "INSERT INTO ranges (system, place, low, high) VALUES (?1, ?2, ?3, ?4)",

@@ -1,9 +1,7 @@
 // The statements on links, and on what was taken by them.
 ghost use Rattle.std.specs.Prelude.{◌≡◌, pos};
-ghost use Rattle.sqlite.specs.Held.{state};
-ghost use Rattle.uu_schema.specs.Steps.{Outcome};
+ghost use Rattle.uu_schema.specs.Statements.{Writes};
 ghost use Rattle.uu_tables.specs.declared.change.Change.{Change};
-ghost use Rattle.uu_schema.specs.Schema.{site};
 ghost use Rattle.uu_statements.specs.Makes.{Makes};
 
 use sqlite::{Alter, Error, Transaction, params};
@@ -15,8 +13,7 @@ pub(crate) fn add_link<S: Alter>(
     system: &SiteName,
     below: u32,
 ) -> Result<usize, Error>
-    ensures same_reference { tx.new.conn.ghost_name ≡ tx.old.conn.ghost_name }
-    ensures outcome { Outcome site site (Makes (Change.AddLink system.entry below)) (state S.Store tx.old.conn.now) (state S.Store tx.new.conn.now) result }
+    ensures { Writes S.Store (Makes (Change.AddLink system.entry below)) tx.old tx.new result }
 {
     tx.execute(
         "INSERT INTO links (system, below) VALUES (?1, ?2)",
@@ -28,8 +25,7 @@ pub(crate) fn remove_link<S: Alter>(
     tx: &mut Transaction<'_, S>,
     system: &SiteName,
 ) -> Result<usize, Error>
-    ensures same_reference { tx.new.conn.ghost_name ≡ tx.old.conn.ghost_name }
-    ensures outcome { Outcome site site (Makes (Change.RemoveLink system.entry)) (state S.Store tx.old.conn.now) (state S.Store tx.new.conn.now) result }
+    ensures { Writes S.Store (Makes (Change.RemoveLink system.entry)) tx.old tx.new result }
 {
     tx.execute(
         "DELETE FROM links WHERE system = ?1",
@@ -58,8 +54,7 @@ fn insert_taken<S: Alter>(
     mark: &MarkNumber,
 ) -> Result<usize, Error>
     requires mark { mark.now.value ≡ pos taken.now.mark }
-    ensures same_reference { tx.new.conn.ghost_name ≡ tx.old.conn.ghost_name }
-    ensures outcome { Outcome site site (Makes (Change.AddTaken system.entry taken.now)) (state S.Store tx.old.conn.now) (state S.Store tx.new.conn.now) result }
+    ensures { Writes S.Store (Makes (Change.AddTaken system.entry taken.now)) tx.old tx.new result }
 {
     tx.execute(
         "INSERT INTO taken (system, number, mark, job) VALUES (?1, ?2, ?3, ?4)",
@@ -72,8 +67,7 @@ pub(crate) fn add_taken<S: Alter>(
     system: &SiteName,
     taken: &Taken,
 ) -> Result<usize, Error>
-    ensures same_reference { tx.new.conn.ghost_name ≡ tx.old.conn.ghost_name }
-    ensures outcome { Outcome site site (Makes (Change.AddTaken system.entry taken.now)) (state S.Store tx.old.conn.now) (state S.Store tx.new.conn.now) result }
+    ensures { Writes S.Store (Makes (Change.AddTaken system.entry taken.now)) tx.old tx.new result }
 {
     let mark = number_of(taken.mark);
     insert_taken(tx, system, taken, &mark)
@@ -84,8 +78,7 @@ pub(crate) fn forget_taken<S: Alter>(
     system: &SiteName,
     below: u32,
 ) -> Result<usize, Error>
-    ensures same_reference { tx.new.conn.ghost_name ≡ tx.old.conn.ghost_name }
-    ensures outcome { Outcome site site (Makes (Change.ForgetTaken system.entry below)) (state S.Store tx.old.conn.now) (state S.Store tx.new.conn.now) result }
+    ensures { Writes S.Store (Makes (Change.ForgetTaken system.entry below)) tx.old tx.new result }
 {
     tx.execute(
         "DELETE FROM taken WHERE system = ?1 AND number < ?2",

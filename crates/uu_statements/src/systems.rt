@@ -1,9 +1,7 @@
 // The statements on systems.
 ghost use Rattle.std.specs.Prelude.{◌≡◌, option_map};
-ghost use Rattle.sqlite.specs.Held.{state};
-ghost use Rattle.uu_schema.specs.Steps.{Outcome};
+ghost use Rattle.uu_schema.specs.Statements.{Writes};
 ghost use Rattle.uu_tables.specs.declared.change.Change.{Change};
-ghost use Rattle.uu_schema.specs.Schema.{site};
 ghost use Rattle.uu_statements.specs.Makes.{Makes};
 
 use sqlite::{Alter, Error, Transaction, params};
@@ -15,8 +13,7 @@ pub(crate) fn add_system<S: Alter>(
     tx: &mut Transaction<'_, S>,
     def: &SystemDef,
 ) -> Result<usize, Error>
-    ensures same_reference { tx.new.conn.ghost_name ≡ tx.old.conn.ghost_name }
-    ensures outcome { Outcome site site (Makes (Change.AddSystem def.entry)) (state S.Store tx.old.conn.now) (state S.Store tx.new.conn.now) result }
+    ensures { Writes S.Store (Makes (Change.AddSystem def.entry)) tx.old tx.new result }
 {
     tx.execute(
         "INSERT INTO systems (name, max_retries, last, failures, wait, outcome, why) VALUES (?1, ?2, 0, 0, 0, 0, NULL)",
@@ -29,8 +26,7 @@ pub(crate) fn set_max_retries<S: Alter>(
     system: &SiteName,
     max_retries: u32,
 ) -> Result<usize, Error>
-    ensures same_reference { tx.new.conn.ghost_name ≡ tx.old.conn.ghost_name }
-    ensures outcome { Outcome site site (Makes (Change.SetMaxRetries system.entry max_retries)) (state S.Store tx.old.conn.now) (state S.Store tx.new.conn.now) result }
+    ensures { Writes S.Store (Makes (Change.SetMaxRetries system.entry max_retries)) tx.old tx.new result }
 {
     tx.execute(
         "UPDATE systems SET max_retries = ?2 WHERE name = ?1",
@@ -53,8 +49,7 @@ pub(crate) fn set_call<S: Alter>(
     system: &SiteName,
     call: &CallColumns,
 ) -> Result<usize, Error>
-    ensures same_reference { tx.new.conn.ghost_name ≡ tx.old.conn.ghost_name }
-    ensures outcome { Outcome site site (Makes (Change.SetCall system.entry call.now)) (state S.Store tx.old.conn.now) (state S.Store tx.new.conn.now) result }
+    ensures { Writes S.Store (Makes (Change.SetCall system.entry call.now)) tx.old tx.new result }
 {
     let why = reason(call);
     tx.execute(
@@ -75,8 +70,7 @@ pub(crate) fn add_success_wait<S: Alter>(
     system: &SiteName,
     wait: u32,
 ) -> Result<usize, Error>
-    ensures same_reference { tx.new.conn.ghost_name ≡ tx.old.conn.ghost_name }
-    ensures outcome { Outcome site site (Makes (Change.AddSuccessWait system.entry wait)) (state S.Store tx.old.conn.now) (state S.Store tx.new.conn.now) result }
+    ensures { Writes S.Store (Makes (Change.AddSuccessWait system.entry wait)) tx.old tx.new result }
 {
     tx.execute(
         "INSERT INTO success_waits (system, wait) VALUES (?1, ?2)",
@@ -88,8 +82,7 @@ pub(crate) fn remove_success_wait<S: Alter>(
     tx: &mut Transaction<'_, S>,
     system: &SiteName,
 ) -> Result<usize, Error>
-    ensures same_reference { tx.new.conn.ghost_name ≡ tx.old.conn.ghost_name }
-    ensures outcome { Outcome site site (Makes (Change.RemoveSuccessWait system.entry)) (state S.Store tx.old.conn.now) (state S.Store tx.new.conn.now) result }
+    ensures { Writes S.Store (Makes (Change.RemoveSuccessWait system.entry)) tx.old tx.new result }
 {
     tx.execute(
         "DELETE FROM success_waits WHERE system = ?1",
@@ -101,8 +94,7 @@ pub(crate) fn remove_system<S: Alter>(
     tx: &mut Transaction<'_, S>,
     system: &SiteName,
 ) -> Result<usize, Error>
-    ensures same_reference { tx.new.conn.ghost_name ≡ tx.old.conn.ghost_name }
-    ensures outcome { Outcome site site (Makes (Change.RemoveSystem system.entry)) (state S.Store tx.old.conn.now) (state S.Store tx.new.conn.now) result }
+    ensures { Writes S.Store (Makes (Change.RemoveSystem system.entry)) tx.old tx.new result }
 {
     tx.execute(
         "DELETE FROM systems WHERE name = ?1",

@@ -2,7 +2,7 @@
 ghost use Rattle.std.specs.Prelude.{◌≡◌, IfOk, string_bytes};
 ghost use Rattle.std.specs.List.{join_with_byte};
 ghost use Rattle.uu_names.specs.Text.{space};
-ghost use Rattle.uu_statements.specs.Words.{IsWork};
+ghost use Rattle.uu_statements.specs.Words.{AreArguments, AreKindColumns};
 
 use std::alloc::{AllocError, Global};
 use uu_core::Kind;
@@ -11,10 +11,10 @@ use uu_tables::{EXECUTE, REQUEST, SEND};
 
 /// The columns of a job that tell what it is for.
 #[derive(Drop)]
-pub(crate) struct Work<'a> {
+pub(crate) struct KindColumns<'a> {
     pub(crate) kind: u32,
     pub(crate) first_word: &'a str,
-    pub(crate) second_word: String,
+    pub(crate) second_word: &'a str,
 }
 
 // The words with one space between two.
@@ -31,25 +31,36 @@ fn joined(alloc: Global, words: &[Word]) -> Result<String, AllocError>
     Ok(text)
 }
 
-/// The columns of this kind of job.
-pub(crate) fn work_of<'a>(alloc: Global, kind: &'a Kind) -> Result<Work<'a>, AllocError>
-    ensures work { IfOk result (IsWork kind.now) }
+/// The arguments of an execution as one text; of another kind, which has none, an empty one.
+pub(crate) fn arguments_of(alloc: Global, kind: &Kind) -> Result<String, AllocError>
+    ensures arguments { IfOk result (λ text. AreArguments kind.now (string_bytes text)) }
 {
     match kind {
-        Kind::Send { source, target } => Ok(Work {
+        Kind::Execute { arguments, .. } => joined(alloc, arguments.as_slice()),
+        Kind::Send { .. } | Kind::Request { .. } => Ok(String::new(alloc)),
+    }
+}
+
+/// The columns of this kind of job, whose arguments are that text.
+pub(crate) fn kind_columns<'a>(kind: &'a Kind, arguments: &'a str) -> KindColumns<'a>
+    requires arguments { AreArguments kind.now arguments.now }
+    ensures columns { AreKindColumns kind.now result }
+{
+    match kind {
+        Kind::Send { source, target } => KindColumns {
             kind: SEND,
             first_word: source.as_str(),
-            second_word: String::from_str(alloc, target.as_str())?,
-        }),
-        Kind::Request { source, target } => Ok(Work {
+            second_word: target.as_str(),
+        },
+        Kind::Request { source, target } => KindColumns {
             kind: REQUEST,
             first_word: source.as_str(),
-            second_word: String::from_str(alloc, target.as_str())?,
-        }),
-        Kind::Execute { command, arguments } => Ok(Work {
+            second_word: target.as_str(),
+        },
+        Kind::Execute { command, .. } => KindColumns {
             kind: EXECUTE,
             first_word: command.as_str(),
-            second_word: joined(alloc, arguments.as_slice())?,
-        }),
+            second_word: arguments,
+        },
     }
 }

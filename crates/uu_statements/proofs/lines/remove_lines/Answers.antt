@@ -1,15 +1,9 @@
-use Rattle.sqlite.specs.Held.{state}
-use Rattle.uu_schema.proofs.Steps.{statement}
-use Rattle.uu_tables.specs.declared.change.Change.TheVariants.{RemoveLines}
-use Rattle.uu_schema.specs.Schema.{site}
+use Rattle.uu_schema.proofs.Statements.{executed}
 use Rattle.uu_statements.specs.Texts.{delete_lines}
-use Rattle.uu_statements.specs.Makes.{Makes}
 use Rattle.uu_statements.proofs.Removed.{lines_gone}
 use Rattle.uu_statements.proofs.lines.remove_lines.Goals as goal
 
-pub returns-clause-outcome : goal.returns-clause-outcome
-returns-clause-outcome g c =
-    let old = state g.S.Store c.args.tx.now.conn.now in
-    let new = state g.S.Store c.execute.new.self.conn.now in
-    statement site site (Makes (RemoveLines c.args.system)) delete_lines _ old new c.execute.result c.execute.ensures.survives c.execute.ensures.runs
-    (λ count stands ran. lines_gone old new c.args.system.now count stands (rw (c.params-to_sql.ensures, c.as_str.ensures.text) at ran))
+pub returns : goal.returns
+returns g c =
+    executed delete_lines _ c.execute.ensures.same_reference c.execute.ensures.ended c.execute.ensures.runs c.execute.ensures.survives
+    (λ count stands ran. lines_gone _ _ c.args.system.now count stands (rw (c.params-to_sql.ensures, c.as_str.ensures.text) at ran))
