@@ -9,10 +9,10 @@ use Rattle.uu_schema.specs.declared.fault.StoreFault.{StoreFault}
 use Rattle.uu_schema.specs.declared.fault.StoreFault.TheVariants.{Memory}
 use Rattle.uu_store.specs.declared.spool.Spool.{Spool}
 use Rattle.uu_schema.specs.Encoded.{Encodes}
-use Rattle.uu_store.specs.Spool.{connection_of, disk, has_failed, Shows, Marks}
+use Rattle.uu_store.specs.Spool.{connection_of, disk, has_failed, Shows, IsFaultBetween}
 
-pub noted_memory : (before afterwards : Bool) (fault : StoreFault) → Marks before afterwards fault → fault ≡ Memory → afterwards ≡ false
-noted_memory before afterwards fault marks is = (subst (Marks before afterwards) is marks).1
+pub noted_memory : (before afterwards : Bool) (fault : StoreFault) → IsFaultBetween before afterwards fault → fault ≡ Memory → afterwards ≡ false
+noted_memory before afterwards fault between is = (subst (IsFaultBetween before afterwards) is between).1
 
 pub shows_again : {S : Type 0} {g : Ghosts S} (spool : Spool S g) (h : Held S) (s : State) → connection_of spool ≡ h → has_failed spool ≡ false → Rests (state g h) → Encodes (state g h).now s → Shows spool s
 shows_again {g} spool h s same usable rests enc = record {

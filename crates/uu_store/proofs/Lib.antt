@@ -1,6 +1,3 @@
-pub mod Answering
-pub mod Handing
-pub mod Stepping
 pub mod Ending
 pub mod Words
 pub mod CellsTell
@@ -9,7 +6,9 @@ pub mod NoLinks
 pub mod NoWaits
 pub mod Adopting
 pub mod Running
+pub mod Handing
 pub mod Asking
+pub mod Stepping
 pub mod Reopening
 pub mod Acknowledging
 pub mod Accounting

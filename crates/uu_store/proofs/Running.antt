@@ -16,10 +16,9 @@ use Rattle.uu_schema.specs.declared.fault.StoreFault.TheVariants.{Memory, Store,
 use Rattle.uu_schema.specs.Faults.{IsFaultOfThisCall}
 use Rattle.uu_store.specs.declared.spool.Spool.{Spool}
 use Rattle.uu_schema.specs.Steps.{StaysUnclean}
-use Rattle.uu_store.specs.Calls.{IsAnswered}
 use Rattle.uu_store.specs.Closing.{IsToldAfter}
 use Rattle.uu_schema.specs.Encoded.{Leaves, LeavesEither}
-use Rattle.uu_store.specs.Spool.{connection_of, disk, has_failed, Shows, Marks}
+use Rattle.uu_store.specs.Spool.{connection_of, disk, has_failed, Shows, IsFaultBetween}
 use Rattle.uu_store.specs.Runs.{GoesOn, RanFrom, Ran, reply_in, fault_in}
 use Rattle.uu_adopt.proofs.Settling.{Settles, leaves}
 use Rattle.uu_store.proofs.Ending.{noted_memory, shows_again, clean_before}
@@ -54,7 +53,7 @@ StatesFollow = (state : State) (first second : List Command) → state_after sta
 abbrev pub RepliesFollow : Type 0
 RepliesFollow = (state : State) (first second : List Command) → replies_to state (first ++ second) ≡ replies_to state first ++ replies_to (state_after state first) second
 
-memory_of : (fault : StoreFault) → GoesOn (Some fault) → fault ≡ Memory
+pub memory_of : (fault : StoreFault) → GoesOn (Some fault) → fault ≡ Memory
 memory_of Memory on = refl
 memory_of (Store kind) on = absurd on
 memory_of Failed on = absurd on
@@ -178,35 +177,14 @@ ran_one old new command (Err fault) settles step memory stop stays = record {
 }
 
 -- a question
-module _ {S : Type 0} {g : Ghosts S} {T : Type 0} (IsAnswer : State → T → Type 0) (old now : Spool S g) (held : Held S) (same : connection_of now ≡ held) (settles : Settles (disk old)) where
-  pub still : (r : Result T StoreFault) → IsAnswered IsAnswer (disk old) (state g held) r → db.HasCleanDisk (disk now) → (s : State) → Shows old s → Leaves (disk now) s
-  still r it clean s shows = subst (λ h. Leaves (state g h) s) (sym same) (λ trees may.
-      leaves s (disk old) settles shows.rests shows.encodes trees (it.stop (clean_before now held same clean) s shows.rests shows.encodes trees may))
-
-  asked_from : (s : State) (stopped : Option StoreFault) → (GoesOn stopped → Shows now s) → Leaves (disk now) s → RanFrom s [] now [] stopped
-  asked_from s stopped shows stop = record { answers = refl; shows = shows; stop = λ on. stop; stop_store = λ trees may. (let it = stop trees may in (it.0, inl it.1)) }
-
-  pub ran_answered : (answer : T) → has_failed now ≡ false → IsAnswered IsAnswer (disk old) (state g held) (Ok answer) → Ran [] old now [] None
-  ran_answered answer usable it = record {
-    within = omega arith;
-    from = λ clean s shows.
-        let at = it.ok (clean_before now held same clean) s shows.rests shows.encodes in
-        asked_from s None (λ on. shows_again now held s same usable at.1 at.2) (still (Ok answer) it clean s shows);
-    clean = subst (λ h. StaysUnclean (disk old) (state g h)) (sym same) it.clean;
-  }
-
-  pub ran_unanswered : (fault told : StoreFault) → told ≡ fault → Marks (has_failed old) (has_failed now) fault → IsAnswered IsAnswer (disk old) (state g held) (Err fault) → Ran [] old now [] (Some told)
-  ran_unanswered fault told is marks it = record {
-    within = omega arith;
-    from = λ clean s shows. asked_from s (Some told) (again clean s shows) (still (Err fault) it clean s shows);
-    clean = subst (λ h. StaysUnclean (disk old) (state g h)) (sym same) it.clean;
-  }
-    where
-      again : db.HasCleanDisk (disk now) → (s : State) → Shows old s → GoesOn (Some told) → Shows now s
-      again clean s shows on =
-          let memory = sym is ∙ memory_of told on in
-          let at = it.memory (clean_before now held same clean) s shows.rests shows.encodes (ap Err memory) in
-          shows_again now held s same (noted_memory (has_failed old) (has_failed now) fault marks memory) at.0 at.1
+pub ran_asked : {S : Type 0} {g : Ghosts S} (old now : Spool S g) (stopped : Option StoreFault) → (db.HasCleanDisk (disk now) → (s : State) → Shows old s → GoesOn stopped → Shows now s)
+    → (db.HasCleanDisk (disk now) → (s : State) → Shows old s → Leaves (disk now) s) → StaysUnclean (disk old) (disk now) → Ran [] old now [] stopped
+ran_asked old now stopped shown left stays = record {
+  within = omega arith;
+  from = λ clean s shows.
+      record { answers = refl; shows = shown clean s shows; stop = λ on. left clean s shows; stop_store = λ trees may. (let it = left clean s shows trees may in (it.0, inl it.1)) };
+  clean = stays;
+}
 
 -- ---- one run after another, where the first answered every command
 
@@ -273,40 +251,40 @@ module _ {S : Type 0} {g : Ghosts S} (old new : Spool S g) (commands : List Comm
 
 -- ---- which fault ends a run of a spool that can be used
 
-pub stopped_fresh : (stopped : Option StoreFault) (before later : Bool) → before ≡ false → MatchOption stopped ((before ≡ false) × (later ≡ false)) (Marks before later) → IfSome stopped IsFaultOfThisCall
-stopped_fresh None before later usable marks = tt
-stopped_fresh (Some Memory) before later usable marks = tt
-stopped_fresh (Some (Store kind)) before later usable marks = tt
-stopped_fresh (Some Failed) before later usable marks = absurd (true≢false (sym marks.0 ∙ usable))
-stopped_fresh (Some Foreign) before later usable marks = absurd marks
-stopped_fresh (Some Newer) before later usable marks = absurd marks
+pub stopped_fresh : (stopped : Option StoreFault) (before later : Bool) → before ≡ false → MatchOption stopped ((before ≡ false) × (later ≡ false)) (IsFaultBetween before later) → IfSome stopped IsFaultOfThisCall
+stopped_fresh None before later usable between = tt
+stopped_fresh (Some Memory) before later usable between = tt
+stopped_fresh (Some (Store kind)) before later usable between = tt
+stopped_fresh (Some Failed) before later usable between = absurd (true≢false (sym between.0 ∙ usable))
+stopped_fresh (Some Foreign) before later usable between = absurd between
+stopped_fresh (Some Newer) before later usable between = absurd between
 
 -- ---- which fault a close tells that fails after such a run
 
-goes_on : (stopped : Option StoreFault) (before later : Bool) → before ≡ false → MatchOption stopped ((before ≡ false) × (later ≡ false)) (Marks before later) → later ≡ false → GoesOn stopped
-goes_on None before later usable marks is = tt
-goes_on (Some Memory) before later usable marks is = tt
-goes_on (Some (Store kind)) before later usable marks is = absurd (true≢false (sym marks.1 ∙ is))
-goes_on (Some Failed) before later usable marks is = absurd (true≢false (sym marks.0 ∙ usable))
-goes_on (Some Foreign) before later usable marks is = absurd marks
-goes_on (Some Newer) before later usable marks is = absurd marks
+goes_on : (stopped : Option StoreFault) (before later : Bool) → before ≡ false → MatchOption stopped ((before ≡ false) × (later ≡ false)) (IsFaultBetween before later) → later ≡ false → GoesOn stopped
+goes_on None before later usable between is = tt
+goes_on (Some Memory) before later usable between is = tt
+goes_on (Some (Store kind)) before later usable between is = absurd (true≢false (sym between.1 ∙ is))
+goes_on (Some Failed) before later usable between is = absurd (true≢false (sym between.0 ∙ usable))
+goes_on (Some Foreign) before later usable between is = absurd between
+goes_on (Some Newer) before later usable between is = absurd between
 
-ends_there : (stopped : Option StoreFault) (before later : Bool) → MatchOption stopped ((before ≡ false) × (later ≡ false)) (Marks before later) → later ≡ true → ¬ GoesOn stopped
-ends_there None before later marks is on = true≢false (sym is ∙ marks.1)
-ends_there (Some Memory) before later marks is on = true≢false (sym is ∙ marks.1)
-ends_there (Some (Store kind)) before later marks is on = on
-ends_there (Some Failed) before later marks is on = on
-ends_there (Some Foreign) before later marks is on = on
-ends_there (Some Newer) before later marks is on = on
+ends_there : (stopped : Option StoreFault) (before later : Bool) → MatchOption stopped ((before ≡ false) × (later ≡ false)) (IsFaultBetween before later) → later ≡ true → ¬ GoesOn stopped
+ends_there None before later between is on = true≢false (sym is ∙ between.1)
+ends_there (Some Memory) before later between is on = true≢false (sym is ∙ between.1)
+ends_there (Some (Store kind)) before later between is on = on
+ends_there (Some Failed) before later between is on = on
+ends_there (Some Foreign) before later between is on = on
+ends_there (Some Newer) before later between is on = on
 
-told_as : (stopped : Option StoreFault) (before later : Bool) → before ≡ false → MatchOption stopped ((before ≡ false) × (later ≡ false)) (Marks before later) → (fault : StoreFault) → Marks later true fault → IsToldAfter stopped fault
-told_as stopped before later usable marks Memory closes = absurd (true≢false closes.1)
-told_as stopped before later usable marks (Store kind) closes = goes_on stopped before later usable marks closes.0
-told_as stopped before later usable marks Failed closes = ends_there stopped before later marks closes.0
-told_as stopped before later usable marks Foreign closes = absurd closes
-told_as stopped before later usable marks Newer closes = absurd closes
+told_as : (stopped : Option StoreFault) (before later : Bool) → before ≡ false → MatchOption stopped ((before ≡ false) × (later ≡ false)) (IsFaultBetween before later) → (fault : StoreFault) → IsFaultBetween later true fault → IsToldAfter stopped fault
+told_as stopped before later usable between Memory closes = absurd (true≢false closes.1)
+told_as stopped before later usable between (Store kind) closes = goes_on stopped before later usable between closes.0
+told_as stopped before later usable between Failed closes = ends_there stopped before later between closes.0
+told_as stopped before later usable between Foreign closes = absurd closes
+told_as stopped before later usable between Newer closes = absurd closes
 
-pub told_after : {F L : Type 0} (close : Result F (StoreFault × L)) (stopped : Option StoreFault) (before later : Bool) → before ≡ false → MatchOption stopped ((before ≡ false) × (later ≡ false)) (Marks before later)
-    → MatchResult close (λ _. later ≡ false) (λ e. Marks later true e.0) → IfErr close (λ e. IsToldAfter stopped e.0)
-told_after (Ok files) stopped before later usable marks closes = tt
-told_after (Err e) stopped before later usable marks closes = told_as stopped before later usable marks e.0 closes
+pub told_after : {F L : Type 0} (close : Result F (StoreFault × L)) (stopped : Option StoreFault) (before later : Bool) → before ≡ false → MatchOption stopped ((before ≡ false) × (later ≡ false)) (IsFaultBetween before later)
+    → MatchResult close (λ _. later ≡ false) (λ e. IsFaultBetween later true e.0) → IfErr close (λ e. IsToldAfter stopped e.0)
+told_after (Ok files) stopped before later usable between closes = tt
+told_after (Err e) stopped before later usable between closes = told_as stopped before later usable between e.0 closes

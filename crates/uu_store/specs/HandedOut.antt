@@ -5,9 +5,8 @@ use Rattle.std.specs.declared.alloc.Global.{Global}
 use Rattle.uu_core.specs.declared.job.JobHead.{JobHead}
 use Rattle.uu_core.specs.declared.system.SystemRow.{SystemRow}
 use Rattle.uu_core.specs.State.{Job, last_second, most_bytes}
-use Rattle.uu_schema.specs.declared.fault.StoreFault.{StoreFault}
-use Rattle.uu_schema.specs.declared.fault.StoreFault.TheVariants.{Store}
-use Rattle.uu_schema.specs.declared.fault.StoreKind.TheVariants.{Database}
+use Rattle.sqlite.specs.declared.error.Error.{Error}
+use Rattle.sqlite.specs.declared.error.Error.TheVariants.{QueryReturnedNoRows}
 
 -- a head and the bytes that go with it
 abbrev pub job_with : JobHead → List ℕ → Job
@@ -38,7 +37,8 @@ abbrev pub is_found_bounded : Option (JobHead × Vec ℕ Global) → Bool
 is_found_bounded None = true
 is_found_bounded (Some job) = is_bounded job.0
 
--- an answer within the limits is handed out as it is, and any other is a failure of the store
-abbrev pub within_limits : {T : Type 0} → Bool → T → Result T StoreFault
+-- an answer within the limits is handed out as it is, and any other is a row that the format does
+-- not allow
+abbrev pub within_limits : {T : Type 0} → Bool → T → Result T Error
 within_limits true answer = Ok answer
-within_limits false answer = Err (Store Database)
+within_limits false answer = Err QueryReturnedNoRows

@@ -1,13 +1,14 @@
-pub mod Calls
 pub mod HandedOut
 pub mod Kept
 pub mod Spool
 pub mod Runs
+pub mod Commands
 pub mod Exchanges
 pub mod Stretches
 pub mod Acknowledged
 pub mod Remembered
 pub mod Openings
+pub mod Taken
 pub mod Questions
 pub mod Files
 pub mod Closing

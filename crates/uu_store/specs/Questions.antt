@@ -1,14 +1,15 @@
 -- What a question of a spool does.
-use Rattle.std.specs.Prelude.{◌≡◌, false, [], IsTrue, Result, Err, IfOk, IfErr, MatchResult}
+use Rattle.std.specs.Prelude.{◌≡◌, false, [], IsTrue, IsErr, Result, Ok, Err, IfOk, IfErr, MatchResult}
+use Rattle.sqlite.specs.declared.error.Error.{Error}
 use Rattle.sqlite.specs.Store.{Ghosts}
 use Rattle.sqlite.specs.State.{HasCleanDisk}
 use Rattle.uu_core.specs.State.{State}
 use Rattle.uu_schema.specs.declared.fault.StoreFault.{StoreFault}
 use Rattle.uu_schema.specs.declared.fault.StoreFault.TheVariants.{Memory, Failed}
-use Rattle.uu_schema.specs.Steps.{StaysUnclean}
+use Rattle.uu_schema.specs.Steps.{CommitsNothing, StaysUnclean, UnchangedIf}
 use Rattle.uu_schema.specs.Encoded.{Leaves}
 use Rattle.uu_store.specs.declared.spool.Spool.{Spool}
-use Rattle.uu_store.specs.Spool.{disk, failure_of, has_failed, Shows, Marks, Notes}
+use Rattle.uu_store.specs.Spool.{connection_of, disk, failure_of, has_failed, Shows, IsFaultBetween, Notes}
 use Rattle.uu_store.specs.Runs.{Ran, fault_in}
 
 -- A question is answered by the state that the spool shows, and changes nothing, whatever it
@@ -16,7 +17,7 @@ use Rattle.uu_store.specs.Runs.{Ran, fault_in}
 pub record IsQuestion {S : Type 0} {g : Ghosts S} {T : Type 0} (IsAnswer : State → T → Type 0) (old new : Spool S g) (r : Result T StoreFault) : Type 0 where
   -- it is answered where the spool can be used, before and afterwards; else the fault says how that
   -- is
-  pub marked : MatchResult r (λ _. (has_failed old ≡ false) × (has_failed new ≡ false)) (Marks (has_failed old) (has_failed new))
+  pub marked : MatchResult r (λ _. (has_failed old ≡ false) × (has_failed new ≡ false)) (IsFaultBetween (has_failed old) (has_failed new))
   pub noted : IfErr r (Notes (failure_of new))
   -- on a clean store the answer is that of the state, which the spool shows as before, for want of
   -- memory too
@@ -29,3 +30,13 @@ pub record IsQuestion {S : Type 0} {g : Ghosts S} {T : Type 0} (IsAnswer : State
   pub ran : Ran [] old new [] (fault_in r)
   -- a spool that failed is left as it was
   pub failed : IsTrue (has_failed old) → (r ≡ Err Failed) × (new ≡ old)
+
+-- What the caller is told of an answer to a question over the connection: the answer as it is, or of
+-- an error the fault, which is noted. Want of memory is told only where the connection was open and
+-- nothing changed.
+pub record IsTold {S : Type 0} {g : Ghosts S} {T : Type 0} (asked : Result T Error) (old new : Spool S g) (r : Result T StoreFault) : Type 0 where
+  pub same : MatchResult r (λ answer. (asked ≡ Ok answer) × (new ≡ old)) (λ _. IsErr asked)
+  pub marked : IfErr r (IsFaultBetween false (has_failed new))
+  pub noted : IfErr r (Notes (failure_of new))
+  pub memory : UnchangedIf g (r ≡ Err Memory) (connection_of old) (connection_of new)
+  pub survives : CommitsNothing g (connection_of old) (connection_of new)

@@ -34,12 +34,12 @@ pub record Shows {S : Type 0} {g : Ghosts S} (spool : Spool S g) (s : State) : T
   pub encodes : Encodes (disk spool).now s
 
 -- which fault a call gives, by whether the spool had failed before and has afterwards
-abbrev pub Marks : Bool → Bool → StoreFault → Type 0
-Marks before afterwards Memory = (before ≡ false) × (afterwards ≡ false)
-Marks before afterwards (Store kind) = (before ≡ false) × (afterwards ≡ true)
-Marks before afterwards Failed = (before ≡ true) × (afterwards ≡ true)
-Marks before afterwards Foreign = ⊥
-Marks before afterwards Newer = ⊥
+abbrev pub IsFaultBetween : Bool → Bool → StoreFault → Type 0
+IsFaultBetween before afterwards Memory = (before ≡ false) × (afterwards ≡ false)
+IsFaultBetween before afterwards (Store kind) = (before ≡ false) × (afterwards ≡ true)
+IsFaultBetween before afterwards Failed = (before ≡ true) × (afterwards ≡ true)
+IsFaultBetween before afterwards Foreign = ⊥
+IsFaultBetween before afterwards Newer = ⊥
 
 -- a fault of the store is kept, of the kind that it was told to be
 abbrev pub Notes : Option StoreKind → StoreFault → Type 0

@@ -1,10 +1,8 @@
 // Taking a database as a spool.
-ghost use Rattle.std.specs.Prelude.{◌≡◌, ◌≢◌, false, Err, IfErr};
+ghost use Rattle.std.specs.Prelude.{◌≡◌, ◌≢◌, IfErr};
 ghost use Rattle.sqlite.specs.Held.{state};
-ghost use Rattle.sqlite.specs.State.{HasCleanDisk};
-ghost use Rattle.uu_schema.specs.Steps.{Rests};
-ghost use Rattle.uu_schema.specs.Encoded.{EncodesAs};
-ghost use Rattle.uu_adopt.specs.FoundTables.{HasNone, HasNoneOrAll, HasUnversionedTables, IsEarlier};
+ghost use Rattle.uu_schema.specs.Steps.{IsIdle};
+ghost use Rattle.uu_adopt.specs.FoundTables.{HasUnversionedTables};
 
 use crate::laws::no_answered_command_is_lost_over;
 use crate::spool::Spool;
@@ -20,21 +18,13 @@ pub struct AdoptFault<S: Alter> {
     pub fault: StoreFault,
     /// The connection that was handed in.
     pub conn: Connection<S>,
-    ghost idle: { conn.in_transaction ≡ false },
+    ghost idle: { IsIdle conn },
 }
 
 impl<S: Alter> Spool<S> {
-    ghost use Rattle.std.specs.Prelude.{IfOk, IsErrAnd};
-    ghost use Rattle.uu_schema.specs.Steps.{Stands};
-    ghost use Rattle.uu_schema.specs.declared.version.Version.{Version};
-    ghost use Rattle.uu_schema.specs.Schema.{site_of, no_schema};
-    ghost use Rattle.sqlite.specs.Tree.{Trees};
-    ghost use Rattle.uu_core.specs.State.{empty};
-    ghost use Rattle.uu_schema.specs.Encoded.{Leaves};
-    ghost use Rattle.uu_adopt.specs.Version.{IsLater};
-    ghost use Rattle.uu_adopt.specs.Adoption.{UnlessFailed, IsAsBefore, StopsAs};
-    ghost use Rattle.uu_store.specs.Spool.{disk, has_failed};
-    ghost use Rattle.uu_store.specs.Stretches.{Adopted, TurnedAway};
+    ghost use Rattle.std.specs.Prelude.{false, IfOk, IsErrAnd};
+    ghost use Rattle.uu_store.specs.Spool.{has_failed};
+    ghost use Rattle.uu_store.specs.Taken.{IsTaken, IsHandedBack};
     ghost use Rattle.uu_store.specs.Remembered.{Remembers};
 
     /// Takes the database as a spool: one without the spool's tables gets them, in one transaction.
@@ -53,44 +43,19 @@ impl<S: Alter> Spool<S> {
     /// tables, or with no tables, is as it was, and so is what a stop leaves. Every row is read; of
     /// a job's bytes only their number is handed out.
     pub fn adopt(alloc: Global, conn: Connection<S>) -> Result<Spool<S>, AdoptFault<S>>
-        requires { conn.in_transaction ≡ false }
+        requires { IsIdle conn }
 
         // What it gives can be used, and `Failed` never comes.
         ensures usable { IfOk result (λ spool. has_failed spool ≡ false) }
-        ensures never_failed { IfErr result (λ e. e.fault ≢ StoreFault.Failed) }
+        ensures never_failed { IfErr result (λ back. back.fault ≢ StoreFault.Failed) }
 
-        // A database that encodes a state is taken with it, and an empty one becomes an empty
-        // spool. One that encodes no state isn't taken.
-        ensures adopted { IfOk result (λ spool. Adopted conn spool) }
-        ensures encoded_before { IfOk result (λ spool. (v : Version) → HasCleanDisk (disk spool) → Stands (site_of v) (state S.Store conn).now → (s : _) × EncodesAs v (state S.Store conn).now s) }
+        // What was found, what is shown of it, and what a stop leaves.
+        ensures taken { IfOk result (IsTaken conn) }
+        ensures handed_back { IfErr result (IsHandedBack conn) }
 
-        // What is taken had none of the spool's tables, or all of a version. One in which a name of
-        // theirs is taken and no table tells a version is foreign, and comes back as it was handed
-        // in.
-        ensures taken_by_tables { IfOk result (λ spool. HasNoneOrAll (state S.Store conn).now.schema) }
-        ensures other_is_foreign { HasUnversionedTables (state S.Store conn).now.schema → IsErrAnd result (λ e. (e.fault ≡ StoreFault.Foreign) × (e.conn ≡ conn)) }
-
-        // A spool is never refused by name, and neither is a database that has none of the tables.
-        ensures spool_never_refused { IfErr result (λ e. HasCleanDisk (state S.Store e.conn) → (v : Version) (s : _) → EncodesAs v (state S.Store conn).now s → (e.fault ≢ StoreFault.Foreign) × (e.fault ≢ StoreFault.Newer)) }
-        ensures empty_never_refused { IfErr result (λ e. HasNone (state S.Store conn).now.schema → (e.fault ≢ StoreFault.Foreign) × (e.fault ≢ StoreFault.Newer)) }
-
-        // Of a database that has the tables of a version, a refusal by name tells why.
-        ensures foreign_encodes_no_state { IfErr result (λ e. HasCleanDisk (state S.Store e.conn) → (v : Version) → Stands (site_of v) (state S.Store conn).now → e.fault ≡ StoreFault.Foreign → (¬ IsLater (state S.Store conn).now.trees) × ((s : _) → ¬ EncodesAs v (state S.Store conn).now s)) }
-        ensures newer_names_a_later_version { IfErr result (λ e. HasCleanDisk (state S.Store e.conn) → (v : Version) → Stands (site_of v) (state S.Store conn).now → e.fault ≡ StoreFault.Newer → IsLater (state S.Store conn).now.trees) }
-
-        // A refusal leaves it as it was, also where the tables are of another shape or others stand
-        // beside them.
-        ensures refusal_changes_nothing { IfErr result (λ e. HasCleanDisk (state S.Store e.conn) → Rests (state S.Store conn) → UnlessFailed e.fault (IsAsBefore (state S.Store conn) (state S.Store e.conn))) }
-
-        // What a stop at its end leaves: the state that was encoded, of an earlier version in
-        // that or in version 3, and of an empty one nothing or an empty spool. Once it was taken,
-        // version 3 alone is left, and after a refusal what was there, unless the store failed.
-        ensures stop_when_taken { IfOk result (λ spool. HasCleanDisk (disk spool) → Rests (state S.Store conn) → StopsAs (state S.Store conn) (disk spool)) }
-        ensures stop_when_created { IfOk result (λ spool. HasCleanDisk (disk spool) → Rests (state S.Store conn) → Stands no_schema (state S.Store conn).now → Leaves (disk spool) empty) }
-        ensures stop_when_migrated { IfOk result (λ spool. HasCleanDisk (disk spool) → Rests (state S.Store conn) → (v : Version) → IsEarlier v → (s : _) → EncodesAs v (state S.Store conn).now s → Leaves (disk spool) s) }
-        ensures stop_when_turned_away { IfErr result (λ e. HasCleanDisk (state S.Store e.conn) → Rests (state S.Store conn) → StopsAs (state S.Store conn) (state S.Store e.conn)) }
-        ensures stop_when_refused { IfErr result (λ e. HasCleanDisk (state S.Store e.conn) → Rests (state S.Store conn) → UnlessFailed e.fault ((trees : Trees) → (state S.Store e.conn).may_leave trees → trees ≡ (state S.Store conn).now.trees)) }
-        ensures turned_away { IfErr result (λ e. TurnedAway S.Store conn e.conn) }
+        // A database in which a name of the spool's tables is taken and no table tells a version is
+        // foreign, and comes back as it was handed in.
+        ensures other_is_foreign { HasUnversionedTables (state S.Store conn).now.schema → IsErrAnd result (λ back. (back.fault ≡ StoreFault.Foreign) × (back.conn ≡ conn)) }
 
         // No answered command is lost, over any stretches before.
         ensures remembers { IfOk result (Remembers conn) }

@@ -5,7 +5,7 @@ ghost use Rattle.sqlite.specs.View.{IsClean};
 ghost use Rattle.sqlite_store.specs.FileStore.{view};
 ghost use Rattle.uu_schema.specs.declared.fault.StoreKind.{StoreKind};
 ghost use Rattle.uu_store.specs.Closing.{HasCause, IsClosed};
-ghost use Rattle.uu_store.specs.Spool.{connection_of, has_failed, Marks};
+ghost use Rattle.uu_store.specs.Spool.{connection_of, has_failed, IsFaultBetween};
 ghost use Rattle.uu_store.specs.Stretches.{IsLetGo};
 
 use crate::spool::Spool;
@@ -26,7 +26,7 @@ impl<D: Disk + Drop> Spool<FileStore<D>> {
     pub fn close(self) -> Result<Files<D>, (StoreFault, FileStore<D>)>
         ensures closed { IfOk result (IsClosed self) }
         ensures let_go { IfErr result (λ e. IsLetGo over_files (connection_of self).store e.1) }
-        ensures marked { MatchResult result (λ _. has_failed self ≡ false) (λ e. Marks (has_failed self) true e.0) }
+        ensures marked { MatchResult result (λ _. has_failed self ≡ false) (λ e. IsFaultBetween (has_failed self) true e.0) }
         ensures numbered { IsTrue (has_failed self) → IfErr result (λ e. IsClean (view e.1) → IsTrue (view e.1).is_numbered) }
         ensures cause { IfErr result (λ e. IsClean (view e.1) → (kind : StoreKind) → e.0 ≡ StoreFault.Store kind → HasCause kind (connection_of self).store e.1) }
     {

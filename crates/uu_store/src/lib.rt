@@ -2,9 +2,9 @@
 #![tactic(auto)]
 
 mod adopt;
-mod asked;
 mod close;
 pub mod laws;
+mod limits;
 mod open;
 mod remains;
 mod run;

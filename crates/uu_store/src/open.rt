@@ -1,21 +1,16 @@
 // Opening the spool's files.
 ghost use Rattle.std.specs.Prelude.{◌≡◌, ◌≢◌, false, codes, IfOk, IfErr, IsErrAnd};
 ghost use Rattle.sqlite.specs.Files.{over_files};
-ghost use Rattle.sqlite.specs.Held.{state};
 ghost use Rattle.sqlite.specs.State.{HasCleanDisk};
 ghost use Rattle.sqlite_wal.specs.Files.{image_at};
 ghost use Rattle.sqlite_wal.specs.Recovery.{Image};
 ghost use Rattle.uu_core.specs.State.{State};
-ghost use Rattle.uu_schema.specs.Steps.{Rests, Stands};
+ghost use Rattle.uu_schema.specs.Steps.{IsIdle};
 ghost use Rattle.uu_schema.specs.declared.fault.StoreKind.TheVariants.{Database};
-ghost use Rattle.uu_schema.specs.declared.version.Version.{Version};
-ghost use Rattle.uu_schema.specs.Schema.{site_of};
-ghost use Rattle.uu_adopt.specs.Adoption.{StopsAs};
-ghost use Rattle.uu_schema.specs.Encoded.{EncodesAs, Leaves};
-ghost use Rattle.uu_adopt.specs.FoundTables.{HasNoneOrAll};
+ghost use Rattle.uu_schema.specs.Encoded.{Leaves};
 ghost use Rattle.uu_store.specs.Openings.{ImageHasUnversionedTables, ImageKeeps, IsFoundIfClean, IsRightFault, IsNotTaken, LeavesAlone, LeavesAsKept, LeavesSame, Started, remains_of};
 ghost use Rattle.uu_store.specs.Spool.{disk, has_failed, Shows};
-ghost use Rattle.uu_store.specs.Stretches.{Adopted};
+ghost use Rattle.uu_store.specs.Taken.{IsTaken};
 
 use crate::adopt::AdoptFault;
 use crate::remains::{OpenFault, open_files};
@@ -85,7 +80,7 @@ fn adopted_in_files<D: Disk + Drop>(
     alloc: Global,
     conn: Connection<FileStore<D>>,
 ) -> Result<Spool<FileStore<D>>, OpenFault<D>>
-    requires { conn.in_transaction ≡ false }
+    requires { IsIdle conn }
     ensures usable { IfOk result (λ spool. has_failed spool ≡ false) }
     ensures never_failed { IfErr result (λ e. e.fault ≢ StoreFault.Failed) }
     ensures started { (before : Image) → IsFoundIfClean over_files before conn → IfOk result (Started before) }
@@ -108,18 +103,15 @@ pub(crate) fn adopted<S: Alter + Drop>(
     alloc: Global,
     conn: Connection<S>,
 ) -> Result<Spool<S>, (StoreFault, S)>
-    requires { conn.in_transaction ≡ false }
+    requires { IsIdle conn }
     ensures usable { IfOk result (λ spool. has_failed spool ≡ false) }
     ensures never_failed { IfErr result (λ e. e.0 ≢ StoreFault.Failed) }
-    ensures adopted { IfOk result (Adopted conn) }
-    ensures taken { IfOk result (λ spool. HasNoneOrAll (state S.Store conn).now.schema) }
-    ensures encoded { IfOk result (λ spool. (v : Version) → HasCleanDisk (disk spool) → Stands (site_of v) (state S.Store conn).now → (s : State) × EncodesAs v (state S.Store conn).now s) }
-    ensures stop { IfOk result (λ spool. HasCleanDisk (disk spool) → Rests (state S.Store conn) → StopsAs (state S.Store conn) (disk spool)) }
+    ensures taken { IfOk result (IsTaken conn) }
     ensures alone { IfOk result (λ spool. (s : State) → Shows spool s → Leaves (disk spool) s) }
     ensures away { IfErr result (λ e. IsNotTaken S.Store conn e.1 e.0) }
 {
     match Spool::adopt(alloc, conn) {
-        Ok(taken) => Ok(taken),
+        Ok(spool) => Ok(spool),
         Err(AdoptFault { fault, conn }) => Err((fault, conn.into_store())),
     }
 }

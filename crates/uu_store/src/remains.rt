@@ -1,18 +1,18 @@
 // What is left of the files of a spool that was not opened.
-ghost use Rattle.std.specs.Prelude.{◌≡◌, ◌≢◌, false, codes, IfOk, IfErr, IsErrAnd};
+ghost use Rattle.std.specs.Prelude.{◌≡◌, ◌≢◌, codes, IfOk, IfErr, IsErrAnd};
 ghost use Rattle.sqlite.specs.Files.{over_files};
 ghost use Rattle.sqlite.specs.declared.error.Error.TheVariants.{SqliteFailure};
 ghost use Rattle.sqlite.specs.declared.error.ErrorCode.TheVariants.{OutOfMemory};
 ghost use Rattle.sqlite_wal.specs.Files.{image_at};
 ghost use Rattle.uu_schema.specs.Faults.{kind_of_error};
+ghost use Rattle.uu_schema.specs.Steps.{IsIdle};
 ghost use Rattle.uu_schema.specs.declared.fault.StoreKind.TheVariants.{Database};
 ghost use Rattle.uu_store.specs.Openings.{IsFoundIfClean, IsRightFault, IsOfNoContents, LeavesAlone, LeavesAsKept, remains_of, remains_of_opening};
 
 use sqlite::{Connection, Error, FileStore, Leftover, Start};
 use sqlite_disk::Disk;
 use uu_files::{SpoolFile, open_database};
-use uu_schema::{StoreFault, kind_of};
-use uu_schema::is_memory;
+use uu_schema::{StoreFault, is_memory, kind_of};
 
 /// What is left of the two files of a spool that was not opened.
 #[derive(Drop)]
@@ -89,7 +89,7 @@ pub(crate) fn open_files<T: Start>(
     path: &str,
     start: T,
 ) -> Result<Connection<FileStore<SpoolFile<T>>>, OpenFault<SpoolFile<T>>>
-    ensures idle { IfOk result (λ conn. conn.in_transaction ≡ false) }
+    ensures idle { IfOk result IsIdle }
     ensures found { IfOk result (IsFoundIfClean over_files (image_at T.Start)) }
     ensures never_failed { IfErr result (λ e. e.fault ≢ StoreFault.Failed) }
     ensures named { IfErr result (λ e. IsRightFault (image_at T.Start) e.fault (remains_of e)) }

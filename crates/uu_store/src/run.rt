@@ -35,7 +35,8 @@ fn keep(replies: &mut Vec<Reply>, reply: Reply)
 impl<S: Alter> Spool<S> {
     ghost use Rattle.std.specs.Prelude.{◌≢◌, IsTrue, IfOk, IfErr, Some, MatchOption};
     ghost use Rattle.sqlite.specs.View.{IsClean};
-    ghost use Rattle.uu_store.specs.Spool.{failure_of, Marks, Notes};
+    ghost use Rattle.uu_schema.specs.Steps.{IsIdle};
+    ghost use Rattle.uu_store.specs.Spool.{failure_of, IsFaultBetween, Notes};
     ghost use Rattle.uu_store.specs.Runs.{Ran};
     ghost use Rattle.uu_store.specs.Exchanges.{exchange_of, not_given};
     ghost use Rattle.uu_store.specs.Openings.{IsNotTaken};
@@ -52,7 +53,7 @@ impl<S: Alter> Spool<S> {
 
         // Nothing stopped it exactly where all were answered, and the spool had not failed before.
         ensures every { (result.stopped ≡ None) ↔ ((has_failed self.old ≡ false) × (length result.replies.items ≡ length commands.items)) }
-        ensures marked { MatchOption result.stopped ((has_failed self.old ≡ false) × (has_failed self.new ≡ false)) (Marks (has_failed self.old) (has_failed self.new)) }
+        ensures marked { MatchOption result.stopped ((has_failed self.old ≡ false) × (has_failed self.new ≡ false)) (IsFaultBetween (has_failed self.old) (has_failed self.new)) }
 
         // The fault that stopped it is the one that its command gave, of that kind.
         ensures noted { IfSome result.stopped (Notes (failure_of self.new)) }
@@ -103,7 +104,7 @@ impl<S: Alter> Spool<S> {
     ) -> Result<(RunEnd, S), (StoreFault, S)>
     where
         S: Drop,
-        requires { conn.in_transaction ≡ false }
+        requires { IsIdle conn }
         ensures passed { IfOk result (λ end. IsClean (S.Store.view end.1) → Passed (stretch S.Store conn (exchange_of commands.items end.0.replies.items end.0.stopped) end.1)) }
 
         // Nothing stopped it exactly where all were answered.

@@ -1,13 +1,25 @@
 // The spool over one connection.
-ghost use Rattle.std.specs.Prelude.{◌≡◌, false};
+ghost use Rattle.std.specs.Prelude.{◌≡◌, false, IfErr};
+ghost use Rattle.sqlite.specs.Held.{state};
+ghost use Rattle.uu_core.specs.State.{State, IsWellFormed};
+ghost use Rattle.uu_tables.specs.Plans.{AreFacts};
+ghost use Rattle.uu_schema.specs.Faults.{IsFaultOfThisCall};
+ghost use Rattle.uu_schema.specs.Steps.{IsIdle, StaysUnclean};
+ghost use Rattle.uu_statements.specs.Step.{IsToldStep};
 
-use crate::asked;
-use sqlite::{Alter, Connection};
+use crate::limits::{bounded_heads, bounded_job, timed_systems};
+use sqlite::{Alter, Connection, Error};
 use std::alloc::Global;
 use std::mem::drop;
+use uu_core::laws::{commands_are_sound, states_stay_well_formed};
 use uu_core::{Command, Due, Filter, JobHead, Reply, SystemRow};
 use uu_names::SiteName;
-use uu_schema::{StoreFault, StoreKind};
+use uu_questions::{
+    all_systems, entry_of_host, facts_for, job_of_number, list_jobs, next_number, systems_due,
+};
+use uu_schema::{StoreFault, StoreKind, store_fault};
+use uu_statements::carry_out;
+use uu_tables::{Facts, make_plan};
 use uu_times::Moment;
 
 /// A spool, over a connection that it owns.
@@ -20,32 +32,30 @@ pub struct Spool<S: Alter> {
     conn: Connection<S>,
     // Which part of the store failed, once a call answered that it did.
     failure: Option<StoreKind>,
-    ghost idle: { conn.in_transaction ≡ false },
+    ghost idle: { IsIdle conn },
 }
 
 impl<S: Alter> Spool<S> {
-    ghost use Rattle.std.specs.Prelude.{[], ◌∷◌, IsTrue, IfOk, IfErr, IfSome, Err, MatchResult, option_map, map, length};
+    ghost use Rattle.std.specs.Prelude.{[], ◌∷◌, IsTrue, IfOk, IfSome, Err, MatchResult, option_map, map, length};
     ghost use Rattle.std.specs.List.{AllByRecursion};
-    ghost use Rattle.uu_core.specs.State.{IsWellFormed, head_of, job_at, entry_at};
+    ghost use Rattle.uu_core.specs.State.{head_of, job_at, entry_at};
     ghost use Rattle.uu_core.specs.Due.{AreDue};
     ghost use Rattle.uu_questions.specs.Listing.{listed};
     ghost use Rattle.uu_questions.specs.Assembly.{holding};
     ghost use Rattle.uu_store.specs.HandedOut.{IsBounded, IsTimed, job_shown};
     ghost use Rattle.sqlite.specs.State.{HasCleanDisk};
-    ghost use Rattle.sqlite.specs.Held.{state};
     ghost use Rattle.sqlite.specs.View.{IsClean};
     ghost use Rattle.uu_core.specs.After.{after};
-    ghost use Rattle.uu_schema.specs.Faults.{IsFaultOfThisCall};
-    ghost use Rattle.uu_schema.specs.Steps.{StaysUnclean};
     ghost use Rattle.uu_schema.specs.Encoded.{Leaves, LeavesEither};
-    ghost use Rattle.uu_store.specs.Spool.{connection_of, disk, failure_of, has_failed, Shows, Marks, Notes};
-    ghost use Rattle.uu_store.specs.Questions.{IsQuestion};
+    ghost use Rattle.uu_store.specs.Spool.{connection_of, disk, failure_of, has_failed, Shows, IsFaultBetween, Notes};
+    ghost use Rattle.uu_store.specs.Commands.{IsStep};
+    ghost use Rattle.uu_store.specs.Questions.{IsQuestion, IsTold};
     ghost use Rattle.uu_store.specs.Runs.{Ran, reply_in, fault_in};
     ghost use Rattle.uu_store.specs.Stretches.{IsLetGo};
 
     /// A spool over a connection whose tables are those of one.
     pub(crate) fn over(conn: Connection<S>) -> Spool<S>
-        requires { conn.in_transaction ≡ false }
+        requires { IsIdle conn }
         ensures connection { connection_of result ≡ conn }
         ensures usable { has_failed result ≡ false }
     {
@@ -58,7 +68,7 @@ impl<S: Alter> Spool<S> {
     /// Gives the connection back, with no transaction open on it. It takes no memory.
     pub fn release(self) -> Connection<S>
         ensures connection { result ≡ connection_of self }
-        ensures idle { result.in_transaction ≡ false }
+        ensures idle { IsIdle result }
         ensures stop { (s : _) → Shows self s → Leaves (state S.Store result) s }
     {
         let Spool { conn, failure: _ } = self;
@@ -101,16 +111,30 @@ impl<S: Alter> Spool<S> {
 
     // After a fault of the store no statement is given any more.
     fn noted(&mut self, fault: StoreFault) -> StoreFault
-        requires usable { has_failed self.old ≡ false }
+        requires { has_failed self.old ≡ false }
         ensures same { result ≡ fault }
         ensures connection { connection_of self.new ≡ connection_of self.old }
-        ensures marked { IsFaultOfThisCall fault → Marks (has_failed self.old) (has_failed self.new) fault }
+        ensures marked { IsFaultOfThisCall fault → IsFaultBetween false (has_failed self.new) fault }
         ensures noted { Notes (failure_of self.new) fault }
     {
         if let StoreFault::Store(kind) = fault {
             self.failure = Some(kind);
         }
         fault
+    }
+
+    // What the caller is told of an answer to a question over the connection.
+    fn told<T: Drop>(&mut self, asked: Result<T, Error>) -> Result<T, StoreFault>
+        requires { has_failed self.old ≡ false }
+        ensures { IsTold asked self.old self.new result }
+    {
+        match asked {
+            Ok(answer) => Ok(answer),
+            Err(error) => {
+                let fault = store_fault(&mut self.conn, &error);
+                Err(self.noted(fault))
+            }
+        }
     }
 
     /// Carries out one command. Its last call of the database is the commit; a refused command
@@ -121,7 +145,7 @@ impl<S: Alter> Spool<S> {
     /// not at all, which the next opening shows; from then on every command and question answers
     /// `Failed` and does nothing.
     pub fn command(&mut self, alloc: Global, command: Command) -> Result<Reply, StoreFault>
-        ensures marked { MatchResult result (λ _. (has_failed self.old ≡ false) × (has_failed self.new ≡ false)) (Marks (has_failed self.old) (has_failed self.new)) }
+        ensures marked { MatchResult result (λ _. (has_failed self.old ≡ false) × (has_failed self.new ≡ false)) (IsFaultBetween (has_failed self.old) (has_failed self.new)) }
         ensures noted { IfErr result (Notes (failure_of self.new)) }
 
         // On a clean store a command is one step of the machine.
@@ -144,9 +168,36 @@ impl<S: Alter> Spool<S> {
             drop(command);
             return Err(StoreFault::Failed);
         }
-        let answer = asked::command(alloc, &mut self.conn, &command);
+        let facts = facts_for(alloc, &mut self.conn, &command);
+        match self.told(facts) {
+            Ok(facts) => self.carry_out(alloc, facts, command),
+            Err(fault) => {
+                drop(command);
+                Err(fault)
+            }
+        }
+    }
+
+    // Carries out a command of which these are the facts: its changes are planned, and made in one
+    // transaction.
+    fn carry_out(
+        &mut self,
+        alloc: Global,
+        facts: Facts,
+        command: Command,
+    ) -> Result<Reply, StoreFault>
+        requires { has_failed self.old ≡ false }
+        ensures marked { MatchResult result (λ _. has_failed self.new ≡ false) (IsFaultBetween false (has_failed self.new)) }
+        ensures noted { IfErr result (Notes (failure_of self.new)) }
+        ensures step { (s : State) → AreFacts facts s command → IsStep s command self.old self.new result }
+        ensures clean { StaysUnclean (disk self.old) (disk self.new) }
+    {
+        commands_are_sound(&command);
+        states_stay_well_formed();
+        let reply = plan_and_carry_out(alloc, &mut self.conn, &facts, &command);
+        drop(facts);
         drop(command);
-        match answer {
+        match reply {
             Ok(reply) => Ok(reply),
             Err(fault) => Err(self.noted(fault)),
         }
@@ -165,10 +216,8 @@ impl<S: Alter> Spool<S> {
         if self.is_failed() {
             return Err(StoreFault::Failed);
         }
-        match asked::jobs(alloc, &mut self.conn, filter) {
-            Ok(answer) => Ok(answer),
-            Err(fault) => Err(self.noted(fault)),
-        }
+        let heads = list_jobs(alloc, &mut self.conn, filter);
+        self.told(heads.and_then(bounded_heads))
     }
 
     /// The job of this number with all its bytes, if it is there.
@@ -187,10 +236,8 @@ impl<S: Alter> Spool<S> {
         if self.is_failed() {
             return Err(StoreFault::Failed);
         }
-        match asked::job(alloc, &mut self.conn, number) {
-            Ok(answer) => Ok(answer),
-            Err(fault) => Err(self.noted(fault)),
-        }
+        let found = job_of_number(alloc, &mut self.conn, number);
+        self.told(found.and_then(bounded_job))
     }
 
     /// All systems with their definitions and call states, in byte order of their names.
@@ -205,10 +252,8 @@ impl<S: Alter> Spool<S> {
         if self.is_failed() {
             return Err(StoreFault::Failed);
         }
-        match asked::systems(alloc, &mut self.conn) {
-            Ok(answer) => Ok(answer),
-            Err(fault) => Err(self.noted(fault)),
-        }
+        let systems = all_systems(alloc, &mut self.conn);
+        self.told(systems.and_then(timed_systems))
     }
 
     /// What is due at the moment: each system that may be called then, with its first job by grade
@@ -222,10 +267,8 @@ impl<S: Alter> Spool<S> {
         if self.is_failed() {
             return Err(StoreFault::Failed);
         }
-        match asked::due(alloc, &mut self.conn, at) {
-            Ok(answer) => Ok(answer),
-            Err(fault) => Err(self.noted(fault)),
-        }
+        let dues = systems_due(alloc, &mut self.conn, at);
+        self.told(dues)
     }
 
     /// The text of the map entry of a host, if it is there.
@@ -238,10 +281,8 @@ impl<S: Alter> Spool<S> {
         if self.is_failed() {
             return Err(StoreFault::Failed);
         }
-        match asked::entry(alloc, &mut self.conn, host) {
-            Ok(answer) => Ok(answer),
-            Err(fault) => Err(self.noted(fault)),
-        }
+        let found = entry_of_host(alloc, &mut self.conn, host);
+        self.told(found)
     }
 
     /// The number that the next job gets.
@@ -254,9 +295,26 @@ impl<S: Alter> Spool<S> {
         if self.is_failed() {
             return Err(StoreFault::Failed);
         }
-        match asked::next(&mut self.conn) {
-            Ok(answer) => Ok(answer),
-            Err(fault) => Err(self.noted(fault)),
-        }
+        let next = next_number(&mut self.conn);
+        self.told(next)
+    }
+}
+
+// Plans the changes of a command, where these are the facts, and makes them in one transaction.
+fn plan_and_carry_out<S: Alter>(
+    alloc: Global,
+    conn: &mut Connection<S>,
+    facts: &Facts,
+    command: &Command,
+) -> Result<Reply, StoreFault>
+    requires { IsIdle conn.old }
+    ensures idle { IsIdle conn.new }
+    ensures fresh { IfErr result IsFaultOfThisCall }
+    ensures clean { StaysUnclean (state S.Store conn.old) (state S.Store conn.new) }
+    ensures step { (s : State) → IsWellFormed s → AreFacts facts.now s command.now → IsToldStep s command.now (state S.Store conn.old) (state S.Store conn.new) result }
+{
+    match make_plan(alloc, facts, command) {
+        Ok(plan) => carry_out(alloc, conn, plan),
+        Err(_) => Err(StoreFault::Memory),
     }
 }

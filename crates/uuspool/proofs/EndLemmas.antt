@@ -106,7 +106,7 @@ no_reply (s ∷ subjects) (r ∷ replies) none = absurd (omega arith)
 
 -- ---- the service
 
-pub marked_stop : (stopped : Option StoreFault) (Whole : Type 0) (before after : Bool) → MatchOption stopped Whole (spool.Marks before after) → IfSome stopped IsOfCall
+pub marked_stop : (stopped : Option StoreFault) (Whole : Type 0) (before after : Bool) → MatchOption stopped Whole (spool.IsFaultBetween before after) → IfSome stopped IsOfCall
 marked_stop None Whole before after marked = tt
 marked_stop (Some why) Whole before after marked = marked_is_of_call before after why marked
 

@@ -12,5 +12,5 @@ pub clean_before : {S : Type 0} {g : Ghosts S} (old new : Spool S g) → StaysUn
 clean_before old new later clean = omega (arith, later, clean)
 
 -- a fault of the second call is marked as one of both
-pub marked_later : (before mid after : Bool) (why : StoreFault) → before ≡ false → mid ≡ false → spool.Marks mid after why → spool.Marks before after why
-marked_later before mid after why was is marked = subst (λ (b : Bool). spool.Marks b after why) (is ∙ sym was) marked
+pub marked_later : (before mid after : Bool) (why : StoreFault) → before ≡ false → mid ≡ false → spool.IsFaultBetween mid after why → spool.IsFaultBetween before after why
+marked_later before mid after why was is marked = subst (λ (b : Bool). spool.IsFaultBetween b after why) (is ∙ sym was) marked

@@ -114,14 +114,14 @@ broken_of_nothing why output written (Err fault.Input) empty none = absurd none
 broken_of_nothing why output written (Err fault.Read) empty none = absurd none
 
 -- a fault of a call of a spool
-pub marked_is_of_call : (before after : Bool) (why : StoreFault) → spool.Marks before after why → IsOfCall why
+pub marked_is_of_call : (before after : Bool) (why : StoreFault) → spool.IsFaultBetween before after why → IsOfCall why
 marked_is_of_call before after store.Memory marked = tt
 marked_is_of_call before after (store.Store kind) marked = tt
 marked_is_of_call before after store.Failed marked = tt
 marked_is_of_call before after store.Foreign marked = marked
 marked_is_of_call before after store.Newer marked = marked
 
-pub marks_of_call : (before after : Bool) (why : StoreFault) → spool.Marks before after why → Marks before after (Some why)
+pub marks_of_call : (before after : Bool) (why : StoreFault) → spool.IsFaultBetween before after why → Marks before after (Some why)
 marks_of_call before after store.Memory marked = marked
 marks_of_call before after (store.Store kind) marked = marked.0
 marks_of_call before after store.Failed marked = marked
@@ -129,12 +129,12 @@ marks_of_call before after store.Foreign marked = marked
 marks_of_call before after store.Newer marked = marked
 
 pub marks_of_run : (before after : Bool) (stopped : Option StoreFault)
-    → MatchOption stopped ((before ≡ false) × (after ≡ false)) (spool.Marks before after) → Marks before after stopped
+    → MatchOption stopped ((before ≡ false) × (after ≡ false)) (spool.IsFaultBetween before after) → Marks before after stopped
 marks_of_run before after None marked = marked
 marks_of_run before after (Some why) marked = marks_of_call before after why marked
 
 pub noted_of_call : {S : Type 0} {g : Ghosts S} (old new : Spool S g) (why : StoreFault)
-    → spool.Marks (spool.has_failed old) (spool.has_failed new) why → IsNoted old new (Some why)
+    → spool.IsFaultBetween (spool.has_failed old) (spool.has_failed new) why → IsNoted old new (Some why)
 noted_of_call old new store.Memory marked = λ clean s shown kind same. absurd (cc)
 noted_of_call old new (store.Store why) marked = λ clean s shown kind same. marked.1
 noted_of_call old new store.Failed marked = λ clean s shown kind same. marked.1
@@ -142,7 +142,7 @@ noted_of_call old new store.Foreign marked = absurd marked
 noted_of_call old new store.Newer marked = absurd marked
 
 pub noted_of_run : {S : Type 0} {g : Ghosts S} (old new : Spool S g) (stopped : Option StoreFault)
-    → MatchOption stopped ((spool.has_failed old ≡ false) × (spool.has_failed new ≡ false)) (spool.Marks (spool.has_failed old) (spool.has_failed new))
+    → MatchOption stopped ((spool.has_failed old ≡ false) × (spool.has_failed new ≡ false)) (spool.IsFaultBetween (spool.has_failed old) (spool.has_failed new))
     → IsNoted old new stopped
 noted_of_run old new None marked = λ clean s shown kind same. absurd (cc)
 noted_of_run old new (Some why) marked = noted_of_call old new why marked

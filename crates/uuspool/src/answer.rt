@@ -17,7 +17,7 @@ ghost use Rattle.uu_report.specs.Reports.{IsJobLine, IsNextCallsReport, IsQueues
 ghost use Rattle.uu_request.specs.declared.request.Question.TheVariants as question;
 ghost use Rattle.uu_request.specs.declared.request.Request.TheVariants as request;
 ghost use Rattle.uu_store.specs.Runs.{Ran, fault_in};
-ghost use Rattle.uu_store.specs.Spool.{Marks, Shows, disk, has_failed};
+ghost use Rattle.uu_store.specs.Spool.{IsFaultBetween, Shows, disk, has_failed};
 ghost use Rattle.uu_times.specs.Printed.{sys_text};
 ghost use Rattle.uuspool.specs.Served.{IsServed};
 
@@ -194,7 +194,7 @@ fn systems_and_jobs<S: Alter>(
     filter: &Filter,
     spool: &mut Spool<S>,
 ) -> Result<(Vec<SystemRow>, Vec<JobHead>), StoreFault>
-    ensures marked { MatchResult result (λ _. (has_failed spool.old ≡ false) × (has_failed spool.new ≡ false)) (Marks (has_failed spool.old) (has_failed spool.new)) }
+    ensures marked { MatchResult result (λ _. (has_failed spool.old ≡ false) × (has_failed spool.new ≡ false)) (IsFaultBetween (has_failed spool.old) (has_failed spool.new)) }
     ensures answer { HasCleanDisk (disk spool.new) → (s : _) → Shows spool.old s
         → IfOk result (λ answer. (answer.0.items ≡ s.systems) × (answer.1.items ≡ listed filter.now s) × Shows spool.new s) }
     ensures ran { Ran [] spool.old spool.new [] (fault_in result) }

@@ -5,7 +5,7 @@ pub returns-in-Ok-clause-passed : goal.returns-in-Ok-clause-passed
 returns-in-Ok-clause-passed g c =
     let it = c.run_and_let_go.ensures.worked in
     let end = c.run_and_let_go.result.0 in
-    passed_worked g.S.Store c.args.conn c.args.commands.items c.run_and_let_go.result.1 c.in-Ok.spool it.ended end.replies.items end.stopped c.in-Ok.ensures.adopted it.ran it.let_go
+    passed_worked g.S.Store c.args.conn c.args.commands.items c.run_and_let_go.result.1 c.in-Ok.spool it.ended end.replies.items end.stopped c.in-Ok.ensures.taken.adopted it.ran it.let_go
 
 pub returns-in-Ok-clause-every : goal.returns-in-Ok-clause-every
 returns-in-Ok-clause-every g c = c.run_and_let_go.ensures.every c.in-Ok.ensures.usable
