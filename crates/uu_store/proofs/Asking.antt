@@ -1,5 +1,5 @@
 -- A question of a spool: what its three ends come to.
-use Rattle.std.proofs.Common.{◌≡◌, inl, inr, Bool, true, false, true≢false, [], None, Some, Result, Ok, Err, refl, sym, ap, subst, ◌∙◌, arith}
+use Rattle.std.proofs.Common.{◌≡◌, inl, inr, true, false, true≢false, [], None, Some, Result, Ok, Err, refl, sym, ap, subst, ◌∙◌, arith}
 use Rattle.std.specs.Prelude.{IsTrue, IfOk}
 use Rattle.sqlite.specs.declared.error.Error.{Error}
 use Rattle.sqlite.specs.Store.{Ghosts}
@@ -17,7 +17,6 @@ use Rattle.uu_adopt.proofs.Settling.{Settles, leaves}
 use Rattle.uu_store.specs.declared.spool.Spool.{Spool}
 use Rattle.uu_store.specs.Spool.{disk, failure_of, has_failed, Shows, IsFaultBetween, Notes}
 use Rattle.uu_store.specs.Questions.{IsQuestion, IsTold}
-use Rattle.uu_store.specs.Runs.{GoesOn}
 use Rattle.uu_store.proofs.Ending.{noted_memory}
 use Rattle.uu_store.proofs.Running.{memory_of, ran_asked, ran_failed}
 

@@ -1,5 +1,5 @@
 -- What is handed out of an answer.
-use Rattle.std.proofs.Common.{◌≡◌, ◌≤◌, ℕ, Bool, true, false, List, [], ◌∷◌, arith, Option, Some, None, option_map, length, Result, Ok, Err, sym, ap, subst, refl, ◌∙◌}
+use Rattle.std.proofs.Common.{◌≡◌, ◌≤◌, ℕ, Bool, true, false, List, [], ◌∷◌, arith, Option, Some, None, option_map, Result, Ok, Err, sym, ap, subst, refl}
 use Rattle.std.specs.Prelude.{IfOk, IfSome, MatchResult, Vec, nat_le}
 use Rattle.std.specs.List.{AllByRecursion, list_all}
 use Rattle.std.proofs.lemmas.Bool.{and_parts}

@@ -4,7 +4,6 @@ use Rattle.std.specs.Prelude.{IfOk, IfErr, IfSome, MatchOption, MatchResult}
 use Rattle.std.proofs.lemmas.List.{length-append, length-take, take_all}
 use Rattle.std.proofs.Math.Seq.{take-append_seam}
 use Rattle.sqlite.specs.Store.{Ghosts}
-use Rattle.sqlite.specs.Held.{Held, state}
 use Rattle.sqlite.specs.State as db
 use Rattle.uu_core.specs.declared.command.Command.{Command}
 use Rattle.uu_core.specs.declared.command.Reply.{Reply}
@@ -18,10 +17,9 @@ use Rattle.uu_store.specs.declared.spool.Spool.{Spool}
 use Rattle.uu_schema.specs.Steps.{StaysUnclean}
 use Rattle.uu_store.specs.Closing.{IsToldAfter}
 use Rattle.uu_schema.specs.Encoded.{Leaves, LeavesEither}
-use Rattle.uu_store.specs.Spool.{connection_of, disk, has_failed, Shows, IsFaultBetween}
+use Rattle.uu_store.specs.Spool.{disk, has_failed, Shows, IsFaultBetween}
 use Rattle.uu_store.specs.Runs.{GoesOn, RanFrom, Ran, reply_in, fault_in}
 use Rattle.uu_adopt.proofs.Settling.{Settles, leaves}
-use Rattle.uu_store.proofs.Ending.{noted_memory, shows_again, clean_before}
 
 -- ---- the first of a list
 
