@@ -224,7 +224,7 @@ module _ {S : Type 0} {g : Ghosts S} (settings : Settings) (q : Question) (old n
 
   -- and its fault goes on as the program's
   pub fault_goes_on : (r : Result ℕ Fault) (why : StoreFault) → IsErrAnd r (λ f. f ≡ fault.Store why) → Ran [] old new [] (Some why)
-      → spool.Marks (spool.has_failed old) (spool.has_failed new) why → (IsTrue (spool.has_failed old) → new ≡ old) → written []
+      → spool.IsFaultBetween (spool.has_failed old) (spool.has_failed new) why → (IsTrue (spool.has_failed old) → new ≡ old) → written []
       → IsServed settings (request.Question q) old new written r
   fault_goes_on r why told ran marked failed nothing =
       let (f, is, store) = err_from_is_err_and r told in
