@@ -6,11 +6,12 @@ use crate::values::{MAP, Order, SETTINGS, SUNDAY, SYS_FILE, Work, moment, settin
 use std::alloc::Global;
 use std::io::Print;
 use std::process::Abort;
-use uu_core::{Due, JobHead, Queue, SystemRow, queues};
+use uu_core::{Due, JobHead, Queue, SystemRow, next_calls, queues};
 use uu_map::{Entry, read_entry};
+use uu_times::Moment;
 use uuspool::{
     Fault, Settings, fault_line, line_of, read_input, report_due, report_jobs, report_links,
-    report_queues, report_status,
+    report_next_calls, report_queues, report_status,
 };
 
 // ---- words, settings, input and faults
@@ -102,6 +103,7 @@ enum Report<'a> {
     Due(&'a [Due]),
     Links(&'a Entry),
     Jobs(&'a [JobHead]),
+    NextCalls(&'a [SystemRow], &'a [JobHead], &'a Moment),
     Queues(&'a [Queue]),
     Status(&'a [SystemRow]),
 }
@@ -123,6 +125,9 @@ impl Ask for Printed<'_> {
                 assert!(rt; jobs.iter().all(|job| job.queued <= LAST_SECOND));
                 report_jobs(alloc, jobs, self.settings)
             }
+            Report::NextCalls(systems, jobs, at) => {
+                next_calls_reported(alloc, systems, jobs, at, self.settings)
+            }
             Report::Queues(queues) => {
                 assert!(rt; queues.iter().all(|queue| queue.sums.oldest <= LAST_SECOND));
                 report_queues(alloc, queues, self.settings)
@@ -134,6 +139,18 @@ impl Ask for Printed<'_> {
         };
         note(rt, alloc, &bytes)
     }
+}
+
+// The report of when these systems can next be called, for these jobs.
+fn next_calls_reported(
+    alloc: Global,
+    systems: &[SystemRow],
+    jobs: &[JobHead],
+    at: &Moment,
+    settings: &Settings,
+) -> Result<Vec<u8>, Fault> {
+    let calls = next_calls(alloc, systems, jobs, at.second, &settings.zone)?;
+    report_next_calls(alloc, &calls, at, settings)
 }
 
 fn refuse_each_of_report<R: Abort + Print>(
@@ -179,6 +196,9 @@ fn reports_of_systems(rt: HostRuntime) {
     let at = moment(&rt, SUNDAY);
     let due = machine.due(alloc, &at).expect(&rt, "memory");
     refuse_each_of_report(&rt, alloc, "report_due", &settings, Report::Due(&due));
+    let heads = machine.heads(alloc).expect(&rt, "memory");
+    let calls = Report::NextCalls(machine.systems(), &heads, &at);
+    refuse_each_of_report(&rt, alloc, "report_next_calls", &settings, calls);
     let entry = read_entry(alloc, MAP).expect(&rt, "an entry");
     refuse_each_of_report(&rt, alloc, "report_links", &settings, Report::Links(&entry));
 }

@@ -1,5 +1,6 @@
 -- How the parts of a line's service make up the whole.
-use Rattle.std.proofs.Common.{◌≡◌, ◌⊎◌, ◌∙◌, ◌++◌, ◌∷◌, inl, inr, ℕ, List, [], Vec, Option, Some, None, Result, Ok, Err, IfOk, IfErr, IfSome, OnOk, IsOkAnd, ap, append-nil, Bool, false, IsTrue, MatchOption, refl, subst, sym}
+use Rattle.std.proofs.Common.{◌≡◌, ◌⊎◌, ◌∙◌, ◌++◌, ◌∷◌, inl, inr, ℕ, List, [], Vec, Option, Some, None, Result, Ok, Err, IfOk, IfErr, IfSome, OnOk, IsErrAnd, IsOkAnd, ap, append-nil, Bool, false, IsTrue, MatchOption, refl, subst, sym}
+use Rattle.std.proofs.lemmas.Result.{err_from_is_err_and}
 use Rattle.std.specs.declared.alloc.Global.{Global}
 use Rattle.std.specs.Io.KnownBytes.{Appends}
 use Rattle.sqlite.specs.Store.{Ghosts}
@@ -220,3 +221,12 @@ module _ {S : Type 0} {g : Ghosts S} (settings : Settings) (q : Question) (old n
     noted = noted;
     failed = λ had. (ap (λ w. Err (fault.Store w)) (failed_alone (spool.has_failed old) (spool.has_failed new) why marked had), nothing, failed had);
   }
+
+  -- and its fault goes on as the program's
+  pub fault_goes_on : (r : Result ℕ Fault) (why : StoreFault) → IsErrAnd r (λ f. f ≡ fault.Store why) → Ran [] old new [] (Some why)
+      → spool.IsFaultBetween (spool.has_failed old) (spool.has_failed new) why → (IsTrue (spool.has_failed old) → new ≡ old) → written []
+      → IsServed settings (request.Question q) old new written r
+  fault_goes_on r why told ran marked failed nothing =
+      let (f, is, store) = err_from_is_err_and r told in
+      subst (IsServed settings (request.Question q) old new written) (sym (is ∙ ap Err store))
+      (question_unanswered why ran (marks_of_call _ _ why marked) (noted_of_call old new why marked) failed (marked_is_of_call _ _ why marked) nothing)

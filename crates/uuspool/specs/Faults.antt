@@ -131,22 +131,27 @@ store_text store.Failed = codes "spool: failed"
 store_text store.Foreign = codes "spool: foreign"
 store_text store.Newer = codes "spool: newer"
 
+-- what is said of a fault: of words their own text, as it is
+abbrev pub text_of_fault : Fault → List ℕ
+text_of_fault (fault.Words text help) = string_bytes text
+text_of_fault (fault.Settings why) = settings_text why
+text_of_fault (fault.Name why) = name_text why
+text_of_fault (fault.Time why) = time_text why
+text_of_fault fault.TwoSystems = codes "addresses of two systems"
+text_of_fault fault.Input = codes "too much input"
+text_of_fault (fault.Store why) = store_text why
+text_of_fault fault.Read = codes "cannot read"
+text_of_fault fault.Write = codes "cannot write"
+text_of_fault fault.Memory = codes "out of memory"
+
 -- a line of the program on standard error
 abbrev pub named : List ℕ → List ℕ
 named text = codes "uuspool: " ++ text ++ 10 ∷ []
 
--- the line of a fault: of words their own text, as it is
+-- the line of a fault: that of words is their own text, which has its line ends
 abbrev pub line_of_fault : Fault → List ℕ
 line_of_fault (fault.Words text help) = string_bytes text
-line_of_fault (fault.Settings why) = named (settings_text why)
-line_of_fault (fault.Name why) = named (name_text why)
-line_of_fault (fault.Time why) = named (time_text why)
-line_of_fault fault.TwoSystems = named (codes "addresses of two systems")
-line_of_fault fault.Input = named (codes "too much input")
-line_of_fault (fault.Store why) = named (store_text why)
-line_of_fault fault.Read = named (codes "cannot read")
-line_of_fault fault.Write = named (codes "cannot write")
-line_of_fault fault.Memory = named (codes "out of memory")
+line_of_fault why = named (text_of_fault why)
 
 -- the fault is help that was asked for
 abbrev pub is_help : Fault → Bool

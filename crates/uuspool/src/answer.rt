@@ -1,6 +1,6 @@
 //! Questions: what is asked of the spool, and what is printed of its answer.
 
-ghost use Rattle.std.specs.Prelude.{◌≡◌, ◌≤◌, ◌++◌, ◌∷◌, [], false, IfOk, IfErr, IsTrue, MatchResult, List, option_copied};
+ghost use Rattle.std.specs.Prelude.{◌≡◌, ◌≤◌, ◌++◌, ◌∷◌, [], false, IfOk, IsTrue, MatchResult, List, option_copied};
 ghost use Rattle.std.specs.List.{AllByRecursion, flat_map};
 ghost use Rattle.std.specs.Io.KnownBytes.{Appends};
 ghost use Rattle.sqlite.specs.State.{HasCleanDisk};
@@ -23,9 +23,6 @@ ghost use Rattle.uuspool.specs.Served.{IsServed};
 
 use crate::fault::Fault;
 use crate::print::print;
-use crate::report::{
-    report_due, report_jobs, report_links, report_next_calls, report_queues, report_status,
-};
 use sqlite::Alter;
 use std::alloc::{AllocError, Global};
 use std::io::Write;
@@ -33,7 +30,10 @@ use std::mem::drop;
 use uu_core::{Filter, JobHead, SystemRow, all_due, definitions, next_calls, queues};
 use uu_map::{MapFault, read_entry};
 use uu_names::SiteName;
-use uu_report::job_line;
+use uu_report::{
+    due_report, job_line, jobs_report, links_report, next_calls_report, queues_report,
+    status_report,
+};
 use uu_request::Question;
 use uu_settings::Settings;
 use uu_store::laws::runs_are_one_run;
@@ -75,10 +75,8 @@ fn list<S: Alter, W: Write>(
 ) -> Result<u8, Fault>
     ensures { IsServed settings.now (request.Question (question.Jobs filter.now)) spool.old spool.new (λ output. Appends (W.contents out.old) (W.contents out.new) output) result }
 {
-    match spool.jobs(alloc, filter) {
-        Ok(jobs) => print(report_jobs(alloc, &jobs, settings), 0, out),
-        Err(fault) => Err(Fault::Store(fault)),
-    }
+    let jobs = spool.jobs(alloc, filter)?;
+    print(jobs_report(alloc, &jobs, &settings.zone), 0, out)
 }
 
 // Prints the job of this number: its line, and then its bytes.
@@ -128,10 +126,8 @@ fn due<S: Alter, W: Write>(
 ) -> Result<u8, Fault>
     ensures { IsServed settings.now (request.Question (question.Due at.now)) spool.old spool.new (λ output. Appends (W.contents out.old) (W.contents out.new) output) result }
 {
-    match spool.due(alloc, at) {
-        Ok(dues) => print(report_due(alloc, &dues), 0, out),
-        Err(fault) => Err(Fault::Store(fault)),
-    }
+    let dues = spool.due(alloc, at)?;
+    print(due_report(alloc, &dues), 0, out)
 }
 
 // Prints the report of those of the jobs that fit that may go now.
@@ -145,13 +141,8 @@ fn due_jobs<S: Alter, W: Write>(
 ) -> Result<u8, Fault>
     ensures { IsServed settings.now (request.Question (question.AllDue filter.now at.now)) spool.old spool.new (λ output. Appends (W.contents out.old) (W.contents out.new) output) result }
 {
-    match systems_and_jobs(alloc, filter, spool) {
-        Ok((systems, jobs)) => {
-            let text = due_jobs_text(alloc, &systems, &jobs, at);
-            print(text, 0, out)
-        }
-        Err(fault) => Err(Fault::Store(fault)),
-    }
+    let (systems, jobs) = systems_and_jobs(alloc, filter, spool)?;
+    print(due_jobs_text(alloc, &systems, &jobs, at), 0, out)
 }
 
 // The report of those of these jobs that may go now.
@@ -160,12 +151,11 @@ fn due_jobs_text(
     systems: &[SystemRow],
     jobs: &[JobHead],
     at: &Moment,
-) -> Result<Vec<u8>, Fault>
-    ensures lines { IfOk result (λ text. text.items ≡ flat_map due_text (all_due systems.now jobs.now at.now)) }
-    ensures memory { IfErr result (λ fault. fault ≡ Fault.Memory) }
+) -> Result<Vec<u8>, AllocError>
+    ensures { IfOk result (λ text. text.items ≡ flat_map due_text (all_due systems.now jobs.now at.now)) }
 {
     let dues = all_due(alloc, systems, jobs, at)?;
-    report_due(alloc, &dues)
+    due_report(alloc, &dues)
 }
 
 // Prints when each system can next be called, for the first of those of its jobs that fit.
@@ -179,13 +169,12 @@ fn when<S: Alter, W: Write>(
 ) -> Result<u8, Fault>
     ensures { IsServed settings.now (request.Question (question.NextCalls filter.now at.now)) spool.old spool.new (λ output. Appends (W.contents out.old) (W.contents out.new) output) result }
 {
-    match systems_and_jobs(alloc, filter, spool) {
-        Ok((systems, jobs)) => {
-            let text = next_calls_text(alloc, &systems, &jobs, at, settings);
-            print(text, 0, out)
-        }
-        Err(fault) => Err(Fault::Store(fault)),
-    }
+    let (systems, jobs) = systems_and_jobs(alloc, filter, spool)?;
+    print(
+        next_calls_text(alloc, &systems, &jobs, at, settings),
+        0,
+        out,
+    )
 }
 
 // The systems, and the jobs that fit, both of one state.
@@ -201,13 +190,9 @@ fn systems_and_jobs<S: Alter>(
     ensures failed { IsTrue (has_failed spool.old) → spool.new ≡ spool.old }
 {
     runs_are_one_run::<S>();
-    match spool.systems(alloc) {
-        Ok(systems) => match spool.jobs(alloc, filter) {
-            Ok(jobs) => Ok((systems, jobs)),
-            Err(fault) => Err(fault),
-        },
-        Err(fault) => Err(fault),
-    }
+    let systems = spool.systems(alloc)?;
+    let fitting = spool.jobs(alloc, filter)?;
+    Ok((systems, fitting))
 }
 
 // The report of when these systems can next be called, for these jobs.
@@ -217,14 +202,13 @@ fn next_calls_text(
     jobs: &[JobHead],
     at: &Moment,
     settings: &Settings,
-) -> Result<Vec<u8>, Fault>
-    ensures lines { IfOk result (λ text. (calls : List AnyCall)
+) -> Result<Vec<u8>, AllocError>
+    ensures { IfOk result (λ text. (calls : List AnyCall)
         × (AreByName (λ row. row.def.name) systems.now → AreNextCalls settings.now.zone systems.now jobs.now at.now.second calls)
         × IsNextCallsReport settings.now.zone at.now.second calls text.items) }
-    ensures memory { IfErr result (λ fault. fault ≡ Fault.Memory) }
 {
     let calls = next_calls(alloc, systems, jobs, at.second, &settings.zone)?;
-    report_next_calls(alloc, &calls, at, settings)
+    next_calls_report(alloc, &calls, at.second, &settings.zone)
 }
 
 // Prints what the jobs that fit come to, for each system.
@@ -237,20 +221,17 @@ fn sum_up<S: Alter, W: Write>(
 ) -> Result<u8, Fault>
     ensures { IsServed settings.now (request.Question (question.Queues filter.now)) spool.old spool.new (λ output. Appends (W.contents out.old) (W.contents out.new) output) result }
 {
-    match spool.jobs(alloc, filter) {
-        Ok(jobs) => print(queues_text(alloc, &jobs, settings), 0, out),
-        Err(fault) => Err(Fault::Store(fault)),
-    }
+    let jobs = spool.jobs(alloc, filter)?;
+    print(queues_text(alloc, &jobs, settings), 0, out)
 }
 
 // The report of what these jobs come to, for each system.
-fn queues_text(alloc: Global, jobs: &[JobHead], settings: &Settings) -> Result<Vec<u8>, Fault>
+fn queues_text(alloc: Global, jobs: &[JobHead], settings: &Settings) -> Result<Vec<u8>, AllocError>
     requires { AllByRecursion IsBounded jobs.now }
-    ensures lines { IfOk result (λ text. (queues : List AnyQueue) × AreQueues jobs.now queues × IsQueuesReport settings.now.zone queues text.items) }
-    ensures memory { IfErr result (λ fault. fault ≡ Fault.Memory) }
+    ensures { IfOk result (λ text. (queues : List AnyQueue) × AreQueues jobs.now queues × IsQueuesReport settings.now.zone queues text.items) }
 {
     let queues = queues(alloc, jobs)?;
-    report_queues(alloc, &queues, settings)
+    queues_report(alloc, &queues, &settings.zone)
 }
 
 // Prints the report of the systems.
@@ -262,10 +243,8 @@ fn status<S: Alter, W: Write>(
 ) -> Result<u8, Fault>
     ensures { IsServed settings.now (request.Question question.Systems) spool.old spool.new (λ output. Appends (W.contents out.old) (W.contents out.new) output) result }
 {
-    match spool.systems(alloc) {
-        Ok(systems) => print(report_status(alloc, &systems, settings), 0, out),
-        Err(fault) => Err(Fault::Store(fault)),
-    }
+    let systems = spool.systems(alloc)?;
+    print(status_report(alloc, &systems, &settings.zone), 0, out)
 }
 
 // Prints the definitions of the systems, or of one, as a sys file.
@@ -278,10 +257,8 @@ fn systems<S: Alter, W: Write>(
 ) -> Result<u8, Fault>
     ensures { IsServed settings.now (request.Question (question.Definitions (option_copied name.entry))) spool.old spool.new (λ output. Appends (W.contents out.old) (W.contents out.new) output) result }
 {
-    match spool.systems(alloc) {
-        Ok(rows) => print(systems_text(alloc, rows, name), 0, out),
-        Err(fault) => Err(Fault::Store(fault)),
-    }
+    let rows = spool.systems(alloc)?;
+    print(systems_text(alloc, rows, name), 0, out)
 }
 
 // The sys file of the definitions of these systems, or of one of them.
@@ -308,7 +285,7 @@ fn neighbours<S: Alter, W: Write>(
 {
     match spool.entry(alloc, host) {
         Ok(Some(text)) => match read_entry(alloc, &text) {
-            Ok(entry) => print(report_links(alloc, &entry), 0, out),
+            Ok(entry) => print(links_report(alloc, &entry), 0, out),
             Err(fault) => match fault {
                 MapFault::Memory => Err(Fault::Memory),
                 _ => Err(Fault::Store(StoreFault::Store(StoreKind::Database))),
@@ -329,10 +306,8 @@ fn name<S: Alter, W: Write>(
 ) -> Result<u8, Fault>
     ensures { IsServed settings.now (request.Question question.Name) spool.old spool.new (λ output. Appends (W.contents out.old) (W.contents out.new) output) result }
 {
-    match spool.next() {
-        Ok(_) => print(name_text(alloc, settings), 0, out),
-        Err(fault) => Err(Fault::Store(fault)),
-    }
+    spool.next()?;
+    print(name_text(alloc, settings), 0, out)
 }
 
 // The line of the site's name.

@@ -3,7 +3,7 @@
 ghost use Rattle.std.specs.Prelude.{◌≡◌, Some, IfOk};
 ghost use Rattle.std.specs.Fmt.{DisplaysOnOk};
 ghost use Rattle.uu_names.specs.Fault.{fault_code};
-ghost use Rattle.uuspool.specs.Faults.{code_of, is_help, status_of, line_of_fault, settings_text, name_text, named, time_text, time_name, fault_place, placed};
+ghost use Rattle.uuspool.specs.Faults.{code_of, is_help, status_of, line_of_fault, text_of_fault, settings_text, name_text, time_text, time_name, fault_place, placed};
 
 use std::alloc::{AllocError, AllocFailed, Global};
 use std::fmt;
@@ -15,12 +15,11 @@ use uu_settings::SettingsFault;
 use uu_store::StoreFault;
 use uu_times::TimeFault;
 
-/// Why a line was not done.
+/// Why a line was not done. It is shown as what is said of it on its line (see [`FaultLine`]).
 #[derive(Debug, Drop, Error)]
 pub enum Fault {
     /// The words are no line of the program, or ask for its help. `text` is what is printed, as it
     /// is.
-    #[error("{text}")]
     Words {
         /// What is printed, with its line ends.
         text: String,
@@ -28,31 +27,22 @@ pub enum Fault {
         help: bool,
     },
     /// The file of settings sets nothing.
-    #[error("settings: {0:?}")]
     Settings(SettingsFault),
     /// A user, a system, a word, a grade or an address of the line is none.
-    #[error("name: {0:?}")]
     Name(NameFault),
     /// The moment is past the last one, or the sys file has a fault.
-    #[error("time: {0:?}")]
     Time(TimeFault),
     /// The addresses of a message begin with different systems.
-    #[error("addresses of two systems")]
     TwoSystems,
     /// The input has more than 4,194,304 bytes.
-    #[error("too much input")]
     Input,
     /// The spool gave no answer.
-    #[error("spool: {0:?}")]
     Store(StoreFault),
     /// Words, settings, input or the clock could not be read.
-    #[error("cannot read")]
     Read,
     /// The output could not be written.
-    #[error("cannot write")]
     Write,
     /// Memory ran out.
-    #[error("out of memory")]
     Memory,
 }
 
@@ -137,6 +127,17 @@ impl From<RequestFault> for Fault {
     }
 }
 
+impl From<StoreFault> for Fault {
+    ghost use Rattle.std.specs.Prelude.{◌≡◌};
+    ghost use Rattle.uuspool.specs.declared.fault.Fault.TheVariants.{Store};
+
+    ghost from_gives = { λ why fault. fault ≡ Store why };
+
+    fn from(fault: StoreFault) -> Fault {
+        Fault::Store(fault)
+    }
+}
+
 /// The exit status of the program at this fault: 0 for help, 2 for words, settings, names, times,
 /// addresses and input, 3 for the spool, 4 for want of memory wherever it was met, 5 for reading
 /// and writing.
@@ -161,6 +162,29 @@ pub fn fault_status(fault: &Fault) -> u8
     }
 }
 
+impl fmt::Display for Fault {
+    ghost output = { λ fault. Some (text_of_fault fault) };
+
+    fn fmt<W: fmt::Write>(&self, f: &mut fmt::Formatter<W>) -> fmt::Result {
+        let text = match self {
+            Fault::Words { text, .. } => text.as_str(),
+            Fault::Settings(settings) => return write_settings(*settings, f),
+            Fault::Name(name) => name_text(*name),
+            Fault::Time(time) => return write_time(*time, f),
+            Fault::TwoSystems => "addresses of two systems",
+            Fault::Input => "too much input",
+            Fault::Store(StoreFault::Store(_)) => "spool: store",
+            Fault::Store(StoreFault::Failed) => "spool: failed",
+            Fault::Store(StoreFault::Foreign) => "spool: foreign",
+            Fault::Store(StoreFault::Newer) => "spool: newer",
+            Fault::Store(StoreFault::Memory) | Fault::Memory => "out of memory",
+            Fault::Read => "cannot read",
+            Fault::Write => "cannot write",
+        };
+        f.write_str(text)
+    }
+}
+
 /// What the program prints at a fault: the text of the words' fault as it is, and else one line
 /// that begins with the program's name. It is made as it is written, and so takes no memory.
 #[derive(Clone, Copy)]
@@ -170,22 +194,10 @@ impl fmt::Display for FaultLine<'_> {
     ghost output = { λ line. Some (line_of_fault line.0.now) };
 
     fn fmt<W: fmt::Write>(&self, f: &mut fmt::Formatter<W>) -> fmt::Result {
-        let line = match self.0 {
-            Fault::Words { text, .. } => text.as_str(),
-            Fault::Settings(settings) => return settings_line(*settings, f),
-            Fault::Name(name) => name_line(*name),
-            Fault::Time(time) => return time_line(*time, f),
-            Fault::TwoSystems => "uuspool: addresses of two systems\n",
-            Fault::Input => "uuspool: too much input\n",
-            Fault::Store(StoreFault::Store(_)) => "uuspool: spool: store\n",
-            Fault::Store(StoreFault::Failed) => "uuspool: spool: failed\n",
-            Fault::Store(StoreFault::Foreign) => "uuspool: spool: foreign\n",
-            Fault::Store(StoreFault::Newer) => "uuspool: spool: newer\n",
-            Fault::Store(StoreFault::Memory) | Fault::Memory => "uuspool: out of memory\n",
-            Fault::Read => "uuspool: cannot read\n",
-            Fault::Write => "uuspool: cannot write\n",
-        };
-        f.write_str(line)
+        match self.0 {
+            Fault::Words { text, .. } => f.write_str(text.as_str()),
+            fault => write!(f, "uuspool: {fault}\n"),
+        }
     }
 }
 
@@ -197,57 +209,57 @@ pub fn fault_line(alloc: Global, fault: &Fault) -> Result<Vec<u8>, AllocError>
     Ok(format!(in alloc; "{line}")?.into_bytes())
 }
 
-// The line of a fault of the settings.
-fn settings_line<W: fmt::Write>(fault: SettingsFault, f: &mut fmt::Formatter<W>) -> fmt::Result
-    ensures { DisplaysOnOk W.write_str_gives f.old result (Some (named (settings_text fault))) f.new }
+// Writes what is said of a fault of the settings.
+fn write_settings<W: fmt::Write>(fault: SettingsFault, f: &mut fmt::Formatter<W>) -> fmt::Result
+    ensures { DisplaysOnOk W.write_str_gives f.old result (Some (settings_text fault)) f.new }
 {
     match fault {
-        SettingsFault::NotToml => f.write_str("uuspool: settings: not toml\n"),
+        SettingsFault::NotToml => f.write_str("settings: not toml"),
         SettingsFault::Missing(key) => {
             let key = key.name();
-            write!(f, "uuspool: settings: {key} missing\n")
+            write!(f, "settings: {key} missing")
         }
         SettingsFault::BadValue(key) => {
             let key = key.name();
-            write!(f, "uuspool: settings: {key} bad\n")
+            write!(f, "settings: {key} bad")
         }
-        SettingsFault::Memory => f.write_str("uuspool: out of memory\n"),
+        SettingsFault::Memory => f.write_str("out of memory"),
     }
 }
 
-// The line of a fault of a name.
-fn name_line(fault: NameFault) -> &'static str
-    ensures { result.now ≡ named (name_text fault) }
+// What is said of a fault of a name.
+fn name_text(fault: NameFault) -> &'static str
+    ensures { result.now ≡ name_text fault }
 {
     match fault {
-        NameFault::BadGrade => "uuspool: name: BadGrade\n",
-        NameFault::BadName(_) => "uuspool: name: BadName\n",
-        NameFault::BadPath(_) => "uuspool: name: BadPath\n",
-        NameFault::BadWord(_) => "uuspool: name: BadWord\n",
-        NameFault::NoEnvelope => "uuspool: name: NoEnvelope\n",
-        NameFault::TooLong => "uuspool: name: TooLong\n",
-        NameFault::Memory => "uuspool: out of memory\n",
+        NameFault::BadGrade => "name: BadGrade",
+        NameFault::BadName(_) => "name: BadName",
+        NameFault::BadPath(_) => "name: BadPath",
+        NameFault::BadWord(_) => "name: BadWord",
+        NameFault::NoEnvelope => "name: NoEnvelope",
+        NameFault::TooLong => "name: TooLong",
+        NameFault::Memory => "out of memory",
     }
 }
 
-// The line of a fault of a moment or of a sys file.
-fn time_line<W: fmt::Write>(fault: TimeFault, f: &mut fmt::Formatter<W>) -> fmt::Result
-    ensures { DisplaysOnOk W.write_str_gives f.old result (Some (named (time_text fault))) f.new }
+// Writes what is said of a fault of a moment or of a sys file.
+fn write_time<W: fmt::Write>(fault: TimeFault, f: &mut fmt::Formatter<W>) -> fmt::Result
+    ensures { DisplaysOnOk W.write_str_gives f.old result (Some (time_text fault)) f.new }
 {
     match fault {
-        TimeFault::Memory => f.write_str("uuspool: out of memory\n"),
-        _ => placed_line(place_of(fault), time_name(fault), f),
+        TimeFault::Memory => f.write_str("out of memory"),
+        _ => write_placed(place_of(fault), time_name(fault), f),
     }
 }
 
-// The line of a fault of this name, at a line of a text, or at none.
-fn placed_line<W: fmt::Write>(place: u32, name: &str, f: &mut fmt::Formatter<W>) -> fmt::Result
-    ensures { DisplaysOnOk W.write_str_gives f.old result (Some (named (placed place name.now))) f.new }
+// Writes what is said of a fault of this name, at a line of a text, or at none.
+fn write_placed<W: fmt::Write>(place: u32, name: &str, f: &mut fmt::Formatter<W>) -> fmt::Result
+    ensures { DisplaysOnOk W.write_str_gives f.old result (Some (placed place name.now)) f.new }
 {
     if place == 0 {
-        write!(f, "uuspool: time: {name}\n")
+        write!(f, "time: {name}")
     } else {
-        write!(f, "uuspool: line {place}: {name}\n")
+        write!(f, "line {place}: {name}")
     }
 }
 

@@ -18,8 +18,5 @@ use uu_line::CommandLine;
 pub fn line_of(alloc: Global, words: &[String]) -> Result<CommandLine, Fault>
     ensures { IsAnswerTo (map string_bytes words.now) result }
 {
-    match uu_line::line_of(alloc, words) {
-        Ok(line) => Ok(line),
-        Err(fault) => Err(Fault::from(fault)),
-    }
+    Ok(uu_line::line_of(alloc, words)?)
 }

@@ -17,8 +17,5 @@ pub fn moment_of(second: u64, settings: &Settings) -> Result<Moment, Fault>
     ensures in_range { OnOk result (¬ IsPast second) }
     ensures past { IfErr result (λ fault. (fault ≡ Fault.Time TimeFault.MomentRange) × IsPast second) }
 {
-    match Moment::new(second, &settings.zone) {
-        Ok(at) => Ok(at),
-        Err(fault) => Err(Fault::Time(fault)),
-    }
+    Moment::new(second, &settings.zone).map_err(Fault::Time)
 }

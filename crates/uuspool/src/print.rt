@@ -5,6 +5,7 @@ ghost use Rattle.std.specs.Io.KnownBytes.{Appends};
 ghost use Rattle.uu_frame.specs.Writing.{IsCut};
 
 use crate::fault::Fault;
+use std::alloc::AllocError;
 use std::io::Write;
 use uu_frame::{FrameFault, write_whole};
 
@@ -13,8 +14,8 @@ use uu_frame::{FrameFault, write_whole};
 /// # Errors
 /// `Memory` where there was none, or the writer found none for the output, and then nothing is
 /// written; `Write` where less than the output was written.
-pub(crate) fn print<E: Drop, W: Write>(
-    output: Result<Vec<u8>, E>,
+pub(crate) fn print<W: Write>(
+    output: Result<Vec<u8>, AllocError>,
     status: u8,
     out: &mut W,
 ) -> Result<u8, Fault>

@@ -57,10 +57,8 @@ pub fn serve<S: Alter, W: Write>(
     ensures serves { (output : List ℕ) → IsSome (W.contents out.old) → Appends (W.contents out.old) (W.contents out.new) output
         → Serves settings.now (record { words = map string_bytes words.now; now = now; input = input.now; output = output; result = result }) spool.old spool.new }
 {
-    match Vec::from_slice(alloc, input) {
-        Ok(input) => serve_words(alloc, words, settings, now, input, spool, out),
-        Err(_) => Err(Fault::Memory),
-    }
+    let input = Vec::from_slice(alloc, input)?;
+    serve_words(alloc, words, settings, now, input, spool, out)
 }
 
 /// Serves the line that the words mean as [`serve`] does, and takes the input.
@@ -81,10 +79,8 @@ pub(crate) fn serve_words<S: Alter, W: Write>(
     ensures serves { (output : List ℕ) → IsSome (W.contents out.old) → Appends (W.contents out.old) (W.contents out.new) output
         → Serves settings.now (record { words = map string_bytes words.now; now = now; input = input.items; output = output; result = result }) spool.old spool.new }
 {
-    match line_and_moment(alloc, words, settings, now) {
-        Ok((line, at)) => serve_line(alloc, line, settings, at, input, spool, out),
-        Err(fault) => Err(fault),
-    }
+    let (line, at) = line_and_moment(alloc, words, settings, now)?;
+    serve_line(alloc, line, settings, at, input, spool, out)
 }
 
 // The line that the words mean, and its moment.
@@ -98,10 +94,7 @@ fn line_and_moment(
     ensures fault { (input : List ℕ) → IfErr result (IsFaultOf settings.now (map string_bytes words.now) now input) }
     ensures early { IfErr result IsEarly }
 {
-    let line = match line_of(alloc, words) {
-        Ok(line) => line,
-        Err(fault) => return Err(fault),
-    };
+    let line = line_of(alloc, words)?;
     match moment_of(line.at.unwrap_or(now), settings) {
         Ok(at) => Ok((line, at)),
         Err(fault) => {

@@ -21,10 +21,10 @@ returns-in-Ok g c =
     let is : IsEntry c.in-Ok-Some.text.items c.in-Ok.entry = subst (λ text. IsEntry text c.in-Ok.entry) c.deref.ensures.value c.in-Ok.ensures.answer in
     question_served c.args.settings.now asked c.args.spool.now c.entry.new.self written c.print.result c.in-Ok-Some.ensures.question.ran c.in-Ok-Some.ensures.question.marked
     (λ clean s shown. (c.in-Ok-Some.ensures.question.answer clean s shown).1)
-    (printed c.print.result c.report_links.result 0 written (λ output. output ≡ links_text c.in-Ok.entry) (Answers c.args.settings.now asked c.args.spool.now c.entry.new.self)
+    (printed c.print.result c.links_report.result 0 written (λ output. output ≡ links_text c.in-Ok.entry) (Answers c.args.settings.now asked c.args.spool.now c.entry.new.self)
     (λ output same clean s shown. entry_shown (entry_at s c.args.host.now) c.in-Ok-Some.text.items c.in-Ok.entry output
     (sym (ap (option_map (λ (text : Vec ℕ Global). text.items)) c.in-Ok-Some.field-0-is) ∙ (c.in-Ok-Some.ensures.question.answer clean s shown).0) is same)
-    c.print.ensures.printed c.print.ensures.status c.print.ensures.fault c.print.ensures.cut c.print.ensures.nothing c.report_links.ensures.lines)
+    c.print.ensures.printed c.print.ensures.status c.print.ensures.fault c.print.ensures.cut c.print.ensures.nothing c.links_report.ensures)
 
 pub returns-in-Memory : goal.returns-in-Memory
 returns-in-Memory g c =
