@@ -1,19 +1,18 @@
 -- What is found of the spool's tables is what the format says of them.
-use Rattle.std.proofs.Common.{◌≡◌, ℕ, Bool, true, false, ◌||◌, ◌&&◌, cond, List, [], ◌∷◌, map, Option, Some, None, codes, find, is_some, refl, sym, ap, ◌∙◌}
-use Rattle.std.specs.List.{AllByRecursion, list_any, list_all}
+use Rattle.std.proofs.Common.{◌≡◌, ℕ, Bool, true, false, ◌||◌, ◌&&◌, cond, List, [], ◌∷◌, Option, Some, None, codes, find, is_some, refl, ap, ◌∙◌}
+use Rattle.std.specs.List.{AllByRecursion, list_all}
 use Rattle.std.specs.Option.{option_map_or}
 use Rattle.std.proofs.lemmas.Bool.{or_parts}
 use Rattle.sqlite.specs.Schema.{Schema}
 use Rattle.sqlite.specs.Table.{Table}
 use Rattle.sqlite_rules.proofs.ListLemmas.{some_has, some_from}
 use Rattle.sqlite_schema.specs.Names.{same_name}
-use Rattle.sqlite_schema.specs.declared.schema.Column.{Column}
-use Rattle.uu_schema.specs.Schema.{first_site, spool, systems, lines, ranges, jobs, pieces, entries, success_waits, links, taken}
+use Rattle.uu_schema.specs.Schema.{first_site, spool, systems, lines, ranges, jobs, pieces, entries, links, taken}
 use Rattle.uu_schema.specs.declared.version.Version.{Version}
 use Rattle.uu_schema.specs.declared.version.Version.TheVariants.{First, Second, Third}
 use Rattle.uu_adopt.specs.declared.tables.Found.{Found}
 use Rattle.uu_adopt.specs.declared.tables.Found.TheVariants.{Nothing, Spool, Other}
-use Rattle.uu_adopt.specs.FoundTables.{system_columns, line_columns, range_columns, job_columns, piece_columns, entry_columns, wait_columns, link_columns, taken_columns, table_of, has_column, has_table, has_systems, has_jobs, has_waits, has_links, is_whole, is_taken, is_link_taken, is_any_taken, added_with, tables_with, found_beside, found_of, HasNone, HasAllOf, HasUnversionedTables}
+use Rattle.uu_adopt.specs.FoundTables.{system_columns, line_columns, range_columns, job_columns, piece_columns, entry_columns, wait_columns, link_columns, taken_columns, table_of, has_column, has_table, has_systems, has_jobs, has_waits, has_links, is_whole, is_taken, is_link_taken, is_any_taken, tables_with, found_beside, found_of, HasNone, HasAllOf, HasUnversionedTables}
 use Rattle.uu_adopt.specs.Format.{IsFree, HasColumn, HasTable, HasTableOf, HasNoName, HasTablesOf, TellsVersion}
 
 -- ---- a name

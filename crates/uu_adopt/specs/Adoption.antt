@@ -64,8 +64,7 @@ IsUnmade old new r = IfErr r (λ fault. UnlessFailed fault (db.HasCleanDisk new 
 
 -- ---- what each function does
 
--- a database with a table `spool`, and all the tables of this version or not all of any, is looked
--- at
+-- a database with a table `spool` is looked at, by the version whose tables are all there
 pub record Inspects (tables : Option Version) (old new : db.State) (r : Result (Unit {0}) StoreFault) : Type 0 where
   pub inspected : (v : Version) → tables ≡ Some v → IsInspected v old new r
   pub spared : IsSpared old new r
@@ -78,7 +77,7 @@ pub record Makes (from to : Schema) (Step : Trees → Trees → Type 0) (old new
   pub clean : StaysUnclean old new
 
 -- a database with a table `spool` is looked at, and the tables of an earlier version become those
--- of this one
+-- of the one that is written
 pub record AdoptsSpool (tables : Option Version) (old new : db.State) (r : Result (Unit {0}) StoreFault) : Type 0 where
   pub inspected : (v : Version) → tables ≡ Some v → IsInspected v old new r
   pub spared : ((v : Version) → IsEarlier v → tables ≡ Some v → IsRefused r) → IsSpared old new r
@@ -86,8 +85,8 @@ pub record AdoptsSpool (tables : Option Version) (old new : db.State) (r : Resul
   pub unmade : IsUnmade old new r
   pub clean : StaysUnclean old new
 
--- any database: one without the spool's tables gets them, one with those of an earlier version gets
--- those of this one, and every other is looked at alone
+-- any database: one without the spool's tables gets them, those of an earlier version become those
+-- of the one that is written, and every other database is looked at alone
 pub record Adopts (old new : db.State) (r : Result (Unit {0}) StoreFault) : Type 0 where
   pub inspected : (v : Version) → IsInspected v old new r
   pub spared : ¬ HasNone old.now.schema → (HasEarlier old.now.schema → IsRefused r) → IsSpared old new r
