@@ -14,7 +14,6 @@ pub mod Becoming
 pub mod Creating
 pub mod Composing
 pub mod Adopting
-pub mod OfState
 pub mod Rows
 pub mod Verdict
 pub mod Formats

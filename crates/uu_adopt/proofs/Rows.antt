@@ -25,7 +25,8 @@ use Rattle.uu_schema.specs.Held.{system_key, line_key, range_key, job_key, piece
 use Rattle.uu_rows.specs.Readable.{IsSmall, IsSystem, IsLine, IsRange, IsHead, IsSize, IsEntry, IsWait, IsLink, IsTaken}
 use Rattle.uu_rows.specs.Order.{system_cmp, line_cmp, range_cmp, head_cmp, piece_cmp, entry_cmp, wait_cmp, link_cmp, taken_cmp}
 use Rattle.uu_adopt.specs.Reading.{AreInOrder, AreRows}
-use Rattle.uu_adopt.proofs.OfState.{ascending_pairs, heads_good, same_name, same_number}
+use Rattle.uu_rows.proofs.Heads.{heads_good}
+use Rattle.uu_rows.proofs.InOrder.{ascending_pairs, same_name, same_number}
 
 -- ---- what a state has can be read
 

@@ -24,7 +24,7 @@ use Rattle.uu_tables.specs.declared.rows.RangeColumns.{RangeColumns}
 use Rattle.uu_tables.specs.declared.rows.WaitColumns.{WaitColumns}
 use Rattle.uu_tables.specs.Tables.{PlacedLine, system_columns, call_columns, placed, placed_from, line_columns, range_columns, ranges_of, waits_from, waits_of, outcome_number, reason_of}
 use Rattle.uu_questions.specs.Assembly.{is_line_of, is_range_of, is_wait_of, is_range_of_line, own, others, range_of, lines_from, wait_from, lines_and_wait, lines_and_wait_of_each, HaveWindows, MakeSystems}
-use Rattle.uu_questions.proofs.InOrder.{by_recursion}
+use Rattle.uu_rows.proofs.InOrder.{by_recursion}
 
 -- ---- texts
 

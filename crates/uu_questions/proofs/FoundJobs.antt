@@ -11,7 +11,7 @@ use Rattle.uu_core.specs.declared.job.JobHead.{JobHead}
 use Rattle.uu_core.specs.State.{State, Job, IsWellFormed, head_of}
 use Rattle.uu_core.specs.Laws.{AreFound, is_named}
 use Rattle.sqlite_keyed.proofs.ListLemmas.{ascending-map}
-use Rattle.uu_questions.proofs.InOrder.{ascending_pairs}
+use Rattle.uu_rows.proofs.InOrder.{ascending_pairs}
 
 abbrev pub has_number : ℕ → JobHead → Bool
 has_number n j = j.number == n

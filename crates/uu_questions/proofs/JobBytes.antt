@@ -14,7 +14,7 @@ use Rattle.uu_core.specs.State.{State, Job, IsWellFormed, head_of, job_at, is_jo
 use Rattle.uu_tables.specs.Tables.{Piece, tables_of, pieces_of, piece_count}
 use Rattle.uu_check.proofs.Cuts.{pieces_from}
 use Rattle.uu_questions.specs.Listing.{handed_out, whole}
-use Rattle.uu_questions.proofs.InOrder.{ascending_pairs}
+use Rattle.uu_rows.proofs.InOrder.{ascending_pairs}
 use Rattle.uu_questions.proofs.Listed.{is_piece_of}
 use Rattle.uu_questions.proofs.Rising.{as_pieces}
 

@@ -39,9 +39,10 @@ use Rattle.uu_questions.proofs.Meanings.{next_means, known_means, waiting_means,
 use Rattle.uu_rows.proofs.Comparing.{beside, numbered, int_cmp-nat, below_is, int_eq-nat}
 use Rattle.uu_rows.proofs.Typed.{typed_moved, typed_only}
 use Rattle.uu_rows.specs.Readable.{IsHead}
-use Rattle.uu_questions.proofs.InOrder.{ascending_pairs}
+use Rattle.uu_rows.proofs.InOrder.{ascending_pairs}
 use Rattle.uu_rows.proofs.Back.{same_one, head_back, head_returns}
-use Rattle.uu_questions.proofs.OfState.{heads_good, found_good, found_mapped}
+use Rattle.uu_rows.proofs.Heads.{heads_good}
+use Rattle.uu_questions.proofs.Finding.{found_good, found_mapped}
 
 -- ---- the next number
 

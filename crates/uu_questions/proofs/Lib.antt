@@ -1,8 +1,7 @@
 pub mod Meanings
 pub mod Answering
 pub mod Asking
-pub mod InOrder
-pub mod OfState
+pub mod Finding
 pub mod Known
 pub mod FoundJobs
 pub mod Assembled

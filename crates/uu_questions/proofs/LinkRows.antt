@@ -28,8 +28,8 @@ use Rattle.uu_questions.specs.Answers.{IsOf}
 use Rattle.uu_questions.specs.Links.{below_in, taken_in}
 use Rattle.uu_questions.specs.Texts.{link_text, taken_text}
 use Rattle.uu_questions.proofs.Meanings.{link_means, taken_means}
-use Rattle.uu_questions.proofs.InOrder.{ascending_pairs}
-use Rattle.uu_questions.proofs.OfState.{found_mapped}
+use Rattle.uu_rows.proofs.InOrder.{ascending_pairs}
+use Rattle.uu_questions.proofs.Finding.{found_mapped}
 use Rattle.uu_questions.proofs.Rising.{links_rise, taken_rise}
 use Rattle.uu_rows.proofs.Back.{same_one, link_back, link_returns, taken_back, taken_returns}
 use Rattle.uu_rows.proofs.Comparing.{int_eq-nat}

@@ -46,9 +46,10 @@ use Rattle.uu_questions.proofs.Meanings.{fit_terms, all_jobs_means, jobs_means, 
 use Rattle.uu_rows.proofs.Comparing.{beside, numbered, int_cmp-nat, int_eq-nat, below_is}
 use Rattle.uu_rows.proofs.Typed.{typed_sorted, typed_only}
 use Rattle.uu_rows.proofs.InTables.{entries_are}
-use Rattle.uu_questions.proofs.InOrder.{ascending_pairs}
+use Rattle.uu_rows.proofs.InOrder.{ascending_pairs}
 use Rattle.uu_rows.proofs.Back.{same_all, same_one, head_back, head_returns, entry_back, entry_returns}
-use Rattle.uu_questions.proofs.OfState.{heads_good, found_mapped}
+use Rattle.uu_rows.proofs.Heads.{heads_good}
+use Rattle.uu_questions.proofs.Finding.{found_mapped}
 use Rattle.uu_questions.proofs.Rising.{pieces_rise}
 
 -- what is bound of a text that may be wanted

@@ -13,7 +13,7 @@ use Rattle.uu_tables.specs.declared.rows.WaitColumns.{WaitColumns}
 use Rattle.uu_tables.specs.Tables.{Tables, system_columns, line_columns, placed, ranges_of}
 use Rattle.uu_check.specs.OfState.{AreTables}
 use Rattle.uu_questions.specs.Assembly.{holding, AreRowsOfSystems, MakeSystems, lines_and_wait, lines_and_wait_of_each}
-use Rattle.uu_questions.proofs.InOrder.{by_recursion, ascending_pairs}
+use Rattle.uu_rows.proofs.InOrder.{by_recursion, ascending_pairs}
 use Rattle.uu_questions.proofs.Assembled.{assembled, rows_make, same_rows}
 
 -- ---- a spool of systems alone

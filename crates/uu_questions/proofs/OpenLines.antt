@@ -24,7 +24,8 @@ use Rattle.uu_questions.specs.Dues.{lets_through, is_open, is_among}
 use Rattle.uu_questions.proofs.Known.{any_mapped}
 use Rattle.uu_questions.proofs.Assembled.{text_to, text_from, not_true}
 use Rattle.uu_questions.proofs.DueRows.{or-false}
-use Rattle.uu_questions.proofs.Rising.{LineBefore, same_name, same_number, names_rise, placed_rise}
+use Rattle.uu_rows.proofs.InOrder.{same_name, same_number}
+use Rattle.uu_questions.proofs.Rising.{LineBefore, names_rise, placed_rise}
 
 -- ---- truths
 

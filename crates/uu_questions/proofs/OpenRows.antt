@@ -38,7 +38,7 @@ use Rattle.uu_rows.proofs.InTables.{systems_are}
 use Rattle.uu_questions.specs.Answers.{IsOf}
 use Rattle.uu_questions.specs.Dues.{lets_through, is_open}
 use Rattle.uu_questions.specs.Texts.{held_text, open_text}
-use Rattle.uu_questions.proofs.InOrder.{by_recursion}
+use Rattle.uu_rows.proofs.InOrder.{by_recursion}
 use Rattle.uu_questions.proofs.Known.{any_mapped}
 use Rattle.uu_questions.proofs.Meanings.{held_terms, held_means, open_terms, open_query, open_means}
 use Rattle.uu_questions.proofs.OpenLines.{any_same, any_flat, any_one, joined, lets_line, open_systems}

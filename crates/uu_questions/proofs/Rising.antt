@@ -1,9 +1,6 @@
 -- The tables of a state stand in the order of their keys, as the answers to questions with ORDER BY
 -- do.
-use Rattle.std.proofs.Common.{◌≡◌, ℕ, List, length, flat_map, Less, Equal, Greater, Ordering, refl}
-use Rattle.std.specs.Ordering.{nat_cmp, ordering_reverse}
-use Rattle.std.specs.Cmp.Lexicographic.{slice_cmp}
-use Rattle.std.proofs.lemmas.Cmp.{nat_list_cmp_total, nat_cmp_total}
+use Rattle.std.proofs.Common.{◌≡◌, List, length, flat_map, Less}
 use Rattle.sqlite.specs.Tree.{IsAscending}
 use Rattle.sqlite_keyed.proofs.ListLemmas.{ascending_from_map}
 use Rattle.uu_core.specs.declared.system.SystemRow.{SystemRow}
@@ -12,22 +9,7 @@ use Rattle.uu_tables.specs.Tables.{PlacedLine, tables_of, line_columns, placed, 
 use Rattle.uu_check.proofs.Cuts.{pieces_from, as_from}
 use Rattle.uu_check.proofs.Rising.{in_order}
 use Rattle.uu_rows.specs.Order.{line_cmp, range_cmp, wait_cmp, link_cmp, taken_cmp, piece_cmp}
-use Rattle.uu_questions.proofs.InOrder.{ascending_pairs}
-
--- ---- comparisons
-
-own_equal : (r : Ordering) → r ≡ ordering_reverse r → r ≡ Equal
-own_equal Less h = absurd (cc)
-own_equal Equal h = refl
-own_equal Greater h = absurd (cc)
-
-pub same_name : (a : List ℕ) → slice_cmp nat_cmp a a ≡ Equal
-same_name a = own_equal _ (nat_list_cmp_total.antisymm a a)
-
-pub same_number : (n : ℕ) → nat_cmp n n ≡ Equal
-same_number n = own_equal _ (nat_cmp_total.antisymm n n)
-
--- ---- tables
+use Rattle.uu_rows.proofs.InOrder.{ascending_pairs}
 
 pub names_rise : (s : State) → IsWellFormed s → IsAscending (λ (a b : SystemRow). ComesBefore a.def.name b.def.name) s.systems
 names_rise s good = ascending_pairs (λ (a b : SystemRow). ComesBefore a.def.name b.def.name) s.systems good.by_name

@@ -10,3 +10,5 @@ pub mod Showing
 pub mod Back
 pub mod Comparing
 pub mod InTables
+pub mod InOrder
+pub mod Heads

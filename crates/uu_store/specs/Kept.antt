@@ -1,4 +1,4 @@
--- What is kept of a state: its tables, of either version, or no tables at all where the state is
+-- What is kept of a state: its tables, of any version, or no tables at all where the state is
 -- that of an empty spool.
 use Rattle.std.specs.Prelude.{◌≡◌, ◌⊎◌}
 use Rattle.sqlite.specs.Tree.{Trees}

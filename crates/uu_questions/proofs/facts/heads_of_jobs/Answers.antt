@@ -2,7 +2,7 @@ use Rattle.std.proofs.Common.{◌≡◌, map, refl, sym, ap, ◌∙◌, arith, �
 use Rattle.std.proofs.lemmas.List.{take_all}
 use Rattle.uu_core.specs.State.{head_of}
 use Rattle.uu_questions.proofs.Asking.{asks_as, asks_both, asks_beside, asks_refused}
-use Rattle.uu_questions.proofs.OfState.{found_mapped}
+use Rattle.uu_questions.proofs.Finding.{found_mapped}
 use Rattle.uu_questions.proofs.FoundJobs.{found_in, found_more, are_found, one_or_none}
 use Rattle.uu_questions.proofs.facts.heads_of_jobs.Goals as goal
 use Rattle.uu_questions.proofs.facts.heads_of_jobs.Goals.{in-Some+in_ok-push, in_default}

@@ -1,6 +1,9 @@
 -- Lists in order, by place and by recursion.
-use Rattle.std.proofs.Common.{suc, List, [], ◌∷◌, All, AllPairs, arith}
+use Rattle.std.proofs.Common.{◌≡◌, ℕ, suc, List, [], ◌∷◌, All, AllPairs, Equal, Less, Greater, Ordering, arith, refl}
 use Rattle.std.specs.List.{AllByRecursion}
+use Rattle.std.specs.Ordering.{nat_cmp, ordering_reverse}
+use Rattle.std.specs.Cmp.Lexicographic.{slice_cmp}
+use Rattle.std.proofs.lemmas.Cmp.{nat_list_cmp_total, nat_cmp_total}
 use Rattle.std.proofs.lemmas.List.Elements.{All-head, All-tail}
 use Rattle.sqlite.specs.Tree.{IsAscending}
 
@@ -20,3 +23,16 @@ module _ {X : Type 0} (R : X → X → Type 0) where
   pub ascending_pairs : (xs : List X) → AllPairs R xs → IsAscending R xs
   ascending_pairs [] h = tt
   ascending_pairs (x ∷ xs) h = (by_recursion (R x) xs (pairs_first x xs h), ascending_pairs xs (pairs_rest x xs h))
+
+-- ---- names and numbers that are the same
+
+own_equal : (r : Ordering) → r ≡ ordering_reverse r → r ≡ Equal
+own_equal Less h = absurd (cc)
+own_equal Equal h = refl
+own_equal Greater h = absurd (cc)
+
+pub same_name : (a : List ℕ) → slice_cmp nat_cmp a a ≡ Equal
+same_name a = own_equal _ (nat_list_cmp_total.antisymm a a)
+
+pub same_number : (n : ℕ) → nat_cmp n n ≡ Equal
+same_number n = own_equal _ (nat_cmp_total.antisymm n n)
