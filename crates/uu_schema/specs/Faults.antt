@@ -1,7 +1,7 @@
 -- The faults of the store. (Their numbers are this project's choice.)
-use Rattle.std.specs.Prelude.{◌≡◌, ℕ, ⊤}
+use Rattle.std.specs.Prelude.{◌≡◌, ◌≢◌, ℕ, ⊤}
 use Rattle.sqlite.specs.declared.error.ErrorCode.{ErrorCode}
-use Rattle.sqlite.specs.declared.error.ErrorCode.TheVariants.{SystemIoFailure, DatabaseCorrupt, DiskFull, TooBig}
+use Rattle.sqlite.specs.declared.error.ErrorCode.TheVariants.{SystemIoFailure, DatabaseCorrupt, DiskFull, OutOfMemory, TooBig}
 use Rattle.sqlite.specs.declared.error.Error.{Error}
 use Rattle.sqlite.specs.declared.error.Error.TheVariants.{SqliteFailure}
 use Rattle.uu_schema.specs.declared.fault.StoreKind.{StoreKind}
@@ -41,6 +41,10 @@ IsFaultOfThisCall Newer = ⊥
 -- a part of the store that it names is that of the error
 abbrev pub NamesPartOf : Error → StoreFault → Type 0
 NamesPartOf error fault = (kind : StoreKind) → fault ≡ Store kind → kind ≡ kind_of_error error
+
+-- of any error but want of memory it is the failure of the part that the error tells of
+abbrev pub NamesPartUnlessMemory : Error → StoreFault → Type 0
+NamesPartUnlessMemory error fault = error ≢ SqliteFailure OutOfMemory → fault ≡ Store (kind_of_error error)
 
 -- of a commit that was refused it names the part, and is never want of memory
 abbrev pub NamesPartOfCommit : Halt → StoreFault → Type 0

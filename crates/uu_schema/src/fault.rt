@@ -1,7 +1,7 @@
 // Why the store gives no answer.
 ghost use Rattle.std.specs.Prelude.{◌≡◌, ◌↔◌, IsTrue};
 ghost use Rattle.uu_schema.specs.Steps.{IsIdle, UnchangedIf, CommitsNothing};
-ghost use Rattle.uu_schema.specs.Faults.{IsFaultOfThisCall, NamesPartOf, NamesPartOfCommit, fault_code, kind_of_error};
+ghost use Rattle.uu_schema.specs.Faults.{IsFaultOfThisCall, NamesPartOf, NamesPartOfCommit, NamesPartUnlessMemory, fault_code, kind_of_error};
 ghost use Rattle.uu_schema.specs.declared.fault.StoreFault.TheVariants.{Memory};
 ghost use Rattle.uu_schema.specs.declared.fault.Halt.TheVariants.{Before};
 
@@ -128,6 +128,7 @@ pub fn store_fault<S: Alter>(conn: &mut Connection<S>, error: &SqlError) -> Stor
     ensures idle { IsIdle conn.new }
     ensures fresh { IsFaultOfThisCall result }
     ensures kind { NamesPartOf error.now result }
+    ensures other { NamesPartUnlessMemory error.now result }
     ensures memory { UnchangedIf S.Store (result ≡ Memory) conn.old conn.new }
     ensures survives { CommitsNothing S.Store conn.old conn.new }
 {
