@@ -6,7 +6,7 @@ use Rattle.sqlite.specs.State.{HasCleanDisk}
 use Rattle.uu_core.specs.State.{State}
 use Rattle.uu_schema.specs.declared.fault.StoreFault.{StoreFault}
 use Rattle.uu_schema.specs.declared.fault.StoreFault.TheVariants.{Memory, Failed}
-use Rattle.uu_schema.specs.Faults.{NamesPartUnlessMemory}
+use Rattle.uu_schema.specs.Faults.{NamesPartOf, NamesPartUnlessMemory}
 use Rattle.uu_schema.specs.Steps.{CommitsNothing, StaysUnclean, UnchangedIf}
 use Rattle.uu_schema.specs.Encoded.{Leaves}
 use Rattle.uu_store.specs.declared.spool.Spool.{Spool}
@@ -33,11 +33,11 @@ pub record IsQuestion {S : Type 0} {g : Ghosts S} {T : Type 0} (IsAnswer : State
   pub failed : IsTrue (has_failed old) → (r ≡ Err Failed) × (new ≡ old)
 
 -- What the caller is told of an answer to a question over the connection: the answer as it is, or of
--- an error the fault, which is noted. Of any error but want of memory that is a failure of the store;
--- want of memory is told only where the connection was open and nothing changed.
+-- an error the fault, which is noted. That is a failure of the part that the error tells of, or want of
+-- memory, which is told of no other error and only where the connection was open and nothing changed.
 pub record IsTold {S : Type 0} {g : Ghosts S} {T : Type 0} (asked : Result T Error) (old new : Spool S g) (r : Result T StoreFault) : Type 0 where
   pub same : MatchResult r (λ answer. (asked ≡ Ok answer) × (new ≡ old)) (λ _. IsErr asked)
-  pub cause : IfErr r (λ fault. IfErr asked (λ error. NamesPartUnlessMemory error fault))
+  pub cause : IfErr r (λ fault. IfErr asked (λ error. NamesPartOf error fault × NamesPartUnlessMemory error fault))
   pub marked : IfErr r (IsFaultBetween false (has_failed new))
   pub noted : IfErr r (Notes (failure_of new))
   pub memory : UnchangedIf g (r ≡ Err Memory) (connection_of old) (connection_of new)

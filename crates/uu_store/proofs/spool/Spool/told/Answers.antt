@@ -2,7 +2,7 @@ use Rattle.std.proofs.Common.{◌≡◌, false, inl, refl, sym, ap, subst, ◌�
 use Rattle.std.specs.Prelude.{is_err, IfErr}
 use Rattle.uu_schema.specs.declared.fault.StoreFault.TheVariants.{Memory}
 use Rattle.uu_schema.proofs.Resting.{is_memory}
-use Rattle.uu_schema.specs.Faults.{NamesPartUnlessMemory}
+use Rattle.uu_schema.specs.Faults.{NamesPartOf, NamesPartUnlessMemory}
 use Rattle.uu_schema.specs.Steps.{CommitsNothing, UnchangedIf}
 use Rattle.uu_store.specs.Spool.{failure_of, has_failed, IsFaultBetween, Notes}
 use Rattle.uu_store.proofs.spool.Spool.told.Goals as goal
@@ -26,7 +26,8 @@ returns-in-Err g c =
     let same = sym c.noted.ensures.connection in
     record {
       same = ap is_err c.in-Err.is;
-      cause = subst (λ asked. IfErr asked (λ error. NamesPartUnlessMemory error c.noted.result)) (sym c.in-Err.is) (subst (NamesPartUnlessMemory c.in-Err.error) told c.store_fault-fault.ensures.other);
+      cause = subst (λ asked. IfErr asked (λ error. NamesPartOf error c.noted.result × NamesPartUnlessMemory error c.noted.result)) (sym c.in-Err.is)
+          (subst (NamesPartOf c.in-Err.error) told c.store_fault-fault.ensures.kind, subst (NamesPartUnlessMemory c.in-Err.error) told c.store_fault-fault.ensures.other);
       marked = subst (IsFaultBetween false (has_failed now)) told (c.noted.ensures.marked c.store_fault-fault.ensures.fresh);
       noted = subst (Notes (failure_of now)) told c.noted.ensures.noted;
       memory = λ clean is. subst (UnchangedIf g.S.Store (fault ≡ Memory) conn) same c.store_fault-fault.ensures.memory clean (told ∙ is_memory c.noted.result is);
