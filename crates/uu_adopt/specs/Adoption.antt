@@ -85,8 +85,8 @@ pub record AdoptsSpool (tables : Option Version) (old new : db.State) (r : Resul
   pub unmade : IsUnmade old new r
   pub clean : StaysUnclean old new
 
--- any database: one without tables gets the spool's, those of an earlier version become those of the
--- one that is written, and every other database that has one of the names is looked at alone
+-- any database: one without tables gets the spool's, those of an earlier version become those of
+-- the one that is written, and every other that has one of the names is looked at alone
 pub record Adopts (old new : db.State) (r : Result (Unit {0}) StoreFault) : Type 0 where
   pub inspected : (v : Version) → IsInspected v old new r
   pub spared : ¬ HasNone old.now.schema → (HasEarlier old.now.schema → IsRefused r) → IsSpared old new r

@@ -32,9 +32,9 @@ pub record IsQuestion {S : Type 0} {g : Ghosts S} {T : Type 0} (IsAnswer : State
   -- a spool that failed is left as it was
   pub failed : IsTrue (has_failed old) → (r ≡ Err Failed) × (new ≡ old)
 
--- What the caller is told of an answer to a question over the connection: the answer as it is, or of
--- an error the fault, which is noted. That is a failure of the part that the error tells of, or want of
--- memory, which is told of no other error and only where the connection was open and nothing changed.
+-- What the caller is told of an answer to a question over the connection: the answer as it is, or
+-- of an error the fault, which is noted. That is a failure of the part that the error tells of; or
+-- want of memory, of that error alone, where the connection was open and nothing changed.
 pub record IsTold {S : Type 0} {g : Ghosts S} {T : Type 0} (asked : Result T Error) (old new : Spool S g) (r : Result T StoreFault) : Type 0 where
   pub same : MatchResult r (λ answer. (asked ≡ Ok answer) × (new ≡ old)) (λ _. IsErr asked)
   pub cause : IfErr r (λ fault. IfErr asked (λ error. NamesPartOf error fault × NamesPartUnlessMemory error fault))
