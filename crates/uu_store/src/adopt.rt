@@ -29,9 +29,9 @@ impl<S: Alter> Spool<S> {
 
     /// Takes the database as a spool: one without tables, or with others alone, gets the spool's,
     /// in one transaction. One that has these, and no others, is taken exactly where its rows are
-    /// those of a spool's state. Where its tables are those of an earlier version, they become those
-    /// of version 3 then, in one transaction. One that has some of them, and not all of a version
-    /// with their columns, is never taken.
+    /// those of a spool's state. Where its tables are those of an earlier version, they become
+    /// those of version 3 then, in one transaction. One that has some of them, and not all of a
+    /// version with their columns, is never taken.
     ///
     /// # Errors
     /// The connection is handed back with no transaction open. `Foreign` where a table stands under
