@@ -81,7 +81,7 @@ take_answers() {
         done:*" $number "*) leave 'done' ;;
         refused:*" $number "*)
             complain "job $number refused: $reason"
-            if keep "$reason"; then leave refused "$reason"; else why='a refused job cannot be kept'; fi
+            if keep; then leave refused "$reason"; else why='a refused job cannot be kept'; fi
             ;;
         waits:*" $number "*) why=${why:-$reason} ;;
         failed:*) why=$number${reason:+ $reason} ;;
@@ -115,7 +115,7 @@ keep() {
         copy=$((copy + 1))
         kept=$refused/$number.$copy
     done
-    printf '%s\n' "$1" >"$kept.why" && cp -- "$folder/$number" "$refused/.$number.new" &&
+    printf '%s\n' "$reason" >"$kept.why" && cp -- "$folder/$number" "$refused/.$number.new" &&
         sync "$refused/.$number.new" && mv -f -- "$refused/.$number.new" "$kept" &&
         sync "$refused" "$site_folder"
 }
