@@ -115,7 +115,8 @@ keep() {
         copy=$((copy + 1))
         kept=$refused/$number.$copy
     done
-    printf '%s\n' "$reason" >"$kept.why" && cp -- "$folder/$number" "$refused/.$number.new" &&
+    printf '%.200s\n' "$reason" | tr -c ' -~\n' '?' >"$kept.why" &&
+        cp -- "$folder/$number" "$refused/.$number.new" &&
         sync "$refused/.$number.new" && mv -f -- "$refused/.$number.new" "$kept" &&
         sync "$refused" "$site_folder"
 }
