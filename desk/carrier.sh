@@ -10,7 +10,8 @@
 # With -a it prints, as soon as that is known, `done NUMBER` for each job that left and
 # `refused NUMBER WHY` for each that never will be taken, and at the end `failed WHY` where others
 # wait. The status is 75 where one waits, else 0; without -a it is 69 where the job is refused. A
-# refused job is kept first, as refused/NUMBER in the site's folder, on the disk.
+# refused job is kept first, on the disk, as refused/NUMBER in the site's folder, or NUMBER.2 and so
+# on where another job has that name; why it was refused stands in the same name with .why behind.
 #
 # $UUSPOOL is the program that is asked about the sender's spool, as night-calls names it;
 # $UUSPOOL_DIR the site's folder, else the working directory; $UUSPOOL_FILE the spool's file, else
@@ -104,9 +105,18 @@ leave() {
     fi
 }
 
-# What the neighbour refused is on the disk before it is told of, and killed.
+# What the neighbour refused is on the disk before it is told of, and killed. The same bytes are one
+# file, and no other one is overwritten: a spool that was begun anew counts from 1 again.
 keep() {
-    kept=$site_folder/refused
-    mkdir -p -- "$kept" && cp -- "$folder/$number" "$kept/$number" &&
-        sync "$kept/$number" "$kept" "$site_folder"
+    refused=$site_folder/refused
+    kept=$refused/$number copy=1
+    mkdir -p -- "$refused" || return
+    while [ -e "$kept" ] && ! cmp -s -- "$folder/$number" "$kept"; do
+        copy=$((copy + 1))
+        kept=$refused/$number.$copy
+    done
+    printf '%.200s\n' "$reason" | tr -c ' -~\n' '?' >"$kept.why" &&
+        cp -- "$folder/$number" "$refused/.$number.new" &&
+        sync "$refused/.$number.new" && mv -f -- "$refused/.$number.new" "$kept" &&
+        sync "$refused" "$site_folder"
 }
