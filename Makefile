@@ -5,7 +5,7 @@
 #   make quick      what takes seconds and proves nothing, on the program that is there
 #   make test       the gate: every proof from nothing (but for what the kit kept of a gate that
 #                   passed here), every edit that has to be refused, every test and run, and then
-#                   the scripts below, one after the other
+#                   the tests of tests/, one after the other
 #   make bench      what calls of the spool cost over a real file
 #   make install    build/uuspool, the desk and what stands behind mailers, man pages, completions and
 #                   examples below $(DESTDIR)$(PREFIX); make uninstall takes them away
@@ -36,24 +36,29 @@ quick:
 test:
 	@scripts/check-tree
 	@scripts/check-texts
-	@lanes=$$(scripts/lanes) && RT_JOBS=$$lanes rt ci
-	@scripts/check-help
-	@scripts/readme-session
-	@scripts/package-test
-	@scripts/transcripts
-	@scripts/next-calls
-	@scripts/failing-streams
-	@scripts/syncs
-	@scripts/migration-stops
-	@scripts/batch-stops
-	@scripts/crossings
-	@scripts/damaged-files
-	@scripts/desk-test
-	@scripts/page-test
-	@scripts/carriers-test
-	@scripts/network
-	@scripts/uucico-test
-	@scripts/refused-memory
+	@scripts/reviewed
+	@lanes=$$(scripts/lanes) && RT_JOBS=$$lanes scripts/prove-all
+	@tests/check-help
+	@tests/readme-session
+	@tests/package
+	@tests/transcripts
+	@tests/next-calls
+	@tests/failing-streams
+	@tests/syncs
+	@tests/migration-stops
+	@tests/batch-stops
+	@tests/unpack-stops
+	@tests/operator-size
+	@tests/crossings
+	@tests/bundle-exchange
+	@tests/damaged-files
+	@tests/desk
+	@tests/causes
+	@tests/page
+	@tests/calls
+	@tests/site
+	@tests/refused-memory
+	@scripts/prove-all --again
 
 install: build
 	@scripts/install build/uuspool '$(PREFIX)' '$(DESTDIR)'

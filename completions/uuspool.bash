@@ -1,10 +1,10 @@
-# What bash offers behind `uuspool` and `uuspool-ask`: subcommands, and the options of each.
+# What bash offers behind `uuspool`: subcommands, and the options of each.
 # shellcheck shell=bash
 
 _uuspool() {
     local word=${COMP_WORDS[COMP_CWORD]} before=${COMP_WORDS[COMP_CWORD - 1]} subcommand='' at words
     local subcommands='load drop send request exec mail list show kill regrade rejuvenate due when
-        queues status systems failed done forget map neighbours name batch help'
+        queues status systems failed done forget pack unpack settle answer map neighbours name batch init help'
     for ((at = 1; at < COMP_CWORD; at++)); do
         case ${COMP_WORDS[at]} in
         -c | --at | --as) ((at++)) ;;
@@ -17,18 +17,21 @@ _uuspool() {
         mapfile -t COMPREPLY < <(compgen -f -- "$word")
         return
         ;;
-    :--at | :--as | *:-g | *:--once | *:-s | *:-u) return ;;
+    :--at | :--as | *:-g | *:--once | *:--spool | *:--after | *:-s | *:-u) return ;;
     esac
     case $subcommand in
     '') words="-c --at --as -h --help -V --version $subcommands" ;;
     send | request | exec | mail) words='-g --once -h --help' ;;
     list) words='-s -u -h --help' ;;
-    due | when | queues | systems) words='-s -h --help' ;;
+    when) words='-a -s -h --help' ;;
+    due | queues | systems) words='-s -h --help' ;;
+    pack | answer) words='-g --spool --after --no-jobs -h --help' ;;
+    settle) words='--spool -h --help' ;;
     help) words=$subcommands ;;
-    batch) words='' ;;
+    batch | init) words='' ;;
     *) words='-h --help' ;;
     esac
     mapfile -t COMPREPLY < <(compgen -W "$words" -- "$word")
 }
 
-complete -F _uuspool uuspool uuspool-ask
+complete -F _uuspool uuspool

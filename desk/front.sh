@@ -1,7 +1,7 @@
 # shellcheck shell=sh
-# What uux, uucp, uustat and uuname share: how options are read, how the spool is asked, and the
-# statuses, which are those of sysexits. Words come from strangers. Each is handed on as one word,
-# behind `=` or `--`, and none is read by a shell again.
+# What uux, uucp, uustat and uuname share: reading options, asking the spool, and the statuses,
+# which are those of sysexits. Words come from strangers. Each is passed on as one word, after `=`
+# or `--`, and no shell reads it again.
 
 bin=/usr/local/bin
 front=${0##*/}
@@ -11,7 +11,13 @@ later=75   # try again
 LC_ALL=C
 export LC_ALL
 
-# A shell that can't go on, as where it can't fork, ends with statuses of its own.
+# A local user may not enter the spool's folder, so he asks by sudo, which says who he is.
+spool=$bin/uuspool
+if [ -z "${UUSPOOL_DIR-}" ] && [ -d /var/spool/uuspool ] && ! [ -O /var/spool/uuspool ] && [ ! -f uuspool.toml ]; then
+    spool="sudo -n -u $(stat -c %U /var/spool/uuspool) -- $lib/for-user"
+fi
+
+# If a shell can't go on, for example because it can't fork, it ends with a status of its own.
 trap 'case $? in 0 | "$usage" | "$refused" | "$later") ;; *) exit "$later" ;; esac' EXIT
 
 fail() {
@@ -19,9 +25,9 @@ fail() {
     exit "$1"
 }
 
-# Hands each option of the words to `option LETTER VALUE` of the script, whose $valued has the
-# letters with a value and whose `letter_of` knows the long names. $used is then the number of words
-# that were options.
+# Calls `option LETTER VALUE` of the script for each option of the words. $valued has the letters
+# with a value, and `letter_of` knows the long names. $used is then the number of words that were
+# options.
 read_options() {
     total=$#
     while [ $# -gt 0 ]; do
@@ -38,7 +44,7 @@ read_options() {
             case $valued in
             *"$letter"*)
                 letters=''
-                # A value that is empty may leave its letter alone before the `-` that is standard
+                # If a value is empty, its letter may come right before the `-` that means standard
                 # input.
                 if [ -z "$value" ] && [ "${1-}" != - ]; then
                     [ $# -gt 0 ] || fail "$usage" "-$letter wants a value"
@@ -53,7 +59,7 @@ read_options() {
     used=$((total - $#))
 }
 
-# A long option in letters: its letter, and its value right behind it.
+# A long option as letters: its letter, and its value right after it.
 read_long() {
     letters=$(letter_of "${1%%=*}") || unknown "$1"
     case $1 in
@@ -71,17 +77,19 @@ unknown() {
     fail "$usage" "no option $1: see $front --help"
 }
 
-# Asks the spool. $said is what the program printed; where it isn't done, that is told, and the
-# status is one of sysexits. The program's status 2 stands for faulty words and for faulty settings.
-# These are the site's fault, so a message waits until they are mended; a question whose words are
-# right has that status for them alone. An input that is too large is the words' fault to the
-# program, and none to a mailer.
+# Asks the spool. $said is what the program printed. If the request fails, it prints the error and
+# ends with a status of sysexits.
+#
+# The program's status 2 means faulty words or faulty settings. Faulty settings are the site's
+# fault, so a message waits until they are corrected. If the words of a question are right, status 2
+# can only mean the settings. An input that is too large is a fault of the words for the program,
+# but not for a mailer.
 ask() {
-    said=$("$bin/uuspool-ask" "$@" 2>&1) && return
+    said=$($spool "$@" 2>&1) && return
     case $?:$said in
     1:* | 2:'uuspool: too much input') status=$refused ;;
     2:*)
-        "$bin/uuspool-ask" status >/dev/null 2>&1
+        $spool status >/dev/null 2>&1
         if [ $? = 2 ]; then status=$later; else status=$usage; fi
         ;;
     *) status=$later ;;
@@ -90,8 +98,8 @@ ask() {
     exit "$status"
 }
 
-# Asks for a job, and tells its number where that is wanted.
+# Queues a job, and prints its number if that is wanted.
 queue() {
     ask "$@"
-    [ -z "$numbers" ] || printf '%s\n' "${said#job }"
+    [ -z "$numbers" ] || printf '%s\n' "${said#job }" | head -n 1
 }

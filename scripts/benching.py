@@ -16,7 +16,7 @@ SEND = b"send site0 /tmp/letter ~/letter"
 
 
 def ended(what):
-    """Ends the script: what was measured went wrong."""
+    """Ends the script with an error: a measured run went wrong."""
     sys.exit(f"{os.path.basename(sys.argv[0])}: {what}")
 
 
@@ -33,8 +33,7 @@ def stream(jobs, bytes_of_each):
 
 def make(program, jobs, bytes_of_each):
     """Makes a spool in the working directory with 100 systems, which may be called at any time,
-    and so many jobs for them in turn. The log is copied into the file, where the program closes
-    it."""
+    and so many jobs for them in turn. The log is copied into the file if the program closes it."""
     for name in FILES:
         if os.path.exists(name):
             os.remove(name)
@@ -54,9 +53,9 @@ def put(source, target):
 
 
 def give(program, requests):
-    """Gives a batch these requests, and throws its answers away."""
-    # (one by one, since memory that is taken here would count as that of each process that is
-    # started later)
+    """Gives a batch these requests, and ignores its answers."""
+    # (one by one, because memory that this process allocates would count for each process that it
+    # starts later)
     batch = subprocess.Popen([program, "batch"], stdin=subprocess.PIPE, stdout=subprocess.DEVNULL)
     for request in requests:
         batch.stdin.write(request)
@@ -66,8 +65,8 @@ def give(program, requests):
 
 
 def taken(words, given=subprocess.DEVNULL, **where):
-    """The seconds of a process from its start to its end, and those of the processor, of it and
-    of what it waited for; its output is thrown away."""
+    """The seconds of a process from its start to its end, and those of the processor for it and
+    the processes that it waited for. Its output is ignored."""
     begun = time.perf_counter()
     process = subprocess.Popen(words, stdin=given, stdout=subprocess.DEVNULL, **where)
     _, status, used = os.wait4(process.pid, 0)
@@ -79,7 +78,7 @@ def taken(words, given=subprocess.DEVNULL, **where):
 
 
 def processor_of(words):
-    """The seconds of the processor that a process takes, with no input."""
+    """The seconds of the processor for a process without input."""
     return taken(words)[1]
 
 
@@ -88,11 +87,11 @@ def median_ms(times):
 
 
 class Batch:
-    """A batch that is asked one request after the other."""
+    """A batch that gets one request after the other."""
 
     def __init__(self, program):
         self.spool = subprocess.Popen([program, "batch"], stdin=subprocess.PIPE, stdout=subprocess.PIPE)
-        # (the spool is open behind its first answer)
+        # (the spool is open after its first answer)
         self.ask(b"due")
 
     def ask(self, words, given=b""):
@@ -101,7 +100,7 @@ class Batch:
         return self.answer()
 
     def answer(self):
-        """The output of the next answer, which has to be a good one."""
+        """The output of the next answer, which has to have status 0."""
         status, *counts = self.spool.stdout.readline().split()
         output, errors = [self.spool.stdout.read(int(count)) for count in counts]
         if status != b"0":
@@ -122,7 +121,7 @@ class Batch:
 
     def processor(self):
         """The seconds of the processor that it has taken so far."""
-        # (the clock of a process, as clock_getcpuclockid of Linux makes its number)
+        # (the number of a process's clock, as clock_getcpuclockid of Linux makes it)
         return time.clock_gettime((~self.spool.pid << 3) | 2)
 
     def send_many(self, jobs):

@@ -1,19 +1,20 @@
 /* Loaded before the C library (LD_PRELOAD) into a program of the kit, this refuses requests for
  * memory.
  *
- * Which ones are refused is said in one of two ways:
+ * There are two ways to say which ones:
  *   REFUSE=N      the Nth request of the process, counted from 1 at the first one of main;
  *                 REFUSE=N+ that one and every later one
- *   by requests   of sizes that no program asks for otherwise, so that a test says it of one call:
+ *   by requests   of sizes that no program asks for otherwise, so that a test can refuse those of
+ *                 one call:
  *                 ALONE + n: from here on the nth request is refused
  *                 ONWARDS + n: the nth one and every later one
- *                 ENOUGH: ends that; it is itself refused where a request was refused since, by
- *                 which the test learns it
- * REFUSE_TOLD=FD: at the end of the process, the number of its requests and how many were refused
- * are written there.
+ *                 ENOUGH: ends that; if a request was refused since, ENOUGH is refused too, which
+ *                 tells the test
+ * REFUSE_TOLD=FD: at the end of the process it writes there the number of its requests, and how
+ * many were refused.
  *
- * A program that rt builds asks for memory by malloc and realloc alone; the other functions are
- * here for what the C library itself asks.
+ * A program that rt builds asks for memory only by malloc and realloc. The other functions are here
+ * for the requests of the C library itself.
  */
 typedef unsigned long size_t;
 typedef long ssize_t;

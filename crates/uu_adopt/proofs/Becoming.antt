@@ -60,7 +60,7 @@ makes_empty good old new step = record { tables = step; good = good }
 pub migrates_states : (v : Version) (old new : Trees) → Migrates v old new → HoldsAgain v old new
 migrates_states v old new step s held = record { tables = step (tables_of s) held.tables; good = held.good }
 
--- ---- where want of memory was told, nothing can have been committed
+-- ---- after out of memory nothing can have been committed
 
 pub halted_unmade : (a b d : db.State) (halt : Halt) (w : Result (Unit {0}) Halt) (fault : StoreFault) → w ≡ Err halt → IsFaultOfThisCall fault → ((error : Error) → w ≡ Err (Before error) → db.Survives a b (λ _. ⊥))
     → ((error : Error) → halt ≡ Commit error → fault ≡ Store (kind_of_error error)) → db.Survives b d (λ _. ⊥) → UnlessFailed fault (db.HasCleanDisk d → LeavesNoMore a d)
@@ -124,7 +124,7 @@ module _ (v : Version) (a b d : db.State) (first : IsInspected v a b (Ok tt)) (s
   unmade_then (Ok x) h = tt
   unmade_then (Err fault) h = unless_weaker fault (λ k clean trees may. spared.stop (early clean) trees (k clean trees may)) h
 
--- ---- where memory was wanted before the commit, the database is as it was, whatever it holds
+-- ---- if memory ran out before the commit, the database is as it was, whatever it holds
 
 pub halted_spared : (a b d : db.State) (halt : Halt) (w : Result (Unit {0}) Halt) (fault : StoreFault) → w ≡ Err halt → IsFaultOfThisCall fault → b.in_transaction ≡ false → ((error : Error) → w ≡ Err (Before error) → db.HasCleanDisk b → Undid a b)
     → ((error : Error) → halt ≡ Commit error → fault ≡ Store (kind_of_error error)) → (db.HasCleanDisk d → fault ≡ Memory → IsTrue b.is_open × db.IsUnchanged b d) → db.Survives b d (λ _. ⊥)

@@ -71,7 +71,7 @@ module _ {S : Type 0} {g : Ghosts S} {v : Version} where
   pub and_then : {T U : Type 0} {P : Trees → T → Type 0} {Q : Trees → U → Type 0} {a b c : Held S} {x : T} {q : Result U Error} → ReadsFrom g v P a b (Ok x) → ReadsFrom g v Q b c q → ReadsFrom g v (λ trees y. P trees x × Q trees y) a c q
   and_then h k = record { idle = λ rests. k.idle (h.idle rests); reads = then_reads v _ _ _ _ _ _ _ h.reads k.reads }
 
--- what is read of the tables of one version is read of any, where that is this one
+-- what is read of the tables of one version is read of any, if that is this one
 module _ {S T : Type 0} (g : Ghosts S) (P : Version → Trees → T → Type 0) (v w : Version) (a b : Held S) where
   if_same : (r : Result T Error) → (v ≡ w → IfOk r (P w (state g a).now.trees)) → IfOk r (λ x. v ≡ w → P v (state g a).now.trees x)
   if_same (Ok x) k = λ is. subst (λ u. P u (state g a).now.trees x) (sym is) (k is)

@@ -30,10 +30,6 @@ found_version First = found_first
 found_version Second = found_second
 found_version Third = found_site
 
--- of a database that has the tables of a version every one is found
-pub tables_found : (v : Version) (a : db.State) (schema : Schema) (found : Found) → schema ≡ a.now.schema → found ≡ found_of schema → Stands (site_of v) a.now → found ≡ Spool (Some v)
-tables_found v a schema found has is stands = is ∙ ap found_of (has ∙ stands.schema) ∙ found_version v
-
 pub not_nothing : (v : Version) → Nothing ≡ Spool (Some v) → ⊥
 not_nothing v h = cc
 
@@ -56,11 +52,11 @@ none_found d stands = ap found_of stands.schema
 pub all_of_version : (v : Version) (d : Database) → Stands (site_of v) d → HasAllOf v d.schema
 all_of_version v d stands = ap found_of stands.schema ∙ found_version v
 
--- and so hasn't none of them
+-- so it doesn't lack all of them
 pub all_found : (v : Version) (d : Database) → Stands (site_of v) d → ¬ HasNone d.schema
 all_found v d stands none = let all = all_of_version v d stands in cc
 
--- the last version is none before it
+-- the last version isn't before itself
 pub not_last : (v : Version) → IsEarlier v → v ≡ Third → ⊥
 not_last First early is = cc
 not_last Second early is = cc

@@ -2,7 +2,7 @@
 use Rattle.std.proofs.Common.{◌≡◌, ℕ, Bool, true, false, ◌||◌, ◌&&◌, cond, List, [], ◌∷◌, Option, Some, None, codes, find, is_some, refl, ap, ◌∙◌}
 use Rattle.std.specs.List.{AllByRecursion, list_all}
 use Rattle.std.specs.Option.{option_map_or}
-use Rattle.std.proofs.lemmas.Bool.{or_parts}
+use Rattle.std.proofs.lemmas.Bool.{or_parts, and_parts, and_from}
 use Rattle.sqlite.specs.Schema.{Schema}
 use Rattle.sqlite.specs.Table.{Table}
 use Rattle.sqlite_rules.proofs.ListLemmas.{some_has, some_from}
@@ -72,21 +72,11 @@ lacks schema name columns it = ap (λ o. option_map_or (λ t. list_all (has_colu
 
 -- ---- tests of several tables
 
-two : (a b : Bool) → (a && b) ≡ true → (a ≡ true) × (b ≡ true)
-two true true is = (refl, refl)
-two true false is = absurd (cc)
-two false b is = absurd (cc)
-
 three : (a b c : Bool) → (a && b && c) ≡ true → (a ≡ true) × (b ≡ true) × (c ≡ true)
 three true true true is = (refl, refl, refl)
 three true true false is = absurd (cc)
 three true false c is = absurd (cc)
 three false b c is = absurd (cc)
-
-both : (a b : Bool) → a ≡ true → b ≡ true → (a && b) ≡ true
-both true true x y = refl
-both true false x y = absurd (cc)
-both false b x y = absurd (cc)
 
 all_three : (a b c : Bool) → a ≡ true → b ≡ true → c ≡ true → (a && b && c) ≡ true
 all_three true true true x y z = refl
@@ -114,7 +104,7 @@ none_of_seven false false false false true f g p q r s t u v = absurd (cc)
 none_of_seven false false false false false true g p q r s t u v = absurd (cc)
 none_of_seven false false false false false false true p q r s t u v = absurd (cc)
 
--- eight, of which the last is one of two
+-- eight, the last of which is one of two
 nine : (a b c d e f g h i : Bool) → (a || b || c || d || e || f || g || (h || i)) ≡ false → (a ≡ false) × (b ≡ false) × (c ≡ false) × (d ≡ false) × (e ≡ false) × (f ≡ false) × (g ≡ false) × (h ≡ false) × (i ≡ false)
 nine a b c d e f g h i is =
     let parts = or_parts (a || b || c || d || e || f || g) (h || i) is in
@@ -171,16 +161,16 @@ module _ (schema : Schema) where
   -- what the table `spool` says
   tells : (it : TellsVersion schema) → found_of schema ≡ Spool (tables_with schema it.table)
   tells it =
-      let here = two (has_column it.table (codes "id")) (list_all (has_column it.table) (codes "version" ∷ [])) (columns_found it.table (codes "id" ∷ codes "version" ∷ []) it.has_all) in
-      let next = two (has_column it.table (codes "version")) true here.1 in
-      ap (found_beside schema) it.is_first ∙ ap (λ b. cond b (Spool (tables_with schema it.table)) Other) (both (has_column it.table (codes "id")) (has_column it.table (codes "version")) here.0 next.0)
+      let here = and_parts (has_column it.table (codes "id")) (list_all (has_column it.table) (codes "version" ∷ [])) (columns_found it.table (codes "id" ∷ codes "version" ∷ []) it.has_all) in
+      let next = and_parts (has_column it.table (codes "version")) true here.1 in
+      ap (found_beside schema) it.is_first ∙ ap (λ b. cond b (Spool (tables_with schema it.table)) Other) (and_from (has_column it.table (codes "id")) (has_column it.table (codes "version")) here.0 next.0)
 
   abbrev told : (table : Table) → table_of schema (codes "spool") ≡ Some table → has_column table (codes "id") ≡ true → has_column table (codes "version") ≡ true → TellsVersion schema
   told table first id version = record {
     table = table;
     is_first = first;
     has_all = columns_there table (codes "id" ∷ codes "version" ∷ [])
-        (both (has_column table (codes "id")) (list_all (has_column table) (codes "version" ∷ [])) id (both (has_column table (codes "version")) true version refl));
+        (and_from (has_column table (codes "id")) (list_all (has_column table) (codes "version" ∷ [])) id (and_from (has_column table (codes "version")) true version refl));
   }
 
   pub record FoundWith (tables : Option Version) : Type 0 where
@@ -270,10 +260,10 @@ module _ (schema : Schema) where
   choose_first w h l t n whole waits taken named = rw (whole, waits, taken, named) refl
 
   links_there : has_links schema ≡ true → HasTableOf schema links × HasTableOf schema taken
-  links_there is = let it = two (has_table schema (codes "links") link_columns) (has_table schema (codes "taken") taken_columns) is in (table_there schema (codes "links") link_columns it.0, table_there schema (codes "taken") taken_columns it.1)
+  links_there is = let it = and_parts (has_table schema (codes "links") link_columns) (has_table schema (codes "taken") taken_columns) is in (table_there schema (codes "links") link_columns it.0, table_there schema (codes "taken") taken_columns it.1)
 
   links_found : HasTableOf schema links → HasTableOf schema taken → has_links schema ≡ true
-  links_found a b = both (has_table schema (codes "links") link_columns) (has_table schema (codes "taken") taken_columns) (table_found schema (codes "links") link_columns a) (table_found schema (codes "taken") taken_columns b)
+  links_found a b = and_from (has_table schema (codes "links") link_columns) (has_table schema (codes "taken") taken_columns) (table_found schema (codes "links") link_columns a) (table_found schema (codes "taken") taken_columns b)
 
   no_links : IsFree schema (codes "links") → has_links schema ≡ false
   no_links it = ap (λ b. b && has_table schema (codes "taken") taken_columns) (lacks schema (codes "links") link_columns it)

@@ -1,4 +1,4 @@
--- How looking at a database ends, with the fault that the caller is told.
+-- How the inspection of a database ends, with the caller's fault.
 use Rattle.std.proofs.Common.{◌≡◌, ◌≢◌, inl, inr, Option, Some, Result, Ok, Err, refl, sym, ap, subst, ◌∙◌, arith}
 use Rattle.std.specs.Prelude.{IsTrue, IsOk}
 use Rattle.sqlite.specs.State as db
@@ -32,7 +32,7 @@ rests_same : (a b d : db.State) → db.IsUnchanged b d → Rests b → b.now ≡
 rests_same a b d same rests now =
     (record { is_open = same.0.is_open; idle = same.0.mode ∙ rests.idle; settled = same.0.now_is ∙ rests.settled ∙ sym same.0.committed_is }, same.0.now_is ∙ now)
 
--- a fact holds unless the store failed, also where it holds anyway
+-- a fact that holds also holds unless the store failed
 unless : {T : Type 0} (r : Result T StoreFault) (P : Type 0) → P → UnlessStore r P
 unless (Ok x) P p = p
 unless (Err Memory) P p = p
@@ -90,11 +90,11 @@ module _ (a b : db.State) where
       same ForeignFault fresh memory clean rests = absurd fresh
       same Newer fresh memory clean rests = absurd fresh
 
-  -- what the rows show is told
+  -- the answer is what the rows show
   pub inspects_told : {T E : Type 0} (tables : Option Version) (q : Result T E) (r : Result (Unit {0}) StoreFault) → IsOk q → Spares a b q → ((v : Version) → tables ≡ Some v → IsInspected v a b r) → Inspects tables a b r
   inspects_told tables q r ok h inspected = record { inspected = inspected; spared = spared_told q r ok h; clean = h.survives.clean }
 
--- of a database without the spool's tables nothing is said
+-- for a database without the spool's tables the inspection claims nothing
 pub inspected_never : (v : Version) (a b : db.State) (r : Result (Unit {0}) StoreFault) → (Stands (site_of v) a.now → ⊥) → IsInspected v a b r
 inspected_never v a b r never = record {
   ok = λ clean stands. absurd (never stands);
@@ -102,14 +102,14 @@ inspected_never v a b r never = record {
   foreign = λ clean stands. absurd (never stands);
 }
 
--- what is said of a database that stands so may be shown of one that does
+-- the inspection may assume that the database has the tables of the version
 pub inspected_if : (v : Version) (a b : db.State) (r : Result (Unit {0}) StoreFault) → (Stands (site_of v) a.now → IsInspected v a b r) → IsInspected v a b r
 inspected_if v a b r h = record { ok = λ clean stands. (h stands).ok clean stands; newer = λ clean stands. (h stands).newer clean stands; foreign = λ clean stands. (h stands).foreign clean stands }
 
 pub becomes_if : (from to : Schema) (Step : Trees → Trees → Type 0) (a b : db.State) (r : Result (Unit {0}) StoreFault) → (Stands from a.now → Becomes from to Step a b r) → Becomes from to Step a b r
 becomes_if from to Step a b r h = record { ok = λ clean rests stands. (h stands).ok clean rests stands; memory = λ clean rests stands. (h stands).memory clean rests stands; stop = λ clean rests stands. (h stands).stop clean rests stands }
 
--- nothing was asked
+-- no question was asked
 pub spared_self : (a : db.State) (r : Result (Unit {0}) StoreFault) → IsSpared a a r
 spared_self a r = record { same = λ clean rests. unless r (Rests a × (a.now ≡ a.now)) (rests, refl); stop = λ clean trees may. may }
 
@@ -151,7 +151,7 @@ module _ (a b : db.State) where
       stays : (trees : Trees) → a.may_leave trees → trees ≡ a.now.trees
       stays trees was = settles trees rests.is_open was ∙ sym (ap (λ (d : Database). d.trees) rests.settled)
 
-  -- where nothing was made a stop leaves what was there
+  -- if nothing was made, a stop leaves what was there
   pub unmade_as : (fault : StoreFault) → Settles a → UnlessFailed fault (db.HasCleanDisk b → LeavesNoMore a b) → db.HasCleanDisk b → Rests a → UnlessFailed fault ((trees : Trees) → b.may_leave trees → trees ≡ a.now.trees)
   unmade_as fault settles unmade clean rests =
       unless_weaker fault (λ less trees may. settles trees rests.is_open (less clean trees may) ∙ sym (ap (λ (d : Database). d.trees) rests.settled)) unmade

@@ -1,3 +1,4 @@
+mod Texts
 pub mod Meanings
 pub mod Rowids
 pub mod TwoQuestions

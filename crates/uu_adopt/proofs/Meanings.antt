@@ -11,7 +11,8 @@ use Rattle.uu_schema.specs.declared.version.Version.{Version}
 use Rattle.uu_schema.specs.declared.version.Version.TheVariants.{First, Second, Third}
 use Rattle.uu_schema.specs.Schema.{site, second_site, site_of, links, taken, success_waits, spool, systems, lines, ranges, jobs, pieces, entries}
 use Rattle.uu_rows.proofs.Meanings.{at_places, by_places, is_first, head_names}
-use Rattle.uu_adopt.specs.Texts.{version_text, spool_text, heads_text, sizes_text, numbered_sizes_text, entries_text, system_rowids_text, line_rowids_text, range_rowids_text, piece_rowids_text, entry_rowids_text, wait_rowids_text, link_rowids_text, taken_rowids_text}
+use Rattle.uu_adopt.specs.Texts.{version_text, spool_text}
+use Rattle.uu_adopt.proofs.Texts.{heads_text, sizes_text, numbered_sizes_text, entries_text, system_rowids_text, line_rowids_text, range_rowids_text, piece_rowids_text, entry_rowids_text, wait_rowids_text, link_rowids_text, taken_rowids_text}
 
 -- ---- every row of a table
 

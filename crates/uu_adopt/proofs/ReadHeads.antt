@@ -5,8 +5,7 @@ use Rattle.std.specs.Prelude.{◌↔◌, ◌<ℤ◌, IsTrue, nat_lt, MatchOption
 use Rattle.std.specs.declared.alloc.Global.{Global}
 use Rattle.std.specs.List.{AllByRecursion}
 use Rattle.std.specs.List.Sorted.{IsPermutation}
-use Rattle.std.proofs.lemmas.Bool.{and_parts}
-use Rattle.std.proofs.lemmas.Bool.Decides.{nat_tests}
+use Rattle.std.proofs.lemmas.Bool.{and_parts, lt-ltb, ltb-true}
 use Rattle.std.proofs.lemmas.Int.{ints}
 use Rattle.std.proofs.lemmas.List.Sorted.{IsPermutation-sym, IsPermutation-map}
 use Rattle.sqlite.specs.Order.{Row}
@@ -24,12 +23,12 @@ use Rattle.uu_schema.specs.Keyed.{columns}
 use Rattle.uu_schema.specs.Held.{job_key, job_places}
 use Rattle.uu_schema.specs.Cells.{job_cells}
 use Rattle.uu_rows.specs.Readable.{IsHead}
-use Rattle.uu_rows.specs.Order.{head_cmp}
+use Rattle.uu_tables.specs.Order.{head_cmp}
 use Rattle.uu_rows.proofs.Meanings.{at_places, by_places}
 use Rattle.uu_rows.proofs.Back.{same_all, head_back, head_returns}
 use Rattle.uu_rows.proofs.InTables.{heads_are, all_pass}
 use Rattle.uu_adopt.specs.declared.integer.Integer.{Integer}
-use Rattle.uu_adopt.specs.Texts.{heads_text}
+use Rattle.uu_adopt.proofs.Texts.{heads_text}
 use Rattle.uu_adopt.specs.Reading.{id_cells, AreRowids, AreHeads, AreNumbersRising, FindsRows}
 use Rattle.uu_adopt.proofs.Meanings.{heads_means}
 use Rattle.uu_adopt.proofs.Rowids.{id_shown, ids_apart}
@@ -45,12 +44,6 @@ abbrev pub rises : List JobHead → Bool
 rises [] = true
 rises (head ∷ heads) = rise_from head.number heads
 
-lower : (a b : ℕ) → a < b → nat_lt a b ≡ true
-lower a b h = grind (arith, nat_tests)
-
-is_lower : (a b : ℕ) → nat_lt a b ≡ true → a < b
-is_lower a b h = grind (arith, nat_tests)
-
 over : (x y : ℕ) (heads : List JobHead) → x < y → AllByRecursion (λ (b : JobHead). y < b.number) heads → AllByRecursion (λ (b : JobHead). x < b.number) heads
 over x y [] h all = tt
 over x y (head ∷ heads) h all = (let first = all.0 in omega (arith, h, first), over x y heads h all.1)
@@ -59,7 +52,7 @@ risen_from : (last : ℕ) (heads : List JobHead) → rise_from last heads ≡ tr
 risen_from last [] h = (tt, tt)
 risen_from last (head ∷ heads) h =
     let parts = and_parts (nat_lt last head.number) (rise_from head.number heads) h in
-    let first = is_lower last head.number parts.0 in
+    let first = ltb-true last head.number parts.0 in
     let more = risen_from head.number heads parts.1 in
     ((first, over last head.number heads first more.0), more)
 
@@ -69,7 +62,7 @@ risen (head ∷ heads) h = risen_from head.number heads h
 
 does_rise_from : (last : ℕ) (heads : List JobHead) → AllByRecursion (λ (b : JobHead). last < b.number) heads → AreNumbersRising heads → rise_from last heads ≡ true
 does_rise_from last [] h k = refl
-does_rise_from last (head ∷ heads) h k = rw (lower last head.number h.0) (does_rise_from head.number heads k.0 k.1)
+does_rise_from last (head ∷ heads) h k = rw (lt-ltb last head.number h.0) (does_rise_from head.number heads k.0 k.1)
 
 pub does_rise : (heads : List JobHead) → AreNumbersRising heads → rises heads ≡ true
 does_rise [] h = refl

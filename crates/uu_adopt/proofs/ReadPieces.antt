@@ -1,5 +1,5 @@
--- What one question on the rowids and the sizes of the pieces says of their table, where the rows
--- rise by rowid as by job and place.
+-- What one question on the rowids and the sizes of the pieces says about their table, if the rowids
+-- rise in the order of job and place.
 use Rattle.std.proofs.Common.{◌≡◌, ◌<◌, ℕ, pos, zero, suc, Bool, true, false, ◌&&◌, ◌||◌, ◌==◌, List, [], ◌∷◌, map, length, refl, sym, ap, subst, ◌∙◌, arith, Ordering, Less, is_lt, Option, Some, Vec, IsSorted}
 use Rattle.std.specs.Prelude.{◌<ℤ◌, nat_lt}
 use Rattle.std.specs.declared.alloc.Global.{Global}
@@ -34,12 +34,12 @@ use Rattle.uu_schema.specs.Keyed.{columns}
 use Rattle.uu_schema.specs.Held.{piece_places}
 use Rattle.uu_schema.specs.Cells.{piece_cells}
 use Rattle.uu_rows.specs.Readable.{IsSize, size_cells}
-use Rattle.uu_rows.specs.Order.{size_cmp}
+use Rattle.uu_tables.specs.Order.{size_cmp}
 use Rattle.uu_rows.proofs.Meanings.{by_places}
 use Rattle.uu_rows.proofs.Back.{number_back, text_back}
 use Rattle.uu_adopt.specs.declared.integer.Integer.{Integer}
 use Rattle.uu_adopt.specs.declared.pieces.NumberedSize.{NumberedSize}
-use Rattle.uu_adopt.specs.Texts.{numbered_sizes_text}
+use Rattle.uu_adopt.proofs.Texts.{numbered_sizes_text}
 use Rattle.uu_adopt.specs.Reading.{id_cells, AreRowids, comes_before, numbered_cells, IsBefore, AreNumberedSizes, FindsSizes}
 use Rattle.uu_adopt.proofs.Meanings.{numbered_terms, numbered_sizes_means}
 use Rattle.uu_adopt.proofs.Rowids.{id_shown, ids_apart, int_is_lower}

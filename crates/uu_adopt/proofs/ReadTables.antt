@@ -22,9 +22,9 @@ use Rattle.uu_schema.specs.Schema.{site_of, systems, lines, ranges, entries, suc
 use Rattle.uu_schema.specs.Held.{system_key, line_key, range_key, entry_key, wait_key, link_key, taken_key, link_places, taken_places, system_places, line_places, range_places, entry_places, wait_places}
 use Rattle.uu_schema.specs.Cells.{system_cells, line_cells, range_cells, entry_cells, wait_cells, link_cells, taken_cells}
 use Rattle.uu_rows.specs.Readable.{IsSystem, IsLine, IsRange, IsEntry, IsWait, IsLink, IsTaken}
-use Rattle.uu_rows.specs.Order.{system_cmp, line_cmp, range_cmp, entry_cmp, wait_cmp, link_cmp, taken_cmp}
+use Rattle.uu_tables.specs.Order.{system_cmp, line_cmp, range_cmp, entry_cmp, wait_cmp, link_cmp, taken_cmp}
 use Rattle.uu_rows.specs.Texts.{systems_text, lines_text, ranges_text, waits_text, links_text, taken_text}
-use Rattle.uu_adopt.specs.Texts.{entries_text, system_rowids_text, line_rowids_text, range_rowids_text, entry_rowids_text, wait_rowids_text, link_rowids_text, taken_rowids_text}
+use Rattle.uu_adopt.proofs.Texts.{entries_text, system_rowids_text, line_rowids_text, range_rowids_text, entry_rowids_text, wait_rowids_text, link_rowids_text, taken_rowids_text}
 use Rattle.uu_adopt.specs.Reading.{FindsRows, FindsWaits, HasWaits, IsRead}
 use Rattle.uu_rows.proofs.Meanings.{at_places, by_places, wait_names, systems_means, lines_means, ranges_means, waits_means, second_waits_means, links_means, taken_means}
 use Rattle.uu_adopt.proofs.Meanings.{rowids_of, entries_means, system_rowids_means, line_rowids_means, range_rowids_means, entry_rowids_means, wait_rowids_means, second_wait_rowids_means, link_rowids_means, taken_rowids_means}

@@ -1,13 +1,14 @@
 -- Rowids that rise, and what they say of the rows of a table.
-use Rattle.std.proofs.Common.{◌≡◌, inl, inr, ℕ, ℤ, List, [], ◌∷◌, Bool, true, false, ◌&&◌, map, filter, refl, sym, ap, subst, ◌∙◌, arith, Ordering, Less, Equal, Greater, int_cmp}
+use Rattle.std.proofs.Common.{◌≡◌, inl, inr, ℕ, ℤ, List, [], ◌∷◌, Bool, true, false, ◌&&◌, map, filter, refl, sym, ap, subst, ◌∙◌, arith, Ordering, Less, int_cmp}
 use Rattle.std.specs.Prelude.{◌↔◌, IsTrue, ◌<ℤ◌, int_lt}
 use Rattle.std.specs.List.{AllByRecursion}
 use Rattle.std.specs.List.Sorted.{IsPermutation}
 use Rattle.std.specs.Ordering.{is_eq}
 use Rattle.std.proofs.lemmas.Int.{ints}
-use Rattle.std.proofs.lemmas.Bool.{and_parts}
+use Rattle.std.proofs.lemmas.Bool.{and_parts, false_from_ne_true}
 use Rattle.std.proofs.lemmas.List.{map-id}
 use Rattle.std.proofs.lemmas.List.Sorted.{IsPermutation-sym}
+use Rattle.std.specs.Cmp.{Equal-is}
 use Rattle.sqlite.specs.declared.types.Value.{Value}
 use Rattle.sqlite.specs.declared.types.Value.TheVariants.{Int}
 use Rattle.sqlite.specs.Order.{Row, column, value_cmp}
@@ -133,19 +134,10 @@ module _ (tree : ℕ) (db : Trees) (rows : List Row) (bare : overlay db [] tree 
   pub ids_found : AreRowids rows → AreNumbered (db tree) × OnceEach (db tree)
   ids_found = ids_apart (db tree) rows ids_moved
 
-  equal_is : (o : Ordering) → is_eq o ≡ true → o ≡ Equal
-  equal_is Less h = absurd (cc)
-  equal_is Equal h = refl
-  equal_is Greater h = absurd (cc)
-
-  not_true : (b : Bool) → (b ≡ true → ⊥) → b ≡ false
-  not_true true h = absurd (h refl)
-  not_true false h = refl
-
   no_ties : (rs : List Row) → OnceEach rs → IsAscending (λ x y. x ≡ y → ⊥) rs → IsAscending (λ x y. is_eq (value_cmp (rowid x) (rowid y)) ≡ false) rs
   no_ties [] apart up = tt
   no_ties (r ∷ rs) apart up = (
-    all_from (λ b. is_eq (value_cmp (rowid r) (rowid b)) ≡ false) rs (λ b k. not_true _ (λ tie. all_has (λ x. r ≡ x → ⊥) rs b up.0 k (apart r b (inl refl) (inr k) (equal_is _ tie)))),
+    all_from (λ b. is_eq (value_cmp (rowid r) (rowid b)) ≡ false) rs (λ b k. false_from_ne_true _ (λ tie. all_has (λ x. r ≡ x → ⊥) rs b up.0 k (apart r b (inl refl) (inr k) ((Equal-is _).0 tie)))),
     no_ties rs (λ x y h k. apart x y (inr h) (inr k)) up.1,
   )
 

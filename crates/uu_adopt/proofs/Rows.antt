@@ -1,6 +1,7 @@
--- The tables of a well-formed state are such as are read, each in the strict order of its key, and
--- no key stands twice.
+-- The tables of a well-formed state can be read, each in the strict order of its key, and no key
+-- occurs twice.
 use Rattle.std.proofs.Common.{◌≡◌, ℕ, ◌<◌, List, Less, Equal, Ordering, Option, None, Some, IfSome, refl, ap, arith}
+use Rattle.std.proofs.lemmas.Cmp.{tied_itself, nat_list_cmp_total, nat_cmp_total}
 use Rattle.std.specs.List.{AllByRecursion}
 use Rattle.sqlite.specs.Order.{Row}
 use Rattle.sqlite.specs.Tree.{IsAscending}
@@ -23,10 +24,10 @@ use Rattle.uu_check.proofs.Reading.{readable}
 use Rattle.uu_schema.specs.Keyed.{Keyed}
 use Rattle.uu_schema.specs.Held.{system_key, line_key, range_key, job_key, piece_key, entry_key, wait_key, link_key, taken_key}
 use Rattle.uu_rows.specs.Readable.{IsSmall, IsSystem, IsLine, IsRange, IsHead, IsSize, IsEntry, IsWait, IsLink, IsTaken}
-use Rattle.uu_rows.specs.Order.{system_cmp, line_cmp, range_cmp, head_cmp, piece_cmp, entry_cmp, wait_cmp, link_cmp, taken_cmp}
+use Rattle.uu_tables.specs.Order.{system_cmp, line_cmp, range_cmp, head_cmp, piece_cmp, entry_cmp, wait_cmp, link_cmp, taken_cmp}
 use Rattle.uu_adopt.specs.Reading.{AreInOrder, AreRows}
 use Rattle.uu_rows.proofs.Heads.{heads_good}
-use Rattle.uu_rows.proofs.InOrder.{ascending_pairs, same_name, same_number}
+use Rattle.uu_rows.proofs.InOrder.{ascending_pairs}
 
 -- ---- what a state has can be read
 
@@ -72,44 +73,44 @@ less_not_equal : (r : Ordering) → r ≡ Less → r ≡ Equal → ⊥
 less_not_equal r h k = absurd (cc)
 
 pub systems_apart : (a b : SystemColumns) → system_cmp a b ≡ Less → system_key a ≡ system_key b → ⊥
-systems_apart a b h e = less_not_equal _ h (rw e (same_name b.name))
+systems_apart a b h e = less_not_equal _ h (rw e (tied_itself nat_list_cmp_total b.name))
 
 pub lines_apart : (a b : LineColumns) → line_cmp a b ≡ Less → line_key a ≡ line_key b → ⊥
 lines_apart a b h e =
     let name : a.system ≡ b.system = ap (λ (k : List ℕ × ℕ). k.0) e in
     let place : a.place ≡ b.place = ap (λ (k : List ℕ × ℕ). k.1) e in
-    less_not_equal _ h (rw (name, place, same_name b.system, same_number b.place) refl)
+    less_not_equal _ h (rw (name, place, tied_itself nat_list_cmp_total b.system, tied_itself nat_cmp_total b.place) refl)
 
 pub ranges_apart : (a b : RangeColumns) → range_cmp a b ≡ Less → range_key a ≡ range_key b → ⊥
 ranges_apart a b h e =
     let name : a.system ≡ b.system = ap (λ (k : List ℕ × ℕ × ℕ). k.0) e in
     let place : a.place ≡ b.place = ap (λ (k : List ℕ × ℕ × ℕ). k.1) e in
     let low : a.low ≡ b.low = ap (λ (k : List ℕ × ℕ × ℕ). k.2) e in
-    less_not_equal _ h (rw (name, place, low, same_name b.system, same_number b.place, same_number b.low) refl)
+    less_not_equal _ h (rw (name, place, low, tied_itself nat_list_cmp_total b.system, tied_itself nat_cmp_total b.place, tied_itself nat_cmp_total b.low) refl)
 
 pub heads_apart : (a b : JobHead) → head_cmp a b ≡ Less → job_key a ≡ job_key b → ⊥
-heads_apart a b h e = less_not_equal _ h (rw e (same_number b.number))
+heads_apart a b h e = less_not_equal _ h (rw e (tied_itself nat_cmp_total b.number))
 
 pub pieces_apart : (a b : Piece) → piece_cmp a b ≡ Less → piece_key a ≡ piece_key b → ⊥
 pieces_apart a b h e =
     let job : a.job ≡ b.job = ap (λ (k : ℕ × ℕ). k.0) e in
     let place : a.place ≡ b.place = ap (λ (k : ℕ × ℕ). k.1) e in
-    less_not_equal _ h (rw (job, place, same_number b.job, same_number b.place) refl)
+    less_not_equal _ h (rw (job, place, tied_itself nat_cmp_total b.job, tied_itself nat_cmp_total b.place) refl)
 
 pub entries_apart : (a b : EntryColumns) → entry_cmp a b ≡ Less → entry_key a ≡ entry_key b → ⊥
-entries_apart a b h e = less_not_equal _ h (rw e (same_name b.host))
+entries_apart a b h e = less_not_equal _ h (rw e (tied_itself nat_list_cmp_total b.host))
 
 pub waits_apart : (a b : WaitColumns) → wait_cmp a b ≡ Less → wait_key a ≡ wait_key b → ⊥
-waits_apart a b h e = less_not_equal _ h (rw e (same_name b.system))
+waits_apart a b h e = less_not_equal _ h (rw e (tied_itself nat_list_cmp_total b.system))
 
 pub links_apart : (a b : LinkColumns) → link_cmp a b ≡ Less → link_key a ≡ link_key b → ⊥
-links_apart a b h e = less_not_equal _ h (rw e (same_name b.system))
+links_apart a b h e = less_not_equal _ h (rw e (tied_itself nat_list_cmp_total b.system))
 
 pub taken_apart : (a b : TakenColumns) → taken_cmp a b ≡ Less → taken_key a ≡ taken_key b → ⊥
 taken_apart a b h e =
     let name : a.system ≡ b.system = ap (λ (k : List ℕ × ℕ). k.0) e in
     let number : a.taken.number ≡ b.taken.number = ap (λ (k : List ℕ × ℕ). k.1) e in
-    less_not_equal _ h (rw (name, number, same_name b.system, same_number b.taken.number) refl)
+    less_not_equal _ h (rw (name, number, tied_itself nat_list_cmp_total b.system, tied_itself nat_cmp_total b.taken.number) refl)
 
 -- rows of a list in strict order show it by its key
 pub keyed : {K X : Type 0} (key : X → K) (cells : X → Row) (places : List ℕ) (cmp : X → X → Ordering) (xs : List X) (rows : List Row) → ((a b : X) → cmp a b ≡ Less → key a ≡ key b → ⊥)

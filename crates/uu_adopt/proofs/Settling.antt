@@ -28,7 +28,7 @@ leaves_either s t a b settles rests enc stop trees may = elim (stop trees may) [
   | inr made ↦ (made.0, inr made.1)
 ]
 
--- ---- what a stop leaves of a database that is taken, where tables were made
+-- ---- what a stop leaves of a database that is taken, if tables were made
 
 pub adopt_creates : (a b : db.State) → Settles b → db.HasCleanDisk b → Rests a → CreatesTables a b (Ok tt) → Stands no_schema a.now → Leaves b empty
 adopt_creates a b settles clean rests creates stands = let it = creates.ok clean rests stands in leaves empty b settles it.0 (record { stands = it.1; holds = it.2 })

@@ -29,8 +29,8 @@ use Rattle.uu_schema.specs.Keyed.{Keyed, columns}
 use Rattle.uu_schema.specs.Held.{piece_key, piece_places}
 use Rattle.uu_schema.specs.Cells.{piece_cells}
 use Rattle.uu_rows.specs.Readable.{IsSize, size_cells}
-use Rattle.uu_rows.specs.Order.{piece_cmp}
-use Rattle.uu_adopt.specs.Texts.{sizes_text, piece_rowids_text}
+use Rattle.uu_tables.specs.Order.{piece_cmp}
+use Rattle.uu_adopt.proofs.Texts.{sizes_text, piece_rowids_text}
 use Rattle.uu_adopt.specs.Reading.{FindsSizes, IsRead}
 use Rattle.uu_adopt.proofs.Meanings.{size_terms, rowids_of, sizes_means, piece_rowids_means}
 use Rattle.uu_rows.proofs.Meanings.{by_places}

@@ -1,6 +1,5 @@
 -- What a sound database says of its rows: each has a value of the right type in each column.
-use Rattle.std.proofs.Common.{Option, Some, None, ◌≡◌, ℕ, zero, suc, ◌+◌, ◌<◌, ◌≤◌, Bool, true, false, not, List, [], ◌∷◌, length, drop, refl, ◌∙◌, arith}
-use Rattle.std.specs.Prelude.{◌&&◌}
+use Rattle.std.proofs.Common.{Option, Some, None, ◌≡◌, ℕ, zero, suc, ◌+◌, ◌<◌, ◌≤◌, true, false, not, List, [], ◌∷◌, length, drop, refl, ◌∙◌, arith}
 use Rattle.std.specs.List.{AllByRecursion}
 use Rattle.std.proofs.lemmas.Bool.{and_parts}
 use Rattle.sqlite.specs.declared.types.Value.{Value}
@@ -15,6 +14,7 @@ use Rattle.sqlite_schema.specs.declared.schema.Constraint.TheVariants.{Datatype,
 use Rattle.sqlite_sql.specs.Ops.{is_null}
 use Rattle.sqlite_keyed.proofs.ListLemmas.{all_both}
 use Rattle.sqlite.specs.Schema.{Schema}
+use Rattle.uu_names.proofs.Basics.{and_second}
 use Rattle.uu_schema.specs.declared.version.Version.{Version}
 use Rattle.uu_schema.specs.declared.version.Version.TheVariants.{First, Second, Third}
 use Rattle.uu_schema.specs.Schema.{site, first_site, second_site, site_of, spool, pieces}
@@ -35,9 +35,6 @@ there [] at h = absurd (cc)
 there (v ∷ r) zero h = omega arith
 there (v ∷ r) (suc at) h = let it = there r at h in omega (arith, it)
 
-last : (a b : Bool) → (a && b) ≡ true → b ≡ true
-last a b h = (and_parts a b h).1
-
 null_is : (v : Value) → is_null v ≡ true → v ≡ Null
 null_is Null h = refl
 null_is (Int n) h = absurd (cc)
@@ -56,12 +53,12 @@ wide : (key : Option ℕ) (at : ℕ) (columns : List Column) (vs : Row) → are_
 wide key at [] [] h = omega arith
 wide key at [] (v ∷ vs) h = absurd (cc)
 wide key at (c ∷ cs) [] h = omega arith
-wide key at (c ∷ cs) (v ∷ vs) h = let it : length vs ≤ length cs = wide key (at + 1) cs vs (last _ _ h) in omega (arith, it)
+wide key at (c ∷ cs) (v ∷ vs) h = let it : length vs ≤ length cs = wide key (at + 1) cs vs (and_second _ _ h) in omega (arith, it)
 
 -- ---- the table `spool`
 
 pub spool_four : (schema : Schema) (r : Row) (db : Trees) → passes NotNull schema db spool r ≡ true → passes Datatype schema db spool r ≡ true → (length r ≡ 4) × (column r 1 ≡ Null)
-spool_four schema r db present typed = go r (there r 3 (full _ (and_parts (not (is_null (column r 3))) true (last (not (is_null (column r 2))) _ present)).0)) (and_parts (are_typed (Some 0) 0 spool.columns (drop 1 r)) _ typed).0
+spool_four schema r db present typed = go r (there r 3 (full _ (and_parts (not (is_null (column r 3))) true (and_second (not (is_null (column r 2))) _ present)).0)) (and_parts (are_typed (Some 0) 0 spool.columns (drop 1 r)) _ typed).0
   where
     go : (r : Row) → 3 < length r → are_typed (Some 0) 0 spool.columns (drop 1 r) ≡ true → (length r ≡ 4) × (column r 1 ≡ Null)
     go [] long h = absurd (omega (arith, long))
@@ -97,15 +94,15 @@ pub record HasBytes (r : Row) : Type 0 where
 
 piece_row_is : (schema : Schema) (r : Row) (db : Trees) → passes NotNull schema db pieces r ≡ true → passes Datatype schema db pieces r ≡ true → HasBytes r
 piece_row_is schema r db present typed =
-    let h1 = last (not (is_null (column r 1))) _ present in
-    let h2 = last (not (is_null (column r 2))) _ h1 in
+    let h1 = and_second (not (is_null (column r 1))) _ present in
+    let h2 = and_second (not (is_null (column r 2))) _ h1 in
     let some = full _ (and_parts (not (is_null (column r 3))) true h2).0 in
     go r (there r 3 some) some (and_parts (are_typed None 0 pieces.columns (drop 1 r)) _ typed).0
   where
     go : (r : Row) → 3 < length r → is_null (column r 3) ≡ false → are_typed None 0 pieces.columns (drop 1 r) ≡ true → HasBytes r
     go (a ∷ v ∷ w ∷ b ∷ vs) long some h =
-        let k1 = last (is_of Integer v) _ h in
-        let k2 = last (is_of Integer w) _ k1 in
+        let k1 = and_second (is_of Integer v) _ h in
+        let k2 = and_second (is_of Integer w) _ k1 in
         let it = bytes_in b some (and_parts (is_of Bytes b) (are_typed None 3 [] vs) k2).0 in
         record { bytes = it.0; is = it.1 }
     go r long some h = absurd (omega (arith, long))

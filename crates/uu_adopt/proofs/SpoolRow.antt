@@ -8,6 +8,7 @@ use Rattle.sqlite.specs.declared.types.Value.TheVariants.{Null}
 use Rattle.sqlite.specs.Order.{Row, column}
 use Rattle.sqlite.specs.State as db
 use Rattle.sqlite.proofs.Callers.{one_permutation}
+use Rattle.uu_names.proofs.Basics.{one_mapped}
 use Rattle.uu_schema.specs.Steps.{Stands}
 use Rattle.uu_schema.proofs.Rows.{all_stay}
 use Rattle.uu_schema.proofs.Answers.{answer_of, answer_moved}
@@ -30,15 +31,10 @@ module _ (v : Version) (old new : db.State) (rows : List Row) (stands : Stands (
       let a = answer_of (site_of v) spool_text _ _ [] old new (spool_means v) stands.schema rows h in
       subst (λ l. IsPermutation (map spool_shown l) rows) (sym (all_stay (old.now.trees spool.tree))) (answer_moved spool.tree [] (at_places (0 ∷ 2 ∷ 3 ∷ [])) [] old.now.trees [] rows refl a)
 
-  single : {A B : Type 0} (f : A → B) (xs : List A) (y : B) → map f xs ≡ y ∷ [] → (x : A) × (xs ≡ x ∷ []) × (f x ≡ y)
-  single f [] y e = absurd (cc)
-  single f (x ∷ []) y e = (x, refl, cc)
-  single f (x ∷ z ∷ xs) y e = absurd (cc)
-
   pub next_found : (next : ℕ) → rows ≡ spool_cells v next ∷ [] → old.now.trees spool.tree ≡ spool_row_of v next ∷ []
   next_found next is =
       let one = one_permutation (spool_cells v next) (map spool_shown (old.now.trees spool.tree)) (IsPermutation-sym _ _ (subst (IsPermutation (map spool_shown (old.now.trees spool.tree))) is spool_moved)) in
-      let r = single spool_shown (old.now.trees spool.tree) (spool_cells v next) one in
+      let r = one_mapped spool_shown (old.now.trees spool.tree) (spool_cells v next) one in
       let typed : IsSpoolRow r.0 = (subst (AllByRecursion IsSpoolRow) r.1 (spool_rows_are v old.now.trees stands.sound)).0 in
       let same : r.0 ≡ spool_row_of v next = typed ∙ ap (λ (cells : Row). column cells 0 ∷ Null ∷ column cells 1 ∷ column cells 2 ∷ []) r.2 in
       r.1 ∙ ap (λ x. x ∷ []) same

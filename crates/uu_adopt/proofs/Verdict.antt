@@ -22,7 +22,7 @@ use Rattle.uu_schema.specs.declared.version.Version.TheVariants.{First, Second, 
 use Rattle.uu_schema.specs.Made.{spool_row_of}
 use Rattle.uu_schema.specs.Held.{HoldsAs, AreWaitsOf, AreLinksOf, AreTakenOf, link_key, taken_key, link_places, taken_places, system_key, line_key, range_key, job_key, piece_key, entry_key, wait_key, system_places, line_places, range_places, job_places, piece_places, entry_places, wait_places}
 use Rattle.uu_schema.specs.Cells.{system_cells, line_cells, range_cells, job_cells, piece_cells, entry_cells, wait_cells, link_cells, taken_cells}
-use Rattle.uu_rows.specs.Order.{system_cmp, line_cmp, range_cmp, head_cmp, piece_cmp, entry_cmp, wait_cmp, link_cmp, taken_cmp}
+use Rattle.uu_tables.specs.Order.{system_cmp, line_cmp, range_cmp, head_cmp, piece_cmp, entry_cmp, wait_cmp, link_cmp, taken_cmp}
 use Rattle.uu_adopt.specs.Reading.{AreRows, FindsSystems, FindsLines, FindsRanges, FindsJobs, FindsPieces, FindsEntries, FindsNext, FindsWaits, FindsLinks, FindsTaken}
 use Rattle.uu_schema.specs.Encoded.{HoldsStateAs}
 use Rattle.uu_adopt.specs.Adoption.{IsOfNone}
@@ -30,7 +30,7 @@ use Rattle.uu_adopt.specs.AllRows.{AreRowsOf, FindsAllRows, TellsState}
 use Rattle.uu_adopt.specs.declared.all_rows.AllRows.{AllRows}
 use Rattle.uu_adopt.proofs.Rows.{keyed, systems_apart, lines_apart, ranges_apart, heads_apart, pieces_apart, entries_apart, waits_apart, links_apart, taken_apart, links_in_order, taken_in_order, next_small, systems_in_order, lines_in_order, ranges_in_order, heads_in_order, sizes_good, pieces_in_order, entries_in_order, waits_in_order}
 
--- ---- a table whose rows are none of a state's
+-- ---- a table whose rows aren't those of a state
 
 module _ (v : Version) (trees : Trees) where
   pub no_next : FindsNext v trees None → IsOfNone v trees
@@ -60,13 +60,13 @@ module _ (v : Version) (trees : Trees) where
   no_entries None none finds = λ s holds. finds.only (tables_of s).entries (entries_in_order s holds.good) holds.tables.entries
   no_entries (Some all) none finds = absurd (cc)
 
--- version 1 has no rows of success waits, whatever the database
+-- version 1 has no rows of success waits, in any database
 waits_of_none : (v : Version) (trees : Trees) → FindsWaits v trees None → IsOfNone v trees
 waits_of_none First trees finds s holds = absurd finds
 waits_of_none Second trees finds s holds = finds.only (tables_of s).success_waits (waits_in_order s holds.good) holds.tables.success_waits
 waits_of_none Third trees finds s holds = finds.only (tables_of s).success_waits (waits_in_order s holds.good) holds.tables.success_waits
 
--- versions 1 and 2 have none of links
+-- versions 1 and 2 have no links
 links_of_none : (v : Version) (trees : Trees) → FindsLinks v trees None → IsOfNone v trees
 links_of_none First trees finds s holds = absurd finds
 links_of_none Second trees finds s holds = absurd finds
@@ -205,7 +205,7 @@ module _ (v : Version) (trees : Trees) (all : AllRows) (found : FindsAllRows v t
     taken = taken_held v trees s the_taken.0 the_taken.2 good (ap (λ (t : Tables). t.taken) same);
   }
 
-  -- where a state has the database's rows, they are those that were read
+  -- if a state has the database's rows, they are those that were read
   rows_of_state : (s : State) → HoldsStateAs v trees s → AreRowsOfTables rows (tables_of s)
   rows_of_state s holds = record {
     next = (let same = sym the_next.2 ∙ holds.tables.spool in let number : the_next.0 ≡ s.next = cc in the_next.1 ∙ number);

@@ -9,7 +9,7 @@ use Rattle.uu_adopt.specs.Reading.{FindsSystems, FindsLines, FindsRanges, FindsJ
 use Rattle.uu_adopt.specs.Adoption.{IsOfNone}
 use Rattle.uu_adopt.specs.declared.all_rows.AllRows.{AllRows}
 
--- each table's rows are found, or that it has none of a state's
+-- each table's rows are found, or that no state has its rows
 pub record FindsAllRows (v : Version) (trees : Trees) (all : AllRows) : Type 0 where
   pub next : FindsNext v trees all.next
   pub systems : FindsSystems trees all.systems
@@ -22,7 +22,7 @@ pub record FindsAllRows (v : Version) (trees : Trees) (all : AllRows) : Type 0 w
   pub links : FindsLinks v trees all.links
   pub taken : FindsTaken v trees all.taken
 
--- every table's rows were found, and these are they
+-- every table's rows were found, and are these
 pub record AreRowsOf (all : AllRows) (rows : Rows) : Type 0 where
   pub next : IsSomeAnd all.next (λ next. rows.next ≡ next)
   pub systems : IsSomeAnd all.systems (λ found. rows.systems.now ≡ found.items)
@@ -35,6 +35,6 @@ pub record AreRowsOf (all : AllRows) (rows : Rows) : Type 0 where
   pub links : IsSomeAnd all.links (λ found. rows.links.now ≡ found.items)
   pub taken : IsSomeAnd all.taken (λ found. rows.taken.now ≡ found.items)
 
--- yes where a state has these rows in the tables of a version, no where none has
+-- yes if a state has these rows in the tables of a version, and no if no state has
 abbrev pub TellsState : Version → Trees → Bool → Type 0
 TellsState v trees good = Tells good ((s : State) × HoldsStateAs v trees s) (IsOfNone v trees)

@@ -1,5 +1,5 @@
 -- How a database becomes one of another schema: with the tables of an empty spool, or with those of
--- this version in the place of an earlier one's.
+-- this version instead of an earlier one's.
 use Rattle.std.specs.Prelude.{◌≡◌, ◌⊎◌, Result, Err, OnOk}
 use Rattle.sqlite.specs.Schema.{Schema}
 use Rattle.sqlite.specs.Tree.{Trees}
@@ -13,8 +13,8 @@ use Rattle.uu_schema.specs.declared.fault.StoreFault.{StoreFault}
 use Rattle.uu_schema.specs.declared.fault.StoreFault.TheVariants.{Memory}
 use Rattle.uu_schema.specs.declared.version.Version.{Version}
 
--- A database becomes one of another schema by a step of its trees, whole or not at all, and a stop
--- may leave that or what it could leave before.
+-- A database becomes one of another schema by a step of its trees, whole or not at all. A stop
+-- leaves that, or what it could leave before.
 pub record Becomes (from to : Schema) (Step : Trees → Trees → Type 0) (old new : db.State) (r : Result (Unit {0}) StoreFault) : Type 0 where
   pub ok : db.HasCleanDisk new → Rests old → Stands from old.now → OnOk r (Rests new × Stands to new.now × Step old.now.trees new.now.trees)
   pub memory : db.HasCleanDisk new → Rests old → Stands from old.now → r ≡ Err Memory → Rests new × (new.now ≡ old.now)
@@ -24,6 +24,6 @@ pub record Becomes (from to : Schema) (Step : Trees → Trees → Type 0) (old n
 abbrev pub CreatesTables : db.State → db.State → Result (Unit {0}) StoreFault → Type 0
 CreatesTables = Becomes no_schema site (λ old new. HoldsState new empty)
 
--- the tables of a version become those of the one that is written, where they held a state
+-- the tables of a version become those of the written version, if they had a state
 abbrev pub MigratesState : Version → db.State → db.State → Result (Unit {0}) StoreFault → Type 0
 MigratesState v = Becomes (site_of v) site (Migrated v)

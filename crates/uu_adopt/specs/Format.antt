@@ -1,6 +1,6 @@
--- Which of the spool's tables a schema has, read off those that each version makes. Names are
+-- Which of the spool's tables a schema has, compared with those that each version makes. Names are
 -- compared without regard to ASCII case, as SQLite does. `laws::tables_are_found_by_the_format`
--- says that what is looked at in a database (`FoundTables`) finds just this.
+-- says that the code (`FoundTables`) finds exactly this.
 use Rattle.std.specs.Prelude.{◌≡◌, ℕ, true, false, List, [], ◌∷◌, codes, find, map, Some}
 use Rattle.std.specs.List.{AllByRecursion}
 use Rattle.sqlite.specs.Schema.{Schema}
@@ -40,12 +40,12 @@ later_tables First = success_waits ∷ links ∷ taken ∷ []
 later_tables Second = links ∷ taken ∷ []
 later_tables Third = []
 
--- every table of a version is there with its columns, and none has the name of a table that was
+-- every table of a version is there with its columns, and no table has the name of one that was
 -- added later
 pub record HasTablesOf (v : Version) (schema : Schema) : Type 0 where
   pub all : AllByRecursion (HasTableOf schema) (site_of v).tables
   pub none_later : AllByRecursion (λ (table : Table). IsFree schema table.name) (later_tables v)
 
--- the table `spool` has the columns that tell its version
+-- the table `spool` has the columns that say its version
 abbrev pub TellsVersion : Schema → Type 0
 TellsVersion schema = HasTable schema spool.name (codes "id" ∷ codes "version" ∷ [])

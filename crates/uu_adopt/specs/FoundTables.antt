@@ -56,36 +56,36 @@ taken_columns = codes "system" ∷ codes "number" ∷ codes "mark" ∷ codes "jo
 abbrev pub has_systems : Schema → Bool
 has_systems schema = has_table schema (codes "systems") system_columns && has_table schema (codes "lines") line_columns && has_table schema (codes "ranges") range_columns
 
--- those of the jobs and of the map entries
+-- the tables of the jobs and of the map entries
 abbrev pub has_jobs : Schema → Bool
 has_jobs schema = has_table schema (codes "jobs") job_columns && has_table schema (codes "pieces") piece_columns && has_table schema (codes "entries") entry_columns
 
--- that of the success waits
+-- the table of the success waits
 abbrev pub has_waits : Schema → Bool
 has_waits schema = has_table schema (codes "success_waits") wait_columns
 
--- those of the links, and of what was taken by them
+-- the tables of the links, and of what was taken by them
 abbrev pub has_links : Schema → Bool
 has_links schema = has_table schema (codes "links") link_columns && has_table schema (codes "taken") taken_columns
 
--- the rest of the columns and tables of version 1 is there
+-- the other columns and tables of version 1 are there
 abbrev pub is_whole : Schema → Table → Bool
 is_whole schema spool = has_column spool (codes "next") && has_systems schema && has_jobs schema
 
--- a table under this name
+-- a table has this name
 abbrev pub is_taken : Schema → List ℕ → Bool
 is_taken schema name = is_some (table_of schema name)
 
--- a table under one of the names of these two
+-- a table has one of these two names
 abbrev pub is_link_taken : Schema → Bool
 is_link_taken schema = is_taken schema (codes "links") || is_taken schema (codes "taken")
 
--- a table under one of the names but `spool`
+-- a table has one of the names, other than `spool`
 abbrev pub is_any_taken : Schema → Bool
 is_any_taken schema = is_taken schema (codes "systems") || is_taken schema (codes "lines") || is_taken schema (codes "ranges") || is_taken schema (codes "jobs") || is_taken schema (codes "pieces") || is_taken schema (codes "entries") || is_taken schema (codes "success_waits") || is_link_taken schema
 
--- the version that the tables tell that were added after version 1: it has all of its own, and of
--- those of later ones no name is taken
+-- the version that the tables added after version 1 show: it has all of its own, and no name of
+-- those of later versions is taken
 abbrev pub added_with : Schema → Option Version
 added_with schema =
     if has_waits schema
@@ -96,7 +96,7 @@ added_with schema =
 abbrev pub tables_with : Schema → Table → Option Version
 tables_with schema spool = if is_whole schema spool then added_with schema else None
 
--- what is found of a table `spool`, and beside it
+-- what is found, given the table `spool`, if there is one
 abbrev pub found_beside : Schema → Option Table → Found
 found_beside schema None = if is_any_taken schema then Other else Nothing
 found_beside schema (Some spool) =
@@ -113,24 +113,24 @@ found_of schema = found_beside schema (table_of schema (codes "spool"))
 abbrev pub HasNone : Schema → Type 0
 HasNone schema = found_of schema ≡ Nothing
 
--- all of a version are, with all their columns
+-- all tables of a version are there, with all their columns
 abbrev pub HasAllOf : Version → Schema → Type 0
 HasAllOf v schema = found_of schema ≡ Spool (Some v)
 
--- a version before the one that is written
+-- a version before the written one
 abbrev pub IsEarlier : Version → Type 0
 IsEarlier First = ⊤
 IsEarlier Second = ⊤
 IsEarlier Third = ⊥
 
--- those of an earlier version, so that the rest is to be made
+-- the tables of an earlier version are there, so the rest has to be made
 abbrev pub HasEarlier : Schema → Type 0
 HasEarlier schema = (v : Version) × IsEarlier v × HasAllOf v schema
 
--- none is, or all of a version
+-- none of the tables is there, or all of a version
 abbrev pub HasNoneOrAll : Schema → Type 0
 HasNoneOrAll schema = HasNone schema ⊎ ((v : Version) × HasAllOf v schema)
 
--- one of their names is taken, and no table `spool` has the columns that tell a version
+-- one of their names is taken, and no table `spool` has the columns that say a version
 abbrev pub HasUnversionedTables : Schema → Type 0
 HasUnversionedTables schema = found_of schema ≡ Other

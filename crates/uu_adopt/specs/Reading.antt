@@ -1,4 +1,4 @@
--- What the questions on every row of a table answer, when a database is looked at as a spool.
+-- The answers to the questions on every row of a table, when a database is inspected.
 use Rattle.std.specs.Prelude.{◌≡◌, ◌≢◌, ◌<◌, ◌<ℤ◌, ℕ, pos, nat_lt, int_lt, Bool, true, false, ◌==◌, ◌&&◌, ◌||◌, List, [], ◌∷◌, Vec, Option, map, Result, IfOk, OnOk, IfSome, MatchOption, ⊤}
 use Rattle.std.specs.declared.alloc.Global.{Global}
 use Rattle.std.specs.declared.cmp.Ordering.{Ordering}
@@ -32,7 +32,7 @@ use Rattle.uu_schema.specs.Held.{system_key, line_key, range_key, job_key, piece
 use Rattle.uu_core.specs.declared.job.JobHead.{JobHead}
 use Rattle.uu_schema.specs.Cells.{system_cells, line_cells, range_cells, job_cells, piece_cells, entry_cells, wait_cells, link_cells, taken_cells}
 use Rattle.uu_rows.specs.Readable.{IsSmall, IsSystem, IsLine, IsRange, IsHead, IsSize, IsEntry, IsWait, IsLink, IsTaken, size_cells}
-use Rattle.uu_rows.specs.Order.{system_cmp, line_cmp, range_cmp, head_cmp, piece_cmp, size_cmp, entry_cmp, wait_cmp, link_cmp, taken_cmp}
+use Rattle.uu_tables.specs.Order.{system_cmp, line_cmp, range_cmp, head_cmp, piece_cmp, size_cmp, entry_cmp, wait_cmp, link_cmp, taken_cmp}
 use Rattle.uu_schema.specs.Keyed.{Keyed, columns}
 use Rattle.uu_adopt.specs.declared.integer.Integer.{Integer}
 use Rattle.uu_adopt.specs.declared.pieces.NumberedSize.{NumberedSize}
@@ -42,7 +42,7 @@ use Rattle.uu_adopt.specs.declared.pieces.NumberedSize.{NumberedSize}
 abbrev pub id_cells : Integer → Row
 id_cells id = Int id.value ∷ []
 
--- each is below those behind it
+-- each is below those after it
 abbrev pub Rise : List Integer → Type 0
 Rise ids = IsAscending (λ a b. a.value <ℤ b.value) ids
 
@@ -53,7 +53,7 @@ pub record AreRowids (rows : List Row) : Type 0 where
 
 -- ---- a table's rows as typed rows
 
--- The table's rows have the columns of these, in any order, and rowids that tell them apart.
+-- The table's rows have the columns of these, in any order, and no two have the same rowid.
 pub record AreRows {X : Type 0} (cells : X → Row) (places : List ℕ) (xs : List X) (rows : List Row) : Type 0 where
   pub same : IsPermutation (map cells xs) (map (columns places) rows)
   pub numbered : AreNumbered rows
@@ -64,29 +64,29 @@ pub record AreInOrder {X : Type 0} (IsReadable : X → Type 0) (cmp : X → X �
   pub readable : AllByRecursion IsReadable xs
   pub rise : IsAscending (λ a b. cmp a b ≡ Less) xs
 
--- Exactly the rows that the table holds are found. None are found only where no list of such rows
--- in the order of its key is the table's; and where one is, that one is found.
+-- What is found is exactly the table's rows. If a list of readable rows in the order of its key is
+-- the table's, that list is found.
 pub record FindsRows {K X : Type 0} (key : X → K) (cells : X → Row) (places : List ℕ) (IsReadable : X → Type 0) (cmp : X → X → Ordering) (rows : List Row) (found : Option (Vec X Global)) : Type 0 where
   pub all : IfSome found (λ all. AreRows cells places all.items rows × AllByRecursion IsReadable all.items)
   pub only : (xs : List X) → AreInOrder IsReadable cmp xs → Keyed key cells places xs rows → MatchOption found ⊥ (λ all. all.items ≡ xs)
 
--- the answer to a question that has two
+-- the answer to a question of yes or no
 abbrev pub Tells : Bool → Type 0 → Type 0 → Type 0
 Tells good Yes No = (good ≡ true → Yes) × (good ≡ false → No)
 
--- The question commits nothing and changes nothing, whatever it answers and whatever tables there
--- are, and what it answers of the tables of a version is so.
+-- The question commits nothing and changes nothing, with any answer and any tables. What it answers
+-- about the tables of a version is true.
 pub record Reads (v : Version) {T : Type 0} (IsAnswer : Trees → T → Type 0) (old new : db.State) (r : Result T Error) : Type 0 where
   pub spares : Spares old new r
   pub same : db.HasCleanDisk new → OnOk r (new.now ≡ old.now)
   pub found : db.HasCleanDisk new → Stands (site_of v) old.now → IfOk r (IsAnswer old.now.trees)
 
--- the same over a connection, which is left idle where it was
+-- the same over a connection, which stays idle if it was
 pub record ReadsFrom {S T : Type 0} (g : Ghosts S) (v : Version) (IsAnswer : Trees → T → Type 0) (old new : Held S) (r : Result T Error) : Type 0 where
   pub idle : StaysIdle old new
   pub reads : Reads v IsAnswer (state g old) (state g new) r
 
--- what is read of the rows of two questions: all typed rows, and rowids that rise
+-- what is read from the rows of two questions: all typed rows, and rowids that rise
 pub record AreRead {X : Type 0} (cells : X → Row) (IsReadable : X → Type 0) (rows ids : List Row) (all : List X) : Type 0 where
   pub rows_are : rows ≡ map cells all
   pub readable : AllByRecursion IsReadable all
@@ -95,7 +95,7 @@ pub record AreRead {X : Type 0} (cells : X → Row) (IsReadable : X → Type 0) 
 abbrev pub IsRead : {X : Type 0} → (X → Row) → (X → Type 0) → List Row → List Row → Option (Vec X Global) → Type 0
 IsRead cells IsReadable rows ids found = MatchOption found ((all : List _) → ¬ AreRead cells IsReadable rows ids all) (λ all. AreRead cells IsReadable rows ids all.items)
 
--- each number is below those behind it
+-- each number is below those after it
 abbrev pub AreNumbersRising : List JobHead → Type 0
 AreNumbersRising = IsAscending (λ (a b : JobHead). a.number < b.number)
 
@@ -105,11 +105,11 @@ pub record AreHeads (rows : List Row) (all : List JobHead) : Type 0 where
   pub readable : AllByRecursion IsHead all
   pub rising : AreNumbersRising all
 
--- what the question on the table `spool` shows of its one row
+-- the answer to the question on the one row of the table `spool`
 abbrev pub spool_cells : Version → ℕ → Row
 spool_cells v next = Int (pos 1) ∷ Int (pos (number_of v)) ∷ Int (pos next) ∷ []
 
--- ---- pieces: of each the number of its bytes is asked, and its bytes stay where they are
+-- ---- pieces: the question gives the number of bytes of each, and no byte is read
 
 -- the rowid of a piece, and its size
 abbrev pub numbered_cells : NumberedSize → Row
@@ -123,7 +123,7 @@ pub record IsBefore (a b : NumberedSize) : Type 0 where
   pub higher : a.rowid.value <ℤ b.rowid.value
   pub later : size_cmp a.size b.size ≡ Less
 
--- the rows are those of these sizes, and rise by rowid as by job and place
+-- the rows are those of these sizes, and the rowids rise in the order of job and place
 pub record AreNumberedSizes (rows : List Row) (all : List PieceSize) : Type 0 where
   pub numbered : List NumberedSize
   pub rows_are : rows ≡ map numbered_cells numbered
@@ -131,7 +131,7 @@ pub record AreNumberedSizes (rows : List Row) (all : List PieceSize) : Type 0 wh
   pub rising : IsAscending IsBefore numbered
   pub sizes_are : all ≡ map (λ n. n.size) numbered
 
--- Exactly the sizes of the pieces that the table holds are found, whatever the bytes.
+-- What is found is exactly the sizes of the table's pieces, whatever their bytes are.
 pub record FindsSizes (rows : List Row) (found : Option (Vec PieceSize Global)) : Type 0 where
   pub all : IfSome found (λ all. (ps : List Piece) × AreRows piece_cells piece_places ps rows × (map size_of ps ≡ all.items) × AllByRecursion IsSize all.items)
   pub only : (ps : List Piece) → AllByRecursion (λ p. IsSize (size_of p)) ps → IsAscending (λ a b. piece_cmp a b ≡ Less) ps → Keyed piece_key piece_cells piece_places ps rows → MatchOption found ⊥ (λ all. all.items ≡ map size_of ps)
@@ -156,11 +156,12 @@ FindsPieces trees found = FindsSizes (trees pieces.tree) found
 abbrev pub FindsEntries : Trees → Option (Vec EntryColumns Global) → Type 0
 FindsEntries trees found = FindsRows entry_key entry_cells entry_places IsEntry entry_cmp (trees entries.tree) found
 
--- the table `spool` has its one row, of this version, and this next number, or none of 32 bits
+-- the table `spool` has its one row, with this version and this next number; none is found only if
+-- it has no such row with a number of 32 bits
 abbrev pub FindsNext : Version → Trees → Option ℕ → Type 0
 FindsNext v trees found = MatchOption found ((next : ℕ) → IsSmall next → trees spool.tree ≢ spool_row_of v next ∷ []) (λ next. trees spool.tree ≡ spool_row_of v next ∷ [])
 
--- ---- success waits: version 1 has no table of them, and none
+-- ---- success waits: version 1 has no table of them, so it has none
 
 abbrev pub FindsWaits : Version → Trees → Option (Vec WaitColumns Global) → Type 0
 FindsWaits First trees found = MatchOption found ⊥ (λ all. all.items ≡ [])
@@ -173,7 +174,8 @@ HasWaits First = ⊥
 HasWaits Second = ⊤
 HasWaits Third = ⊤
 
--- ---- links, and what was taken by them: earlier versions have no tables of them, and none
+-- ---- links, and what was taken by them: earlier versions have no tables of them, so they have
+-- none
 
 abbrev pub FindsLinks : Version → Trees → Option (Vec LinkColumns Global) → Type 0
 FindsLinks First trees found = MatchOption found ⊥ (λ all. all.items ≡ [])

@@ -19,7 +19,7 @@ pub record HasLater (rows : List Row) : Type 0 where
   pub there : Has rows row
   pub shows : ShowsLater row
 
--- a row of the table `spool` whose id is 1, as SQL's = has it, names a later version
+-- a row of the table `spool` has the id 1, compared as SQL's = does, and names a later version
 pub record IsLater (trees : ℕ → List Row) : Type 0 where
   pub row : Row
   pub there : Has (trees spool.tree) row

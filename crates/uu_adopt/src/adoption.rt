@@ -1,5 +1,5 @@
-// A database that is to be a spool's: looked at where it has any of the tables, and made one of
-// this version, or else given them.
+// Adopting a database as a spool's. One with none of the tables gets them. One with any of them is
+// inspected, and those of an earlier version become those of this one.
 ghost use Rattle.std.specs.Prelude.{◌≡◌, ◌≢◌, None, Err, IfErr, IsErr, OnOk};
 ghost use Rattle.sqlite.specs.Held.{state};
 ghost use Rattle.uu_core.specs.State.{empty};
@@ -17,7 +17,7 @@ use std::alloc::Global;
 use uu_core::laws::states_stay_well_formed;
 use uu_schema::{StoreFault, Version, create, halt_fault, migrate};
 
-// An empty spool in a database that has none of its tables.
+// An empty spool in a database with none of its tables.
 fn create_tables<S: Alter>(conn: &mut Connection<S>) -> Result<(), StoreFault>
     requires { IsIdle conn.old }
     ensures idle { IsIdle conn.new }
@@ -45,8 +45,8 @@ fn migrate_tables<S: Alter>(conn: &mut Connection<S>, from: Version) -> Result<(
     }
 }
 
-// A database with a table `spool`, looked at. One that has the tables of an earlier version,
-// and was taken, gets those of version 3.
+// Inspects a database with a table `spool`. If it is taken and has the tables of an earlier
+// version, they become those of version 3.
 fn adopt_spool<S: Alter>(
     alloc: Global,
     conn: &mut Connection<S>,
@@ -69,14 +69,14 @@ fn adopt_spool<S: Alter>(
     }
 }
 
-/// Makes a spool's database of one that has none of the tables, and looks at any other, which stays
-/// as it is, but that the tables of an earlier version become those of version 3, in one
-/// transaction.
+/// Creates the tables of a spool in a database that has none of them. Inspects any other database,
+/// and leaves it as it is, except that it turns the tables of an earlier version into those of
+/// version 3, in one transaction.
 ///
 /// # Errors
-/// `Foreign` where a table stands under one of the names and no table `spool` tells a version: then
-/// nothing is asked. Else `Newer` where a row names a later version, and `Foreign` where not all of
-/// the tables are there, or a row is not one of a spool's; `Memory` and `Store` of the database.
+/// `Foreign` if a table has one of the names and no table `spool` says a version; then the code
+/// asks nothing else. Otherwise `Newer` if a row names a later version, and `Foreign` if a table is
+/// missing or a row isn't a spool's. `Memory` and `Store` are those of the database.
 pub fn adopt_database<S: Alter>(alloc: Global, conn: &mut Connection<S>) -> Result<(), StoreFault>
     requires { IsIdle conn.old }
     ensures idle { IsIdle conn.new }

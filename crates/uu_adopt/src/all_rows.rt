@@ -1,4 +1,4 @@
-// Every row of a database, read to tell whether they are those of a spool.
+// Every row of a database, read to decide whether they are those of a spool.
 ghost use Rattle.std.specs.Prelude.{◌≡◌, None, IfOk, IfErr, IfSome};
 ghost use Rattle.sqlite.specs.declared.error.Error.TheVariants.{SqliteFailure};
 ghost use Rattle.sqlite.specs.declared.error.ErrorCode.TheVariants.{OutOfMemory};
@@ -24,7 +24,7 @@ use uu_tables::{
     WaitColumns,
 };
 
-/// Of each table its rows in the order of its key, or none where they are not those of a state.
+/// The rows of each table in the order of its key, or `None` if they aren't those of a state.
 #[derive(Drop)]
 struct AllRows {
     next: Option<u32>,
@@ -60,7 +60,7 @@ fn read_all_rows<S: Alter>(
     })
 }
 
-// The rows, where those of every table were found.
+// The rows, if those of every table were found.
 fn rows_of(all: &AllRows) -> Option<Rows<'_>>
     ensures rows { IfSome result (λ rows. AreRowsOf all.now rows) }
     ensures none { result ≡ None → (v : Version) (trees : Trees) → FindsAllRows v trees all.now → IsOfNone v trees }
@@ -79,7 +79,7 @@ fn rows_of(all: &AllRows) -> Option<Rows<'_>>
     })
 }
 
-// Whether the rows are those of a state; want of memory is an error.
+// Whether the rows are those of a state. Out of memory is an error.
 fn verdict_on(alloc: Global, all: &AllRows) -> Result<bool, Error>
     ensures verdict { (v : Version) (trees : Trees) → FindsAllRows v trees all.now → IfOk result (TellsState v trees) }
     ensures memory { IfErr result (λ error. error ≡ SqliteFailure OutOfMemory) }

@@ -1,5 +1,5 @@
-// The jobs without their bytes, read when a database is looked at as a spool. A job's number is its
-// rowid, so one question tells both.
+// The jobs without their bytes, read when a database is inspected. A job's number is its rowid, so
+// one question gives both.
 ghost use Rattle.std.specs.Prelude.{◌≡◌, ◌↔◌, List, Err, IfOk, IfErr, IsTrue, MatchOption};
 ghost use Rattle.sqlite.specs.declared.error.Error.TheVariants.{SqliteFailure};
 ghost use Rattle.sqlite.specs.declared.error.ErrorCode.TheVariants.{OutOfMemory};
@@ -41,7 +41,7 @@ fn typed(alloc: Global, rows: &[Row]) -> Result<Vec<JobHead>, RowFault>
     }
 }
 
-// The same, where want of memory is an error, and rows that are not those of heads are none.
+// The same. Out of memory is an error, and `None` means rows that aren't those of heads.
 fn found(alloc: Global, rows: &[Row]) -> Result<Option<Vec<JobHead>>, Error>
     ensures read { IfOk result (λ found. MatchOption found ((all : List JobHead) → ¬ AreHeads rows.now all) (λ all. AreHeads rows.now all.items)) }
     ensures memory { IfErr result (λ error. error ≡ SqliteFailure OutOfMemory) }
@@ -49,7 +49,7 @@ fn found(alloc: Global, rows: &[Row]) -> Result<Option<Vec<JobHead>>, Error>
     or_none(typed(alloc, rows))
 }
 
-/// The jobs without their bytes, by number. None, where the rows of the table are not such rows.
+/// The jobs without their bytes, by number; `None` if a row of the table isn't a job's.
 pub(crate) fn read_heads<S: Alter>(
     alloc: Global,
     conn: &mut Connection<S>,

@@ -1,4 +1,4 @@
-// What a database with a table `spool` is found to be.
+// What a database with a table `spool` is.
 ghost use Rattle.std.specs.Prelude.{◌≡◌, ◌≢◌, Some, None, IfOk, IfErr, IsErr};
 ghost use Rattle.sqlite.specs.Held.{state};
 ghost use Rattle.uu_schema.specs.Steps.{IsIdle};
@@ -12,19 +12,19 @@ use sqlite::{Alter, Connection, Error};
 use std::alloc::Global;
 use uu_schema::{StoreFault, Version, store_fault};
 
-/// What a database with a table `spool` is found to be.
+/// What a database with a table `spool` is.
 #[derive(Clone, Copy)]
 pub(crate) enum Finding {
-    /// That of a spool.
+    /// A spool's.
     Spool,
-    /// Another program's, or a damaged one.
+    /// Another program's, or damaged.
     Foreign,
-    /// That of a later version.
+    /// Of a later version.
     Later,
 }
 
-// What the database is, by the version whose tables are all there. The version that it names is
-// asked first.
+// What the database is, from the version whose tables are all there. The version that it names
+// comes first.
 fn inspect_rows<S: Alter>(
     alloc: Global,
     conn: &mut Connection<S>,
@@ -46,7 +46,7 @@ fn inspect_rows<S: Alter>(
     }
 }
 
-/// Looks at a database with a table `spool`, which stays as it is.
+/// Inspects a database with a table `spool`, and leaves it as it is.
 pub(crate) fn inspect<S: Alter>(
     alloc: Global,
     conn: &mut Connection<S>,

@@ -1,6 +1,6 @@
-//! A database that is to be a spool's: which of the spool's tables it has, whether their rows are
-//! those of a state, and the tables of this version, made where there are none or those of an
-//! earlier one.
+//! Adopting a database as a spool's. The crate finds which of the spool's tables it has, and
+//! whether their rows are those of a state. It creates the tables of this version if there are
+//! none, or makes them from those of an earlier version.
 #![tactic(auto)]
 
 mod adoption;

@@ -1,6 +1,6 @@
-// The pieces without their bytes, read when a database is looked at as a spool. Where a later piece
-// has a higher rowid, as in every file that a spool wrote, one question tells sizes and rowids;
-// else two do.
+// The pieces without their bytes, read when a database is inspected. If later pieces have higher
+// rowids, as in every file that a spool wrote, one question gives sizes and rowids. Otherwise two
+// questions do.
 ghost use Rattle.std.specs.Prelude.{◌≡◌, true, map, IfOk};
 ghost use Rattle.sqlite.specs.Tree.{IsAscending};
 ghost use Rattle.uu_schema.specs.declared.version.Version.{Version};
@@ -48,7 +48,7 @@ fn comes_before(first: &NumberedSize, second: &NumberedSize) -> bool
             || first.size.job == second.size.job && first.size.place < second.size.place)
 }
 
-// Whether they rise by rowid as by job and place.
+// Whether the rowids rise in the order of job and place.
 fn rise(sizes: &[NumberedSize]) -> bool
     ensures { result ≡ true → IsAscending IsBefore sizes.now }
 {
@@ -71,7 +71,7 @@ fn sizes_of(alloc: Global, numbered: Vec<NumberedSize>) -> Result<Vec<PieceSize>
     numbered.into_iter().map(|one| one.size).collect(alloc)
 }
 
-// The sizes, if the rows are theirs and rise by rowid as by job and place.
+// The sizes, if the rows are theirs and the rowids rise in the order of job and place.
 fn typed(alloc: Global, rows: &[Row]) -> Result<Vec<PieceSize>, RowFault>
     ensures { IfOk result (λ all. AreNumberedSizes rows.now all.items) }
 {
@@ -83,8 +83,8 @@ fn typed(alloc: Global, rows: &[Row]) -> Result<Vec<PieceSize>, RowFault>
     }
 }
 
-/// Of each piece its job, its place and the number of its bytes, by job and place; no byte is read.
-/// None where a row of the table is no piece's, or two rows have one rowid.
+/// Each piece's job, place and number of bytes, by job and place. No byte is read. `None` if a row
+/// of the table isn't a piece's, or two rows have the same rowid.
 pub(crate) fn read_sizes<S: Alter>(
     alloc: Global,
     conn: &mut Connection<S>,

@@ -1,4 +1,4 @@
-// Every row of each table, read when a database is looked at as a spool.
+// Every row of each table, read when a database is inspected.
 ghost use Rattle.std.specs.Prelude.{◌≡◌, ◌↔◌, true, false, List, map, Ok, Err, IfOk, IfErr, IsTrue};
 ghost use Rattle.std.specs.List.{AllByRecursion};
 ghost use Rattle.sqlite.specs.declared.error.Error.TheVariants.{SqliteFailure};
@@ -46,7 +46,7 @@ fn are_rowids(alloc: Global, rows: &[Row]) -> Result<bool, RowFault>
     Ok(rises(&ids))
 }
 
-// The typed rows, if the rows are theirs and the rowids beside them rise.
+// The typed rows, if the rows are theirs and their rowids rise.
 fn typed<T: TypedRow>(alloc: Global, rows: &[Row], ids: &[Row]) -> Result<Vec<T>, RowFault>
     ensures rows { IfOk result (λ all. rows.now ≡ map T.cells all.items) }
     ensures readable { IfOk result (λ all. AllByRecursion T.IsReadable all.items) }
@@ -59,7 +59,7 @@ fn typed<T: TypedRow>(alloc: Global, rows: &[Row], ids: &[Row]) -> Result<Vec<T>
     read_all(alloc, rows)
 }
 
-// The same, where want of memory is an error, and rows that are not typed rows are none.
+// The same. Out of memory is an error, and `None` means rows that aren't typed rows.
 fn found<T: TypedRow>(alloc: Global, rows: &[Row], ids: &[Row]) -> Result<Option<Vec<T>>, Error>
     ensures read { IfOk result (IsRead T.cells T.IsReadable rows.now ids.now) }
     ensures memory { IfErr result (λ error. error ≡ SqliteFailure OutOfMemory) }
@@ -67,7 +67,8 @@ fn found<T: TypedRow>(alloc: Global, rows: &[Row], ids: &[Row]) -> Result<Option
     or_none(typed(alloc, rows, ids))
 }
 
-/// The systems, by name. None where a row of the table is no system's, or two rows have one rowid.
+/// The systems, by name. `None` if a row of the table isn't a system's, or two rows have the same
+/// rowid.
 pub(crate) fn read_systems<S: Alter>(
     alloc: Global,
     conn: &mut Connection<S>,
@@ -79,8 +80,8 @@ pub(crate) fn read_systems<S: Alter>(
     found(alloc, &rows, &ids)
 }
 
-/// The lines, by system and place. None where a row of the table is no line's, or two rows have one
-/// rowid.
+/// The lines, by system and place. `None` if a row of the table isn't a line's, or two rows have
+/// the same rowid.
 pub(crate) fn read_lines<S: Alter>(
     alloc: Global,
     conn: &mut Connection<S>,
@@ -92,8 +93,8 @@ pub(crate) fn read_lines<S: Alter>(
     found(alloc, &rows, &ids)
 }
 
-/// The ranges, by system, place and first minute. None where a row of the table is no range's, or
-/// two rows have one rowid.
+/// The ranges, by system, place and first minute. `None` if a row of the table isn't a range's, or
+/// two rows have the same rowid.
 pub(crate) fn read_ranges<S: Alter>(
     alloc: Global,
     conn: &mut Connection<S>,
@@ -105,8 +106,8 @@ pub(crate) fn read_ranges<S: Alter>(
     found(alloc, &rows, &ids)
 }
 
-/// The map entries with their bytes, by host. None where a row of the table is no entry's, or two
-/// rows have one rowid.
+/// The map entries with their bytes, by host. `None` if a row of the table isn't an entry's, or two
+/// rows have the same rowid.
 pub(crate) fn read_entries<S: Alter>(
     alloc: Global,
     conn: &mut Connection<S>,
@@ -118,8 +119,8 @@ pub(crate) fn read_entries<S: Alter>(
     found(alloc, &rows, &ids)
 }
 
-/// Of each piece its job, its place and the number of its bytes, by job and place; no byte is read.
-/// None where a row of the table is no piece's, or two rows have one rowid.
+/// Each piece's job, place and number of bytes, by job and place. No byte is read. `None` if a row
+/// of the table isn't a piece's, or two rows have the same rowid.
 pub(crate) fn read_sizes_in_any_order<S: Alter>(
     alloc: Global,
     conn: &mut Connection<S>,
@@ -134,7 +135,7 @@ pub(crate) fn read_sizes_in_any_order<S: Alter>(
     found(alloc, &rows, &ids)
 }
 
-// The success waits, by system, of tables that have them.
+// The success waits, by system, if the version has a table of them.
 fn read_waits_of_table<S: Alter>(
     alloc: Global,
     conn: &mut Connection<S>,
@@ -146,8 +147,8 @@ fn read_waits_of_table<S: Alter>(
     found(alloc, &rows, &ids)
 }
 
-/// The success waits, by system; an empty list of the first version, of which nothing is asked.
-/// None where a row of the table is no success wait's, or two rows have one rowid.
+/// The success waits, by system. Version 1 has none, so the list is empty without a question.
+/// `None` if a row of the table isn't a success wait's, or two rows have the same rowid.
 pub(crate) fn read_waits<S: Alter>(
     alloc: Global,
     conn: &mut Connection<S>,
@@ -162,7 +163,8 @@ pub(crate) fn read_waits<S: Alter>(
     }
 }
 
-// The numbers below which neighbours ask for none again, by system, of tables that have them.
+// The numbers below which neighbours won't ask again, by system, if the version has a table of
+// them.
 fn read_links_of_table<S: Alter>(
     alloc: Global,
     conn: &mut Connection<S>,
@@ -174,9 +176,9 @@ fn read_links_of_table<S: Alter>(
     found(alloc, &rows, &ids)
 }
 
-/// The numbers below which neighbours ask for none again, by system; an empty list of versions 1
-/// and 2, of which nothing is asked. None where a row of the table is not a link's, or two rows
-/// have one rowid.
+/// The numbers below which neighbours won't ask again, by system. Versions 1 and 2 have none, so
+/// the list is empty without a question. `None` if a row of the table isn't a link's, or two rows
+/// have the same rowid.
 pub(crate) fn read_links<S: Alter>(
     alloc: Global,
     conn: &mut Connection<S>,
@@ -191,7 +193,8 @@ pub(crate) fn read_links<S: Alter>(
     }
 }
 
-// The jobs that were taken from neighbours, by system and number, of tables that have them.
+// The jobs that were taken from neighbours, by system and number, if the version has a table of
+// them.
 fn read_taken_of_table<S: Alter>(
     alloc: Global,
     conn: &mut Connection<S>,
@@ -203,9 +206,9 @@ fn read_taken_of_table<S: Alter>(
     found(alloc, &rows, &ids)
 }
 
-/// The jobs that were taken from neighbours, by system and number; an empty list of versions 1 and
-/// 2, of which nothing is asked. None where a row of the table is not such a job's, or two rows
-/// have one rowid.
+/// The jobs that were taken from neighbours, by system and number. Versions 1 and 2 have none, so
+/// the list is empty without a question. `None` if a row of the table isn't such a job's, or two
+/// rows have the same rowid.
 pub(crate) fn read_taken<S: Alter>(
     alloc: Global,
     conn: &mut Connection<S>,

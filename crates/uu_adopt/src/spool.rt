@@ -26,7 +26,7 @@ fn number_of(version: Version) -> u32
     }
 }
 
-// The next number, of the one row.
+// The next number, from the one row.
 fn next_in_row(rows: &[Row], wanted: Version) -> Result<u32, RowFault>
     ensures row { IfOk result (λ next. rows.now ≡ spool_cells wanted next ∷ []) }
     ensures bad { (next : ℕ) → IsSmall next → NotIf result (rows.now ≡ spool_cells wanted next ∷ []) }
@@ -45,7 +45,7 @@ fn next_in_row(rows: &[Row], wanted: Version) -> Result<u32, RowFault>
     }
 }
 
-// The same, where want of memory is an error, and rows that are not this one row are none.
+// The same. Out of memory is an error, and `None` means anything except this one row.
 fn found_next(rows: &[Row], wanted: Version) -> Result<Option<u32>, Error>
     ensures found { IfOk result (λ found. MatchOption found ((next : ℕ) → IsSmall next → rows.now ≢ spool_cells wanted next ∷ []) (λ next. rows.now ≡ spool_cells wanted next ∷ [])) }
     ensures memory { IfErr result (λ error. error ≡ SqliteFailure OutOfMemory) }
@@ -53,8 +53,8 @@ fn found_next(rows: &[Row], wanted: Version) -> Result<Option<u32>, Error>
     or_none(next_in_row(rows, wanted))
 }
 
-/// The next number, of the one row of the table `spool`. None, where the table has not this one row
-/// with this version and a number of 32 bits.
+/// The next number, from the one row of the table `spool`. `None` unless the table has exactly one
+/// row, with this version and a number of 32 bits.
 pub(crate) fn read_next<S: Alter>(
     conn: &mut Connection<S>,
     version: Version,

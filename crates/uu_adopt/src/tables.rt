@@ -13,11 +13,10 @@ use uu_schema::Version;
 pub(crate) enum Found {
     /// None of the spool's tables.
     Nothing,
-    /// The table `spool` with the columns that tell its version, and the version whose tables are
+    /// The table `spool` with the columns that say its version, and the version whose tables are
     /// all there.
     Spool { tables: Option<Version> },
-    /// One of the names is taken, and there is no table `spool` with the columns that tell its
-    /// version.
+    /// One of the names is taken, and no table `spool` has the columns that say its version.
     Other,
 }
 
@@ -116,7 +115,7 @@ fn has_links(schema: &Schema) -> bool
     has_table(schema, "links", &LINKS) && has_table(schema, "taken", &TAKEN)
 }
 
-// Whether the rest of the columns and tables of version 1 is there.
+// Whether the other columns and tables of version 1 are there.
 fn is_whole(schema: &Schema, spool: &Table) -> bool
     ensures { result ≡ is_whole schema.now spool.now }
 {
@@ -129,14 +128,14 @@ fn is_taken(schema: &Schema, name: &str) -> bool
     table_of(schema, name).is_some()
 }
 
-// Whether a table stands under one of the names of the tables of links.
+// Whether a table has one of the names of the tables of links.
 fn is_link_taken(schema: &Schema) -> bool
     ensures { result ≡ is_link_taken schema.now }
 {
     is_taken(schema, "links") || is_taken(schema, "taken")
 }
 
-// Whether a table stands under one of the names but `spool`.
+// Whether a table has one of the names, other than `spool`.
 fn is_any_taken(schema: &Schema) -> bool
     ensures { result ≡ is_any_taken schema.now }
 {
@@ -150,8 +149,8 @@ fn is_any_taken(schema: &Schema) -> bool
         || is_link_taken(schema)
 }
 
-// The version that the tables tell that were added after version 1: it has all of its own, and of
-// those of later ones no name is taken.
+// The version that the tables added after version 1 show: it has all of its own, and no name of
+// those of later versions is taken.
 fn added_with(schema: &Schema) -> Option<Version>
     ensures { result ≡ added_with schema.now }
 {

@@ -30,7 +30,7 @@ fn is_later(row: &Row) -> Result<bool, RowFault>
     }
 }
 
-// Whether one of the rows of the question on the version shows a later one than ours.
+// Whether a row of the answer names a later version than ours.
 fn later_in(rows: &[Row]) -> Result<bool, RowFault>
     ensures later { result ≡ Ok true → HasLater rows.now }
     ensures none { result ≡ Ok false → ¬ HasLater rows.now }
@@ -44,7 +44,7 @@ fn later_in(rows: &[Row]) -> Result<bool, RowFault>
     Ok(false)
 }
 
-// The same, where want of memory is an error.
+// The same. Out of memory is an error.
 fn found_later(rows: &[Row]) -> Result<bool, Error>
     ensures found { IfOk result (λ later. Tells later (HasLater rows.now) (¬ HasLater rows.now)) }
     ensures memory { IfErr result (λ error. error ≡ SqliteFailure OutOfMemory) }
@@ -52,8 +52,8 @@ fn found_later(rows: &[Row]) -> Result<bool, Error>
     or_error(later_in(rows))
 }
 
-/// Whether the table `spool` names a later version than this program's. Asked before all else,
-/// since the other tables of a later version may differ.
+/// Whether the table `spool` names a later version than this program's. This question comes first,
+/// because the other tables of a later version may differ.
 pub(crate) fn names_later<S: Alter>(conn: &mut Connection<S>) -> Result<bool, Error>
     ensures reads { (v : Version) → ReadsFrom S.Store v (λ trees later. Tells later (IsLater trees) (¬ IsLater trees)) conn.old conn.new result }
     ensures refused { HasCleanDisk (state S.Store conn.new) → IfErr result (IsRefused version_text [] (state S.Store conn.old) (state S.Store conn.new)) }

@@ -2,8 +2,9 @@
 use Rattle.std.proofs.Common.{◌≡◌, ℕ, suc, ◌+◌, ◌<◌, ◌≤◌, Bool, true, false, ◌==◌, List, [], ◌∷◌, map, length, IsTrue, Option, None, Some, refl, sym, ap, arith}
 use Rattle.std.specs.Prelude.{◌&&◌, ◌||◌}
 use Rattle.std.specs.List.{AllByRecursion}
-use Rattle.std.proofs.lemmas.Bool.{and_parts}
+use Rattle.std.proofs.lemmas.Bool.{and_parts, leb-true, le-leb, eqb-true, eq-eqb, and_right}
 use Rattle.uu_names.specs.Name.{is_site_name}
+use Rattle.uu_names.proofs.Basics.{earlier_other, text_from, AllPairsByRecursion}
 use Rattle.uu_times.specs.declared.system.Line.{Line}
 use Rattle.uu_core.specs.declared.system.Outcome.{Outcome}
 use Rattle.uu_core.specs.declared.system.Outcome.TheVariants.{Never, Failed, Done}
@@ -13,8 +14,8 @@ use Rattle.uu_core.specs.State.{IsCall, IsOutcome, ComesBefore, same_text, last_
 use Rattle.uu_tables.specs.declared.rows.SystemColumns.{SystemColumns}
 use Rattle.uu_tables.specs.Tables.{PlacedLine, line_columns, placed, placed_from, system_columns, outcome_number, reason_of}
 use Rattle.uu_check.specs.Tests.{is_outcome, are_placed, owns_line, fits_system}
-use Rattle.uu_check.proofs.Walks.{Item, AllPairsByRecursion}
-use Rattle.uu_check.proofs.Meanings.{le_from, le_to, eq_from, eq_to, eq_not_up, text_from, text_not}
+use Rattle.uu_check.proofs.Walks.{Item}
+use Rattle.uu_check.proofs.Meanings.{eq_not_up}
 
 -- ---- calls
 
@@ -26,19 +27,19 @@ pub record Shown (why : Option (List ℕ)) (outcome last failures wait : ℕ) : 
   pub good : IsOutcome it (record { last = last; failures = failures; wait = wait; outcome = it })
 
 shown : (why : Option (List ℕ)) (outcome last failures wait : ℕ) → is_outcome why outcome last failures wait ≡ true → Shown why outcome last failures wait
-shown (Some why) outcome last failures wait h = let parts = and_parts _ _ h in record { it = Failed why; number = sym (eq_from _ _ parts.0); reason = refl; good = parts.1 }
+shown (Some why) outcome last failures wait h = let parts = and_parts _ _ h in record { it = Failed why; number = sym (eqb-true _ _ parts.0); reason = refl; good = parts.1 }
 shown None outcome last failures wait h = go (outcome == 2) refl h
   where
     zeros : Bool
     zeros = (outcome == 0) && (last == 0) && (failures == 0) && (wait == 0)
 
     go : (t : Bool) → (outcome == 2) ≡ t → (t || ((outcome == 0) && (last == 0) && (failures == 0) && (wait == 0))) ≡ true → Shown None outcome last failures wait
-    go true e k = record { it = Done; number = sym (eq_from _ _ e); reason = refl; good = tt }
+    go true e k = record { it = Done; number = sym (eqb-true _ _ e); reason = refl; good = tt }
     go false e k = let c = and_parts _ _ k in let b = and_parts _ _ c.0 in let a = and_parts _ _ b.0 in
-        record { it = Never; number = sym (eq_from _ _ a.0); reason = refl; good = (eq_from _ _ a.1, eq_from _ _ b.1, eq_from _ _ c.1) }
+        record { it = Never; number = sym (eqb-true _ _ a.0); reason = refl; good = (eqb-true _ _ a.1, eqb-true _ _ b.1, eqb-true _ _ c.1) }
 
 outcome_fits : (it : Outcome) (call : CallState) → IsOutcome it call → is_outcome (reason_of it) (outcome_number it) call.last call.failures call.wait ≡ true
-outcome_fits Never call good = rw (eq_to call.last 0 good.0, eq_to call.failures 0 good.1, eq_to call.wait 0 good.2) refl
+outcome_fits Never call good = rw (eq-eqb call.last 0 good.0, eq-eqb call.failures 0 good.1, eq-eqb call.wait 0 good.2) refl
 outcome_fits (Failed why) call good = rw good refl
 outcome_fits Done call good = refl
 
@@ -64,7 +65,7 @@ back s place [] own h = refl
 back s place (p ∷ ps) own h =
     let parts = and_parts _ _ h in
     let system : s.name ≡ p.system = text_from _ _ own.0 in
-    let here : place ≡ p.place = sym (eq_from _ _ parts.0) in
+    let here : place ≡ p.place = sym (eqb-true _ _ parts.0) in
     λ i. record { system = system i; place = here i; line = p.line } ∷ back s (place + 1) ps own.1 parts.1 i
 
 length_map : {X Y : Type 0} (f : X → Y) (xs : List X) → length (map f xs) ≡ length xs
@@ -76,14 +77,14 @@ system_of_rows s ps own test =
     let d = and_parts _ _ test in let c = and_parts _ _ d.0 in let b = and_parts _ _ c.0 in let a = and_parts _ _ b.0 in
     let z = and_parts _ _ b.1 in let y = and_parts _ _ z.0 in let x = and_parts _ _ y.0 in
     let o = shown s.call.why s.call.outcome s.call.last s.call.failures s.call.wait z.1 in
-    let few : length (map line_columns ps) ≤ 32 = le_from _ _ c.1 in
+    let few : length (map line_columns ps) ≤ 32 = leb-true _ _ c.1 in
     record {
       item = record { def = record { name = s.name; lines = map line_in ps; max_retries = s.max_retries; success_wait = 0 }; call = record { last = s.call.last; failures = s.call.failures; wait = s.call.wait; outcome = o.it } };
       good = record {
         name = a.0;
-        most = le_from _ _ a.1;
+        most = leb-true _ _ a.1;
         few = omega (arith, few, length_map line_columns ps, length_map line_in ps);
-        call = record { last = le_from _ _ x.0; failures = le_from _ _ x.1; wait = le_from _ _ y.1; outcome = o.good };
+        call = record { last = leb-true _ _ x.0; failures = leb-true _ _ x.1; wait = leb-true _ _ y.1; outcome = o.good };
       };
       row = λ i. record s { call = record s.call { outcome = o.number i; why = o.reason i } };
       children = back s 0 ps own d.1;
@@ -91,7 +92,7 @@ system_of_rows s ps own test =
 
 lines_placed : (name : List ℕ) (place : ℕ) (lines : List Line) → are_placed place (map line_columns (placed_from name place lines)) ≡ true
 lines_placed name place [] = refl
-lines_placed name place (line ∷ lines) = rw (eq_to place place refl) (lines_placed name (place + 1) lines)
+lines_placed name place (line ∷ lines) = rw (eq-eqb place place refl) (lines_placed name (place + 1) lines)
 
 placed_length : (name : List ℕ) (place : ℕ) (lines : List Line) → length (map line_columns (placed_from name place lines)) ≡ length lines
 placed_length name place [] = refl
@@ -100,7 +101,7 @@ placed_length name place (line ∷ lines) = ap suc (placed_length name (place + 
 pub system_fits : (row : SystemRow) → IsGoodSystem row → fits (system_columns row) (placed row) ≡ true
 system_fits row good =
     let few : length (map line_columns (placed row)) ≤ 32 = (let e = placed_length row.def.name 0 row.def.lines in let k = good.few in omega (arith, e, k)) in
-    rw (good.name, le_to row.def.max_retries 1000000 good.most, le_to row.call.last last_second good.call.last, le_to row.call.failures most_failures good.call.failures, le_to row.call.wait 31536000 good.call.wait, outcome_fits row.call.outcome row.call good.call.outcome, le_to (length (map line_columns (placed row))) 32 few)
+    rw (good.name, le-leb row.def.max_retries 1000000 good.most, le-leb row.call.last last_second good.call.last, le-leb row.call.failures most_failures good.call.failures, le-leb row.call.wait 31536000 good.call.wait, outcome_fits row.call.outcome row.call good.call.outcome, le-leb (length (map line_columns (placed row))) 32 few)
     (lines_placed row.def.name 0 row.def.lines)
 
 -- a line is that of one system
@@ -114,13 +115,9 @@ lines_owned name other t h place (line ∷ lines) = (h, lines_owned name other t
 abbrev pub Differ : PlacedLine → PlacedLine → Type 0
 Differ p q = (same_text p.system q.system && (p.place == q.place)) ≡ false
 
-and_false : (a b : Bool) → b ≡ false → (a && b) ≡ false
-and_false true b h = h
-and_false false b h = refl
-
 later_differ : (name : List ℕ) (line : Line) (here place : ℕ) (lines : List Line) → here < place → AllByRecursion (Differ (record { system = name; place = here; line = line })) (placed_from name place lines)
 later_differ name line here place [] below = tt
-later_differ name line here place (next ∷ lines) below = (and_false (same_text name name) (here == place) (eq_not_up here place below), later_differ name line here (place + 1) lines (omega (arith, below)))
+later_differ name line here place (next ∷ lines) below = (and_right (same_text name name) (here == place) (eq_not_up here place below), later_differ name line here (place + 1) lines (omega (arith, below)))
 
 own_differ : (name : List ℕ) (place : ℕ) (lines : List Line) → AllPairsByRecursion Differ (placed_from name place lines)
 own_differ name place [] = tt
@@ -138,4 +135,4 @@ systems_differ x y before = go 0 x.def.lines
   where
     go : (place : ℕ) (lines : List Line) → AllByRecursion (λ p. AllByRecursion (Differ p) (placed y)) (placed_from x.def.name place lines)
     go place [] = tt
-    go place (line ∷ lines) = (others_differ (record { system = x.def.name; place = place; line = line }) y.def.name 0 y.def.lines (text_not x.def.name y.def.name before), go (place + 1) lines)
+    go place (line ∷ lines) = (others_differ (record { system = x.def.name; place = place; line = line }) y.def.name 0 y.def.lines (earlier_other x.def.name y.def.name before), go (place + 1) lines)

@@ -2,12 +2,12 @@
 use Rattle.std.proofs.Common.{◌≡◌, ℕ, zero, suc, ◌+◌, ◌-◌, ◌*◌, ◌≤◌, min, true, ◌==◌, List, [], ◌∷◌, ◌++◌, map, length, take, drop, refl, sym, ap, subst, ◌∙◌, arith, length-append}
 use Rattle.std.specs.Prelude.{◌&&◌, nat_le}
 use Rattle.std.specs.List.{AllByRecursion, flat_map, range_with_len}
-use Rattle.std.proofs.lemmas.Bool.{and_parts}
+use Rattle.std.proofs.lemmas.Bool.{and_parts, eq-eqb, le-leb}
 use Rattle.std.proofs.lemmas.Bool.Decides.{nat_tests}
 use Rattle.std.proofs.lemmas.List.{drop-drop, length-take, length-drop, take_all}
+use Rattle.std.proofs.Math.Seq.{take-append_seam, drop-append_seam}
 use Rattle.uu_tables.specs.Tables.{Piece, piece, piece_count, size_of}
 use Rattle.uu_check.specs.Tests.{are_cut}
-use Rattle.uu_check.proofs.Walks.{take_front, drop_front}
 
 -- the pieces from a place on, so many
 abbrev pub pieces_from : ℕ → ℕ → ℕ → List ℕ → List Piece
@@ -32,7 +32,7 @@ take_piece xs [] h = take_all 16384 (xs ++ []) (simp length-append (omega (arith
     append_nil : (xs : List ℕ) → xs ++ [] ≡ xs
     append_nil [] = refl
     append_nil (x ∷ xs) = ap (λ l. x ∷ l) (append_nil xs)
-take_piece xs (y ∷ ys) h = let all : length xs ≡ 16384 = omega (arith, h) in ap (λ n. take n (xs ++ y ∷ ys)) (sym all) ∙ take_front xs (y ∷ ys)
+take_piece xs (y ∷ ys) h = let all : length xs ≡ 16384 = omega (arith, h) in ap (λ n. take n (xs ++ y ∷ ys)) (sym all) ∙ take-append_seam xs (y ∷ ys)
 
 drop_piece : (xs ys : List ℕ) → length xs ≡ min (length xs + length ys) 16384 → drop 16384 (xs ++ ys) ≡ ys
 drop_piece xs [] h = drop_none 16384 (xs ++ []) (simp length-append (omega (arith, h)))
@@ -42,7 +42,7 @@ drop_piece xs [] h = drop_none 16384 (xs ++ []) (simp length-append (omega (arit
     drop_none zero (x ∷ xs) h = absurd (omega (arith, h))
     drop_none (suc n) [] h = refl
     drop_none (suc n) (x ∷ xs) h = drop_none n xs (omega (arith, h))
-drop_piece xs (y ∷ ys) h = let all : length xs ≡ 16384 = omega (arith, h) in ap (λ n. drop n (xs ++ y ∷ ys)) (sym all) ∙ drop_front xs (y ∷ ys)
+drop_piece xs (y ∷ ys) h = let all : length xs ≡ 16384 = omega (arith, h) in ap (λ n. drop n (xs ++ y ∷ ys)) (sym all) ∙ drop-append_seam xs (y ∷ ys)
 
 abbrev pub bytes_of : List Piece → List ℕ
 bytes_of = flat_map (λ (p : Piece). p.bytes)
@@ -69,12 +69,6 @@ joined job (x ∷ g) place size own h =
           ∙ (λ i. first i ∷ (ap (pieces_from job (place + 1) (piece_count left)) (drop_piece x.bytes (bytes_of g) fits) ∙ more.1) i),
     )
 
-same_number : (a b : ℕ) → a ≡ b → (a == b) ≡ true
-same_number a b h = grind (arith, nat_tests, h)
-
-at_least : (a b : ℕ) → a ≤ b → nat_le a b ≡ true
-at_least a b h = grind (arith, nat_tests, h)
-
 -- the pieces of bytes pass it
 pub are_pieces : (job place n size : ℕ) (bytes : List ℕ) → length bytes ≡ size → piece_count size ≡ n → are_cut place size (map size_of (pieces_from job place n bytes)) ≡ true
 are_pieces job place zero size bytes is count = subst (λ n. (n == 0) ≡ true) (sym (count_none size count)) refl
@@ -83,8 +77,8 @@ are_pieces job place (suc n) size bytes is count =
     let left = size - min size 16384 in
     let rest : length (drop 16384 bytes) ≡ left = simp length-drop (omega (arith, is)) in
     let fewer : piece_count left ≡ n = omega (arith, count_step size some, count) in
-    let a : (place == place) ≡ true = same_number place place refl in
-    let b : nat_le 1 size ≡ true = at_least 1 size some in
+    let a : (place == place) ≡ true = eq-eqb place place refl in
+    let b : nat_le 1 size ≡ true = le-leb 1 size some in
     let whole : length (take 16384 bytes) ≡ min size 16384 = length-take 16384 bytes ∙ omega (arith, is) in
-    let d : (length (take 16384 bytes) == min size 16384) ≡ true = same_number _ _ whole in
+    let d : (length (take 16384 bytes) == min size 16384) ≡ true = eq-eqb _ _ whole in
     rw (a, b, d) (are_pieces job (place + 1) n left (drop 16384 bytes) rest fewer)

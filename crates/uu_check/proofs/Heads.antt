@@ -1,9 +1,7 @@
 -- Jobs and their heads, with their pieces.
-use Rattle.std.proofs.Common.{◌≡◌, ℕ, zero, suc, ◌+◌, ◌<◌, ◌≤◌, Bool, true, ◌==◌, List, [], ◌∷◌, map, length, IsTrue, All, refl, sym, ap, subst, ◌∙◌, arith}
-use Rattle.std.specs.Prelude.{nat_le, nat_lt}
+use Rattle.std.proofs.Common.{◌≡◌, ℕ, zero, suc, ◌+◌, Bool, true, ◌==◌, List, [], ◌∷◌, map, length, IsTrue, All, refl, sym, ap, subst, ◌∙◌}
 use Rattle.std.specs.List.{AllByRecursion, list_all}
-use Rattle.std.proofs.lemmas.Bool.{and_parts}
-use Rattle.std.proofs.lemmas.Bool.Decides.{nat_tests}
+use Rattle.std.proofs.lemmas.Bool.{and_parts, leb-true, le-leb, ltb-true, lt-ltb}
 use Rattle.std.proofs.lemmas.List.Elements.{All-nil, All-cons, All-head, All-tail}
 use Rattle.uu_names.specs.Name.{is_word}
 use Rattle.uu_core.specs.declared.job.JobHead.{JobHead}
@@ -25,42 +23,30 @@ module _ {X : Type 0} (p : X → Bool) where
   all_to [] h = refl
   all_to (x ∷ xs) h = rw (All-head (λ x. IsTrue (p x)) x xs h, all_to xs (All-tail (λ x. IsTrue (p x)) x xs h)) refl
 
-le_from : (a b : ℕ) → nat_le a b ≡ true → a ≤ b
-le_from a b h = grind (arith, nat_tests, h)
-
-le_to : (a b : ℕ) → a ≤ b → nat_le a b ≡ true
-le_to a b h = grind (arith, nat_tests, h)
-
-lt_from : (a b : ℕ) → nat_lt a b ≡ true → a < b
-lt_from a b h = grind (arith, nat_tests, h)
-
-lt_to : (a b : ℕ) → a < b → nat_lt a b ≡ true
-lt_to a b h = grind (arith, nat_tests, h)
-
 kind_from : (kind : Kind) → is_kind kind ≡ true → IsKind kind
 kind_from (Send source target) h = and_parts _ _ h
 kind_from (Request source target) h = and_parts _ _ h
-kind_from (Execute command arguments) h = let b = and_parts _ _ h in let a = and_parts _ _ b.0 in (a.0, all_from is_word arguments a.1, le_from _ _ b.1)
+kind_from (Execute command arguments) h = let b = and_parts _ _ h in let a = and_parts _ _ b.0 in (a.0, all_from is_word arguments a.1, leb-true _ _ b.1)
 
 kind_to : (kind : Kind) → IsKind kind → is_kind kind ≡ true
 kind_to (Send source target) h = rw (h.0, h.1) refl
 kind_to (Request source target) h = rw (h.0, h.1) refl
-kind_to (Execute command arguments) h = rw (h.0, all_to is_word arguments h.1, le_to (length arguments) most_arguments h.2) refl
+kind_to (Execute command arguments) h = rw (h.0, all_to is_word arguments h.1, le-leb (length arguments) most_arguments h.2) refl
 
 job_from : (j : Job) → is_head (head_of j) ≡ true → IsJob j
 job_from j h =
     let f = and_parts _ _ h in let e = and_parts _ _ f.0 in let d = and_parts _ _ e.0 in let c = and_parts _ _ d.0 in let b = and_parts _ _ c.0 in let a = and_parts _ _ b.0 in record {
-      number = le_from _ _ a.0;
+      number = leb-true _ _ a.0;
       system = a.1;
-      grade = lt_from _ _ b.1;
+      grade = ltb-true _ _ b.1;
       user = c.1;
       kind = kind_from j.kind d.1;
-      queued = le_from _ _ e.1;
-      bytes = le_from _ _ f.1;
+      queued = leb-true _ _ e.1;
+      bytes = leb-true _ _ f.1;
     }
 
 pub job_to : (j : Job) → IsJob j → is_head (head_of j) ≡ true
-job_to j good = rw (le_to 1 j.number good.number, good.system, lt_to j.grade 62 good.grade, good.user, kind_to j.kind good.kind, le_to j.queued last_second good.queued, le_to (length j.bytes) most_bytes good.bytes) refl
+job_to j good = rw (le-leb 1 j.number good.number, good.system, lt-ltb j.grade 62 good.grade, good.user, kind_to j.kind good.kind, le-leb j.queued last_second good.queued, le-leb (length j.bytes) most_bytes good.bytes) refl
 
 -- ---- with their pieces
 

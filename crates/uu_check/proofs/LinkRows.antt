@@ -2,8 +2,10 @@
 use Rattle.std.proofs.Common.{◌≡◌, ℕ, zero, suc, ◌≤◌, ◌<◌, Bool, true, false, not, cond, ◌==◌, List, [], ◌∷◌, ◌++◌, map, find, All, IsTrue, Some, unwrap_or, inl, inr, refl, sym, ap, subst, ◌∙◌, arith}
 use Rattle.std.specs.Prelude.{◌||◌, nat_le}
 use Rattle.std.specs.List.{AllByRecursion, flat_map, list_all, list_any}
-use Rattle.std.proofs.lemmas.Bool.{and_parts, cases_Bool}
+use Rattle.std.proofs.lemmas.Bool.{and_parts, cases_Bool, leb-true, le-leb, ltb-true, lt-ltb, eqb-true, or_right}
 use Rattle.std.proofs.lemmas.Cmp.{nat_list_cmp_total}
+use Rattle.std.proofs.lemmas.List.Elements.{recursion_from_All, All-from_recursion}
+use Rattle.uu_names.proofs.Basics.{later_other, earlier_other, less_is, text_from, text_to, pairs_by_recursion, all_weaker, all_mapped, all_append, AllPairsByRecursion}
 use Rattle.uu_core.specs.declared.custody.Taken.{Taken}
 use Rattle.uu_core.specs.declared.system.SystemRow.{SystemRow}
 use Rattle.uu_core.specs.Marks.{marks_end}
@@ -19,15 +21,10 @@ use Rattle.uu_tables.proofs.SystemLemmas.{each_link}
 use Rattle.uu_tables.proofs.RowLemmas.{each_made}
 use Rattle.uu_check.specs.Walk.{walk, rises}
 use Rattle.uu_check.specs.Tests.{owns_link, fits_link, owns_taken, fits_taken, taken_before, is_given, may_be_asked, are_links, system_before}
-use Rattle.uu_check.proofs.Walks.{Item, items_of, walked, AllPairsByRecursion, Apart, all_append, is_nil, same_items}
-use Rattle.uu_check.proofs.Lists.{by_place, by_recursion, pairs_by_place, pairs_by_recursion, weaker, weaker_pairs, both, mapped_all, unmapped_all, split_all, unflat, flat_pairs, mapped_pairs, risen, does_rise, Across}
-use Rattle.uu_check.proofs.Meanings.{le_from, le_to, lt_from, lt_to, eq_from, less_is, less_apart, not_true, text_from, text_to, text_not}
+use Rattle.uu_check.proofs.Walks.{Item, items_of, walked, Apart, is_nil, same_items}
+use Rattle.uu_check.proofs.Lists.{pairs_by_place, weaker_pairs, both, unmapped_all, split_all, unflat, flat_pairs, mapped_pairs, risen, does_rise, Across, all_flat_of}
 
 -- ---- lists
-
-pub all_flat : {X C : Type 0} (P : C → Type 0) (Q : X → Type 0) (f : X → List C) → ((x : X) → Q x → AllByRecursion P (f x)) → (xs : List X) → AllByRecursion Q xs → AllByRecursion P (flat_map f xs)
-all_flat P Q f step [] h = tt
-all_flat P Q f step (x ∷ xs) h = all_append P (f x) (flat_map f xs) (step x h.0) (all_flat P Q f step xs h.1)
 
 module _ {X : Type 0} (p : X → Bool) where
   each_from : (xs : List X) → list_all p xs ≡ true → AllByRecursion (λ x. p x ≡ true) xs
@@ -37,9 +34,6 @@ module _ {X : Type 0} (p : X → Bool) where
   each_to : (xs : List X) → AllByRecursion (λ x. p x ≡ true) xs → list_all p xs ≡ true
   each_to [] h = refl
   each_to (x ∷ xs) h = rw (h.0, each_to xs h.1) refl
-
-pub not_back : (a b : List ℕ) → ComesBefore a b → same_text b a ≡ false
-not_back a b h = not_true (same_text b a) (λ e. less_apart a b h (sym (text_from b a e)))
 
 -- ---- the rows of a system in the two tables
 
@@ -82,7 +76,7 @@ pub below_of_rows : (s : SystemColumns) (ls : List LinkColumns) → AllByRecursi
 below_of_rows s [] own test = record { item = record { columns = s; below = 0 }; good = omega arith; row = refl; children = refl }
 below_of_rows s (l ∷ []) own test =
     let parts = and_parts _ _ test in
-    record { item = record { columns = s; below = l.below }; good = le_from _ _ parts.1; row = refl; children = one_row s l l.below refl (le_from _ _ parts.0) (text_from _ _ own.0) }
+    record { item = record { columns = s; below = l.below }; good = leb-true _ _ parts.1; row = refl; children = one_row s l l.below refl (leb-true _ _ parts.0) (text_from _ _ own.0) }
 below_of_rows s (l ∷ other ∷ more) own test = absurd (cc)
 
 abbrev taken_in : TakenColumns → Taken
@@ -95,7 +89,7 @@ rows_back s (t ∷ ts) own = λ i. record { system = text_from s.name t.system o
 took_of_rows : (s : SystemColumns) (ts : List TakenColumns) → AllByRecursion (λ t. owns_taken s t ≡ true) ts → fits_taken s ts ≡ true → Item owns_taken fits_taken took_head took_rows IsTook s ts
 took_of_rows s ts own test = record {
   item = record { columns = s; taken = map taken_in ts };
-  good = risen (taken_columns s.name) taken_before Lower (λ x y. lt_from _ _) (λ x y z p q. omega (arith, p, q)) (map taken_in ts) (ap (rises taken_before) (rows_back s ts own) ∙ test);
+  good = risen (taken_columns s.name) taken_before Lower (λ x y. ltb-true _ _) (λ x y z p q. omega (arith, p, q)) (map taken_in ts) (ap (rises taken_before) (rows_back s ts own) ∙ test);
   row = refl;
   children = rows_back s ts own;
 }
@@ -114,7 +108,7 @@ drop_silent f quiet (l ∷ ls) = by_test (says_nothing l) refl (drop_silent f qu
     by_test false e rest = ap (λ rows. f l ++ rows) rest
 
 quiet_link : (l : Link) → says_nothing l ≡ true → links_of l ≡ []
-quiet_link l e = ap (links_from l.name) (eq_from _ _ (and_parts (l.below == 0) _ e).0)
+quiet_link l e = ap (links_from l.name) (eqb-true _ _ (and_parts (l.below == 0) _ e).0)
 
 quiet_taken : (l : Link) → says_nothing l ≡ true → taken_rows l ≡ []
 quiet_taken l e = ap (map (taken_columns l.name)) (is_nil l.taken (and_parts (l.below == 0) _ e).1)
@@ -192,13 +186,9 @@ said_rise ls rise = flat_pairs LinkBefore said (λ _. Unit {0}) (λ l k. one l (
 abbrev pub knows : List SystemRow → List ℕ → Bool
 knows rows name = list_any (λ (row : SystemRow). same_text row.def.name name) rows
 
-or_true : (a b : Bool) → b ≡ true → (a || b) ≡ true
-or_true true b h = refl
-or_true false b h = h
-
 self_known : (rows : List SystemRow) → AllByRecursion (λ (row : SystemRow). IsTrue (knows rows row.def.name)) rows
 self_known [] = tt
-self_known (x ∷ xs) = (rw (text_to x.def.name) refl, weaker _ _ (λ (row : SystemRow) h. or_true (same_text x.def.name row.def.name) (knows xs row.def.name) h) xs (self_known xs))
+self_known (x ∷ xs) = (rw (text_to x.def.name) refl, all_weaker _ _ (λ (row : SystemRow) h. or_right (same_text x.def.name row.def.name) (knows xs row.def.name) h) xs (self_known xs))
 
 below_known : (all rows : List SystemRow) (bs : List Below) → map below_head bs ≡ map system_columns rows → AllByRecursion (λ (row : SystemRow). IsTrue (knows all row.def.name)) rows → AllByRecursion (λ (b : Below). IsTrue (knows all b.columns.name)) bs
 below_known all rows [] same h = tt
@@ -226,15 +216,15 @@ may_ask t l = not (same_text l.system t.system) || nat_le l.below t.taken.number
 
 one_late : (name : List ℕ) (n : ℕ) (t : Taken) → may_be_asked (links_from name n) (taken_columns name t) ≡ true → n ≤ t.number
 one_late name zero t h = omega arith
-one_late name (suc n) t h = le_from (suc n) t.number (subst (λ b. (not b || nat_le (suc n) t.number) ≡ true) (text_to name) (and_parts _ _ h).0)
+one_late name (suc n) t h = leb-true (suc n) t.number (subst (λ b. (not b || nat_le (suc n) t.number) ≡ true) (text_to name) (and_parts _ _ h).0)
 
 late_from : (ls : List Link) → AllByRecursion (λ t. may_be_asked (flat_map links_of ls) t ≡ true) (flat_map taken_rows ls) → AllByRecursion IsLate ls
 late_from [] h = tt
 late_from (l ∷ ls) h =
     let rest = flat_map links_of ls in
     let parts = split_all (λ t. may_be_asked (links_of l ++ rest) t ≡ true) (taken_rows l) (flat_map taken_rows ls) h in (
-      weaker _ _ (λ t k. one_late l.name l.below t (all_parts (may_ask (taken_columns l.name t)) (links_of l) rest k).0) l.taken (unmapped_all (λ t. may_be_asked (links_of l ++ rest) t ≡ true) (taken_columns l.name) l.taken parts.0),
-      late_from ls (weaker _ _ (λ t k. (all_parts (may_ask t) (links_of l) rest k).1) (flat_map taken_rows ls) parts.1),
+      all_weaker _ _ (λ t k. one_late l.name l.below t (all_parts (may_ask (taken_columns l.name t)) (links_of l) rest k).0) l.taken (unmapped_all (λ t. may_be_asked (links_of l ++ rest) t ≡ true) (taken_columns l.name) l.taken parts.0),
+      late_from ls (all_weaker _ _ (λ t k. (all_parts (may_ask t) (links_of l) rest k).1) (flat_map taken_rows ls) parts.1),
     )
 
 others_late : (rows : List LinkColumns) (t : TakenColumns) → AllByRecursion (λ (r : LinkColumns). same_text r.system t.system ≡ false) rows → may_be_asked rows t ≡ true
@@ -243,16 +233,16 @@ others_late (r ∷ rows) t h = rw (h.0, others_late rows t h.1) refl
 
 own_late : (name : List ℕ) (n : ℕ) (t : Taken) → n ≤ t.number → may_be_asked (links_from name n) (taken_columns name t) ≡ true
 own_late name zero t h = refl
-own_late name (suc n) t h = rw (text_to name, le_to (suc n) t.number h) refl
+own_late name (suc n) t h = rw (text_to name, le-leb (suc n) t.number h) refl
 
 late_to : (ls : List Link) → AllPairsByRecursion LinkBefore ls → AllByRecursion IsLate ls → AllByRecursion (λ t. may_be_asked (flat_map links_of ls) t ≡ true) (flat_map taken_rows ls)
 late_to [] up h = tt
 late_to (l ∷ ls) up h =
     let rest = flat_map links_of ls in
-    let behind : AllByRecursion (λ (r : LinkColumns). same_text r.system l.name ≡ false) rest = all_flat (λ (r : LinkColumns). same_text r.system l.name ≡ false) (LinkBefore l) links_of (λ x before. each_link (λ r. same_text r.system l.name ≡ false) x.name (λ below. not_back l.name x.name before) x.below) ls up.0 in
-    let others : AllByRecursion (λ (t : TakenColumns). same_text l.name t.system ≡ false) (flat_map taken_rows ls) = all_flat (λ (t : TakenColumns). same_text l.name t.system ≡ false) (LinkBefore l) taken_rows (λ x before. each_made (λ (t : TakenColumns). same_text l.name t.system ≡ false) (taken_columns x.name) (λ taken. text_not l.name x.name before) x.taken) ls up.0 in
+    let behind : AllByRecursion (λ (r : LinkColumns). same_text r.system l.name ≡ false) rest = all_flat_of (λ (r : LinkColumns). same_text r.system l.name ≡ false) (LinkBefore l) links_of (λ x before. each_link (λ r. same_text r.system l.name ≡ false) x.name (λ below. later_other l.name x.name before) x.below) ls up.0 in
+    let others : AllByRecursion (λ (t : TakenColumns). same_text l.name t.system ≡ false) (flat_map taken_rows ls) = all_flat_of (λ (t : TakenColumns). same_text l.name t.system ≡ false) (LinkBefore l) taken_rows (λ x before. each_made (λ (t : TakenColumns). same_text l.name t.system ≡ false) (taken_columns x.name) (λ taken. earlier_other l.name x.name before) x.taken) ls up.0 in
     all_append (λ t. may_be_asked (links_of l ++ rest) t ≡ true) (taken_rows l) (flat_map taken_rows ls)
-    (mapped_all (λ t. may_be_asked (links_of l ++ rest) t ≡ true) (taken_columns l.name) l.taken (weaker _ _ (λ t k. all_both (may_ask (taken_columns l.name t)) (links_of l) rest (own_late l.name l.below t k) (others_late rest (taken_columns l.name t) behind)) l.taken h.0))
+    (all_mapped (λ t. may_be_asked (links_of l ++ rest) t ≡ true) (taken_columns l.name) l.taken (all_weaker _ _ (λ t k. all_both (may_ask (taken_columns l.name t)) (links_of l) rest (own_late l.name l.below t k) (others_late rest (taken_columns l.name t) behind)) l.taken h.0))
     (both (λ (t : TakenColumns). same_text l.name t.system ≡ false) (λ t. may_be_asked rest t ≡ true) (λ t. may_be_asked (links_of l ++ rest) t ≡ true)
     (λ t apart k. all_both (may_ask t) (links_of l) rest (others_late (links_of l) t (each_link (λ r. same_text r.system t.system ≡ false) l.name (λ below. apart) l.below)) k) (flat_map taken_rows ls) others (late_to ls up.1 h.1))
 
@@ -284,15 +274,15 @@ numbers_from next name (t ∷ ts) h =
     let b = and_parts _ _ c.0 in
     let a = and_parts _ _ b.0 in
     let more = numbers_from next name ts h.1 in
-    (((le_from _ _ b.1, lt_from _ _ c.1, le_from _ _ a.0), more.0), (lt_from _ _ a.1, more.1))
+    (((leb-true _ _ b.1, ltb-true _ _ c.1, leb-true _ _ a.0), more.0), (ltb-true _ _ a.1, more.1))
 
 whole : (next : ℕ) (l : Link) → says_nothing l ≡ false → IsAlmost next l → IsLink l
 whole next l says it = record {
   below = it.below;
   says = says;
-  numbers = by_place _ l.taken (numbers_from next l.name l.taken it.given).0;
+  numbers = All-from_recursion _ l.taken (numbers_from next l.name l.taken it.given).0;
   rising = pairs_by_place Lower l.taken it.rising;
-  at_least = by_place _ l.taken it.late;
+  at_least = All-from_recursion _ l.taken it.late;
 }
 
 pub links_from_rows : (next : ℕ) (rows : List SystemRow) (links : List LinkColumns) (taken : List TakenColumns) → rises system_before (map system_columns rows) ≡ true → are_links next (map system_columns rows) links taken ≡ true → Links next rows links taken
@@ -317,7 +307,7 @@ links_from_rows next rows links taken rise h =
       items = flat_map said all;
       good = all_said (IsAlmost next) IsLink (whole next) all almost;
       known = all_said (λ (l : Link). IsTrue (knows rows l.name)) (λ (l : Link). IsTrue (knows rows l.name)) (λ l says k. k) all known;
-      given = all_said (IsAlmost next) (λ (l : Link). All (λ (t : Taken). t.job < next) l.taken) (λ l says it. by_place _ l.taken (numbers_from next l.name l.taken it.given).1) all almost;
+      given = all_said (IsAlmost next) (λ (l : Link). All (λ (t : Taken). t.job < next) l.taken) (λ l says it. All-from_recursion _ l.taken (numbers_from next l.name l.taken it.given).1) all almost;
       rise = said_rise all (paired_rise low.items took.items order);
       links_are = drop_silent links_of quiet_link all ∙ links_same;
       taken_are = drop_silent taken_rows quiet_taken all ∙ taken_same;
@@ -376,8 +366,8 @@ module _ {Y : Type 0} (f : Link → List Y) (none : (name : List ℕ) → f (new
           → f l ++ flat_map f ls ≡ f (its x.def.name (l ∷ ls)) ++ flat_map (λ (row : SystemRow). f (its row.def.name (l ∷ ls))) xs
       by_test true e one all =
           let same : x.def.name ≡ l.name = text_from x.def.name l.name e in
-          let later = both (LinkBefore l) (λ (k : Link). IsTrue (knows (x ∷ xs) k.name)) (λ (k : Link). IsTrue (knows xs k.name)) (λ k before h. known_later x xs k.name (text_not x.def.name k.name (subst (λ n. ComesBefore n k.name) (sym same) before)) h) ls vp.0 known.1 in
-          let apart = weaker (Before x) (λ (row : SystemRow). same_text l.name row.def.name ≡ false) (λ row before. text_not l.name row.def.name (subst (λ n. ComesBefore n row.def.name) same before)) xs up.0 in
+          let later = both (LinkBefore l) (λ (k : Link). IsTrue (knows (x ∷ xs) k.name)) (λ (k : Link). IsTrue (knows xs k.name)) (λ k before h. known_later x xs k.name (earlier_other x.def.name k.name (subst (λ n. ComesBefore n k.name) (sym same) before)) h) ls vp.0 known.1 in
+          let apart = all_weaker (Before x) (λ (row : SystemRow). same_text l.name row.def.name ≡ false) (λ row before. earlier_other l.name row.def.name (subst (λ n. ComesBefore n row.def.name) same before)) xs up.0 in
           let own : is_link x.def.name l ≡ true = subst (λ n. same_text l.name n ≡ true) (sym same) (text_to l.name) in
           let here : f (its x.def.name (l ∷ ls)) ≡ f l = ap (λ b. f (unwrap_or (cond b (Some l) (find (is_link x.def.name) ls)) (new_link x.def.name))) own in
           let rest = one later ∙ sym (skipped l ls xs apart) in
@@ -385,9 +375,9 @@ module _ {Y : Type 0} (f : Link → List Y) (none : (name : List ℕ) → f (new
       by_test false e one all =
           let first : IsTrue (knows xs l.name) = known_later x xs l.name e known.0 in
           let ahead : ComesBefore x.def.name l.name = known_after x.def.name xs up.0 l.name first in
-          let behind = weaker (LinkBefore l) (λ (k : Link). ComesBefore x.def.name k.name) (λ k before. nat_list_cmp_total.trans x.def.name l.name k.name ahead before) ls vp.0 in
-          let later = both (λ (k : Link). ComesBefore x.def.name k.name) (λ (k : Link). IsTrue (knows (x ∷ xs) k.name)) (λ (k : Link). IsTrue (knows xs k.name)) (λ k before h. known_later x xs k.name (text_not x.def.name k.name before) h) ls behind known.1 in
-          let missing = found_none (is_link x.def.name) (l ∷ ls) (not_back x.def.name l.name ahead, weaker (λ (k : Link). ComesBefore x.def.name k.name) (λ k. is_link x.def.name k ≡ false) (λ k before. not_back x.def.name k.name before) ls behind) in
+          let behind = all_weaker (LinkBefore l) (λ (k : Link). ComesBefore x.def.name k.name) (λ k before. nat_list_cmp_total.trans x.def.name l.name k.name ahead before) ls vp.0 in
+          let later = both (λ (k : Link). ComesBefore x.def.name k.name) (λ (k : Link). IsTrue (knows (x ∷ xs) k.name)) (λ (k : Link). IsTrue (knows xs k.name)) (λ k before h. known_later x xs k.name (earlier_other x.def.name k.name before) h) ls behind known.1 in
+          let missing = found_none (is_link x.def.name) (l ∷ ls) (later_other x.def.name l.name ahead, all_weaker (λ (k : Link). ComesBefore x.def.name k.name) (λ k. is_link x.def.name k ≡ false) (λ k before. later_other x.def.name k.name before) ls behind) in
           let here : f (its x.def.name (l ∷ ls)) ≡ [] = ap (λ o. f (unwrap_or o (new_link x.def.name))) missing ∙ none x.def.name in
           all (first, later) ∙ ap (λ rows. rows ++ flat_map (λ (row : SystemRow). f (its row.def.name (l ∷ ls))) xs) (sym here)
 
@@ -424,7 +414,7 @@ below_fits b few = go b.below few
   where
     go : (n : ℕ) → n ≤ numbers_end → fits_link b.columns (links_from b.columns.name n) ≡ true
     go zero few = refl
-    go (suc n) few = rw (le_to 1 (suc n) (omega arith), le_to (suc n) numbers_end few) refl
+    go (suc n) few = rw (le-leb 1 (suc n) (omega arith), le-leb (suc n) numbers_end few) refl
 
 below_owned : (name other : List ℕ) (n : ℕ) (t : Bool) → same_text name other ≡ t → AllByRecursion (λ (l : LinkColumns). same_text name l.system ≡ t) (links_from other n)
 below_owned name other n t is = each_link (λ l. same_text name l.system ≡ t) other (λ below. is) n
@@ -433,13 +423,13 @@ took_owned : (name other : List ℕ) (ts : List Taken) (t : Bool) → same_text 
 took_owned name other ts t is = each_made (λ (r : TakenColumns). same_text name r.system ≡ t) (taken_columns other) (λ taken. is) ts
 
 took_fits : (t : Took) → IsTook t → fits_taken t.columns (took_rows t) ≡ true
-took_fits t rise = does_rise (taken_columns t.columns.name) taken_before Lower (λ x y. lt_to x.number y.number) t.taken rise
+took_fits t rise = does_rise (taken_columns t.columns.name) taken_before Lower (λ x y. lt-ltb x.number y.number) t.taken rise
 
 below_apart : (Good : Below → Type 0) (links : List Link) (rows : List SystemRow) → AllPairsByRecursion Before rows → AllPairsByRecursion (Apart owns_link fits_link below_head below_rows Good) (map (below_of links) rows)
-below_apart Good links rows up = mapped_pairs (Apart owns_link fits_link below_head below_rows Good) (below_of links) rows (weaker_pairs Before _ (λ x y before. below_owned x.def.name y.def.name (its y.def.name links).below false (text_not x.def.name y.def.name before)) rows up)
+below_apart Good links rows up = mapped_pairs (Apart owns_link fits_link below_head below_rows Good) (below_of links) rows (weaker_pairs Before _ (λ x y before. below_owned x.def.name y.def.name (its y.def.name links).below false (earlier_other x.def.name y.def.name before)) rows up)
 
 took_apart : (Good : Took → Type 0) (links : List Link) (rows : List SystemRow) → AllPairsByRecursion Before rows → AllPairsByRecursion (Apart owns_taken fits_taken took_head took_rows Good) (map (took_of links) rows)
-took_apart Good links rows up = mapped_pairs (Apart owns_taken fits_taken took_head took_rows Good) (took_of links) rows (weaker_pairs Before _ (λ x y before. took_owned x.def.name y.def.name (its y.def.name links).taken false (text_not x.def.name y.def.name before)) rows up)
+took_apart Good links rows up = mapped_pairs (Apart owns_taken fits_taken took_head took_rows Good) (took_of links) rows (weaker_pairs Before _ (λ x y before. took_owned x.def.name y.def.name (its y.def.name links).taken false (earlier_other x.def.name y.def.name before)) rows up)
 
 -- ---- the rows of a state's links pass
 
@@ -448,25 +438,25 @@ each_row P [] f h = tt
 each_row P (x ∷ xs) f h = (h x, each_row P xs f h)
 
 given_to : (next : ℕ) (l : Link) → IsLink l × AllByRecursion (λ (t : Taken). t.job < next) l.taken → IsGiven next l
-given_to next l it = go l.taken (by_recursion _ l.taken it.0.numbers) it.1
+given_to next l it = go l.taken (recursion_from_All _ l.taken it.0.numbers) it.1
   where
     go : (ts : List Taken) → AllByRecursion (λ (t : Taken). (t.number ≤ numbers_end) × (t.mark < marks_end) × (1 ≤ t.job)) ts → AllByRecursion (λ (t : Taken). t.job < next) ts → AllByRecursion (λ t. is_given next t ≡ true) (map (taken_columns l.name) ts)
     go [] h k = tt
-    go (t ∷ ts) h k = (rw (le_to 1 t.job h.0.2, lt_to t.job next k.0, le_to t.number numbers_end h.0.0, lt_to t.mark marks_end h.0.1) refl, go ts h.1 k.1)
+    go (t ∷ ts) h k = (rw (le-leb 1 t.job h.0.2, lt-ltb t.job next k.0, le-leb t.number numbers_end h.0.0, lt-ltb t.mark marks_end h.0.1) refl, go ts h.1 k.1)
 
 pub links_to_rows : (next : ℕ) (rows : List SystemRow) (links : List Link) → AllPairsByRecursion Before rows → AllPairsByRecursion LinkBefore links → AllByRecursion (λ (l : Link). IsTrue (knows rows l.name)) links → AllByRecursion IsLink links
     → AllByRecursion (λ (l : Link). AllByRecursion (λ (t : Taken). t.job < next) l.taken) links → are_links next (map system_columns rows) (flat_map links_of links) (flat_map taken_rows links) ≡ true
 links_to_rows next rows links up vp known good given =
     let low = its_has IsBelowLink (λ name. omega arith) in
     let a = walked owns_link fits_link below_head below_rows IsBelow below_fits (λ b. below_owned b.columns.name b.columns.name b.below true (text_to b.columns.name)) (map (below_of links) rows)
-    (each_row IsBelow rows (below_of links) (λ row. low row.def.name links (weaker _ _ (λ l h. h.below) links good))) (below_apart IsBelow links rows up) in
+    (each_row IsBelow rows (below_of links) (λ row. low row.def.name links (all_weaker _ _ (λ l h. h.below) links good))) (below_apart IsBelow links rows up) in
     let b = walked owns_taken fits_taken took_head took_rows IsTook took_fits (λ t. took_owned t.columns.name t.columns.name t.taken true (text_to t.columns.name)) (map (took_of links) rows)
-    (each_row IsTook rows (took_of links) (λ row. its_has (λ l. AllPairsByRecursion Lower l.taken) (λ name. tt) row.def.name links (weaker _ _ (λ l h. pairs_by_recursion Lower l.taken h.rising) links good))) (took_apart IsTook links rows up) in
+    (each_row IsTook rows (took_of links) (λ row. its_has (λ l. AllPairsByRecursion Lower l.taken) (λ name. tt) row.def.name links (all_weaker _ _ (λ l h. pairs_by_recursion Lower l.taken h.rising) links good))) (took_apart IsTook links rows up) in
     let first : walk owns_link fits_link (map system_columns rows) (flat_map links_of links) ≡ true = (λ i. walk owns_link fits_link (sym (below_heads links rows) i) ((merged links_of (λ name. refl) rows links up vp known ∙ sym (below_kids links rows)) i)) ∙ a in
     let second : walk owns_taken fits_taken (map system_columns rows) (flat_map taken_rows links) ≡ true = (λ i. walk owns_taken fits_taken (sym (took_heads links rows) i) ((merged taken_rows (λ name. refl) rows links up vp known ∙ sym (took_kids links rows)) i)) ∙ b in
     let third : list_all (is_given next) (flat_map taken_rows links) ≡ true =
-    each_to (is_given next) (flat_map taken_rows links) (all_flat (λ t. is_given next t ≡ true) (λ l. IsLink l × AllByRecursion (λ (t : Taken). t.job < next) l.taken) taken_rows (given_to next) links (both IsLink _ _ (λ l h k. (h, k)) links good given)) in
-    let fourth : list_all (may_be_asked (flat_map links_of links)) (flat_map taken_rows links) ≡ true = each_to (may_be_asked (flat_map links_of links)) (flat_map taken_rows links) (late_to links vp (weaker _ _ (λ l h. by_recursion _ l.taken h.at_least) links good)) in
+    each_to (is_given next) (flat_map taken_rows links) (all_flat_of (λ t. is_given next t ≡ true) (λ l. IsLink l × AllByRecursion (λ (t : Taken). t.job < next) l.taken) taken_rows (given_to next) links (both IsLink _ _ (λ l h k. (h, k)) links good given)) in
+    let fourth : list_all (may_be_asked (flat_map links_of links)) (flat_map taken_rows links) ≡ true = each_to (may_be_asked (flat_map links_of links)) (flat_map taken_rows links) (late_to links vp (all_weaker _ _ (λ l h. recursion_from_All _ l.taken h.at_least) links good)) in
     rw (first, second, third, fourth) refl
   where
     IsBelowLink : Link → Type 0

@@ -1,32 +1,15 @@
 -- Lists in order, by recursion and by place.
-use Rattle.std.proofs.Common.{◌≡◌, suc, Bool, true, List, [], ◌∷◌, ◌++◌, map, All, AllPairs, refl, arith}
+use Rattle.std.proofs.Common.{◌≡◌, Bool, true, List, [], ◌∷◌, ◌++◌, map, AllPairs, refl, arith}
 use Rattle.std.specs.List.{AllByRecursion, flat_map}
 use Rattle.std.proofs.lemmas.Bool.{and_parts}
-use Rattle.std.proofs.lemmas.List.Elements.{All-nil, All-cons, All-head, All-tail}
+use Rattle.std.proofs.lemmas.List.Elements.{All-from_recursion}
 use Rattle.std.proofs.lemmas.List.Kept.{AllPairs-cons}
+use Rattle.uu_names.proofs.Basics.{all_weaker, all_mapped, all_flat, all_append, AllPairsByRecursion}
 use Rattle.uu_check.specs.Walk.{rises, rises_from}
-use Rattle.uu_check.proofs.Walks.{AllPairsByRecursion, all_append}
-
-module _ {X : Type 0} (P : X → Type 0) where
-  pub by_place : (xs : List X) → AllByRecursion P xs → All P xs
-  by_place [] h = All-nil P
-  by_place (x ∷ xs) h = All-cons P x xs h.0 (by_place xs h.1)
-
-  pub by_recursion : (xs : List X) → All P xs → AllByRecursion P xs
-  by_recursion [] h = tt
-  by_recursion (x ∷ xs) h = (All-head P x xs h, by_recursion xs (All-tail P x xs h))
-
-pub weaker : {X : Type 0} (P Q : X → Type 0) → ((x : X) → P x → Q x) → (xs : List X) → AllByRecursion P xs → AllByRecursion Q xs
-weaker P Q step [] h = tt
-weaker P Q step (x ∷ xs) h = (step x h.0, weaker P Q step xs h.1)
 
 pub both : {X : Type 0} (P Q R : X → Type 0) → ((x : X) → P x → Q x → R x) → (xs : List X) → AllByRecursion P xs → AllByRecursion Q xs → AllByRecursion R xs
 both P Q R step [] h k = tt
 both P Q R step (x ∷ xs) h k = (step x h.0 k.0, both P Q R step xs h.1 k.1)
-
-pub mapped_all : {X Y : Type 0} (P : Y → Type 0) (f : X → Y) (xs : List X) → AllByRecursion (λ x. P (f x)) xs → AllByRecursion P (map f xs)
-mapped_all P f [] h = tt
-mapped_all P f (x ∷ xs) h = (h.0, mapped_all P f xs h.1)
 
 pub unmapped_all : {X Y : Type 0} (P : Y → Type 0) (f : X → Y) (xs : List X) → AllByRecursion P (map f xs) → AllByRecursion (λ x. P (f x)) xs
 unmapped_all P f [] h = tt
@@ -49,37 +32,27 @@ module _ {X : Type 0} (R : X → X → Type 0) where
 
   pub pairs_by_place : (xs : List X) → AllPairsByRecursion R xs → AllPairs R xs
   pairs_by_place [] h = pairs_nil
-  pairs_by_place (x ∷ xs) h = AllPairs-cons R x xs (by_place (R x) xs h.0) (pairs_by_place xs h.1)
-
-  pairs_first : (x : X) (xs : List X) → AllPairs R (x ∷ xs) → All (R x) xs
-  pairs_first x xs h k d within = h 0 (suc k) d (omega arith) (omega (arith, within))
-
-  pairs_rest : (x : X) (xs : List X) → AllPairs R (x ∷ xs) → AllPairs R xs
-  pairs_rest x xs h i j d below within = h (suc i) (suc j) d (omega (arith, below)) (omega (arith, within))
-
-  pub pairs_by_recursion : (xs : List X) → AllPairs R xs → AllPairsByRecursion R xs
-  pairs_by_recursion [] h = tt
-  pairs_by_recursion (x ∷ xs) h = (by_recursion (R x) xs (pairs_first x xs h), pairs_by_recursion xs (pairs_rest x xs h))
+  pairs_by_place (x ∷ xs) h = AllPairs-cons R x xs (All-from_recursion (R x) xs h.0) (pairs_by_place xs h.1)
 
 pub weaker_pairs : {X : Type 0} (R S : X → X → Type 0) → ((x y : X) → R x y → S x y) → (xs : List X) → AllPairsByRecursion R xs → AllPairsByRecursion S xs
 weaker_pairs R S step [] h = tt
-weaker_pairs R S step (x ∷ xs) h = (weaker (R x) (S x) (step x) xs h.0, weaker_pairs R S step xs h.1)
+weaker_pairs R S step (x ∷ xs) h = (all_weaker (R x) (S x) (step x) xs h.0, weaker_pairs R S step xs h.1)
 
 append_pairs : {X : Type 0} (R : X → X → Type 0) (xs ys : List X) → AllPairsByRecursion R xs → AllPairsByRecursion R ys → AllByRecursion (λ x. AllByRecursion (R x) ys) xs → AllPairsByRecursion R (xs ++ ys)
 append_pairs R [] ys h k across = k
 append_pairs R (x ∷ xs) ys h k across = (all_append (R x) xs ys h.0 across.0, append_pairs R xs ys h.1 k across.1)
 
-all_flats : {X C : Type 0} (P : C → Type 0) (f : X → List C) (xs : List X) → AllByRecursion (λ x. AllByRecursion P (f x)) xs → AllByRecursion P (flat_map f xs)
-all_flats P f [] h = tt
-all_flats P f (x ∷ xs) h = all_append P (f x) (flat_map f xs) h.0 (all_flats P f xs h.1)
+pub all_flat_of : {X C : Type 0} (P : C → Type 0) (Q : X → Type 0) (f : X → List C) → ((x : X) → Q x → AllByRecursion P (f x)) → (xs : List X) → AllByRecursion Q xs → AllByRecursion P (flat_map f xs)
+all_flat_of P Q f step [] h = tt
+all_flat_of P Q f step (x ∷ xs) h = all_append P (f x) (flat_map f xs) (step x h.0) (all_flat_of P Q f step xs h.1)
 
--- each element of one list stands so to each of another
+-- each element of one list is so related to each of another
 abbrev pub Across : {C : Type 0} → (C → C → Type 0) → List C → List C → Type 0
 Across R xs ys = AllByRecursion (λ x. AllByRecursion (R x) ys) xs
 
 across_flat : {X C : Type 0} (R : C → C → Type 0) (f : X → List C) (cs : List C) (xs : List X) → AllByRecursion (λ x. Across R cs (f x)) xs → Across R cs (flat_map f xs)
 across_flat R f [] xs h = tt
-across_flat R f (c ∷ cs) xs h = (all_flats (R c) f xs (weaker _ _ (λ x k. k.0) xs h), across_flat R f cs xs (weaker _ _ (λ x k. k.1) xs h))
+across_flat R f (c ∷ cs) xs h = (all_flat (R c) f xs (all_weaker _ _ (λ x k. k.0) xs h), across_flat R f cs xs (all_weaker _ _ (λ x k. k.1) xs h))
 
 pub flat_pairs : {X C : Type 0} (R : C → C → Type 0) (f : X → List C) (Good : X → Type 0) → ((x : X) → Good x → AllPairsByRecursion R (f x)) → (xs : List X) → AllByRecursion Good xs → AllPairsByRecursion (λ x y. Across R (f x) (f y)) xs → AllPairsByRecursion R (flat_map f xs)
 flat_pairs R f Good each [] good h = tt
@@ -87,7 +60,7 @@ flat_pairs R f Good each (x ∷ xs) good h = append_pairs R (f x) (flat_map f xs
 
 pub mapped_pairs : {X Y : Type 0} (R : Y → Y → Type 0) (f : X → Y) (xs : List X) → AllPairsByRecursion (λ a b. R (f a) (f b)) xs → AllPairsByRecursion R (map f xs)
 mapped_pairs R f [] h = tt
-mapped_pairs R f (x ∷ xs) h = (mapped_all (R (f x)) f xs h.0, mapped_pairs R f xs h.1)
+mapped_pairs R f (x ∷ xs) h = (all_mapped (R (f x)) f xs h.0, mapped_pairs R f xs h.1)
 
 -- ---- rising
 
@@ -99,7 +72,7 @@ module _ {X P : Type 0} (f : X → P) (before : P → P → Bool) (R : X → X �
         let parts = and_parts (before (f x) (f y)) (rises_from before (f y) (map f ys)) h in
         let first = means x y parts.0 in
         let more = risen_from y ys parts.1 in
-        ((first, weaker (R y) (R x) (λ z. chain x y z first) ys more.0), more)
+        ((first, all_weaker (R y) (R x) (λ z. chain x y z first) ys more.0), more)
 
     pub risen : (xs : List X) → rises before (map f xs) ≡ true → AllPairsByRecursion R xs
     risen [] h = tt

@@ -1,7 +1,11 @@
 -- Two states with the same tables are one.
 use Rattle.std.proofs.Common.{◌≡◌, ℕ, zero, suc, ◌+◌, ◌*◌, ◌<◌, ◌≤◌, Bool, true, false, List, [], ◌∷◌, ◌++◌, map, length, take, drop, IsTrue, subst, Option, None, Some, refl, sym, ap, ◌∙◌, arith}
 use Rattle.std.specs.List.{AllByRecursion, flat_map, prefix_len}
-use Rattle.std.proofs.lemmas.List.{length-drop}
+use Rattle.std.proofs.lemmas.List.{length-drop, take-append-drop}
+use Rattle.std.proofs.lemmas.Bool.{eq-eqb}
+use Rattle.std.proofs.lemmas.List.Elements.{recursion_from_All}
+use Rattle.std.proofs.Math.Seq.{take-append_seam, drop-append_seam}
+use Rattle.uu_names.proofs.Basics.{earlier_other, text_to, pairs_by_recursion, all_weaker, all_flat, AllPairsByRecursion}
 use Rattle.uu_times.specs.declared.system.Line.{Line}
 use Rattle.uu_core.specs.declared.system.Outcome.{Outcome}
 use Rattle.uu_core.specs.declared.system.Outcome.TheVariants.{Never, Failed, Done}
@@ -12,9 +16,9 @@ use Rattle.uu_tables.specs.declared.rows.EntryColumns.{EntryColumns}
 use Rattle.uu_tables.specs.declared.rows.WaitColumns.{WaitColumns}
 use Rattle.uu_tables.specs.declared.rows.SystemColumns.{SystemColumns}
 use Rattle.uu_check.specs.Tests.{owns_range, fits_line, owns_wait, fits_wait}
-use Rattle.uu_check.proofs.Walks.{AllPairsByRecursion, Apart, own_front, all_flat, take_front, drop_front, take_drop}
-use Rattle.uu_check.proofs.Lists.{by_recursion, weaker, pairs_by_recursion, weaker_pairs, flat_pairs}
-use Rattle.uu_check.proofs.Meanings.{eq_not, eq_to, text_to, text_not}
+use Rattle.uu_check.proofs.Walks.{Apart, own_front, same_items}
+use Rattle.uu_check.proofs.Lists.{weaker_pairs, flat_pairs}
+use Rattle.uu_check.proofs.Meanings.{eq_not}
 use Rattle.uu_check.proofs.Cuts.{pieces_from, as_from, bytes_of}
 use Rattle.uu_check.proofs.Heads as job
 use Rattle.uu_check.proofs.Lines as line
@@ -22,35 +26,7 @@ use Rattle.uu_check.proofs.Callers as system
 use Rattle.uu_check.proofs.Waits as wait
 use Rattle.uu_check.proofs.LinkRows as link
 
--- Items with the same rows, each told by its own row and by those that belong to it.
-module _ {X P C : Type 0} (owns : P → C → Bool) (fits : P → List C → Bool) (head : X → P) (kids : X → List C) (Good : X → Type 0) where
-  abbrev Others : X → X → Type 0
-  Others = Apart owns fits head kids Good
-
-  module _ (own : (x : X) → AllByRecursion (λ c. owns (head x) c ≡ true) (kids x)) (one : (x y : X) → head x ≡ head y → kids x ≡ kids y → x ≡ y) where
-    count : (x : X) (xs : List X) → AllByRecursion (Others x) xs → prefix_len (owns (head x)) (kids x ++ flat_map kids xs) ≡ length (kids x)
-    count x xs none = own_front (owns (head x)) (kids x) (flat_map kids xs) (own x) (all_flat _ kids xs none)
-
-    first : (x : X) (xs : List X) → AllByRecursion (Others x) xs → take (prefix_len (owns (head x)) (kids x ++ flat_map kids xs)) (kids x ++ flat_map kids xs) ≡ kids x
-    first x xs none = ap (λ n. take n (kids x ++ flat_map kids xs)) (count x xs none) ∙ take_front (kids x) (flat_map kids xs)
-
-    rest : (x : X) (xs : List X) → AllByRecursion (Others x) xs → drop (prefix_len (owns (head x)) (kids x ++ flat_map kids xs)) (kids x ++ flat_map kids xs) ≡ flat_map kids xs
-    rest x xs none = ap (λ n. drop n (kids x ++ flat_map kids xs)) (count x xs none) ∙ drop_front (kids x) (flat_map kids xs)
-
-    pub same_items : (xs ys : List X) → AllPairsByRecursion Others xs → AllPairsByRecursion Others ys → map head xs ≡ map head ys → flat_map kids xs ≡ flat_map kids ys → xs ≡ ys
-    same_items [] [] up vp heads children = refl
-    same_items [] (y ∷ ys) up vp heads children = absurd (cc)
-    same_items (x ∷ xs) [] up vp heads children = absurd (cc)
-    same_items (x ∷ xs) (y ∷ ys) up vp heads children =
-        let row : head x ≡ head y = cc in
-        let rows : map head xs ≡ map head ys = cc in
-        let mine : kids x ≡ kids y = sym (first x xs up.0) ∙ (λ i. take (prefix_len (owns (row i)) (children i)) (children i)) ∙ first y ys vp.0 in
-        let others : flat_map kids xs ≡ flat_map kids ys = sym (rest x xs up.0) ∙ (λ i. drop (prefix_len (owns (row i)) (children i)) (children i)) ∙ rest y ys vp.0 in
-        let same = one x y row mine in
-        let more = same_items xs ys up.1 vp.1 rows others in
-        λ i. same i ∷ more i
-
--- the same, where only the rows that belong to each are told
+-- the rows that belong to each item are the same, if the rows of all are
 module _ {X P C : Type 0} (owns : P → C → Bool) (fits : P → List C → Bool) (head : X → P) (kids : X → List C) (Good : X → Type 0) (own : (x : X) → AllByRecursion (λ c. owns (head x) c ≡ true) (kids x)) where
   pub waits_in : (xs ys : List X) → AllPairsByRecursion (Apart owns fits head kids Good) xs → AllPairsByRecursion (Apart owns fits head kids Good) ys → map head xs ≡ map head ys → flat_map kids xs ≡ flat_map kids ys → map kids xs ≡ map kids ys
   waits_in [] [] up vp heads children = refl
@@ -61,8 +37,8 @@ module _ {X P C : Type 0} (owns : P → C → Bool) (fits : P → List C → Boo
       let rows : map head xs ≡ map head ys = cc in
       let n = own_front (owns (head x)) (kids x) (flat_map kids xs) (own x) (all_flat _ kids xs up.0) in
       let m = own_front (owns (head y)) (kids y) (flat_map kids ys) (own y) (all_flat _ kids ys vp.0) in
-      let mine : kids x ≡ kids y = sym (ap (λ k. take k (kids x ++ flat_map kids xs)) n ∙ take_front (kids x) (flat_map kids xs)) ∙ (λ i. take (prefix_len (owns (row i)) (children i)) (children i)) ∙ (ap (λ k. take k (kids y ++ flat_map kids ys)) m ∙ take_front (kids y) (flat_map kids ys)) in
-      let others : flat_map kids xs ≡ flat_map kids ys = sym (ap (λ k. drop k (kids x ++ flat_map kids xs)) n ∙ drop_front (kids x) (flat_map kids xs)) ∙ (λ i. drop (prefix_len (owns (row i)) (children i)) (children i)) ∙ (ap (λ k. drop k (kids y ++ flat_map kids ys)) m ∙ drop_front (kids y) (flat_map kids ys)) in
+      let mine : kids x ≡ kids y = sym (ap (λ k. take k (kids x ++ flat_map kids xs)) n ∙ take-append_seam (kids x) (flat_map kids xs)) ∙ (λ i. take (prefix_len (owns (row i)) (children i)) (children i)) ∙ (ap (λ k. take k (kids y ++ flat_map kids ys)) m ∙ take-append_seam (kids y) (flat_map kids ys)) in
+      let others : flat_map kids xs ≡ flat_map kids ys = sym (ap (λ k. drop k (kids x ++ flat_map kids xs)) n ∙ drop-append_seam (kids x) (flat_map kids xs)) ∙ (λ i. drop (prefix_len (owns (row i)) (children i)) (children i)) ∙ (ap (λ k. drop k (kids y ++ flat_map kids ys)) m ∙ drop-append_seam (kids y) (flat_map kids ys)) in
       let more = waits_in xs ys up.1 vp.1 rows others in
       λ i. mine i ∷ more i
 
@@ -80,12 +56,12 @@ same_line p q row ranges =
     let windows : p.line.windows ≡ q.line.windows = sym (windows_back p) ∙ ap (map line.range_of) ranges ∙ windows_back q in
     λ i. record { system = (row i).system; place = (row i).place; line = record { grade = (row i).grade; windows = windows i; retry = (row i).retry } }
 
-abbrev outcome_from : ℕ → Option (List ℕ) → Outcome
+abbrev pub outcome_from : ℕ → Option (List ℕ) → Outcome
 outcome_from number (Some why) = Failed why
 outcome_from zero None = Never
 outcome_from (suc number) None = Done
 
-outcome_back : (o : Outcome) → outcome_from (outcome_number o) (reason_of o) ≡ o
+pub outcome_back : (o : Outcome) → outcome_from (outcome_number o) (reason_of o) ≡ o
 outcome_back Never = refl
 outcome_back (Failed why) = refl
 outcome_back Done = refl
@@ -120,12 +96,12 @@ lines_apart rows rise =
 -- no system has the lines of another
 systems_apart : (rows : List SystemRow) → AllPairsByRecursion NameBefore rows → AllPairsByRecursion (Apart system.owns system.fits system_columns placed system.IsGoodSystem) rows
 systems_apart rows rise =
-    weaker_pairs NameBefore (Apart system.owns system.fits system_columns placed system.IsGoodSystem) (λ x y before. system.lines_owned x.def.name y.def.name false (text_not x.def.name y.def.name before) 0 y.def.lines) rows rise
+    weaker_pairs NameBefore (Apart system.owns system.fits system_columns placed system.IsGoodSystem) (λ x y before. system.lines_owned x.def.name y.def.name false (earlier_other x.def.name y.def.name before) 0 y.def.lines) rows rise
 
 -- no system has the success wait of another
 waits_apart : (rows : List SystemRow) → AllPairsByRecursion NameBefore rows → AllPairsByRecursion (Apart owns_wait fits_wait system_columns waits_of (λ _. Unit {0})) rows
 waits_apart rows rise =
-    weaker_pairs NameBefore (Apart owns_wait fits_wait system_columns waits_of (λ _. Unit {0})) (λ x y before. wait.wait_owned (system_columns x) y.def.name y.def.success_wait false (text_not x.def.name y.def.name before)) rows rise
+    weaker_pairs NameBefore (Apart owns_wait fits_wait system_columns waits_of (λ _. Unit {0})) (λ x y before. wait.wait_owned (system_columns x) y.def.name y.def.success_wait false (earlier_other x.def.name y.def.name before)) rows rise
 
 seconds_of : List WaitColumns → ℕ
 seconds_of [] = 0
@@ -175,12 +151,12 @@ all_bytes number place zero [] few = refl
 all_bytes number place zero (b ∷ bytes) few = absurd (omega (arith, few))
 all_bytes number place (suc n) bytes few =
     let fewer : length (drop 16384 bytes) ≤ n * 16384 = simp length-drop (omega (arith, few)) in
-    ap (λ l. take 16384 bytes ++ l) (all_bytes number (place + 1) n (drop 16384 bytes) fewer) ∙ take_drop 16384 bytes
+    ap (λ l. take 16384 bytes ++ l) (all_bytes number (place + 1) n (drop 16384 bytes) fewer) ∙ take-append-drop 16384 bytes
 
 enough : (size : ℕ) → size ≤ piece_count size * 16384
 enough size = omega arith
 
-bytes_back : (j : Job) → bytes_of (pieces_of j) ≡ j.bytes
+pub bytes_back : (j : Job) → bytes_of (pieces_of j) ≡ j.bytes
 bytes_back j =
     let n = piece_count (length j.bytes) in
     ap bytes_of (as_from j.number j.bytes 0 n) ∙ all_bytes j.number 0 n j.bytes (enough (length j.bytes))
@@ -198,7 +174,7 @@ jobs_apart jobs rise = weaker_pairs NumberBefore (Apart job.owns job.fits head_o
 
 same_jobs : (jobs others : List Job) → AllPairsByRecursion NumberBefore jobs → AllPairsByRecursion NumberBefore others → map head_of jobs ≡ map head_of others → flat_map pieces_of jobs ≡ flat_map pieces_of others → jobs ≡ others
 same_jobs jobs others rise up heads pieces =
-    same_items job.owns job.fits head_of pieces_of IsJob (λ x. job.pieces_numbered x x.number true (eq_to x.number x.number refl)) same_job jobs others (jobs_apart jobs rise) (jobs_apart others up) heads pieces
+    same_items job.owns job.fits head_of pieces_of IsJob (λ x. job.pieces_numbered x x.number true (eq-eqb x.number x.number refl)) same_job jobs others (jobs_apart jobs rise) (jobs_apart others up) heads pieces
 
 -- ---- all of them
 
@@ -208,8 +184,8 @@ entry_from e = record { host = e.host; bytes = e.bytes }
 of_systems : (s : State) → IsWellFormed s → (rows : List SystemRow) (up : AllPairsByRecursion NameBefore rows) → s.systems ≡ rows → link.Good rows up s.links
 of_systems s good rows up same = record {
   rise = pairs_by_recursion link.LinkBefore s.links good.by_link;
-  known = subst (λ rows. AllByRecursion (λ (l : Link). IsTrue (link.knows rows l.name)) s.links) same (by_recursion _ s.links good.linked);
-  says = weaker IsLink (λ l. says_nothing l ≡ false) (λ l h. h.says) s.links (by_recursion _ s.links good.links);
+  known = subst (λ rows. AllByRecursion (λ (l : Link). IsTrue (link.knows rows l.name)) s.links) same (recursion_from_All _ s.links good.linked);
+  says = all_weaker IsLink (λ l. says_nothing l ≡ false) (λ l h. h.says) s.links (recursion_from_All _ s.links good.links);
 }
 
 good_links : (s : State) (good : IsWellFormed s) → link.Good s.systems (pairs_by_recursion NameBefore s.systems good.by_name) s.links

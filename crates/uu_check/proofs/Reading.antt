@@ -5,7 +5,9 @@ use Rattle.std.specs.Str.Lines.{lines}
 use Rattle.std.specs.List.{AllByRecursion, flat_map}
 use Rattle.std.proofs.lemmas.Bool.Decides.{nat_tests}
 use Rattle.std.proofs.lemmas.List.{length-take}
+use Rattle.std.proofs.lemmas.List.Elements.{recursion_from_All}
 use Rattle.uu_names.specs.Name.{is_site_name, is_word}
+use Rattle.uu_names.proofs.Basics.{text_from, all_weaker, all_mapped}
 use Rattle.uu_map.specs.declared.fault.MapFault.TheVariants.{BadHost, TooLarge}
 use Rattle.uu_map.specs.Text.{host_of, host_by, as_host, named_by, is_name_line}
 use Rattle.uu_times.specs.declared.system.Line.{Line}
@@ -20,13 +22,12 @@ use Rattle.uu_core.specs.Marks.{marks_end}
 use Rattle.uu_core.specs.State.{same_text}
 use Rattle.uu_tables.specs.Tables.{links_from, links_of, taken_columns, taken_rows, waits_from, waits_of, PlacedLine, tables_of, system_columns, line_columns, range_columns, entry_columns, placed, placed_from, ranges_of, pieces_of, piece_count, outcome_number, reason_of}
 use Rattle.uu_check.specs.Readable.{IsLinkRow, IsTakenRow, IsWaitRow, IsSystemRow, IsLineRow, IsRangeRow, IsJobRow, IsPieceRow, IsEntryRow, AreReadable}
-use Rattle.uu_check.proofs.Lists.{by_recursion, weaker, both, mapped_all}
+use Rattle.uu_check.proofs.Lists.{both, all_flat_of}
 use Rattle.uu_check.proofs.Cuts.{pieces_from, as_from}
 use Rattle.uu_check.proofs.Heads.{job_to}
 use Rattle.uu_check.proofs.Lines.{IsGoodLine}
 use Rattle.uu_check.proofs.LinkRows.{knows, known_later}
-use Rattle.uu_check.proofs.Meanings.{text_from}
-use Rattle.uu_check.proofs.Verdict.{good_lines, all_flat}
+use Rattle.uu_check.proofs.Verdict.{good_lines}
 
 -- ---- systems
 
@@ -149,7 +150,7 @@ link_rows next l it = go l.below it.good.below
     go (suc n) few = (record { system = it.name; below = few }, tt)
 
 taken_in_rows : (next : ℕ) → next ≤ numbers_end → (l : Link) → IsNamed next l → AllByRecursion IsTakenRow (taken_rows l)
-taken_in_rows next last l it = go l.taken (by_recursion _ l.taken it.good.numbers) it.given
+taken_in_rows next last l it = go l.taken (recursion_from_All _ l.taken it.good.numbers) it.given
   where
     go : (ts : List Taken) → AllByRecursion (λ (t : Taken). (t.number ≤ numbers_end) × (t.mark < marks_end) × (1 ≤ t.job)) ts → AllByRecursion (λ (t : Taken). t.job < next) ts → AllByRecursion IsTakenRow (map (taken_columns l.name) ts)
     go [] h k = tt
@@ -159,21 +160,21 @@ taken_in_rows next last l it = go l.taken (by_recursion _ l.taken it.good.number
 
 pub readable : (s : State) → IsWellFormed s → AreReadable (tables_of s)
 readable s good =
-    let rows = both (λ (row : SystemRow). IsDefinition row.def) (λ (row : SystemRow). IsCall row.call) (λ (row : SystemRow). IsDefinition row.def × IsCall row.call) (λ row h k. (h, k)) s.systems (by_recursion _ s.systems good.definitions) (by_recursion _ s.systems good.calls) in
+    let rows = both (λ (row : SystemRow). IsDefinition row.def) (λ (row : SystemRow). IsCall row.call) (λ (row : SystemRow). IsDefinition row.def × IsCall row.call) (λ row h k. (h, k)) s.systems (recursion_from_All _ s.systems good.definitions) (recursion_from_All _ s.systems good.calls) in
     let last = good.next in
-    let jobs = both IsJob (λ (j : Job). j.number < s.next) (λ (j : Job). IsJob j × (j.number < numbers_end)) (λ j h k. (h, omega (arith, k, last))) s.jobs (by_recursion IsJob s.jobs good.jobs) (by_recursion (λ (j : Job). j.number < s.next) s.jobs good.below_next) in
-    let names = both (λ (l : Link). IsTrue (knows s.systems l.name)) IsLink (λ (l : Link). IsTrue (is_site_name l.name) × IsLink l) (λ l k g. (known_name s.systems (by_recursion _ s.systems good.definitions) l.name k, g)) s.links (by_recursion _ s.links good.linked) (by_recursion IsLink s.links good.links) in
-    let named = both (λ (l : Link). IsTrue (is_site_name l.name) × IsLink l) (λ (l : Link). AllByRecursion (λ (t : Taken). t.job < s.next) l.taken) (IsNamed s.next) (λ l p g. record { name = p.0; good = p.1; given = g }) s.links names (weaker _ _ (λ (l : Link) h. by_recursion _ l.taken h) s.links (by_recursion _ s.links good.taken)) in
-    let fine = all_flat IsPlaced _ placed placed_lines s.systems rows in
+    let jobs = both IsJob (λ (j : Job). j.number < s.next) (λ (j : Job). IsJob j × (j.number < numbers_end)) (λ j h k. (h, omega (arith, k, last))) s.jobs (recursion_from_All IsJob s.jobs good.jobs) (recursion_from_All (λ (j : Job). j.number < s.next) s.jobs good.below_next) in
+    let names = both (λ (l : Link). IsTrue (knows s.systems l.name)) IsLink (λ (l : Link). IsTrue (is_site_name l.name) × IsLink l) (λ l k g. (known_name s.systems (recursion_from_All _ s.systems good.definitions) l.name k, g)) s.links (recursion_from_All _ s.links good.linked) (recursion_from_All IsLink s.links good.links) in
+    let named = both (λ (l : Link). IsTrue (is_site_name l.name) × IsLink l) (λ (l : Link). AllByRecursion (λ (t : Taken). t.job < s.next) l.taken) (IsNamed s.next) (λ l p g. record { name = p.0; good = p.1; given = g }) s.links names (all_weaker _ _ (λ (l : Link) h. recursion_from_All _ l.taken h) s.links (recursion_from_All _ s.links good.taken)) in
+    let fine = all_flat_of IsPlaced _ placed placed_lines s.systems rows in
     record {
       next = good.next;
-      systems = mapped_all IsSystemRow system_columns s.systems (weaker _ _ system_row s.systems rows);
-      lines = mapped_all IsLineRow line_columns (flat_map placed s.systems) (weaker _ _ line_row (flat_map placed s.systems) fine);
-      ranges = all_flat IsRangeRow IsPlaced ranges_of line_ranges (flat_map placed s.systems) fine;
-      jobs = mapped_all IsJobRow head_of s.jobs (weaker _ _ (λ j h. record { number = h.1; good = job_to j h.0 }) s.jobs jobs);
-      pieces = all_flat IsPieceRow _ pieces_of job_pieces s.jobs jobs;
-      success_waits = all_flat IsWaitRow _ waits_of wait_rows s.systems rows;
-      links = all_flat IsLinkRow _ links_of (link_rows s.next) s.links named;
-      taken = all_flat IsTakenRow _ taken_rows (taken_in_rows s.next last) s.links named;
-      entries = mapped_all IsEntryRow entry_columns s.entries (weaker _ _ entry_row s.entries (by_recursion (λ (e : MapEntry). host_of e.bytes ≡ Ok e.host) s.entries good.hosts));
+      systems = all_mapped IsSystemRow system_columns s.systems (all_weaker _ _ system_row s.systems rows);
+      lines = all_mapped IsLineRow line_columns (flat_map placed s.systems) (all_weaker _ _ line_row (flat_map placed s.systems) fine);
+      ranges = all_flat_of IsRangeRow IsPlaced ranges_of line_ranges (flat_map placed s.systems) fine;
+      jobs = all_mapped IsJobRow head_of s.jobs (all_weaker _ _ (λ j h. record { number = h.1; good = job_to j h.0 }) s.jobs jobs);
+      pieces = all_flat_of IsPieceRow _ pieces_of job_pieces s.jobs jobs;
+      success_waits = all_flat_of IsWaitRow _ waits_of wait_rows s.systems rows;
+      links = all_flat_of IsLinkRow _ links_of (link_rows s.next) s.links named;
+      taken = all_flat_of IsTakenRow _ taken_rows (taken_in_rows s.next last) s.links named;
+      entries = all_mapped IsEntryRow entry_columns s.entries (all_weaker _ _ entry_row s.entries (recursion_from_All (λ (e : MapEntry). host_of e.bytes ≡ Ok e.host) s.entries good.hosts));
     }

@@ -1,11 +1,13 @@
--- The tables of a state stand in the order of their keys.
+-- The tables of a state are in the order of their keys.
 use Rattle.std.proofs.Common.{◌≡◌, ℕ, zero, suc, ◌+◌, ◌<◌, true, List, [], ◌∷◌, map, length, take, drop, Less, Equal, refl, sym, ap, ◌∙◌, subst, arith}
 use Rattle.std.specs.List.{AllByRecursion, flat_map}
 use Rattle.std.specs.declared.cmp.Ordering.{Ordering}
 use Rattle.std.specs.declared.cmp.Ordering.TheVariants.{Greater}
-use Rattle.std.specs.Ordering.{is_lt, nat_cmp, ordering_then, ordering_reverse}
-use Rattle.std.specs.Cmp.Lexicographic.{slice_cmp}
-use Rattle.std.proofs.lemmas.Cmp.{nat_list_cmp_total, nat_cmp_total}
+use Rattle.std.specs.Ordering.{is_lt, nat_cmp, ordering_then}
+use Rattle.std.proofs.lemmas.Cmp.{nat_list_cmp_total, nat_cmp_total, tied_itself}
+use Rattle.std.proofs.lemmas.List.{map-id}
+use Rattle.std.proofs.lemmas.List.Elements.{recursion_from_All}
+use Rattle.uu_names.proofs.Basics.{less_is, pairs_by_recursion, all_weaker, AllPairsByRecursion}
 use Rattle.uu_times.specs.declared.system.Line.{Line}
 use Rattle.uu_times.specs.Ranges.{AreRunsFrom}
 use Rattle.uu_core.specs.declared.job.JobHead.{JobHead}
@@ -22,27 +24,14 @@ use Rattle.uu_tables.specs.Order.{line_cmp, range_cmp, piece_cmp, taken_cmp}
 use Rattle.uu_check.specs.Order.{AreInOrder}
 use Rattle.uu_check.specs.Walk.{walk, rises}
 use Rattle.uu_check.specs.Tests.{owns_link, fits_link, link_before, system_before}
-use Rattle.uu_check.proofs.Walks.{AllPairsByRecursion, items_of}
-use Rattle.uu_check.proofs.Lists.{by_recursion, pairs_by_place, pairs_by_recursion, weaker, weaker_pairs, both, flat_pairs, Across, mapped_pairs, risen, does_rise}
-use Rattle.uu_check.proofs.Meanings.{less_is}
+use Rattle.uu_check.proofs.Walks.{items_of}
+use Rattle.uu_check.proofs.Lists.{pairs_by_place, weaker_pairs, both, flat_pairs, Across, mapped_pairs, risen, does_rise, all_flat_of}
 use Rattle.uu_check.proofs.Cuts.{pieces_from, as_from}
 use Rattle.uu_check.proofs.Lines.{IsGoodLine}
 use Rattle.uu_check.proofs.LinkRows.{LinkBefore, IsBelow, below_head, below_rows, below_of_rows, BelowBefore}
-use Rattle.uu_check.proofs.Search.{same_map}
-use Rattle.uu_check.proofs.Verdict.{good_lines, all_flat}
+use Rattle.uu_check.proofs.Verdict.{good_lines}
 
 -- ---- comparisons
-
-own_equal : (r : Ordering) → r ≡ ordering_reverse r → r ≡ Equal
-own_equal Less h = absurd (cc)
-own_equal Equal h = refl
-own_equal Greater h = absurd (cc)
-
-same_name : (a : List ℕ) → slice_cmp nat_cmp a a ≡ Equal
-same_name a = own_equal _ (nat_list_cmp_total.antisymm a a)
-
-same_number : (n : ℕ) → nat_cmp n n ≡ Equal
-same_number n = own_equal _ (nat_cmp_total.antisymm n n)
 
 lower : (a b : ℕ) → a < b → nat_cmp a b ≡ Less
 lower a b h = search (arith, h)
@@ -54,7 +43,7 @@ LineBefore a b = line_cmp (line_columns a) (line_columns b) ≡ Less
 
 later_lines : (name : List ℕ) (line : Line) (here place : ℕ) (lines : List Line) → here < place → AllByRecursion (LineBefore (record { system = name; place = here; line = line })) (placed_from name place lines)
 later_lines name line here place [] below = tt
-later_lines name line here place (next ∷ lines) below = (rw (same_name name) (lower here place below), later_lines name line here (place + 1) lines (omega (arith, below)))
+later_lines name line here place (next ∷ lines) below = (rw (tied_itself nat_list_cmp_total name) (lower here place below), later_lines name line here (place + 1) lines (omega (arith, below)))
 
 own_lines : (name : List ℕ) (place : ℕ) (lines : List Line) → AllPairsByRecursion LineBefore (placed_from name place lines)
 own_lines name place [] = tt
@@ -79,7 +68,7 @@ RangeBefore a b = range_cmp a b ≡ Less
 later_ranges : (system : List ℕ) (place : ℕ) (range : ℕ × ℕ) (start : ℕ) (ranges : List (ℕ × ℕ)) → range.0 < start → AreRunsFrom start ranges → AllByRecursion (RangeBefore (range_columns system place range)) (map (range_columns system place) ranges)
 later_ranges system place range start [] below runs = tt
 later_ranges system place range start (next ∷ ranges) below runs =
-    (rw (same_name system, same_number place) (lower range.0 next.0 (omega (arith, below, runs.0))), later_ranges system place range (next.1 + 2) ranges (omega (arith, below, runs.0, runs.1)) runs.3)
+    (rw (tied_itself nat_list_cmp_total system, tied_itself nat_cmp_total place) (lower range.0 next.0 (omega (arith, below, runs.0))), later_ranges system place range (next.1 + 2) ranges (omega (arith, below, runs.0, runs.1)) runs.3)
 
 own_ranges : (system : List ℕ) (place start : ℕ) (ranges : List (ℕ × ℕ)) → AreRunsFrom start ranges → AllPairsByRecursion RangeBefore (map (range_columns system place) ranges)
 own_ranges system place start [] runs = tt
@@ -113,7 +102,7 @@ first job place bytes = record { job = job; place = place; bytes = take 16384 by
 
 later_pieces : (p : Piece) (place n : ℕ) (bytes : List ℕ) → p.place < place → AllByRecursion (PieceBefore p) (pieces_from p.job place n bytes)
 later_pieces p place zero bytes below = tt
-later_pieces p place (suc n) bytes below = (rw (same_number p.job) (lower p.place place below), later_pieces p (place + 1) n _ (omega (arith, below)))
+later_pieces p place (suc n) bytes below = (rw (tied_itself nat_cmp_total p.job) (lower p.place place below), later_pieces p (place + 1) n _ (omega (arith, below)))
 
 own_pieces : (job place n : ℕ) (bytes : List ℕ) → AllPairsByRecursion PieceBefore (pieces_from job place n bytes)
 own_pieces job place zero bytes = tt
@@ -127,7 +116,7 @@ across_from : (low place n : ℕ) (bytes : List ℕ) (job m : ℕ) (others : Lis
 across_from low place zero bytes job m others below = tt
 across_from low place (suc n) bytes job m others below = (other_pieces (first low place bytes) job 0 m others below, across_from low (place + 1) n (drop 16384 bytes) job m others below)
 
-as_pieces : (j : Job) → pieces_of j ≡ pieces_from j.number 0 (piece_count (length j.bytes)) j.bytes
+pub as_pieces : (j : Job) → pieces_of j ≡ pieces_from j.number 0 (piece_count (length j.bytes)) j.bytes
 as_pieces j = as_from j.number j.bytes 0 (piece_count (length j.bytes))
 
 across_pieces : (x y : Job) → x.number < y.number → Across PieceBefore (pieces_of x) (pieces_of y)
@@ -167,13 +156,13 @@ links_rise systems links up h =
     let low = items_of owns_link fits_link below_head below_rows IsBelow below_of_rows systems links h in
     let order = risen below_head system_before BelowBefore (λ x y. less_is _) (λ x y z. nat_list_cmp_total.trans x.columns.name y.columns.name z.columns.name) low.items (ap (rises system_before) low.heads ∙ up) in
     let rows = flat_pairs RowBefore below_rows IsBelow (λ b g. own_link b.columns.name b.below) low.items low.good (weaker_pairs BelowBefore _ (λ x y before. across_links x.columns.name y.columns.name x.below y.below before) low.items order) in
-    sym (ap (rises link_before) (same_map links)) ∙ does_rise (λ l. l) link_before RowBefore (λ x y. ap is_lt) links (subst (AllPairsByRecursion RowBefore) low.children rows)
+    sym (ap (rises link_before) (map-id links)) ∙ does_rise (λ l. l) link_before RowBefore (λ x y. ap is_lt) links (subst (AllPairsByRecursion RowBefore) low.children rows)
 
 abbrev TakenBefore : TakenColumns → TakenColumns → Type 0
 TakenBefore a b = taken_cmp a b ≡ Less
 
 own_taken : (name : List ℕ) (ts : List Taken) → AllPairsByRecursion (λ (a b : Taken). a.number < b.number) ts → AllPairsByRecursion TakenBefore (map (taken_columns name) ts)
-own_taken name ts rise = mapped_pairs TakenBefore (taken_columns name) ts (weaker_pairs (λ (a b : Taken). a.number < b.number) (λ a b. TakenBefore (taken_columns name a) (taken_columns name b)) (λ a b below. rw (same_name name) (lower a.number b.number below)) ts rise)
+own_taken name ts rise = mapped_pairs TakenBefore (taken_columns name) ts (weaker_pairs (λ (a b : Taken). a.number < b.number) (λ a b. TakenBefore (taken_columns name a) (taken_columns name b)) (λ a b below. rw (tied_itself nat_list_cmp_total name) (lower a.number b.number below)) ts rise)
 
 across_taken : (a b : List ℕ) (ts us : List Taken) → ComesBefore a b → Across TakenBefore (map (taken_columns a) ts) (map (taken_columns b) us)
 across_taken a b [] us before = tt
@@ -189,17 +178,17 @@ pub in_order : (s : State) → IsWellFormed s → AreInOrder (tables_of s)
 in_order s good =
     let names = pairs_by_recursion (λ (a b : SystemRow). ComesBefore a.def.name b.def.name) s.systems good.by_name in
     let numbers = pairs_by_recursion (λ (a b : Job). a.number < b.number) s.jobs good.rising in
-    let rows = both (λ (row : SystemRow). IsDefinition row.def) (λ (row : SystemRow). IsCall row.call) (λ (row : SystemRow). IsDefinition row.def × IsCall row.call) (λ row h k. (h, k)) s.systems (by_recursion _ s.systems good.definitions) (by_recursion _ s.systems good.calls) in
-    let lines = flat_pairs LineBefore placed (λ _. Unit {0}) (λ x g. own_lines x.def.name 0 x.def.lines) s.systems (weaker _ _ (λ x h. tt) s.systems rows) (weaker_pairs _ _ across_lines s.systems names) in
-    let fine = all_flat IsGoodLine _ placed good_lines s.systems rows in
+    let rows = both (λ (row : SystemRow). IsDefinition row.def) (λ (row : SystemRow). IsCall row.call) (λ (row : SystemRow). IsDefinition row.def × IsCall row.call) (λ row h k. (h, k)) s.systems (recursion_from_All _ s.systems good.definitions) (recursion_from_All _ s.systems good.calls) in
+    let lines = flat_pairs LineBefore placed (λ _. Unit {0}) (λ x g. own_lines x.def.name 0 x.def.lines) s.systems (all_weaker _ _ (λ x h. tt) s.systems rows) (weaker_pairs _ _ across_lines s.systems names) in
+    let fine = all_flat_of IsGoodLine _ placed good_lines s.systems rows in
     record {
       systems = pairs_by_place _ (map system_columns s.systems) (mapped_pairs (λ a b. ComesBefore a.name b.name) system_columns s.systems names);
       lines = pairs_by_place _ (map line_columns (flat_map placed s.systems)) (mapped_pairs (λ a b. line_cmp a b ≡ Less) line_columns (flat_map placed s.systems) lines);
       ranges = pairs_by_place _ (flat_map ranges_of (flat_map placed s.systems)) (flat_pairs RangeBefore ranges_of IsGoodLine (λ p g. own_ranges p.system p.place 0 p.line.windows g.0.1) (flat_map placed s.systems) fine (weaker_pairs _ _ across_ranges (flat_map placed s.systems) lines));
       jobs = pairs_by_place _ (map head_of s.jobs) (mapped_pairs (λ (a b : JobHead). a.number < b.number) head_of s.jobs numbers);
-      pieces = pairs_by_place _ (flat_map pieces_of s.jobs) (flat_pairs PieceBefore pieces_of (λ _. Unit {0}) (λ j g. subst (AllPairsByRecursion PieceBefore) (sym (as_pieces j)) (own_pieces j.number 0 _ j.bytes)) s.jobs (weaker _ _ (λ x h. tt) s.jobs (by_recursion (λ _. Unit {0}) s.jobs (λ k d inside. tt))) (weaker_pairs _ _ across_pieces s.jobs numbers));
-      success_waits = pairs_by_place _ (flat_map waits_of s.systems) (flat_pairs WaitBefore waits_of (λ _. Unit {0}) (λ x g. own_wait x.def.name x.def.success_wait) s.systems (weaker _ _ (λ x h. tt) s.systems rows) (weaker_pairs _ _ (λ x y before. across_waits x.def.name y.def.name x.def.success_wait y.def.success_wait before) s.systems names));
-      links = pairs_by_place _ (flat_map links_of s.links) (flat_pairs RowBefore links_of IsLink (λ l g. own_link l.name l.below) s.links (by_recursion IsLink s.links good.links) (weaker_pairs LinkBefore _ (λ x y before. across_links x.name y.name x.below y.below before) s.links (pairs_by_recursion LinkBefore s.links good.by_link)));
-      taken = pairs_by_place _ (flat_map taken_rows s.links) (flat_pairs TakenBefore taken_rows IsLink (λ l g. own_taken l.name l.taken (pairs_by_recursion _ l.taken g.rising)) s.links (by_recursion IsLink s.links good.links) (weaker_pairs LinkBefore _ (λ x y before. across_taken x.name y.name x.taken y.taken before) s.links (pairs_by_recursion LinkBefore s.links good.by_link)));
+      pieces = pairs_by_place _ (flat_map pieces_of s.jobs) (flat_pairs PieceBefore pieces_of (λ _. Unit {0}) (λ j g. subst (AllPairsByRecursion PieceBefore) (sym (as_pieces j)) (own_pieces j.number 0 _ j.bytes)) s.jobs (all_weaker _ _ (λ x h. tt) s.jobs (recursion_from_All (λ _. Unit {0}) s.jobs (λ k d inside. tt))) (weaker_pairs _ _ across_pieces s.jobs numbers));
+      success_waits = pairs_by_place _ (flat_map waits_of s.systems) (flat_pairs WaitBefore waits_of (λ _. Unit {0}) (λ x g. own_wait x.def.name x.def.success_wait) s.systems (all_weaker _ _ (λ x h. tt) s.systems rows) (weaker_pairs _ _ (λ x y before. across_waits x.def.name y.def.name x.def.success_wait y.def.success_wait before) s.systems names));
+      links = pairs_by_place _ (flat_map links_of s.links) (flat_pairs RowBefore links_of IsLink (λ l g. own_link l.name l.below) s.links (recursion_from_All IsLink s.links good.links) (weaker_pairs LinkBefore _ (λ x y before. across_links x.name y.name x.below y.below before) s.links (pairs_by_recursion LinkBefore s.links good.by_link)));
+      taken = pairs_by_place _ (flat_map taken_rows s.links) (flat_pairs TakenBefore taken_rows IsLink (λ l g. own_taken l.name l.taken (pairs_by_recursion _ l.taken g.rising)) s.links (recursion_from_All IsLink s.links good.links) (weaker_pairs LinkBefore _ (λ x y before. across_taken x.name y.name x.taken y.taken before) s.links (pairs_by_recursion LinkBefore s.links good.by_link)));
       entries = pairs_by_place _ (map entry_columns s.entries) (mapped_pairs (λ a b. ComesBefore a.host b.host) entry_columns s.entries (pairs_by_recursion (λ (a b : MapEntry). ComesBefore a.host b.host) s.entries good.by_host));
     }

@@ -3,8 +3,10 @@ use Rattle.std.proofs.Common.{◌≡◌, ℕ, ◌+◌, ◌<◌, ◌≤◌, Bool,
 use Rattle.std.specs.Prelude.{◌↔◌, IfOk}
 use Rattle.std.specs.List.{AllByRecursion, flat_map, list_all, list_any}
 use Rattle.std.specs.Ordering.{is_lt}
-use Rattle.std.proofs.lemmas.Bool.{and_parts}
+use Rattle.std.proofs.lemmas.Bool.{and_parts, leb-true, le-leb, ltb-true, lt-ltb, eq-eqb}
 use Rattle.std.proofs.lemmas.Cmp.{nat_list_cmp_total}
+use Rattle.std.proofs.lemmas.List.Elements.{recursion_from_All, All-from_recursion}
+use Rattle.uu_names.proofs.Basics.{earlier_other, less_is, text_from, text_to, pairs_by_recursion, all_weaker, AllPairsByRecursion}
 use Rattle.uu_times.specs.System.{HasRetry, most_success_wait}
 use Rattle.uu_times.specs.declared.system.Line.{Line}
 use Rattle.uu_core.specs.declared.job.JobHead.{JobHead}
@@ -22,9 +24,9 @@ use Rattle.uu_check.specs.declared.spool.Rows.{Rows}
 use Rattle.uu_tables.specs.Tables.{Tables, Piece, PlacedLine, tables_of, size_of, system_columns, line_columns, entry_columns, placed, placed_from, ranges_of, waits_of, pieces_of}
 use Rattle.uu_check.specs.OfState.{AreTables, AreRowsOf}
 use Rattle.uu_check.specs.Tests.{is_spool, are_systems, are_jobs, are_links, is_below, is_known, job_before, system_before, owns_line, fits_system, owns_wait, fits_wait, owns_range, fits_line, owns_piece, fits_job, is_host, is_entry, entry_before, are_entries}
-use Rattle.uu_check.proofs.Walks.{items_of, walked, walk_mapped, AllPairsByRecursion, Apart, all_append}
-use Rattle.uu_check.proofs.Lists.{by_place, by_recursion, pairs_by_place, pairs_by_recursion, weaker, weaker_pairs, both, unflat, flat_pairs, risen, does_rise}
-use Rattle.uu_check.proofs.Meanings.{le_from, le_to, lt_from, lt_to, less_is, eq_not, eq_to, text_to, text_from, text_not}
+use Rattle.uu_check.proofs.Walks.{items_of, walked, walk_mapped, Apart}
+use Rattle.uu_check.proofs.Lists.{pairs_by_place, weaker_pairs, both, unflat, flat_pairs, risen, does_rise, all_flat_of}
+use Rattle.uu_check.proofs.Meanings.{eq_not}
 use Rattle.uu_check.proofs.Heads as job
 use Rattle.uu_check.proofs.Lines as line
 use Rattle.uu_check.proofs.Callers as system
@@ -41,11 +43,11 @@ Lower a b = a.number < b.number
 
 below_from : (next : ℕ) (jobs : List Job) → list_all (is_below next) (map head_of jobs) ≡ true → AllByRecursion (λ (j : Job). j.number < next) jobs
 below_from next [] h = tt
-below_from next (j ∷ jobs) h = let it = and_parts _ _ h in (lt_from _ _ it.0, below_from next jobs it.1)
+below_from next (j ∷ jobs) h = let it = and_parts _ _ h in (ltb-true _ _ it.0, below_from next jobs it.1)
 
 below_to : (next : ℕ) (jobs : List Job) → AllByRecursion (λ (j : Job). j.number < next) jobs → list_all (is_below next) (map head_of jobs) ≡ true
 below_to next [] h = refl
-below_to next (j ∷ jobs) h = rw (lt_to j.number next h.0, below_to next jobs h.1) refl
+below_to next (j ∷ jobs) h = rw (lt-ltb j.number next h.0, below_to next jobs h.1) refl
 
 -- whether a name is known
 abbrev knows : List SystemRow → List ℕ → Bool
@@ -83,7 +85,7 @@ replaced : (P : PlacedLine → Type 0) (Q : Line → Type 0) → ((p : PlacedLin
 replaced P Q step name place [] h = tt
 replaced P Q step name place (l ∷ lines) h = (step _ h.0, replaced P Q step name (place + 1) lines h.1)
 
--- what the rows of a system and of its lines say, whatever its success wait
+-- what the rows of a system and of its lines say, with any success wait
 record IsAlmost (row : SystemRow) : Type 0 where
   good : system.IsGoodSystem row
   lines : AllByRecursion line.IsGoodLine (placed row)
@@ -92,8 +94,8 @@ whole : (row : SystemRow) (seconds : ℕ) → seconds ≤ most_success_wait → 
 whole row seconds few it = (
   record {
     name = it.good.name;
-    lines = by_place IsLine row.def.lines (unplaced line.IsGoodLine IsLine (λ p h. h.0) row.def.name 0 row.def.lines it.lines);
-    limits = (it.good.few, by_place HasRetry row.def.lines (unplaced line.IsGoodLine HasRetry (λ p h. h.1) row.def.name 0 row.def.lines it.lines), it.good.most, few);
+    lines = All-from_recursion IsLine row.def.lines (unplaced line.IsGoodLine IsLine (λ p h. h.0) row.def.name 0 row.def.lines it.lines);
+    limits = (it.good.few, All-from_recursion HasRetry row.def.lines (unplaced line.IsGoodLine HasRetry (λ p h. h.1) row.def.name 0 row.def.lines it.lines), it.good.most, few);
   },
   it.good.call,
 )
@@ -127,11 +129,7 @@ split row good = record { name = good.0.name; most = good.0.limits.2; few = good
 pub good_lines : (row : SystemRow) → IsDefinition row.def × IsCall row.call → AllByRecursion line.IsGoodLine (placed row)
 good_lines row good =
     replaced line.IsGoodLine (λ l. IsLine l × HasRetry l) (λ p h. h) row.def.name 0 row.def.lines
-    (both IsLine HasRetry (λ l. IsLine l × HasRetry l) (λ l h k. (h, k)) row.def.lines (by_recursion IsLine row.def.lines good.0.lines) (by_recursion HasRetry row.def.lines good.0.limits.1))
-
-pub all_flat : {X C : Type 0} (P : C → Type 0) (Q : X → Type 0) (f : X → List C) → ((x : X) → Q x → AllByRecursion P (f x)) → (xs : List X) → AllByRecursion Q xs → AllByRecursion P (flat_map f xs)
-all_flat P Q f step [] h = tt
-all_flat P Q f step (x ∷ xs) h = all_append P (f x) (flat_map f xs) (step x h.0) (all_flat P Q f step xs h.1)
+    (both IsLine HasRetry (λ l. IsLine l × HasRetry l) (λ l h k. (h, k)) row.def.lines (recursion_from_All IsLine row.def.lines good.0.lines) (recursion_from_All HasRetry row.def.lines good.0.limits.1))
 
 abbrev Few : SystemRow → Type 0
 Few row = row.def.success_wait ≤ most_success_wait
@@ -141,16 +139,16 @@ pub systems_to : (rows : List SystemRow) → AllByRecursion (λ (row : SystemRow
 systems_to rows good rise =
     let lines = flat_map placed rows in
     let a : rises system_before (map system_columns rows) ≡ true = does_rise system_columns system_before Before (λ x y. ap is_lt) rows rise in
-    let apart = weaker_pairs Before (Apart system.owns system.fits system_columns placed system.IsGoodSystem) (λ x y before. system.lines_owned x.def.name y.def.name false (text_not x.def.name y.def.name before) 0 y.def.lines) rows rise in
+    let apart = weaker_pairs Before (Apart system.owns system.fits system_columns placed system.IsGoodSystem) (λ x y before. system.lines_owned x.def.name y.def.name false (earlier_other x.def.name y.def.name before) 0 y.def.lines) rows rise in
     let own : (x : SystemRow) → AllByRecursion (λ c. system.owns (system_columns x) c ≡ true) (placed x) = λ x. system.lines_owned x.def.name x.def.name true (text_to x.def.name) 0 x.def.lines in
-    let over = walked system.owns system.fits system_columns placed system.IsGoodSystem system.system_fits own rows (weaker _ system.IsGoodSystem split rows good) apart in
+    let over = walked system.owns system.fits system_columns placed system.IsGoodSystem system.system_fits own rows (all_weaker _ system.IsGoodSystem split rows good) apart in
     let b : walk owns_line fits_system (map system_columns rows) (map line_columns lines) ≡ true = walk_mapped owns_line fits_system line_columns (map system_columns rows) lines ∙ over in
     let differ : AllPairsByRecursion system.Differ lines = flat_pairs system.Differ placed _ (λ row g. system.lines_differ row) rows good (weaker_pairs Before _ system.systems_differ rows rise) in
     let apart_lines = weaker_pairs system.Differ (Apart owns_range fits_line line_columns ranges_of line.IsGoodLine) (λ p q differs. line.ranges_owned (line_columns p) q false differs) lines differ in
-    let c : walk owns_range fits_line (map line_columns lines) (flat_map ranges_of lines) ≡ true = walked owns_range fits_line line_columns ranges_of line.IsGoodLine line.line_fits line.ranges_own lines (all_flat line.IsGoodLine _ placed good_lines rows good) apart_lines in
-    let waits_apart = weaker_pairs Before (Apart owns_wait fits_wait system_columns waits_of Few) (λ x y before. wait.wait_owned (system_columns x) y.def.name y.def.success_wait false (text_not x.def.name y.def.name before)) rows rise in
+    let c : walk owns_range fits_line (map line_columns lines) (flat_map ranges_of lines) ≡ true = walked owns_range fits_line line_columns ranges_of line.IsGoodLine line.line_fits line.ranges_own lines (all_flat_of line.IsGoodLine _ placed good_lines rows good) apart_lines in
+    let waits_apart = weaker_pairs Before (Apart owns_wait fits_wait system_columns waits_of Few) (λ x y before. wait.wait_owned (system_columns x) y.def.name y.def.success_wait false (earlier_other x.def.name y.def.name before)) rows rise in
     let d : walk owns_wait fits_wait (map system_columns rows) (flat_map waits_of rows) ≡ true = walked owns_wait fits_wait system_columns waits_of Few (λ x few. wait.wait_fits x.def.name (system_columns x) x.def.success_wait few)
-    (λ x. wait.wait_owned (system_columns x) x.def.name x.def.success_wait true (text_to x.def.name)) rows (weaker _ Few (λ row g. g.0.limits.3) rows good) waits_apart in
+    (λ x. wait.wait_owned (system_columns x) x.def.name x.def.success_wait true (text_to x.def.name)) rows (all_weaker _ Few (λ row g. g.0.limits.3) rows good) waits_apart in
     rw (a, b, c, d) refl
 
 -- ---- jobs
@@ -175,7 +173,7 @@ jobs_from next rows heads pieces h =
     record {
       items = it.items;
       good = it.good;
-      rise = risen head_of job_before Lower (λ x y. lt_from _ _) (λ x y z p q. omega (arith, p, q)) it.items (ap (rises job_before) it.heads ∙ a.0);
+      rise = risen head_of job_before Lower (λ x y. ltb-true _ _) (λ x y z p q. omega (arith, p, q)) it.items (ap (rises job_before) it.heads ∙ a.0);
       below = below_from next it.items (ap (list_all (is_below next)) it.heads ∙ a.1);
       known = known_from rows it.items (ap (list_all (is_known (map system_columns rows))) it.heads ∙ b.1);
       heads_are = it.heads;
@@ -185,9 +183,9 @@ jobs_from next rows heads pieces h =
 pub jobs_to : (next : ℕ) (rows : List SystemRow) (jobs : List Job) → AllByRecursion IsJob jobs → AllPairsByRecursion Lower jobs → AllByRecursion (λ (j : Job). j.number < next) jobs → AllByRecursion (λ (j : Job). IsTrue (knows rows j.system)) jobs
     → are_jobs next (map system_columns rows) (map head_of jobs) (map size_of (flat_map pieces_of jobs)) ≡ true
 jobs_to next rows jobs good rise below known =
-    let a : rises job_before (map head_of jobs) ≡ true = does_rise head_of job_before Lower (λ x y. lt_to x.number y.number) jobs rise in
+    let a : rises job_before (map head_of jobs) ≡ true = does_rise head_of job_before Lower (λ x y. lt-ltb x.number y.number) jobs rise in
     let apart = weaker_pairs Lower (Apart job.owns job.fits head_of pieces_of IsJob) (λ x y low. job.pieces_numbered y x.number false (eq_not x.number y.number low)) jobs rise in
-    let own : (x : Job) → AllByRecursion (λ c. job.owns (head_of x) c ≡ true) (pieces_of x) = λ x. job.pieces_numbered x x.number true (eq_to x.number x.number refl) in
+    let own : (x : Job) → AllByRecursion (λ c. job.owns (head_of x) c ≡ true) (pieces_of x) = λ x. job.pieces_numbered x x.number true (eq-eqb x.number x.number refl) in
     let over = walked job.owns job.fits head_of pieces_of IsJob job.job_fits own jobs good apart in
     let b : walk owns_piece fits_job (map head_of jobs) (map size_of (flat_map pieces_of jobs)) ≡ true = walk_mapped owns_piece fits_job size_of (map head_of jobs) (flat_map pieces_of jobs) ∙ over in
     rw (a, b, below_to next jobs below, known_to rows jobs known) refl
@@ -257,20 +255,20 @@ tables_from t h =
     record {
       state = record { jobs = j.items; systems = s.items; entries = e.items; next = t.next; links = l.items };
       good = record {
-        some_next = le_from _ _ a.0;
-        next = le_from _ _ a.1;
-        jobs = by_place IsJob j.items j.good;
+        some_next = leb-true _ _ a.0;
+        next = leb-true _ _ a.1;
+        jobs = All-from_recursion IsJob j.items j.good;
         rising = pairs_by_place Lower j.items j.rise;
-        below_next = by_place (λ (job : Job). job.number < t.next) j.items j.below;
-        placed = by_place (λ (job : Job). IsTrue (knows s.items job.system)) j.items j.known;
-        definitions = by_place (λ (row : SystemRow). IsDefinition row.def) s.items (weaker _ _ (λ row good. good.0) s.items s.good);
-        calls = by_place (λ (row : SystemRow). IsCall row.call) s.items (weaker _ _ (λ row good. good.1) s.items s.good);
+        below_next = All-from_recursion (λ (job : Job). job.number < t.next) j.items j.below;
+        placed = All-from_recursion (λ (job : Job). IsTrue (knows s.items job.system)) j.items j.known;
+        definitions = All-from_recursion (λ (row : SystemRow). IsDefinition row.def) s.items (all_weaker _ _ (λ row good. good.0) s.items s.good);
+        calls = All-from_recursion (λ (row : SystemRow). IsCall row.call) s.items (all_weaker _ _ (λ row good. good.1) s.items s.good);
         by_name = pairs_by_place Before s.items s.rise;
-        hosts = by_place Names e.items e.hosts;
+        hosts = All-from_recursion Names e.items e.hosts;
         by_host = pairs_by_place HostBefore e.items e.rise;
-        links = by_place IsLink l.items l.good;
-        linked = by_place (λ (k : Link). IsTrue (knows s.items k.name)) l.items l.known;
-        taken = by_place _ l.items l.given;
+        links = All-from_recursion IsLink l.items l.good;
+        linked = All-from_recursion (λ (k : Link). IsTrue (knows s.items k.name)) l.items l.known;
+        taken = All-from_recursion _ l.items l.given;
         by_link = pairs_by_place link.LinkBefore l.items l.rise;
       };
       same = λ i. record { next = t.next; systems = s.systems_are i; lines = s.lines_are i; ranges = s.ranges_are i; jobs = j.heads_are i; pieces = j.pieces_are i; entries = e.rows_are i; success_waits = s.waits_are i; links = l.links_are i; taken = l.taken_are i };
@@ -278,13 +276,13 @@ tables_from t h =
 
 pub tables_to : (s : State) → IsWellFormed s → passes (tables_of s) ≡ true
 tables_to s good =
-    let both_good = both (λ (row : SystemRow). IsDefinition row.def) (λ (row : SystemRow). IsCall row.call) (λ (row : SystemRow). IsDefinition row.def × IsCall row.call) (λ row h k. (h, k)) s.systems (by_recursion _ s.systems good.definitions) (by_recursion _ s.systems good.calls) in
+    let both_good = both (λ (row : SystemRow). IsDefinition row.def) (λ (row : SystemRow). IsCall row.call) (λ (row : SystemRow). IsDefinition row.def × IsCall row.call) (λ row h k. (h, k)) s.systems (recursion_from_All _ s.systems good.definitions) (recursion_from_All _ s.systems good.calls) in
     let systems = systems_to s.systems both_good (pairs_by_recursion Before s.systems good.by_name) in
-    let jobs = jobs_to s.next s.systems s.jobs (by_recursion IsJob s.jobs good.jobs) (pairs_by_recursion Lower s.jobs good.rising) (by_recursion (λ (j : Job). j.number < s.next) s.jobs good.below_next) (by_recursion (λ (j : Job). IsTrue (knows s.systems j.system)) s.jobs good.placed) in
-    let links = link.links_to_rows s.next s.systems s.links (pairs_by_recursion Before s.systems good.by_name) (pairs_by_recursion link.LinkBefore s.links good.by_link) (by_recursion (λ (k : Link). IsTrue (knows s.systems k.name)) s.links good.linked) (by_recursion IsLink s.links good.links)
-    (weaker _ _ (λ (k : Link) h. by_recursion _ k.taken h) s.links (by_recursion _ s.links good.taken)) in
-    let entries = entries_to s.entries (by_recursion Names s.entries good.hosts) (pairs_by_recursion HostBefore s.entries good.by_host) in
-    rw (le_to 1 s.next good.some_next, le_to s.next numbers_end good.next, systems, jobs, links, entries) refl
+    let jobs = jobs_to s.next s.systems s.jobs (recursion_from_All IsJob s.jobs good.jobs) (pairs_by_recursion Lower s.jobs good.rising) (recursion_from_All (λ (j : Job). j.number < s.next) s.jobs good.below_next) (recursion_from_All (λ (j : Job). IsTrue (knows s.systems j.system)) s.jobs good.placed) in
+    let links = link.links_to_rows s.next s.systems s.links (pairs_by_recursion Before s.systems good.by_name) (pairs_by_recursion link.LinkBefore s.links good.by_link) (recursion_from_All (λ (k : Link). IsTrue (knows s.systems k.name)) s.links good.linked) (recursion_from_All IsLink s.links good.links)
+    (all_weaker _ _ (λ (k : Link) h. recursion_from_All _ k.taken h) s.links (recursion_from_All _ s.links good.taken)) in
+    let entries = entries_to s.entries (recursion_from_All Names s.entries good.hosts) (pairs_by_recursion HostBefore s.entries good.by_host) in
+    rw (le-leb 1 s.next good.some_next, le-leb s.next numbers_end good.next, systems, jobs, links, entries) refl
 
 pub passes_to : (t : Tables) → AreTables t → passes t ≡ true
 passes_to t it = ap passes (sym it.same) ∙ tables_to it.state it.good

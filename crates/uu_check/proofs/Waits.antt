@@ -1,7 +1,8 @@
 -- Systems and their success waits.
 use Rattle.std.proofs.Common.{◌≡◌, ℕ, zero, suc, ◌≤◌, Bool, true, List, [], ◌∷◌, ◌++◌, map, refl, sym, ap, arith}
 use Rattle.std.specs.List.{AllByRecursion, flat_map}
-use Rattle.std.proofs.lemmas.Bool.{and_parts}
+use Rattle.std.proofs.lemmas.Bool.{and_parts, leb-true, le-leb}
+use Rattle.uu_names.proofs.Basics.{text_from, AllPairsByRecursion}
 use Rattle.uu_times.specs.System.{most_success_wait}
 use Rattle.uu_core.specs.declared.system.SystemRow.{SystemRow}
 use Rattle.uu_core.specs.State.{ComesBefore, same_text}
@@ -9,8 +10,7 @@ use Rattle.uu_tables.specs.declared.rows.SystemColumns.{SystemColumns}
 use Rattle.uu_tables.specs.declared.rows.WaitColumns.{WaitColumns}
 use Rattle.uu_tables.specs.Tables.{system_columns, placed, waits_from, waits_of}
 use Rattle.uu_check.specs.Tests.{owns_wait, fits_wait}
-use Rattle.uu_check.proofs.Walks.{Item, AllPairsByRecursion}
-use Rattle.uu_check.proofs.Meanings.{le_from, le_to, text_from}
+use Rattle.uu_check.proofs.Walks.{Item}
 
 -- the row of a system, and its success wait
 pub record Waited : Type 0 where
@@ -34,7 +34,7 @@ pub wait_of_rows : (s : SystemColumns) (ws : List WaitColumns) → AllByRecursio
 wait_of_rows s [] own test = record { item = record { columns = s; seconds = 0 }; good = omega arith; row = refl; children = refl }
 wait_of_rows s (w ∷ []) own test =
     let parts = and_parts _ _ test in
-    record { item = record { columns = s; seconds = w.wait }; good = le_from _ _ parts.1; row = refl; children = one_row s w w.wait refl (le_from _ _ parts.0) (text_from _ _ own.0) }
+    record { item = record { columns = s; seconds = w.wait }; good = leb-true _ _ parts.1; row = refl; children = one_row s w w.wait refl (leb-true _ _ parts.0) (text_from _ _ own.0) }
 wait_of_rows s (w ∷ other ∷ more) own test = absurd (cc)
 
 -- ---- the waits of rows
@@ -67,7 +67,7 @@ waits_are (row ∷ rows) (w ∷ waits) same =
     let rest : map head waits ≡ map system_columns rows = cc in
     λ i. waits_from (sym first i).name w.seconds ++ waits_are rows waits rest i
 
--- what is true of each row, whatever its wait, and of each wait
+-- what holds of each row with any wait, and of each wait
 pub each_waiting : (P : SystemRow → Type 0) (Q : SystemRow → Type 0) → ((row : SystemRow) (seconds : ℕ) → seconds ≤ most_success_wait → P row → Q (with_seconds row seconds)) → (rows : List SystemRow) (waits : List Waited) → map head waits ≡ map system_columns rows
     → AllByRecursion P rows → AllByRecursion IsGood waits → AllByRecursion Q (waiting rows waits)
 each_waiting P Q step [] waits same h k = tt
@@ -89,7 +89,7 @@ still_apart (row ∷ rows) (w ∷ waits) h = (ahead row rows waits h.0, still_ap
 
 pub wait_fits : (name : List ℕ) (s : SystemColumns) (n : ℕ) → n ≤ most_success_wait → fits_wait s (waits_from name n) ≡ true
 wait_fits name s zero few = refl
-wait_fits name s (suc n) few = rw (le_to 1 (suc n) (omega arith), le_to (suc n) most_success_wait few) refl
+wait_fits name s (suc n) few = rw (le-leb 1 (suc n) (omega arith), le-leb (suc n) most_success_wait few) refl
 
 pub wait_owned : (s : SystemColumns) (name : List ℕ) (n : ℕ) (t : Bool) → same_text s.name name ≡ t → AllByRecursion (λ w. owns_wait s w ≡ t) (waits_from name n)
 wait_owned s name zero t is = tt

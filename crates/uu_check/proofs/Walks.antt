@@ -4,35 +4,21 @@ use Rattle.std.proofs.Common.{◌≡◌, ℕ, zero, suc, ◌+◌, Bool, true, fa
 use Rattle.std.specs.List.{AllByRecursion, prefix_len, flat_map}
 use Rattle.std.proofs.lemmas.Bool.{and_parts}
 use Rattle.std.proofs.lemmas.Bool.Decides.{nat_tests}
+use Rattle.std.proofs.Math.Seq.{take-append_seam, drop-append_seam}
+use Rattle.std.proofs.lemmas.List.{take-append-drop}
+use Rattle.uu_names.proofs.Basics.{all_flat, AllPairsByRecursion}
 use Rattle.uu_check.specs.Walk.{walk}
-
--- each of a list, and each pair in its order
-abbrev pub AllPairsByRecursion : {X : Type 0} → (X → X → Type 0) → List X → Type 0
-AllPairsByRecursion R [] = Unit {0}
-AllPairsByRecursion R (x ∷ xs) = AllByRecursion (R x) xs × AllPairsByRecursion R xs
-
-pub take_drop : {X : Type 0} (n : ℕ) (xs : List X) → take n xs ++ drop n xs ≡ xs
-take_drop zero xs = refl
-take_drop (suc n) [] = refl
-take_drop (suc n) (x ∷ xs) = ap (λ l. x ∷ l) (take_drop n xs)
 
 pub is_nil : {X : Type 0} (xs : List X) → (length xs == 0) ≡ true → xs ≡ []
 is_nil [] h = refl
 is_nil (x ∷ xs) h = absurd (let e : length (x ∷ xs) ≡ 0 = grind (arith, nat_tests, h) in omega (arith, e))
 
--- the own front of a list is what all are own of, where the rest begins with another
+-- the own part at the beginning is a list of its own children, if the rest begins with another
+-- child
 pub own_front : {C : Type 0} (p : C → Bool) (own rest : List C) → AllByRecursion (λ c. p c ≡ true) own → AllByRecursion (λ c. p c ≡ false) rest → prefix_len p (own ++ rest) ≡ length own
 own_front p [] [] all none = refl
 own_front p [] (c ∷ rest) all none = rw none.0 refl
 own_front p (c ∷ own) rest all none = rw (all.0, own_front p own rest all.1 none) (omega arith)
-
-pub take_front : {X : Type 0} (xs ys : List X) → take (length xs) (xs ++ ys) ≡ xs
-take_front [] ys = refl
-take_front (x ∷ xs) ys = ap (λ l. x ∷ l) (take_front xs ys)
-
-pub drop_front : {X : Type 0} (xs ys : List X) → drop (length xs) (xs ++ ys) ≡ ys
-drop_front [] ys = refl
-drop_front (x ∷ xs) ys = drop_front xs ys
 
 -- what is taken so far is own
 own_take : {C : Type 0} (p : C → Bool) (cs : List C) → AllByRecursion (λ c. p c ≡ true) (take (prefix_len p cs) cs)
@@ -42,14 +28,6 @@ own_take p (c ∷ cs) = go (p c) refl (own_take p cs)
     go : (t : Bool) → p c ≡ t → AllByRecursion (λ c. p c ≡ true) (take (prefix_len p cs) cs) → AllByRecursion (λ c. p c ≡ true) (take (cond t (1 + prefix_len p cs) 0) (c ∷ cs))
     go false h more = tt
     go true h more = let n : suc (prefix_len p cs) ≡ 1 + prefix_len p cs = omega arith in subst (λ n. AllByRecursion (λ c. p c ≡ true) (take n (c ∷ cs))) n (h, more)
-
-pub all_append : {X : Type 0} (P : X → Type 0) (xs ys : List X) → AllByRecursion P xs → AllByRecursion P ys → AllByRecursion P (xs ++ ys)
-all_append P [] ys h k = k
-all_append P (x ∷ xs) ys h k = (h.0, all_append P xs ys h.1 k)
-
-pub all_flat : {X C : Type 0} (P : C → Type 0) (f : X → List C) (xs : List X) → AllByRecursion (λ x. AllByRecursion P (f x)) xs → AllByRecursion P (flat_map f xs)
-all_flat P f [] h = tt
-all_flat P f (x ∷ xs) h = all_append P (f x) (flat_map f xs) h.0 (all_flat P f xs h.1)
 
 module _ {X P C : Type 0} (owns : P → C → Bool) (fits : P → List C → Bool) (head : X → P) (kids : X → List C) (Good : X → Type 0) where
   -- the items whose rows these are
@@ -77,7 +55,7 @@ module _ {X P C : Type 0} (owns : P → C → Bool) (fits : P → List C → Boo
         items = first.item ∷ more.items;
         good = (first.good, more.good);
         heads = λ i. first.row i ∷ more.heads i;
-        children = (λ i. first.children i ++ more.children i) ∙ take_drop n cs;
+        children = (λ i. first.children i ++ more.children i) ∙ take-append-drop n cs;
       }
 
   -- the children of an item are its own, and no later item's are
@@ -90,7 +68,7 @@ module _ {X P C : Type 0} (owns : P → C → Bool) (fits : P → List C → Boo
   walked fit own (x ∷ xs) good apart =
       let rest = flat_map kids xs in
       let n = own_front (owns (head x)) (kids x) rest (own x) (all_flat _ kids xs apart.0) in
-      rw (n, take_front (kids x) rest, drop_front (kids x) rest, fit x good.0) (walked fit own xs good.1 apart.1)
+      rw (n, take-append_seam (kids x) rest, drop-append_seam (kids x) rest, fit x good.0) (walked fit own xs good.1 apart.1)
 
 -- a walk over mapped children
 pub walk_mapped : {P C D : Type 0} (owns : P → D → Bool) (fits : P → List D → Bool) (f : C → D) (ps : List P) (cs : List C)
@@ -128,10 +106,10 @@ module _ {X P C : Type 0} (owns : P → C → Bool) (fits : P → List C → Boo
     count x xs none = own_front (owns (head x)) (kids x) (flat_map kids xs) (own x) (all_flat _ kids xs none)
 
     first : (x : X) (xs : List X) → AllByRecursion (Others x) xs → take (prefix_len (owns (head x)) (kids x ++ flat_map kids xs)) (kids x ++ flat_map kids xs) ≡ kids x
-    first x xs none = ap (λ n. take n (kids x ++ flat_map kids xs)) (count x xs none) ∙ take_front (kids x) (flat_map kids xs)
+    first x xs none = ap (λ n. take n (kids x ++ flat_map kids xs)) (count x xs none) ∙ take-append_seam (kids x) (flat_map kids xs)
 
     rest : (x : X) (xs : List X) → AllByRecursion (Others x) xs → drop (prefix_len (owns (head x)) (kids x ++ flat_map kids xs)) (kids x ++ flat_map kids xs) ≡ flat_map kids xs
-    rest x xs none = ap (λ n. drop n (kids x ++ flat_map kids xs)) (count x xs none) ∙ drop_front (kids x) (flat_map kids xs)
+    rest x xs none = ap (λ n. drop n (kids x ++ flat_map kids xs)) (count x xs none) ∙ drop-append_seam (kids x) (flat_map kids xs)
 
     pub same_items : (xs ys : List X) → AllPairsByRecursion Others xs → AllPairsByRecursion Others ys → map head xs ≡ map head ys → flat_map kids xs ≡ flat_map kids ys → xs ≡ ys
     same_items [] [] up vp heads children = refl

@@ -1,5 +1,5 @@
--- The tables of a state in the order of their keys: what a question with ORDER BY answers, and that
--- no key stands twice.
+-- The tables of a state in the order of their keys: the answer to a question with ORDER BY. No key
+-- occurs twice.
 use Rattle.std.specs.Prelude.{◌≡◌, ◌<◌, AllPairs}
 use Rattle.std.specs.declared.cmp.Ordering.TheVariants.{Less}
 use Rattle.uu_core.specs.State.{ComesBefore}

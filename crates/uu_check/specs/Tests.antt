@@ -1,4 +1,4 @@
--- What is asked of the rows, one after the other.
+-- The checks of the rows, one after the other.
 use Rattle.std.specs.Prelude.{ℕ, ◌+◌, ◌-◌, min, Bool, true, false, not, ◌&&◌, ◌||◌, ◌==◌, nat_le, nat_lt, List, [], ◌∷◌, length, Option, None, Some, Result, Ok, Err}
 use Rattle.std.specs.List.{list_all, list_any}
 use Rattle.std.specs.Ordering.{is_lt, nat_cmp}
@@ -35,7 +35,7 @@ is_kind (Execute command arguments) = is_word command && list_all is_word argume
 abbrev pub is_head : JobHead → Bool
 is_head h = nat_le 1 h.number && is_site_name h.system && nat_lt h.grade grade_count && is_word h.user && is_kind h.kind && nat_le h.queued last_second && nat_le h.size most_bytes
 
--- pieces from a place on hold so many bytes, as many as they can each
+-- pieces from a place on have so many bytes, each as many as it can
 abbrev pub are_cut : ℕ → ℕ → List PieceSize → Bool
 are_cut place size [] = size == 0
 are_cut place size (x ∷ xs) = (x.place == place) && nat_le 1 size && (x.length == min size piece_bytes) && are_cut (place + 1) (size - min size piece_bytes) xs
@@ -54,7 +54,7 @@ is_below next h = nat_lt h.number next
 
 -- ---- lines and their ranges
 
--- ranges in order from a minute on, with at least one minute outside between two
+-- ranges in order from a minute on, with at least one minute between two that is in none
 abbrev pub are_ranges : ℕ → List RangeColumns → Bool
 are_ranges start [] = true
 are_ranges start (r ∷ rs) = nat_le start r.low && nat_le r.low r.high && nat_lt r.high week_minutes && are_ranges (r.high + 2) rs
@@ -71,8 +71,7 @@ fits_line l rs = nat_lt l.grade grade_count && is_retry l.retry && are_ranges 0 
 
 -- ---- systems and their lines
 
--- the reason is there exactly where the last call failed, and a system that was never called has
--- zeros
+-- the reason is there exactly if the last call failed, and a system that was never called has zeros
 abbrev pub is_outcome : Option (List ℕ) → ℕ → ℕ → ℕ → ℕ → Bool
 is_outcome None outcome last failures wait = (outcome == 2) || ((outcome == 0) && (last == 0) && (failures == 0) && (wait == 0))
 is_outcome (Some why) outcome last failures wait = (outcome == 1) && is_word why
@@ -95,7 +94,7 @@ fits_system s ls = is_site_name s.name && nat_le s.max_retries most_retries && i
 abbrev pub owns_wait : SystemColumns → WaitColumns → Bool
 owns_wait s w = same_text s.name w.system
 
--- at most one, and none of 0 seconds
+-- at most one, and not of 0 seconds
 abbrev pub fits_wait : SystemColumns → List WaitColumns → Bool
 fits_wait s [] = true
 fits_wait s (w ∷ []) = nat_le 1 w.wait && nat_le w.wait most_success_wait
@@ -112,7 +111,7 @@ owns_link s l = same_text s.name l.system
 abbrev pub link_before : LinkColumns → LinkColumns → Bool
 link_before a b = is_lt (slice_cmp nat_cmp a.system b.system)
 
--- at most one, and none of 0
+-- at most one, and not of 0
 abbrev pub fits_link : SystemColumns → List LinkColumns → Bool
 fits_link s [] = true
 fits_link s (l ∷ []) = nat_le 1 l.below && nat_le l.below numbers_end
@@ -124,11 +123,11 @@ owns_taken s t = same_text s.name t.system
 abbrev pub taken_before : TakenColumns → TakenColumns → Bool
 taken_before a b = nat_lt a.taken.number b.taken.number
 
--- what was taken from one stands by the numbers there
+-- what was taken from one system is in order of the numbers there
 abbrev pub fits_taken : SystemColumns → List TakenColumns → Bool
 fits_taken s ts = rises taken_before ts
 
--- the number here was given, and the key is one
+-- the number here was given, and the key is valid
 abbrev pub is_given : ℕ → TakenColumns → Bool
 is_given next t = nat_le 1 t.taken.job && nat_lt t.taken.job next && nat_le t.taken.number numbers_end && nat_lt t.taken.mark marks_end
 

@@ -5,7 +5,7 @@ ghost use Rattle.uu_tables.specs.Tables.{tables_of};
 ghost use Rattle.uu_check.specs.Order.{AreInOrder};
 ghost use Rattle.uu_check.specs.Readable.{AreReadable};
 
-/// The tables of a state stand in the order of their keys, and no key stands twice.
+/// The tables of a state are in the order of their keys, and no key occurs twice.
 pub fn tables_are_in_order()
     ensures { (s : State) → IsWellFormed s → AreInOrder (tables_of s) }
 {}
@@ -15,7 +15,7 @@ pub fn tables_are_readable()
     ensures { (s : State) → IsWellFormed s → AreReadable (tables_of s) }
 {}
 
-/// The tables tell the state: two states with the same tables are one.
+/// The tables determine the state: no two states have the same tables.
 pub fn tables_tell_the_state()
     ensures { (s t : State) → IsWellFormed s → IsWellFormed t → tables_of s ≡ tables_of t → s ≡ t }
 {}

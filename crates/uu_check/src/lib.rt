@@ -1,5 +1,5 @@
-//! Which rows of the ten tables are those of a state of the spool: what is asked of a database
-//! before it is taken as one.
+//! Which rows of the ten tables are those of a state of the spool: the check of a database before
+//! it is taken as a spool.
 #![tactic(auto)]
 
 mod entries;

@@ -13,12 +13,12 @@ pub(crate) trait Owner<C> {
     fn owns(&self, child: &C) -> bool
         ensures { result ≡ owns self.now child.now };
 
-    /// Whether these rows are all that have to belong to this one.
+    /// Whether these rows are all the rows that have to belong to this one.
     fn fits(&self, children: &[C]) -> bool
         ensures { result ≡ fits self.now children.now };
 }
 
-// How many rows at the front belong to the owner.
+// How many rows at the beginning belong to the owner.
 fn count_own<P: Owner<C>, C>(owner: &P, children: &[C]) -> usize
     ensures { result ≡ prefix_len (P.owns owner.now) children.now }
 {
@@ -48,7 +48,7 @@ pub(crate) fn walk_owners<P: Owner<C>, C>(owners: &[P], children: &[C]) -> bool
     rest.is_empty()
 }
 
-/// A row that has its place in an order.
+/// A row with a place in an order.
 pub(crate) trait Ranked {
     ghost before: { Self → Self → Bool };
 

@@ -85,7 +85,7 @@ none_kept p (row ∷ rows) fails =
 abbrev name_of : SystemRow → List ℕ
 name_of row = row.def.name
 
--- a system whose name comes behind those of all others is put last
+-- a system whose name comes after all others is put last
 put_last : (item : SystemRow) (rows : List SystemRow) → All (λ row. by_name row item) rows → put_system item rows ≡ rows ++ item ∷ []
 put_last item rows before =
     ap₂ (λ (earlier later : List SystemRow). earlier ++ item ∷ later)
@@ -94,7 +94,7 @@ put_last item rows before =
     (All-weaker (λ row. by_name row item) (λ row. is_before name_of item row ≡ false)
     (λ row less. ap is_lt (nat_list_cmp_total.antisymm item.def.name row.def.name ∙ ap ordering_reverse less)) rows before))
 
--- systems that are defined in the order of their names stand in it, behind those that come before
+-- systems that are defined in the order of their names stay in it, after those that come before
 defined : (state : State) (rows : List SystemRow) → All (λ old. All (by_name old) rows) state.systems → AllPairs by_name rows
     → map (λ (row : SystemRow). row.def) (state_after state (map Define (map (λ (row : SystemRow). row.def) rows))).systems
     ≡ map (λ (row : SystemRow). row.def) state.systems ++ map (λ (row : SystemRow). row.def) rows

@@ -17,9 +17,9 @@ any_agrees p q [] h = refl
 any_agrees p q (x ∷ xs) h =
     ap (λ b. b || list_any p xs) (h x (first_of x xs)) ∙ ap (λ b. q x || b) (any_agrees p q xs (λ y there. h y (later_of x y xs there)))
 
--- ---- numbers that stand twice
+-- ---- numbers that occur twice
 
--- a number stands again among those after it
+-- a number occurs again among those after it
 abbrev pub repeats : List ℕ → Bool
 repeats [] = false
 repeats (number ∷ numbers) = list_any (λ other. other == number) numbers || repeats numbers
@@ -54,7 +54,7 @@ and-first true b e = refl
 and-first false b e = e
 
 module _ (numbers : List ℕ) (jobs found : List JobHead) (h : AreFound numbers jobs found) where
-  -- a test that passes only where a job is named finds one among those found if it finds one at all
+  -- a test that passes only if a job is named finds one among those found if it finds one at all
   found-any : (p : JobHead → Bool) → ((job : JobHead) → p job ≡ true → is_named numbers job ≡ true) → list_any p found ≡ list_any p jobs
   found-any p named =
       both_ways (list_any p found) (list_any p jobs)

@@ -32,7 +32,7 @@ none_kept p (x ∷ xs) none = by-test (p x) refl (none_kept p xs (λ y there. no
     by-test true e rest = absurd (none x (first_of x xs) e)
     by-test false e rest = rest
 
--- one alone passes, and stands there once
+-- only one passes, and it occurs once
 one_kept : {X : Type 0} (R : X → X → Type 0) (p : X → Bool) (x : X) (xs : List X) → (R x x → ⊥) → AllPairs R xs → Contains xs x → p x ≡ true
     → ((y : X) → Contains xs y → p y ≡ true → y ≡ x) → filter p xs ≡ x ∷ []
 one_kept R p x [] apart pairs there passes alone = absurd (none_in x there)
@@ -157,7 +157,7 @@ module _ (rows : List SystemRow) (at : Moment) (jobs own : List JobHead) (name :
       in_order : AllPairs (λ a b. goes_before a b ≡ true) (first ∷ later)
       in_order = subst AreInOrder some (AllPairs-filter (λ a b. goes_before a b ≡ true) (may_go rows at) own order)
 
-      -- each of the others goes behind
+      -- each of the others goes after it
       behind : (other : JobHead) → Contains later other → goes_before first other ≡ true
       behind other there = All-contains (λ o. goes_before first o ≡ true) later other (pairs-first (λ a b. goes_before a b ≡ true) first later in_order) there
 
@@ -211,7 +211,7 @@ one_list {X} R apart (x ∷ xs) (y ∷ ys) pairs others there back =
     behind_other : (z : X) → Contains ys z → R y z
     behind_other z in_ys = All-contains (R y) ys z (pairs-first R y ys others) in_ys
 
-    -- what is behind an element isn't that element
+    -- what comes after an element isn't that element
     later_than : (a z : X) → R a z → (a ≡ z) → ⊥
     later_than a z r same = apart a a (subst (R a) (sym same) r) (subst (R a) (sym same) r)
 

@@ -58,10 +58,6 @@ any-push p (y ∷ xs) x = ap (λ b. p y || b) (any-push p xs x) ∙ or-assoc (p 
     or-assoc true b c = refl
     or-assoc false b c = refl
 
--- the lower of two limits lets each through that one of them lets through
-pub within-max : (a b grade : ℕ) → is_within (Some (max a b)) grade ≡ is_within (Some b) grade || leb grade a
-within-max a b grade = grind (arith, nat_tests)
-
 -- ---- one more system
 
 pub limits_more : (rows : List SystemRow) (i : ℕ) (d : SystemRow) (at : Moment) (name : List ℕ) (grade : ℕ) → i < length rows → may_be_called (take (i + 1) rows) at name grade ≡ may_be_called (take i rows) at name grade || (is_system name (get_or rows i d) && is_within (limit_now (get_or rows i d) at) grade)
@@ -366,7 +362,3 @@ not_more a b limit grade e = ap (λ o. a || (b && is_within o grade)) e ∙ clos
     closed true b = refl
     closed false true = refl
     closed false false = refl
-
-pub free_all : (may before : Bool) (within : Bool) → within ≡ may → before ≡ false → within ≡ (may && not before)
-free_all true before within e f = e ∙ ap not (sym f)
-free_all false before within e f = e

@@ -1,16 +1,16 @@
 -- What a command does to the jobs.
-use Rattle.std.proofs.Common.{◌≡◌, ℕ, Bool, true, false, not, cond, List, [], ◌∷◌, map, Contains, All, Option, Some, None, refl, ap, sym, subst, ◌∙◌, inl, inr, ◌⊎◌}
-use Rattle.std.proofs.lemmas.List.Elements.{Contains-append_left, Contains-append_right, Contains-push_cases, All-head, All-tail}
+use Rattle.std.proofs.Common.{◌≡◌, ℕ, Bool, true, false, not, cond, ◌&&◌, List, [], ◌∷◌, map, Contains, All, Option, Some, None, refl, ap, sym, subst, ◌∙◌, inl, inr, ◌⊎◌}
+use Rattle.std.proofs.lemmas.List.Elements.{Contains-append_left, Contains-append_right, Contains-push_cases, All-head, All-tail, All-weaker}
 use Rattle.uu_core.specs.declared.command.Command.{Command}
-use Rattle.uu_core.specs.declared.command.Command.TheVariants.{Define, Remove, Queue, QueueOnce, Kill, Regrade, Rejuvenate, Failed, Done, Entry, Forget}
+use Rattle.uu_core.specs.declared.command.Command.TheVariants.{Define, Remove, Queue, QueueOnce, Kill, Regrade, Rejuvenate, Failed, Done, Release, Entry, Forget}
 use Rattle.uu_core.specs.declared.refusal.Refusal.{Refusal}
 use Rattle.uu_core.specs.declared.custody.HandIn.{HandIn}
 use Rattle.uu_core.specs.declared.custody.HandIn.TheVariants.{First, Again}
 use Rattle.uu_core.specs.declared.custody.Key.{Key}
 use Rattle.uu_core.specs.declared.job.NewJob.{NewJob}
-use Rattle.uu_core.specs.State.{State, Job, is_job}
+use Rattle.uu_core.specs.State.{State, Job, same_text, is_job}
 use Rattle.uu_core.specs.Verdict.{verdict, taken_of}
-use Rattle.uu_core.specs.After.{after, after_verdict, accept, hand_in, take_in, with_job, change_job, job_of, is_among}
+use Rattle.uu_core.specs.After.{after, after_verdict, accept, hand_in, take_in, with_job, change_job, job_of, is_among, is_released}
 use Rattle.uu_core.specs.Run.{state_after}
 use Rattle.uu_core.specs.Laws.{accepted_of, unless_refused, lets_go, IsSameJob, IsAmong, IsHandedIn, IsOfRun, handed_by, is_repeat}
 use Rattle.uu_core.proofs.KeyLemmas.{by_hand_in, first_where}
@@ -45,7 +45,7 @@ stays_added state key new job (Again number) h = itself state.jobs job h
 not-true : (t : Bool) → t ≡ false → not t ≡ true
 not-true t e = rw e
 
-pub stays-accept : (state : State) (command : Command) (job : Job) → Contains state.jobs job → lets_go command job.number ≡ false → IsAmong (accept state command).jobs job
+pub stays-accept : (state : State) (command : Command) (job : Job) → Contains state.jobs job → lets_go command job ≡ false → IsAmong (accept state command).jobs job
 stays-accept state (Define def) job h e = itself state.jobs job h
 stays-accept state (Remove name) job h e = itself state.jobs job h
 stays-accept state (Queue new) job h e = itself _ job (Contains-append_left state.jobs (job_of state.next new ∷ []) job h)
@@ -55,10 +55,11 @@ stays-accept state (Regrade number grade by) job h e = stays_changed state.jobs 
 stays-accept state (Rejuvenate number at by) job h e = stays_changed state.jobs number (λ other. record other { queued = at.second }) job (λ j. record { number = refl; system = refl; user = refl; kind = refl; bytes = refl }) h
 stays-accept state (Failed system at why) job h e = itself state.jobs job h
 stays-accept state (Done system at jobs) job h e = itself _ job (kept (λ j. not (is_among jobs j)) state.jobs job h (not-true (is_among jobs job) e))
+stays-accept state (Release system jobs) job h e = itself _ job (kept (λ j. not (is_released system jobs j)) state.jobs job h (not-true (is_released system jobs job) e))
 stays-accept state (Entry bytes) job h e = itself state.jobs job h
 stays-accept state (Forget system below) job h e = itself state.jobs job h
 
-pub stays : (state : State) (command : Command) (job : Job) → Contains state.jobs job → lets_go command job.number ≡ false → IsAmong (after state command).0.jobs job
+pub stays : (state : State) (command : Command) (job : Job) → Contains state.jobs job → lets_go command job ≡ false → IsAmong (after state command).0.jobs job
 stays state command job h e = by-verdict (verdict state command)
   where
     by-verdict : (v : Option Refusal) → IsAmong (after_verdict v state command).0.jobs job
@@ -99,6 +100,7 @@ handed_in-accept state (Regrade number grade by) later e h = inl (was_changed st
 handed_in-accept state (Rejuvenate number at by) later e h = inl (was_changed state.jobs number (λ other. record other { queued = at.second }) later (λ j. record { number = refl; system = refl; user = refl; kind = refl; bytes = refl }) h)
 handed_in-accept state (Failed system at why) later e h = inl (itself state.jobs later h)
 handed_in-accept state (Done system at jobs) later e h = inl (itself state.jobs later (from_filter (λ j. not (is_among jobs j)) state.jobs later h).0)
+handed_in-accept state (Release system jobs) later e h = inl (itself state.jobs later (from_filter (λ j. not (is_released system jobs j)) state.jobs later h).0)
 handed_in-accept state (Entry bytes) later e h = inl (itself state.jobs later h)
 handed_in-accept state (Forget system below) later e h = inl (itself state.jobs later h)
 
@@ -114,17 +116,33 @@ handed_in state command later h = by-verdict (verdict state command) refl h
 same_later : (job later last : Job) → IsSameJob job later → IsSameJob later last → IsSameJob job last
 same_later job later last s t = record { number = t.number ∙ s.number; system = t.system ∙ s.system; user = t.user ∙ s.user; kind = t.kind ∙ s.kind; bytes = t.bytes ∙ s.bytes }
 
-pub stays-run : (state : State) (commands : List Command) (job : Job) → Contains state.jobs job → All (λ (command : Command). lets_go command job.number ≡ false) (accepted_of state commands) → IsAmong (state_after state commands).jobs job
+-- a command lets the same job go
+same_gone : (command : Command) (job later : Job) → IsSameJob job later → lets_go command job ≡ lets_go command later
+same_gone (Kill number by) job later same = ap (λ n. is_job number (record job { number = n })) (sym same.number)
+same_gone (Done system at jobs) job later same = ap (λ n. is_among jobs (record job { number = n })) (sym same.number)
+same_gone (Release system jobs) job later same =
+    ap (λ n. is_among jobs (record job { number = n }) && same_text job.system system) (sym same.number) ∙ ap (λ s. is_among jobs later && same_text s system) (sym same.system)
+same_gone (Define def) job later same = refl
+same_gone (Remove name) job later same = refl
+same_gone (Queue new) job later same = refl
+same_gone (QueueOnce key new) job later same = refl
+same_gone (Regrade number grade by) job later same = refl
+same_gone (Rejuvenate number at by) job later same = refl
+same_gone (Failed system at why) job later same = refl
+same_gone (Entry bytes) job later same = refl
+same_gone (Forget system below) job later same = refl
+
+pub stays-run : (state : State) (commands : List Command) (job : Job) → Contains state.jobs job → All (λ (command : Command). lets_go command job ≡ false) (accepted_of state commands) → IsAmong (state_after state commands).jobs job
 stays-run state [] job there h = itself state.jobs job there
 stays-run state (command ∷ commands) job there h = by-verdict (verdict state command) refl h (λ later inside kept. stays-run (after state command).0 commands later inside kept)
   where
-    by-verdict : (v : Option Refusal) → verdict state command ≡ v → All (λ (c : Command). lets_go c job.number ≡ false) (unless_refused v command (accepted_of (after state command).0 commands))
-        → ((later : Job) → Contains (after state command).0.jobs later → All (λ (c : Command). lets_go c later.number ≡ false) (accepted_of (after state command).0 commands) → IsAmong (state_after (after state command).0 commands).jobs later)
+    by-verdict : (v : Option Refusal) → verdict state command ≡ v → All (λ (c : Command). lets_go c job ≡ false) (unless_refused v command (accepted_of (after state command).0 commands))
+        → ((later : Job) → Contains (after state command).0.jobs later → All (λ (c : Command). lets_go c later ≡ false) (accepted_of (after state command).0 commands) → IsAmong (state_after (after state command).0 commands).jobs later)
         → IsAmong (state_after (after state command).0 commands).jobs job
     by-verdict None e h again =
-        let rest : All (λ (c : Command). lets_go c job.number ≡ false) (accepted_of (after state command).0 commands) = All-tail (λ (c : Command). lets_go c job.number ≡ false) command (accepted_of (after state command).0 commands) h in
-        let a : IsAmong (after state command).0.jobs job = stays state command job there (All-head (λ (c : Command). lets_go c job.number ≡ false) command (accepted_of (after state command).0 commands) h) in
-        let b : IsAmong (state_after (after state command).0 commands).jobs a.later = again a.later a.there (subst (λ n. All (λ (c : Command). lets_go c n ≡ false) (accepted_of (after state command).0 commands)) (sym a.same.number) rest) in
+        let rest : All (λ (c : Command). lets_go c job ≡ false) (accepted_of (after state command).0 commands) = All-tail (λ (c : Command). lets_go c job ≡ false) command (accepted_of (after state command).0 commands) h in
+        let a : IsAmong (after state command).0.jobs job = stays state command job there (All-head (λ (c : Command). lets_go c job ≡ false) command (accepted_of (after state command).0 commands) h) in
+        let b : IsAmong (state_after (after state command).0 commands).jobs a.later = again a.later a.there (All-weaker (λ (c : Command). lets_go c job ≡ false) (λ (c : Command). lets_go c a.later ≡ false) (λ c gone. sym (same_gone c job a.later a.same) ∙ gone) (accepted_of (after state command).0 commands) rest) in
         record { later = b.later; there = b.there; same = same_later job a.later b.later a.same b.same }
     by-verdict (Some refusal) e h again = again job (subst (λ (s : State). Contains s.jobs job) (sym (ap (λ v. (after_verdict v state command).0) e)) there) h
 

@@ -7,7 +7,7 @@ use Rattle.std.proofs.lemmas.Bool.Decides.{nat_tests}
 use Rattle.std.proofs.lemmas.List.Folds.{find-append}
 use Rattle.std.proofs.lemmas.List.Elements.{All-head, All-tail}
 use Rattle.uu_core.specs.declared.command.Command.{Command}
-use Rattle.uu_core.specs.declared.command.Command.TheVariants.{Define, Remove, Queue, QueueOnce, Kill, Regrade, Rejuvenate, Failed, Done, Entry, Forget}
+use Rattle.uu_core.specs.declared.command.Command.TheVariants.{Define, Remove, Queue, QueueOnce, Kill, Regrade, Rejuvenate, Failed, Done, Release, Entry, Forget}
 use Rattle.uu_core.specs.declared.command.Reply.TheVariants.{Number}
 use Rattle.uu_core.specs.declared.custody.HandIn.{HandIn}
 use Rattle.uu_core.specs.declared.custody.HandIn.TheVariants.{First, Again}
@@ -21,10 +21,9 @@ use Rattle.uu_core.specs.Refusal.{first_reason}
 use Rattle.uu_core.specs.After.{after, after_verdict, accept, with_job, with_taken, forgotten, hand_in, hand_in_of, number_of, take_in}
 use Rattle.uu_core.specs.Run.{state_after}
 use Rattle.uu_core.specs.Laws.{accepted_of, unless_refused, lets_forget}
-use Rattle.uu_core.proofs.KeyLemmas.{by_hand_in}
+use Rattle.uu_core.proofs.KeyLemmas.{by_hand_in, first_why}
 use Rattle.uu_core.proofs.LinkLemmas.{find-keeps, find-drops, link_own, link_other, link_kept, taken_says, forgotten_says, name_is}
-use Rattle.uu_core.proofs.CustodyLemmas.{find-there}
-use Rattle.uu_core.proofs.CustodyRuns.{first_why}
+use Rattle.uu_core.proofs.Members.{find-there}
 
 -- ---- rows by number
 
@@ -32,7 +31,7 @@ is-it : (a b : ℕ) → a ≡ b → a == b ≡ true
 is-it a b e = grind (arith, nat_tests)
 
 -- the new row is found under its number
-found-new : (row : Taken) (link : Link) → taken_at (with_taken row link) row.number ≡ Some row
+pub found-new : (row : Taken) (link : Link) → taken_at (with_taken row link) row.number ≡ Some row
 found-new row link =
     find-append (is_taken row.number) (filter (λ (other : Taken). ltb other.number row.number) link.taken) (row ∷ filter (λ (other : Taken). ltb row.number other.number) link.taken)
     ∙ ap (λ o. option_or o (cond (row.number == row.number) (Some row) (find (is_taken row.number) (filter (λ (other : Taken). ltb row.number other.number) link.taken))))
@@ -43,7 +42,7 @@ found-new row link =
     not-below a b e = grind (arith, nat_tests)
 
 -- and under another what was there
-found-old : (row : Taken) (link : Link) (number : ℕ) → (row.number ≡ number → ⊥) → taken_at (with_taken row link) number ≡ taken_at link number
+pub found-old : (row : Taken) (link : Link) (number : ℕ) → (row.number ≡ number → ⊥) → taken_at (with_taken row link) number ≡ taken_at link number
 found-old row link number differs =
     find-append p (filter (λ (other : Taken). ltb other.number row.number) link.taken) (row ∷ filter (λ (other : Taken). ltb row.number other.number) link.taken)
     ∙ ap (λ t. option_or (find (is_taken number) (filter (λ (other : Taken). ltb other.number row.number) link.taken)) (cond t (Some row) (find (is_taken number) (filter (λ (other : Taken). ltb row.number other.number) link.taken)))) (not-it (row.number == number) refl)
@@ -183,6 +182,7 @@ module _ (state : State) (key : Key) (row : Taken) (is : taken_of state key ≡ 
   stays-accepted (Rejuvenate job at by) e f = is
   stays-accepted (Failed system at why) e f = is
   stays-accepted (Done system at jobs) e f = is
+  stays-accepted (Release system jobs) e f = is
   stays-accepted (Entry bytes) e f = is
   stays-accepted (Forget system below) e f = stays-forget system below f
 

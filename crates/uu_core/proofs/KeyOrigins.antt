@@ -1,13 +1,13 @@
 -- What is kept of a key was kept before, or a command handed its job in.
-use Rattle.std.proofs.Common.{◌≡◌, ◌⊎◌, inl, inr, ℕ, Bool, true, false, not, cond, leb, ltb, ◌==◌, List, [], ◌∷◌, ◌++◌, filter, find, Option, Some, None, unwrap_or, refl, ap, sym, ◌∙◌}
+use Rattle.std.proofs.Common.{◌≡◌, ◌⊎◌, inl, inr, ℕ, Bool, true, false, not, cond, leb, ltb, ◌==◌, List, [], ◌∷◌, filter, find, Option, Some, None, unwrap_or, refl, ap, sym, ◌∙◌}
 use Rattle.std.specs.Option.{option_or}
 use Rattle.std.specs.Cmp.Lexicographic.{bytes_decides}
 use Rattle.std.proofs.lemmas.Bool.{eqb-true}
 use Rattle.std.proofs.lemmas.List.Folds.{find-append}
 use Rattle.uu_core.specs.declared.command.Command.{Command}
-use Rattle.uu_core.specs.declared.command.Command.TheVariants.{Define, Remove, Queue, QueueOnce, Kill, Regrade, Rejuvenate, Failed, Done, Entry, Forget}
+use Rattle.uu_core.specs.declared.command.Command.TheVariants.{Define, Remove, Queue, QueueOnce, Kill, Regrade, Rejuvenate, Failed, Done, Release, Entry, Forget}
 use Rattle.uu_core.specs.declared.custody.HandIn.{HandIn}
-use Rattle.uu_core.specs.declared.custody.HandIn.TheVariants.{First, Again}
+use Rattle.uu_core.specs.declared.custody.HandIn.TheVariants.{First}
 use Rattle.uu_core.specs.declared.custody.Key.{Key}
 use Rattle.uu_core.specs.declared.custody.Taken.{Taken}
 use Rattle.uu_core.specs.declared.job.NewJob.{NewJob}
@@ -139,6 +139,7 @@ module _ (state : State) (key : Key) (row : Taken) where
   of-accepted (Rejuvenate job at by) v e = inl e
   of-accepted (Failed system at why) v e = inl e
   of-accepted (Done system at jobs) v e = inl e
+  of-accepted (Release system jobs) v e = inl e
   of-accepted (Entry bytes) v e = inl e
   of-accepted (Forget system below) v e = inl (of-forget system below e)
 

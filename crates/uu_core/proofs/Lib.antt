@@ -1,8 +1,4 @@
-mod CustodyExamples
-pub mod CustodyInvariant
-pub mod CustodyLaws
-pub mod CustodyLemmas
-pub mod CustodyRuns
+pub mod DecisionLemmas
 pub mod DefinitionLaws
 pub mod DoneLemmas
 pub mod DueLaws
@@ -13,18 +9,13 @@ pub mod KeyLemmas
 pub mod KeyOrigins
 pub mod LinkLemmas
 pub mod Members
-pub mod NetworkArrival
-mod NetworkExamples
-pub mod NetworkKilled
-pub mod NetworkLaws
-pub mod NetworkWays
-pub mod NetworkWorlds
 pub mod NextCallLaws
 pub mod NextCallLemmas
-pub mod PlainLemmas
+pub mod OrderLemmas
 pub mod QueueLaws
 pub mod QueueLemmas
 pub mod RunLemmas
+pub mod TakeInLemmas
 pub mod TurnLemmas
 pub mod WaitingLemmas
 pub mod WellFormedLemmas

@@ -171,7 +171,7 @@ keeps_all (row ∷ rows) = ap (λ t. cond t (row ∷ filter (λ (r : Taken). leb
     zero : (n : ℕ) → leb 0 n ≡ true
     zero n = grind (arith, nat_tests)
 
--- where nothing is said after the neighbour said what it won't ask for, it said nothing new
+-- if a link says nothing after the neighbour said what it won't ask for, this changed nothing
 pub forgotten_says : (below : ℕ) (link : Link) → says_nothing (forgotten below link) ≡ true → forgotten below link ≡ link
 forgotten_says below link e = by-zero below (zeros link.below below (and-first (max link.below below == 0) _ e)).1 (zeros link.below below (and-first (max link.below below == 0) _ e)).0
   where

@@ -1,6 +1,8 @@
--- Elements of a list, after a filter or a map.
-use Rattle.std.proofs.Common.{◌≡◌, ℕ, zero, suc, ◌<◌, Bool, true, false, cond, ◌||◌, List, [], ◌∷◌, length, map, filter, get_or, Contains, refl, ap, sym, ◌∙◌, inl, inr, ◌⊎◌, arith}
+-- Elements of a list, after a filter or a map, or found in it.
+use Rattle.std.proofs.Common.{◌≡◌, ℕ, zero, suc, ◌+◌, ◌<◌, ◌≤◌, Bool, true, false, cond, ◌||◌, List, [], ◌∷◌, length, map, filter, find, take, get_or, All, Contains, Some, None, refl, ap, sym, ◌∙◌, subst, inl, inr, ◌⊎◌, arith}
 use Rattle.std.specs.List.{list_any}
+use Rattle.std.proofs.lemmas.List.{take_more, take_all}
+use Rattle.std.proofs.lemmas.List.Elements.{All-head, All-tail, All-push}
 
 pub first_of : {X : Type 0} (x : X) (xs : List X) → Contains (x ∷ xs) x
 first_of x xs = (0, omega arith, refl)
@@ -56,6 +58,15 @@ from_map f (x ∷ xs) y h = elim (first_or_later (f x) y (map f xs) h) [
   | inr later ↦ let r = from_map f xs y later in (r.0, later_of x r.0 xs r.1, r.2)
 ]
 
+-- what is found is there, and passes
+pub find-there : {X : Type 0} (p : X → Bool) (xs : List X) (x : X) → find p xs ≡ Some x → Contains xs x × (p x ≡ true)
+find-there p [] x e = absurd (cc)
+find-there {X} p (y ∷ xs) x e = by-test (p y) refl e (find-there p xs x)
+  where
+    by-test : (t : Bool) → p y ≡ t → cond t (Some y) (find p xs) ≡ Some x → (find p xs ≡ Some x → Contains xs x × (p x ≡ true)) → Contains (y ∷ xs) x × (p x ≡ true)
+    by-test true f e again = let same : y ≡ x = cc in (subst (Contains (y ∷ xs)) same (first_of y xs), ap p (sym same) ∙ f)
+    by-test false f e again = let r = again e in (later_of y x xs r.0, r.1)
+
 -- an element passes, so some does
 pub some_passes : {X : Type 0} (p : X → Bool) (xs : List X) (x : X) → Contains xs x → p x ≡ true → list_any p xs ≡ true
 some_passes p [] x h e = absurd (none_in x h)
@@ -79,3 +90,39 @@ passing_one p (y ∷ xs) e = by-test (p y) refl e (passing_one p xs)
     by-test : (t : Bool) → p y ≡ t → t || list_any p xs ≡ true → (list_any p xs ≡ true → (x : _) × Contains xs x × (p x ≡ true)) → (x : _) × Contains (y ∷ xs) x × (p x ≡ true)
     by-test true f e again = (y, first_of y xs, f)
     by-test false f e again = let r = again e in (r.0, later_of y r.0 xs r.1, r.2)
+
+pub find-any : {X : Type 0} (p : X → Bool) (xs : List X) (x : X) → find p xs ≡ Some x → list_any p xs ≡ true
+find-any p [] x e = absurd apart
+  where
+    apart : ⊥
+    apart = cc
+find-any p (y ∷ xs) x e = by-test (p y) e (find-any p xs x)
+  where
+    by-test : (t : Bool) → cond t (Some y) (find p xs) ≡ Some x → (find p xs ≡ Some x → list_any p xs ≡ true) → t || list_any p xs ≡ true
+    by-test true e again = refl
+    by-test false e again = again e
+
+pub find-none : {X : Type 0} (p : X → Bool) (xs : List X) → find p xs ≡ None → list_any p xs ≡ false
+find-none p [] e = refl
+find-none p (y ∷ xs) e = by-test (p y) e (find-none p xs)
+  where
+    by-test : (t : Bool) → cond t (Some y) (find p xs) ≡ None → (find p xs ≡ None → list_any p xs ≡ false) → t || list_any p xs ≡ false
+    by-test true e again = absurd (apart e)
+      where
+        apart : Some y ≡ None → ⊥
+        apart q = cc
+    by-test false e again = again e
+
+-- none passes, so none is kept
+pub keeps_none : {X : Type 0} (p : X → Bool) (xs : List X) → All (λ x. p x ≡ false) xs → filter p xs ≡ []
+keeps_none p [] h = refl
+keeps_none p (x ∷ xs) h =
+    ap (λ t. cond t (x ∷ filter p xs) (filter p xs)) (All-head (λ y. p y ≡ false) x xs h) ∙ keeps_none p xs (All-tail (λ y. p y ≡ false) x xs h)
+
+-- one more of the first elements
+pub all_more : {X : Type 0} (P : X → Type 0) (xs : List X) (i : ℕ) (x : X) → i < length xs → x ≡ get_or xs i x → All P (take i xs) → P x → All P (take (i + 1) xs)
+all_more P xs i x within here so_far p =
+    subst (All P) (sym (take_more xs i x within)) (All-push P (take i xs) (get_or xs i x) so_far (subst P here p))
+
+pub all_of : {X : Type 0} (P : X → Type 0) (xs : List X) (i : ℕ) → length xs ≤ i → All P (take i xs) → All P xs
+all_of P xs i past h = subst (All P) (take_all i xs past) h

@@ -1,8 +1,9 @@
--- What is told of calls, beside what is due.
-use Rattle.std.proofs.Common.{◌≡◌, ℕ, ◌≤◌, Bool, true, false, not, cond, leb, ltb, ◌&&◌, List, [], ◌∷◌, get_or, Option, Some, None, IfSome, Contains, refl, ap, sym, ◌∙◌, subst, arith, ◌↔◌}
+-- The next calls, compared with what is due.
+use Rattle.std.proofs.Common.{◌≡◌, ℕ, ◌≤◌, Bool, true, false, not, cond, leb, ltb, ◌&&◌, ◌||◌, ◌==◌, List, [], ◌∷◌, get_or, Option, Some, None, IfSome, Contains, refl, ap, sym, ◌∙◌, subst, arith, ◌↔◌}
 use Rattle.std.specs.List.{list_all}
 use Rattle.std.specs.Cmp.Lexicographic.{bytes_decides}
 use Rattle.std.specs.declared.cmp.Ordering.TheVariants.{Less, Equal}
+use Rattle.std.proofs.lemmas.Bool.{eqb-true}
 use Rattle.std.proofs.lemmas.Bool.Decides.{nat_tests}
 use Rattle.std.proofs.lemmas.Cmp.{nat_list_cmp_total, tied_itself}
 use Rattle.std.proofs.lemmas.List.{get_or_default}
@@ -16,11 +17,11 @@ use Rattle.uu_core.specs.declared.next_call.NextCall.{NextCall}
 use Rattle.uu_core.specs.declared.next_call.Why.TheVariants as why
 use Rattle.uu_core.specs.declared.system.SystemRow.{SystemRow}
 use Rattle.uu_core.specs.State.{same_text, is_system, ComesBefore}
-use Rattle.uu_core.specs.Plain.{AreByName}
+use Rattle.uu_core.specs.Order.{AreByName}
 use Rattle.uu_core.specs.Waiting.{limit_at, is_held}
 use Rattle.uu_core.specs.Queues.{jobs_for}
 use Rattle.uu_core.specs.Due.{limit_now, is_within, may_go, goes_before, is_due, due_of, is_listed, AreDue}
-use Rattle.uu_core.specs.NextCalls.{natural, week_at, limit_in, is_looked_at, is_callable, IsLeast, why_limited, IsNextCall, IsMomentAt, due_by, IsEarlier}
+use Rattle.uu_core.specs.NextCalls.{natural, week_at, limit_in, is_looked_at, is_looked_at_before, is_callable, IsLeast, IsGreatest, why_limited, why_at, IsNextCall, IsMomentAt, due_by, IsEarlier}
 use Rattle.uu_core.proofs.Members.{from_filter, kept, some_passes, passing_one, first_of, later_of}
 use Rattle.uu_core.proofs.NextCallLemmas.{ahead_of, false-true, left-true, right-true}
 
@@ -53,7 +54,7 @@ module _ (zone : Zone) (rows : List SystemRow) (jobs : List JobHead) (now : ℕ)
   own : job.system ≡ next.row.def.name
   own = same_is job.system next.row.def.name (from_filter (λ (other : JobHead). same_text other.system next.row.def.name) jobs job among).1
 
-  -- the system is free for the job where it is free for the call's grade
+  -- the system is free for the job if it is free for the call's grade
   may_at : (second : ℕ) (at : Moment) → IsMomentAt zone second at → is_within (limit_in zone next.row second) call.grade ≡ true → may_go rows at job ≡ true
   may_at second at is within =
       some_passes (λ (row : SystemRow). is_system job.system row && is_within (limit_now row at) job.grade) rows next.row next.there
@@ -76,7 +77,7 @@ module _ (zone : Zone) (rows : List SystemRow) (jobs : List JobHead) (now : ℕ)
           let behind : goes_before other job ≡ false = All-contains (λ (j : JobHead). goes_before j job ≡ false) (jobs_for next.row.def.name jobs) other next.job.first its_own in
           rw behind (closed (may_go rows at other))
 
-  -- what is told is what is listed at that second
+  -- the next call is what is listed at that second
   pub listed_then : (second : ℕ) (at : Moment) (dues : List Due) → call.second ≡ Some second → IsMomentAt zone second at → AreDue rows jobs at dues → Contains dues (due_by call)
   listed_then second at dues same is due =
       let least : IsLeast (is_callable zone next.row call.grade now) (Some second) = subst (IsLeast (is_callable zone next.row call.grade now)) same next.second in
@@ -161,33 +162,56 @@ module _ (zone : Zone) (rows : List SystemRow) (jobs : List JobHead) (now : ℕ)
 
   -- ---- why
 
-  now_looked_at : now ≤ last_second → is_looked_at next.row.call now now ≡ true
-  now_looked_at h = grind (arith, nat_tests)
-
-  due_within : (held : Bool) (limit : Option ℕ) → cond held why.Held (why_limited limit call.grade) ≡ why.Due → is_within (cond held None limit) call.grade ≡ true
-  due_within true limit e = absurd (cc)
-  due_within false None e = absurd (cc)
+  due_within : (held : Bool) (limit : Option ℕ) → why_limited held limit call.grade ≡ why.Due → is_within (cond held None limit) call.grade ≡ true
+  due_within held None e = absurd (cc)
+  due_within true (Some most) e = absurd (by-test (leb call.grade most) e)
+    where
+      by-test : (t : Bool) → cond t why.Held why.Grade ≡ why.Due → ⊥
+      by-test true e = cc
+      by-test false e = cc
   due_within false (Some most) e = by-test (leb call.grade most) e
     where
       by-test : (t : Bool) → cond t why.Due why.Grade ≡ why.Due → t ≡ true
       by-test true e = refl
       by-test false e = absurd (cc)
 
-  within_due : (held : Bool) (limit : Option ℕ) → is_within (cond held None limit) call.grade ≡ true → cond held why.Held (why_limited limit call.grade) ≡ why.Due
+  within_due : (held : Bool) (limit : Option ℕ) → is_within (cond held None limit) call.grade ≡ true → why_limited held limit call.grade ≡ why.Due
   within_due true limit e = absurd (cc)
   within_due false None e = absurd (cc)
   within_due false (Some most) e = rw e refl
 
-  first_now : (second : Option ℕ) → IsLeast (is_callable zone next.row call.grade now) second → IfSome second (λ s. (now ≤ s) × (s ≤ last_second)) → is_callable zone next.row call.grade now now ≡ true → second ≡ Some now
-  first_now None least ahead callable = absurd (false-true (least now) callable)
-  first_now (Some second) least ahead callable = let same : second ≡ now = (let no_later = least.1 now callable in omega (arith, no_later, ahead)) in ap Some same
+  ahead_at : (second : Option ℕ) → IsLeast (is_callable zone next.row call.grade now) second → IfSome second (λ s. (now ≤ s) × (s ≤ last_second))
+  ahead_at = ahead_of zone next.row call.grade now
+
+  -- what may be called at the last second before the call is called at once
+  called_now : (second : Option ℕ) (last : ℕ) → IsLeast (is_callable zone next.row call.grade now) second → IsGreatest (is_looked_at_before next.row.call now second) last
+      → is_within (limit_in zone next.row last) call.grade ≡ true → second ≡ Some now
+  called_now None last least greatest within =
+      absurd (false-true (least last) (both_true (is_looked_at next.row.call now last) (is_within (limit_in zone next.row last) call.grade) greatest.0 within))
+  called_now (Some second) last least greatest within =
+      let looked = left-true (is_looked_at next.row.call now last) (last == now || ltb last second) greatest.0 in
+      let place = right-true (is_looked_at next.row.call now last) (last == now || ltb last second) greatest.0 in
+      let no_later : second ≤ last = least.1 last (both_true (is_looked_at next.row.call now last) (is_within (limit_in zone next.row last) call.grade) looked within) in
+      let ahead = ahead_at (Some second) least in
+      let same : second ≡ now = grind (arith, nat_tests) in
+      ap Some same
+
+  -- at once the last second before the call is the present one
+  last_now : (last : ℕ) → is_looked_at_before next.row.call now (Some now) last ≡ true → last ≡ now
+  last_now last e = by-test (last == now) refl (right-true (is_looked_at next.row.call now last) (last == now || ltb last now) e) (left-true (is_looked_at next.row.call now last) (last == now || ltb last now) e)
+    where
+      by-test : (t : Bool) → last == now ≡ t → last == now || ltb last now ≡ true → is_looked_at next.row.call now last ≡ true → last ≡ now
+      by-test true q place looked = eqb-true last now q
+      by-test false q place looked = absurd (grind (arith, nat_tests))
 
   pub due_is_now : now ≤ last_second → (call.why ≡ why.Due) ↔ (call.second ≡ Some now)
   due_is_now h = (
     λ e.
-        let within = due_within (is_held next.row.call now) (limit_at next.row.def.lines (week_at zone now)) (sym next.why ∙ e) in
-        first_now call.second next.second (ahead_of zone next.row call.grade now call.second next.second) (both_true (is_looked_at next.row.call now now) (is_within (limit_in zone next.row now) call.grade) (now_looked_at h) within),
+        called_now call.second next.why.last next.second next.why.is_last
+        (due_within (is_held next.row.call next.why.last) (limit_at next.row.def.lines (week_at zone next.why.last)) (sym next.why.reason_is ∙ e)),
     λ e.
         let least : IsLeast (is_callable zone next.row call.grade now) (Some now) = subst (IsLeast (is_callable zone next.row call.grade now)) e next.second in
-        next.why ∙ within_due (is_held next.row.call now) (limit_at next.row.def.lines (week_at zone now)) (right-true (is_looked_at next.row.call now now) (is_within (limit_in zone next.row now) call.grade) least.0),
+        let last : next.why.last ≡ now = last_now next.why.last (subst (λ (second : Option ℕ). is_looked_at_before next.row.call now second next.why.last ≡ true) e next.why.is_last.0) in
+        next.why.reason_is ∙ ap (why_at zone next.row call.grade) last
+        ∙ within_due (is_held next.row.call now) (limit_at next.row.def.lines (week_at zone now)) (right-true (is_looked_at next.row.call now now) (is_within (limit_in zone next.row now) call.grade) least.0),
   )

@@ -11,7 +11,7 @@ use Rattle.std.proofs.lemmas.Bool.{eqb-true, ltb-true, leb-true}
 use Rattle.std.proofs.lemmas.Bool.Decides.{nat_tests}
 use Rattle.std.specs.Cmp.{IsTotalOrder}
 use Rattle.std.proofs.lemmas.Cmp.{nat_cmp_total, nat_list_cmp_total, nat_list_eq_equiv, on_total, then_total, tied_itself}
-use Rattle.std.proofs.lemmas.List.{length-map, map-append}
+use Rattle.std.proofs.lemmas.List.{length-map, map-append, take_more}
 use Rattle.std.proofs.lemmas.List.Elements.{All-contains, All-map, All-weaker, Contains-get_or, filter_more}
 use Rattle.std.proofs.lemmas.List.Kept.{AllPairs-cons, AllPairs-filter}
 use Rattle.std.proofs.lemmas.List.Sorted.{sorted_far, ranks_by, IsPermutation-map, All-permutation, Contains-permutation}
@@ -22,13 +22,14 @@ use Rattle.uu_times.specs.declared.system.Line.{Line}
 use Rattle.uu_times.specs.declared.zone.Zone.{Zone}
 use Rattle.uu_core.specs.declared.job.JobHead.{JobHead}
 use Rattle.uu_core.specs.declared.next_call.NextCall.{NextCall}
+use Rattle.uu_core.specs.declared.next_call.NextPoll.{NextPoll}
 use Rattle.uu_core.specs.declared.system.SystemRow.{SystemRow}
 use Rattle.uu_core.specs.State.{same_text, ComesBefore}
-use Rattle.uu_core.specs.Plain.{AreByName}
+use Rattle.uu_core.specs.Order.{AreByName}
 use Rattle.uu_core.specs.Queues.{jobs_for}
 use Rattle.uu_core.specs.Waiting.{lines_at, limit_at, is_held}
 use Rattle.uu_core.specs.Due.{is_within}
-use Rattle.uu_core.specs.NextCalls.{limit_in, week_at, looked_ahead, free_from, is_looked_at, is_callable, IsLeast, IsFirstOpen, is_sooner_at, is_sooner, turn_at, turn_of, IsAhead, IsNextCall, AreNextCalls}
+use Rattle.uu_core.specs.NextCalls.{limit_in, week_at, looked_ahead, free_from, is_looked_at, is_callable, IsLeast, IsFirstOpen, is_sooner_at, is_sooner, is_polled_sooner, turn_at, turn_of, poll_turn_at, poll_turn, IsAhead, IsPollAhead, IsNextCall, IsNextPoll, AreNextCalls, AreNextPolls}
 use Rattle.uu_core.proofs.DueLemmas.{map_at}
 use Rattle.uu_core.proofs.Members.{kept, mapped}
 
@@ -72,13 +73,9 @@ any_open (line ∷ lines) week grade = by-test (holds line.windows week) ∙ ap 
         and-false true = refl
         and-false false = refl
 
--- the limit reaches a grade where a line that is open is for it
+-- the limit reaches a grade if an open line is for it
 pub reached_by_one : (lines : List Line) (week grade : ℕ) → list_any (λ line. leb grade line.grade && holds line.windows week) lines ≡ is_within (limit_at lines week) grade
 reached_by_one lines week grade = sym (within_most grade (map (λ (line : Line). line.grade) (lines_at lines week)) ∙ any_open lines week grade)
-
-pub unless_held : (held : Bool) (limit : Option ℕ) (grade : ℕ) → (not held && is_within limit grade) ≡ is_within (cond held None limit) grade
-unless_held true limit grade = refl
-unless_held false limit grade = refl
 
 -- ---- the first second
 
@@ -187,7 +184,7 @@ capped free end most e past = omega arith
 
 -- ---- lines that are never open
 
--- where no line for the grade has a minute, none is open for it
+-- if no line for the grade has a minute, none is open for it
 none_open : (lines : List Line) (week grade : ℕ) → list_any (λ line. leb grade line.grade && not (length line.windows == 0)) lines ≡ false
     → list_any (λ line. leb grade line.grade && holds line.windows week) lines ≡ false
 none_open [] week grade e = refl
@@ -249,7 +246,7 @@ turns_before a b = is_lt (cmp_turns (turn_of a) (turn_of b))
 cmp_turns_total : IsTotalOrder cmp_turns
 cmp_turns_total = then_total (then_total (on_total (λ (t : ℕ × ℕ × ℕ). t.0) nat_cmp_total) (on_total (λ (t : ℕ × ℕ × ℕ). t.1) nat_cmp_total)) (on_total (λ (t : ℕ × ℕ × ℕ). t.2) nat_cmp_total)
 
--- what isn't before by the turn isn't sooner, where names decide on those that never come
+-- what isn't before by the turn isn't sooner, if names decide on those that never come
 not_sooner_at : (s t : Option ℕ) (g h n m : ℕ) (by_name : Bool) → is_lt (cmp_turns (turn_at t h m) (turn_at s g n)) ≡ false → IfSome t (λ second. second ≤ last_second)
     → (s ≡ None → t ≡ None → by_name ≡ false) → is_sooner_at t s (ltb h g || (h == g && ltb m n)) by_name ≡ false
 not_sooner_at (Some s) (Some t) g h n m by_name e ahead last = grind (arith, nat_tests)
@@ -261,7 +258,7 @@ never_ties : (s t : Option ℕ) (g h n m : ℕ) → s ≡ None → t ≡ None
     → (not (is_lt (cmp_turns (turn_at s g n) (turn_at t h m))) && not (is_lt (cmp_turns (turn_at t h m) (turn_at s g n)))) ≡ true
 never_ties s t g h n m e f = rw (e, f) refl
 
--- a pair that passes a test stands in a list as it does among those that pass
+-- two elements of a list that pass a test are a pair among those that pass
 pairs-kept : {X : Type 0} (R : X → X → Type 0) (p : X → Bool) (xs : List X) → AllPairs R (filter p xs) → (i j : ℕ) (d : X) → i < j → j < length xs → p (get_or xs i d) ≡ true → p (get_or xs j d) ≡ true → R (get_or xs i d) (get_or xs j d)
 pairs-kept R p [] pairs i j d below within at_i at_j = absurd (omega arith)
 pairs-kept R p (x ∷ xs) pairs i zero d below within at_i at_j = absurd (omega arith)
@@ -384,3 +381,82 @@ ahead_of zone row grade now (Some second) (callable, least) =
     by-place : (second == now ≡ true) ⊎ (ltb now second && second % 60 == 0 ≡ true) → now ≤ second
     by-place (inl same) = let e = eqb-true second now same in omega (arith, e)
     by-place (inr later) = let l = ltb-true now second (left-true (ltb now second) (second % 60 == 0) later) in omega (arith, l)
+
+-- ---- polls
+
+abbrev pub polls_before : NextPoll → NextPoll → Bool
+polls_before a b = is_lt (nat_cmp (poll_turn a) (poll_turn b))
+
+abbrev polled : NextPoll → List ℕ
+polled poll = poll.system
+
+abbrev PollsByName : NextPoll → NextPoll → Type 0
+PollsByName a b = ComesBefore a.system b.system
+
+-- what isn't before by the second isn't sooner, if names decide in one second
+not_polled_sooner : (s t : Option ℕ) (by_name : Bool) → is_lt (nat_cmp (poll_turn_at t) (poll_turn_at s)) ≡ false → IfSome t (λ second. second ≤ last_second)
+    → (s ≡ t → by_name ≡ false) → is_sooner_at t s by_name by_name ≡ false
+not_polled_sooner (Some s) (Some t) by_name e ahead last = by-test (t == s) refl
+  where
+    by-test : (same : Bool) → t == s ≡ same → ltb t s || (t == s && by_name) ≡ false
+    by-test true q =
+        let none : by_name ≡ false = last (ap Some (sym (eqb-true t s q))) in
+        grind (arith, nat_tests)
+    by-test false q = grind (arith, nat_tests)
+not_polled_sooner (Some s) None by_name e ahead last = refl
+not_polled_sooner None (Some t) by_name e ahead last = absurd (false-true e (grind (arith, nat_tests)))
+not_polled_sooner None None by_name e ahead last = last refl
+
+same_ties : (s t : ℕ) → s ≡ t → (not (is_lt (nat_cmp s t)) && not (is_lt (nat_cmp t s))) ≡ true
+same_ties s t e = grind (arith, nat_tests)
+
+polls_in_order : (before after : List NextPoll) → AllPairs PollsByName before → IsSortedBy polls_before after
+    → ((poll : NextPoll) → filter (ties polls_before poll) after ≡ filter (ties polls_before poll) before) → All (λ (poll : NextPoll). IfSome poll.second (λ second. second ≤ last_second)) after
+    → AllPairs (λ a b. is_polled_sooner b a ≡ false) after
+polls_in_order before after names sorted stable ahead i j d below within =
+    not_polled_sooner a.second b.second _ (sorted_far polls_before (ranks_by nat_cmp_total poll_turn) after sorted i j d (omega arith) within) (ahead j d within)
+    (λ e. comes_back a.system b.system (pairs-kept PollsByName (ties polls_before a) after
+    (subst (AllPairs PollsByName) (sym (stable a)) (AllPairs-filter PollsByName (ties polls_before a) before names)) i j d below within
+    (same_ties (poll_turn a) (poll_turn a) refl) (same_ties (poll_turn a) (poll_turn b) (ap poll_turn_at e))))
+  where
+    a : NextPoll
+    a = get_or after i d
+
+    b : NextPoll
+    b = get_or after j d
+
+-- the polls of the systems, put in order
+pub polls_are : (zone : Zone) (rows : List SystemRow) (now : ℕ) (before after : List NextPoll) → AreByName row_name rows
+    → map polled before ≡ map row_name rows → All (IsNextPoll zone rows now) before → IsPermutation before after → IsSortedBy polls_before after
+    → ((poll : NextPoll) → filter (ties polls_before poll) after ≡ filter (ties polls_before poll) before) → All (IsPollAhead now) after → AreNextPolls zone rows now after
+polls_are zone rows now before after by_name names sound same sorted stable ahead = record {
+  sound = All-permutation (IsNextPoll zone rows now) before after same sound;
+  each = λ row there. Contains-permutation (map polled before) (map polled after) row.def.name (IsPermutation-map polled before after same)
+      (subst (λ (l : List (List ℕ)). Contains l row.def.name) (sym names) (mapped row_name rows row there));
+  once = λ i j d below within.
+      let count : length (map polled after) ≡ length after = length-map after polled in
+      let apart = apart_from_distinct same_text (map polled after) i j d.system distinct below (omega arith) in
+      rw (map_at polled after i d.system d (omega arith), map_at polled after j d.system d within) at apart;
+  in_order = polls_in_order before after ordered sorted stable (All-weaker (IsPollAhead now) (λ (poll : NextPoll). IfSome poll.second (λ second. second ≤ last_second)) (λ poll h. in_time poll.second h) after ahead);
+}
+  where
+    named : AllPairs ComesBefore (map polled before)
+    named = subst (AllPairs ComesBefore) (sym names) (pairs-of_map row_name ComesBefore rows by_name)
+
+    ordered : AllPairs PollsByName before
+    ordered = pairs-from_map polled ComesBefore before named
+
+    distinct : IsDistinct same_text (map polled after)
+    distinct = IsDistinct-IsPermutation same_text nat_list_eq_equiv.symm (map polled before) (map polled after) (IsPermutation-map polled before after same)
+        (IsDistinct-from_apart same_text (map polled before) (λ i j d below within. not_same (get_or (map polled before) i d) (get_or (map polled before) j d) (named i j d below within)))
+
+    in_time : (second : Option ℕ) → IfSome second (λ s. (now ≤ s) × (s ≤ last_second)) → IfSome second (λ s. s ≤ last_second)
+    in_time None h = tt
+    in_time (Some s) h = h.1
+
+-- the names of the systems up to one more
+pub names_on : (rows : List SystemRow) (i : ℕ) (row : SystemRow) (names : List (List ℕ)) (name : List ℕ) → i < length rows → row ≡ get_or rows i row
+    → names ≡ map row_name (take i rows) → name ≡ row.def.name → names ++ name ∷ [] ≡ map row_name (take (i + 1) rows)
+names_on rows i row names name within is same named =
+    ap (λ (l : List (List ℕ)). l ++ name ∷ []) same ∙ ap (λ (n : List ℕ). map row_name (take i rows) ++ n ∷ []) (named ∙ ap row_name is)
+    ∙ sym (map-append row_name (take i rows) (get_or rows i row ∷ [])) ∙ ap (map row_name) (sym (take_more rows i row within))

@@ -73,8 +73,7 @@ one_counted text value (name ∷ names) apart there =
         by-test false e = refl
         by-test true e = absurd (true_false ((bytes_decides name text).1 (sym ((bytes_decides text name).0 e))) (apart_from text later))
 
--- what is summed up by names that differ, of which each job's system is one, is what is summed up
--- at once
+-- sums by different names that include each job's system are the sums of all jobs
 by_names : (f : JobHead → ℕ) (names : List (List ℕ)) → AllPairs (λ a b. same_text a b ≡ false) names → (jobs : List JobHead)
     → ((job : JobHead) → Contains jobs job → Contains names job.system) → sum_by (λ name. sum_by f (jobs_for name jobs)) names ≡ sum_by f jobs
 by_names f names apart [] named = sum_none names

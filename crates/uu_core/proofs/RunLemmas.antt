@@ -4,7 +4,7 @@ use Rattle.std.proofs.lemmas.List.Elements.{All-cons, All-nil, All-head, All-tai
 use Rattle.std.proofs.lemmas.List.Kept.{AllPairs-cons}
 use Rattle.uu_core.proofs.WellFormedLemmas.{pairs-nil}
 use Rattle.uu_core.specs.declared.command.Command.{Command}
-use Rattle.uu_core.specs.declared.command.Command.TheVariants.{Define, Remove, Queue, QueueOnce, Kill, Regrade, Rejuvenate, Failed, Done, Entry, Forget}
+use Rattle.uu_core.specs.declared.command.Command.TheVariants.{Define, Remove, Queue, QueueOnce, Kill, Regrade, Rejuvenate, Failed, Done, Release, Entry, Forget}
 use Rattle.uu_core.specs.declared.command.Reply.{Reply}
 use Rattle.uu_core.specs.declared.command.Reply.TheVariants.{Done as Carried, Number, Refused}
 use Rattle.uu_core.specs.declared.refusal.Refusal.{Refusal}
@@ -16,11 +16,33 @@ use Rattle.uu_core.specs.State.{State, Job}
 use Rattle.uu_core.specs.Verdict.{verdict, taken_of}
 use Rattle.uu_core.specs.After.{after, after_verdict, accept, reply_to, hand_in, take_in, number_of}
 use Rattle.uu_core.specs.Run.{state_after, replies_to}
-use Rattle.uu_core.specs.Laws.{accepted_of, unless_refused, numbers_in, new_numbers, is_repeat, has_key, handed_by, IsHandedIn}
+use Rattle.uu_core.specs.Laws.{accepted_of, unless_refused, numbers_in, refusal_in, new_numbers, is_repeat, has_key, handed_by, IsHandedIn}
 use Rattle.uu_core.proofs.KeyLemmas.{by_hand_in, first_where}
 
 pub refused : (state : State) (command : Command) (refusal : Refusal) → verdict state command ≡ Some refusal → after state command ≡ (state, Refused refusal)
 refused state command refusal e = ap (λ v. after_verdict v state command) e
+
+-- no command that is accepted is answered by a refusal
+carried_out : (state : State) (command : Command) → refusal_in (reply_to state command) ≡ None
+carried_out state (Define def) = refl
+carried_out state (Remove name) = refl
+carried_out state (Queue job) = refl
+carried_out state (QueueOnce key job) = refl
+carried_out state (Kill job by) = refl
+carried_out state (Regrade job grade by) = refl
+carried_out state (Rejuvenate job at by) = refl
+carried_out state (Failed system at why) = refl
+carried_out state (Done system at jobs) = refl
+carried_out state (Release system jobs) = refl
+carried_out state (Entry bytes) = refl
+carried_out state (Forget system below) = refl
+
+pub refusal_told : (state : State) (command : Command) → refusal_in (after state command).1 ≡ verdict state command
+refusal_told state command = by-verdict (verdict state command)
+  where
+    by-verdict : (v : Option Refusal) → refusal_in (after_verdict v state command).1 ≡ v
+    by-verdict None = carried_out state command
+    by-verdict (Some refusal) = refl
 
 pub states_append : (state : State) (first second : List Command) → state_after state (first ++ second) ≡ state_after (state_after state first) second
 states_append state [] second = refl
@@ -70,6 +92,7 @@ next-accept state (Regrade job grade by) = omega arith
 next-accept state (Rejuvenate job at by) = omega arith
 next-accept state (Failed system at why) = omega arith
 next-accept state (Done system at jobs) = omega arith
+next-accept state (Release system jobs) = omega arith
 next-accept state (Entry bytes) = omega arith
 next-accept state (Forget system below) = omega arith
 
@@ -108,7 +131,7 @@ with-first low numbers r = record {
   once = AllPairs-cons (λ earlier later. earlier < later) low numbers (All-weaker (λ n. low + 1 ≤ n) (λ n. low < n) (λ n above. omega (arith, above)) numbers r.fresh) r.once;
 }
 
--- in front of others: the numbers that the answer to a command gives, which is no repeat
+-- before others: the numbers that the answer to a command gives, if it isn't a repeat
 abbrev pub with_reply : Bool → Reply → List ℕ → List ℕ
 with_reply again reply numbers = cond again [] (numbers_in (reply ∷ [])) ++ numbers
 
@@ -124,6 +147,7 @@ behind-accept state (Regrade job grade by) numbers r = r
 behind-accept state (Rejuvenate job at by) numbers r = r
 behind-accept state (Failed system at why) numbers r = r
 behind-accept state (Done system at jobs) numbers r = r
+behind-accept state (Release system jobs) numbers r = r
 behind-accept state (Entry bytes) numbers r = r
 behind-accept state (Forget system below) numbers r = r
 
@@ -150,6 +174,7 @@ no_repeat state (Regrade job grade by) e = refl
 no_repeat state (Rejuvenate job at by) e = refl
 no_repeat state (Failed system at why) e = refl
 no_repeat state (Done system at jobs) e = refl
+no_repeat state (Release system jobs) e = refl
 no_repeat state (Entry bytes) e = refl
 no_repeat state (Forget system below) e = refl
 
@@ -185,5 +210,6 @@ number_handed state command job it =
     by-command (Rejuvenate job at by) is first = absurd (cc)
     by-command (Failed system at why) is first = absurd (cc)
     by-command (Done system at jobs) is first = absurd (cc)
+    by-command (Release system jobs) is first = absurd (cc)
     by-command (Entry bytes) is first = absurd (cc)
     by-command (Forget system below) is first = absurd (cc)

@@ -1,11 +1,11 @@
--- Reasons that stand in the order in which they are told.
-use Rattle.std.proofs.Common.{◌≡◌, ◌<◌, Bool, true, false, not, cond, ◌&&◌, ltb, List, [], ◌∷◌, Option, Some, None, refl, option_map, arith}
+-- Reasons in the order of their turns.
+use Rattle.std.proofs.Common.{◌≡◌, ◌<◌, Bool, true, false, cond, ◌&&◌, ltb, List, [], ◌∷◌, Option, Some, None, refl, option_map, arith}
 use Rattle.std.specs.List.{list_all}
 use Rattle.std.proofs.lemmas.Bool.{ltb-true}
 use Rattle.std.proofs.lemmas.List.Kept.{AllPairs-cons}
 use Rattle.std.proofs.lemmas.List.Sums.{AllPass-from_list_all}
 use Rattle.uu_core.specs.declared.command.Command.{Command}
-use Rattle.uu_core.specs.declared.command.Command.TheVariants.{Define, Remove, Queue, QueueOnce, Kill, Regrade, Rejuvenate, Failed, Done, Entry, Forget}
+use Rattle.uu_core.specs.declared.command.Command.TheVariants.{Define, Remove, Queue, QueueOnce, Kill, Regrade, Rejuvenate, Failed, Done, Release, Entry, Forget}
 use Rattle.uu_core.specs.declared.custody.Key.{Key}
 use Rattle.uu_core.specs.declared.job.By.{By}
 use Rattle.uu_core.specs.declared.job.NewJob.{NewJob}
@@ -55,5 +55,6 @@ reasons_in_turn state (Regrade job grade by) = job_in_turn (option_map head_of (
 reasons_in_turn state (Rejuvenate job at by) = job_in_turn (option_map head_of (job_at state job)) by
 reasons_in_turn state (Failed system at why) = in_turn (reasons state (Failed system at why)) refl
 reasons_in_turn state (Done system at jobs) = in_turn (reasons state (Done system at jobs)) refl
+reasons_in_turn state (Release system jobs) = in_turn (reasons state (Release system jobs)) refl
 reasons_in_turn state (Entry bytes) = in_turn (reasons state (Entry bytes)) refl
 reasons_in_turn state (Forget system below) = in_turn (reasons state (Forget system below)) refl

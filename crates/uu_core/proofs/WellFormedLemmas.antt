@@ -17,7 +17,7 @@ use Rattle.uu_times.specs.System.{System, HasRetry, IsRetry}
 use Rattle.uu_times.specs.declared.moment.Moment.{Moment}
 use Rattle.uu_times.specs.declared.system.Line.{Line}
 use Rattle.uu_core.specs.declared.command.Command.{Command}
-use Rattle.uu_core.specs.declared.command.Command.TheVariants.{Define, Remove, Queue, QueueOnce, Kill, Regrade, Rejuvenate, Failed, Done, Entry, Forget}
+use Rattle.uu_core.specs.declared.command.Command.TheVariants.{Define, Remove, Queue, QueueOnce, Kill, Regrade, Rejuvenate, Failed, Done, Release, Entry, Forget}
 use Rattle.uu_core.specs.declared.custody.HandIn.TheVariants.{First, Again}
 use Rattle.uu_core.specs.declared.custody.Key.{Key}
 use Rattle.uu_core.specs.declared.custody.Taken.{Taken}
@@ -32,7 +32,7 @@ use Rattle.uu_core.specs.Refusal.{first_reason}
 use Rattle.uu_core.specs.State.{State, Job, MapEntry, Link, IsLink, is_link, link_of, new_link, says_nothing, IsWellFormed, IsJob, IsKind, IsCall, IsDefinition, ComesBefore, same_text, has_system, is_waiting, is_system, system_at, is_job, numbers_end, most_bytes, empty}
 use Rattle.uu_core.specs.Waiting.{one_more, lines_at, limit_at, line_at, retry_minutes, growing_minutes, wait_after}
 use Rattle.uu_core.specs.Verdict.{verdict, is_too_large, has_many_arguments, are_known, taken_of, once_reasons, fresh_reasons}
-use Rattle.uu_core.specs.After.{after, after_verdict, accept, take_in, hand_in_of, with_job, with_taken, forgotten, put_link, is_before, put_by, put_system, call_of, change_job, change_call, job_of, failed_call, done_call, keep_entry, is_among}
+use Rattle.uu_core.specs.After.{after, after_verdict, accept, take_in, hand_in_of, with_job, with_taken, forgotten, put_link, is_before, put_by, put_system, call_of, change_job, change_call, job_of, failed_call, done_call, keep_entry, is_among, is_released}
 use Rattle.uu_core.specs.Run.{state_after}
 use Rattle.uu_core.specs.WellFormed.{IsCommand, IsKey, IsNewJob, HasWords}
 use Rattle.uu_core.proofs.Members.{first_of, later_of, kept, mapped, some_passes, passing_one}
@@ -597,6 +597,7 @@ still-accepted state (Rejuvenate job at by) h good e =
 still-accepted state (Failed system at why) h good e = still-called state h system (λ row. failed_call row at why) (λ row def call. failed-call row at why good def call)
 still-accepted state (Done system at jobs) h good e =
     still-called (record state { jobs = filter (λ (job : Job). not (is_among jobs job)) state.jobs }) (still-filtered state h (λ (job : Job). not (is_among jobs job))) system (λ row. done_call row at) (λ row def call. done-call row at good def)
+still-accepted state (Release system jobs) h good e = still-filtered state h (λ (job : Job). not (is_released system jobs job))
 still-accepted state (Entry bytes) h good e = still-entry state h bytes
 still-accepted state (Forget system below) h good e =
     let known = not_false (has_system state system) (none_first (not (has_system state system)) _ _ e).0 in

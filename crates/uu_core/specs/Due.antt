@@ -42,14 +42,14 @@ due_of job = record { system = job.system; grade = job.grade; number = job.numbe
 abbrev pub ComesFirst : Due → Due → Type 0
 ComesFirst a b = IsTrue (nat_lt a.grade b.grade || (a.grade == b.grade && nat_lt a.number b.number))
 
--- it is that of one of the jobs for which a system is called now
+-- it names one of the jobs for which a system is called now
 pub record IsDue (rows : List SystemRow) (jobs : List JobHead) (at : Moment) (due : Due) : Type 0 where
   pub job : JobHead
   pub there : Contains jobs job
   pub first : is_due rows jobs at job ≡ true
   pub is : due ≡ due_of job
 
--- these and no others, one for each system that is called for a job, by grade and number
+-- these systems and no others, one for each system that is called for a job, by grade and number
 pub record AreDue (rows : List SystemRow) (jobs : List JobHead) (at : Moment) (dues : List Due) : Type 0 where
   pub sound : (due : Due) → Contains dues due → IsDue rows jobs at due
   pub complete : (due : Due) → IsDue rows jobs at due → Contains dues due
@@ -59,15 +59,15 @@ pub record AreDue (rows : List SystemRow) (jobs : List JobHead) (at : Moment) (d
 abbrev pub all_due : List SystemRow → List JobHead → Moment → List Due
 all_due rows jobs at = map due_of (filter (may_go rows at) jobs)
 
--- what is due of a system
+-- what is due for a system
 abbrev pub dues_of : List ℕ → List Due → List Due
 dues_of name dues = filter (λ due. same_text due.system name) dues
 
--- no two jobs have one number, as in every state
+-- no two jobs have the same number, as in every state
 abbrev pub HaveNumbers : List JobHead → Type 0
 HaveNumbers jobs = IsDistinct nat_eq (map (λ job. job.number) jobs)
 
--- the jobs stand by grade and number
+-- the jobs are in order by grade and number
 abbrev pub AreInOrder : List JobHead → Type 0
 AreInOrder jobs = AllPairs (λ a b. goes_before a b ≡ true) jobs
 

@@ -1,5 +1,5 @@
 -- What waits for each system. (That a site's queues are summed up: Taylor UUCP 1.07 manual, on
--- uustat; what is told of each, and in which order, is this project's choice.)
+-- uustat; what is said about each, and in which order, is this project's choice.)
 use Rattle.std.specs.Prelude.{◌≡◌, ℕ, false, List, map, filter, length, sum_by, min, Option, None, Some, [], All, AllPairs, Contains}
 use Rattle.std.specs.List.{reduce}
 use Rattle.uu_core.specs.declared.job.JobHead.{JobHead}
@@ -12,7 +12,7 @@ use Rattle.uu_core.specs.Due.{goes_before}
 abbrev pub jobs_for : List ℕ → List JobHead → List JobHead
 jobs_for system jobs = filter (λ job. same_text job.system system) jobs
 
--- these are the grade and the number of one of the jobs, before which none goes
+-- these are the grade and the number of one of the jobs, and no job goes before it
 pub record IsFirstJob (jobs : List JobHead) (grade number : ℕ) : Type 0 where
   pub job : JobHead
   pub there : Contains jobs job
@@ -20,15 +20,15 @@ pub record IsFirstJob (jobs : List JobHead) (grade number : ℕ) : Type 0 where
   pub number_is : number ≡ job.number
   pub first : All (λ other. goes_before other job ≡ false) jobs
 
--- what some jobs come to, of which there is one at least: how many there are, the sum of their
--- sizes, the first by grade and number, and the second since when the oldest waits
+-- the sums of some jobs, at least one: how many there are, the sum of their sizes, the first by
+-- grade and number, and the second since which the oldest waits
 pub record AreSums (jobs : List JobHead) (sums : Sums) : Type 0 where
   pub count : sums.jobs ≡ length jobs
   pub bytes : sums.bytes ≡ sum_by (λ job. job.size) jobs
   pub first : IsFirstJob jobs sums.grade sums.number
   pub oldest : Some sums.oldest ≡ reduce min (map (λ job. job.queued) jobs)
 
--- what a system's jobs come to, where it has any
+-- the sums of a system's jobs, if it has any
 abbrev pub AreSumsOf : List JobHead → Option Sums → Type 0
 AreSumsOf jobs None = jobs ≡ []
 AreSumsOf jobs (Some sums) = AreSums jobs sums

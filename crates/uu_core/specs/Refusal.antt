@@ -1,4 +1,4 @@
--- Why a command is refused, and in which order the reasons are told.
+-- Why a command is refused, and which of several reasons is the reply.
 use Rattle.std.specs.Prelude.{ℕ, ◌<◌, Bool, List, [], ◌∷◌, codes, AllPairs, Option, Some, None, Result, Ok, Err, if◌then◌else◌}
 use Rattle.uu_core.specs.declared.refusal.Refusal.{Refusal}
 use Rattle.uu_core.specs.declared.refusal.Refusal.TheVariants.{NoSystem, NoJob, NotYours, JobTwice, OtherSystem, Busy, TooLarge, NumbersOut, BadEntry, Stale, Differs}
@@ -31,13 +31,13 @@ refusal_name BadEntry = codes "BadEntry"
 refusal_name Stale = codes "Stale"
 refusal_name Differs = codes "Differs"
 
--- How early a refusal is told where several apply: `TooLarge` first, since it needs no look at the
--- spool, and then by number (this project's choice).
+-- The turn of a refusal if several apply: `TooLarge` first, because it doesn't depend on the spool,
+-- and then by number (this project's choice).
 abbrev pub turn_of : Refusal → ℕ
 turn_of TooLarge = 0
 turn_of refusal = refusal_code refusal
 
--- reasons, each with whether it applies, in the order in which they are told
+-- reasons in their order, each with whether it applies
 abbrev pub AreInTurn : List (Bool × Refusal) → Type 0
 AreInTurn reasons = AllPairs (λ earlier later. turn_of earlier.1 < turn_of later.1) reasons
 
@@ -51,6 +51,6 @@ abbrev pub value_unless : {V : Type 0} → Option Refusal → V → Result V Ref
 value_unless None value = Ok value
 value_unless (Some refusal) value = Err refusal
 
--- the value, unless one of the reasons to refuse it applies: then the first of these
+-- the value, or the first reason to refuse it that applies
 abbrev pub decided : {V : Type 0} → List (Bool × Refusal) → V → Result V Refusal
 decided reasons value = value_unless (first_reason reasons) value

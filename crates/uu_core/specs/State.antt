@@ -36,17 +36,17 @@ pub record MapEntry : Type 0 where
   pub host : List ℕ
   pub bytes : List ℕ
 
--- What is kept of the jobs that a neighbour hands on with a key: the number below which it asks for
--- none again, and those that were taken, each with its number there, by these numbers. (Custody is
--- the word of RFC 5050, 5.10; the key and what is kept of it are this project's choice.)
+-- What is kept about the jobs that a neighbour hands on with a key. That is the number below which
+-- it won't ask again, and the jobs that were taken, in the order of their numbers there. (Custody
+-- is the word of RFC 5050, 5.10; the key and what is kept about it are this project's choice.)
 pub record Link : Type 0 where
   pub name : List ℕ
   pub below : ℕ
   pub taken : List Taken
 
 -- The jobs in the order in which they were accepted, the systems in the order of their names, the
--- entries in that of their hosts, the number of the next job, and the links that say something, in
--- the order of their systems' names.
+-- entries in the order of their hosts, the number of the next job, and the links that say
+-- something, in the order of their systems' names.
 pub record State : Type 0 where
   pub jobs : List Job
   pub systems : List SystemRow
@@ -90,7 +90,7 @@ entry_at state host = find (is_entry host) state.entries
 abbrev pub has_system : State → List ℕ → Bool
 has_system state name = list_any (is_system name) state.systems
 
--- the link of a neighbour of which nothing is kept
+-- the link of a neighbour for which nothing is kept
 abbrev pub new_link : List ℕ → Link
 new_link name = record { name = name; below = 0; taken = [] }
 
@@ -102,7 +102,7 @@ link_of state name = unwrap_or (find (is_link name) state.links) (new_link name)
 abbrev pub taken_at : Link → ℕ → Option Taken
 taken_at link number = find (is_taken number) link.taken
 
--- the link says nothing, as a new one
+-- the link says nothing, like a new one
 abbrev pub says_nothing : Link → Bool
 says_nothing link = link.below == 0 && length link.taken == 0
 
@@ -114,7 +114,7 @@ is_waiting state name = list_any (λ job. same_text job.system name) state.jobs
 abbrev pub head_of : Job → JobHead
 head_of job = record { number = job.number; system = job.system; grade = job.grade; user = job.user; kind = job.kind; queued = job.queued; size = length job.bytes }
 
--- ---- what is true of each state that a spool reaches (the limits are this project's choice)
+-- ---- what holds of each state that a spool reaches (the limits are this project's choice)
 
 -- the last second of a moment
 abbrev pub last_second : ℕ
@@ -178,8 +178,8 @@ pub record IsDefinition (def : System) : Type 0 where
   pub lines : All IsLine def.lines
   pub limits : AreWithinLimits def.lines def.max_retries def.success_wait
 
--- its numbers are those of jobs and marks, and what was taken stands by the numbers there, none of
--- which the neighbour said that it won't ask for again
+-- its numbers are those of jobs and marks; the taken jobs are in order of the numbers there, and
+-- none of these is a number that the neighbour won't ask for again
 pub record IsLink (link : Link) : Type 0 where
   pub below : link.below ≤ numbers_end
   pub says : says_nothing link ≡ false

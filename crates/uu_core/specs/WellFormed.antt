@@ -1,9 +1,9 @@
--- What a command may hold; its types see to it.
+-- What a command may have in it. Its types ensure it.
 use Rattle.std.specs.Prelude.{◌<◌, ◌≤◌, IsTrue, All, ⊤}
 use Rattle.uu_names.specs.Grade.{grade_count}
 use Rattle.uu_names.specs.Name.{is_site_name, is_word}
 use Rattle.uu_core.specs.declared.command.Command.{Command}
-use Rattle.uu_core.specs.declared.command.Command.TheVariants.{Define, Remove, Queue, QueueOnce, Kill, Regrade, Rejuvenate, Failed, Done, Entry, Forget}
+use Rattle.uu_core.specs.declared.command.Command.TheVariants.{Define, Remove, Queue, QueueOnce, Kill, Regrade, Rejuvenate, Failed, Done, Release, Entry, Forget}
 use Rattle.uu_core.specs.declared.custody.Key.{Key}
 use Rattle.uu_core.specs.declared.job.Kind.{Kind}
 use Rattle.uu_core.specs.declared.job.Kind.TheVariants.{Send, Request, Execute}
@@ -29,7 +29,7 @@ pub record IsKey (key : Key) : Type 0 where
   pub number : key.number ≤ numbers_end
   pub mark : key.mark < marks_end
 
--- its names, words, grades, moments and numbers are such
+-- its names, words, grades, moments and numbers are within their limits
 abbrev pub IsCommand : Command → Type 0
 IsCommand (Define def) = IsDefinition def
 IsCommand (Remove name) = ⊤
@@ -40,5 +40,6 @@ IsCommand (Regrade job grade by) = grade < grade_count
 IsCommand (Rejuvenate job at by) = at.second ≤ last_second
 IsCommand (Failed system at why) = (at.second ≤ last_second) × IsTrue (is_word why)
 IsCommand (Done system at jobs) = at.second ≤ last_second
+IsCommand (Release system jobs) = ⊤
 IsCommand (Entry bytes) = ⊤
 IsCommand (Forget system below) = below ≤ numbers_end

@@ -1,5 +1,5 @@
-//! The lowest grade for which each system may be called, kept by name; a system that may not be
-//! called isn't there.
+//! The lowest grade for which each system may be called, kept by name. A system that may not be
+//! called isn't in the map.
 ghost use Rattle.std.specs.Prelude.{◌≡◌, ◌&&◌, ◌||◌, ℕ, List, OnOk, nat_le, max};
 ghost use Rattle.std.specs.Ordering.{nat_cmp};
 ghost use Rattle.std.specs.Cmp.Lexicographic.{slice_cmp};
@@ -17,7 +17,7 @@ fn lower_of(grade: Grade, other: Grade) -> Grade
     grade.max(other)
 }
 
-/// The system may be called for this grade too, and for each that is higher.
+/// The system may be called for this grade too, and for each higher one.
 pub fn lower(
     limits: &mut BTreeMap<SiteName, Grade>,
     name: &SiteName,

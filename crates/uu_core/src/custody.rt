@@ -1,16 +1,16 @@
-// Jobs that a neighbour hands on: a key says which of the neighbour's jobs it is, so that it is
-// queued once, however often the neighbour asks.
+// Jobs that a neighbour hands on. A key says which of the neighbour's jobs it is, so that it is
+// queued once, no matter how often the neighbour asks.
 ghost use Rattle.std.specs.Prelude.{◌≡◌, ℕ, ◌/◌, ◌<◌, SomeIff};
 ghost use Rattle.uu_core.specs.Marks.{marks_end};
 
 use std::marker::Model;
 use uu_names::SiteName;
 
-/// The first number that is no mark.
+/// The first number that isn't a mark.
 const MARKS_END: u64 = 9_223_372_036_854_775_808;
 
-/// What tells one job of a neighbour from another that comes under the same number: a number of 63
-/// bits, seen as that number. It is made of what doesn't change between two attempts.
+/// A mark: a number of 63 bits, seen as that number. It distinguishes jobs that a neighbour hands
+/// on under one number. It is made from what doesn't change between two attempts.
 #[derive(Clone, Copy, Debug, PartialEq, Eq)]
 pub struct Mark {
     number: u64,
@@ -27,7 +27,7 @@ impl Model for Mark {
 }
 
 impl Mark {
-    /// The mark of this number, if it has 63 bits at most.
+    /// The mark of this number, if the number has at most 63 bits.
     pub fn of_number(number: u64) -> Option<Mark>
         ensures { SomeIff result (number < marks_end) number }
     {
@@ -38,7 +38,7 @@ impl Mark {
         }
     }
 
-    /// The mark that the first 64 bits of a digest make: all of them but the last.
+    /// The mark that the first 64 bits of a digest make: all of them except the last.
     pub fn of_digest(bits: u64) -> Mark
         ensures { result ≡ bits / 2 }
     {
@@ -72,14 +72,14 @@ pub struct Taken {
     pub number: u32,
     /// The mark of what was handed in.
     pub mark: Mark,
-    /// The number that it got here, whatever became of it since.
+    /// The number that it got here, even if the job is gone since.
     pub job: u32,
 }
 
-/// What a job comes to that is handed in under a key.
+/// The result for a job that is handed in under a key.
 #[derive(Clone, Copy, Debug)]
 pub enum HandIn {
-    /// It comes for the first time, and is queued under this number.
+    /// It is the first time: the job is queued under this number.
     First(u32),
     /// It was queued before, under this number, and nothing changes.
     Again(u32),

@@ -1,11 +1,11 @@
-// Whether a command is accepted, decided on the rows concerned.
-ghost use Rattle.std.specs.Prelude.{◌≡◌, ◌==◌, is_some, option_copied};
+// Whether a command is accepted, decided from the rows concerned.
+ghost use Rattle.std.specs.Prelude.{◌≡◌, ◌==◌, [], is_some, option_copied};
 ghost use Rattle.std.specs.List.{list_any};
 ghost use Rattle.uu_core.specs.Refusal.{decided};
-ghost use Rattle.uu_core.specs.Verdict.{drop_reasons, queue_reasons, once_reasons, fresh_reasons, known_reasons, job_reasons, has_many_arguments, is_too_large, may_touch, has_repeat, has_number, is_missing_one, has_other, done_reasons};
+ghost use Rattle.uu_core.specs.Verdict.{drop_reasons, queue_reasons, once_reasons, fresh_reasons, key_under, known_reasons, job_reasons, has_many_arguments, is_too_large, may_touch, has_repeat, has_number, is_missing_one, has_other, done_reasons};
 ghost use Rattle.uu_core.specs.After.{failed_decision, done_call_of, hand_in_of};
 
-use crate::custody::{HandIn, Key, Taken};
+use crate::custody::{HandIn, Key, Mark, Taken};
 use crate::job::{By, JobHead, Kind, NewJob};
 use crate::limits::{MAX_ARGUMENTS, MAX_BYTES, MAX_DONE, NUMBERS_END};
 use crate::refusal::Refusal;
@@ -14,11 +14,11 @@ use crate::waiting::{one_more, wait_after};
 use uu_names::{SiteName, Word};
 use uu_times::Moment;
 
-/// Whether a system may be removed, where it is known or not, and a job waits for it or not.
+/// Whether a system may be removed. `known` says whether it is known, and `waiting` whether a job
+/// waits for it.
 ///
 /// # Errors
-/// [`Refusal::NoSystem`] where it is not known, and then [`Refusal::Busy`] where a job waits for
-/// it.
+/// [`Refusal::NoSystem`] if it isn't known. Otherwise [`Refusal::Busy`] if a job waits for it.
 pub fn decide_drop(known: bool, waiting: bool) -> Result<(), Refusal>
     ensures { result ≡ decided (drop_reasons known waiting) tt }
 {
@@ -46,13 +46,13 @@ fn is_too_large(job: &NewJob) -> bool
     job.bytes.as_slice().len() > MAX_BYTES as usize || has_many_arguments(&job.kind)
 }
 
-/// The number of a job that is handed in, where its system is known or not and `next` is the next
-/// number.
+/// The number of a job that is handed in. `known` says whether its system is known, and `next` is
+/// the next number.
 ///
 /// # Errors
-/// [`Refusal::TooLarge`] where the job has more than 1,048,576 bytes or 64 arguments, then
-/// [`Refusal::NoSystem`] where its system is not known, and then [`Refusal::NumbersOut`] where
-/// `next` is 4,294,967,295.
+/// In this order: [`Refusal::TooLarge`] if the job has more than 1,048,576 bytes or 64 arguments,
+/// [`Refusal::NoSystem`] if its system isn't known, and [`Refusal::NumbersOut`] if `next` is
+/// 4,294,967,295.
 pub fn decide_queue(known: bool, next: u32, job: &NewJob) -> Result<u32, Refusal>
     ensures { result ≡ decided (queue_reasons known next job.now) next }
 {
@@ -67,14 +67,14 @@ pub fn decide_queue(known: bool, next: u32, job: &NewJob) -> Result<u32, Refusal
     }
 }
 
-/// What a job comes to that a neighbour hands on under a key, where the neighbour and the job's
-/// system are both known or not, `next` is the next number, the neighbour asks for none `below` a
-/// number again, and `taken` is what was taken from it under the key's number.
+/// The result for a job that a neighbour hands on under a key. `known` says whether the neighbour
+/// and the job's system are both known, and `next` is the next number. The neighbour won't ask
+/// again for a number less than `below`. `taken` is what was taken from it under the key's number.
 ///
 /// # Errors
-/// None where the same was taken. Else, in this order: those of [`decide_queue`],
-/// [`Refusal::Stale`] where the key's number is below `below`, and [`Refusal::Differs`] where
-/// something else was taken.
+/// None if the same job was taken before. Otherwise, in this order: the errors of [`decide_queue`],
+/// [`Refusal::Stale`] if the key's number is less than `below`, and [`Refusal::Differs`] if another
+/// job was taken.
 pub fn decide_queue_once(
     known: bool,
     next: u32,
@@ -85,36 +85,52 @@ pub fn decide_queue_once(
 ) -> Result<HandIn, Refusal>
     ensures { result ≡ decided (once_reasons known next below taken key.now job.now) (hand_in_of taken key.now next) }
 {
+    decide_under(known, next, below, taken, key.number, key.mark, job)
+}
+
+// The same from the key's number and mark: the neighbour's name doesn't matter.
+pub(crate) fn decide_under(
+    known: bool,
+    next: u32,
+    below: u32,
+    taken: Option<Taken>,
+    number: u32,
+    mark: Mark,
+    job: &NewJob,
+) -> Result<HandIn, Refusal>
+    ensures { result ≡ decided (once_reasons known next below taken (key_under [] number mark) job.now) (hand_in_of taken (key_under [] number mark) next) }
+{
     match taken {
-        Some(taken) if taken.mark == key.mark => Ok(HandIn::Again(taken.job)),
-        Some(_) => decide_first(known, next, below, true, key, job),
-        None => decide_first(known, next, below, false, key, job),
+        Some(taken) if taken.mark == mark => Ok(HandIn::Again(taken.job)),
+        Some(_) => decide_first(known, next, below, true, number, job),
+        None => decide_first(known, next, below, false, number, job),
     }
 }
 
-// The same, where the job comes for the first time, and another was taken or not.
+// The same if the job comes for the first time. Another job was taken under its number or not.
 fn decide_first(
     known: bool,
     next: u32,
     below: u32,
     other: bool,
-    key: &Key,
+    number: u32,
     job: &NewJob,
 ) -> Result<HandIn, Refusal>
-    ensures { result ≡ decided (fresh_reasons known next below other key.now job.now) (HandIn.First next) }
+    ensures { result ≡ decided (fresh_reasons known next below other (key_under [] number 0) job.now) (HandIn.First next) }
 {
     match decide_queue(known, next, job) {
         Err(refusal) => Err(refusal),
-        Ok(_) if key.number < below => Err(Refusal::Stale),
+        Ok(_) if number < below => Err(Refusal::Stale),
         Ok(_) if other => Err(Refusal::Differs),
-        Ok(number) => Ok(HandIn::First(number)),
+        Ok(next) => Ok(HandIn::First(next)),
     }
 }
 
-/// Whether a system, which is known or not, may be heard that it won't ask again for some jobs.
+/// Whether a system may say that it won't ask again for some jobs. `known` says whether it is
+/// known.
 ///
 /// # Errors
-/// [`Refusal::NoSystem`] where it is not known.
+/// [`Refusal::NoSystem`] if it isn't known.
 pub fn decide_forget(known: bool) -> Result<(), Refusal>
     ensures { result ≡ decided (known_reasons known) tt }
 {
@@ -134,8 +150,8 @@ fn may_touch(by: &By, job: &JobHead) -> bool
 /// Whether the job of a number, if there is one, may be killed, regraded or rejuvenated.
 ///
 /// # Errors
-/// [`Refusal::NoJob`] where there is none, and [`Refusal::NotYours`] where it is another user's and
-/// `by` is no administrator.
+/// [`Refusal::NoJob`] if there is no such job. [`Refusal::NotYours`] if it belongs to another user
+/// and `by` isn't an administrator.
 pub fn decide_job(job: Option<&JobHead>, by: &By) -> Result<(), Refusal>
     ensures { result ≡ decided (job_reasons (option_copied job.entry) by.now) tt }
 {
@@ -146,10 +162,10 @@ pub fn decide_job(job: Option<&JobHead>, by: &By) -> Result<(), Refusal>
     }
 }
 
-/// The calls of a system, if it is known, after one that failed at this moment for this reason.
+/// The calls of a system, if it is known, after a call that failed at this moment for this reason.
 ///
 /// # Errors
-/// [`Refusal::NoSystem`] where it is not known.
+/// [`Refusal::NoSystem`] if it isn't known.
 pub fn decide_failed(
     system: Option<&SystemRow>,
     at: &Moment,
@@ -192,7 +208,7 @@ fn is_missing_one(numbers: &[u32], jobs: &[JobHead]) -> bool
     numbers.iter().any(|number| !has_number(jobs, *number))
 }
 
-pub(crate) fn is_among(numbers: &[u32], number: u32) -> bool
+fn is_among(numbers: &[u32], number: u32) -> bool
     ensures { result ≡ list_any (λ other. other == number) numbers.now }
 {
     numbers.iter().any(|other| *other == number)
@@ -204,15 +220,14 @@ fn has_other(system: &SiteName, numbers: &[u32], jobs: &[JobHead]) -> bool
     jobs.iter().any(|job| is_among(numbers, job.number) && job.system != *system)
 }
 
-/// The calls of a system, if it is known, after one at this moment in which the jobs of these
-/// numbers went through: it is left alone for its success wait. `found` holds the jobs of the spool
-/// whose numbers are among them.
+/// The calls of a system, if it is known, after a call at this moment that delivered the jobs of
+/// these numbers. The system is left alone for its success wait. `found` has the jobs of the spool
+/// with one of these numbers.
 ///
 /// # Errors
-/// In this order: [`Refusal::TooLarge`] where there are more than 256 numbers,
-/// [`Refusal::NoSystem`] where the system is not known, [`Refusal::NoJob`] where a number has no
-/// job, [`Refusal::JobTwice`] where a number stands twice, and [`Refusal::OtherSystem`] where one
-/// of the jobs waits for another system.
+/// In this order: [`Refusal::TooLarge`] if there are more than 256 numbers, [`Refusal::NoSystem`]
+/// if the system isn't known, [`Refusal::NoJob`] if a number has no job, [`Refusal::JobTwice`] if a
+/// number occurs twice, and [`Refusal::OtherSystem`] if one of the jobs waits for another system.
 pub fn decide_done(
     system: Option<&SystemRow>,
     name: &SiteName,

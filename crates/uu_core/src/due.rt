@@ -35,8 +35,8 @@ fn limit_now(row: &SystemRow, at: &Moment) -> Option<Grade>
     }
 }
 
-// The lowest grade for which each system may be called now; a system that may not be called isn't
-// there.
+// The lowest grade for which each system may be called now. A system that may not be called isn't
+// in the map.
 fn limits(
     alloc: Global,
     rows: &[SystemRow],
@@ -83,10 +83,12 @@ fn list(dues: &mut Vec<Due>, job: &JobHead) -> Result<(), AllocError>
     Ok(())
 }
 
-/// The systems that may be called at this moment and have a job to be called for: not held, and the
-/// first of the system's jobs by grade and number has a grade within its limit. They stand by grade
-/// and number of these jobs. For jobs of which no two have one number, as in every spool. Takes one
-/// sort, and for each job and system a look-up.
+/// The systems that may be called at this moment and have a job to be called for. Such a system
+/// isn't held, and the first of its jobs by grade and number has a grade within its limit. The list
+/// is in the order of these jobs, by grade and number.
+///
+/// No two jobs may have the same number, as in every spool. The cost is one sort, and a look-up for
+/// each job and system.
 pub fn choose(
     alloc: Global,
     rows: &[SystemRow],
@@ -107,7 +109,7 @@ pub fn choose(
     Ok(dues)
 }
 
-// Adds the job where its system may be called for it.
+// Adds the job if its system may be called for it.
 fn list_free(
     free: &BTreeMap<SiteName, Grade>,
     dues: &mut Vec<Due>,
@@ -122,9 +124,9 @@ fn list_free(
     Ok(())
 }
 
-/// The jobs that may go at this moment, in their order: those whose system is not held and has a
-/// limit that reaches their grade. Of the jobs of one system, by grade and number, the first is the
-/// one that [`choose`] tells of it ([`the_first_to_go_is_due`](crate::laws::the_first_to_go_is_due)).
+/// The jobs that may go at this moment, in their order: their system isn't held, and their grade is
+/// within its limit. If they are in order by grade and number, the first one of a system is the one
+/// that [`choose`] gives ([`the_first_to_go_is_due`](crate::laws::the_first_to_go_is_due)).
 pub fn all_due(
     alloc: Global,
     rows: &[SystemRow],

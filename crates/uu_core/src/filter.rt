@@ -3,7 +3,7 @@ ghost use Rattle.std.specs.Prelude.{◌≡◌, None, option_map};
 
 use uu_names::{SiteName, Word};
 
-/// Which jobs are listed: those that fit both, where an absent one is fitted by every job.
+/// Which jobs are listed: those that match both fields. Every job matches an absent field.
 #[derive(Debug, Drop)]
 pub struct Filter {
     /// The system that the jobs are for.
@@ -13,7 +13,7 @@ pub struct Filter {
 }
 
 impl Filter {
-    /// The filter that every job fits.
+    /// The filter that every job matches.
     pub fn all() -> Filter
         ensures system { result.system ≡ None }
         ensures user { result.user ≡ None }
@@ -24,7 +24,7 @@ impl Filter {
         }
     }
 
-    /// The system's name, where one is wanted.
+    /// The system's name, if one is given.
     pub fn system_text(&self) -> Option<&str>
         ensures { option_map (λ text. text.now) result ≡ self.now.system }
     {
@@ -34,7 +34,7 @@ impl Filter {
         }
     }
 
-    /// The user, where one is wanted.
+    /// The user, if one is given.
     pub fn user_text(&self) -> Option<&str>
         ensures { option_map (λ text. text.now) result ≡ self.now.user }
     {

@@ -2,7 +2,7 @@
 use uu_names::{Grade, Listed, SiteName, Word};
 use uu_times::Moment;
 
-/// Who gives a command. The name is taken as given.
+/// Who gives a command. The name isn't checked.
 #[derive(Debug, Drop)]
 pub struct By {
     /// The user's name.
@@ -21,7 +21,7 @@ pub enum Kind {
         /// The file there.
         target: Word,
     },
-    /// A file comes from the system.
+    /// A file is fetched from the system.
     Request {
         /// The file there.
         source: Word,
@@ -44,7 +44,7 @@ pub struct NewJob {
     pub system: SiteName,
     /// Its grade.
     pub grade: Grade,
-    /// Whose it is.
+    /// The user that it belongs to.
     pub user: Word,
     /// What it is for.
     pub kind: Kind,
@@ -63,7 +63,7 @@ pub struct JobHead {
     pub system: SiteName,
     /// Its grade.
     pub grade: Grade,
-    /// Whose it is.
+    /// The user that it belongs to.
     pub user: Word,
     /// What it is for.
     pub kind: Kind,

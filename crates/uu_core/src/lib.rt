@@ -1,6 +1,6 @@
-//! The spool of a UUCP site as a plain machine: its commands, what refuses them, how long a system
-//! is left alone after a failed call, and which job each system is called for next. No file, no
-//! clock, no store.
+//! The spool of a UUCP site as a plain machine. It has the commands, the reasons why they are
+//! refused, the time for which a system is left alone after a failed call, and the job for which
+//! each system is called next. It has no file, clock or store.
 #![tactic(auto)]
 
 pub mod callable;
@@ -14,12 +14,12 @@ mod job;
 pub mod laws;
 pub mod limits;
 mod next_call;
-pub mod plain;
 mod queue;
 mod refusal;
 mod sound;
 mod subject;
 mod system;
+mod take_in;
 mod waiting;
 mod weeks;
 
@@ -29,14 +29,15 @@ pub use decide::{
     decide_done, decide_drop, decide_failed, decide_forget, decide_job, decide_queue,
     decide_queue_once,
 };
-pub use definition::definitions;
+pub use definition::{definitions, pick_systems};
 pub use due::{Due, all_due, choose};
 pub use filter::Filter;
 pub use job::{By, JobHead, Kind, NewJob};
-pub use next_call::{NextCall, Why, next_calls};
+pub use next_call::{NextCall, NextPoll, Why, next_calls, next_polls};
 pub use queue::{Queue, Sums, queues};
 pub use refusal::Refusal;
 pub use subject::Subject;
 pub use system::{CallState, Outcome, SystemRow};
+pub use take_in::{Offered, TakeIn, Taking};
 pub use uu_names::Listed;
 pub use waiting::{held, limit};

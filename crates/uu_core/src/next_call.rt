@@ -1,13 +1,13 @@
 // When each system can next be called, and for which job.
-ghost use Rattle.std.specs.Prelude.{◌≡◌, ◌+◌, ◌*◌, ◌≤◌, ◌/◌, ◌&&◌, ◌==◌, not, nat_le, min, max, length, IfOk, All, if◌then◌else◌};
+ghost use Rattle.std.specs.Prelude.{◌≡◌, ◌+◌, ◌*◌, ◌≤◌, ◌/◌, ◌&&◌, ◌==◌, not, nat_le, min, max, length, true, IfOk, IfSome, All, if◌then◌else◌};
 ghost use Rattle.std.specs.Int.{div_ceil};
 ghost use Rattle.std.specs.List.{list_any};
 ghost use Rattle.uu_times.specs.Moment.{last_second};
 ghost use Rattle.uu_times.specs.Ranges.{holds};
 ghost use Rattle.uu_core.specs.Waiting.{limit_at, is_held};
 ghost use Rattle.uu_core.specs.Due.{is_within};
-ghost use Rattle.uu_core.specs.Plain.{AreByName};
-ghost use Rattle.uu_core.specs.NextCalls.{week_at, limit_by, limit_in, free_from, is_callable, IsLeast, why_by, IsToldOf, AreNextCalls, IsAhead, turn_of, IsFirstOpen};
+ghost use Rattle.uu_core.specs.Order.{AreByName};
+ghost use Rattle.uu_core.specs.NextCalls.{week_at, limit_by, limit_in, free_from, is_callable, is_looked_at, is_looked_at_before, looked_ahead, highest, IsLeast, IsGreatest, why_by, IsReason, IsToldOf, IsPollToldOf, AreNextCalls, AreNextPolls, IsAhead, IsInTime, IsPollAhead, turn_of, poll_turn, IsFirstOpen};
 
 use crate::job::JobHead;
 use crate::queue::{Sums, sums_by_system};
@@ -22,16 +22,16 @@ use uu_times::{Line, Moment, Zone};
 /// How many seconds ahead are looked at: 28 days.
 const LOOKED_AHEAD: u64 = 2_419_200;
 
-/// Why a system is called for a job, or why not now.
+/// Why a system is called for a job, or why not.
 #[derive(Clone, Copy, Debug, PartialEq, Eq)]
 pub enum Why {
     /// It may be called for the job now.
     Due,
     /// It is left alone after a call.
     Held,
-    /// No time line of it is open.
+    /// None of its time lines is open.
     Closed,
-    /// The time lines that are open are for higher grades.
+    /// Its open time lines are for higher grades.
     Grade,
 }
 
@@ -44,10 +44,23 @@ pub struct NextCall {
     pub grade: Grade,
     /// The job's number.
     pub number: u32,
-    /// The first of the seconds looked at at which the system may be called for the job, if there
-    /// is one.
+    /// The first of the seconds looked at when the system may be called for the job, if there is
+    /// one.
     pub second: Option<u64>,
-    /// Whether it may be called for the job now, or why not.
+    /// Why it isn't called for the job earlier: the reason that ends last, or `Due` if it may be
+    /// called now.
+    pub why: Why,
+}
+
+/// When a system can next be called, with a job or without one.
+#[derive(Debug, Drop)]
+pub struct NextPoll {
+    /// The system.
+    pub system: SiteName,
+    /// The first of the seconds looked at when the system may be called for any grade, if there is
+    /// one.
+    pub second: Option<u64>,
+    /// Why it isn't called earlier: the reason that ends last, or `Due` if it may be called now.
     pub why: Why,
 }
 
@@ -93,8 +106,8 @@ fn may_be_called(row: &SystemRow, grade: Grade, second: u64, week: u16) -> bool
     !held_at(&row.call, second) && reaches(row.def.lines.as_slice(), week, grade)
 }
 
-// The first of these minutes, counted from 1970-01-01 00:00 UTC, as whose second 0 the system may
-// be called for the grade.
+// The first of these minutes, counted from 1970-01-01 00:00 UTC, in whose first second the system
+// may be called for the grade.
 fn first_open(
     row: &SystemRow,
     grade: Grade,
@@ -117,14 +130,14 @@ fn first_open(
     Ok(None)
 }
 
-// The second, or the end of the system's wait where that lies ahead.
+// The second, or the end of the system's wait if that is later.
 fn free_from(call: &CallState, second: u64) -> u64
     ensures { result ≡ min (free_from call.now second) u64.MAX }
 {
     call.last.saturating_add(call.wait).max(second)
 }
 
-// The first minute to look at: the next one, and of a system that is held the first one after its
+// The first minute to look at: the next one, or, if the system is held, the first one after its
 // wait, which ends at the second `free`.
 fn first_minute(call: &CallState, now: u64, free: u64) -> u64
     ensures { result ≡ (if is_held call.now now then max (now / 60 + 1) (div_ceil free 60) else now / 60 + 1) }
@@ -137,7 +150,7 @@ fn first_minute(call: &CallState, now: u64, free: u64) -> u64
     }
 }
 
-// The first of the seconds looked at at which the system may be called for the grade.
+// The first of the seconds looked at when the system may be called for the grade.
 fn next_second(
     row: &SystemRow,
     grade: Grade,
@@ -163,21 +176,53 @@ fn next_second(
     first_open(row, grade, from, last / 60 + 1, weeks)
 }
 
-// Why the system is called for the grade at a moment, or why not.
-fn why_at(row: &SystemRow, grade: Grade, at: &Moment) -> Why
-    ensures { result ≡ why_by row.now grade at.now.second at.now.week }
+// The last second that may be looked at.
+fn last_looked_at(call: &CallState, now: u64) -> u64
+    requires { now ≤ last_second }
+    ensures { result ≡ min (free_from call.now now + looked_ahead) last_second }
 {
-    if held(&row.call, at) {
-        return Why::Held;
-    }
-    match limit(row.def.lines.as_slice(), at.week) {
-        None => Why::Closed,
-        Some(limit) if grade <= limit => Why::Due,
-        Some(_) => Why::Grade,
+    let free = free_from(call, now).min(LAST_SECOND);
+    (free + LOOKED_AHEAD).min(LAST_SECOND)
+}
+
+// The last of the seconds looked at before the next call: the minute before it, or the last of all
+// if no call comes. It isn't before the present second.
+fn last_before(call: &CallState, now: u64, next: Option<u64>) -> u64
+    requires in_range { now ≤ last_second }
+    requires looked_at { IfSome next (λ second. is_looked_at call.now now second ≡ true) }
+    ensures last { IsGreatest (is_looked_at_before call.now now next) result }
+    ensures in_range { result ≤ last_second }
+{
+    match next {
+        Some(second) => now.max(second.saturating_sub(60)),
+        None => now.max(last_looked_at(call, now) / 60 * 60),
     }
 }
 
-// When a system can next be called, whose jobs come to these sums.
+// Why the system is, or isn't, called for the grade at a second, which is in this minute of the
+// week.
+fn why_at(row: &SystemRow, grade: Grade, second: u64, week: u16) -> Why
+    ensures { result ≡ why_by row.now grade second week }
+{
+    match limit(row.def.lines.as_slice(), week) {
+        None => Why::Closed,
+        Some(limit) if grade > limit => Why::Grade,
+        Some(_) if held_at(&row.call, second) => Why::Held,
+        Some(_) => Why::Due,
+    }
+}
+
+// Why the system isn't called for the grade before its next call, or `Due` if it is called now.
+fn reason(row: &SystemRow, grade: Grade, now: u64, next: Option<u64>, zone: &Zone) -> Why
+    requires in_range { now ≤ last_second }
+    requires least { IsLeast (is_callable zone.now row.now grade now) next }
+    ensures { IsReason zone.now row.now grade now next result }
+{
+    let last = last_before(&row.call, now, next);
+    why_at(row, grade, last, moment_at(last, zone).week)
+}
+
+// When a system can next be called, if its jobs have these sums.
 fn next_call(
     alloc: Global,
     row: &SystemRow,
@@ -185,6 +230,7 @@ fn next_call(
     at: &Moment,
     weeks: &mut Weeks<'_>,
 ) -> Result<NextCall, AllocError>
+    requires in_range { at.now.second ≤ last_second }
     requires week { at.now.week ≡ week_at weeks.old.zone.now at.now.second }
     requires first { weeks.old.first ≤ at.now.second / 60 + 1 }
     ensures told { IfOk result (IsToldOf weeks.old.zone.now row.now at.now.second) }
@@ -200,12 +246,31 @@ fn next_call(
         grade: sums.grade,
         number: sums.number,
         second,
-        why: why_at(row, sums.grade, at),
+        why: reason(row, sums.grade, at.second, second, weeks.zone),
     })
 }
 
-// What the calls are ordered by: the second, then the job's grade and number. Those that never come
-// are all last.
+// When a system can next be called for the highest grade.
+fn next_poll(row: &SystemRow, at: &Moment, weeks: &mut Weeks<'_>) -> Result<NextPoll, AllocError>
+    requires in_range { at.now.second ≤ last_second }
+    requires week { at.now.week ≡ week_at weeks.old.zone.now at.now.second }
+    requires first { weeks.old.first ≤ at.now.second / 60 + 1 }
+    ensures told { IfOk result (IsPollToldOf weeks.old.zone.now row.now at.now.second) }
+    ensures zone { weeks.new.zone ≡ weeks.old.zone }
+    ensures first { weeks.new.first ≡ weeks.old.first }
+{
+    let system = row.def.name.clone()?;
+    let grade = Grade::of_rank(0).unwrap();
+    let second = next_second(row, grade, at, weeks)?;
+    Ok(NextPoll {
+        system,
+        second,
+        why: reason(row, grade, at.second, second, weeks.zone),
+    })
+}
+
+// The key by which calls are sorted: the second, then the job's grade and number. Those that never
+// come are last.
 fn turn(call: &NextCall) -> (u64, u8, u32)
     ensures { result ≡ turn_of call.now }
 {
@@ -215,19 +280,22 @@ fn turn(call: &NextCall) -> (u64, u8, u32)
     }
 }
 
-/// When each system that has a job can next be called from the second `now` on, for the first of
-/// its jobs by grade and number, and why it isn't called now.
+/// For each system that has a job: when it can next be called, from the second `now` on, for the
+/// first of its jobs by grade and number. It also says why not before. Of several reasons it is the
+/// one that ends last, which is the reason at the last second before the call.
 ///
-/// The seconds looked at are `now` and each later one that is a whole minute of UTC, up to 28 days
-/// after it or, where the end of the system's wait lies ahead, after that; none past the last
-/// moment. The calls stand by their seconds, then by grade and number; last are the systems that
-/// can't be called at any of these seconds, by the bytes of their names.
+/// The seconds looked at are `now` and each later whole minute of UTC, up to 28 days after `now`.
+/// If the system's wait ends after `now`, they go up to 28 days after that end. None is after the
+/// last moment. The calls are in order of their seconds, then by grade and number. Systems that
+/// can't be called at any of these seconds come last, in order of the bytes of their names.
 ///
-/// For systems that stand by the bytes of their names, no two of one name, as in every spool. Takes
-/// a look-up for each job and system, one sort, and for each system that can't be called at once,
-/// and has a line for the job that is open at any time, a look at its time lines for each minute up
-/// to then. The clock is asked once for each minute from `now` to the last one that is looked at,
-/// and two bytes are kept of its answer.
+/// The systems have to be in order of the bytes of their names, no two with the same name, as in
+/// every spool.
+///
+/// The cost is a look-up for each job and system, and one sort. If a system can't be called at
+/// once, but has a line for the job that is open at some time, its time lines are looked at for
+/// each minute up to its next call. The clock's rule is used once for each minute from `now` to the
+/// last one looked at, with two bytes kept for each, and once more for each system.
 pub fn next_calls(
     alloc: Global,
     rows: &[SystemRow],
@@ -248,7 +316,47 @@ pub fn next_calls(
             calls.push(next_call(alloc, row, sums, &at, &mut weeks)?)?;
         }
     }
-    // The sort is stable, so that those that never come stay in the order of the names.
+    // The sort is stable, so the systems that are never called stay in the order of their names.
     calls.sort_by_key(|call| turn(call))?;
     Ok(calls)
+}
+
+// The key by which polls are sorted: the second. Those that never come are last.
+fn turn_of_poll(poll: &NextPoll) -> u64
+    ensures { result ≡ poll_turn poll.now }
+{
+    match poll.second {
+        Some(second) => second,
+        None => u64::MAX,
+    }
+}
+
+/// For each of these systems: when it can next be called, from the second `now` on, with a job or
+/// without one. That is when it can be called for the highest grade, and so for any grade at all.
+/// It also says why not before, as [`next_calls`] does.
+///
+/// The seconds looked at are those of [`next_calls`]. The polls are in order of their seconds, then
+/// of the bytes of the names. Systems that can't be called at any of these seconds come last.
+///
+/// The systems have to be in order of the bytes of their names, no two with the same name, as in
+/// every spool. The cost is that of [`next_calls`].
+pub fn next_polls(
+    alloc: Global,
+    rows: &[SystemRow],
+    now: u64,
+    zone: &Zone,
+) -> Result<Vec<NextPoll>, AllocError>
+    requires { now ≤ last_second }
+    ensures polls { IfOk result (λ polls. AreByName (λ row. row.def.name) rows.now → AreNextPolls zone.now rows.now now polls.items) }
+    ensures ahead { IfOk result (λ polls. All (IsPollAhead now) polls.items) }
+{
+    let at = moment_at(now, zone);
+    let mut weeks = Weeks::from_minute(alloc, zone, now / 60 + 1);
+    let mut polls = Vec::new(alloc);
+    for row in rows {
+        polls.push(next_poll(row, &at, &mut weeks)?)?;
+    }
+    // The sort is stable, so the polls of one second stay in the order of the names.
+    polls.sort_by_key(|poll| turn_of_poll(poll))?;
+    Ok(polls)
 }

@@ -11,7 +11,7 @@ use std::alloc::{AllocError, Global};
 use std::collections::BTreeMap;
 use uu_names::{Grade, SiteName};
 
-/// What some jobs come to.
+/// The sums of some jobs.
 #[derive(Clone, Copy, Debug, PartialEq, Eq)]
 pub struct Sums {
     /// How many there are.
@@ -22,7 +22,7 @@ pub struct Sums {
     pub grade: Grade,
     /// The number of the first of them, by grade and number.
     pub number: u32,
-    /// Since when the oldest waits: the least second at which one was handed in, or rejuvenated.
+    /// When the oldest was handed in or rejuvenated: the least such second.
     pub oldest: u64,
 }
 
@@ -31,11 +31,10 @@ pub struct Sums {
 pub struct Queue {
     /// The system.
     pub system: SiteName,
-    /// What its jobs come to.
+    /// The sums of its jobs.
     pub sums: Sums,
 }
 
-// The size of a job.
 fn size_of(job: &JobHead) -> u128
     ensures value { result ≡ job.now.size }
     ensures small { result < 2 ^ 32 }
@@ -43,7 +42,6 @@ fn size_of(job: &JobHead) -> u128
     u128::from(job.size)
 }
 
-// What one job comes to.
 fn sums_of(job: &JobHead) -> Sums
     ensures sums { AreSums (job.now ∷ []) result }
     ensures small { result.bytes < 2 ^ 32 }
@@ -57,7 +55,7 @@ fn sums_of(job: &JobHead) -> Sums
     }
 }
 
-// What some jobs and one more come to.
+// The sums of some jobs and one more.
 fn sums_with(sums: Sums, job: &JobHead) -> Sums
     requires jobs { sums.jobs + 1 < 2 ^ 64 }
     requires bytes { sums.bytes + 2 ^ 32 < 2 ^ 128 }
@@ -78,7 +76,7 @@ fn sums_with(sums: Sums, job: &JobHead) -> Sums
     }
 }
 
-// What the jobs of each system come to; a system without jobs isn't there.
+// The sums of each system's jobs. A system without jobs isn't in the map.
 pub(crate) fn sums_by_system(
     alloc: Global,
     jobs: &[JobHead],
@@ -96,8 +94,8 @@ pub(crate) fn sums_by_system(
     Ok(by_system)
 }
 
-/// What waits for each system that has a job, by the bytes of their names. Takes a look-up for each
-/// job.
+/// What waits for each system that has a job, in order of the bytes of their names. The cost is a
+/// look-up for each job.
 pub fn queues(alloc: Global, jobs: &[JobHead]) -> Result<Vec<Queue>, AllocError>
     ensures { IfOk result (λ queues. AreQueues jobs.now queues.items) }
 {

@@ -4,8 +4,8 @@ ghost use Rattle.uu_core.specs.Refusal.{refusal_code, refusal_name};
 
 use thiserror::Error;
 
-/// Why a command is refused. A refused command changes nothing. Where several reasons apply,
-/// [`Refusal::TooLarge`] is told first, and else the one that stands first here.
+/// Why a command is refused. A refused command changes nothing. If several reasons apply, the
+/// refusal is [`Refusal::TooLarge`], or else the first of them in this order.
 #[derive(Clone, Copy, Debug, PartialEq, Eq, Error)]
 pub enum Refusal {
     /// There is no such system.

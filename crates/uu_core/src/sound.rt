@@ -1,13 +1,15 @@
-// What the types of a command see to.
-ghost use Rattle.std.specs.Prelude.{◌<◌, ◌≤◌, All, IsTrue};
-ghost use Rattle.uu_names.specs.Name.{is_word};
+// What holds of each value of a command's types.
+ghost use Rattle.std.specs.Prelude.{◌<◌, ◌≤◌, ℕ, List, All, IsTrue};
+ghost use Rattle.uu_names.specs.Name.{is_site_name, is_word};
 ghost use Rattle.uu_core.specs.Marks.{marks_end};
 ghost use Rattle.uu_core.specs.State.{IsDefinition, IsLine, numbers_end};
+ghost use Rattle.uu_core.specs.TakeIns.{offering, commands_in};
 ghost use Rattle.uu_core.specs.WellFormed.{IsCommand, IsKey, IsNewJob, HasWords};
 
 use crate::command::Command;
 use crate::custody::{Key, Mark};
 use crate::job::{Kind, NewJob};
+use crate::take_in::{Offered, TakeIn};
 use uu_names::Word;
 use uu_names::laws::{grade_is_sound, name_is_sound, word_is_sound};
 use uu_times::laws::windows_are_sound;
@@ -65,7 +67,7 @@ fn number_is_sound(number: u32)
     ensures { number ≤ numbers_end }
 {}
 
-/// A value of type [`Mark`] has 63 bits at most.
+/// A value of type [`Mark`] has at most 63 bits.
 pub fn mark_is_sound(mark: &Mark)
     ensures { mark.now < marks_end }
 {
@@ -80,8 +82,8 @@ fn key_is_sound(key: &Key)
     mark_is_sound(&key.mark);
 }
 
-/// The names, words, grades, moments and numbers of each command are such, as its types see to it:
-/// a command of this type keeps a spool well-formed.
+/// The types of a command keep its names, words, grades, moments and numbers within their limits.
+/// So each command keeps a spool well-formed.
 pub fn commands_are_sound(command: &Command)
     ensures { IsCommand command.now }
 {
@@ -99,6 +101,27 @@ pub fn commands_are_sound(command: &Command)
         | Command::Kill { .. }
         | Command::Rejuvenate { .. }
         | Command::Done { .. }
+        | Command::Release { .. }
         | Command::Entry(_) => {}
+    }
+}
+
+fn offered_is_sound(offered: &Offered)
+    ensures { (from : List ℕ) → IsTrue (is_site_name from) → IsCommand (offering from offered.now) }
+{
+    number_is_sound(offered.number);
+    mark_is_sound(&offered.mark);
+    job_is_sound(&offered.job);
+}
+
+/// The types of a bundle keep its commands within their limits, as [`commands_are_sound`] says for
+/// each.
+pub fn take_ins_are_sound(it: &TakeIn)
+    ensures { All IsCommand (commands_in it.now) }
+{
+    name_is_sound(&it.from);
+    number_is_sound(it.below);
+    for offered in it.jobs.as_slice() {
+        offered_is_sound(offered);
     }
 }

@@ -19,7 +19,7 @@ pub enum Outcome {
 pub struct CallState {
     /// When the last call was reported, in UTC seconds.
     pub last: u64,
-    /// The failures in a row, counted up to 1,000,000 and no further.
+    /// The failures in a row, counted up to 1,000,000.
     pub failures: u32,
     /// How many seconds after `last` the system is left alone.
     pub wait: u64,

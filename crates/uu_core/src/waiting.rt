@@ -1,4 +1,4 @@
-// How low a grade a system is called for, and how long it is left alone after a failed call.
+// The lowest grade for which a system is called, and how long it is left alone after a failed call.
 ghost use Rattle.std.specs.Prelude.{◌≡◌, ◌==◌, ◌&&◌, find, option_copied};
 ghost use Rattle.uu_times.specs.Ranges.{holds};
 ghost use Rattle.uu_core.specs.Waiting.{limit_at, line_at, one_more, growing_minutes, retry_minutes, wait_minutes, wait_after, is_held};
@@ -8,12 +8,12 @@ use crate::system::CallState;
 use uu_names::Grade;
 use uu_times::{Line, Moment, SystemDef};
 
-/// The minutes of a day, which a system waits at least from its last retry on.
+/// The minutes of a day, which is the least wait after `max-retries` failures.
 const DAY: u32 = 1440;
 
-/// The lowest grade for which a system with these time lines is called at a minute of the week: the
-/// grade of greatest rank among the lines whose windows hold the minute, and none where no line
-/// does (Taylor UUCP 1.07 manual, `timegrade`).
+/// The lowest grade for which a system with these time lines is called at a minute of the week. It
+/// is the grade of greatest rank among the lines whose windows contain the minute. `None` if no
+/// line's windows do (Taylor UUCP 1.07 manual, `timegrade`).
 pub fn limit(lines: &[Line], week: u16) -> Option<Grade>
     ensures { result ≡ limit_at lines.now week }
 {
@@ -30,7 +30,7 @@ pub fn limit(lines: &[Line], week: u16) -> Option<Grade>
 }
 
 /// Whether the system is left alone at a moment: its wait has begun and isn't over. A moment before
-/// `last`, as after a clock was set back, never holds a system (this project's choice).
+/// `last` never holds a system; there is one if the clock was set back (this project's choice).
 pub fn held(call: &CallState, at: &Moment) -> bool
     ensures { result ≡ is_held call.now at.now.second }
 {
@@ -44,7 +44,7 @@ pub(crate) fn held_at(call: &CallState, second: u64) -> bool
     call.last <= second && second - call.last < call.wait
 }
 
-// The first line of the lowest grade among those whose windows hold the minute.
+// Among the lines whose windows contain the minute, the first of the lowest grade.
 fn line_at(lines: &[Line], week: u16) -> Option<&Line>
     ensures { option_copied result ≡ line_at lines.now week }
 {

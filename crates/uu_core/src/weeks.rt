@@ -6,13 +6,13 @@ ghost use Rattle.uu_core.specs.NextCalls.{week_at};
 use std::alloc::{AllocError, Global};
 use uu_times::{Moment, Zone};
 
-/// The most minutes whose answers are kept: the longest wait after a call, which is a year, the 28
-/// days that are looked at after it, and as many before it, where a clock was set back.
+/// The most minutes that are kept. These are the longest wait after a call, which is a year, the 28
+/// days that are looked at after it, and 28 days before it, in case the clock was set back.
 const MOST_KEPT: u64 = 40_320 + 525_600 + 40_320;
 
-/// The minutes of the week at minutes of UTC, which are counted from 1970-01-01 00:00 on. The clock
-/// is asked once for each of the first `MOST_KEPT`, and each time for a later one, which is looked
-/// at only where a clock was set back by more than 28 days and no line was open within them.
+/// The minutes of the week at minutes of UTC, which are counted from 1970-01-01 00:00 on. The first
+/// `MOST_KEPT` are computed once each. A later one is computed each time; it is looked at only if
+/// the clock was set back by more than 28 days and no line was open within them.
 #[derive(Drop)]
 pub(crate) struct Weeks<'a> {
     /// The site's clock.
@@ -24,7 +24,7 @@ pub(crate) struct Weeks<'a> {
 }
 
 impl<'a> Weeks<'a> {
-    /// Those from this minute on, none of which is known yet.
+    /// The minutes from this one on, before any of them is computed.
     pub(crate) fn from_minute(alloc: Global, zone: &'a Zone, first: u64) -> Weeks<'a>
         ensures zone { result.zone.now ≡ zone.now }
         ensures first { result.first ≡ first }

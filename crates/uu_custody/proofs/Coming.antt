@@ -1,8 +1,8 @@
 -- What becomes of the jobs, by the law of custody.
 use Rattle.std.proofs.Common.{◌≡◌, ◌<◌, inl, inr, ℕ, Bool, true, false, cond, nat_le, List, [], ◌∷◌, ◌++◌, map, All, AllPairs, Contains, Option, Some, None, refl, sym, ap, subst, ◌∙◌, append_assoc, ◌+◌}
-use Rattle.std.proofs.lemmas.List.Elements.{All-nil, All-cons, All-head, All-tail, Contains-append_cases}
+use Rattle.std.proofs.lemmas.List.Elements.{Contains-append_cases}
 use Rattle.uu_core.specs.declared.command.Command.{Command}
-use Rattle.uu_core.specs.declared.command.Command.TheVariants.{Define, Remove, Queue, QueueOnce, Kill, Regrade, Rejuvenate, Failed, Done, Entry, Forget}
+use Rattle.uu_core.specs.declared.command.Command.TheVariants.{Define, Remove, Queue, QueueOnce, Kill, Regrade, Rejuvenate, Failed, Done, Release, Entry, Forget}
 use Rattle.uu_core.specs.declared.command.Reply.TheVariants.{Number, Refused}
 use Rattle.uu_core.specs.declared.job.NewJob.{NewJob}
 use Rattle.uu_core.specs.declared.custody.Key.{Key}
@@ -12,32 +12,14 @@ use Rattle.uu_core.specs.Verdict.{verdict}
 use Rattle.uu_core.specs.After.{after, after_verdict, job_of}
 use Rattle.uu_core.specs.Run.{state_after}
 use Rattle.uu_core.specs.Laws.{accepted_of, unless_refused, lets_go, IsAmong, is_repeat, IsFirstUnder}
-use Rattle.uu_core.specs.Custody.{Parcel, Crossing, Handed, World, Step, MayGoOn, world_after, start, IsReached, IsOf, IsNotLost, IsFree, added}
-use Rattle.uu_store.specs.Exchanges.{Passes}
-use Rattle.uu_custody.specs.Events.{Event, Session, Noted, sender, receiver, just_opened, with_first, begin_answered, ended, sessions_at, exchanges_at, answered, stopped, noticed, PassesTruly, KeepsToWire, nothing_sent, ForgetsWhatWasSaid}
+use Rattle.uu_handover.specs.Custody.{Parcel, Crossing, Handed, World, Step, MayGoOn, world_after, start, IsReached, IsOf, IsNotLost, IsFree, added}
+use Rattle.uu_custody.specs.Events.{Event, sender, receiver, sessions_at, PassesTruly, KeepsToWire, nothing_sent, ForgetsWhatWasSaid}
 use Rattle.uu_store.specs.Acknowledged.{WasLetGo}
 use Rattle.uu_custody.specs.Handovers.{handed_of, handed_in, Waited, IsKeptOrGone, IsInCustody, IsOfWaiting, AreOfWorld, ComeOnce, NothingIsInTheWay}
 use Rattle.uu_store.proofs.Acknowledging.{Placed}
 use Rattle.uu_custody.proofs.Lists.{later_of, none_in, all_from, from_filter, from_map, all_or_one}
-use Rattle.uu_custody.proofs.Sessions.{truly}
 use Rattle.uu_custody.proofs.Steps.{world_on, may_first, may_second, Proceeds}
 use Rattle.uu_custody.proofs.Proceeding.{proceeds}
-
--- the receiver sends no notices
-silent : (events : List Event) → All (λ (session : Session). session.noted ≡ []) (sessions_at receiver events)
-silent [] = All-nil (λ (session : Session). session.noted ≡ [])
-silent (answered sender command reply ∷ events) = silent events
-silent (answered receiver command reply ∷ events) = by-sessions (sessions_at receiver events) (silent events)
-  where
-    by-sessions : (sessions : List Session) → All (λ (session : Session). session.noted ≡ []) sessions → All (λ (session : Session). session.noted ≡ []) (with_first (begin_answered command reply) sessions)
-    by-sessions [] none = All-cons (λ (session : Session). session.noted ≡ []) (begin_answered command reply just_opened) [] refl none
-    by-sessions (session ∷ sessions) none =
-        All-cons (λ (session : Session). session.noted ≡ []) (begin_answered command reply session) sessions
-        (ap (map (λ (note : Noted). record note { answered = command ∷ note.answered })) (All-head (λ (session : Session). session.noted ≡ []) session sessions none))
-        (All-tail (λ (session : Session). session.noted ≡ []) session sessions none)
-silent (stopped sender unanswered ending ∷ events) = silent events
-silent (stopped receiver unanswered ending ∷ events) = All-cons (λ (session : Session). session.noted ≡ []) (ended unanswered ending) (sessions_at receiver events) refl (silent events)
-silent (noticed notice ∷ events) = silent events
 
 -- ---- a job that was queued is kept
 
@@ -48,8 +30,8 @@ accepted_behind s command commands c there = by-verdict (verdict s command)
     by-verdict None = later_of command c (accepted_of (after s command).0 commands) there
     by-verdict (Some refusal) = there
 
-gone_behind : (s : State) (command : Command) (commands : List Command) (number : ℕ) → WasLetGo (after s command).0 commands number → WasLetGo s (command ∷ commands) number
-gone_behind s command commands number went = (went.0, accepted_behind s command commands went.0 went.1, went.2)
+gone_behind : (s : State) (command : Command) (commands : List Command) (job : Job) → WasLetGo (after s command).0 commands job → WasLetGo s (command ∷ commands) job
+gone_behind s command commands job went = (went.0, accepted_behind s command commands went.0 went.1, went.2)
 
 pub there_then : (crossing : Crossing) (s : State) (command : Command) (handed : Handed) → Contains (handed_of crossing s command) handed → Contains (after s command).0.jobs handed.job
 there_then crossing s (QueueOnce key new) handed there = by-name (same_text key.from crossing.from) there
@@ -67,22 +49,23 @@ there_then crossing s (Regrade job grade by) handed there = absurd (none_in hand
 there_then crossing s (Rejuvenate job at by) handed there = absurd (none_in handed there)
 there_then crossing s (Failed system at why) handed there = absurd (none_in handed there)
 there_then crossing s (Done system at jobs) handed there = absurd (none_in handed there)
+there_then crossing s (Release system jobs) handed there = absurd (none_in handed there)
 there_then crossing s (Entry bytes) handed there = absurd (none_in handed there)
 there_then crossing s (Forget system below) handed there = absurd (none_in handed there)
 
 abbrev Stay : Type 0
-Stay = (state : State) (commands : List Command) (job : Job) → Contains state.jobs job → All (λ command. lets_go command job.number ≡ false) (accepted_of state commands) → IsAmong (state_after state commands).jobs job
+Stay = (state : State) (commands : List Command) (job : Job) → Contains state.jobs job → All (λ command. lets_go command job ≡ false) (accepted_of state commands) → IsAmong (state_after state commands).jobs job
 
 kept : Stay → (crossing : Crossing) (s : State) (commands : List Command) (handed : Handed) → Contains (handed_in crossing s commands) handed → IsKeptOrGone s commands handed.job
 kept stay crossing s [] handed there = absurd (none_in handed there)
 kept stay crossing s (command ∷ commands) handed there = elim (Contains-append_cases (handed_of crossing s command) (handed_in crossing (after s command).0 commands) handed there) [
-  | inl own ↦ (elim (all_or_one (λ c. lets_go c handed.job.number) (accepted_of (after s command).0 commands)) [
+  | inl own ↦ (elim (all_or_one (λ c. lets_go c handed.job) (accepted_of (after s command).0 commands)) [
     | inl none ↦ inl (stay (after s command).0 commands handed.job (there_then crossing s command handed own) none)
-    | inr one ↦ inr (gone_behind s command commands handed.job.number one)
+    | inr one ↦ inr (gone_behind s command commands handed.job one)
   ])
   | inr later ↦ (elim (kept stay crossing (after s command).0 commands handed later) [
     | inl among ↦ inl among
-    | inr went ↦ inr (gone_behind s command commands handed.job.number went)
+    | inr went ↦ inr (gone_behind s command commands handed.job went)
   ])
 ]
 
@@ -154,7 +137,7 @@ nothing_in_the_way crossing a b events sent received free of said job new there 
     subst (λ (s : State). IsFree crossing (start (state_after a sent) s) job new) of.receiver_is
     (free of.world job new of.reached (of.heard said) (subst (λ (s : State). Contains s.jobs job) (sym of.sender_is) there) own)
 
--- ---- a job whose number was told waited
+-- ---- an acknowledged job waited
 
 pub told_waited : (crossing : Crossing) (a : State) (sent : List Command) (new : NewJob) (number : ℕ)
     → ((state : State) (first second : List Command) → state_after state (first ++ second) ≡ state_after (state_after state first) second)
@@ -193,7 +176,7 @@ first_waited crossing a sent key first number follow queued it own = record {
   system = own;
 }
 
-pub runs_proceed : (crossing : Crossing) (a b : State) (events : List Event) (sent received : List Command) → PassesTruly crossing a (sessions_at sender events) sent → Passes b (exchanges_at receiver events) received → KeepsToWire crossing nothing_sent events → Proceeds (ForgetsWhatWasSaid crossing nothing_sent events) crossing (start a b) sent received
+pub runs_proceed : (crossing : Crossing) (a b : State) (events : List Event) (sent received : List Command) → PassesTruly crossing a (sessions_at sender events) sent → PassesTruly crossing b (sessions_at receiver events) received → KeepsToWire crossing nothing_sent events → Proceeds (ForgetsWhatWasSaid crossing nothing_sent events) crossing (start a b) sent received
 runs_proceed crossing a b events sent received p q keeps =
     proceeds (ForgetsWhatWasSaid crossing nothing_sent events) crossing events (start a b) nothing_sent sent received (record { parcels = λ parcel there. absurd (none_in parcel there); answers = λ number there. absurd (none_in number there); said = λ number there. absurd (none_in number there) })
-    p (truly crossing b (sessions_at receiver events) received (silent events) q) keeps (λ h. h) (λ h. refl)
+    p q keeps (λ h. h) (λ h. refl)

@@ -1,18 +1,18 @@
--- A letter that crosses, as computed: its receiver is stopped with the letter in hand, it is asked
--- for again, and the sender is stopped too.
-use Rattle.std.proofs.Common.{◌≡◌, ℕ, List, [], ◌∷◌, length, codes, Some, None, Contains, refl, arith}
+-- A letter that crosses, as computed. Its receiver is stopped with the letter in hand, the sender
+-- asks again, and the sender is stopped too.
+use Rattle.std.proofs.Common.{◌≡◌, inl, inr, ℕ, List, [], ◌∷◌, length, codes, Some, None, Contains, refl, arith}
 use Rattle.std.proofs.lemmas.List.Elements.{All-nil, All-cons}
 use Rattle.uu_times.specs.declared.moment.Moment.{Moment}
 use Rattle.uu_times.specs.System.{System}
 use Rattle.uu_core.specs.declared.command.Command.{Command}
-use Rattle.uu_core.specs.declared.command.Command.TheVariants.{Define, Queue, QueueOnce, Done, Forget}
+use Rattle.uu_core.specs.declared.command.Command.TheVariants.{Define, Remove, Queue, QueueOnce, Done, Forget}
 use Rattle.uu_core.specs.declared.command.Reply.TheVariants.{Done as Carried, Number}
 use Rattle.uu_core.specs.declared.job.Kind.TheVariants.{Execute}
 use Rattle.uu_core.specs.declared.job.NewJob.{NewJob}
 use Rattle.uu_core.specs.State.{State, empty, link_of, new_link, same_text}
 use Rattle.uu_core.specs.After.{job_of}
 use Rattle.uu_core.specs.Run.{state_after}
-use Rattle.uu_core.specs.Custody.{Crossing, Parcel, parcel_of, key_of}
+use Rattle.uu_handover.specs.Custody.{Crossing, Parcel, parcel_of, key_of}
 use Rattle.uu_schema.specs.declared.fault.StoreFault.TheVariants.{Store}
 use Rattle.uu_schema.specs.declared.fault.StoreKind.TheVariants.{Disk}
 use Rattle.uu_store.specs.Exchanges.{given, Passes}
@@ -24,35 +24,35 @@ module _ (monday tuesday : Moment) where
   system name = record { name = name; lines = []; max_retries = 26; success_wait = 0 }
 
   -- a letter to joe at unc, and what duke makes of it
-  abbrev letter : NewJob
+  abbrev pub letter : NewJob
   letter = record { system = codes "duke"; grade = 23; user = codes "ann"; kind = Execute (codes "rmail") (codes "unc!joe" ∷ []); bytes = codes "Hello"; at = monday }
 
-  abbrev forwarded : Moment → NewJob
+  abbrev pub forwarded : Moment → NewJob
   forwarded at = record { system = codes "unc"; grade = 23; user = codes "ann"; kind = Execute (codes "rmail") (codes "joe" ∷ []); bytes = codes "Hello"; at = at }
 
-  abbrev mysite : State
+  abbrev pub mysite : State
   mysite = state_after empty (Define (system (codes "duke")) ∷ Queue letter ∷ [])
 
-  abbrev duke : State
+  abbrev pub duke : State
   duke = state_after empty (Define (system (codes "mysite")) ∷ Define (system (codes "unc")) ∷ [])
 
-  abbrev crossing : Crossing
+  abbrev pub crossing : Crossing
   crossing = record { from = codes "mysite"; to = codes "duke"; mark = λ parcel. length parcel.bytes; makes = λ parcel new. same_text new.bytes parcel.bytes }
 
-  abbrev parcel : Parcel
+  abbrev pub parcel : Parcel
   parcel = parcel_of (job_of 1 letter)
 
-  abbrev handing : Moment → Command
+  abbrev pub handing : Moment → Command
   handing at = QueueOnce (key_of crossing parcel) (forwarded at)
 
-  abbrev report : Command
+  abbrev pub report : Command
   report = Done (codes "duke") tuesday (1 ∷ [])
 
   -- duke's store fails while the letter is in hand, and mysite's as it is to report it as gone
   abbrev events : List Event
   events =
-      noticed (waits (job_of 1 letter)) ∷ stopped receiver (handing monday ∷ []) (given (Some (Store Disk))) ∷ answered receiver (handing tuesday) (Number 1)
-      ∷ stopped sender (report ∷ []) (given (Some (Store Disk))) ∷ answered sender report Carried ∷ stopped sender [] (given None) ∷ stopped receiver [] (given None) ∷ []
+      noticed (waits parcel) ∷ stopped receiver 1 (handing monday ∷ []) (given (Some (Store Disk))) ∷ answered receiver (handing tuesday) (Number 1)
+      ∷ stopped sender 1 (report ∷ []) (given (Some (Store Disk))) ∷ answered sender report Carried ∷ stopped sender 1 [] (given None) ∷ stopped receiver 1 [] (given None) ∷ []
 
   abbrev IsTrueThen : Noted → Type 0
   IsTrueThen note = IsTrueOf crossing (state_after mysite note.answered) note.notice
@@ -63,9 +63,9 @@ module _ (monday tuesday : Moment) where
     [],
     report ∷ [],
     refl,
-    record { rest = report ∷ []; prefix = refl; unheard = []; at_most_one = omega arith; settled = λ loose. refl; answers = refl },
-    All-cons IsTrueThen (record { answered = []; notice = waits (job_of 1 letter) }) [] ((0, omega arith, refl), refl) (All-nil IsTrueThen),
-    (report ∷ [], [], refl, record { rest = []; prefix = refl; unheard = []; at_most_one = omega arith; settled = λ settled. refl; answers = refl }, All-nil IsTrueThen, refl),
+    record { rest = report ∷ []; prefix = refl; unheard = []; whole = inl refl; settled = λ loose. refl; answers = refl },
+    All-cons IsTrueThen (record { answered = []; notice = waits parcel }) [] (record { job = job_of 1 letter; there = (0, omega arith, refl); system = refl; is = refl }) (All-nil IsTrueThen),
+    (report ∷ [], [], refl, record { rest = []; prefix = refl; unheard = []; whole = inl refl; settled = λ settled. refl; answers = refl }, All-nil IsTrueThen, refl),
   )
 
   counted : Passes duke (exchanges_at receiver events) (handing monday ∷ handing tuesday ∷ [])
@@ -73,8 +73,8 @@ module _ (monday tuesday : Moment) where
     handing monday ∷ [],
     handing tuesday ∷ [],
     refl,
-    record { rest = []; prefix = refl; unheard = Number 1 ∷ []; at_most_one = omega arith; settled = λ settled. absurd settled; answers = refl },
-    (handing tuesday ∷ [], [], refl, record { rest = []; prefix = refl; unheard = []; at_most_one = omega arith; settled = λ settled. refl; answers = refl }, refl),
+    record { rest = []; prefix = refl; unheard = Number 1 ∷ []; whole = inr refl; settled = λ settled. absurd settled; answers = refl },
+    (handing tuesday ∷ [], [], refl, record { rest = []; prefix = refl; unheard = []; whole = inl refl; settled = λ settled. refl; answers = refl }, refl),
   )
 
   abbrev shown : Wire
@@ -129,3 +129,28 @@ module _ (monday tuesday : Moment) where
 
   it_went : (state_after mysite (report ∷ [])).jobs ≡ []
   it_went = refl
+
+  -- ---- histories that are refused
+
+  -- a job is handed in only once it was shown
+  it_was_never_shown : MayBeGiven crossing nothing_sent receiver (handing monday) → ⊥
+  it_was_never_shown may = omega (arith, (may refl).there.1)
+
+  -- and reported as gone only once it was answered, even if the report was in hand at a stop
+  it_was_not_answered : MayBeGiven crossing shown sender report → ⊥
+  it_was_not_answered may = omega (arith, (may refl 0 0 (omega arith)).1)
+
+  it_was_in_hand : KeepsToWire crossing shown (stopped sender 1 (report ∷ []) (given (Some (Store Disk))) ∷ []) → ⊥
+  it_was_in_hand keeps_to = it_was_not_answered (keeps_to.0 0 report (omega arith))
+
+  -- the receiver doesn't drop the sender
+  it_was_dropped : MayBeGiven crossing told receiver (Remove (codes "mysite")) → ⊥
+  it_was_dropped may = may refl
+
+  -- A job without a key is no job of the sender's, whatever it is made of: it comes as often as it is
+  -- queued.
+  it_had_no_key : handed_in crossing duke (Queue (forwarded monday) ∷ Queue (forwarded monday) ∷ []) ≡ []
+  it_had_no_key = refl
+
+  it_came_twice : (state_after duke (Queue (forwarded monday) ∷ Queue (forwarded monday) ∷ [])).jobs ≡ job_of 1 (forwarded monday) ∷ job_of 2 (forwarded monday) ∷ []
+  it_came_twice = refl

@@ -1,10 +1,14 @@
-mod Lists
+pub mod Lists
 mod Sessions
 mod Steps
 mod Proceeding
 mod Coming
 mod Routing
 mod Spools
-mod Sites
-mod Noticing
-mod Examples
+pub mod Sites
+pub mod Noticing
+mod Carried
+mod Said
+mod AmongSites
+pub mod Examples
+mod CarriedExamples

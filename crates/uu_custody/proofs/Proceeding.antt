@@ -3,9 +3,9 @@ use Rattle.std.proofs.Common.{◌≡◌, ◌⊎◌, ◌≤◌, inl, inr, ℕ, na
 use Rattle.std.specs.Cmp.Lexicographic.{bytes_decides}
 use Rattle.std.specs.List.{list_any}
 use Rattle.std.proofs.lemmas.Bool.Decides.{nat_tests}
-use Rattle.std.proofs.lemmas.List.Elements.{All-head, All-weaker, Contains-append_left, Contains-append_right, Contains-append_cases, Contains-push_cases}
+use Rattle.std.proofs.lemmas.List.Elements.{All-head, All-tail, All-nil, All-weaker, Contains-append_left, Contains-append_right, Contains-append_cases, Contains-push_cases}
 use Rattle.uu_core.specs.declared.command.Command.{Command}
-use Rattle.uu_core.specs.declared.command.Command.TheVariants.{Define, Remove, Queue, QueueOnce, Kill, Regrade, Rejuvenate, Failed, Done, Entry, Forget}
+use Rattle.uu_core.specs.declared.command.Command.TheVariants.{Define, Remove, Queue, QueueOnce, Kill, Regrade, Rejuvenate, Failed, Done, Release, Entry, Forget}
 use Rattle.uu_core.specs.declared.command.Reply.{Reply}
 use Rattle.uu_core.specs.declared.custody.Key.{Key}
 use Rattle.uu_core.specs.declared.job.NewJob.{NewJob}
@@ -13,12 +13,12 @@ use Rattle.uu_core.specs.State.{same_text}
 use Rattle.uu_core.specs.After.{after}
 use Rattle.uu_core.specs.Run.{state_after}
 use Rattle.uu_core.specs.Laws.{numbers_in}
-use Rattle.uu_core.specs.Custody.{Parcel, parcel_of, Crossing, key_of, World, MayRun, is_of_others, answer_to, was_said, go}
-use Rattle.uu_core.specs.Custody.Step.{SenderRuns, SenderShows, SenderSays, ReceiverTakes, ReceiverRuns}
-use Rattle.uu_custody.specs.Events.{sender, receiver, waits, no_more, Event, answered, stopped, noticed, sessions_at, PassesTruly, Wire, answers_in, MayBeGiven, KeepsToWire, MayForget, ForgetsWhatWasSaid}
+use Rattle.uu_handover.specs.Custody.{Parcel, parcel_of, Crossing, key_of, World, MayRun, is_of_others, answer_to, was_said, go}
+use Rattle.uu_handover.specs.Custody.Step.{SenderRuns, SenderShows, SenderSays, ReceiverTakes, ReceiverRuns, ReceiverTells}
+use Rattle.uu_custody.specs.Events.{sender, receiver, waits, no_more, has, Event, answered, stopped, noticed, sessions_at, PassesTruly, Wire, answers_in, MayBeGiven, KeepsToWire, MayForget, ForgetsWhatWasSaid}
 use Rattle.uu_custody.proofs.Lists.{first_or_later}
-use Rattle.uu_custody.proofs.Sessions.{LastCounts, nothing, in_hand, first_passes, noticed_passes, last_passes}
-use Rattle.uu_custody.proofs.Steps.{Proceeds, stays, sender_runs, sender_shows, sender_says, receiver_runs, receiver_takes}
+use Rattle.uu_custody.proofs.Sessions.{LastCounts, nothing, whole, first_passes, noticed_passes, last_passes}
+use Rattle.uu_custody.proofs.Steps.{Proceeds, stays, sender_runs, sender_shows, sender_says, receiver_tells, receiver_runs, receiver_takes}
 
 -- what is on the wire was put there in the world too
 pub record Carries (world : World) (wire : Wire) : Type 0 where
@@ -39,6 +39,7 @@ fewer world wire numbers carries = record { parcels = carries.parcels; answers =
 
 sends : (crossing : Crossing) (world : World) (wire : Wire) (command : Command) → Carries world wire → MayBeGiven crossing wire sender command → MayRun crossing world command
 sends crossing world wire (Done system at jobs) carries may = λ own. All-weaker (Contains wire.answers) (Contains world.answered) (λ number there. carries.answers number there) jobs (may own)
+sends crossing world wire (Release system jobs) carries may = λ own. All-weaker (Contains wire.answers) (Contains world.answered) (λ number there. carries.answers number there) jobs (may own)
 sends crossing world wire (Define def) carries may = tt
 sends crossing world wire (Remove name) carries may = tt
 sends crossing world wire (Queue new) carries may = tt
@@ -52,7 +53,7 @@ sends crossing world wire (Forget system below) carries may = tt
 
 -- ---- a command of the receiver's
 
--- what is told of the sender's own number in both
+-- what both say about the sender's own number
 told_of : (parcel : Parcel) (reply : Reply) (t : Bool) (number : ℕ) → Contains (cond t (map (λ n. parcel.number) (numbers_in (reply ∷ []))) []) number → Contains (answer_to parcel reply) number
 told_of parcel reply true number more = more
 told_of parcel reply false number more = absurd (none_in number more)
@@ -91,7 +92,7 @@ forgets crossing world wire system below carries may = by-name (same_text system
         let it = may ((bytes_decides system crossing.from).0 e) in
         passes (λ said. nat_le below said) world.said it.0 (carries.said it.0 it.1) (as_test below it.0 it.2)
 
--- whatever world follows, things go on from there
+-- in any world that follows, things go on from there
 abbrev GoesOnFrom : Type 0 → Crossing → World → Wire → Command → List Command → List Command → Type 0
 GoesOnFrom H crossing world wire command sent received =
     (then : World) → then.sender ≡ world.sender → then.receiver ≡ (after world.receiver command).0 → Carries then (with_answers wire (answers_in crossing command (after world.receiver command).1)) → (H → then.is_heard ≡ true) → Proceeds H crossing then sent received
@@ -137,32 +138,47 @@ module _ (H : Type 0) (crossing : Crossing) (world : World) (wire : Wire) (sent 
   receives (Rejuvenate job at by) may forget on = runs-other (Rejuvenate job at by) refl refl (λ h. refl) on
   receives (Failed system at why) may forget on = runs-other (Failed system at why) refl refl (λ h. refl) on
   receives (Done system at jobs) may forget on = runs-other (Done system at jobs) refl refl (λ h. refl) on
+  receives (Release system jobs) may forget on = runs-other (Release system jobs) refl refl (λ h. refl) on
   receives (Entry bytes) may forget on = runs-other (Entry bytes) refl refl (λ h. refl) on
   receives (Forget system below) may forget on = runs-other (Forget system below) refl refl (λ h. forgets crossing world wire system below carries (forget h)) on
 
 -- ---- a stop
 
-module _ (H : Type 0) (crossing : Crossing) (world : World) (wire : Wire) (unanswered here : List Command) (carries : Carries world wire) (heard : H → world.is_heard ≡ true) where
-  in_first : (P : Command → Type 0) (command : Command) (rest : List Command) → unanswered ≡ command ∷ rest → All P (take 1 unanswered) → P command
-  in_first P command rest is may = All-head P command [] (subst (λ l. All P (take 1 l)) is may)
+-- the sender carried out these commands, and nobody knows
+sender_runs_all : (H : Type 0) (crossing : Crossing) (world : World) (wire : Wire) (here later received : List Command) → Carries world wire → (H → world.is_heard ≡ true) → All (MayBeGiven crossing wire sender) here
+    → ((then : World) → then.sender ≡ state_after world.sender here → then.receiver ≡ world.receiver → Carries then wire → (H → then.is_heard ≡ true) → Proceeds H crossing then later received)
+    → Proceeds H crossing world (here ++ later) received
+sender_runs_all H crossing world wire [] later received carries heard may on = on world refl refl carries heard
+sender_runs_all H crossing world wire (command ∷ more) later received carries heard may on =
+    sender_runs crossing world command (more ++ later) received (sends crossing world wire command carries (All-head (MayBeGiven crossing wire sender) command more may))
+    (sender_runs_all H crossing (go crossing world (SenderRuns command)) wire more later received (record { parcels = carries.parcels; answers = carries.answers; said = carries.said }) heard (All-tail (MayBeGiven crossing wire sender) command more may) on)
 
-  sender_stops : (later received : List Command) → LastCounts unanswered here → All (MayBeGiven crossing wire sender) (take 1 unanswered)
+-- so did the receiver
+receiver_runs_all : (H : Type 0) (crossing : Crossing) (world : World) (wire : Wire) (here sent later : List Command) → Carries world wire → (H → world.is_heard ≡ true) → All (MayBeGiven crossing wire receiver) here → (H → All (MayForget crossing wire receiver) here)
+    → ((then : World) → then.sender ≡ world.sender → then.receiver ≡ state_after world.receiver here → Carries then wire → (H → then.is_heard ≡ true) → Proceeds H crossing then sent later)
+    → Proceeds H crossing world sent (here ++ later)
+receiver_runs_all H crossing world wire [] sent later carries heard may forget on = on world refl refl carries heard
+receiver_runs_all H crossing world wire (command ∷ more) sent later carries heard may forget on =
+    receives H crossing world wire sent (more ++ later) carries heard command (All-head (MayBeGiven crossing wire receiver) command more may) (λ h. All-head (MayForget crossing wire receiver) command more (forget h))
+    (λ then sender_is receiver_is now hears. receiver_runs_all H crossing then wire more sent later (fewer then wire (answers_in crossing command (after world.receiver command).1) now) hears
+    (All-tail (MayBeGiven crossing wire receiver) command more may) (λ h. All-tail (MayForget crossing wire receiver) command more (forget h))
+    (λ last same gone carried hear. on last (same ∙ sender_is) (gone ∙ ap (λ s. state_after s more) receiver_is) carried hear))
+
+module _ (H : Type 0) (crossing : Crossing) (world : World) (wire : Wire) (in_hand : ℕ) (unanswered here : List Command) (carries : Carries world wire) (heard : H → world.is_heard ≡ true) where
+  sender_stops : (later received : List Command) → LastCounts in_hand unanswered here → All (MayBeGiven crossing wire sender) (take in_hand unanswered)
       → ((then : World) → then.sender ≡ state_after world.sender here → then.receiver ≡ world.receiver → Carries then wire → (H → then.is_heard ≡ true) → Proceeds H crossing then later received)
       → Proceeds H crossing world (here ++ later) received
-  sender_stops later received (nothing none) may on = subst (λ l. Proceeds H crossing world (l ++ later) received) (sym none) (on world (ap (state_after world.sender) (sym none)) refl carries heard)
-  sender_stops later received (in_hand command rest one is) may on =
-      subst (λ l. Proceeds H crossing world (l ++ later) received) (sym one)
-      (sender_runs crossing world command later received (sends crossing world wire command carries (in_first (MayBeGiven crossing wire sender) command rest is may))
-      (on (go crossing world (SenderRuns command)) (ap (state_after world.sender) (sym one)) refl (record { parcels = carries.parcels; answers = carries.answers; said = carries.said }) heard))
+  sender_stops later received (nothing none) may on = sender_runs_all H crossing world wire here later received carries heard (subst (All (MayBeGiven crossing wire sender)) (sym none) (All-nil (MayBeGiven crossing wire sender))) on
+  sender_stops later received (whole all) may on = sender_runs_all H crossing world wire here later received carries heard (subst (All (MayBeGiven crossing wire sender)) (sym all) may) on
 
-  receiver_stops : (sent later : List Command) → LastCounts unanswered here → All (MayBeGiven crossing wire receiver) (take 1 unanswered) → (H → All (MayForget crossing wire receiver) (take 1 unanswered))
+  receiver_stops : (sent later : List Command) → LastCounts in_hand unanswered here → All (MayBeGiven crossing wire receiver) (take in_hand unanswered) → (H → All (MayForget crossing wire receiver) (take in_hand unanswered))
       → ((then : World) → then.sender ≡ world.sender → then.receiver ≡ state_after world.receiver here → Carries then wire → (H → then.is_heard ≡ true) → Proceeds H crossing then sent later)
       → Proceeds H crossing world sent (here ++ later)
-  receiver_stops sent later (nothing none) may forget on = subst (λ l. Proceeds H crossing world sent (l ++ later)) (sym none) (on world refl (ap (state_after world.receiver) (sym none)) carries heard)
-  receiver_stops sent later (in_hand command rest one is) may forget on =
-      subst (λ l. Proceeds H crossing world sent (l ++ later)) (sym one)
-      (receives H crossing world wire sent later carries heard command (in_first (MayBeGiven crossing wire receiver) command rest is may) (λ h. in_first (MayForget crossing wire receiver) command rest is (forget h))
-      (λ then sender_is receiver_is now hears. on then sender_is (receiver_is ∙ ap (state_after world.receiver) (sym one)) (fewer then wire (answers_in crossing command (after world.receiver command).1) now) hears))
+  receiver_stops sent later (nothing none) may forget on =
+      receiver_runs_all H crossing world wire here sent later carries heard (subst (All (MayBeGiven crossing wire receiver)) (sym none) (All-nil (MayBeGiven crossing wire receiver)))
+      (λ h. subst (All (MayForget crossing wire receiver)) (sym none) (All-nil (MayForget crossing wire receiver))) on
+  receiver_stops sent later (whole all) may forget on =
+      receiver_runs_all H crossing world wire here sent later carries heard (subst (All (MayBeGiven crossing wire receiver)) (sym all) may) (λ h. subst (All (MayForget crossing wire receiver)) (sym all) (forget h)) on
 
 -- ---- all of it
 
@@ -184,30 +200,31 @@ proceeds H crossing (answered receiver command reply ∷ events) world wire sent
     (subst (λ s. PassesTruly crossing s (sessions_at sender events) sent) (sym sender_is) p)
     (subst (λ s. PassesTruly crossing s (sessions_at receiver events) one.later) (sym receiver_is) one.passes)
     keeps.1 (λ h. (forgets_so h).1) hears))
-proceeds H crossing (stopped sender unanswered ending ∷ events) world wire sent received carries p q keeps forgets_so heard =
-    let one = last_passes crossing world.sender unanswered ending (sessions_at sender events) sent p in
+proceeds H crossing (stopped sender in_hand unanswered ending ∷ events) world wire sent received carries p q keeps forgets_so heard =
+    let one = last_passes crossing world.sender in_hand unanswered ending (sessions_at sender events) sent p in
     subst (λ l. Proceeds H crossing world l received) (sym one.counted_is)
-    (sender_stops H crossing world wire unanswered one.here carries heard one.later received one.last keeps.0
+    (sender_stops H crossing world wire in_hand unanswered one.here carries heard one.later received one.last keeps.0
     (λ then sender_is receiver_is now hears. proceeds H crossing events then wire one.later received now
     (subst (λ s. PassesTruly crossing s (sessions_at sender events) one.later) (sym sender_is) one.passes)
     (subst (λ s. PassesTruly crossing s (sessions_at receiver events) received) (sym receiver_is) q)
     keeps.1 (λ h. (forgets_so h).1) hears))
-proceeds H crossing (stopped receiver unanswered ending ∷ events) world wire sent received carries p q keeps forgets_so heard =
-    let one = last_passes crossing world.receiver unanswered ending (sessions_at receiver events) received q in
+proceeds H crossing (stopped receiver in_hand unanswered ending ∷ events) world wire sent received carries p q keeps forgets_so heard =
+    let one = last_passes crossing world.receiver in_hand unanswered ending (sessions_at receiver events) received q in
     subst (λ l. Proceeds H crossing world sent l) (sym one.counted_is)
-    (receiver_stops H crossing world wire unanswered one.here carries heard sent one.later one.last keeps.0 (λ h. (forgets_so h).0)
+    (receiver_stops H crossing world wire in_hand unanswered one.here carries heard sent one.later one.last keeps.0 (λ h. (forgets_so h).0)
     (λ then sender_is receiver_is now hears. proceeds H crossing events then wire sent one.later now
     (subst (λ s. PassesTruly crossing s (sessions_at sender events) sent) (sym sender_is) p)
     (subst (λ s. PassesTruly crossing s (sessions_at receiver events) one.later) (sym receiver_is) one.passes)
     keeps.1 (λ h. (forgets_so h).1) hears))
-proceeds H crossing (noticed (waits job) ∷ events) world wire sent received carries p q keeps forgets_so heard =
-    let one = noticed_passes crossing world.sender (waits job) (sessions_at sender events) sent p in
-    sender_shows crossing world job sent received one.0.0 one.0.1
-    (proceeds H crossing events (go crossing world (SenderShows job)) (record wire { parcels = wire.parcels ++ parcel_of job ∷ [] }) sent received
+proceeds H crossing (noticed (waits parcel) ∷ events) world wire sent received carries p q keeps forgets_so heard =
+    let one = noticed_passes crossing world.sender (waits parcel) (sessions_at sender events) sent p in
+    let job = one.0.job in
+    sender_shows crossing world job sent received one.0.there one.0.system
+    (proceeds H crossing events (go crossing world (SenderShows job)) (record wire { parcels = wire.parcels ++ parcel ∷ [] }) sent received
     (record {
-      parcels = λ parcel there. elim (Contains-push_cases wire.parcels (parcel_of job) parcel there) [
-        | inl was ↦ Contains-append_left world.shown (parcel_of job ∷ []) parcel (carries.parcels parcel was)
-        | inr new ↦ subst (Contains (world.shown ++ parcel_of job ∷ [])) new (Contains-append_right world.shown (parcel_of job ∷ []) (parcel_of job) (0, omega arith, refl))
+      parcels = λ other there. elim (Contains-push_cases wire.parcels parcel other there) [
+        | inl was ↦ Contains-append_left world.shown (parcel_of job ∷ []) other (carries.parcels other was)
+        | inr new ↦ subst (Contains (world.shown ++ parcel_of job ∷ [])) (one.0.is ∙ new) (Contains-append_right world.shown (parcel_of job ∷ []) (parcel_of job) (0, omega arith, refl))
       ];
       answers = carries.answers;
       said = carries.said;
@@ -226,3 +243,16 @@ proceeds H crossing (noticed (no_more below) ∷ events) world wire sent receive
       ];
     })
     one.1 q keeps.1 (λ h. (forgets_so h).1) heard)
+proceeds H crossing (noticed (has number) ∷ events) world wire sent received carries p q keeps forgets_so heard =
+    let one = noticed_passes crossing world.receiver (has number) (sessions_at receiver events) received q in
+    receiver_tells crossing world number sent received one.0
+    (proceeds H crossing events (go crossing world (ReceiverTells number)) (record wire { answers = wire.answers ++ number ∷ [] }) sent received
+    (record {
+      parcels = carries.parcels;
+      answers = λ told there. elim (Contains-push_cases wire.answers number told there) [
+        | inl was ↦ Contains-append_left world.answered (number ∷ []) told (carries.answers told was)
+        | inr new ↦ subst (Contains (world.answered ++ number ∷ [])) new (Contains-append_right world.answered (number ∷ []) number (0, omega arith, refl))
+      ];
+      said = carries.said;
+    })
+    p one.1 keeps.1 (λ h. (forgets_so h).1) heard)

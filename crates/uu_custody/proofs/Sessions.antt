@@ -1,12 +1,13 @@
 -- Sessions of a site, event by event: what counts of them.
-use Rattle.std.proofs.Common.{◌≡◌, suc, List, [], ◌∷◌, ◌++◌, map, length, All, refl, sym, ap, subst, ◌∙◌, arith}
+use Rattle.std.proofs.Common.{◌≡◌, inl, inr, ℕ, suc, List, [], ◌∷◌, ◌++◌, map, length, take, refl, sym, ap, ap₂, subst, ◌∙◌, arith}
+use Rattle.std.proofs.Math.Seq.{take-append_seam}
 use Rattle.std.proofs.lemmas.List.Elements.{All-head, All-tail, All-nil, All-cons}
 use Rattle.uu_core.specs.declared.command.Command.{Command}
 use Rattle.uu_core.specs.declared.command.Reply.{Reply}
 use Rattle.uu_core.specs.State.{State}
 use Rattle.uu_core.specs.After.{after}
 use Rattle.uu_core.specs.Run.{state_after, replies_to}
-use Rattle.uu_core.specs.Custody.{Crossing}
+use Rattle.uu_handover.specs.Custody.{Crossing}
 use Rattle.uu_store.specs.Exchanges.{Ending, Exchange, Counts, Passes}
 use Rattle.uu_custody.specs.Events.{Notice, Noted, Session, just_opened, with_first, after_answer, begin_answered, begin_noticed, ended, IsTrueOf, AreTrue, PassesTruly}
 
@@ -36,7 +37,7 @@ first_counts command reply exchange s (given ∷ later) counts = record {
     rest = counts.rest;
     prefix = behind;
     unheard = counts.unheard;
-    at_most_one = counts.at_most_one;
+    whole = counts.whole;
     settled = counts.settled;
     answers = ap (λ c. replies_to (after s c).0 later) same ∙ others;
   };
@@ -60,7 +61,7 @@ first_counts command reply exchange s (given ∷ later) counts = record {
     others : replies_to (after s given).0 later ≡ exchange.replies ++ counts.unheard
     others = tails counts.answers
 
--- nothing counts where nothing was given
+-- nothing counts if nothing was given
 none_counts : (s : State) (here : List Command) → Counts just_opened.exchange s here → here ≡ []
 none_counts s [] counts = refl
 none_counts s (command ∷ here) counts = absurd (none counts.prefix)
@@ -68,18 +69,26 @@ none_counts s (command ∷ here) counts = absurd (none counts.prefix)
     none : {l : List Command} → [] ≡ command ∷ l → ⊥
     none e = cc
 
--- at a stop nothing more counts, or the command in hand
-pub data LastCounts (unanswered here : List Command) : Type 0 where
-  nothing : here ≡ [] → LastCounts unanswered here
-  in_hand : (command : Command) (rest : List Command) → here ≡ command ∷ [] → unanswered ≡ command ∷ rest → LastCounts unanswered here
+-- at a stop nothing more counts, or the request in hand, whole
+pub data LastCounts (in_hand : ℕ) (unanswered here : List Command) : Type 0 where
+  nothing : here ≡ [] → LastCounts in_hand unanswered here
+  whole : here ≡ take in_hand unanswered → LastCounts in_hand unanswered here
 
-last_counts : (unanswered : List Command) (ending : Ending) (s : State) (here : List Command) → Counts (ended unanswered ending).exchange s here → LastCounts unanswered here
-last_counts unanswered ending s [] counts = nothing refl
-last_counts unanswered ending s (command ∷ []) counts = in_hand command counts.rest refl counts.prefix
-last_counts unanswered ending s (command ∷ other ∷ more) counts =
-    absurd (let e = ap length counts.answers in let l = replies_length s (command ∷ other ∷ more) in let m = counts.at_most_one in omega (arith, e, l, m))
+-- if the request counts, it is the first commands, as many as there are replies to them
+first_are : (s : State) (here rest unanswered : List Command) (unheard : List Reply) → replies_to s here ≡ unheard → unanswered ≡ here ++ rest → here ≡ take (length unheard) unanswered
+first_are s here rest unanswered unheard answers is = sym (ap₂ take (sym (ap length answers) ∙ replies_length s here) is ∙ take-append_seam here rest)
 
--- ---- the sessions of the sender
+last_counts : (in_hand : ℕ) (unanswered : List Command) (ending : Ending) (s : State) (here : List Command) → Counts (ended in_hand unanswered ending).exchange s here → LastCounts in_hand unanswered here
+last_counts in_hand unanswered ending s here counts = elim counts.whole [
+  | inl none ↦ nothing (empty here (sym (replies_length s here) ∙ ap length (counts.answers ∙ none)))
+  | inr all ↦ whole (subst (λ n. here ≡ take n unanswered) all (first_are s here counts.rest unanswered counts.unheard counts.answers counts.prefix))
+]
+  where
+    empty : (l : List Command) → length l ≡ 0 → l ≡ []
+    empty [] e = refl
+    empty (command ∷ l) e = absurd (omega (arith, e))
+
+-- ---- the sessions of a site
 
 -- the first command was answered so, and the rest passes from the state after it
 pub record FirstPasses (crossing : Crossing) (s : State) (command : Command) (reply : Reply) (sessions : List Session) (counted : List Command) : Type 0 where
@@ -118,33 +127,21 @@ noticed_passes crossing s notice (session ∷ sessions) counted (here, later, is
 )
 
 -- what counts at a stop, and the rest passes from the state after it
-pub record LastPasses (crossing : Crossing) (s : State) (unanswered : List Command) (sessions : List Session) (counted : List Command) : Type 0 where
+pub record LastPasses (crossing : Crossing) (s : State) (in_hand : ℕ) (unanswered : List Command) (sessions : List Session) (counted : List Command) : Type 0 where
   pub here : List Command
   pub later : List Command
   pub counted_is : counted ≡ here ++ later
-  pub last : LastCounts unanswered here
+  pub last : LastCounts in_hand unanswered here
   pub passes : PassesTruly crossing (state_after s here) sessions later
 
-pub last_passes : (crossing : Crossing) (s : State) (unanswered : List Command) (ending : Ending) (sessions : List Session) (counted : List Command) → PassesTruly crossing s (ended unanswered ending ∷ sessions) counted → LastPasses crossing s unanswered sessions counted
-last_passes crossing s unanswered ending sessions counted (here, later, is, counts, true, passes) =
-    record { here = here; later = later; counted_is = is; last = last_counts unanswered ending s here counts; passes = passes }
+pub last_passes : (crossing : Crossing) (s : State) (in_hand : ℕ) (unanswered : List Command) (ending : Ending) (sessions : List Session) (counted : List Command) → PassesTruly crossing s (ended in_hand unanswered ending ∷ sessions) counted → LastPasses crossing s in_hand unanswered sessions counted
+last_passes crossing s in_hand unanswered ending sessions counted (here, later, is, counts, true, passes) =
+    record { here = here; later = later; counted_is = is; last = last_counts in_hand unanswered ending s here counts; passes = passes }
 
--- ---- those of the receiver
+-- ---- its exchanges
 
 abbrev pub exchanges_of : List Session → List Exchange
 exchanges_of sessions = map (λ (session : Session). session.exchange) sessions
-
--- the receiver sends no notices, so its exchanges are sessions that pass
-pub truly : (crossing : Crossing) (s : State) (sessions : List Session) (counted : List Command) → All (λ (session : Session). session.noted ≡ []) sessions → Passes s (exchanges_of sessions) counted → PassesTruly crossing s sessions counted
-truly crossing s [] counted none passes = passes
-truly crossing s (session ∷ sessions) counted none (here, later, is, counts, passes) = (
-  here,
-  later,
-  is,
-  counts,
-  subst (AreTrue crossing s) (sym (All-head (λ (session : Session). session.noted ≡ []) session sessions none)) (All-nil (λ (note : Noted). IsTrueOf crossing (state_after s note.answered) note.notice)),
-  truly crossing (state_after s here) sessions later (All-tail (λ (session : Session). session.noted ≡ []) session sessions none) passes,
-)
 
 -- what passes so passes as exchanges
 pub plainly : (crossing : Crossing) (s : State) (sessions : List Session) (counted : List Command) → PassesTruly crossing s sessions counted → Passes s (exchanges_of sessions) counted

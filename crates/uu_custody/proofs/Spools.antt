@@ -10,12 +10,12 @@ use Rattle.uu_schema.specs.Steps.{Rests}
 use Rattle.uu_core.specs.declared.command.Command.{Command}
 use Rattle.uu_core.specs.State.{State, IsWellFormed, empty}
 use Rattle.uu_core.specs.Run.{state_after}
-use Rattle.uu_core.specs.Custody.{Crossing}
+use Rattle.uu_handover.specs.Custody.{Crossing}
 use Rattle.uu_store.specs.Kept.{Stores}
 use Rattle.uu_store.specs.Openings.{ImageKeeps}
-use Rattle.uu_store.specs.Exchanges.{Counts, Passes}
+use Rattle.uu_store.specs.Exchanges.{Counts}
 use Rattle.uu_store.specs.Stretches.{StretchOver, over, exchanges, StoresThroughout, AllStore}
-use Rattle.uu_store.specs.Files.{FileStretch, file_exchanges, last_left, KeepsThroughout, AllKeep, KeepsAfter}
+use Rattle.uu_store.specs.Files.{FileStretch, file_exchanges, last_left, KeepsThroughout, AllKeep}
 use Rattle.uu_custody.specs.Events.{Event, Session, sender, receiver, sessions_at, exchanges_at, PassesTruly, nothing_sent, ForgetsWhatWasSaid}
 use Rattle.uu_custody.specs.Handovers.{ComeOnce, ToldAreInCustody, ToldUnderKeysAreInCustody, NothingIsInTheWay}
 use Rattle.uu_custody.specs.Spools.{WereShown, WereShownInFiles, HaveCome, StoreOnce, KeepOnce}
@@ -80,30 +80,30 @@ Follow = (state : State) (first second : List Command) → state_after state (fi
 
 -- what the plain law says of two states and a history
 abbrev Comes : Crossing → State → State → List Event → Type 0
-Comes crossing a b events = (sent received : List Command) → PassesTruly crossing a (sessions_at sender events) sent → Passes b (exchanges_at receiver events) received → ComeOnce crossing a sent b received × ToldAreInCustody crossing (exchanges_at sender events) a sent b received × ToldUnderKeysAreInCustody crossing (exchanges_at sender events) a sent b received × (ForgetsWhatWasSaid crossing nothing_sent events → NothingIsInTheWay crossing a sent b received)
+Comes crossing a b events = (sent received : List Command) → PassesTruly crossing a (sessions_at sender events) sent → PassesTruly crossing b (sessions_at receiver events) received → ComeOnce crossing a sent b received × ToldAreInCustody crossing (exchanges_at sender events) a sent b received × ToldUnderKeysAreInCustody crossing (exchanges_at sender events) a sent b received × (ForgetsWhatWasSaid crossing nothing_sent events → NothingIsInTheWay crossing a sent b received)
 
-have_come : (crossing : Crossing) (a b : State) (events : List Event) (sent received : List Command) → Comes crossing a b events → PassesTruly crossing a (sessions_at sender events) sent → Passes b (exchanges_at receiver events) received → HaveCome crossing a b events sent received
+have_come : (crossing : Crossing) (a b : State) (events : List Event) (sent received : List Command) → Comes crossing a b events → PassesTruly crossing a (sessions_at sender events) sent → PassesTruly crossing b (sessions_at receiver events) received → HaveCome crossing a b events sent received
 have_come crossing a b events sent received comes p q =
     let both = comes sent received p q in
-    record { sent_count = plainly crossing a (sessions_at sender events) sent p; received_count = q; once = both.0; told = both.1; told_under = both.2; free = both.3 }
+    record { sent_count = plainly crossing a (sessions_at sender events) sent p; received_count = plainly crossing b (sessions_at receiver events) received q; once = both.0; told = both.1; told_under = both.2; free = both.3 }
 
-pub keep_once : Follow → (crossing : Crossing) (a b : State) (events : List Event) (before left : Image) (stretches : List FileStretch) (others : List FileStretch) → Comes crossing a b events
-    → file_exchanges stretches ≡ exchanges_at sender events → file_exchanges others ≡ exchanges_at receiver events → WereShownInFiles crossing before (sessions_at sender events) stretches
-    → ∥ AllKeep a before stretches ∥₁ → ∥ KeepsAfter b others left ∥₁ → ∥ KeepOnce crossing a b events (last_left before stretches) left ∥₁
-keep_once states crossing a b events before left stretches others comes same_sent same_received shown all after =
+pub keep_once : Follow → (crossing : Crossing) (a b : State) (events : List Event) (before behind : Image) (stretches : List FileStretch) (others : List FileStretch) → Comes crossing a b events
+    → file_exchanges stretches ≡ exchanges_at sender events → file_exchanges others ≡ exchanges_at receiver events → WereShownInFiles crossing before (sessions_at sender events) stretches → WereShownInFiles crossing behind (sessions_at receiver events) others
+    → ∥ AllKeep a before stretches ∥₁ → ∥ AllKeep b behind others ∥₁ → ∥ KeepOnce crossing a b events (last_left before stretches) (last_left behind others) ∥₁
+keep_once states crossing a b events before behind stretches others comes same_sent same_received shown told all after =
     ∥∥₁_elim all squash₁ (λ one. ∥∥₁_map after (both one))
   where
-    both : AllKeep a before stretches → KeepsAfter b others left → KeepOnce crossing a b events (last_left before stretches) left
-    both (sent, through) (received, passes, kept) = record {
+    both : AllKeep a before stretches → AllKeep b behind others → KeepOnce crossing a b events (last_left before stretches) (last_left behind others)
+    both (sent, through) (received, thence) = record {
       sent = sent;
       received = received;
-      come = have_come crossing a b events sent received comes (truly_kept crossing stretches (sessions_at sender events) before a sent through same_sent shown) (subst (λ l. Passes b l received) same_received passes);
+      come = have_come crossing a b events sent received comes (truly_kept crossing stretches (sessions_at sender events) before a sent through same_sent shown) (truly_kept crossing others (sessions_at receiver events) behind b received thence same_received told);
       sender_keeps = last_keeps states stretches before a sent through;
-      receiver_keeps = kept;
+      receiver_keeps = last_keeps states others behind b received thence;
     }
 
 -- what is stored is well-formed
-good_stored : IsWellFormed empty → (database : Database) (s : State) → Stores database s → IsWellFormed s
+pub good_stored : IsWellFormed empty → (database : Database) (s : State) → Stores database s → IsWellFormed s
 good_stored none database s (inl (v, encodes)) = encodes.holds.good
 good_stored none database s (inr it) = subst IsWellFormed (sym it.1) none
 
@@ -111,15 +111,11 @@ good_through : IsWellFormed empty → {S : Type 0} (g : Ghosts S) (stretches : L
 good_through none g [] found s counted (nothing, rests, stores) = good_stored none found.now s stores
 good_through none g (it ∷ more) found s counted (rests, stores, here, later, is, counts, then) = good_stored none (state g it.opened).now s stores
 
-passes_through : {S : Type 0} (g : Ghosts S) (stretches : List (StretchOver S)) (found : db.State) (s : State) (counted : List Command) → StoresThroughout s (map (over g) stretches) found counted → Passes s (exchanges (map (over g) stretches)) counted
-passes_through g [] found s counted (none, rests, stores) = none
-passes_through g (it ∷ more) found s counted (rests, stores, here, later, is, counts, then) = (here, later, is, counts, passes_through g more found (state_after s here) later then)
-
 pub store_once : Follow → IsWellFormed empty → {S R : Type 0} (g : Ghosts S) (h : Ghosts R) (crossing : Crossing) (a b : State) (events : List Event) (stretches : List (StretchOver S)) (others : List (StretchOver R)) (one other : db.State)
     → (IsWellFormed a → IsWellFormed b → Comes crossing a b events)
-    → exchanges (map (over g) stretches) ≡ exchanges_at sender events → exchanges (map (over h) others) ≡ exchanges_at receiver events → WereShown g crossing (sessions_at sender events) stretches
+    → exchanges (map (over g) stretches) ≡ exchanges_at sender events → exchanges (map (over h) others) ≡ exchanges_at receiver events → WereShown g crossing (sessions_at sender events) stretches → WereShown h crossing (sessions_at receiver events) others
     → ∥ AllStore a (map (over g) stretches) one ∥₁ → ∥ AllStore b (map (over h) others) other ∥₁ → ∥ StoreOnce crossing a b events one other ∥₁
-store_once states empty_good {S} {R} g h crossing a b events stretches others one other comes same_sent same_received shown all after =
+store_once states empty_good {S} {R} g h crossing a b events stretches others one other comes same_sent same_received shown told all after =
     ∥∥₁_elim all squash₁ (λ it. ∥∥₁_map after (both it))
   where
     both : AllStore a (map (over g) stretches) one → AllStore b (map (over h) others) other → StoreOnce crossing a b events one other
@@ -130,7 +126,7 @@ store_once states empty_good {S} {R} g h crossing a b events stretches others on
         record {
           sent = sent;
           received = received;
-          come = have_come crossing a b events sent received both_come (truly_stored g crossing stretches (sessions_at sender events) one a sent through same_sent shown) (subst (λ l. Passes b l received) same_received (passes_through h others other b received thence));
+          come = have_come crossing a b events sent received both_come (truly_stored g crossing stretches (sessions_at sender events) one a sent through same_sent shown) (truly_stored h crossing others (sessions_at receiver events) other b received thence same_received told);
           sender_rests = last.0;
           sender_stores = last.1;
           receiver_rests = end.0;

@@ -3,7 +3,7 @@ use Rattle.std.proofs.Common.{◌≡◌, ◌⊎◌, inl, inr, ℕ, Bool, true, f
 use Rattle.std.specs.Cmp.Lexicographic.{bytes_decides}
 use Rattle.std.proofs.lemmas.List.Elements.{Contains-push_cases}
 use Rattle.uu_core.specs.declared.command.Command.{Command}
-use Rattle.uu_core.specs.declared.command.Command.TheVariants.{Define, Remove, Queue, QueueOnce, Kill, Regrade, Rejuvenate, Failed, Done, Entry, Forget}
+use Rattle.uu_core.specs.declared.command.Command.TheVariants.{Define, Remove, Queue, QueueOnce, Kill, Regrade, Rejuvenate, Failed, Done, Release, Entry, Forget}
 use Rattle.uu_core.specs.declared.refusal.Refusal.{Refusal}
 use Rattle.uu_core.specs.declared.job.NewJob.{NewJob}
 use Rattle.uu_core.specs.State.{State, Job, same_text}
@@ -11,8 +11,8 @@ use Rattle.uu_core.specs.Verdict.{verdict}
 use Rattle.uu_core.specs.After.{after}
 use Rattle.uu_core.specs.Run.{state_after}
 use Rattle.uu_core.specs.Laws.{accepted_of, unless_refused}
-use Rattle.uu_core.specs.Custody.{Parcel, parcel_of, Crossing, key_of, Handed, World, Step, IsLeast, MayRun, is_of_others, MayGoOn, kills_in, handed_for, added, go, world_after}
-use Rattle.uu_core.specs.Custody.Step.{SenderRuns, SenderShows, SenderSays, ReceiverTakes, ReceiverRuns}
+use Rattle.uu_handover.specs.Custody.{Parcel, parcel_of, Crossing, key_of, Handed, World, Step, IsLeast, HasTaken, MayRun, is_of_others, MayGoOn, kills_in, handed_for, added, go, world_after}
+use Rattle.uu_handover.specs.Custody.Step.{SenderRuns, SenderShows, SenderSays, ReceiverTakes, ReceiverRuns, ReceiverTells}
 use Rattle.uu_custody.specs.Handovers.{handed_of, handed_in, Waited}
 
 -- ---- lists of steps
@@ -44,8 +44,8 @@ pub record IsOfOne (crossing : Crossing) (sender : State) (sent : List Command) 
   pub waited : Waited crossing sender sent job
   pub is : parcel ≡ parcel_of job
 
--- From a world steps go on, by which its sender and its receiver run these commands; where this is
--- supposed, the receiver forgets only what was said.
+-- From a world steps go on, by which its sender and its receiver run these commands. If `H` holds,
+-- the receiver forgets only what was said.
 pub record Proceeds (H : Type 0) (crossing : Crossing) (world : World) (sent received : List Command) : Type 0 where
   pub steps : List Step
   pub may_go : MayGoOn crossing world steps
@@ -93,6 +93,7 @@ kills_append (Regrade job grade by ∷ one) other = kills_append one other
 kills_append (Rejuvenate job at by ∷ one) other = kills_append one other
 kills_append (Failed system at why ∷ one) other = kills_append one other
 kills_append (Done system at jobs ∷ one) other = kills_append one other
+kills_append (Release system jobs ∷ one) other = kills_append one other
 kills_append (Entry bytes ∷ one) other = kills_append one other
 kills_append (Forget system below ∷ one) other = kills_append one other
 
@@ -173,6 +174,21 @@ sender_says crossing world below sent received least on = record {
   heard = on.heard;
 }
 
+-- ---- what the receiver tells
+
+pub receiver_tells : {H : Type 0} (crossing : Crossing) (world : World) (number : ℕ) (sent received : List Command) → HasTaken crossing world.receiver number → Proceeds H crossing (go crossing world (ReceiverTells number)) sent received → Proceeds H crossing world sent received
+receiver_tells crossing world number sent received has on = record {
+  steps = ReceiverTells number ∷ on.steps;
+  may_go = (has, on.may_go);
+  sender_is = on.sender_is;
+  receiver_is = on.receiver_is;
+  handed_is = on.handed_is;
+  killed_is = on.killed_is;
+  shown_are = on.shown_are;
+  came = λ other waited. came_behind crossing world (ReceiverTells number) on.steps other (on.came other waited);
+  heard = on.heard;
+}
+
 -- ---- the receiver's commands
 
 hands_none : (crossing : Crossing) (state : State) (command : Command) → is_of_others crossing command ≡ true → handed_of crossing state command ≡ []
@@ -189,6 +205,7 @@ hands_none crossing state (Regrade job grade by) e = refl
 hands_none crossing state (Rejuvenate job at by) e = refl
 hands_none crossing state (Failed system at why) e = refl
 hands_none crossing state (Done system at jobs) e = refl
+hands_none crossing state (Release system jobs) e = refl
 hands_none crossing state (Entry bytes) e = refl
 hands_none crossing state (Forget system below) e = refl
 

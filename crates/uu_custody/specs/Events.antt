@@ -1,15 +1,16 @@
--- What happens at two sites, of which one hands its jobs on to the other: a history of both, in the
--- order in which it becomes known. (The sites, the wire and the history are this project's choice.)
+-- What happens at two sites, the first of which hands its jobs on to the other: a history of both,
+-- in the order in which it becomes known. (The sites, the wire and the history are this project's
+-- choice.)
 use Rattle.std.specs.Prelude.{◌≡◌, ◌≤◌, ⊤, ℕ, Bool, true, false, List, [], ◌∷◌, ◌++◌, map, take, All, Contains, None, if◌then◌else◌}
 use Rattle.uu_core.specs.declared.command.Command.{Command}
-use Rattle.uu_core.specs.declared.command.Command.TheVariants.{Remove, QueueOnce, Done, Forget}
+use Rattle.uu_core.specs.declared.command.Command.TheVariants.{Remove, QueueOnce, Done, Release, Forget}
 use Rattle.uu_core.specs.declared.command.Reply.{Reply}
 use Rattle.uu_core.specs.declared.custody.Key.{Key}
 use Rattle.uu_core.specs.declared.job.NewJob.{NewJob}
 use Rattle.uu_core.specs.State.{State, Job, same_text}
 use Rattle.uu_core.specs.Run.{state_after}
 use Rattle.uu_core.specs.Laws.{numbers_in}
-use Rattle.uu_core.specs.Custody.{Parcel, parcel_of, Crossing, key_of, IsLeast}
+use Rattle.uu_handover.specs.Custody.{Parcel, parcel_of, Crossing, key_of, IsLeast, HasTaken}
 use Rattle.uu_store.specs.Exchanges.{Ending, Exchange, exchange_of, Counts}
 
 -- ---- a history of two sites
@@ -18,22 +19,30 @@ pub data Site : Type 0 where
   sender : Site
   receiver : Site
 
--- what the sender's spool showed and went to the receiver: a job that waits for it, or a number
--- below which it will be asked for none
+-- What the spool of a site showed and what went to the other site. The sender showed what doesn't
+-- change of a job that waits for the receiver, or a number below which it won't ask again. The
+-- receiver showed the number of a job of the sender's that it keeps as taken.
 pub data Notice : Type 0 where
-  waits : (job : Job) → Notice
+  waits : (parcel : Parcel) → Notice
   no_more : (below : ℕ) → Notice
+  has : (number : ℕ) → Notice
+
+abbrev pub side_of : Notice → Site
+side_of (waits parcel) = sender
+side_of (no_more below) = sender
+side_of (has number) = receiver
 
 pub data Event : Type 0 where
   -- the spool of a site was given a command, and this reply came
   answered : (site : Site) (command : Command) (reply : Reply) → Event
-  -- The spool of a site stopped: how the giving of commands ended, and those that got no reply. The
-  -- first of them may have been in hand then; if it was carried out, nobody heard of it.
-  stopped : (site : Site) (unanswered : List Command) (ending : Ending) → Event
-  -- the sender's spool showed this, and it went to the receiver
+  -- The spool of a site stopped: how the run of commands ended, and the commands without a reply.
+  -- The first `in_hand` of them may have been in hand then, as one request. If that was carried
+  -- out, nobody knows.
+  stopped : (site : Site) (in_hand : ℕ) (unanswered : List Command) (ending : Ending) → Event
+  -- the spool of the notice's site showed this, and it went to the other site
   noticed : (notice : Notice) → Event
 
--- ---- what each site has of it
+-- ---- what each site has of the history
 
 -- a notice, and the commands since the opening that had been answered by then
 pub record Noted : Type 0 where
@@ -51,16 +60,16 @@ is_at sender receiver = false
 is_at receiver sender = false
 is_at receiver receiver = true
 
--- one in which nothing happened yet
+-- a session in which nothing happened yet
 abbrev pub just_opened : Session
-just_opened = record { exchange = exchange_of [] [] None; noted = [] }
+just_opened = record { exchange = exchange_of 1 [] [] None; noted = [] }
 
--- the first of them, or one that goes on where no stop has come
+-- the first of them changed, or a new one if no stop has come
 abbrev pub with_first : (Session → Session) → List Session → List Session
 with_first change [] = change just_opened ∷ []
 with_first change (session ∷ sessions) = change session ∷ sessions
 
--- the exchange after one more answer before it
+-- the exchange with one more answer before it
 abbrev pub after_answer : Command → Reply → Exchange → Exchange
 after_answer command reply exchange = record exchange { commands = command ∷ exchange.commands; replies = reply ∷ exchange.replies }
 
@@ -75,36 +84,45 @@ begin_answered command reply session = record {
 abbrev pub begin_noticed : Notice → Session → Session
 begin_noticed notice session = record session { noted = record { answered = []; notice = notice } ∷ session.noted }
 
--- a session that ended so, with these commands unanswered
-abbrev pub ended : List Command → Ending → Session
-ended unanswered ending = record { exchange = record { commands = unanswered; replies = []; ending = ending }; noted = [] }
+-- a session with this end and these unanswered commands; the request in hand has so many
+abbrev pub ended : ℕ → List Command → Ending → Session
+ended in_hand unanswered ending = record { exchange = record { commands = unanswered; replies = []; in_hand = in_hand; ending = ending }; noted = [] }
 
 abbrev pub sessions_at : Site → List Event → List Session
 sessions_at site [] = []
 sessions_at site (answered there command reply ∷ events) =
     if is_at site there then with_first (begin_answered command reply) (sessions_at site events) else sessions_at site events
-sessions_at site (stopped there unanswered ending ∷ events) =
-    if is_at site there then ended unanswered ending ∷ sessions_at site events else sessions_at site events
+sessions_at site (stopped there in_hand unanswered ending ∷ events) =
+    if is_at site there then ended in_hand unanswered ending ∷ sessions_at site events else sessions_at site events
 sessions_at site (noticed notice ∷ events) =
-    if is_at site sender then with_first (begin_noticed notice) (sessions_at site events) else sessions_at site events
+    if is_at site (side_of notice) then with_first (begin_noticed notice) (sessions_at site events) else sessions_at site events
 
--- the site's part of a history: its exchanges, one a session
+-- the site's part of a history: its exchanges, one for each session
 abbrev pub exchanges_at : Site → List Event → List Exchange
 exchanges_at site events = map (λ (session : Session). session.exchange) (sessions_at site events)
 
 -- ---- notices that are true
 
-abbrev pub IsTrueOf : Crossing → State → Notice → Type 0
-IsTrueOf crossing state (waits job) = Contains state.jobs job × (job.system ≡ crossing.to)
-IsTrueOf crossing state (no_more below) = IsLeast crossing state below
+-- a job that waits for the receiver is this parcel
+pub record Waits (crossing : Crossing) (state : State) (parcel : Parcel) : Type 0 where
+  pub job : Job
+  pub there : Contains state.jobs job
+  pub system : job.system ≡ crossing.to
+  pub is : parcel_of job ≡ parcel
 
--- each notice was true, where the session began at this state: after the commands that had been
+-- of the state of the site that it comes from
+abbrev pub IsTrueOf : Crossing → State → Notice → Type 0
+IsTrueOf crossing state (waits parcel) = Waits crossing state parcel
+IsTrueOf crossing state (no_more below) = IsLeast crossing state below
+IsTrueOf crossing state (has number) = HasTaken crossing state number
+
+-- each notice was true, if the session began at this state, after the commands that had been
 -- answered by then
 abbrev pub AreTrue : Crossing → State → List Noted → Type 0
 AreTrue crossing state noted = All (λ (note : Noted). IsTrueOf crossing (state_after state note.answered) note.notice) noted
 
--- The commands that count of all sessions (`Passes` of Exchanges.antt), where each session begins at
--- the state after those that count before it, and its notices were true there.
+-- The commands that count of all sessions (`Passes` of Exchanges.antt). Each session begins at the
+-- state after those that count before it, and its notices were true there.
 abbrev pub PassesTruly : Crossing → State → List Session → List Command → Type 0
 PassesTruly crossing s [] counted = counted ≡ []
 PassesTruly crossing s (session ∷ sessions) counted =
@@ -113,9 +131,9 @@ PassesTruly crossing s (session ∷ sessions) counted =
 
 -- ---- the wire between them
 
--- what ever went over the wire, which keeps it, repeats it and mixes it up: the jobs that the sender
--- showed, its numbers to which the receiver answered with one of its own, and the numbers below
--- which the sender said that it will ask for none
+-- What ever went over the wire, which keeps it, repeats it and changes its order. These are the
+-- jobs that the sender showed, its numbers that the receiver answered with one of its own or said
+-- to have taken, and the numbers below which the sender said that it won't ask again.
 pub record Wire : Type 0 where
   pub parcels : List Parcel
   pub answers : List ℕ
@@ -124,20 +142,22 @@ pub record Wire : Type 0 where
 abbrev pub nothing_sent : Wire
 nothing_sent = record { parcels = []; answers = []; said = [] }
 
--- the sender's number, where the reply to a hand-in under its name is a number
+-- the sender's number, if the reply to a hand-in under its name is a number
 abbrev pub answers_in : Crossing → Command → Reply → List ℕ
 answers_in crossing (QueueOnce key new) reply = if same_text key.from crossing.from then map (λ number. key.number) (numbers_in (reply ∷ [])) else []
 answers_in crossing command reply = []
 
--- what is on the wire after an event: of commands only what was answered
+-- what is on the wire after an event: what was noticed, and, of commands, only those that were
+-- answered
 abbrev pub after_event : Crossing → Wire → Event → Wire
 after_event crossing wire (answered sender command reply) = wire
 after_event crossing wire (answered receiver command reply) = record wire { answers = wire.answers ++ answers_in crossing command reply }
-after_event crossing wire (stopped site unanswered ending) = wire
-after_event crossing wire (noticed (waits job)) = record wire { parcels = wire.parcels ++ parcel_of job ∷ [] }
+after_event crossing wire (stopped site in_hand unanswered ending) = wire
+after_event crossing wire (noticed (waits parcel)) = record wire { parcels = wire.parcels ++ parcel ∷ [] }
 after_event crossing wire (noticed (no_more below)) = record wire { said = wire.said ++ below ∷ [] }
+after_event crossing wire (noticed (has number)) = record wire { answers = wire.answers ++ number ∷ [] }
 
--- a hand-in is one of a parcel on the wire: under its key, a job that the receiver's program makes
+-- a hand-in is that of a parcel on the wire: under its key, a job that the receiver's program makes
 -- of it
 pub record IsFromWire (crossing : Crossing) (wire : Wire) (key : Key) (new : NewJob) : Type 0 where
   pub parcel : Parcel
@@ -145,20 +165,21 @@ pub record IsFromWire (crossing : Crossing) (wire : Wire) (key : Key) (new : New
   pub key_is : key ≡ key_of crossing parcel
   pub made : crossing.makes parcel new ≡ true
 
--- The sender reports a job as gone to the receiver once that was answered. The receiver hands in
--- under the sender's name what came over the wire alone, and doesn't drop the sender. Both are given
--- any other command.
+-- The sender reports a job as gone to the receiver, or releases it, only if it was answered, or
+-- said to be taken. The receiver hands in under the sender's name only what came over the wire, and
+-- doesn't remove the sender. Both may be given any other command.
 abbrev pub MayBeGiven : Crossing → Wire → Site → Command → Type 0
 MayBeGiven crossing wire sender (Done system at jobs) = system ≡ crossing.to → All (Contains wire.answers) jobs
+MayBeGiven crossing wire sender (Release system jobs) = system ≡ crossing.to → All (Contains wire.answers) jobs
 MayBeGiven crossing wire sender command = ⊤
 MayBeGiven crossing wire receiver (Remove name) = ¬ (name ≡ crossing.from)
 MayBeGiven crossing wire receiver (QueueOnce key new) = key.from ≡ crossing.from → IsFromWire crossing wire key new
 MayBeGiven crossing wire receiver command = ⊤
 
--- so is the command of an event, and the one in hand at a stop
+-- the command of an event does so, and each of those in hand at a stop
 abbrev pub Keeps : Crossing → Wire → Event → Type 0
 Keeps crossing wire (answered site command reply) = MayBeGiven crossing wire site command
-Keeps crossing wire (stopped site unanswered ending) = All (MayBeGiven crossing wire site) (take 1 unanswered)
+Keeps crossing wire (stopped site in_hand unanswered ending) = All (MayBeGiven crossing wire site) (take in_hand unanswered)
 Keeps crossing wire (noticed notice) = ⊤
 
 -- each of the events keeps to what is on the wire before it
@@ -168,16 +189,16 @@ KeepsToWire crossing wire (event ∷ events) = Keeps crossing wire event × Keep
 
 -- ---- what the receiver forgets
 
--- The receiver forgets of the sender's numbers only those below one that the sender has said, or
--- below a lesser one. (That jobs come once needs no such rule.)
+-- The receiver forgets only those of the sender's numbers that are below one that the sender has
+-- said. (That jobs come once doesn't depend on this.)
 abbrev pub MayForget : Crossing → Wire → Site → Command → Type 0
 MayForget crossing wire receiver (Forget system below) = system ≡ crossing.from → (said : ℕ) × Contains wire.said said × (below ≤ said)
 MayForget crossing wire site command = ⊤
 
--- so does the command of an event, and the one in hand at a stop
+-- the command of an event does so, and each of those in hand at a stop
 abbrev pub ForgetsAsSaid : Crossing → Wire → Event → Type 0
 ForgetsAsSaid crossing wire (answered site command reply) = MayForget crossing wire site command
-ForgetsAsSaid crossing wire (stopped site unanswered ending) = All (MayForget crossing wire site) (take 1 unanswered)
+ForgetsAsSaid crossing wire (stopped site in_hand unanswered ending) = All (MayForget crossing wire site) (take in_hand unanswered)
 ForgetsAsSaid crossing wire (noticed notice) = ⊤
 
 -- each of the events forgets only what was said before it

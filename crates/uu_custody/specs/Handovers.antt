@@ -8,7 +8,7 @@ use Rattle.uu_core.specs.State.{State, Job, same_text}
 use Rattle.uu_core.specs.After.{after, job_of}
 use Rattle.uu_core.specs.Run.{state_after}
 use Rattle.uu_core.specs.Laws.{accepted_of, IsAmong, IsKept, IsFirstUnder}
-use Rattle.uu_core.specs.Custody.{parcel_of, Crossing, Handed, World, kills_in, added, start, IsReached, IsOf, IsFree}
+use Rattle.uu_handover.specs.Custody.{parcel_of, Crossing, Handed, World, kills_in, added, start, IsReached, IsOf, IsFree}
 use Rattle.uu_store.specs.Acknowledged.{IsAcknowledged, IsAcknowledgedUnder, WasLetGo}
 use Rattle.uu_store.specs.Exchanges.{Exchange}
 use Rattle.uu_custody.specs.Events.{Event, nothing_sent, ForgetsWhatWasSaid}
@@ -19,7 +19,7 @@ handed_of crossing state (QueueOnce key new) =
     if same_text key.from crossing.from then map (λ job. record { number = key.number; job = job }) (added state (after state (QueueOnce key new)).0) else []
 handed_of crossing state command = []
 
--- all that its commands queue under the sender's name, in order
+-- all jobs that its commands queue under the sender's name, in order
 abbrev pub handed_in : Crossing → State → List Command → List Handed
 handed_in crossing state [] = []
 handed_in crossing state (command ∷ commands) = handed_of crossing state command ++ handed_in crossing (after state command).0 commands
@@ -32,13 +32,13 @@ pub record Waited (crossing : Crossing) (state : State) (commands : List Command
   pub there : Contains (state_after state before).jobs job
   pub system : job.system ≡ crossing.to
 
--- a job that was queued is there under its number, with all its bytes, or an accepted command let it
--- go
+-- a job that was queued is there under its number, with all its bytes, or an accepted command
+-- removed it
 abbrev pub IsKeptOrGone : State → List Command → Job → Type 0
-IsKeptOrGone state commands job = IsAmong (state_after state commands).jobs job ⊎ WasLetGo state commands job.number
+IsKeptOrGone state commands job = IsAmong (state_after state commands).jobs job ⊎ WasLetGo state commands job
 
--- the receiver queued a job for this one, which its program made of it, and it is there or was let
--- go
+-- the receiver queued a job for this one, which its program made of it, and it is there or was
+-- removed
 pub record HasCome (crossing : Crossing) (state : State) (commands : List Command) (job : Job) : Type 0 where
   pub handed : Handed
   pub there : Contains (handed_in crossing state commands) handed
@@ -49,7 +49,7 @@ pub record HasCome (crossing : Crossing) (state : State) (commands : List Comman
 abbrev pub WasKilled : State → List Command → ℕ → Type 0
 WasKilled state commands number = Contains (kills_in (accepted_of state commands)) number
 
--- a job of the sender's waits there still, or it was killed there, or it has come to the receiver
+-- a job of the sender's still waits there, or was killed there, or has come to the receiver
 abbrev pub IsInCustody : Crossing → State → List Command → State → List Command → Job → Type 0
 IsInCustody crossing sender sent receiver received job =
     IsAmong (state_after sender sent).jobs job ⊎ WasKilled sender sent job.number ⊎ HasCome crossing receiver received job
@@ -60,9 +60,9 @@ pub record IsOfWaiting (crossing : Crossing) (state : State) (commands : List Co
   pub waited : Waited crossing state commands job
   pub of : IsOf crossing (parcel_of job) handed
 
--- The sender's spool ran these commands from its first state, and the receiver's those from its own.
--- No job that waited for the receiver is lost; no number of the sender's was queued twice, and each
--- job that was queued has a number of its own; it was made of one that waited; and it is kept.
+-- The sender's spool ran these commands from its first state, and the receiver's ran those from its
+-- own. No job that waited for the receiver is lost. No number of the sender's was queued twice, and
+-- each queued job has a number of its own, was made from one that waited, and is kept.
 pub record ComeOnce (crossing : Crossing) (sender : State) (sent : List Command) (receiver : State) (received : List Command) : Type 0 where
   pub never_lost : (job : Job) → Waited crossing sender sent job → IsInCustody crossing sender sent receiver received job
   pub never_twice : AllPairs (λ one other. ¬ (one.number ≡ other.number)) (handed_in crossing receiver received)
@@ -71,20 +71,20 @@ pub record ComeOnce (crossing : Crossing) (sender : State) (sent : List Command)
   pub kept : All (λ handed. IsKeptOrGone receiver received handed.job) (handed_in crossing receiver received)
 
 -- each job for the receiver that was handed in at the sender without a key, and whose number was
--- told
+-- given
 abbrev pub ToldAreInCustody : Crossing → List Exchange → State → List Command → State → List Command → Type 0
 ToldAreInCustody crossing exchanges sender sent receiver received =
     (new : NewJob) (number : ℕ) → IsAcknowledged exchanges new number → new.system ≡ crossing.to → IsInCustody crossing sender sent receiver received (job_of number new)
 
--- Where a number was told to a key at the sender, the key was kept with it before the first of these
--- commands, or the job that was handed in first under the key got it, and is in custody if it is for
--- the receiver. So a relay's jobs are covered.
+-- If a number was given to a key at the sender, the key was kept with it before the first of these
+-- commands, or the job that was handed in first under the key got it. If that job is for the
+-- receiver, it is in custody. So this covers a relay's jobs.
 abbrev pub ToldUnderKeysAreInCustody : Crossing → List Exchange → State → List Command → State → List Command → Type 0
 ToldUnderKeysAreInCustody crossing exchanges sender sent receiver received =
     (key : Key) (new : NewJob) (number : ℕ) → IsAcknowledgedUnder exchanges key new number
     → IsKept sender key number ⊎ ((first : NewJob) × IsFirstUnder sender sent key first number × (first.system ≡ crossing.to → IsInCustody crossing sender sent receiver received (job_of number first)))
 
--- The two spools are those of a world of custody that is reached (`uu_core/specs/Custody.antt`), so
+-- The two spools are those of a world of custody that is reached (`uu_handover/specs/Custody.antt`), so
 -- what its law says of such worlds holds of them. Where the receiver forgot only what the sender had
 -- said, it did so there.
 pub record AreOfWorld (crossing : Crossing) (events : List Event) (sender : State) (sent : List Command) (receiver : State) (received : List Command) : Type 0 where
@@ -95,8 +95,8 @@ pub record AreOfWorld (crossing : Crossing) (events : List Event) (sender : Stat
   pub handed_is : world.handed ≡ handed_in crossing receiver received
   pub heard : ForgetsWhatWasSaid crossing nothing_sent events → world.is_heard ≡ true
 
--- Nothing is in the way of a job that waits for the receiver but what would be in the way of any.
--- (Of a world `IsFree` looks at the receiver's state alone.)
+-- Nothing hinders a job that waits for the receiver except what would hinder any job. (`IsFree` of
+-- a world only looks at the receiver's state.)
 abbrev pub NothingIsInTheWay : Crossing → State → List Command → State → List Command → Type 0
 NothingIsInTheWay crossing sender sent receiver received =
     (job : Job) (new : NewJob) → Contains (state_after sender sent).jobs job → job.system ≡ crossing.to → IsFree crossing (start (state_after sender sent) (state_after receiver received)) job new

@@ -3,3 +3,5 @@ pub mod Handovers
 pub mod Routes
 pub mod Spools
 pub mod Sites
+pub mod Carried
+pub mod AmongSites

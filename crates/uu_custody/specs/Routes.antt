@@ -4,11 +4,11 @@ use Rattle.uu_core.specs.declared.command.Command.{Command}
 use Rattle.uu_core.specs.State.{State, Job}
 use Rattle.uu_core.specs.Run.{state_after}
 use Rattle.uu_core.specs.Laws.{IsAmong}
-use Rattle.uu_core.specs.Custody.{parcel_of, Handed, IsOf}
-use Rattle.uu_core.specs.Network.{Chart}
-use Rattle.uu_custody.specs.Handovers.{handed_in, IsKeptOrGone, WasKilled, ComeOnce}
+use Rattle.uu_handover.specs.Custody.{parcel_of, Handed, IsOf}
+use Rattle.uu_handover.specs.Network.{Chart}
+use Rattle.uu_custody.specs.Handovers.{handed_in, IsKeptOrGone, WasKilled, ComeOnce, NothingIsInTheWay}
 
--- of each site its first state, and the commands that count there
+-- each site's first state, and the commands that count there
 pub record Course : Type 0 where
   pub first : ℕ → State
   pub counted : ℕ → List Command
@@ -26,13 +26,18 @@ abbrev pub ComeOnceOverAll : Chart → Course → List ℕ → Type 0
 ComeOnceOverAll chart course [] = ⊤
 ComeOnceOverAll chart course (line ∷ lines) = ComeOnceOver chart course line × ComeOnceOverAll chart course lines
 
+-- over a line nothing hinders a job except what would hinder any job
+abbrev pub IsFreeOver : Chart → Course → ℕ → Type 0
+IsFreeOver chart course line =
+    NothingIsInTheWay (chart.crossing line) (course.first (chart.begins line)) (course.counted (chart.begins line)) (course.first (chart.ends line)) (course.counted (chart.ends line))
+
 -- what the end of a line queued for its beginning
 abbrev pub handed_over : Chart → Course → ℕ → List Handed
 handed_over chart course line = handed_in (chart.crossing line) (course.first (chart.ends line)) (course.counted (chart.ends line))
 
 -- Where a message is on its way over these lines: it waits at the site before the first of them, or
--- was killed there, or a job was made of it at the end of that line, which is on its way over the
--- others. Behind the last line it is there, or was let go.
+-- was killed there. Or a job was made of it at the end of that line, and that job is on its way
+-- over the others. After the last line it is there, or was removed.
 abbrev pub IsOnItsWay : Chart → Course → ℕ → List ℕ → Job → Type 0
 IsOnItsWay chart course site [] job = IsKeptOrGone (course.first site) (course.counted site) job
 IsOnItsWay chart course site (line ∷ lines) job =

@@ -1,4 +1,4 @@
--- Two spools over stores, or over files, of which one hands its jobs on to the other.
+-- Two spools over stores, or over files, the first of which hands its jobs on to the other.
 use Rattle.std.specs.Prelude.{◌≡◌, List, [], ◌∷◌, ⊤}
 use Rattle.sqlite.specs.Store.{Ghosts}
 use Rattle.sqlite.specs.Held.{state}
@@ -8,7 +8,7 @@ use Rattle.uu_schema.specs.Steps.{Rests}
 use Rattle.uu_core.specs.declared.command.Command.{Command}
 use Rattle.uu_core.specs.State.{State, link_of, new_link}
 use Rattle.uu_core.specs.Run.{state_after}
-use Rattle.uu_core.specs.Custody.{Crossing}
+use Rattle.uu_handover.specs.Custody.{Crossing}
 use Rattle.uu_store.specs.Kept.{Stores}
 use Rattle.uu_store.specs.Openings.{ImageKeeps}
 use Rattle.uu_store.specs.Exchanges.{Passes}
@@ -17,15 +17,15 @@ use Rattle.uu_store.specs.Files.{FileStretch}
 use Rattle.uu_custody.specs.Events.{Event, Session, sender, receiver, exchanges_at, AreTrue, nothing_sent, KeepsToWire, ForgetsWhatWasSaid}
 use Rattle.uu_custody.specs.Handovers.{ComeOnce, ToldAreInCustody, ToldUnderKeysAreInCustody, NothingIsInTheWay}
 
--- ---- what is supposed of the history
+-- ---- the premises about the history
 
--- The history keeps to the wire, and it is the first between the two: the receiver keeps nothing of
--- the sender yet.
+-- The history keeps to the wire, and it is the first between the two: the receiver keeps nothing
+-- from the sender yet.
 pub record IsHandover (crossing : Crossing) (b : State) (events : List Event) : Type 0 where
   pub nothing_kept : link_of b crossing.from ≡ new_link crossing.from
   pub keeps : KeepsToWire crossing nothing_sent events
 
--- The sender's notices are what its spool showed: those of each session are true of whatever state
+-- The notices of a site are what its spool showed: those of each session are true of any state that
 -- is stored in the database that its stretch opened.
 abbrev pub WereShown : {S : Type 0} → Ghosts S → Crossing → List Session → List (StretchOver S) → Type 0
 WereShown g crossing [] stretches = ⊤
@@ -33,7 +33,7 @@ WereShown g crossing (session ∷ sessions) [] = ⊤
 WereShown g crossing (session ∷ sessions) (it ∷ more) =
     ((s : State) → Rests (state g it.opened) → Stores (state g it.opened).now s → AreTrue crossing s session.noted) × WereShown g crossing sessions more
 
--- the same over files: they are true of whatever state the files kept before the stretch
+-- the same over files: they are true of any state that the files kept before the stretch
 abbrev pub WereShownInFiles : Crossing → Image → List Session → List FileStretch → Type 0
 WereShownInFiles crossing before [] stretches = ⊤
 WereShownInFiles crossing before (session ∷ sessions) [] = ⊤
@@ -42,7 +42,7 @@ WereShownInFiles crossing before (session ∷ sessions) (it ∷ more) =
 
 -- ---- what follows
 
--- commands that count at both sites, by which no job is lost, none comes twice, and, where the
+-- commands that count at both sites, by which no job is lost, none comes twice, and, if the
 -- receiver forgets only what was said, none is kept back
 pub record HaveCome (crossing : Crossing) (a b : State) (events : List Event) (sent received : List Command) : Type 0 where
   pub sent_count : Passes a (exchanges_at sender events) sent

@@ -1,4 +1,4 @@
-//! Custody over two spools that are stopped and opened again: laws alone.
+//! Custody over two spools that are stopped and reopened: laws only.
 #![tactic(auto)]
 
 pub mod laws;

@@ -1,5 +1,5 @@
--- The two files of a spool as an opening by path has them: nothing was written since they were last
--- synced.
+-- The two files of a spool as an opening by path has them: nothing was written since their last
+-- sync.
 use Rattle.std.specs.Prelude.{◌≡◌, ◌+◌, ◌/◌, ℕ, min}
 use Rattle.sqlite_disk.specs.declared.Disk as disk
 use Rattle.sqlite_disk.specs.declared.Files.{Files}
@@ -15,7 +15,7 @@ pub record AreSettled {D : Type 0} (g : disk.Ghosts D) (image : Image) (files : 
 
 -- ---- the pool of an opening: this project's choice
 
--- The pages that are kept in memory once they were read: a place for each page of the log and of
--- the database file, and 32 more for what is written, up to 32,768, which take 128 MiB.
+-- The most pages that are kept in memory once they were read: those of the log and of the database
+-- file, and 32 more for what is written, at most 32,768, which take 128 MiB.
 abbrev pub pool_pages : ℕ → ℕ → ℕ
 pool_pages log db = min (log / 4096 + db / 4096 + 32) 32768

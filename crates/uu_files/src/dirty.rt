@@ -1,14 +1,13 @@
-//! A file that is synced only where it is dirty.
+//! A file that is synced only if it is dirty.
 ghost use Rattle.std.specs.Prelude.{◌≡◌, ◌&&◌, true, false};
 ghost use Rattle.sqlite_disk.specs.Disk.{Only};
 
 use sqlite_disk::{Crash, Disk, Tally};
 use std::io;
 
-/// A file that passes each call on to another one, but a sync only where it is dirty: where it was
-/// written or cut since the last sync that worked. A sync that is left out would change nothing,
-/// since a stop leaves what the file shows and nothing else; so a stop never leaves more than it
-/// leaves of the file behind.
+/// A file that passes each call on to another one, but a sync only if it is dirty: written or cut
+/// since the last sync that worked. A sync that is left out would change nothing, because a stop
+/// leaves exactly what the file shows. So a stop never leaves more than the inner file could leave.
 #[derive(Drop)]
 pub struct SyncWhenDirty<D: Disk> {
     inner: D,
@@ -19,7 +18,7 @@ pub struct SyncWhenDirty<D: Disk> {
 impl<D: Disk> SyncWhenDirty<D> {
     ghost use Rattle.uu_files.specs.Dirty.{inner_of, is_dirty};
 
-    /// The file, of which nobody says that it is synced.
+    /// The file, which may not be synced.
     pub fn new(inner: D) -> SyncWhenDirty<D>
         ensures inner { inner_of result ≡ inner }
         ensures dirty { is_dirty result ≡ true }
@@ -27,7 +26,7 @@ impl<D: Disk> SyncWhenDirty<D> {
         SyncWhenDirty { inner, dirty: true }
     }
 
-    /// A file of which a stop leaves what it shows and nothing else, as one that was just synced.
+    /// A file of which a stop leaves exactly what it shows, like one that was just synced.
     pub fn synced(inner: D) -> SyncWhenDirty<D>
         requires { Only (D.Disk.seen inner) (D.Disk.may_leave inner) }
         ensures inner { inner_of result ≡ inner }
@@ -39,7 +38,7 @@ impl<D: Disk> SyncWhenDirty<D> {
         }
     }
 
-    /// The file that the calls are passed on to.
+    /// The inner file, which gets the calls.
     pub fn inner(&self) -> &D
         ensures { result.now ≡ inner_of self.now }
     {
@@ -64,7 +63,7 @@ impl<D: Disk> Disk for SyncWhenDirty<D> {
 
     ghost is_fair = { λ f. D.Disk.is_fair f.inner };
 
-    // A sync that is left out works where the file behind has stopped.
+    // A sync that is left out works even after the inner file has stopped.
     ghost is_frozen = { λ f. D.Disk.is_frozen f.inner && f.dirty };
 
     ghost is_rotten = { λ f. D.Disk.is_rotten f.inner };
@@ -123,7 +122,7 @@ impl<D: Disk> Disk for SyncWhenDirty<D> {
     }
 }
 
-/// The file behind comes back, of which nobody says that it is synced.
+/// The inner file comes back, and may not be synced.
 impl<D: Crash> Crash for SyncWhenDirty<D> {
     fn crash(&mut self) {
         self.dirty = true;

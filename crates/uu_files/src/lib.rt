@@ -1,5 +1,5 @@
-//! The two files of a spool: each is synced only where there is something to sync, and the database
-//! in them is opened with a pool as large as they need.
+//! The two files of a spool. Each is synced only if there is something to sync, and the database in
+//! them is opened with a pool as large as they need.
 #![tactic(auto)]
 
 mod dirty;

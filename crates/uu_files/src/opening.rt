@@ -16,7 +16,7 @@ use sqlite_std_file::OpenError;
 use std::hash::{BuildHasher, RandomState};
 use std::io::ErrorKind;
 
-/// A file of a spool: it held what `T` stands for, and is synced only where it is dirty.
+/// A file of a spool: it had the contents that `T` stands for, and is synced only if it is dirty.
 pub type SpoolFile<T> = SyncWhenDirty<FileFrom<T>>;
 
 /// The bytes of a page in a file.
@@ -32,12 +32,12 @@ const NO_MEMORY: Error = Error::SqliteFailure(ErrorCode::OutOfMemory);
 
 const CANNOT_OPEN: Error = Error::SqliteFailure(ErrorCode::CannotOpen);
 
-/// Opens the files at the path, or makes them, and the database in them, with sums on the pages of
-/// a new one. It is `Connection::open_from` of `sqlite`, but for files that are synced only where
-/// they are dirty and a pool as large as they need.
+/// Opens the files at the path, or makes them, and the database in them. A new database has sums on
+/// its pages. It does what `Connection::open_from` of `sqlite` does, but its files are synced only
+/// if they are dirty, and its pool is as large as they need.
 ///
 /// # Errors
-/// With what is left of the files, once they were opened.
+/// With what is left of the files, if they were opened.
 pub fn open_database<T: Start>(
     rt: &HostRuntime,
     path: &str,
@@ -85,7 +85,7 @@ fn open_pair<T: Start>(rt: &HostRuntime, path: &str, start: T) -> Result<Files<S
     }
 }
 
-// Files that were just settled, behind ones that are synced only where they are dirty.
+// Wraps files that were just settled, so that they are synced only if they are dirty.
 fn behind<T: Start>(files: Files<FileFrom<T>>) -> Files<SpoolFile<T>>
     requires log { IsFresh true files.log }
     requires db { IsFresh false files.db }
@@ -120,8 +120,8 @@ fn open_in<D: Disk + Drop>(
     Connection::open_files_with(rt.alloc(), files, options, true)
 }
 
-// The pages of a pool for these files. Where a length can't be asked, the pool is smaller than they
-// need, which costs time alone.
+// The pages of a pool for these files. If a length can't be read, the pool is smaller than they
+// need, which only costs time.
 fn pool_for<D: Disk>(files: &mut Files<D>) -> usize
     requires log { IsTrue (D.Disk.is_usable files.old.log) }
     requires db { IsTrue (D.Disk.is_usable files.old.db) }

@@ -1,4 +1,4 @@
-//! Answers, as they stand in a stream.
+//! Answers in a stream.
 ghost use Rattle.std.specs.Prelude.{◌≡◌, ◌⊎◌, [], Err, IfErr, OnOk};
 ghost use Rattle.std.specs.Io.KnownBytes.{Appends};
 ghost use Rattle.uu_frame.specs.Frames.{answer_frame};
@@ -9,11 +9,11 @@ use crate::writing::{write_behind, write_whole};
 use std::alloc::Global;
 use std::io::Write;
 
-/// Writes an answer, what it prints as output and as errors apart, and flushes it.
+/// Writes an answer, with its output and its errors apart, and flushes it.
 ///
 /// # Errors
-/// `Write`, where a front of the answer was written, or all of it and it was not flushed; and
-/// `Memory`, where nothing was written, also where it was the writer that found none.
+/// `Write` if only a beginning of the answer was written, or all of it but not flushed. `Memory` if
+/// nothing was written because memory ran out, here or in the writer.
 pub fn write_answer<W: Write>(
     alloc: Global,
     status: u8,

@@ -15,7 +15,7 @@ pub(crate) struct Head {
     pub(crate) words: Vec<String>,
 }
 
-// What the line says, or none where it is none of a request.
+// What the line says, or `None` if it isn't the line of a request.
 pub(crate) fn head_of(alloc: Global, line: &[u8]) -> Result<Option<Head>, AllocError>
     requires bare { All (λ byte. byte ≢ 10) line.now }
     requires short { length line.now ≤ most_line }
@@ -43,7 +43,7 @@ fn parts_of<'a>(alloc: Global, text: &'a str) -> Result<Vec<&'a str>, AllocError
     text.split(' ').collect(alloc)
 }
 
-// The number that is written so, without a sign and without zeros before it, or none.
+// The number of a decimal numeral without a sign and without leading zeros, or `None`.
 fn count_of(alloc: Global, numeral: &str) -> Result<Option<u32>, AllocError>
     ensures { IfOk result (λ count. MatchOption count ((n : ℕ) → n < 2 ^ 32 → numeral.now ≢ decimal n)
         (λ count. (numeral.now ≡ decimal count) × (count < 2 ^ 32))) }
@@ -59,7 +59,6 @@ fn count_of(alloc: Global, numeral: &str) -> Result<Option<u32>, AllocError>
     }
 }
 
-// Copies of the texts.
 fn copies_of(alloc: Global, texts: &[&str]) -> Result<Vec<String>, AllocError>
     ensures { IfOk result (λ copies. map string_bytes copies.items ≡ map (λ text. text.now) texts.now) }
 {

@@ -1,4 +1,4 @@
-//! Requests and answers as frames in a stream of bytes. It knows nothing of what they mean.
+//! Requests and answers as frames in a stream of bytes. The crate knows nothing of their meaning.
 #![tactic(auto)]
 
 mod answer;

@@ -1,4 +1,4 @@
-//! Bytes off a reader: a line within its limit, or so many.
+//! Reading from a stream: a line within its limit, or a number of bytes.
 ghost use Rattle.std.specs.Prelude.{◌≡◌, ◌≢◌, ◌⊎◌, ◌≤◌, ◌++◌, ◌∷◌, ℕ, [], All, IfOk, IfErr, IfSome, IsSome, MatchResult, Ok, None, length};
 ghost use Rattle.std.specs.Io.KnownBytes.{Consumes, IsAtEnd};
 ghost use Rattle.std.specs.IoError.{error_kind};
@@ -8,12 +8,12 @@ use crate::fault::FrameFault;
 use std::alloc::Global;
 use std::io::{BufRead, Error, ErrorKind};
 
-/// The most bytes of a request's line, without its end: at their limits, the words of a line come
-/// to less than a third.
+/// The most bytes of a request's line, without its end. The words of a line, at their limits, need
+/// less than a third.
 pub const MAX_LINE: usize = 65_536;
 
-// The next line without its end, or none at the end of the stream. It is read byte by byte, so that
-// no more is taken than a line may have.
+// The next line without its end, or `None` at the end of the stream. It is read byte by byte, so
+// that no more is taken than a line may have.
 pub(crate) fn read_line<R: BufRead>(
     alloc: Global,
     reader: &mut R,
@@ -38,7 +38,8 @@ pub(crate) fn read_line<R: BufRead>(
     Err(FrameFault::NoRequest)
 }
 
-// The next byte, or none at the end of the stream. A read that a signal interrupts is tried again.
+// The next byte, or `None` at the end of the stream. A read that a signal interrupts is tried
+// again.
 fn next_byte<R: BufRead>(reader: &mut R) -> Result<Option<u8>, FrameFault>
     ensures byte { IfOk result (λ next. IfSome next (λ byte. Consumes (R.remaining reader.old) (R.remaining reader.new) (byte ∷ []))) }
     ensures end { result ≡ Ok None → IsAtEnd (R.remaining reader.old) }
@@ -57,7 +58,7 @@ fn next_byte<R: BufRead>(reader: &mut R) -> Result<Option<u8>, FrameFault>
     Err(FrameFault::Read)
 }
 
-// So many bytes of the stream.
+// The next bytes of the stream, so many.
 pub(crate) fn read_bytes<R: BufRead>(
     alloc: Global,
     count: u32,
@@ -76,7 +77,7 @@ pub(crate) fn read_bytes<R: BufRead>(
     }
 }
 
-// The fault that a reader's error is: want of memory is one of its own.
+// The fault for a reader's error: out of memory is a fault of its own.
 fn fault_of(error: &Error) -> FrameFault
     ensures memory { error_kind error.now ≡ ErrorKind.OutOfMemory → result ≡ FrameFault.Memory }
     ensures read { error_kind error.now ≢ ErrorKind.OutOfMemory → result ≡ FrameFault.Read }

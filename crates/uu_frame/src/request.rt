@@ -1,4 +1,4 @@
-//! Requests, as they stand in a stream.
+//! Requests in a stream.
 ghost use Rattle.std.specs.Prelude.{◌≡◌, ◌≤◌, IfOk, IfErr, IfSome, Ok, None, length, map, string_bytes};
 ghost use Rattle.std.specs.Io.KnownBytes.{Consumes, IsAtEnd};
 ghost use Rattle.uu_frame.specs.Frames.{IsCause, IsHead, request_frame};
@@ -14,17 +14,17 @@ use std::io::BufRead;
 pub struct Frame {
     /// The words.
     pub words: Vec<String>,
-    /// The input, which is empty where there is none.
+    /// The input, which may be empty.
     pub input: Vec<u8>,
 }
 
-/// The next request of the stream, whose input has `limit` bytes at most, or none at the end of the
-/// stream.
+/// The next request of the stream, or `None` at the end of the stream. Its input has at most
+/// `limit` bytes.
 ///
 /// # Errors
-/// `NoRequest` where the next line is none of a request, or has more than `MAX_LINE` bytes, and is
-/// not read to its end then; `TooLarge` where it is that of a request whose input has more than
-/// `limit` bytes; `Read` where the bytes cannot be read or end within a request; and `Memory`.
+/// `NoRequest` if the next line isn't that of a request, or has more than `MAX_LINE` bytes; then it
+/// isn't read to its end. `TooLarge` if it is the line of a request whose input has more than
+/// `limit` bytes. `Read` if the bytes can't be read or end within a request. `Memory`.
 pub fn read_request<R: BufRead>(
     alloc: Global,
     limit: usize,

@@ -1,4 +1,4 @@
-//! Bytes onto a writer.
+//! Writing to a stream.
 ghost use Rattle.std.specs.Prelude.{◌≡◌, ◌⊎◌, [], Err, IfErr, MatchResult};
 ghost use Rattle.std.specs.Io.KnownBytes.{Appends};
 ghost use Rattle.uu_frame.specs.Writing.{IsCut};
@@ -6,11 +6,12 @@ ghost use Rattle.uu_frame.specs.Writing.{IsCut};
 use crate::fault::FrameFault;
 use std::io::{ErrorKind, Write};
 
-/// Writes all bytes, as `write_all` does, which says nothing of what it wrote where it fails.
+/// Writes all bytes, as `write_all` does. `write_all` doesn't say what it wrote when it fails; this
+/// says it.
 ///
 /// # Errors
-/// `Write`, where less than the bytes was written; `Memory`, where the writer found none for the
-/// first of them, so that nothing was written.
+/// `Write` if less than the bytes was written. `Memory` if the writer had no memory for the first
+/// of them; then nothing was written.
 pub fn write_whole<W: Write>(bytes: &[u8], out: &mut W) -> Result<(), FrameFault>
     ensures fault { IfErr result (λ fault. (fault ≡ FrameFault.Write) ⊎ (fault ≡ FrameFault.Memory)) }
     ensures bytes { MatchResult result (λ _. Appends (W.contents out.old) (W.contents out.new) bytes.now) (λ _. IsCut bytes.now (Appends (W.contents out.old) (W.contents out.new))) }
@@ -40,11 +41,11 @@ pub fn write_whole<W: Write>(bytes: &[u8], out: &mut W) -> Result<(), FrameFault
     }
 }
 
-/// Writes all bytes of a text behind its front, which was written: where the writer finds no memory
-/// for them, the text is cut, too.
+/// Writes all bytes of a text after its beginning, which was written. If the writer runs out of
+/// memory, the text is cut, too.
 ///
 /// # Errors
-/// `Write`, where less than the bytes was written.
+/// `Write` if less than the bytes was written.
 pub(crate) fn write_behind<W: Write>(bytes: &[u8], out: &mut W) -> Result<(), FrameFault>
     ensures fault { IfErr result (λ fault. fault ≡ FrameFault.Write) }
     ensures bytes { MatchResult result (λ _. Appends (W.contents out.old) (W.contents out.new) bytes.now) (λ _. IsCut bytes.now (Appends (W.contents out.old) (W.contents out.new))) }

@@ -1,7 +1,9 @@
-// What a spool is given or asked while memory is short, as plain data: its calls, lines of the
+// What a spool is given or asked while memory runs out, as plain data: its calls, lines of the
 // program and batches.
 use crate::refusing::{ALL, NONE, Refusing, text_of, was_refused};
-use crate::values::{Order, SUNDAY, command, commands, moment, settings, site, words_of};
+use crate::values::{
+    Bundle, Order, SUNDAY, command, commands, moment, settings, site, take_in, words_of,
+};
 use sqlite::Alter;
 use std::alloc::Global;
 use std::fmt::Debug;
@@ -10,48 +12,53 @@ use uu_core::Filter;
 use uu_store::{RunEnd, Spool, StoreFault};
 use uuspool::{Clock, Fault, batch, serve};
 
-/// What is given or asked.
+/// What a spool is given or asked.
 #[derive(Clone, Copy)]
 pub(crate) enum Act {
     Command(Order),
     Run(&'static [Order]),
+    /// A neighbour's bundle, taken as one.
+    TakeIn(Bundle),
     Jobs,
     Job(u32),
     Systems,
     Due(u64),
     Entry(&'static str),
+    Taken(&'static str),
+    /// Why the command would be refused.
+    Refusal(Order),
     Next,
     /// A line of the program: its words with single spaces between them, and its input.
     Line(&'static str, &'static [u8]),
     /// The first requests of a batch, so many.
     Batch(usize),
-    /// No call of a spool: a fault that is told without a cause.
+    /// No call of a spool: a fault that is reported without a cause.
     Tell(StoreFault),
-    /// A run that goes on after a command that found no memory, and tells the replies behind it or
-    /// keeps them to itself.
+    /// A run that goes on after a command that ran out of memory. It reports the replies after that
+    /// command, or leaves them out.
     GoOn(&'static [Order], bool),
 }
 
 /// How a call ended.
 #[derive(Clone, Copy, PartialEq, Eq)]
 pub(crate) enum End {
-    /// It gave its answer. A line did, with status 0.
+    /// It gave its answer. A line ended with status 0.
     Whole,
-    /// A line gave its answer, with status 1.
+    /// A line gave its answer, and ended with status 1.
     Refused,
-    /// The spool found no memory, or a batch told so and ended with status 4.
+    /// The spool ran out of memory, or a batch reported that and ended with status 4.
     Memory,
-    /// A line or a batch found no memory for something of its own.
+    /// A line or a batch ran out of memory itself.
     OwnMemory,
     /// The store failed.
     Store,
     /// The store failed before.
     Failed,
-    /// It told another fault.
+    /// It reported another fault.
     Other,
 }
 
-/// What a call answered: whether a request was refused meanwhile, how it ended, and the answer, the
+/// The result of a call: whether a request was refused meanwhile, how it ended, and the answer, the
 /// replies or the output so far as text.
 #[derive(Drop)]
 pub(crate) struct Answered {
@@ -95,7 +102,7 @@ fn end_of_batch(ended: Result<u8, Fault>) -> End {
     }
 }
 
-/// What was just answered. No request is refused any more.
+/// The answer that was just given. No request is refused any more.
 fn answer_of<T: Debug + Drop>(
     rt: &impl Abort,
     alloc: Global,
@@ -116,7 +123,7 @@ fn answer_of<T: Debug + Drop>(
     }
 }
 
-/// The same of a run.
+/// The same for a run.
 pub(crate) fn run_answered(rt: &impl Abort, alloc: Global, end: RunEnd) -> Answered {
     Answered {
         refused: was_refused(alloc),
@@ -154,6 +161,18 @@ fn give_run<S: Alter>(
     let commands = commands(rt, alloc, orders);
     refusing.begin(alloc);
     run_answered(rt, alloc, spool.run(alloc, commands))
+}
+
+fn give_bundle<S: Alter>(
+    rt: &impl Abort,
+    alloc: Global,
+    spool: &mut Spool<S>,
+    bundle: Bundle,
+    refusing: Refusing,
+) -> Answered {
+    let bundle = take_in(rt, alloc, bundle);
+    refusing.begin(alloc);
+    answer_of(rt, alloc, spool.take_in(alloc, bundle))
 }
 
 fn ask_jobs<S: Alter>(
@@ -226,6 +245,30 @@ fn ask_entry<S: Alter>(
     answer_of(rt, alloc, spool.entry(alloc, &host))
 }
 
+fn ask_taken<S: Alter>(
+    rt: &impl Abort,
+    alloc: Global,
+    spool: &mut Spool<S>,
+    name: &str,
+    refusing: Refusing,
+) -> Answered {
+    let name = site(rt, alloc, name);
+    refusing.begin(alloc);
+    answer_of(rt, alloc, spool.taken(alloc, &name))
+}
+
+fn ask_refusal<S: Alter>(
+    rt: &impl Abort,
+    alloc: Global,
+    spool: &mut Spool<S>,
+    order: Order,
+    refusing: Refusing,
+) -> Answered {
+    let command = command(rt, alloc, order);
+    refusing.begin(alloc);
+    answer_of(rt, alloc, spool.refusal(alloc, &command))
+}
+
 fn serve_words<S: Alter>(
     rt: &impl Abort,
     alloc: Global,
@@ -254,7 +297,7 @@ pub(crate) const REQUESTS: [&[u8]; 4] = [
     b"0 list\n",
 ];
 
-/// A clock that stands still.
+/// A clock that doesn't move.
 #[derive(Drop)]
 struct Standing;
 
@@ -323,13 +366,13 @@ fn go_on<S: Alter>(
     run_answered(rt, alloc, RunEnd { replies, stopped })
 }
 
-/// A fault that is told without a call.
+/// A fault that is reported without a call.
 fn tell(rt: &impl Abort, alloc: Global, fault: StoreFault, refusing: Refusing) -> Answered {
     refusing.begin(alloc);
     answer_of::<()>(rt, alloc, Err(fault))
 }
 
-/// Does what is given or asked while requests are refused.
+/// Does the act while requests are refused.
 pub(crate) fn perform<S: Alter>(
     rt: &impl Abort,
     alloc: Global,
@@ -340,13 +383,19 @@ pub(crate) fn perform<S: Alter>(
     match act {
         Act::Command(order) => give_command(rt, alloc, spool, order, refusing),
         Act::Run(orders) => give_run(rt, alloc, spool, orders, refusing),
+        Act::TakeIn(bundle) => give_bundle(rt, alloc, spool, bundle, refusing),
         Act::Line(line, input) => serve_words(rt, alloc, spool, line, input, refusing),
         Act::Batch(count) => answer_batch(rt, alloc, spool, count, refusing),
         Act::GoOn(orders, tells) => go_on(rt, alloc, spool, orders, tells, refusing),
         Act::Tell(fault) => tell(rt, alloc, fault, refusing),
-        Act::Jobs | Act::Job(_) | Act::Systems | Act::Due(_) | Act::Entry(_) | Act::Next => {
-            ask(rt, alloc, spool, act, refusing)
-        }
+        Act::Jobs
+        | Act::Job(_)
+        | Act::Systems
+        | Act::Due(_)
+        | Act::Entry(_)
+        | Act::Taken(_)
+        | Act::Refusal(_)
+        | Act::Next => ask(rt, alloc, spool, act, refusing),
     }
 }
 
@@ -364,6 +413,8 @@ fn ask<S: Alter>(
         Act::Systems => ask_systems(rt, alloc, spool, refusing),
         Act::Due(second) => ask_due(rt, alloc, spool, second, refusing),
         Act::Entry(host) => ask_entry(rt, alloc, spool, host, refusing),
+        Act::Taken(name) => ask_taken(rt, alloc, spool, name, refusing),
+        Act::Refusal(order) => ask_refusal(rt, alloc, spool, order, refusing),
         Act::Next => ask_next(rt, alloc, spool, refusing),
         _ => panic!(rt; "no question"),
     }
@@ -372,12 +423,13 @@ fn ask<S: Alter>(
 // ---- what is shown
 
 /// Everything that a spool shows: the next number, the systems with their calls, what is due, a map
-/// entry, and the jobs with their bytes, of which there are four at most.
+/// entry, what was taken from a neighbour, and the jobs with their bytes, at most four.
 const LOOKS: &[Act] = &[
     Act::Next,
     Act::Systems,
     Act::Due(SUNDAY),
     Act::Entry("unc"),
+    Act::Taken("unc"),
     Act::Jobs,
     Act::Job(1),
     Act::Job(2),
@@ -395,7 +447,7 @@ pub(crate) fn picture<S: Alter>(rt: &impl Abort, alloc: Global, spool: &mut Spoo
     text
 }
 
-/// Has a spool do each, which it does with ample memory, and refuses none.
+/// Lets a spool do each act, with ample memory and without a refusal.
 pub(crate) fn play<S: Alter>(rt: &impl Abort, alloc: Global, spool: &mut Spool<S>, acts: &[Act]) {
     for act in acts {
         let Answered {
@@ -411,19 +463,29 @@ pub(crate) fn play<S: Alter>(rt: &impl Abort, alloc: Global, spool: &mut Spool<S
     }
 }
 
+/// A bundle without jobs.
+const EMPTY: Bundle = Bundle {
+    from: "unc",
+    below: 9,
+    jobs: &[],
+};
+
 /// A call of each method of a spool.
 const EACH: &[Act] = &[
     Act::Command(Order::Remove("duke")),
     Act::Run(&[]),
+    Act::TakeIn(EMPTY),
     Act::Jobs,
     Act::Job(1),
     Act::Systems,
     Act::Due(SUNDAY),
     Act::Entry("duke"),
+    Act::Taken("duke"),
+    Act::Refusal(Order::Remove("duke")),
     Act::Next,
 ];
 
-/// Whether each call answers that the spool failed, and asks for no memory.
+/// Whether each call answers that the spool failed, and allocates nothing.
 pub(crate) fn is_failed<S: Alter>(rt: &impl Abort, alloc: Global, spool: &mut Spool<S>) -> bool {
     let mut is_failed = true;
     for call in EACH {

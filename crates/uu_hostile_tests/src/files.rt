@@ -1,5 +1,4 @@
-// Two files of a disk in memory, which as those of the program are synced only where they are
-// dirty.
+// Two files of a disk in memory. Like the program's files, they are synced only if they are dirty.
 use sqlite::Options;
 use sqlite_disk::{Crash, Disk, Files, Memory};
 use std::alloc::Global;
@@ -42,7 +41,7 @@ impl Contents {
     }
 }
 
-/// Files that are not there yet.
+/// Files that don't exist yet.
 pub(crate) fn nothing(alloc: Global) -> Contents {
     Contents {
         log: Vec::new(alloc),
@@ -50,8 +49,8 @@ pub(crate) fn nothing(alloc: Global) -> Contents {
     }
 }
 
-/// What is left of files: what was synced, which every crash leaves, and all that was written,
-/// which a crash may leave.
+/// The contents of files after a crash: what was synced, which every crash leaves, and all that was
+/// written, which a crash may leave.
 #[derive(Drop)]
 pub(crate) struct Left {
     pub(crate) synced: Contents,

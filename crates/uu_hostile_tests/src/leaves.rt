@@ -4,18 +4,18 @@ use crate::refusing::{
 };
 use crate::values::{
     HANDED_ON, MAP, MESSAGE, Order, SUNDAY, SYS_FILE, SYS_FILE_DUKE, Work, command, commands,
-    moment, site, system, word,
+    moment, offered, site, system, word,
 };
 use jiff_core::civil::{Date, DateTime, Time};
 use std::alloc::Global;
 use std::process::Abort;
-use uu_core::plain::Machine;
 use uu_core::{
-    CallState, JobHead, Outcome as Called, SystemRow, all_due, choose, definitions, next_calls,
-    queues,
+    CallState, JobHead, Outcome as Called, SystemRow, Taking, all_due, choose, definitions,
+    next_calls, next_polls, queues,
 };
 use uu_map::{entry_host, read_entry, split};
 use uu_names::{Path, SiteName, Word, envelope, return_path};
+use uu_plain::Machine;
 use uu_times::{Moment, SystemDef, Timetables, Windows, Zone, read_sys, read_time, write_sys};
 
 // ---- names
@@ -220,18 +220,19 @@ pub(crate) fn four_jobs(rt: &impl Abort, alloc: Global) -> Machine {
     machine(rt, alloc, FOUR_JOBS)
 }
 
-/// What a machine is asked.
+/// A question to a machine.
 #[derive(Clone, Copy)]
 enum Question {
     Choose,
     AllDue,
     NextCalls,
+    NextPolls,
     Queues,
     Heads,
     Due,
 }
 
-/// A question of a machine and its jobs.
+/// A question to a machine and its jobs.
 #[derive(Clone, Copy)]
 struct MachineCall<'a> {
     question: Question,
@@ -252,6 +253,10 @@ impl Ask for MachineCall<'_> {
                 let calls = next_calls(alloc, systems, self.heads, SUNDAY, self.zone);
                 note(rt, alloc, &calls)
             }
+            Question::NextPolls => {
+                let polls = next_polls(alloc, systems, SUNDAY, self.zone);
+                note(rt, alloc, &polls)
+            }
             Question::Queues => note(rt, alloc, &queues(alloc, self.heads)),
             Question::Heads => note(rt, alloc, &self.machine.heads(alloc)),
             Question::Due => note(rt, alloc, &self.machine.due(alloc, self.at)),
@@ -270,6 +275,7 @@ fn choices(rt: HostRuntime) {
         ("choose", Question::Choose),
         ("all_due", Question::AllDue),
         ("next_calls", Question::NextCalls),
+        ("next_polls", Question::NextPolls),
         ("queues", Question::Queues),
         ("Machine::heads", Question::Heads),
         ("Machine::due", Question::Due),
@@ -285,7 +291,7 @@ fn choices(rt: HostRuntime) {
     }
 }
 
-/// The definitions of two systems, or of that of a name.
+/// The definitions of two systems, or only that of a name.
 #[derive(Clone, Copy)]
 struct Definitions<'a>(Option<&'a SiteName>);
 
@@ -323,7 +329,7 @@ fn shown(rt: &impl Abort, alloc: Global, machine: &Machine) -> String {
 
 const NEW_JOB: Order = Order::Queue("duke", b'N', Work::Send, 9);
 
-/// Whether a machine shows what one with four jobs does, or that after one more.
+/// Whether a machine shows what one with four jobs shows, before or after one more job.
 fn shows(rt: &impl Abort, alloc: Global, machine: &Machine, with_new_job: bool) -> bool {
     let mut wanted = four_jobs(rt, alloc);
     if with_new_job {
@@ -334,7 +340,7 @@ fn shows(rt: &impl Abort, alloc: Global, machine: &Machine, with_new_job: bool) 
     shown(rt, alloc, machine).as_str() == shown(rt, alloc, &wanted).as_str()
 }
 
-/// A step of a machine that finds no memory changes nothing, and is then made.
+/// A step of a machine that runs out of memory changes nothing, and is then made.
 #[derive(Clone, Copy)]
 struct Step;
 
@@ -360,7 +366,7 @@ fn machine_steps(rt: HostRuntime) {
     refuse_each(&rt, rt.alloc(), "Machine::step", 1, &mut Step);
 }
 
-/// A run of a machine that finds no memory made the first steps alone.
+/// A run of a machine that runs out of memory made only the first steps.
 #[derive(Clone, Copy)]
 struct MachineRun;
 
@@ -382,4 +388,28 @@ impl Call for MachineRun {
 #[test]
 fn machine_runs(rt: HostRuntime) {
     refuse_each(&rt, rt.alloc(), "Machine::run", 1, &mut MachineRun);
+}
+
+/// A job of a bundle for which memory runs out changes nothing of the bundle, and is then taken.
+#[derive(Clone, Copy)]
+struct Decide;
+
+impl Call for Decide {
+    fn made<R: Abort>(&mut self, rt: &R, alloc: Global, refusing: Refusing) -> (bool, Outcome) {
+        let first = offered(rt, alloc, 7, 1, "unc", 100);
+        let mut taking = Taking::begin(alloc, true, 3, 0, 6);
+        refusing.begin(alloc);
+        let Said { refused, text } = note(rt, alloc, &taking.decide(true, None, &first));
+        if text.as_str() == "Ok(Ok(First(3)))" {
+            return (refused, Outcome::Answer);
+        }
+        let again = text_of(rt, alloc, &taking.decide(true, None, &first));
+        let is_right = text.as_str() == "Err(AllocError)" && again.as_str() == "Ok(Ok(First(3)))";
+        (refused, outcome_if(is_right, Outcome::Memory))
+    }
+}
+
+#[test]
+fn decisions_on_bundles(rt: HostRuntime) {
+    refuse_each(&rt, rt.alloc(), "Taking::decide", 1, &mut Decide);
 }

@@ -1,6 +1,6 @@
-//! Hostile use of the library: every request for memory of every public call refused in turn, and
-//! readers that never end, break off or are interrupted. `scripts/refused-memory` runs these tests
-//! with a library before the C library that refuses memory.
+//! Hostile use of the library: every allocation of every public call is refused in turn, and
+//! readers never end, break off or are interrupted. `tests/refused-memory` runs these tests with a
+//! library before the C library that refuses memory.
 #![tactic(auto)]
 
 #[cfg(test)]

@@ -1,4 +1,5 @@
-// The calls of the program's library that ask no spool: words, settings, input, faults and reports.
+// The calls of the program's library that don't use a spool: words, settings, input, faults and
+// reports.
 use crate::leaves::machine;
 use crate::refusing::{Ask, Refusing, Said, note, refuse_each_of};
 use crate::spools::lines;
@@ -6,12 +7,12 @@ use crate::values::{MAP, Order, SETTINGS, SUNDAY, SYS_FILE, Work, moment, settin
 use std::alloc::Global;
 use std::io::Print;
 use std::process::Abort;
-use uu_core::{Due, JobHead, Queue, SystemRow, next_calls, queues};
+use uu_core::{Due, JobHead, Queue, SystemRow, next_calls, next_polls, queues};
 use uu_map::{Entry, read_entry};
 use uu_times::Moment;
 use uuspool::{
     Fault, Settings, fault_line, line_of, read_input, report_due, report_jobs, report_links,
-    report_next_calls, report_queues, report_status,
+    report_next_calls, report_next_polls, report_queues, report_status,
 };
 
 // ---- words, settings, input and faults
@@ -37,7 +38,7 @@ impl Ask for Given<'_> {
     }
 }
 
-/// Words that are no line.
+/// Words that aren't a line.
 const BAD_LINES: &[&str] = &[
     "nonsense",
     "-h",
@@ -61,7 +62,7 @@ fn words(rt: HostRuntime) {
     }
 }
 
-/// Settings, and texts that are none.
+/// Settings, and texts that aren't settings.
 const SETTINGS_TEXTS: &[(&str, &str)] = &[
     ("Settings::read", SETTINGS),
     (
@@ -104,11 +105,12 @@ enum Report<'a> {
     Links(&'a Entry),
     Jobs(&'a [JobHead]),
     NextCalls(&'a [SystemRow], &'a [JobHead], &'a Moment),
+    NextPolls(&'a [SystemRow], &'a Moment),
     Queues(&'a [Queue]),
     Status(&'a [SystemRow]),
 }
 
-/// A report, with the settings that it is printed by.
+/// A report, with the settings for it.
 #[derive(Clone, Copy)]
 struct Printed<'a> {
     report: Report<'a>,
@@ -127,6 +129,9 @@ impl Ask for Printed<'_> {
             }
             Report::NextCalls(systems, jobs, at) => {
                 next_calls_reported(alloc, systems, jobs, at, self.settings)
+            }
+            Report::NextPolls(systems, at) => {
+                next_polls_reported(alloc, systems, at, self.settings)
             }
             Report::Queues(queues) => {
                 assert!(rt; queues.iter().all(|queue| queue.sums.oldest <= LAST_SECOND));
@@ -151,6 +156,17 @@ fn next_calls_reported(
 ) -> Result<Vec<u8>, Fault> {
     let calls = next_calls(alloc, systems, jobs, at.second, &settings.zone)?;
     report_next_calls(alloc, &calls, at, settings)
+}
+
+// The report of when these systems can next be called, with a job or without one.
+fn next_polls_reported(
+    alloc: Global,
+    systems: &[SystemRow],
+    at: &Moment,
+    settings: &Settings,
+) -> Result<Vec<u8>, Fault> {
+    let polls = next_polls(alloc, systems, at.second, &settings.zone)?;
+    report_next_polls(alloc, &polls, at, settings)
 }
 
 fn refuse_each_of_report<R: Abort + Print>(
@@ -199,6 +215,8 @@ fn reports_of_systems(rt: HostRuntime) {
     let heads = machine.heads(alloc).expect(&rt, "memory");
     let calls = Report::NextCalls(machine.systems(), &heads, &at);
     refuse_each_of_report(&rt, alloc, "report_next_calls", &settings, calls);
+    let polls = Report::NextPolls(machine.systems(), &at);
+    refuse_each_of_report(&rt, alloc, "report_next_polls", &settings, polls);
     let entry = read_entry(alloc, MAP).expect(&rt, "an entry");
     refuse_each_of_report(&rt, alloc, "report_links", &settings, Report::Links(&entry));
 }

@@ -1,21 +1,23 @@
-// The calls that take no memory ask for none.
-use crate::leaves::four_jobs;
+// The calls that never allocate.
+use crate::leaves::{four_jobs, machine};
 use crate::refusing::{ALL, expect_none};
 use crate::values::{
-    SETTINGS, SUNDAY, Work, by, grade, key, moment, new_job, site, system, word, words_of,
+    Order, SETTINGS, SUNDAY, Work, by, grade, key, moment, new_job, offered, site, system, word,
+    words_of,
 };
 use std::alloc::Global;
 use std::collections::BTreeMap;
 use std::process::Abort;
 use uu_core::callable::{is_free, lower};
-use uu_core::plain::Machine;
 use uu_core::{
-    CallState, Filter, Mark, Outcome, Refusal, SystemRow, decide_done, decide_drop, decide_failed,
-    decide_forget, decide_job, decide_queue, decide_queue_once, held, limit,
+    CallState, Filter, Mark, Outcome, Refusal, Reply, SystemRow, Taking, decide_done, decide_drop,
+    decide_failed, decide_forget, decide_job, decide_queue, decide_queue_once, held, limit,
+    pick_systems,
 };
 use uu_map::MapFault;
 use uu_names::text::{blanks_len, first_line, is_blank, len_before};
-use uu_names::{Grade, Listed, NameFault, Path, is_site_byte};
+use uu_names::{Grade, Listed, NameFault, Path, SiteName, is_site_byte};
+use uu_plain::Machine;
 use uu_schema::{StoreFault, StoreKind};
 use uu_times::{Moment, SystemDef, TimeFault, Windows, Zone};
 use uuspool::{Fault, Key, Settings, SettingsFault, Task, batch_settings, fault_status, moment_of};
@@ -113,6 +115,38 @@ fn machines(rt: HostRuntime) {
         "Machine::links",
         "Machine::job",
         "Machine::entry",
+    ];
+    expect_none(&rt, alloc, &names, &answers, want);
+}
+
+const KEPT: &[Order] = &[
+    Order::Define(b"system duke\ntime Any\n"),
+    Order::Entry(b"#N unc\nunc duke(5)\n"),
+    Order::HandOn("duke", 7, 5, "duke", 3),
+];
+
+#[test]
+fn rows_of_machines(rt: HostRuntime) {
+    let alloc = rt.alloc();
+    let machine = machine(&rt, alloc, KEPT);
+    let unc = site(&rt, alloc, "unc");
+    let job = machine.job(1).expect(&rt, "a job");
+    let entry = machine.entry(&unc).expect(&rt, "an entry");
+    let link = machine.links().first().expect(&rt, "a link");
+    ALL.begin(alloc);
+    let of_job = (job.head().number, job.bytes().len());
+    let of_entry = (entry.host().as_str(), entry.bytes().len());
+    let of_link = (link.name().as_str(), link.below(), link.taken().len());
+    let answers = (of_job, of_entry, of_link);
+    let want = "((1, 3), (\"unc\", 19), (\"duke\", 0, 1))";
+    let names = [
+        "PlainJob::head",
+        "PlainJob::bytes",
+        "PlainEntry::host",
+        "PlainEntry::bytes",
+        "PlainLink::name",
+        "PlainLink::below",
+        "PlainLink::taken",
     ];
     expect_none(&rt, alloc, &names, &answers, want);
 }
@@ -235,17 +269,40 @@ fn keys(rt: HostRuntime) {
     expect_none(&rt, alloc, &names, &answers, want);
 }
 
+/// A bundle is begun, and a job of it is refused because the neighbour said that it would not come
+/// again.
+#[test]
+fn bundles(rt: HostRuntime) {
+    let alloc = rt.alloc();
+    let offered = offered(&rt, alloc, 5, 2, "unc", 100);
+    ALL.begin(alloc);
+    let mut taking = Taking::begin(alloc, true, 3, 0, 6);
+    let stale = taking.decide(true, None, &offered);
+    expect_none(&rt, alloc, &["Taking::begin"], &stale, "Ok(Err(Stale))");
+}
+
 #[test]
 fn decisions_and_refusals(rt: HostRuntime) {
     let alloc = rt.alloc();
     ALL.begin(alloc);
     let refusal = (Refusal::Busy.code(), Refusal::Busy.name());
-    let answers = (decide_drop(true, true), refusal);
-    let names = ["decide_drop", "Refusal::code", "Refusal::name"];
-    expect_none(&rt, alloc, &names, &answers, "(Err(Busy), (6, \"Busy\"))");
+    let replies = (
+        Reply::Refused(Refusal::Busy).refusal(),
+        Reply::Done.refusal(),
+        Reply::Number(7).refusal(),
+    );
+    let answers = (decide_drop(true, true), refusal, replies);
+    let want = "(Err(Busy), (6, \"Busy\"), (Some(Busy), None, None))";
+    let names = [
+        "decide_drop",
+        "Refusal::code",
+        "Refusal::name",
+        "Reply::refusal",
+    ];
+    expect_none(&rt, alloc, &names, &answers, want);
 }
 
-/// A system that may be called all week, and is left alone since a call that went well.
+/// A system that may be called all week, and is left alone after a successful call.
 fn row(rt: &impl Abort, alloc: Global) -> SystemRow {
     SystemRow {
         def: system(rt, alloc, b"system duke\ntime Any 30\n"),
@@ -256,6 +313,13 @@ fn row(rt: &impl Abort, alloc: Global) -> SystemRow {
             outcome: Outcome::Done,
         },
     }
+}
+
+/// A list of only such a system.
+fn row_alone(rt: &impl Abort, alloc: Global) -> Vec<SystemRow> {
+    let mut rows = Vec::new(alloc);
+    rows.push(row(rt, alloc)).expect(rt, "memory");
+    rows
 }
 
 #[test]
@@ -281,6 +345,27 @@ fn systems_that_may_be_called(rt: HostRuntime) {
     let is_any = limit(row.def.lines(), at.week) == any;
     let answers = (is_any, held(&row.call, &at));
     expect_none(&rt, alloc, &["limit", "held"], &answers, "(true, true)");
+}
+
+/// How many of these systems have the name.
+fn count_named(rows: Vec<SystemRow>, name: &SiteName) -> usize {
+    pick_systems(rows, Some(name)).len()
+}
+
+#[test]
+fn systems_of_a_name(rt: HostRuntime) {
+    let alloc = rt.alloc();
+    let duke = site(&rt, alloc, "duke");
+    let unc = site(&rt, alloc, "unc");
+    let (one, two, three) = (
+        row_alone(&rt, alloc),
+        row_alone(&rt, alloc),
+        row_alone(&rt, alloc),
+    );
+    ALL.begin(alloc);
+    let all = pick_systems(one, None).len();
+    let answers = (all, count_named(two, &duke), count_named(three, &unc));
+    expect_none(&rt, alloc, &["pick_systems"], &answers, "(1, 1, 0)");
 }
 
 #[test]

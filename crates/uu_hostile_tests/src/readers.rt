@@ -1,5 +1,5 @@
-// Readers that give one byte at a time, never end, break off or are interrupted, and what
-// `read_input` answers of each.
+// Readers that give one byte at a time, never end, break off or are interrupted, and the answer of
+// `read_input` for each.
 use std::alloc::Global;
 use std::io;
 use std::io::{ErrorKind, Read};
@@ -28,7 +28,7 @@ enum End {
 struct Letters {
     letters: u32,
     end: End,
-    /// Whether each second read is interrupted.
+    /// Whether every second read is interrupted.
     stutters: bool,
     /// How many reads there were.
     reads: u32,
@@ -110,7 +110,7 @@ fn interrupted_reads(rt: HostRuntime) {
 
 const LETTERS: &[u32] = &[0, 1, 2, 20_000, 2_000_000];
 
-/// It counts, too.
+/// An interrupted read counts, too.
 fn expect_most_reads(rt: &impl Abort, alloc: Global, letters: u32, end: End, stutters: bool) {
     let mut reader = Letters::new(letters, end);
     reader.stutters = stutters;

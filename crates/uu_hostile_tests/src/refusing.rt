@@ -1,7 +1,6 @@
-// Requests for memory that are refused, one after the other. `tests/refuse.c`, loaded before the C
-// library, refuses them; it is told which ones by requests of sizes that nothing else asks for.
-// Where it is not loaded these are answered, nothing is refused, and each call is made with ample
-// memory alone.
+// Allocations that are refused, one after the other. `tests/refuse.c`, loaded before the C library,
+// refuses them. Requests of sizes that nothing else asks for say which. If it isn't loaded, these
+// requests are answered, nothing is refused, and each call is only made with ample memory.
 use std::alloc::Global;
 use std::fmt::Debug;
 use std::io::Print;
@@ -16,12 +15,12 @@ const ENOUGH: usize = 0x0c00_0000;
 /// More requests than any call makes.
 const MOST: usize = 100_000;
 
-/// What is refused from a request on.
+/// Which requests are refused, given the first of them.
 #[derive(Clone, Copy, PartialEq, Eq)]
 enum Short {
-    /// That request alone.
+    /// Only that request.
     Alone,
-    /// That one and every later one.
+    /// That request and every later one.
     Onwards,
 }
 
@@ -50,7 +49,7 @@ impl Refusing {
         self.n <= 1
     }
 
-    /// The requests are counted, and refused, from here on.
+    /// From here on the requests are counted and refused.
     pub(crate) fn begin(self, alloc: Global) {
         let size = match self.short {
             Short::Alone => ALONE,
@@ -60,37 +59,36 @@ impl Refusing {
     }
 }
 
-/// No request is refused any more. Tells whether one was.
+/// No request is refused any more. Returns whether one was.
 pub(crate) fn was_refused(alloc: Global) -> bool {
     Vec::<u8>::with_capacity(alloc, ENOUGH).is_err()
 }
 
-/// What a call made of a refused request.
+/// What a call did after a refused request.
 #[derive(Clone, Copy, PartialEq, Eq)]
 pub(crate) enum Outcome {
     /// It gave the answer that it gives with ample memory.
     Answer,
-    /// It told its own want of memory.
+    /// It reported its own lack of memory.
     Memory,
-    /// It told that the store failed.
+    /// It reported that the store failed.
     Store,
     /// It did something else.
     Wrong,
 }
 
-/// The outcome, where the call did what it has to do.
+/// The outcome, if the call did what it has to do.
 pub(crate) fn outcome_if(is_right: bool, outcome: Outcome) -> Outcome {
     if is_right { outcome } else { Outcome::Wrong }
 }
 
 /// A call that is made again and again.
 pub(crate) trait Call {
-    /// Makes the call while requests are refused, and tells whether one was, and what the call made
-    /// of it.
+    /// Makes the call while requests are refused. Returns whether one was, and the outcome.
     fn made<R: Abort>(&mut self, rt: &R, alloc: Global, refusing: Refusing) -> (bool, Outcome);
 }
 
-/// What came of the requests of a call.
+/// The outcomes for the requests of a call.
 #[derive(Clone, Copy)]
 struct Count {
     refused: usize,
@@ -98,9 +96,9 @@ struct Count {
     stores: usize,
 }
 
-/// Makes a call with its first request refused, then with its second, and so on until none was:
-/// what came of them, or the first request at which the call did what it must not. A call tells a
-/// fault only where a request was refused.
+/// Makes a call with its first request refused, then with its second, and so on until none was.
+/// Returns the outcomes, or the first request at which the call was wrong. A call may report a
+/// fault only if a request was refused.
 fn counted<R: Abort, C: Call>(
     rt: &R,
     alloc: Global,
@@ -133,14 +131,13 @@ fn counted<R: Abort, C: Call>(
     Err(MOST)
 }
 
-/// Whether a call does what it must not, with some request refused or with none.
+/// Whether a call is wrong, with some request refused or with none.
 pub(crate) fn is_wrong<R: Abort, C: Call>(rt: &R, alloc: Global, call: &mut C) -> bool {
     counted(rt, alloc, call, Short::Alone, 1).is_err()
 }
 
-/// Makes the call of this name with each of its requests refused alone, and with each, or each of
-/// so many, refused with all later ones. Tells what came of them, which `scripts/refused-memory`
-/// reads.
+/// Makes the call of this name with each of its requests refused alone, and with each, or every so
+/// many, refused with all later ones. Prints the outcomes, which `tests/refused-memory` reads.
 pub(crate) fn refuse_each<R: Abort + Print, C: Call>(
     rt: &R,
     alloc: Global,
@@ -170,14 +167,14 @@ pub(crate) fn text_of<T: Debug>(rt: &impl Abort, alloc: Global, value: &T) -> St
     (format!(in alloc; "{value:?}")).expect(rt, "memory")
 }
 
-/// What a call answered, as text, and whether a request was refused meanwhile.
+/// The answer of a call, as text, and whether a request was refused meanwhile.
 #[derive(Drop)]
 pub(crate) struct Said {
     pub(crate) refused: bool,
     pub(crate) text: String,
 }
 
-/// What was just answered. No request is refused any more.
+/// The answer that was just given. No request is refused any more.
 pub(crate) fn note<T: Debug>(rt: &impl Abort, alloc: Global, answer: &T) -> Said {
     Said {
         refused: was_refused(alloc),
@@ -191,7 +188,7 @@ pub(crate) trait Ask {
     fn said<R: Abort>(&self, rt: &R, alloc: Global, refusing: Refusing) -> Said;
 }
 
-/// Such a call, with its answer where memory is ample.
+/// Such a call, with its answer when memory is ample.
 #[derive(Drop)]
 struct Asking<'a, A: Ask> {
     ask: &'a A,
@@ -208,7 +205,7 @@ impl<A: Ask> Call for Asking<'_, A> {
     }
 }
 
-/// Whether an answer, or the fault of one that is not looked at, tells want of memory.
+/// Whether an answer, or the fault of one that isn't looked at, says that memory ran out.
 fn is_memory(text: &str) -> bool {
     let is_fault = text.contains("Err(") || text.starts_with("Some(");
     let end = text.trim_end_matches(')');
@@ -223,7 +220,7 @@ pub(crate) fn refuse_each_of<R: Abort + Print, A: Ask>(rt: &R, alloc: Global, na
     refuse_each(rt, alloc, name, 1, &mut Asking { ask, ample });
 }
 
-/// The calls of these names asked for no memory, and gave what they had to give.
+/// The calls of these names allocated nothing, and gave the right answers.
 pub(crate) fn expect_none<R: Abort + Print, T: Debug>(
     rt: &R,
     alloc: Global,

@@ -1,19 +1,22 @@
-// The calls of a spool, lines of the program and batches while memory is short: over a database in
-// memory and over files, both freshly opened and with statements kept.
+// The calls of a spool, lines of the program and batches while memory runs out: over a database in
+// memory and over files, both just opened and with kept statements.
 use crate::acts::{Act, REQUESTS};
 use crate::files::{FEW_PAGES, MANY_PAGES, nothing};
 use crate::refusing::{ALL, expect_none, is_wrong, refuse_each};
 use crate::trials::{
     Deed, InFiles, InMemory, begun, changed_files, only_stage, prepared, stages_of,
 };
-use crate::values::{MAP, MESSAGE, Order, SUNDAY, SYS_FILE, SYS_FILE_DUKE, TWO_SYSTEMS, Work};
+use crate::values::{
+    Bundle, MAP, MESSAGE, Order, SUNDAY, SYS_FILE, SYS_FILE_DUKE, TWO_SYSTEMS, Work,
+};
 use sqlite::Connection;
 use std::alloc::Global;
 use std::io::Print;
 use std::process::Abort;
 use uu_store::{StoreFault, StoreKind};
 
-/// A call: its name, what was done before, the call itself, and what its first commands do alone.
+/// A call: its name, what was done before, the call itself, and the same without its later
+/// commands.
 type Case = (&'static str, &'static [Act], Act, &'static [Act]);
 
 const DUKE: &[Act] = &[Act::Command(Order::Define(b"system duke\ntime Any\n"))];
@@ -42,8 +45,28 @@ const FULL: &[Act] = &[Act::Run(ORDERS)];
 /// What unc hands on, which is taken as job 3.
 const HAND_ON: Order = Order::HandOn("unc", 7, 5, "duke", 20_000);
 
-/// The same, where it was taken before.
+/// The same, if it was taken before.
 const HANDED_ON: &[Act] = &[Act::Run(ORDERS), Act::Command(HAND_ON)];
+
+/// What unc hands on: a job that was taken before, another job under its number, a job for a system
+/// that isn't known, and one that is taken as job 4.
+const BUNDLE: Bundle = Bundle {
+    from: "unc",
+    below: 7,
+    jobs: &[
+        (7, 5, "duke", 20_000),
+        (7, 6, "duke", 0),
+        (8, 5, "phs", 0),
+        (9, 5, "duke", 20_000),
+    ],
+};
+
+/// All of it is there, and unc says again that it won't ask for less.
+const TAKEN_BEFORE: Bundle = Bundle {
+    from: "unc",
+    below: 0,
+    jobs: &[(7, 5, "duke", 20_000)],
+};
 
 const CALLS: &[Case] = &[
     (
@@ -131,6 +154,18 @@ const CALLS: &[Case] = &[
         &[],
     ),
     (
+        "Spool::command (release)",
+        FULL,
+        Act::Command(Order::Release("duke", &[1, 9, 2, 1])),
+        &[],
+    ),
+    (
+        "Spool::command (release, no jobs)",
+        FULL,
+        Act::Command(Order::Release("unc", &[1, 2])),
+        &[],
+    ),
+    (
         "Spool::command (entry)",
         DUKE,
         Act::Command(Order::Entry(b"#N unc\nunc duke(5), phs\n")),
@@ -195,6 +230,13 @@ const CALLS: &[Case] = &[
             ]),
         ],
     ),
+    ("Spool::take_in", HANDED_ON, Act::TakeIn(BUNDLE), &[]),
+    (
+        "Spool::take_in (again)",
+        HANDED_ON,
+        Act::TakeIn(TAKEN_BEFORE),
+        &[],
+    ),
     ("Spool::jobs", FULL, Act::Jobs, &[]),
     ("Spool::job", FULL, Act::Job(1), &[]),
     ("Spool::job (none)", FULL, Act::Job(9), &[]),
@@ -202,6 +244,21 @@ const CALLS: &[Case] = &[
     ("Spool::due", FOUR_JOBS, Act::Due(SUNDAY), &[]),
     ("Spool::entry", FULL, Act::Entry("unc"), &[]),
     ("Spool::entry (none)", FULL, Act::Entry("duke"), &[]),
+    ("Spool::taken", HANDED_ON, Act::Taken("unc"), &[]),
+    ("Spool::taken (none)", FULL, Act::Taken("unc"), &[]),
+    (
+        "Spool::refusal",
+        FULL,
+        Act::Refusal(Order::Remove("duke")),
+        &[],
+    ),
+    ("Spool::refusal (none)", FULL, Act::Refusal(HAND_ON), &[]),
+    (
+        "Spool::refusal (of a key)",
+        HANDED_ON,
+        Act::Refusal(Order::HandOn("unc", 7, 6, "duke", 20_000)),
+        &[],
+    ),
     ("Spool::next", FULL, Act::Next, &[]),
 ];
 
@@ -210,6 +267,22 @@ const LOAD: Act = Act::Line("load", TWO_SYSTEMS);
 const SEND: Act = Act::Line("--at 1000000000 --as ann send duke a b -g B", b"xyz");
 
 const REQUEST: Act = Act::Line("--at 1000000000 --as ann request unc a b -g 9", b"");
+
+/// What unc hands on here, which is mail that is passed on to duke.
+const UNC_BUNDLE: &[u8] =
+    b"bundle unc mysite - 7 z 7129035608477008455\njob 7 7235571821644962191 A bob 6 exec rmail duke!joe\nHello\n\nend\n";
+
+/// What unc hands on again, and a job that it said would not come again.
+const UNC_ASKED: &[u8] =
+    b"bundle unc mysite - 7 z 7129035608477008455\njob 7 7235571821644962191 A bob 6 exec rmail duke!joe\nHello\n\njob 6 4339533794161303712 A bob 6 exec rmail duke!joe\nHello\n\nend\n";
+
+/// duke has this site's job 1.
+const DUKE_BUNDLE: &[u8] =
+    b"bundle duke mysite - 1 z 8784095817163137413\nhas 1 8523656004562681896\nend\n";
+
+/// duke refuses this site's job 1.
+const DUKE_REFUSAL: &[u8] =
+    b"bundle duke mysite - 1 z 8784095817163137413\nno 1 8523656004562681896 Stale\nend\n";
 
 /// Lines of the program: their names, what was done before, their words and input, and what they
 /// print.
@@ -311,6 +384,12 @@ const LINES: &[LineCase] = &[
         "unc 9 2 0 2001-09-09 01:46:40 due\nduke B 1 0 2001-09-09 01:46:40 due\n",
     ),
     (
+        "serve (when, of each system)",
+        &[LOAD, SEND, REQUEST],
+        ("--at 1000000000 when -a", b""),
+        "duke - - 0 2001-09-09 01:46:40 due\nunc - - 0 2001-09-09 01:46:40 due\n",
+    ),
+    (
         "serve (queues)",
         &[LOAD, SEND, REQUEST],
         ("queues", b""),
@@ -347,6 +426,36 @@ const LINES: &[LineCase] = &[
         "job 1\n",
     ),
     ("serve (forget)", &[LOAD], ("forget unc 7", b""), "done\n"),
+    (
+        "serve (pack)",
+        &[LOAD, SEND],
+        ("pack duke", b""),
+        "bundle mysite duke - 1 z 7158226281569748039\njob 1 8523656004562681896 B ann 3 send a b\nxyz\nend\n",
+    ),
+    (
+        "serve (unpack)",
+        &[LOAD],
+        ("unpack unc duke", UNC_BUNDLE),
+        "unc done\n7 job 1\n",
+    ),
+    (
+        "serve (answer)",
+        &[LOAD, Act::Line("unpack unc duke", UNC_BUNDLE)],
+        ("answer unc duke", UNC_ASKED),
+        "bundle mysite unc - 2 z 2231020661359526714\nhas 7 7235571821644962191\nno 6 4339533794161303712 Stale\nend\n",
+    ),
+    (
+        "serve (settle)",
+        &[LOAD, SEND],
+        ("settle duke", DUKE_BUNDLE),
+        "duke 1\n",
+    ),
+    (
+        "serve (settle, refused)",
+        &[LOAD, SEND],
+        ("settle duke", DUKE_REFUSAL),
+        "duke\nduke refused 1 Stale\n",
+    ),
     ("serve (map)", &[], ("map", MAP), "unc done\n"),
     (
         "serve (neighbours)",
@@ -357,12 +466,12 @@ const LINES: &[LineCase] = &[
     ("serve (name)", &[], ("name", b""), "mysite\n"),
 ];
 
-/// The lines of the program. Each function that names a large table is dear to prove.
+/// The lines of the program. Each function that names a large table costs much proof time.
 pub(crate) fn lines() -> &'static [LineCase] {
     LINES
 }
 
-/// The load of two systems, of which the first alone is a part.
+/// The load of two systems; the first alone is a part of it.
 const LOAD_TWO: Case = (
     "serve (load)",
     &[],
@@ -378,7 +487,7 @@ const BATCH: Case = (
     &[Act::Batch(1), Act::Batch(2), Act::Batch(3)],
 );
 
-/// Each request is refused alone, and each seventh with all later ones.
+/// Each request is refused alone, and every seventh with all later ones.
 const LATER: usize = 7;
 
 fn in_memory<R: Abort + Print>(rt: &R, alloc: Global, (name, before, act, parts): Case) {
@@ -387,7 +496,7 @@ fn in_memory<R: Abort + Print>(rt: &R, alloc: Global, (name, before, act, parts)
     refuse_each(rt, alloc, name, LATER, &mut InMemory { deed, stages });
 }
 
-/// Over files of a spool that were just opened.
+/// In files of a spool that were just opened.
 fn in_opened_files<R: Abort + Print>(rt: &R, alloc: Global, (name, before, act, parts): Case) {
     let name = (format!(in alloc; "{name}, in opened files")).expect(rt, "memory");
     let stages = stages_of(rt, alloc, before, parts, act);
@@ -397,7 +506,7 @@ fn in_opened_files<R: Abort + Print>(rt: &R, alloc: Global, (name, before, act, 
     refuse_each(rt, alloc, name.as_str(), LATER, &mut trial);
 }
 
-/// Over new files, in which what comes before is done first.
+/// In new files, in which the acts before are done first.
 fn in_new_files<R: Abort + Print>(rt: &R, alloc: Global, (name, before, act, parts): Case) {
     let name = (format!(in alloc; "{name}, in new files")).expect(rt, "memory");
     let stages = stages_of(rt, alloc, before, parts, act);
@@ -406,7 +515,8 @@ fn in_new_files<R: Abort + Print>(rt: &R, alloc: Global, (name, before, act, par
     refuse_each(rt, alloc, name.as_str(), LATER, &mut trial);
 }
 
-/// What the first command of a line does, where it has more than one.
+/// What the first command of a line does, if the line has several commands that are done one by
+/// one. A bundle is taken whole.
 fn parts_of(words: &str) -> &'static [Act] {
     match words {
         "load" => LOAD_TWO.3,
@@ -487,10 +597,10 @@ const INTO_2: &[&str] = &[
     "UPDATE spool SET version = 2",
 ];
 
-/// A database that is taken: what was done in it, and what changed it then.
+/// A database that is taken: what was done in it, and what changed it afterwards.
 type Taking = (&'static str, &'static [Act], &'static [&'static str]);
 
-/// Version 1 has no success waits, which FOUR_JOBS doesn't use.
+/// Version 1 has no success waits, and FOUR_JOBS uses none.
 const TAKINGS: &[Taking] = &[
     ("Spool::adopt (empty", &[], &[]),
     ("Spool::adopt (a spool", HANDED_ON, &[]),
@@ -498,7 +608,7 @@ const TAKINGS: &[Taking] = &[
     ("Spool::adopt (version 2", FULL, INTO_2),
 ];
 
-/// Files are taken as a spool: new ones, or those in which these were done.
+/// Files are taken as a spool: new ones, or those in which these acts were done.
 fn taken_in_files<R: Abort + Print>(rt: &R, alloc: Global, (name, acts, statements): Taking) {
     let name = (format!(in alloc; "{name} in files)")).expect(rt, "memory");
     let contents = if acts.is_empty() {
@@ -513,7 +623,7 @@ fn taken_in_files<R: Abort + Print>(rt: &R, alloc: Global, (name, acts, statemen
     refuse_each(rt, alloc, name.as_str(), LATER, &mut trial);
 }
 
-/// The same of a database in memory.
+/// The same for a database in memory.
 fn taken_in_memory<R: Abort + Print>(rt: &R, alloc: Global, (name, acts, statements): Taking) {
     let name = (format!(in alloc; "{name} in memory)")).expect(rt, "memory");
     let stages = only_stage(rt, alloc, acts);
@@ -575,7 +685,7 @@ fn stretches_of_work(rt: HostRuntime) {
     refuse_each(&rt, alloc, "Spool::adopt_and_run", LATER, &mut trial);
 }
 
-/// A spool is given back, or its store is, without memory.
+/// A spool is given back, or its store is, without allocating.
 #[test]
 fn spools_are_given_back(rt: HostRuntime) {
     let alloc = rt.alloc();
@@ -600,8 +710,8 @@ fn spools_are_given_back(rt: HostRuntime) {
 
 const TWO_ORDERS: &[Order] = &[Order::Regrade(1, b'A'), Order::Kill(2, "root", true)];
 
-/// Calls that drop a job where memory is short, that go on after a command that found none, and
-/// that tell want of memory or a fault of the store without a cause.
+/// Wrong calls: they drop a job when memory runs out, go on after a command that found none, and
+/// report out of memory or a fault of the store without a cause.
 const WRONG: &[Act] = &[
     Act::GoOn(TWO_ORDERS, false),
     Act::GoOn(TWO_ORDERS, true),
@@ -609,7 +719,7 @@ const WRONG: &[Act] = &[
     Act::Tell(StoreFault::Store(StoreKind::Disk)),
 ];
 
-/// Whether a call is found to be no run of the two orders.
+/// Whether a call is recognised as not being a run of the two orders.
 fn is_found_wrong(rt: &impl Abort, alloc: Global, act: Act) -> bool {
     let parts = [Act::Run(&[]), Act::Run(&[Order::Regrade(1, b'A')])];
     let stages = stages_of(rt, alloc, FULL, &parts, Act::Run(TWO_ORDERS));
@@ -617,7 +727,7 @@ fn is_found_wrong(rt: &impl Abort, alloc: Global, act: Act) -> bool {
     is_wrong(rt, alloc, &mut InMemory { deed, stages })
 }
 
-/// Calls that are wrong are found: `scripts/refused-memory` wants all of them.
+/// Wrong calls are recognised: `tests/refused-memory` requires all of them.
 #[test]
 fn wrong_calls(rt: HostRuntime) {
     let alloc = rt.alloc();

@@ -1,5 +1,5 @@
-// A database or two files in which something is done while memory is short, and whether what came
-// of it is right.
+// A database or two files in which something is done while memory runs out, and whether the result
+// is right.
 ghost use Rattle.std.specs.Prelude.{◌≡◌, false};
 
 use crate::acts::{Act, Answered, End, end_of, is_failed, perform, picture, play, run_answered};
@@ -17,31 +17,31 @@ use uu_store::{RunEnd, Spool, StoreFault};
 pub(crate) enum Deed {
     /// A call of the spool, after others.
     Call(&'static [Act], Act),
-    /// The database is taken as a spool; it was one before in which this was done, and the
-    /// statements changed it then.
+    /// The database is taken as a spool. It was one before in which this was done, and then the
+    /// statements changed it.
     Adopt(&'static [Act], &'static [&'static str]),
     /// A whole stretch of work.
     AdoptAndRun(&'static [Order]),
     /// The files of a spool in which this was done are closed.
     Close(&'static [Act]),
-    /// Statements change a database, whether it is a spool's or not.
+    /// Statements change a database, whether or not it is a spool's.
     Change(&'static [&'static str]),
 }
 
-/// What came of it.
+/// The result.
 #[derive(Drop)]
 pub(crate) struct Met {
     refused: bool,
     end: End,
     /// What was answered so far.
     text: String,
-    /// What the spool shows then, where it is there.
+    /// What the spool shows then, if it is there.
     shown: Option<String>,
-    /// What the same call answers then, where it is made again.
+    /// What the same call answers then, if it is made again.
     again: Option<String>,
 }
 
-/// What a spool is said to show that failed and asks for no memory.
+/// What a spool counts as showing that failed and allocates nothing.
 const FAILED: &str = "failed";
 
 // ---- a call of a spool
@@ -57,7 +57,7 @@ fn seen<S: Alter>(rt: &impl Abort, alloc: Global, spool: &mut Spool<S>) -> Strin
     }
 }
 
-/// Whether the call may be made once more with the same answer: a run and a batch would go on from
+/// Whether the call may be made once more with the same answer. A run and a batch would go on from
 /// another state.
 fn may_be_repeated(call: Act) -> bool {
     !matches!(
@@ -66,7 +66,7 @@ fn may_be_repeated(call: Act) -> bool {
     )
 }
 
-/// What the call answers that is made once more, with ample memory, or nothing where it tells a
+/// The answer of the call when it is made once more with ample memory, or nothing if it reports a
 /// fault.
 fn answered_again<S: Alter>(
     rt: &impl Abort,
@@ -107,7 +107,7 @@ fn call<S: Alter>(
     } else {
         None
     };
-    // A question changes nothing, and so has no store that may fail.
+    // A question changes nothing, so it has no store that may fail.
     let is_fault = end == End::Store && is_question(call);
     Met {
         refused,
@@ -192,7 +192,7 @@ fn changed<S: Alter>(
     conn
 }
 
-/// What a spool shows, and its store, which is let go.
+/// What a spool shows, and its store after it is let go.
 fn shown_and_let_go<S: Alter + Drop>(
     rt: &impl Abort,
     alloc: Global,
@@ -203,8 +203,7 @@ fn shown_and_let_go<S: Alter + Drop>(
     (Some(shown), spool.into_store())
 }
 
-/// What a database shows that was handed back: a second `adopt` takes it, but for one whose store
-/// failed.
+/// What a database shows that came back: a second `adopt` takes it, unless its store failed.
 fn handed_back<S: Alter + Drop>(
     rt: &impl Abort,
     alloc: Global,
@@ -219,7 +218,7 @@ fn handed_back<S: Alter + Drop>(
     shown_and_let_go(rt, alloc, spool)
 }
 
-/// What came of a call without an answer.
+/// The result of a call without an answer.
 fn without_answer(alloc: Global, refused: bool, end: End, shown: Option<String>) -> Met {
     Met {
         refused,
@@ -351,7 +350,7 @@ fn closed<D: Disk + Drop>(
     refusing.begin(alloc);
     let got = spool.close();
     let refused = was_refused(alloc);
-    // A close tells want of memory as a fault of the database.
+    // A close reports out of memory as a fault of the database.
     let (end, files) = match got {
         Ok(files) => (End::Whole, files),
         Err((StoreFault::Store(_), store)) => (End::Store, store.close()),
@@ -377,7 +376,7 @@ fn done_in_files(
     (met, left_of(rt, alloc, files))
 }
 
-/// What new files hold in which these were done.
+/// The contents of new files in which these were done.
 pub(crate) fn prepared(
     rt: &impl Abort,
     alloc: Global,
@@ -389,7 +388,7 @@ pub(crate) fn prepared(
     left.synced
 }
 
-/// What files with these contents hold once the statements have changed their database.
+/// The contents of files after the statements changed their database.
 pub(crate) fn changed_files(
     rt: &impl Abort,
     alloc: Global,
@@ -409,7 +408,7 @@ fn shown_in_files(rt: &impl Abort, alloc: Global, contents: &Contents, options: 
     met.shown.expect(rt, "a spool")
 }
 
-// ---- what has to come of it
+// ---- what the result has to be
 
 /// How far a call came: how it ended there, what was answered so far, and what is shown then.
 #[derive(Drop)]
@@ -419,7 +418,7 @@ pub(crate) struct Stage {
     shown: String,
 }
 
-/// What a call comes to with ample memory, after others.
+/// What a call does with ample memory, after others.
 fn stage_of(rt: &impl Abort, alloc: Global, before: &'static [Act], act: Act) -> Stage {
     let met = done_in_memory(rt, alloc, Deed::Call(before, act), NONE);
     let is_answer = matches!(met.end, End::Whole | End::Refused);
@@ -431,7 +430,7 @@ fn stage_of(rt: &impl Abort, alloc: Global, before: &'static [Act], act: Act) ->
     }
 }
 
-/// The only stage of what answers nothing and changes nothing where these were done.
+/// The only stage of an act that answers nothing and changes nothing, after these were done.
 pub(crate) fn only_stage(rt: &impl Abort, alloc: Global, acts: &'static [Act]) -> Vec<Stage> {
     let stage = Stage {
         end: End::Whole,
@@ -449,7 +448,7 @@ fn one_by_one(act: Act) -> Act {
     }
 }
 
-/// How far a call can come: to nothing, to what each of its parts comes to, and to its answer.
+/// How far a call can come: to nothing, to the end of each of its parts, and to its answer.
 pub(crate) fn stages_of(
     rt: &impl Abort,
     alloc: Global,
@@ -470,7 +469,7 @@ pub(crate) fn stages_of(
 }
 
 impl Met {
-    /// Whether this is shown, where anything is.
+    /// Whether this is shown, if anything is.
     fn shows(&self, want: &str) -> bool {
         match &self.shown {
             Some(shown) => shown.as_str() == want,
@@ -486,8 +485,8 @@ impl Met {
         }
     }
 
-    /// How far it came: what was answered is that of a stage, and this stage is shown, or that the
-    /// spool failed.
+    /// How far it came: the answers are those of a stage, and this stage is shown, or the spool
+    /// failed.
     fn place(&self, stages: &[Stage]) -> Option<usize> {
         for (place, stage) in stages.iter().enumerate() {
             let is_shown = match self.end {
@@ -509,9 +508,9 @@ impl Met {
         }
     }
 
-    /// Whether a line that found no memory, and wrote nothing, left what it may: a spool that
-    /// failed after a command that was answered, for whose answer there was no memory, or some
-    /// stage. Where nothing had changed, the same line is then answered.
+    /// Whether a line that ran out of memory, and wrote nothing, left what it may. That is a failed
+    /// spool after a command that was answered, if there was no memory for the answer, or some
+    /// stage. If nothing had changed, the same line is then answered.
     fn left_some(&self, stages: &[Stage]) -> bool {
         let mut is_stage = self.shows(FAILED);
         for place in 0..stages.len() {
@@ -521,8 +520,8 @@ impl Met {
         self.text.is_empty() && is_stage && (is_changed || self.answers_again(stages))
     }
 
-    /// Whether a call that came so far did what it has to do. One that told a fault did not come to
-    /// its end, where that is another place than its beginning.
+    /// Whether a call that came so far did what it has to do. One that reported a fault didn't come
+    /// to its end, if its end differs from its beginning.
     fn is_right(&self, stages: &[Stage], place: Option<usize>) -> bool {
         let last = stages.len().saturating_sub(1);
         let is_end = place == Some(last);
@@ -555,9 +554,9 @@ impl Met {
         answered
     }
 
-    /// Whether a batch did what it has to do: each request was answered and carried out; or the
-    /// first ones were, the next one was told want of memory and carried out or not, and none
-    /// behind it was. `is_exact` says whether nothing else was written.
+    /// Whether a batch did what it has to do. Either each request was answered and carried out. Or
+    /// the first ones were, the next one was answered that memory ran out, and carried out or not,
+    /// and none after it was. `is_exact` says whether nothing else was written.
     fn is_right_batch(&self, stages: &[Stage], answered: usize, is_exact: bool) -> bool {
         let is_whole = answered.saturating_add(1) == stages.len();
         let is_kept = self.shows_stage(stages, answered)
@@ -571,7 +570,7 @@ impl Met {
         }
     }
 
-    /// What came of it, where that is right.
+    /// The outcome, if the result is right.
     fn outcome(&self, is_whole: bool) -> Outcome {
         match self.end {
             End::Whole | End::Refused if is_whole => Outcome::Answer,
@@ -594,8 +593,8 @@ impl Met {
         outcome_if(is_right, self.outcome(is_whole))
     }
 
-    /// What came of a deed, and how far it came. A line that found no memory for the answer to its
-    /// first command, after which the store failed, came to stage 1.
+    /// The outcome of a deed, and how far it came. A line that ran out of memory for the answer to
+    /// its first command, after which the store failed, came to stage 1.
     fn judged(&self, deed: Deed, stages: &[Stage]) -> (Outcome, usize) {
         if let Deed::Call(_, Act::Batch(_)) = deed {
             return (self.judged_batch(stages), 0);
@@ -616,16 +615,16 @@ pub(crate) struct InMemory {
 impl Call for InMemory {
     fn made<R: Abort>(&mut self, rt: &R, alloc: Global, refusing: Refusing) -> (bool, Outcome) {
         let met = done_in_memory(rt, alloc, self.deed, refusing);
-        // (a database in memory is all that there is to look at)
+        // (a database in memory is all that can be looked at)
         let is_seen = met.shown.is_some();
         let outcome = met.judged(self.deed, &self.stages).0;
-        // A commit of a database in memory asks for none, and so no store fails.
+        // A commit of a database in memory allocates nothing, so no store fails.
         let is_right = is_seen && outcome != Outcome::Store;
         (met.refused, outcome_if(is_right, outcome))
     }
 }
 
-/// What a spool shows in the files that were last looked at, which mostly are the same again.
+/// What a spool shows in the files that were looked at last, which are mostly the same again.
 #[derive(Drop)]
 struct Look {
     contents: Contents,
@@ -667,10 +666,10 @@ impl InFiles {
         }
     }
 
-    /// Whether a fault of the store comes in its place, as request after request is refused. Where
-    /// all pages stay in memory, a commit alone writes the files, and it is the last thing that is
-    /// done at a stage: once a request was told as a fault of the store, no later one of that stage
-    /// is told as want of memory.
+    /// Whether a fault of the store comes where it may, as request after request is refused. If all
+    /// pages stay in memory, only a commit writes the files, and it is the last action of a stage.
+    /// Once a request was reported as a fault of the store, no later one of that stage is reported
+    /// as out of memory.
     fn is_in_place(&mut self, outcome: Outcome, place: usize) -> bool {
         match outcome {
             Outcome::Store => {
@@ -684,7 +683,7 @@ impl InFiles {
         }
     }
 
-    /// Looks at files with these contents, where others were looked at before.
+    /// Looks at files with these contents, if others were looked at before.
     fn look_at(&mut self, rt: &impl Abort, alloc: Global, contents: &Contents) {
         if !self.look.contents.is_same(contents) {
             self.look = Look {
@@ -702,8 +701,8 @@ impl InFiles {
         }
     }
 
-    /// Files with these contents show the stage to which it came, or where the store failed the
-    /// next one.
+    /// Files with these contents show the stage to which it came, or, if the store failed, perhaps
+    /// the next one.
     fn expect_kept(
         &mut self,
         rt: &impl Abort,

@@ -1,7 +1,7 @@
-// Values that the calls are given.
+// Values for the calls.
 use std::alloc::Global;
 use std::process::Abort;
-use uu_core::{By, Command, Key, Kind, Mark, NewJob};
+use uu_core::{By, Command, Key, Kind, Mark, NewJob, Offered, TakeIn};
 use uu_names::{Grade, Listed, SiteName, Word};
 use uu_times::{Moment, SystemDef, Zone, read_sys};
 use uuspool::Settings;
@@ -16,7 +16,7 @@ pub(crate) const MONDAY: u64 = 1_000_116_000;
 pub(crate) const SYS_FILE: &[u8] =
     b"# defaults\ntime Wk2305-0755\ntimetable Lunch Wk1200-\\\n1300\nsystem duke\n  time Lunch 15\n  port ser\\#1\n  alternate backup\n  timegrade C Any\nsystem unc\n  max-retries 2\n";
 
-/// The first of its systems alone.
+/// Only the first of its systems.
 pub(crate) const SYS_FILE_DUKE: &[u8] =
     b"timetable Lunch Wk1200-1300\nsystem duke\ntime Lunch 15\ntimegrade C Any\n";
 
@@ -63,7 +63,7 @@ pub(crate) fn grade(rt: &impl Abort, byte: u8) -> Grade {
     Grade::parse(byte).expect(rt, "a grade")
 }
 
-/// A moment where the clock shows UTC.
+/// A moment on a clock that shows UTC.
 pub(crate) fn moment(rt: &impl Abort, second: u64) -> Moment {
     let zone = Zone::fixed(0).expect(rt, "a zone");
     Moment::new(second, &zone).expect(rt, "a moment")
@@ -85,7 +85,7 @@ pub(crate) enum Work {
     Execute(usize),
 }
 
-/// A command as plain data. What ann hands in, she hands in on Sunday; all else comes on Monday.
+/// A command as plain data. Ann hands in on Sunday. Everything else comes on Monday.
 #[derive(Clone, Copy)]
 pub(crate) enum Order {
     /// The only system of a sys file.
@@ -93,15 +93,17 @@ pub(crate) enum Order {
     Remove(&'static str),
     /// Ann's job of this grade, with so many bytes.
     Queue(&'static str, u8, Work, usize),
-    /// A user kills a job, who may or may not touch the jobs of others.
+    /// This user kills a job, and may or may not touch the jobs of others.
     Kill(u32, &'static str, bool),
     /// Ann's own job gets a grade.
     Regrade(u32, u8),
-    /// Ann's own job counts as handed in now.
+    /// Ann's own job is rejuvenated.
     Rejuvenate(u32),
     Failed(&'static str),
-    /// A call in which these jobs went through.
+    /// A call that delivered these jobs.
     Called(&'static str, &'static [u32]),
+    /// Jobs that the system has.
+    Release(&'static str, &'static [u32]),
     Entry(&'static [u8]),
     /// Ann's job that a neighbour hands on under its number there and with this mark: a file for a
     /// system, of so many bytes.
@@ -141,7 +143,7 @@ fn kind(rt: &impl Abort, alloc: Global, work: Work) -> Kind {
     }
 }
 
-/// So many letters, of which no two pieces of a job are the same.
+/// So many letters, so that no two pieces of a job are the same.
 fn letters(rt: &impl Abort, alloc: Global, size: usize) -> Listed<u8> {
     let mut bytes = Vec::with_capacity(alloc, size).expect(rt, "memory");
     for place in 0..size {
@@ -192,11 +194,21 @@ fn failed(rt: &impl Abort, alloc: Global, system: &str) -> Command {
     Command::Failed { system, at, why }
 }
 
+fn numbers_of(rt: &impl Abort, alloc: Global, numbers: &[u32]) -> Listed<u32> {
+    Listed::from_vec(numbers.to_vec(alloc).expect(rt, "memory"))
+}
+
 fn called(rt: &impl Abort, alloc: Global, system: &str, numbers: &[u32]) -> Command {
     let at = moment(rt, MONDAY);
     let system = site(rt, alloc, system);
-    let jobs = Listed::from_vec(numbers.to_vec(alloc).expect(rt, "memory"));
+    let jobs = numbers_of(rt, alloc, numbers);
     Command::Done { system, at, jobs }
+}
+
+fn release(rt: &impl Abort, alloc: Global, system: &str, numbers: &[u32]) -> Command {
+    let system = site(rt, alloc, system);
+    let jobs = numbers_of(rt, alloc, numbers);
+    Command::Release { system, jobs }
 }
 
 fn entry(rt: &impl Abort, alloc: Global, text: &[u8]) -> Command {
@@ -217,7 +229,7 @@ fn hand_on(rt: &impl Abort, alloc: Global, key: Key, system: &str, size: usize) 
     Command::QueueOnce(key, job)
 }
 
-/// The command, for which memory is there.
+/// The command, for which there is memory.
 pub(crate) fn command(rt: &impl Abort, alloc: Global, order: Order) -> Command {
     match order {
         Order::Define(text) => Command::Define(system(rt, alloc, text)),
@@ -230,6 +242,7 @@ pub(crate) fn command(rt: &impl Abort, alloc: Global, order: Order) -> Command {
         Order::Rejuvenate(job) => rejuvenate(rt, alloc, job),
         Order::Failed(name) => failed(rt, alloc, name),
         Order::Called(name, numbers) => called(rt, alloc, name, numbers),
+        Order::Release(name, numbers) => release(rt, alloc, name, numbers),
         Order::Entry(text) => entry(rt, alloc, text),
         Order::HandOn(from, number, mark, name, size) => {
             hand_on(rt, alloc, key(rt, alloc, from, number, mark), name, size)
@@ -250,4 +263,43 @@ pub(crate) fn commands(rt: &impl Abort, alloc: Global, orders: &[Order]) -> Vec<
             .expect(rt, "memory");
     }
     commands
+}
+
+/// A neighbour's bundle: the neighbour, the least number that it may still ask for, and its jobs,
+/// each with its number there, its mark, the system for which it waits and its size.
+#[derive(Clone, Copy)]
+pub(crate) struct Bundle {
+    pub(crate) from: &'static str,
+    pub(crate) below: u32,
+    pub(crate) jobs: &'static [(u32, u64, &'static str, usize)],
+}
+
+/// Ann's job that a neighbour hands on.
+pub(crate) fn offered(
+    rt: &impl Abort,
+    alloc: Global,
+    number: u32,
+    mark: u64,
+    system: &str,
+    size: usize,
+) -> Offered {
+    Offered {
+        number,
+        mark: Mark::of_number(mark).expect(rt, "a mark"),
+        job: new_job(rt, alloc, system, b'N', Work::Send, size),
+    }
+}
+
+/// What the bundle asks for, for which there is memory.
+pub(crate) fn take_in(rt: &impl Abort, alloc: Global, bundle: Bundle) -> TakeIn {
+    let mut jobs = Vec::new(alloc);
+    for (number, mark, system, size) in bundle.jobs {
+        let offered = offered(rt, alloc, *number, *mark, system, *size);
+        jobs.push(offered).expect(rt, "memory");
+    }
+    TakeIn {
+        from: site(rt, alloc, bundle.from),
+        below: bundle.below,
+        jobs: Listed::from_vec(jobs),
+    }
 }

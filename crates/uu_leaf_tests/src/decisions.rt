@@ -13,7 +13,7 @@ use uu_core::{
 };
 use uu_times::SystemDef;
 
-// A system that may be called all week for jobs of this grade and above.
+// A system that may be called all week for jobs of this grade and higher grades.
 fn system(
     rt: &impl Abort,
     alloc: Global,
@@ -78,8 +78,8 @@ fn jobs_handed_in(rt: HostRuntime) {
     }
 }
 
-/// The success wait of duke, if it is known, the jobs that went through in a call of it, and its
-/// second and wait, or what refuses it.
+/// The success wait of duke, if it is known, the jobs that a call of it delivered, and its second
+/// and wait, or why it is refused.
 const CALLS: [(Option<u32>, &[u32], Result<(u64, u64), Refusal>); 9] = [
     (Some(600), &[1, 1], Err(Refusal::JobTwice)),
     (Some(600), &[1, 3], Err(Refusal::OtherSystem)),
@@ -157,7 +157,7 @@ fn fail(rt: &impl Abort, alloc: Global, system: &mut SystemRow, second: u64) {
     system.call = call.expect(rt, "a system");
 }
 
-// The call of a system whose calls failed at these seconds.
+// The call state of a system whose calls failed at these seconds.
 fn failed(
     rt: &impl Abort,
     alloc: Global,
@@ -172,8 +172,8 @@ fn failed(
     system.call
 }
 
-/// A retry number and a most number of retries, the seconds of calls that failed, and the wait
-/// behind them.
+/// A retry number and a most number of retries, the seconds of failed calls, and the wait after
+/// them.
 const WAITS: [(Option<u32>, u32, &[u64], u64); 11] = [
     (None, 26, &[SUNDAY; 1], 600),
     (None, 26, &[SUNDAY; 2], 1200),
@@ -197,8 +197,8 @@ fn waits_double_up_to_a_day(rt: HostRuntime) {
     }
 }
 
-/// Seconds, and whether a system is left alone whose last call failed at 1,000,116,000, to be left
-/// alone for a day.
+/// Seconds, and whether a system is left alone then. Its last call failed at 1,000,116,000, and it
+/// is left alone for a day.
 const HELD: [(u64, bool); 4] = [
     (1_000_116_000, true),
     (1_000_202_399, true),
@@ -224,7 +224,7 @@ const FOUR_JOBS: Jobs = &[
 
 const THREE_JOBS: Jobs = &[(1, "duke", b'a'), (3, "unc", b'z'), (4, "unc", b'9')];
 
-/// Whether a call of unc failed on Sunday, the jobs, a second, and who is to be called.
+/// Whether a call of unc failed on Sunday, the jobs, a second, and which systems are called.
 type Chosen = (bool, Jobs, u64, &'static str);
 
 const CHOSEN: [Chosen; 6] = [
@@ -247,7 +247,7 @@ const CHOSEN: [Chosen; 6] = [
     ),
 ];
 
-// Duke may be called for grade C and above, unc for each grade.
+// Duke may be called for grade C and higher ones, unc for each grade.
 fn two_systems(rt: &impl Abort, alloc: Global, unc_failed: bool) -> Vec<SystemRow> {
     let duke = system(rt, alloc, "duke", b'C', None, 26);
     let mut unc = system(rt, alloc, "unc", b'z', None, 26);
@@ -262,7 +262,7 @@ fn show_due(text: &mut String, due: &Due) -> Result<(), AllocError> {
     write!(text, "{} {} {}/", due.system.as_str(), grade, due.number)
 }
 
-// Who is to be called: system, grade and job of each.
+// Which systems are called: system, grade and job of each.
 fn show_dues(alloc: Global, dues: Result<Vec<Due>, AllocError>) -> Result<String, AllocError> {
     let mut text = String::new(alloc);
     for due in &dues? {

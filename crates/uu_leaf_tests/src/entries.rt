@@ -1,5 +1,5 @@
-// Entries and maps: worked ones, hostile ones, each front of one entry against a plain reader, and
-// the time that large ones take.
+// Entries and maps: worked ones, hostile ones, each beginning of one entry compared with a plain
+// reader, and the time that large ones take.
 use crate::expecting::{expect_same, expect_soon, expect_text, show_skipped, wanted};
 use crate::fronts::{ENTRIES, Fronts};
 use std::alloc::{AllocError, Global};
@@ -19,7 +19,7 @@ fn show_link(text: &mut String, link: &Link) -> Result<(), AllocError> {
     }
 }
 
-// An entry: its host, and then as a report shows it, with a slash for each line's end.
+// An entry: its host, and then as a report shows it, with a slash instead of each line feed.
 fn show(text: &mut String, entry: &Entry) -> Result<(), AllocError> {
     write!(text, "{}: ", entry.host.as_str())?;
     for link in entry.links.as_slice() {
@@ -40,7 +40,7 @@ fn fault_name(fault: MapFault) -> &'static str {
     }
 }
 
-// What a text says, or how it is refused.
+// What a text says, or why it is refused.
 fn told(alloc: Global, text: &str) -> Result<String, AllocError> {
     let mut told = String::new(alloc);
     match read_entry(alloc, text.as_bytes()) {
@@ -86,7 +86,7 @@ fn name_lines_name_the_host(rt: HostRuntime) {
     }
 }
 
-// Why a text of so many bytes that begins so is no entry.
+// Why a text of so many bytes with this beginning isn't an entry.
 fn fault_of_filled(rt: &impl Abort, alloc: Global, front: &str, length: usize) -> Option<MapFault> {
     let mut text = Vec::from_slice(alloc, front.as_bytes()).expect(rt, "memory");
     text.resize(length, b'x').expect(rt, "memory");
@@ -95,7 +95,7 @@ fn fault_of_filled(rt: &impl Abort, alloc: Global, front: &str, length: usize) -
 
 const LARGEST: usize = 65_536;
 
-/// With so many bytes a text has its own fault, and with one more it is too large.
+/// With so many bytes a text has its own fault. With one more it is too large.
 const FILLED: [(&str, usize, MapFault); 6] = [
     ("", LARGEST, MapFault::NoName),
     ("", LARGEST + 1, MapFault::TooLarge),
@@ -265,7 +265,7 @@ fn dead_is_a_cost_within_the_grammar(rt: HostRuntime) {
     expect_all(&rt, rt.alloc(), DEAD_COSTS.as_slice());
 }
 
-// With a letter more it is no symbol.
+// With one more letter it isn't a symbol.
 const SYMBOLS: [(&str, &str); 12] = [
     ("unc a(100+LOCAL)\nunc b(100+LOCALX)", "a 125/skipped 3/"),
     (
@@ -295,8 +295,8 @@ fn symbols_have_their_values(rt: HostRuntime) {
     expect_all(&rt, rt.alloc(), SYMBOLS.as_slice());
 }
 
-/// A statement, what stands for each `[` in it, what for each `]`, so many times each, and what
-/// that is read as.
+/// A statement, the texts that replace each `[` and each `]` in it, repeated so many times, and
+/// what that is read as.
 type Nest = (
     &'static str,
     &'static str,
@@ -374,7 +374,7 @@ const MAPS: [(&str, &[EntryText]); 2] = [
     ("nothing\n#N\r", &[]),
 ];
 
-// The entries of a map that is not too large.
+// The entries of a map that isn't too large.
 fn cut(rt: &impl Abort, alloc: Global, text: &str) -> Vec<EntryText> {
     assert!(rt; text.len() <= 4_194_304);
     split(alloc, text.as_bytes()).expect(rt, "a map")
@@ -391,8 +391,8 @@ fn letter(number: u32) -> char {
     char::from(b'a' + (number % 26) as u8)
 }
 
-// The link of this number, below 17,576: three letters, not in the order of the numbers, and at
-// first a cost.
+// The link of this number, below 17,576: three letters, in another order than the numbers, and
+// perhaps a cost.
 fn push_link(text: &mut String, number: u32) -> Result<(), AllocError> {
     let name = number.wrapping_mul(7_919) % 17_576;
     let (first, second, third) = (letter(name), letter(name / 26), letter(name / 676));
@@ -403,7 +403,7 @@ fn push_link(text: &mut String, number: u32) -> Result<(), AllocError> {
     }
 }
 
-// An entry of 65,536 bytes that is one statement of 10,000 links, 8,508 of them with a cost of one
+// An entry of 65,536 bytes with one statement of 10,000 links, 8,508 of them with a cost of one
 // digit.
 fn large_entry(alloc: Global) -> Result<String, AllocError> {
     let mut text = String::from_str(alloc, "#N unc\nunc ")?;

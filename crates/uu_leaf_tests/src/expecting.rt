@@ -1,4 +1,4 @@
-// What came compared with what had to come. A test that fails shows both.
+// Compares a result with the expected one. A test that fails shows both.
 use crate::fronts::Fronts;
 use std::alloc::{AllocError, Global};
 use std::fmt::{Debug, Write};
@@ -12,19 +12,19 @@ pub fn expect_same<T: PartialEq + Debug>(rt: &impl Abort, got: &T, want: &T) {
     assert_eq!(rt; *got, *want);
 }
 
-/// A text, for which memory is there, has to be this one.
+/// A text, for which there is memory, has to be this one.
 pub fn expect_text(rt: &impl Abort, got: Result<String, AllocError>, want: &str) {
     expect_same(rt, &got.expect(rt, "memory").as_str(), &want);
 }
 
-/// What began then has to have taken less than ten seconds, which leaves room for a loaded machine.
+/// Less than ten seconds may have passed since the start, which leaves room for a loaded machine.
 pub fn expect_soon(rt: &(impl Abort + Clock + Print), start: &Instant) {
     let taken = start.elapsed(rt).expect(rt, "a clock").as_millis();
     println!(rt; "{taken} ms").expect(rt, "an output");
     expect_same(rt, &(taken < 10_000), &true);
 }
 
-/// What a front of a text has to mean: what the first line that goes so far says.
+/// What a beginning of a text has to mean, according to the first line for its length.
 pub fn wanted(fronts: &Fronts, length: usize) -> Option<&'static str> {
     for line in fronts.answers.lines() {
         let (last, answer) = line.split_once(' ')?;
@@ -35,7 +35,7 @@ pub fn wanted(fronts: &Fronts, length: usize) -> Option<&'static str> {
     None
 }
 
-/// A text with a piece so many times between a head and a tail.
+/// A text with a repeated piece between a head and a tail.
 pub fn repeated(
     alloc: Global,
     head: &str,

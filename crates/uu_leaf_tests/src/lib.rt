@@ -1,7 +1,9 @@
-//! Tests of the leaf crates: names and mail, times and sys files, map entries, and the decisions of
-//! the spool.
+//! Tests of the leaf crates: names and mail, times and sys files, map entries, bundles, and the
+//! decisions of the spool.
 #![tactic(auto)]
 
+#[cfg(test)]
+mod bundles;
 #[cfg(test)]
 mod decisions;
 #[cfg(test)]
@@ -18,6 +20,8 @@ mod names;
 mod paths;
 #[cfg(test)]
 mod sys_files;
+#[cfg(test)]
+mod taking;
 #[cfg(test)]
 mod times;
 #[cfg(test)]

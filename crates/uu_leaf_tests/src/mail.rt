@@ -1,4 +1,4 @@
-// The line before a message, and the way back to who wrote it.
+// The line before a message, and the way back to its author.
 use crate::expecting::{expect_same, expect_text, repeated, wanted};
 use crate::fronts::{Fronts, MESSAGES};
 use crate::values::{site, word};
@@ -48,7 +48,7 @@ fn envelopes(rt: HostRuntime) {
     expect_handed_on(&rt, rt.alloc(), &december, b"Hello\n", want);
 }
 
-/// Texts, and the way back of each with the place of the message behind, or why there is none.
+/// Texts, and the way back of each with the place of the message after it, or why there is none.
 const WAYS_BACK: [(&[u8], &str); 12] = [
     (b"From u!v x remote from duke", "duke!u!v 27"),
     (b"From u remote from x remote from y\n", "y!u 35"),
@@ -96,7 +96,7 @@ fn each_front_of_a_message_is_read_as_plainly(rt: HostRuntime) {
     }
 }
 
-// How long the way back is to a user of duke of so many letters, and where the message is.
+// How long the way back to a user of duke with so many letters is, and where the message is.
 fn lengths(rt: &impl Abort, alloc: Global, letters: usize) -> Result<(usize, usize), NameFault> {
     let text = repeated(alloc, "From ", "a", letters, " remote from duke\n").expect(rt, "memory");
     let (path, body) = return_path(alloc, text.as_bytes())?;

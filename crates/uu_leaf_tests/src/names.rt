@@ -6,8 +6,7 @@ use uu_names::{Grade, NameFault, SiteName, Word};
 // From the highest grade to the lowest.
 const GRADES: &[u8] = b"0123456789ABCDEFGHIJKLMNOPQRSTUVWXYZabcdefghijklmnopqrstuvwxyz";
 
-// The rank of a byte's grade, the byte that it is written as, and whether its rank leads back to
-// it.
+// The rank of a byte's grade, the byte for it, and whether its rank leads back to it.
 fn parsed(byte: u8) -> Result<(usize, u8, bool), NameFault> {
     let grade = Grade::parse(byte)?;
     let is_ranked = Grade::of_rank(grade.rank()) == Some(grade);
@@ -41,7 +40,7 @@ fn codes(rt: HostRuntime) {
     }
 }
 
-/// A piece, how often it stands in a text, and what refuses that text as a site name and as a word.
+/// A piece, how often a text repeats it, and why that text isn't a site name or a word.
 type Refused = (&'static str, usize, Option<NameFault>, Option<NameFault>);
 
 const TEXTS: [Refused; 8] = [

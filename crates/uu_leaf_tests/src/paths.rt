@@ -1,4 +1,4 @@
-// Bang paths, also against a plain program.
+// Bang paths, compared with a plain program too.
 use crate::expecting::{expect_same, repeated};
 use std::alloc::Global;
 use std::process::Abort;
@@ -12,7 +12,7 @@ fn hops_of_a_path(rt: HostRuntime) {
     expect_same(&rt, &path.rest(), &"unc!ann");
 }
 
-/// Texts that are no paths, and how many bytes of each begin one.
+/// Texts that aren't paths, and how many bytes of each begin one.
 const NO_PATHS: [(&str, usize); 6] = [
     ("", 0),
     ("ann", 3),
@@ -30,7 +30,7 @@ fn texts_that_are_no_paths(rt: HostRuntime) {
     }
 }
 
-/// What stands before and behind so many letters, and what refuses that text.
+/// What comes before and after so many letters, and why that text is refused.
 const LONGEST: [(&str, usize, &str, Option<NameFault>); 3] = [
     ("", 64, "!a", Some(NameFault::TooLong)),
     ("a!", 253, "", None),
@@ -62,7 +62,7 @@ fn bangs(text: &[u8]) -> usize {
     bangs
 }
 
-// Whether some path begins with the text: each part that a `!` ends is a site name's, the last part
+// Whether some path begins with the text: each part before a `!` is a site name, and the last part
 // may go on.
 fn plain_begins(text: &[u8]) -> bool {
     let all = bangs(text);
@@ -115,7 +115,7 @@ fn short_paths_are_read_as_plainly(rt: HostRuntime) {
     }
 }
 
-// These bytes with one more of some behind them.
+// These bytes with one more of some bytes after them.
 fn expect_longer(rt: &impl Abort, alloc: Global, first: u8, second: u8) {
     expect_as_plainly(rt, alloc, &[first, second]);
     for third in b"a!%- " {

@@ -1,5 +1,5 @@
-// Sys files: a worked one, faults, each front of some files against a plain reader, and the time
-// that large files take.
+// Sys files: a worked one, faults, each beginning of some files compared with a plain reader, and
+// the time that large files take.
 use crate::expecting::{expect_same, expect_soon, expect_text, repeated, show_skipped, wanted};
 use crate::fronts::{Fronts, SYS_FILES};
 use crate::times::show_windows;
@@ -14,7 +14,7 @@ use uu_times::{Line, SysFile, SystemDef, TimeFault, read_sys};
 /// The most bytes of a sys file.
 const LARGEST: usize = 4_194_304;
 
-// What a sys file says that is not too large.
+// What a sys file says that isn't too large.
 fn read(alloc: Global, text: &[u8]) -> Result<SysFile, TimeFault> {
     if text.len() <= LARGEST {
         read_sys(alloc, text)
@@ -23,7 +23,7 @@ fn read(alloc: Global, text: &[u8]) -> Result<SysFile, TimeFault> {
     }
 }
 
-// A line's grade, its retry number or 0 where it has none, and its runs.
+// A line's grade, its retry number (0 if it has none), and its runs.
 fn show_line(shown: &mut String, line: &Line) -> Result<(), AllocError> {
     let grade = line.grade.as_byte() as char;
     write!(shown, " {} {}:", grade, line.retry.unwrap_or(0))?;
@@ -51,7 +51,7 @@ fn show_file(shown: &mut String, file: &SysFile) -> Result<(), AllocError> {
     show_skipped(shown, file.skipped.as_slice())
 }
 
-// What a sys file says, as the plain readers show it, or how it is refused.
+// What a sys file says, as the plain readers show it, or why it is refused.
 fn told(alloc: Global, text: &[u8]) -> Result<String, AllocError> {
     let mut told = String::new(alloc);
     match read(alloc, text) {
@@ -81,7 +81,7 @@ const SHORT_FILES: [(&[u8], &str); 35] = [
     (b"time Any 525601", "line 1: bad number"),
     (b"max-retries 1000001", "line 1: bad number"),
     (b"max-retries", "line 1: bad words"),
-    // A wait after a call that went well: at most 365 days, in at most nine digits.
+    // A wait after a successful call: at most 365 days, in at most nine digits.
     (b"success-wait", "line 1: bad words"),
     (b"success-wait 60 60", "line 1: bad words"),
     (b"success-wait 31536000\nsystem a", "a 26 31536000:/"),
@@ -89,7 +89,7 @@ const SHORT_FILES: [(&[u8], &str); 35] = [
     (b"success-wait 0000000060", "line 1: bad number"),
     (b"success-wait -1", "line 1: bad number"),
     (b"success-wait 0", ""),
-    // The last one of the defaults, and that of a section before them.
+    // The last wait of the defaults, and that of a section instead of them.
     (
         b"success-wait 1\nsuccess-wait 600\nsystem a\nsystem b\nsuccess-wait 5\nsuccess-wait 0",
         "a 26 600:/b 26 0:/",
@@ -102,7 +102,7 @@ const SHORT_FILES: [(&[u8], &str); 35] = [
     (b"system \xc3\xbf", "line 1: bad system name"),
     (b"time Any\\", ""),
     (b"time \\\r\n Any\\\\", "line 1: bad time string at 3"),
-    // Any bytes are skipped, and are no names.
+    // Any bytes are skipped, and aren't names.
     (b"\xff", "skipped 1/"),
     (b"\x00", "skipped 1/"),
     (b"x\r\n", "skipped 1/"),
@@ -141,12 +141,12 @@ fn each_front_of_a_sys_file_is_read_as_plainly(rt: HostRuntime) {
     }
 }
 
-/// A text of many lines, or of a long one.
+/// A text of many lines, or with a long one.
 #[derive(Clone, Copy)]
 enum Large {
     /// A section with so many time lines.
     Section(usize),
-    /// Systems n0 to n9999, and this behind them.
+    /// Systems n0 to n9999, and then this text.
     TenThousand(&'static str),
     /// Systems, each with a line of its own.
     WithALine,
@@ -156,7 +156,7 @@ enum Large {
     EvenMinutes,
 }
 
-// Ten thousand systems, n0 and on.
+// Ten thousand systems, from n0 on.
 fn ten_thousand(alloc: Global, tail: &str) -> Result<String, AllocError> {
     let mut text = String::new(alloc);
     for number in 0..10_000u32 {
@@ -166,7 +166,7 @@ fn ten_thousand(alloc: Global, tail: &str) -> Result<String, AllocError> {
     Ok(text)
 }
 
-// So many systems, n000000 and on, between these.
+// So many systems, from n000000 on, between these texts.
 fn push_systems(
     text: &mut String,
     before: &str,
@@ -247,7 +247,7 @@ const LARGE_FILES: [(Large, Counts); 4] = [
     ),
 ];
 
-// Reads a large sys file, which takes less than ten seconds.
+// Reads a large sys file in less than ten seconds.
 fn read_quickly(rt: &(impl Abort + Clock + Print), alloc: Global, text: &[u8]) -> SysFile {
     let start = Instant::now(rt).expect(rt, "a clock");
     let file = read(alloc, text).expect(rt, "a sys file");

@@ -1,4 +1,5 @@
-// Moments, time strings and their sets, and each front of some time strings against plain readers.
+// Moments, time strings and their sets, and each beginning of some time strings compared with plain
+// readers.
 use crate::expecting::{expect_same, expect_text, wanted};
 use crate::fronts::{Fronts, TIME_STRINGS};
 use crate::values::{WEEK, line, site};
@@ -56,7 +57,7 @@ fn moments(rt: HostRuntime) {
     }
 }
 
-/// Seconds on a clock with daylight saving time, and the same.
+/// Seconds on a clock with daylight saving time, and the same for each.
 const NEW_YORK: [(u64, (u16, Civil)); 6] = [
     (1_710_053_999, (119, ((2024, 3, 10), (1, 59, 59)))),
     (1_710_054_000, (180, ((2024, 3, 10), (3, 0, 0)))),
@@ -74,7 +75,7 @@ fn daylight_saving_time(rt: HostRuntime) {
     }
 }
 
-/// Rules of places, as files of zones have them.
+/// Rules of places, as zone files have them.
 const SYDNEY: &str = "AEST-10AEDT,M10.1.0,M4.1.0/3";
 
 const KATHMANDU: &str = "<+0545>-5:45";
@@ -102,7 +103,7 @@ const WEST: &str = "<-25>24:59:59";
 
 const BEYOND: &str = "XXX-24:59:59YYY,0/0,J365/25";
 
-/// Rules, seconds on both sides of their changes, and the same. The C library shows these.
+/// Rules, seconds on both sides of their changes, and the same. The C library shows the same.
 const CLOCKS: [(&str, u64, (u16, Civil)); 33] = [
     // in the south, where daylight saving time runs over the new year
     (SYDNEY, 1_704_067_200, (2100, ((2024, 1, 1), (11, 0, 0)))),
@@ -154,7 +155,7 @@ fn clocks_of_rules(rt: HostRuntime) {
     }
 }
 
-/// Texts at the limits of a rule, the last four past those that POSIX has for the times of a rule.
+/// Texts at the limits of a rule. The last four exceed POSIX's limits for the times of a rule.
 const RULES: [&str; 12] = [
     "UTC0",
     "utc+0",
@@ -170,7 +171,7 @@ const RULES: [&str; 12] = [
     "XXX3YYY,M3.2.0,M11.1.0/-167:59:59",
 ];
 
-/// Texts that are no rule: parts that are missing or too much, names, offsets, days and times past
+/// Texts that aren't rules: parts missing or too many, and names, offsets, days and times beyond
 /// their limits.
 const NO_RULES: [&str; 36] = [
     "",
@@ -250,7 +251,7 @@ pub fn show_windows(shown: &mut String, windows: &Windows) -> Result<(), AllocEr
     Ok(())
 }
 
-// Whether a set says of each minute of the week what its runs say.
+// Whether a set has each minute of the week exactly if its runs have it.
 fn is_as_its_runs(windows: &Windows) -> bool {
     for minute in 0..10_080u16 {
         let mut is_in = false;
@@ -273,7 +274,7 @@ fn show(shown: &mut String, windows: &Windows) -> Result<(), AllocError> {
     }
 }
 
-// The runs of a time string, which are those of its minutes, or how it is refused.
+// The runs of a time string, which are those of its minutes, or why it is refused.
 fn told(alloc: Global, text: &str) -> Result<String, AllocError> {
     let mut told = String::new(alloc);
     match windows(alloc, text) {
@@ -313,7 +314,7 @@ const TOLD: [(&str, &str); 23] = [
     ("MoTuXx", "line 0: bad time string at 4"),
     ("Wednesday", "line 0: bad time string at 2"),
     ("Lunch", "line 0: unknown timetable"),
-    // The timetables that are there, each above a time string of the same set.
+    // The timetables from the start, each before a time string with the same set.
     ("Evening", EVENING),
     ("Wk1705-0755,Sa,Su", EVENING),
     ("night", NIGHT),
@@ -329,7 +330,7 @@ fn time_strings(rt: HostRuntime) {
     }
 }
 
-/// Ranges, a minute, and whether it is in their set, where they are those of one.
+/// Ranges, a minute, and whether it is in their set, if they are those of a set.
 const RANGES: [(&[(u16, u16)], u16, Option<bool>); 5] = [
     (&[(0, 10), (12, 12)], 11, Some(false)),
     (&[(0, 10), (12, 12)], 12, Some(true)),
@@ -352,8 +353,8 @@ fn sets_from_ranges(rt: HostRuntime) {
     }
 }
 
-// Whether a system may have so many lines, and be left alone for so many seconds after a call that
-// went well.
+// Whether a system may have so many lines, and be left alone for so many seconds after a successful
+// call.
 fn is_within_limits(rt: &impl Abort, alloc: Global, count: u32, success_wait: u32) -> bool {
     let mut lines = Vec::new(alloc);
     for _ in 0..count {

@@ -1,4 +1,4 @@
-// Values of names, times and jobs from plain data. Where memory is short, a test ends here.
+// Values of names, times and jobs from plain data. If memory runs out, a test ends here.
 use std::alloc::Global;
 use std::process::Abort;
 use uu_core::{By, Kind, NewJob};
@@ -66,7 +66,7 @@ fn system(
     SystemDef::new(name, lines, max_retries, success_wait).expect(rt, "a system")
 }
 
-// A system that may be called all week for jobs of this grade and above.
+// A system that may be called all week for jobs of this grade and higher grades.
 pub fn all_week(
     rt: &impl Abort,
     alloc: Global,
@@ -81,13 +81,13 @@ pub fn all_week(
     system(rt, alloc, name, lines, max_retries, 0)
 }
 
-// A system that is left alone for so many seconds after a call that went well.
+// A system that is left alone for so many seconds after a successful call.
 pub fn resting(rt: &impl Abort, alloc: Global, name: &str, success_wait: u32) -> SystemDef {
     system(rt, alloc, name, Vec::new(alloc), 26, success_wait)
 }
 
 // A system that may be called all week for each grade, and on weekdays from 9:00 to 17:00 for grade
-// C and above.
+// C and higher ones.
 pub fn office(rt: &impl Abort, alloc: Global, name: &str) -> SystemDef {
     let all_week = line(rt, alloc, b'z', WEEK.as_slice(), Some(30));
     let often = line(rt, alloc, b'C', OFFICE.as_slice(), Some(5));

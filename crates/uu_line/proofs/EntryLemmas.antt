@@ -34,19 +34,19 @@ use Rattle.uu_line.proofs.UseLemmas.{HoldsIfAny, RowsHold, RulesHold, UsesHold, 
 
 -- ---- tests
 
-pub and_true : (a b : Bool) → a ≡ true → b ≡ true → (a && b) ≡ true
+and_true : (a b : Bool) → a ≡ true → b ≡ true → (a && b) ≡ true
 and_true true b e f = f
 and_true false b e f = absurd (true≢false (sym e))
 
-pub or_left : (a b : Bool) → a ≡ true → (a || b) ≡ true
+or_left : (a b : Bool) → a ≡ true → (a || b) ≡ true
 or_left true b e = refl
 or_left false b e = absurd (true≢false (sym e))
 
-pub or_right : (a b : Bool) → b ≡ true → (a || b) ≡ true
+or_right : (a b : Bool) → b ≡ true → (a || b) ≡ true
 or_right true b e = refl
 or_right false b e = e
 
-pub either : (a b : Bool) → (a || b) ≡ true → (a ≡ true) ⊎ (b ≡ true)
+either : (a b : Bool) → (a || b) ≡ true → (a ≡ true) ⊎ (b ≡ true)
 either true b e = inl refl
 either false b e = inr e
 
@@ -75,7 +75,7 @@ any_found p (x ∷ xs) e = go (p x) (any_found p xs) e
     go false more e = more e
 
 -- what is found passes, as all of the list do
-pub found_passes : {X : Type 0} (p test : X → Bool) (xs : List X) (x : X) → list_all test xs ≡ true → Some x ≡ find p xs → (p x ≡ true) × (test x ≡ true)
+found_passes : {X : Type 0} (p test : X → Bool) (xs : List X) (x : X) → list_all test xs ≡ true → Some x ≡ find p xs → (p x ≡ true) × (test x ≡ true)
 found_passes p test [] x all is = absurd cc
 found_passes p test (y ∷ ys) x all is = go (p y) refl (found_passes p test ys x (both (test y) (list_all test ys) all).1) is
   where
@@ -166,7 +166,7 @@ parsed_up_to : (ignore_case : Bool) (p : ValueParser) (most : ℕ) (vs : List Te
 parsed_up_to ignore_case (vp.Unsigned low high) most vs le e = values_up_to ignore_case low high most vs le e
 parsed_up_to ignore_case _ most vs le e = absurd (true≢false (sym le))
 
--- the values of a use pass the parser, whatever the use does
+-- the values of any use pass the parser
 action_values : (x : ArgAction) (again : Bool) (a : Rule) (values : List Text) (rows : List Row) → is_counting x ≡ false → action_fault x again a values rows ≡ [] → values_fault a values ≡ []
 action_values action.Set again a values rows counts e = then_passes (repeat_fault again a.id rows) (values_fault a values) e
 action_values action.SetTrue again a values rows counts e = then_passes (repeat_fault again a.id rows) (values_fault a values) e
@@ -254,7 +254,7 @@ given_found : (o : Option Row) → option_map_or (λ r. explicit_source r.source
 given_found None e = absurd (true≢false (sym e))
 given_found (Some r) e = refl
 
--- a default is put in where nothing was given
+-- a default is put in if nothing was given
 row_stays : (id key : Text) (change : Row → List Row) (missing rows : List Row) → ((r : Row) → bytes_eq r.id id ≡ true → has_row id (change r) ≡ true)
     → has_row id rows ≡ true → has_row id (at_row key change missing rows) ≡ true
 row_stays id key change missing [] each e = absurd (true≢false (sym e))
@@ -445,7 +445,7 @@ met_there true wanted is e = refl
 met_there false true is e = absurd (true≢false e)
 met_there false false is e = absurd (true≢false (sym is))
 
-pub answered_by : (word name : Text) (aliases : List Text) → is_empty aliases ≡ true → answers_to word (name, aliases) ≡ true → bytes_eq name word ≡ true
+answered_by : (word name : Text) (aliases : List Text) → is_empty aliases ≡ true → answers_to word (name, aliases) ≡ true → bytes_eq name word ≡ true
 answered_by word name aliases none e =
     ⊎_elim (λ own. own)
     (λ other. absurd (true≢false (sym (subst (λ (l : List Text). list_any (λ alias. bytes_eq alias word) l ≡ true) (is_nil aliases none) other))))

@@ -1,7 +1,6 @@
 pub mod UseLemmas
 pub mod StopLemmas
 pub mod EntryLemmas
-pub mod NamedLemmas
 pub mod TableLemmas
 pub mod ProgramLemmas
 pub mod LineLemmas

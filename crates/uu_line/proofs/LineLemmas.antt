@@ -1,5 +1,5 @@
 -- The readings of a line's parts.
-use Rattle.std.proofs.Common.{◌≡◌, ◌≢◌, ◌∙◌, ◌^◌, ◌≤◌, ◌⊎◌, ◌&&◌, inl, inr, if◌then◌else◌, codes, ap, ap₂, sym, refl, ℕ, zero, suc, ◌<◌, Bool, true, false, List, [], ◌∷◌, ◌++◌, Option, Some, None, Result, Ok, Err, is_some, map, drop, take, length, get_or, slice_index_or, subst, true≢false, arith}
+use Rattle.std.proofs.Common.{◌≡◌, ◌≢◌, ◌∙◌, ◌^◌, ◌≤◌, ◌&&◌, if◌then◌else◌, codes, ap, sym, refl, ℕ, zero, suc, ◌<◌, Bool, true, false, List, [], ◌∷◌, ◌++◌, Option, Some, None, Result, Ok, Err, is_some, map, drop, take, length, get_or, slice_index_or, subst, true≢false, arith}
 use Rattle.std.specs.Prelude.{⊤, cond, find, nat_le, option_and_then, option_map, slice_get, unwrap_or}
 use Rattle.std.specs.List.{All, list_all, prefix_len}
 use Rattle.std.specs.String.{string_bytes}
@@ -10,8 +10,8 @@ use Rattle.std.proofs.lemmas.Slice.Eq.{bytes_eq-Decides}
 use Rattle.uu_names.specs.declared.fault.NameFault.{NameFault}
 use Rattle.std.proofs.lemmas.List.{get_or-map, length-map}
 use Rattle.std.proofs.lemmas.List.Elements.{All-append}
-use Rattle.uu_names.specs.Path.{IsPathFault, IsPathText, first_hop, rest_of}
-use Rattle.uu_names.specs.Name.{has_form, is_site_byte, is_site_name, is_word, is_word_byte, most_name, most_word}
+use Rattle.uu_names.specs.Path.{IsPathFault, IsPathText, rest_of}
+use Rattle.uu_names.specs.Name.{has_form, is_word, is_word_byte, most_word}
 use Rattle.uu_names.specs.Fault.{UnlessMemory as UnlessMemoryOf}
 use Rattle.uu_names.specs.declared.fault.NameFault.TheVariants as name
 use Rattle.uu_names.specs.declared.fault.NameFault.TheVariants.{BadName, BadWord, TooLong}
@@ -25,9 +25,7 @@ use Rattle.std.specs.Box.{box_value}
 use Rattle.std.specs.Prelude.{Box}
 use Rattle.uu_line.specs.Commands.{program}
 use Rattle.uu_line.specs.declared.line.CommandLine.{CommandLine}
-use Rattle.uu_line.specs.declared.origin.Origin.{Origin}
 use Rattle.uu_line.specs.declared.task.Task.{Task}
-use Rattle.uu_line.specs.declared.task.Task.TheVariants as task
 use Rattle.uu_line.specs.Faults.{fault_of_name}
 use Rattle.clap.specs.ValueTests.{is_unsigned_in}
 use Rattle.clap.specs.declared.builder.value_parser.ValueParser.TheVariants as vp
@@ -35,19 +33,19 @@ use Rattle.clap.proofs.ValueTestLemmas.{accepts-Accepts}
 use Rattle.clap.proofs.WalkLemmas.{both}
 use Rattle.uu_line.specs.Internal.Entries.{AreNumbersUpTo, AreTaken, HasSubcommand}
 use Rattle.uu_line.specs.Lines.{texts_at}
-use Rattle.uu_line.specs.Lines.{Answers, AreNumbers, HasEntriesOf, IsAddressFault, IsAnswerTo, IsBadAddress, IsNumber, IsNumberOf, IsWordsOf, Line, Means, MeansEntered, MeansEntries, MeansLineOf, UnlessMemory, and_then, line_or_fault, mail_by, named, optional, said, same_text, site_of, word_of, words_of}
+use Rattle.uu_line.specs.Lines.{Answers, AreNumbers, HasEntriesOf, IsAddressFault, IsAnswerTo, IsBadAddress, IsNumber, IsNumberOf, IsWordsOf, Line, Means, MeansEntered, MeansEntries, MeansLineOf, UnlessMemory, and_then, each_of, line_or_fault, named, said, word_of}
 use Rattle.uu_line.proofs.ProgramLemmas.{program_takes}
 use Rattle.uu_line.specs.declared.fault.LineFault.{LineFault}
 use Rattle.uu_line.specs.declared.fault.LineFault.TheVariants as fault
 
--- a fault of words with a kind of which P holds is one with a kind of which Q does
+-- a fault of words with a kind with P is one with a kind with Q
 pub IsWordsOf-weaker : (P Q : ErrorKind → Type 0) (f : LineFault) → ((kind : ErrorKind) → P kind → Q kind) → IsWordsOf P f → IsWordsOf Q f
 IsWordsOf-weaker P Q (fault.Words text help) weaker it = (it.0, weaker it.0 it.1, it.2)
 IsWordsOf-weaker P Q (fault.Name why) weaker it = it
 IsWordsOf-weaker P Q fault.TwoSystems weaker it = it
 IsWordsOf-weaker P Q fault.Memory weaker it = tt
 
--- of a fault that is no want of memory, what holds of it
+-- what holds of a fault that isn't out of memory
 pub err_weaker : {V W : Type 0} (P : Result V LineFault → Type 0) (Q : Result W LineFault → Type 0) (f : LineFault)
     → (P (Err f) → Q (Err f)) → UnlessMemory P (Err f) → UnlessMemory Q (Err f)
 err_weaker P Q (fault.Words text help) weaker holds = holds
@@ -60,18 +58,6 @@ pub answers_then : {V W : Type 0} (f : LineFault) (first : Result V LineFault) (
     → Answers (Err f) first → Answers (Err f) (and_then first next)
 answers_then f first next answers =
     err_weaker (λ a. a ≡ first) (λ a. a ≡ and_then first next) f (λ is. ap (λ r. and_then r next) is) answers
-
--- the value of an option that is given, and the fault of one
-pub optional_ok : {V : Type 0} (read : Text → Result V LineFault) (entry : Option Text) (text : Text) (value : V) → Some text ≡ entry
-    → Answers (Ok value) (read text) → (let answer : Result (Option V) LineFault = Ok (Some value) in Answers answer (optional read entry))
-optional_ok read entry text value is answers =
-    ap (λ r. and_then r (λ v. Ok (Some v))) answers ∙ ap (optional read) is
-
-pub optional_err : {V : Type 0} (read : Text → Result V LineFault) (entry : Option Text) (text : Text) (f : LineFault) → Some text ≡ entry
-    → Answers (Err f) (read text) → (let answer : Result (Option V) LineFault = Err f in Answers answer (optional read entry))
-optional_err read entry text f is answers =
-    err_weaker (λ a. a ≡ read text) (λ a. a ≡ optional read entry) f
-    (λ same. ap (λ r. and_then r (λ v. Ok (Some v))) same ∙ ap (optional read) is) answers
 
 -- a text that passes as a number up to a limit is a numeral of so many bits
 pub numeral_of : (bits most : ℕ) (text : Text) → most < 2 ^ bits → is_unsigned_in 0 most text ≡ true
@@ -100,7 +86,7 @@ meaning P (Err (fault.Name why)) expected holds is = subst P (sym is) holds
 meaning P (Err fault.TwoSystems) expected holds is = subst P (sym is) holds
 meaning P (Err fault.Memory) expected holds is = tt
 
--- a name that is none of the table's is not found in it
+-- a name that isn't in the table isn't found in it
 abbrev pub IsNone : Text → List (Text × List Text) → Type 0
 IsNone name [] = ⊤
 IsNone name (subcommand ∷ more) = (name ≢ subcommand.0) × IsNone name more
@@ -114,7 +100,7 @@ never_strange name (subcommand ∷ more) other found = go (bytes_eq subcommand.0
     go true is later found = other.0 (sym ((bytes_eq-Decides subcommand.0 name).0 is))
     go false is later found = later found
 
--- a name that is none of the first rows is found in the others
+-- a name that isn't in the first rows is found in the others
 pub found_later : (name : Text) (n : ℕ) (table : List (Text × List Text)) → IsNone name (take n table)
     → is_some (find (λ subcommand. bytes_eq subcommand.0 name) table) ≡ true → is_some (find (λ subcommand. bytes_eq subcommand.0 name) (drop n table)) ≡ true
 found_later name zero table other found = found
@@ -195,30 +181,30 @@ both_ok (Ok word) (Err f) words is = absurd cc
 both_ok (Ok word) (Ok more) words is = (word, more, refl, refl, cc)
 
 -- one more text
-pub words_next : {B : Type 0} (f : B → Text) (xs : List B) (i : ℕ) (d : B) (words : List (List ℕ)) (word : List ℕ) → i < length xs
-    → words_of (take i (map f xs)) ≡ Ok words → Ok word ≡ word_of (f (slice_index_or xs i d))
-    → words_of (take (suc i) (map f xs)) ≡ Ok (words ++ word ∷ [])
-words_next f [] i d words word inside so_far is = absurd (omega arith)
-words_next f (x ∷ xs) zero d words word inside so_far is =
-    let none : [] ≡ words = cc in
-    ap (λ r. and_then r (λ w. Ok (w ∷ []))) (sym is) ∙ ap (λ ws. Ok (ws ++ word ∷ [])) none
-words_next f (x ∷ xs) (suc i) d words word inside so_far is =
-    let (head, more, first, others, whole) = both_ok (word_of (f x)) (words_of (take i (map f xs))) words so_far in
-    let next = words_next f xs i d more word (omega arith) others is in
-    ap (λ r. and_then r (λ w. and_then (words_of (take (suc i) (map f xs))) (λ ws. Ok (w ∷ ws)))) first
+pub values_next : {B : Type 0} (read : Text → Result (List ℕ) LineFault) (f : B → Text) (xs : List B) (i : ℕ) (d : B) (values : List (List ℕ)) (value : List ℕ) → i < length xs
+    → each_of read (take i (map f xs)) ≡ Ok values → Ok value ≡ read (f (slice_index_or xs i d))
+    → each_of read (take (suc i) (map f xs)) ≡ Ok (values ++ value ∷ [])
+values_next read f [] i d values value inside so_far is = absurd (omega arith)
+values_next read f (x ∷ xs) zero d values value inside so_far is =
+    let none : [] ≡ values = cc in
+    ap (λ r. and_then r (λ w. Ok (w ∷ []))) (sym is) ∙ ap (λ ws. Ok (ws ++ value ∷ [])) none
+values_next read f (x ∷ xs) (suc i) d values value inside so_far is =
+    let (head, more, first, others, whole) = both_ok (read (f x)) (each_of read (take i (map f xs))) values so_far in
+    let next = values_next read f xs i d more value (omega arith) others is in
+    ap (λ r. and_then r (λ w. and_then (each_of read (take (suc i) (map f xs))) (λ ws. Ok (w ∷ ws)))) first
     ∙ ap (λ r. and_then r (λ ws. Ok (head ∷ ws))) next
-    ∙ ap (λ ws. Ok (ws ++ word ∷ [])) (sym whole)
+    ∙ ap (λ ws. Ok (ws ++ value ∷ [])) (sym whole)
 
--- a text that is no word stops the reading
-pub words_stop : {B : Type 0} (f : B → Text) (xs : List B) (i : ℕ) (d : B) (words : List (List ℕ)) (why : LineFault) → i < length xs
-    → words_of (take i (map f xs)) ≡ Ok words → Err why ≡ word_of (f (slice_index_or xs i d)) → Err why ≡ words_of (map f xs)
-words_stop f [] i d words why inside so_far is = absurd (omega arith)
-words_stop f (x ∷ xs) zero d words why inside so_far is =
-    ap (λ r. and_then r (λ w. and_then (words_of (map f xs)) (λ ws. Ok (w ∷ ws)))) is
-words_stop f (x ∷ xs) (suc i) d words why inside so_far is =
-    let (head, more, first, others, whole) = both_ok (word_of (f x)) (words_of (take i (map f xs))) words so_far in
-    ap (λ r. and_then r (λ ws. Ok (head ∷ ws))) (words_stop f xs i d more why (omega arith) others is)
-    ∙ ap (λ r. and_then r (λ w. and_then (words_of (map f xs)) (λ ws. Ok (w ∷ ws)))) (sym first)
+-- a text that isn't such a value stops the reading
+pub values_stop : {B : Type 0} (read : Text → Result (List ℕ) LineFault) (f : B → Text) (xs : List B) (i : ℕ) (d : B) (values : List (List ℕ)) (why : LineFault) → i < length xs
+    → each_of read (take i (map f xs)) ≡ Ok values → Err why ≡ read (f (slice_index_or xs i d)) → Err why ≡ each_of read (map f xs)
+values_stop read f [] i d values why inside so_far is = absurd (omega arith)
+values_stop read f (x ∷ xs) zero d values why inside so_far is =
+    ap (λ r. and_then r (λ w. and_then (each_of read (map f xs)) (λ ws. Ok (w ∷ ws)))) is
+values_stop read f (x ∷ xs) (suc i) d values why inside so_far is =
+    let (head, more, first, others, whole) = both_ok (read (f x)) (each_of read (take i (map f xs))) values so_far in
+    ap (λ r. and_then r (λ ws. Ok (head ∷ ws))) (values_stop read f xs i d more why (omega arith) others is)
+    ∙ ap (λ r. and_then r (λ w. and_then (each_of read (map f xs)) (λ ws. Ok (w ∷ ws)))) (sym first)
 
 -- one more path
 pub paths_next : {B : Type 0} (f : B → Text) (xs : List B) (i : ℕ) (d : B) (paths : List Text) (path : Text) → i < length xs
@@ -280,79 +266,7 @@ pub no_subcommand : (o : Option (Text × List Row)) → None ≡ option_map (λ 
 no_subcommand None is has = has
 no_subcommand (Some subcommand) is has = absurd cc
 
--- both values, or the fault of the first that is none
-abbrev pub both_of : {V W : Type 0} → Result V LineFault → Result W LineFault → Result (V × W) LineFault
-both_of first second = and_then first (λ v. and_then second (λ w. Ok (v, w)))
-
--- two readings, and what is made of both values
-pub two_read : {A B V : Type 0} (made : A → B → V) (a x : Result A LineFault) (b y : Result B LineFault) → Answers a x → Answers b y
-    → Answers (and_then (both_of a b) (λ p. Ok (made p.0 p.1))) (and_then x (λ v. and_then y (λ w. Ok (made v w))))
-two_read made (Ok v) x (Ok w) y is also =
-    ap (λ r. and_then r (λ w. Ok (made v w))) also ∙ ap (λ r. and_then r (λ v. and_then y (λ w. Ok (made v w)))) is
-two_read made (Ok v) x (Err f) y is also =
-    err_weaker (λ a. a ≡ y) (λ a. a ≡ and_then x (λ v. and_then y (λ w. Ok (made v w)))) f
-    (λ same. ap (λ r. and_then r (λ w. Ok (made v w))) same ∙ ap (λ r. and_then r (λ v. and_then y (λ w. Ok (made v w)))) is) also
-two_read made (Err f) x b y is also = answers_then f x (λ v. and_then y (λ w. Ok (made v w))) is
-
--- the readings of a pair
-pub pair_read : {A B : Type 0} (a x : Result A LineFault) (b y : Result B LineFault) → Answers a x → Answers b y → Answers (both_of a b) (both_of x y)
-pair_read (Ok v) x (Ok w) y is also = ap₂ both_of is also
-pair_read (Ok v) x (Err f) y is also =
-    err_weaker (λ a. a ≡ y) (λ a. a ≡ both_of x y) f (λ same. ap₂ both_of is same) also
-pair_read (Err f) x b y is also = answers_then f x (λ v. and_then y (λ w. Ok (v, w))) is
-
-regrouped_three : {A B C V : Type 0} (made : A → B → C → V) (x : Result A LineFault) (y : Result B LineFault) (z : Result C LineFault)
-    → and_then (both_of x y) (λ p. and_then z (λ c. Ok (made p.0 p.1 c))) ≡ and_then x (λ a. and_then y (λ b. and_then z (λ c. Ok (made a b c))))
-regrouped_three made (Ok a) (Ok b) z = refl
-regrouped_three made (Ok a) (Err f) z = refl
-regrouped_three made (Err f) y z = refl
-
--- three readings, and what is made of the values
-pub three_read : {A B C V : Type 0} (made : A → B → C → V) (a x : Result A LineFault) (b y : Result B LineFault) (c z : Result C LineFault)
-    → Answers a x → Answers b y → Answers c z
-    → Answers (and_then (both_of (both_of a b) c) (λ p. Ok (made p.0.0 p.0.1 p.1))) (and_then x (λ v. and_then y (λ w. and_then z (λ s. Ok (made v w s)))))
-three_read made a x b y c z is_a is_b is_c =
-    let read = two_read (λ p s. made p.0 p.1 s) (both_of a b) (both_of x y) c z (pair_read a x b y is_a is_b) is_c in
-    subst (Answers (and_then (both_of (both_of a b) c) (λ p. Ok (made p.0.0 p.0.1 p.1)))) (regrouped_three made x y z) read
-
-regrouped : {A B C D V : Type 0} (made : A → B → C → D → V) (x : Result A LineFault) (y : Result B LineFault) (z : Result C LineFault) (u : Result D LineFault)
-    → and_then (both_of x y) (λ p. and_then (both_of z u) (λ q. Ok (made p.0 p.1 q.0 q.1)))
-    ≡ and_then x (λ a. and_then y (λ b. and_then z (λ c. and_then u (λ d. Ok (made a b c d)))))
-regrouped made (Ok a) (Ok b) (Ok c) (Ok d) = refl
-regrouped made (Ok a) (Ok b) (Ok c) (Err f) = refl
-regrouped made (Ok a) (Ok b) (Err f) u = refl
-regrouped made (Ok a) (Err f) z u = refl
-regrouped made (Err f) y z u = refl
-
--- four readings, and what is made of the values
-pub four_read : {A B C D V : Type 0} (made : A → B → C → D → V) (a x : Result A LineFault) (b y : Result B LineFault) (c z : Result C LineFault) (d u : Result D LineFault)
-    → Answers a x → Answers b y → Answers c z → Answers d u
-    → Answers (and_then (both_of (both_of a b) (both_of c d)) (λ p. Ok (made p.0.0 p.0.1 p.1.0 p.1.1)))
-    (and_then x (λ v. and_then y (λ w. and_then z (λ s. and_then u (λ t. Ok (made v w s t))))))
-four_read made a x b y c z d u is_a is_b is_c is_d =
-    let read = two_read (λ p q. made p.0 p.1 q.0 q.1) (both_of a b) (both_of x y) (both_of c d) (both_of z u) (pair_read a x b y is_a is_b) (pair_read c z d u is_c is_d) in
-    subst (Answers (and_then (both_of (both_of a b) (both_of c d)) (λ p. Ok (made p.0.0 p.0.1 p.1.0 p.1.1)))) (regrouped made x y z u) read
-
-abbrev firsts : {V W : Type 0} → Result (V × W) LineFault → Result V LineFault
-firsts pair = and_then pair (λ p. Ok p.0)
-
-abbrev seconds : {V W : Type 0} → Result (V × W) LineFault → Result W LineFault
-seconds pair = and_then pair (λ p. Ok p.1)
-
--- both are values where the pair is one
-pub both_are : {V W : Type 0} (a : Result V LineFault) (b : Result W LineFault) (v : V) (w : W) → Ok (v, w) ≡ both_of a b → (a ≡ Ok v) × (b ≡ Ok w)
-both_are (Ok x) (Ok y) v w is = (ap firsts (sym is), ap seconds (sym is))
-both_are (Ok x) (Err f) v w is = absurd cc
-both_are (Err f) b v w is = absurd cc
-
--- and a fault is that of the one or of the other
-pub one_fails : {V W : Type 0} (a : Result V LineFault) (b : Result W LineFault) (f : LineFault) → Err f ≡ both_of a b
-    → (a ≡ Err f) ⊎ ((v : V) × (a ≡ Ok v) × (b ≡ Err f))
-one_fails (Ok x) (Ok y) f is = absurd cc
-one_fails (Ok x) (Err g) f is = inr (x, refl, cc)
-one_fails (Err g) b f is = inl cc
-
--- where the answer is known to be a value, a fault is want of memory
+-- if the answer is known to be a value, a fault is out of memory
 pub only_memory : {V : Type 0} (f : LineFault) (expected : Result V LineFault) (value : V) → expected ≡ Ok value → Answers (Err f) expected → f ≡ fault.Memory
 only_memory (fault.Words text help) expected value known answers = absurd answers
 only_memory (fault.Name why) expected value known answers = absurd cc
@@ -369,16 +283,7 @@ word_known text is = go (has_form is_word_byte text) (nat_le (length text) most_
     go true false is = absurd (true≢false (sym is))
     go false short is = absurd (true≢false (sym is))
 
-pub site_known : (text : Text) → is_site_name text ≡ true → site_of text ≡ Ok text
-site_known text is = go (has_form is_site_byte text) (nat_le (length text) most_name) is
-  where
-    go : (form short : Bool) → (form && short) ≡ true
-        → (let read : Result (List ℕ) NameFault = if form then (if short then Ok text else Err TooLong) else Err (BadName (prefix_len is_site_byte text)) in named read ≡ Ok text)
-    go true true is = refl
-    go true false is = absurd (true≢false (sym is))
-    go false short is = absurd (true≢false (sym is))
-
--- the fault of a text that is no bang path, as that of a list of addresses with it alone
+-- the fault of a text that isn't a bang path is that of a list of addresses with only this text
 pub address_alone : (text : Text) (why : NameFault) → IsPathFault text why → UnlessMemoryOf why (¬ IsPathText text) → IsAddressFault (text ∷ []) (fault_of_name why)
 address_alone text name.BadGrade is none = absurd is
 address_alone text (name.BadName at) is none = absurd is
@@ -397,7 +302,7 @@ item_at f [] i d inside = absurd (omega arith)
 item_at f (x ∷ xs) zero d inside = refl
 item_at f (x ∷ xs) (suc i) d inside = item_at f xs i d (omega arith)
 
--- a text that is no bang path, after texts that are, is the first of the list that is none
+-- a text that isn't a bang path, after texts that are, is the first of the list that isn't
 pub address_stop : {B : Type 0} (f : B → Text) (xs : List B) (i : ℕ) (d : B) (why : LineFault) → i < length xs → All IsPathText (take i (map f xs))
     → IsAddressFault (f (slice_index_or xs i d) ∷ []) why → IsAddressFault (map f xs) why
 address_stop f xs i d (fault.Words text help) inside before bad = bad
@@ -423,15 +328,7 @@ rests_next (path ∷ paths) zero d rests rest inside so_far is = ap (λ r. r ++ 
 rests_next (path ∷ paths) (suc i) d rests rest inside so_far is =
     ap (λ r. r ++ rest ∷ []) so_far ∙ ap (λ r. rest_of path ∷ r) (rests_next paths i d (map rest_of (take i paths)) rest (omega arith) refl is)
 
--- where all begin alike, the message is for the system that the first begins with
-pub mailed : (terms : ℕ × Option Origin) (first hop : Text) (paths : List Text) → hop ≡ first_hop first → list_all (λ path. same_text (first_hop path) hop) paths ≡ true
-    → mail_by terms first paths ≡ Ok (task.Mail terms.0 terms.1 (first_hop first) (map rest_of paths))
-mailed terms first hop paths same alike =
-    let begins : list_all (λ path. same_text (first_hop path) (first_hop first)) paths ≡ true =
-    subst (λ h. list_all (λ path. same_text (first_hop path) h) paths ≡ true) same alike in
-    rw begins refl
-
--- the line of a user that is none, of a task that is none, and of both
+-- the line if the user isn't valid, if the task isn't valid, and if both are valid
 pub user_fault : (rows : List Row) (entered : Option (Text × List Row)) (config user : Text) (at : Option ℕ) (f : LineFault) → Some config ≡ first_of (codes "config") rows
     → Some user ≡ first_of (codes "as") rows → IsNumberOf 64 (first_of (codes "at") rows) at
     → (let answer : Result (List ℕ) LineFault = Err f in Answers answer (word_of user))
@@ -465,6 +362,3 @@ task_meant P Q (Err fault.Memory) weaker means = tt
 
 pub word_is : (text : Text) (word : List ℕ) → is_word text ≡ true → Ok word ≡ word_of text → word ≡ text
 word_is text word is answers = let known = answers ∙ word_known text is in cc
-
-pub site_is : (text : Text) (site : List ℕ) → is_site_name text ≡ true → Ok site ≡ site_of text → site ≡ text
-site_is text site is answers = let known = answers ∙ site_known text is in cc

@@ -1,19 +1,15 @@
 -- The reading of `SYSTEM!NUMBER[!WORD]`.
-use Rattle.std.proofs.Common.{◌≡◌, ◌∙◌, ◌^◌, ◌<◌, ◌≤◌, ◌==◌, ◌&&◌, ap, refl, sym, subst, Bool, true, false, cond, not, ◌+◌, ℕ, List, [], ◌∷◌, drop, length, Option, Some, None, Result, Ok, ok_or, arith}
+use Rattle.std.proofs.Common.{◌≡◌, ◌∙◌, ◌^◌, ◌<◌, ◌≤◌, ◌==◌, ◌&&◌, ap, refl, sym, subst, Bool, true, false, cond, not, ◌+◌, ℕ, List, [], ◌∷◌, drop, length, Some, None, arith}
 use Rattle.std.specs.Prelude.{nat_le, nat_lt, slice_index}
 use Rattle.std.specs.List.{list_all, list_any, position_or_len}
 use Rattle.std.specs.Char.{digit_value}
 use Rattle.std.specs.Str.Parse.{AllDigits, IsNumeral, digits_value, without_leading_plus}
 use Rattle.std.proofs.lemmas.Bool.{ltb-true, lt-ltb, le-leb, leb-true}
-use Rattle.uu_names.specs.declared.fault.NameFault.TheVariants.{BadPath}
-use Rattle.uu_names.specs.Path.{first_hop, is_bang, rest_of}
+use Rattle.uu_names.specs.Path.{is_bang}
 use Rattle.clap.specs.ValueTests.{is_numeral}
 use Rattle.clap.specs.Words.{Text}
 use Rattle.clap.proofs.WalkLemmas.{both}
-use Rattle.uu_line.specs.declared.fault.LineFault.{LineFault}
-use Rattle.uu_line.specs.declared.origin.Origin.{Origin}
-use Rattle.uu_line.specs.Lines.{Answers, after_bang, and_then, handed_number, named, optional, origin_of, site_of, word_of}
-use Rattle.uu_line.proofs.LineLemmas.{both_of, three_read}
+use Rattle.uu_line.specs.Lines.{after_bang, handed_number}
 
 digits_pass : (ds : List ℕ) → AllDigits 10 ds → list_all (λ d. nat_lt (digit_value d) 10) ds ≡ true
 digits_pass [] h = refl
@@ -63,31 +59,3 @@ lacks p (b ∷ bs) e = go (p b) refl (lacks p bs)
 
 pub no_bang : (text : Text) → position_or_len is_bang text ≡ length text → None ≡ after_bang text
 no_bang text e = rw (lacks is_bang text e) refl
-
--- what three readings make of it
-abbrev pub origin_by : (List ℕ × ℕ) × Option (List ℕ) → Result Origin LineFault
-origin_by parts = Ok (record { from = parts.0.0; number = parts.0.1; spool = parts.1 })
-
-answers_number : (number : Option ℕ) (at : ℕ) → let read = named (ok_or number (BadPath at)) in Answers read read
-answers_number None at = refl
-answers_number (Some number) at = refl
-
-abbrev the_origin : List ℕ → ℕ → Option (List ℕ) → Origin
-the_origin from number spool = record { from = from; number = number; spool = spool }
-
-abbrev read_by : Text → Text → Option Text → Result Origin LineFault
-read_by site digits word =
-    and_then (site_of site) (λ from. and_then (named (ok_or (handed_number digits) (BadPath (length site)))) (λ number. and_then (optional word_of word) (λ spool. Ok (the_origin from number spool))))
-
--- the parts of a text, each read
-pub origin_read : (text site digits : Text) (word : Option Text) (from : Result (List ℕ) LineFault) (number : Result ℕ LineFault) (spool : Result (Option (List ℕ)) LineFault)
-    → site ≡ first_hop text → digits ≡ first_hop (rest_of text) → word ≡ after_bang (rest_of text)
-    → Answers from (site_of site) → number ≡ named (ok_or (handed_number digits) (BadPath (length site))) → Answers spool (optional word_of word)
-    → Answers (and_then (both_of (both_of from number) spool) origin_by) (origin_of text)
-origin_read text site digits word from number spool is_site is_digits is_word is_from is_number is_spool =
-    let counted : Answers number (named (ok_or (handed_number digits) (BadPath (length site)))) =
-    subst (λ n. Answers n (named (ok_or (handed_number digits) (BadPath (length site))))) (sym is_number) (answers_number (handed_number digits) (length site)) in
-    let read = three_read (λ f n s. the_origin f n s) from (site_of site) number (named (ok_or (handed_number digits) (BadPath (length site)))) spool (optional word_of word) is_from counted is_spool in
-    subst (λ s. Answers (and_then (both_of (both_of from number) spool) origin_by) (read_by s (first_hop (rest_of text)) (after_bang (rest_of text)))) is_site
-    (subst (λ d. Answers (and_then (both_of (both_of from number) spool) origin_by) (read_by site d (after_bang (rest_of text)))) is_digits
-    (subst (λ w. Answers (and_then (both_of (both_of from number) spool) origin_by) (read_by site digits w)) is_word read))

@@ -18,7 +18,7 @@ use Rattle.clap.specs.declared.parser.matches.ValueSource.{ValueSource}
 use Rattle.clap.specs.declared.parser.matches.ValueSource.TheVariants.{CommandLine, DefaultValue}
 use Rattle.clap.specs.declared.error.kind.ErrorKind.TheVariants as kind
 
--- ---- steps of which none fails
+-- ---- steps, none of which fails
 
 pub first_passes : (a b : Kinds) → or_else a b ≡ [] → a ≡ []
 first_passes [] b e = refl
@@ -41,7 +41,7 @@ same_id a b c ab ac = subst (λ t. bytes_eq t c ≡ true) ((bytes_eq-Decides a b
 
 -- ---- rows and rules
 
--- Q holds of the values of a row, where the row is of this id
+-- Q holds of the values of a row, if the row is of this id
 abbrev pub RowHolds : Text → (List Text → Type 0) → Row → Type 0
 RowHolds id Q row = bytes_eq row.id id ≡ true → Q row.values
 
@@ -139,7 +139,7 @@ module _ (id : Text) (Q : List Text → Type 0) (joins : (xs ys : List Text) →
   used_holds a of again values rows e h =
       used_as_holds (action_of a) a.id (reading_by a) (values_or_missing a values) rows (λ is. ((of is).counts, (of is).passing again values rows e)) h
 
-  -- a default, where the argument was not used
+  -- a default, if the argument wasn't used
   default_rows_holds : (key : Text) (how : Reading) (values : List Text) (rows : List Row)
       → (bytes_eq key id ≡ true → HoldsIfAny Q values) → RowsHold id Q rows → RowsHold id Q (default_rows key how values rows)
   default_rows_holds key how [] rows of h = h
@@ -230,7 +230,7 @@ module _ (id : Text) (Q : List Text → Type 0) (joins : (xs ys : List Text) →
   bundle_holds (suc k) flags skip so_far h e rows =
       bundle_step_holds (slice_get (chars flags) 0) skip flags so_far h (bundle_met c k) (flags_fault c again k) (bundle_holds k) e rows
 
-  -- a word that is no flag, and what comes after a flag, leave the rows
+  -- a word that isn't a flag, and what comes after a flag, leave the rows
   option_word_rows : (o : Option Rule) (key word : Text) (h : Held) → (option_word o key word h).0.rows ≡ h.rows
   option_word_rows None key word h = refl
   option_word_rows (Some a) key word h = refl

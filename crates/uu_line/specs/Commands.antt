@@ -5,6 +5,7 @@ use Rattle.std.specs.Str.{byte}
 use Rattle.clap.specs.Lexer.{usize_max}
 use Rattle.clap.specs.Words.{App, Rule, new_rule, new_app, with_rule, with_subcommand}
 use Rattle.clap.specs.Simple.{on_top}
+use Rattle.clap.specs.declared.builder.action.ArgAction.TheVariants.{SetTrue}
 use Rattle.clap.specs.declared.builder.value_parser.ValueParser.TheVariants.{Unsigned}
 
 -- `-c FILE`
@@ -31,11 +32,11 @@ user_option = record (new_rule (codes "as")) {
   defaults = codes "uucp" ∷ [];
 }
 
--- an argument that has to be there, by its place
+-- a required argument, by its place
 abbrev pub argument : List ℕ → Rule
 argument id = record (new_rule id) { value_names = 1; required = true }
 
--- the last argument, of which there may be any number from `least` on
+-- the last argument, which may be given any number of times from `least` on
 abbrev pub arguments : List ℕ → ℕ → Rule
 arguments id least = record (new_rule id) {
   value_names = 1;
@@ -53,6 +54,10 @@ grade_option = record (new_rule (codes "grade")) {
 -- `--once SYSTEM!NUMBER[!WORD]`
 abbrev pub once_option : Rule
 once_option = record (new_rule (codes "once")) { long = Some (codes "once"); value_names = 1 }
+
+-- `--spool WORD`
+abbrev pub spool_option : Rule
+spool_option = record (new_rule (codes "spool")) { long = Some (codes "spool"); value_names = 1 }
 
 -- `JOB`, a whole number of at most 4,294,967,295
 abbrev pub job_argument : Rule
@@ -95,6 +100,13 @@ list_command = with_rule (with_rule (new_app (codes "list")) wanted_system) want
 abbrev pub report_command : List ℕ → App
 report_command name = with_rule (new_app name) wanted_system
 
+-- `when [-a] [-s SYSTEM]`
+abbrev pub all_option : Rule
+all_option = record (new_rule (codes "all")) { short = Some (byte "a"); value_names = 1; action = Some SetTrue }
+
+abbrev pub when_command : App
+when_command = with_rule (report_command (codes "when")) all_option
+
 -- `NAME JOB`
 abbrev pub job_command : List ℕ → App
 job_command name = with_rule (new_app name) job_argument
@@ -117,11 +129,50 @@ done_command =
 abbrev pub forget_command : App
 forget_command = with_rule (with_rule (new_app (codes "forget")) (argument (codes "system"))) job_argument
 
+-- `-g GRADE` of a bundle
+abbrev pub lowest_grade : Rule
+lowest_grade = record grade_option { defaults = codes "z" ∷ [] }
+
+-- `--after JOB`, a whole number of at most 4,294,967,295
+abbrev pub after_option : Rule
+after_option = record (new_rule (codes "job")) {
+  long = Some (codes "after");
+  value_names = 1;
+  parser = Some (Unsigned 0 4_294_967_295);
+}
+
+-- `--no-jobs`, without a value
+abbrev pub no_jobs_option : Rule
+no_jobs_option = record (new_rule (codes "no-jobs")) { long = Some (codes "no-jobs"); value_names = 1; action = Some SetTrue }
+
+-- `[-g GRADE] [--spool WORD] [--after JOB] [--no-jobs]`
+abbrev pub with_packing : App → App
+with_packing app = with_rule (with_rule (with_rule (with_rule app lowest_grade) spool_option) after_option) no_jobs_option
+
+-- `pack SYSTEM [-g GRADE] [--spool WORD] [--after JOB] [--no-jobs]`
+abbrev pub pack_command : App
+pack_command = with_packing (with_rule (new_app (codes "pack")) (argument (codes "system")))
+
+-- `unpack SENDER [SYSTEM..]`
+abbrev pub unpack_command : App
+unpack_command =
+    with_rule (with_rule (new_app (codes "unpack")) (argument (codes "sender"))) (arguments (codes "system") 0)
+
+-- `settle SYSTEM [--spool WORD]`
+abbrev pub settle_command : App
+settle_command = with_rule (with_rule (new_app (codes "settle")) (argument (codes "system"))) spool_option
+
+-- `answer SENDER [SYSTEM..] [-g GRADE] [--spool WORD] [--after JOB] [--no-jobs]`
+abbrev pub answer_command : App
+answer_command =
+    with_packing (with_rule (with_rule (new_app (codes "answer")) (argument (codes "sender"))) (arguments (codes "system") 0))
+
 -- `neighbours HOST`
 abbrev pub neighbours_command : App
 neighbours_command = with_rule (new_app (codes "neighbours")) (argument (codes "host"))
 
--- the words begin after the program's name, a subcommand has to be there, and `--version` says one
+-- the words are those after the program's name, a subcommand is required, and there is a
+-- `--version`
 abbrev pub without_options : App
 without_options = on_top (λ s. record s { no_binary_name = true; subcommand_required = true; has_version = true })
     (new_app (codes "uuspool"))
@@ -147,11 +198,17 @@ with_jobs =
 abbrev pub with_reports : App
 with_reports =
     with_subcommand (with_subcommand (with_subcommand (with_subcommand (with_subcommand with_jobs (report_command (codes "due")).top)
-    (report_command (codes "when")).top) (report_command (codes "queues")).top) (new_app (codes "status")).top)
+    when_command.top) (report_command (codes "queues")).top) (new_app (codes "status")).top)
     (report_command (codes "systems")).top
 
--- and those of calls, of the map and of the site
+-- and those of calls and of bundles
+abbrev pub with_calls : App
+with_calls =
+    with_subcommand (with_subcommand (with_subcommand (with_subcommand (with_subcommand (with_subcommand (with_subcommand with_reports
+    failed_command.top) done_command.top) forget_command.top) pack_command.top) unpack_command.top) settle_command.top) answer_command.top
+
+-- and those of the map and of the site
 abbrev pub program : App
 program =
-    with_subcommand (with_subcommand (with_subcommand (with_subcommand (with_subcommand (with_subcommand with_reports failed_command.top)
-    done_command.top) forget_command.top) (new_app (codes "map")).top) neighbours_command.top) (new_app (codes "name")).top
+    with_subcommand (with_subcommand (with_subcommand with_calls (new_app (codes "map")).top) neighbours_command.top)
+    (new_app (codes "name")).top

@@ -1,4 +1,3 @@
--- Mirrors of the code, which the clauses within the crate cite and no public clause does.
+-- Mirrors of the code, which only clauses within the crate cite.
 pub mod Entries
 pub mod Tables
-pub mod Wanted

@@ -1,7 +1,8 @@
--- What the words of a line mean. The forms of words are those of `clap`, which takes no line
--- without a subcommand and its required entries; the lines themselves are this project's choice.
+-- What the words of a line mean. The forms of words are those of `clap`, which refuses a line
+-- without a subcommand and its required entries. The lines themselves are this project's choice.
 use Rattle.std.specs.Prelude.{◌≡◌, ◌≢◌, ◌↔◌, ◌⊎◌, Bool, true, false, ℕ, ◌^◌, ◌<◌, ◌&&◌, nat_le, length, List, [], ◌∷◌, Option, Some, None, Result, Ok, Err, All, ⊤, codes, if◌then◌else◌, map, take, slice_get, ok_or, string_bytes, unwrap_or}
 use Rattle.std.specs.List.{list_all, list_any}
+use Rattle.std.specs.Option.{option_map_or}
 use Rattle.std.specs.Str.Parse.{IsNumeral, digits_value, without_leading_plus}
 use Rattle.std.specs.Cmp.Lexicographic.{pointwise}
 use Rattle.std.specs.Prelude.{nat_eq}
@@ -27,19 +28,19 @@ use Rattle.uu_line.specs.declared.task.Task.TheVariants as task
 
 -- ---- entries
 
--- the entry has a text, of which P holds
+-- the entry has a text with P
 abbrev pub WithText : Text → List Row → (Text → Type 0) → Type 0
 WithText id rows P = (text : Text) × (Some text ≡ first_of id rows) × P text
 
--- the entry has texts, one or more, of which P holds
+-- the entry has texts, at least one, with P
 abbrev pub WithTexts : Text → List Row → (Text → List Text → Type 0) → Type 0
 WithTexts id rows P = (first : Text) × (others : List Text) × (Some (first ∷ others) ≡ all_of id rows) × P first others
 
--- the texts of an entry that has any number of them
+-- the texts of an entry that may be given any number of times
 abbrev pub texts_at : Text → List Row → List Text
 texts_at id rows = unwrap_or (all_of id rows) []
 
--- the text is this number of so many bits, in decimal digits; a plus may stand before them
+-- the text is this number of so many bits, in decimal digits, perhaps after a plus
 abbrev pub IsNumber : ℕ → Text → ℕ → Type 0
 IsNumber bits text number =
     (IsNumeral 10 (without_leading_plus text) × (digits_value 10 (without_leading_plus text) < 2 ^ bits))
@@ -59,14 +60,14 @@ IsNumberOf bits (Some text) (Some number) = IsNumber bits text number
 IsNumberOf bits None (Some number) = ⊥
 IsNumberOf bits (Some text) None = ⊥
 
--- ---- names, each a value or the fault that is told of it
+-- ---- names: each a value or the fault that is reported for it
 
 -- the value, or the fault of a name as the line's fault
 abbrev pub named : {V : Type 0} → Result V NameFault → Result V LineFault
 named (Ok value) = Ok value
 named (Err fault) = Err (Name fault)
 
--- what the one reading comes to, and then the next; the first fault is told
+-- the result of the first reading, and then of the next; the first fault is reported
 abbrev pub and_then : {V W : Type 0} → Result V LineFault → (V → Result W LineFault) → Result W LineFault
 and_then (Ok value) next = next value
 and_then (Err fault) next = Err fault
@@ -78,17 +79,24 @@ site_of text = named (site_name_of text)
 abbrev pub word_of : Text → Result (List ℕ) LineFault
 word_of text = named (as_word text)
 
--- texts, each as a word; the first that is none is told
+-- texts, each read as a value; the first fault is reported
+abbrev pub each_of : (Text → Result (List ℕ) LineFault) → List Text → Result (List (List ℕ)) LineFault
+each_of read [] = Ok []
+each_of read (text ∷ texts) = and_then (read text) (λ value. and_then (each_of read texts) (λ values. Ok (value ∷ values)))
+
+-- texts, each as a word, and as a site name; the first fault is reported
 abbrev pub words_of : List Text → Result (List (List ℕ)) LineFault
-words_of [] = Ok []
-words_of (text ∷ texts) = and_then (word_of text) (λ word. and_then (words_of texts) (λ words. Ok (word ∷ words)))
+words_of texts = each_of word_of texts
+
+abbrev pub sites_of : List Text → Result (List (List ℕ)) LineFault
+sites_of texts = each_of site_of texts
 
 -- the rank of a grade, which is one byte
 abbrev pub grade_of : Text → Result ℕ LineFault
 grade_of (byte ∷ []) = named (ok_or (rank_of byte) BadGrade)
 grade_of _ = Err (Name BadGrade)
 
--- an option that may be left out: its value, where it is given
+-- an option that may be left out: its value, if it is given
 abbrev pub optional : {V : Type 0} → (Text → Result V LineFault) → Option Text → Result (Option V) LineFault
 optional read None = Ok None
 optional read (Some text) = and_then (read text) (λ value. Ok (Some value))
@@ -101,13 +109,14 @@ handed_number text =
     let number = digits_value 10 text in
     if is_numeral text && nat_le 1 number && nat_le number 4_294_967_294 then Some number else None
 
--- what a text has after its first `!`, where it has one
+-- the text after its first `!`, if it has one
 abbrev pub after_bang : Text → Option Text
 after_bang text = if list_any is_bang text then Some (rest_of text) else None
 
--- `SYSTEM!NUMBER[!WORD]`: the text is cut at its first two `!`, so that WORD may be any word, and the
--- parts are looked at in their order. Where the second is no such number, or there is none, the text
--- begins no path to a job at the end of the first. The fault of a part counts its own bytes.
+-- `SYSTEM!NUMBER[!WORD]`: the text is cut at its first two `!`, so WORD may be any word, and the
+-- parts are read in their order. If the second isn't such a number, or is missing, the fault is
+-- that of a path without a job, at the end of the first part. The offset in a part's fault counts
+-- that part's bytes.
 abbrev pub origin_of : Text → Result Origin LineFault
 origin_of text =
     let rest = rest_of text in
@@ -145,15 +154,15 @@ exec_task grade once system command arguments =
 abbrev pub same_text : Text → Text → Bool
 same_text = pointwise nat_eq
 
--- Addresses that are bang paths: each has to begin with the same system as the first, and the rests
--- are what that is to do.
+-- Addresses that are bang paths: each has to begin with the same system as the first. That system
+-- gets the rests.
 abbrev pub mail_by : ℕ × Option Origin → Text → List Text → Result Task LineFault
 mail_by terms first addresses =
     if list_all (λ address. same_text (first_hop address) (first_hop first)) addresses
     then Ok (task.Mail terms.0 terms.1 (first_hop first) (map rest_of addresses))
     else Err TwoSystems
 
--- the first of the addresses that is no bang path, and why
+-- the first of the addresses that isn't a bang path, and why
 pub record IsBadAddress (addresses : List Text) (fault : NameFault) : Type 0 where
   pub place : ℕ
   pub address : Text
@@ -163,13 +172,13 @@ pub record IsBadAddress (addresses : List Text) (fault : NameFault) : Type 0 whe
   pub why : IsPathFault address fault
   pub told : fault ≢ NoMemory
 
--- the addresses are told this fault, or it is want of memory
+-- the fault that is reported for the addresses, or out of memory
 abbrev pub IsAddressFault : List Text → LineFault → Type 0
 IsAddressFault addresses (Name fault) = IsBadAddress addresses fault
 IsAddressFault addresses Memory = ⊤
 IsAddressFault addresses _ = ⊥
 
--- addresses: where all are bang paths, the task, and else the fault of the first that is none
+-- addresses: the task if all are bang paths, and otherwise the fault of the first that isn't
 abbrev pub MeansMail : ℕ × Option Origin → Text → List Text → Result Task LineFault → Type 0
 MeansMail terms first addresses meant =
     (All IsPathText addresses × (meant ≡ mail_by terms first addresses))
@@ -190,9 +199,13 @@ list_task system user =
 abbrev pub due_task : Option Text → Result Task LineFault
 due_task system = and_then (optional site_of system) (λ system. Ok (task.Due system))
 
--- `when [-s SYSTEM]`
-abbrev pub when_task : Option Text → Result Task LineFault
-when_task system = and_then (optional site_of system) (λ system. Ok (task.When (record { system = system; user = None })))
+-- `when [-a] [-s SYSTEM]`
+abbrev pub asked_when : Bool → Option Text → Task
+asked_when true system = task.Polls system
+asked_when false system = task.When (record { system = system; user = None })
+
+abbrev pub when_task : Bool → Option Text → Result Task LineFault
+when_task all system = and_then (optional site_of system) (λ system. Ok (asked_when all system))
 
 -- `queues [-s SYSTEM]`
 abbrev pub queues_task : Option Text → Result Task LineFault
@@ -218,11 +231,36 @@ done_task system jobs = and_then (site_of system) (λ system. Ok (task.Done syst
 abbrev pub forget_task : Text → ℕ → Result Task LineFault
 forget_task system below = and_then (site_of system) (λ system. Ok (task.Forget system below))
 
+-- `pack SYSTEM [-g GRADE] [--spool WORD] [--after JOB] [--no-jobs]`
+abbrev pub pack_task : Text → Text → Option Text → Option ℕ → Bool → Result Task LineFault
+pack_task system grade spool after no_jobs =
+    and_then (site_of system) (λ system.
+    and_then (grade_of grade) (λ grade.
+    and_then (optional word_of spool) (λ spool. Ok (task.Pack system grade spool after no_jobs))))
+
+-- `unpack SENDER [SYSTEM..]`
+abbrev pub unpack_task : Text → List Text → Result Task LineFault
+unpack_task sender onward =
+    and_then (site_of sender) (λ sender. and_then (sites_of onward) (λ onward. Ok (task.Unpack sender onward)))
+
+-- `settle SYSTEM [--spool WORD]`
+abbrev pub settle_task : Text → Option Text → Result Task LineFault
+settle_task system spool =
+    and_then (site_of system) (λ system. and_then (optional word_of spool) (λ spool. Ok (task.Settle system spool)))
+
+-- `answer SENDER [SYSTEM..] [-g GRADE] [--spool WORD] [--after JOB] [--no-jobs]`
+abbrev pub answer_task : Text → List Text → Text → Option Text → Option ℕ → Bool → Result Task LineFault
+answer_task sender onward grade spool after no_jobs =
+    and_then (site_of sender) (λ sender.
+    and_then (sites_of onward) (λ onward.
+    and_then (grade_of grade) (λ grade.
+    and_then (optional word_of spool) (λ spool. Ok (task.Answer sender onward grade spool after no_jobs)))))
+
 -- `neighbours HOST`
 abbrev pub neighbours_task : Text → Result Task LineFault
 neighbours_task host = and_then (site_of host) (λ host. Ok (task.Neighbours host))
 
--- ---- what a subcommand with these entries asks for, or the fault that is told
+-- ---- the task of a subcommand with these entries, or the fault that is reported
 
 abbrev pub MeansDrop : List Row → Result Task LineFault → Type 0
 MeansDrop rows meant = WithText (codes "system") rows (λ system. meant ≡ drop_task system)
@@ -266,6 +304,30 @@ MeansDone rows meant =
 abbrev pub MeansForget : List Row → Result Task LineFault → Type 0
 MeansForget rows meant = WithText (codes "system") rows (λ system. MeansJob (forget_task system) rows meant)
 
+-- a flag was given
+abbrev pub has_flag : Text → List Row → Bool
+has_flag id rows = option_map_or (same_text (codes "true")) (first_of id rows) false
+
+abbrev pub MeansPack : List Row → Result Task LineFault → Type 0
+MeansPack rows meant =
+    WithText (codes "system") rows (λ system.
+    WithText (codes "grade") rows (λ grade.
+    (after : Option ℕ) × IsNumberOf 32 (first_of (codes "job") rows) after
+    × (meant ≡ pack_task system grade (first_of (codes "spool") rows) after (has_flag (codes "no-jobs") rows))))
+
+abbrev pub MeansUnpack : List Row → Result Task LineFault → Type 0
+MeansUnpack rows meant = WithText (codes "sender") rows (λ sender. meant ≡ unpack_task sender (texts_at (codes "system") rows))
+
+abbrev pub MeansSettle : List Row → Result Task LineFault → Type 0
+MeansSettle rows meant = WithText (codes "system") rows (λ system. meant ≡ settle_task system (first_of (codes "spool") rows))
+
+abbrev pub MeansAnswer : List Row → Result Task LineFault → Type 0
+MeansAnswer rows meant =
+    WithText (codes "sender") rows (λ sender.
+    WithText (codes "grade") rows (λ grade.
+    (after : Option ℕ) × IsNumberOf 32 (first_of (codes "job") rows) after
+    × (meant ≡ answer_task sender (texts_at (codes "system") rows) grade (first_of (codes "spool") rows) after (has_flag (codes "no-jobs") rows))))
+
 abbrev pub MeansNeighbours : List Row → Result Task LineFault → Type 0
 MeansNeighbours rows meant = WithText (codes "host") rows (λ host. meant ≡ neighbours_task host)
 
@@ -284,13 +346,17 @@ MeansTask name rows meant =
     ⊎ ((name ≡ codes "regrade") × MeansRegrade rows meant)
     ⊎ ((name ≡ codes "rejuvenate") × MeansJob (λ job. Ok (task.Rejuvenate job)) rows meant)
     ⊎ ((name ≡ codes "due") × (meant ≡ due_task (first_of (codes "system") rows)))
-    ⊎ ((name ≡ codes "when") × (meant ≡ when_task (first_of (codes "system") rows)))
+    ⊎ ((name ≡ codes "when") × (meant ≡ when_task (has_flag (codes "all") rows) (first_of (codes "system") rows)))
     ⊎ ((name ≡ codes "queues") × (meant ≡ queues_task (first_of (codes "system") rows)))
     ⊎ ((name ≡ codes "status") × (meant ≡ Ok task.Status))
     ⊎ ((name ≡ codes "systems") × (meant ≡ systems_task (first_of (codes "system") rows)))
     ⊎ ((name ≡ codes "failed") × MeansFailed rows meant)
     ⊎ ((name ≡ codes "done") × MeansDone rows meant)
     ⊎ ((name ≡ codes "forget") × MeansForget rows meant)
+    ⊎ ((name ≡ codes "pack") × MeansPack rows meant)
+    ⊎ ((name ≡ codes "unpack") × MeansUnpack rows meant)
+    ⊎ ((name ≡ codes "settle") × MeansSettle rows meant)
+    ⊎ ((name ≡ codes "answer") × MeansAnswer rows meant)
     ⊎ ((name ≡ codes "map") × (meant ≡ Ok task.Map))
     ⊎ ((name ≡ codes "neighbours") × MeansNeighbours rows meant)
     ⊎ ((name ≡ codes "name") × (meant ≡ Ok task.Name))
@@ -310,19 +376,24 @@ takes_input (task.Regrade job grade) = false
 takes_input (task.Rejuvenate job) = false
 takes_input (task.Due system) = false
 takes_input (task.When filter) = false
+takes_input (task.Polls system) = false
 takes_input (task.Queues filter) = false
 takes_input task.Status = false
 takes_input (task.Systems system) = false
 takes_input (task.Failed system why) = false
 takes_input (task.Done system jobs) = false
 takes_input (task.Forget system below) = false
+takes_input (task.Pack system grade spool after no_jobs) = false
+takes_input (task.Unpack sender onward) = true
+takes_input (task.Settle system spool) = true
+takes_input (task.Answer sender onward grade spool after no_jobs) = true
 takes_input task.Map = true
 takes_input (task.Neighbours host) = false
 takes_input task.Name = false
 
 -- ---- lines
 
--- a line, as it is seen here
+-- a line, as these definitions see it
 pub record Line : Type 0 where
   pub config : Text
   pub at : Option ℕ
@@ -339,12 +410,12 @@ line_or_fault (Err fault) = Err fault
 abbrev pub line_with : Text → Option ℕ → List ℕ → Result Task LineFault → Result Line LineFault
 line_with config at user task = and_then task (λ task. Ok (record { config = config; at = at; user = user; task = task }))
 
--- what the subcommand that was entered asks for
+-- the task of the subcommand that was entered
 abbrev pub MeansEntered : Option (Text × List Row) → Result Task LineFault → Type 0
 MeansEntered None meant = ⊥
 MeansEntered (Some subcommand) meant = MeansTask subcommand.0 subcommand.1 meant
 
--- the line of a user with a subcommand; the user is looked at first
+-- the line of a user with a subcommand; the user is checked first
 abbrev pub MeansLineOf : Text → Option ℕ → Result (List ℕ) LineFault → Option (Text × List Row) → Result Line LineFault → Type 0
 MeansLineOf config at (Err fault) entered meant = meant ≡ Err fault
 MeansLineOf config at (Ok user) entered meant =
@@ -357,8 +428,8 @@ MeansEntries rows entered meant =
     WithText (codes "as") rows (λ user.
     (at : Option ℕ) × IsNumberOf 64 (first_of (codes "at") rows) at × MeansLineOf config at (word_of user) entered meant))
 
--- What words mean that `clap` accepts, those after the program's name: a line, or the first fault
--- of its names.
+-- What words mean that `clap` accepts, without the program's name: a line, or the first fault of
+-- its names.
 abbrev pub Means : List Text → Result Line LineFault → Type 0
 Means words meant = MeansEntries (matches_of program words) (subcommand_of program words) meant
 
@@ -368,11 +439,11 @@ HasEntriesOf words found =
     (fault_of program words ≡ []) × (rows_of (found_of found) ≡ matches_of program words)
     × (subcommand_rows_of found ≡ subcommand_of program words)
 
--- a fault of this kind is told as help exactly where the kind is that of help or of a version
+-- a fault of this kind asks for help exactly if it is of the kind of help or of a version
 abbrev pub IsToldAsHelp : ErrorKind → Bool → Type 0
 IsToldAsHelp kind help = (help ≡ false) ↔ ((kind ≢ DisplayHelp) × (kind ≢ DisplayVersion))
 
--- the words are no line, or ask for help: `clap` refuses them with one of the kinds that it may,
+-- the words aren't a line, or ask for help: `clap` refuses them with one of the possible kinds,
 -- which says whether they ask for help
 abbrev pub AreRefused : List Text → Bool → Type 0
 AreRefused words help = (kind : ErrorKind) × IsAmong kind (fault_of program words) × IsToldAsHelp kind help
@@ -381,13 +452,13 @@ AreRefused words help = (kind : ErrorKind) × IsAmong kind (fault_of program wor
 abbrev pub MeansLine : List Text → CommandLine → Type 0
 MeansLine words line = (fault_of program words ≡ []) × Means words (Ok (said line))
 
--- the words are taken, and this is the first fault of their names and addresses
+-- `clap` accepts the words, and this is the first fault of their names and addresses
 abbrev pub MeansFault : List Text → LineFault → Type 0
 MeansFault words fault = (fault_of program words ≡ []) × Means words (Err fault)
 
--- The answer to words is what they mean. A fault of words comes where `clap` refuses them or is
--- asked for help, which it then says, and nowhere else; want of memory may take the place of any
--- answer, and no other fault comes.
+-- The answer to words is what they mean. A fault of words comes exactly if `clap` refuses them or
+-- they ask for help, and says which. Out of memory may come instead of any answer. No other fault
+-- comes.
 abbrev pub IsAnswerTo : List Text → Result CommandLine LineFault → Type 0
 IsAnswerTo words (Ok line) = MeansLine words line
 IsAnswerTo words (Err (Words text help)) = AreRefused words help
@@ -395,7 +466,7 @@ IsAnswerTo words (Err (Name why)) = MeansFault words (Name why)
 IsAnswerTo words (Err TwoSystems) = MeansFault words TwoSystems
 IsAnswerTo words (Err Memory) = ⊤
 
--- the answer is a value or a fault of names and has the property, or it is want of memory
+-- the answer is a value or a fault of names and has the property, or it is out of memory
 abbrev pub UnlessMemory : {V : Type 0} → (Result V LineFault → Type 0) → Result V LineFault → Type 0
 UnlessMemory P (Ok value) = P (Ok value)
 UnlessMemory P (Err (Name why)) = P (Err (Name why))
@@ -403,12 +474,11 @@ UnlessMemory P (Err TwoSystems) = P (Err TwoSystems)
 UnlessMemory P (Err (Words text help)) = ⊥
 UnlessMemory P (Err Memory) = ⊤
 
--- the answer is the expected one, or want of memory
+-- the answer is the expected one, or out of memory
 abbrev pub Answers : {V : Type 0} → Result V LineFault → Result V LineFault → Type 0
 Answers answer expected = UnlessMemory (λ a. a ≡ expected) answer
 
--- want of memory, or a fault of words with a kind of which P holds, which says whether they ask for
--- help
+-- out of memory, or a fault of words with a kind with P, which says whether they ask for help
 abbrev pub IsWordsOf : (ErrorKind → Type 0) → LineFault → Type 0
 IsWordsOf P (Words text help) = (kind : ErrorKind) × P kind × IsToldAsHelp kind help
 IsWordsOf P Memory = ⊤

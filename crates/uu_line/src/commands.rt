@@ -1,18 +1,14 @@
-//! The program's command line, as `clap` is told of it.
-ghost use Rattle.std.specs.Prelude.{◌≡◌, [], IfOk, false, map, option_map};
-ghost use Rattle.std.specs.List.{list_any};
-ghost use Rattle.std.specs.Str.{bytes_eq};
-ghost use Rattle.std.specs.String.{string_bytes};
+//! The program's command line, as `clap` gets it.
+ghost use Rattle.std.specs.Prelude.{◌≡◌, IfOk, false};
 ghost use Rattle.clap.specs.Words.{App, app_of, rule_of};
 ghost use Rattle.clap.specs.Built.{AddsInTurn, AddsSubcommand};
 ghost use Rattle.clap.specs.declared.builder.command.Command.{Command as AnyCommand};
 ghost use Rattle.clap.specs.declared.builder.command.Command.TheViews.{out-Command as fields_of};
 ghost use Rattle.clap.specs.declared.builder.value_parser.ValueParser.TheVariants.{Unsigned};
-ghost use Rattle.uu_line.specs.Commands.{without_subcommands};
-ghost use Rattle.uu_line.specs.Internal.Wanted as spec;
-ghost use Rattle.uu_line.specs.Internal.Tables.{IsFirstWanted, app_for, rule_for, rule_formed, with_rules, with_wanted};
+ghost use Rattle.uu_line.specs.Commands.{program, without_subcommands};
+ghost use Rattle.uu_line.specs.Internal.Tables.{app_for, rule_for, rule_formed, with_apps, with_rules};
 
-use clap::builder::ValueParser;
+use clap::builder::{ArgAction, ValueParser};
 use clap::{Arg, Command};
 use std::alloc::{AllocError, Global};
 
@@ -31,10 +27,16 @@ struct Entry<'a> {
 enum Form<'a> {
     // An option of one letter.
     Letter(char),
+    // An option of one letter, without a value.
+    Switch(char),
     // An option of a name.
     Name(&'a str),
     // An option of a name, whose value is a second.
     Second(&'a str),
+    // An option of a name, whose value is a job's number.
+    After(&'a str),
+    // An option of a name, without a value.
+    Flag(&'a str),
     // An argument by its place.
     One,
     // An argument by its place, a job's number.
@@ -71,7 +73,7 @@ const SECOND: Entry<'static> = Entry {
     required: false,
     defaults: &[],
     shown: "SECONDS",
-    help: "The second that counts as now, UTC, in place of the clock's",
+    help: "The time to use as now, in seconds since 1970-01-01 UTC",
 };
 
 // `--as USER`
@@ -111,7 +113,7 @@ const GRADE: Entry<'static> = Entry {
     required: false,
     defaults: &["N"],
     shown: "GRADE",
-    help: "The job's grade: 0 to 9, A to Z or a to z, highest first",
+    help: "The job's grade: 0-9, A-Z or a-z, from highest to lowest",
 };
 
 // `--once SYSTEM!NUMBER[!WORD]`
@@ -121,7 +123,7 @@ const ONCE: Entry<'static> = Entry {
     required: false,
     defaults: &[],
     shown: "SYSTEM!NUMBER[!WORD]",
-    help: "Whose job it is, and its number there: it is queued once",
+    help: "Whose job this is, and its number there; it is queued only once",
 };
 
 // `JOB`
@@ -141,7 +143,7 @@ const SOURCE: Entry<'static> = Entry {
     required: true,
     defaults: &[],
     shown: "FROM",
-    help: "The file's name where it is",
+    help: "The file's name at the site that has it",
 };
 
 // `TO`
@@ -151,7 +153,7 @@ const TARGET: Entry<'static> = Entry {
     required: true,
     defaults: &[],
     shown: "TO",
-    help: "The file's name where it goes",
+    help: "The file's name at the site that gets it",
 };
 
 // `-s SYSTEM`, of a report of systems
@@ -161,37 +163,97 @@ const WANTED: Entry<'static> = Entry {
     required: false,
     defaults: &[],
     shown: "SYSTEM",
-    help: "This neighbour alone",
+    help: "Only this neighbour",
 };
 
-// What `--version` says behind the program's name: the release, and the version of the spool's
+// `--spool WORD`
+const SPOOL: Entry<'static> = Entry {
+    id: "spool",
+    form: Form::Name("spool"),
+    required: false,
+    defaults: &[],
+    shown: "WORD",
+    help: "The word for this spool; a new spool has another one",
+};
+
+// `-g GRADE`, of a bundle
+const LOWEST: Entry<'static> = Entry {
+    id: "grade",
+    form: Form::Letter('g'),
+    required: false,
+    defaults: &["z"],
+    shown: "GRADE",
+    help: "Only jobs of this grade and higher: 0-9, A-Z or a-z, from highest to lowest",
+};
+
+// `--after JOB`
+const AFTER: Entry<'static> = Entry {
+    id: "job",
+    form: Form::After("after"),
+    required: false,
+    defaults: &[],
+    shown: "JOB",
+    help: "Only jobs after this one, in order of grade and number",
+};
+
+// `--no-jobs`
+const NO_JOBS: Entry<'static> = Entry {
+    id: "no-jobs",
+    form: Form::Flag("no-jobs"),
+    required: false,
+    defaults: &[],
+    shown: "",
+    help: "Leaves out the jobs",
+};
+
+// `SENDER`
+const SENDER: Entry<'static> = Entry {
+    id: "sender",
+    form: Form::One,
+    required: true,
+    defaults: &[],
+    shown: "SENDER",
+    help: "The neighbour that the bundle is from",
+};
+
+// `SYSTEM..`
+const ONWARD: Entry<'static> = Entry {
+    id: "system",
+    form: Form::Any,
+    required: false,
+    defaults: &[],
+    shown: "SYSTEM",
+    help: "The neighbours to which mail is passed on",
+};
+
+// What `--version` prints after the program's name: the release, and the version of the spool's
 // tables. `scripts/check-tree` compares it with the file VERSION and with the tables.
 const VERSION: &str = "1.0.0, spool version 3";
 
-// The words that `clap` does not see.
+// The line that `main` knows by its words, before `clap` reads them.
 const BATCH: &str = "Many requests:
-  uuspool [-c <FILE>] batch  Answers the requests on standard input, one after the other";
+  uuspool [-c <FILE>] batch  Reads requests from standard input and answers each in turn";
 
 // The options of the whole command.
 static OPTIONS: [Entry<'static>; 3] = [CONFIG, SECOND, USER];
 
-// The subcommands, in the order that help lists them in.
-static SUBCOMMANDS: [Subcommand<'static>; 22] = [
+// The subcommands, in the order in which help lists them.
+static SUBCOMMANDS: [Subcommand<'static>; 26] = [
     Subcommand {
         name: "load",
-        about: "Defines the systems of the sys file on standard input",
+        about: "Reads a sys file from standard input and defines its systems",
         entries: &[],
     },
     Subcommand {
         name: "drop",
-        about: "Forgets a system that no job waits for",
+        about: "Removes a system, if no job waits for it",
         entries: &[Entry {
             id: "system",
             form: Form::One,
             required: true,
             defaults: &[],
             shown: "SYSTEM",
-            help: "The neighbour that is forgotten",
+            help: "The neighbour to remove",
         }],
     },
     Subcommand {
@@ -201,7 +263,7 @@ static SUBCOMMANDS: [Subcommand<'static>; 22] = [
     },
     Subcommand {
         name: "request",
-        about: "Queues a request for a file of a system",
+        about: "Queues a request for a file from a system",
         entries: &[SYSTEM, SOURCE, TARGET, GRADE, ONCE],
     },
     Subcommand {
@@ -217,7 +279,7 @@ static SUBCOMMANDS: [Subcommand<'static>; 22] = [
                 required: true,
                 defaults: &[],
                 shown: "COMMAND",
-                help: "The command that the system is to run",
+                help: "The command to run on the system",
             },
             Entry {
                 id: "argument",
@@ -225,13 +287,13 @@ static SUBCOMMANDS: [Subcommand<'static>; 22] = [
                 required: false,
                 defaults: &[],
                 shown: "ARG",
-                help: "The command's arguments; `--` before those that begin with a hyphen",
+                help: "The command's arguments; put `--` before one that begins with a hyphen",
             },
         ],
     },
     Subcommand {
         name: "mail",
-        about: "Queues standard input as a message",
+        about: "Queues standard input as a mail message",
         entries: &[
             GRADE,
             ONCE,
@@ -241,13 +303,13 @@ static SUBCOMMANDS: [Subcommand<'static>; 22] = [
                 required: true,
                 defaults: &[],
                 shown: "ADDRESS",
-                help: "A bang path, each by way of the same neighbour",
+                help: "A bang path; all begin with the same neighbour",
             },
         ],
     },
     Subcommand {
         name: "list",
-        about: "Lists the jobs, those of the highest grade first",
+        about: "Lists the jobs, the highest grade first",
         entries: &[
             Entry {
                 id: "system",
@@ -255,7 +317,7 @@ static SUBCOMMANDS: [Subcommand<'static>; 22] = [
                 required: false,
                 defaults: &[],
                 shown: "SYSTEM",
-                help: "The jobs for this neighbour alone",
+                help: "Only jobs for this neighbour",
             },
             Entry {
                 id: "user",
@@ -263,7 +325,7 @@ static SUBCOMMANDS: [Subcommand<'static>; 22] = [
                 required: false,
                 defaults: &[],
                 shown: "USER",
-                help: "The jobs of this user alone",
+                help: "Only jobs of this user",
             },
         ],
     },
@@ -274,7 +336,7 @@ static SUBCOMMANDS: [Subcommand<'static>; 22] = [
     },
     Subcommand {
         name: "kill",
-        about: "Lets a job go",
+        about: "Removes a job",
         entries: &[JOB],
     },
     Subcommand {
@@ -288,13 +350,13 @@ static SUBCOMMANDS: [Subcommand<'static>; 22] = [
                 required: true,
                 defaults: &[],
                 shown: "GRADE",
-                help: "The job's new grade: 0 to 9, A to Z or a to z, highest first",
+                help: "The job's new grade: 0-9, A-Z or a-z, from highest to lowest",
             },
         ],
     },
     Subcommand {
         name: "rejuvenate",
-        about: "Lets a job count as queued now",
+        about: "Marks a job as queued now",
         entries: &[JOB],
     },
     Subcommand {
@@ -306,22 +368,32 @@ static SUBCOMMANDS: [Subcommand<'static>; 22] = [
             required: false,
             defaults: &[],
             shown: "SYSTEM",
-            help: "All jobs of this neighbour that may go now",
+            help: "All jobs for this neighbour that may go now",
         }],
     },
     Subcommand {
         name: "when",
-        about: "Lists when each system can next be called, for which job, and why not now",
-        entries: &[WANTED],
+        about: "Lists when each system can next be called, for which job, and why not before",
+        entries: &[
+            WANTED,
+            Entry {
+                id: "all",
+                form: Form::Switch('a'),
+                required: false,
+                defaults: &[],
+                shown: "",
+                help: "All systems, with a job or without one",
+            },
+        ],
     },
     Subcommand {
         name: "queues",
-        about: "Sums up the jobs of each system",
+        about: "Lists how many jobs wait for each system, and their size",
         entries: &[WANTED],
     },
     Subcommand {
         name: "status",
-        about: "Lists the systems and how their calls went",
+        about: "Lists the systems and how their last calls went",
         entries: &[],
     },
     Subcommand {
@@ -331,7 +403,7 @@ static SUBCOMMANDS: [Subcommand<'static>; 22] = [
     },
     Subcommand {
         name: "failed",
-        about: "Notes a call that failed",
+        about: "Notes that a call to a system failed, and why",
         entries: &[
             CALLED,
             Entry {
@@ -340,13 +412,13 @@ static SUBCOMMANDS: [Subcommand<'static>; 22] = [
                 required: true,
                 defaults: &[],
                 shown: "WHY",
-                help: "Why it failed, a word",
+                help: "Why it failed, in one word",
             },
         ],
     },
     Subcommand {
         name: "done",
-        about: "Notes a call that succeeded, and lets the jobs go that it carried out",
+        about: "Notes that a call to a system succeeded, and removes the jobs that it carried",
         entries: &[
             CALLED,
             Entry {
@@ -355,13 +427,13 @@ static SUBCOMMANDS: [Subcommand<'static>; 22] = [
                 required: false,
                 defaults: &[],
                 shown: "JOB",
-                help: "The numbers of the jobs that were carried out",
+                help: "The numbers of the jobs that the call carried",
             },
         ],
     },
     Subcommand {
         name: "forget",
-        about: "Forgets which jobs below a number came from a system",
+        about: "Forgets which jobs with numbers below NUMBER came from a system",
         entries: &[
             Entry {
                 id: "system",
@@ -369,7 +441,7 @@ static SUBCOMMANDS: [Subcommand<'static>; 22] = [
                 required: true,
                 defaults: &[],
                 shown: "SYSTEM",
-                help: "The neighbour that handed them on",
+                help: "The neighbour that handed the jobs on",
             },
             Entry {
                 id: "job",
@@ -377,18 +449,61 @@ static SUBCOMMANDS: [Subcommand<'static>; 22] = [
                 required: true,
                 defaults: &[],
                 shown: "NUMBER",
-                help: "The least number that it may still hand on",
+                help: "The lowest number that the neighbour may still hand on",
             },
         ],
     },
     Subcommand {
+        name: "pack",
+        about: "Prints a bundle for a system: jobs that wait for it, and which of its jobs are here",
+        entries: &[
+            Entry {
+                id: "system",
+                form: Form::One,
+                required: true,
+                defaults: &[],
+                shown: "SYSTEM",
+                help: "The neighbour that the bundle is for",
+            },
+            LOWEST,
+            SPOOL,
+            AFTER,
+            NO_JOBS,
+        ],
+    },
+    Subcommand {
+        name: "unpack",
+        about: "Reads a bundle from standard input and queues its jobs, each only once",
+        entries: &[SENDER, ONWARD],
+    },
+    Subcommand {
+        name: "settle",
+        about: "Reads a bundle from standard input and removes the jobs that its sender has",
+        entries: &[
+            Entry {
+                id: "system",
+                form: Form::One,
+                required: true,
+                defaults: &[],
+                shown: "SYSTEM",
+                help: "The neighbour that the bundle is from",
+            },
+            SPOOL,
+        ],
+    },
+    Subcommand {
+        name: "answer",
+        about: "Reads a bundle from standard input and prints the bundle that answers it",
+        entries: &[SENDER, ONWARD, LOWEST, SPOOL, AFTER, NO_JOBS],
+    },
+    Subcommand {
         name: "map",
-        about: "Keeps the map entries on standard input",
+        about: "Reads map entries from standard input and keeps them",
         entries: &[],
     },
     Subcommand {
         name: "neighbours",
-        about: "Lists the links of a host's map entry",
+        about: "Lists the links in the map entry of a host",
         entries: &[Entry {
             id: "host",
             form: Form::One,
@@ -400,21 +515,17 @@ static SUBCOMMANDS: [Subcommand<'static>; 22] = [
     },
     Subcommand {
         name: "name",
-        about: "Prints the site's own name",
+        about: "Prints the name of this site",
         entries: &[],
     },
 ];
 
-/// The command: its options and its subcommands, of which one has to be there. Without words it has
-/// all of them, and for words those that they name, and `load`.
-pub(crate) fn program_command<'a>(
-    alloc: Global,
-    words: Option<&[String]>,
-) -> Result<Command<'a>, AllocError>
-    ensures { IfOk result (λ command. app_of command ≡ spec.program_for (option_map (λ ws. map string_bytes ws.now) words.entry)) }
+/// The whole command: its options, and its subcommands, of which one has to be there.
+pub(crate) fn program_command<'a>(alloc: Global) -> Result<Command<'a>, AllocError>
+    ensures { IfOk result (λ command. app_of command ≡ program) }
 {
     match with_options(alloc) {
-        Ok(command) => match commands_of(alloc, &SUBCOMMANDS, words) {
+        Ok(command) => match commands_of(alloc, &SUBCOMMANDS) {
             Ok(subcommands) => command.subcommands(subcommands),
             Err(error) => Err(error),
         },
@@ -422,7 +533,7 @@ pub(crate) fn program_command<'a>(
     }
 }
 
-// The command with its options alone.
+// The command with only its options.
 fn with_options<'a>(alloc: Global) -> Result<Command<'a>, AllocError>
     ensures { IfOk result (λ command. app_of command ≡ without_subcommands) }
 {
@@ -435,44 +546,19 @@ fn with_options<'a>(alloc: Global) -> Result<Command<'a>, AllocError>
     with_entries(alloc, bare, &OPTIONS)
 }
 
-// The subcommands of these rows, for words those that are wanted for them.
-fn commands_of<'a>(
-    alloc: Global,
-    rows: &[Subcommand<'a>],
-    words: Option<&[String]>,
-) -> Result<Vec<Command<'a>>, AllocError>
-    ensures { IfOk result (λ commands. (old new : AnyCommand) (whole : App) → app_of old ≡ whole → whole.subs ≡ []
-        → IsFirstWanted (option_map (λ ws. map string_bytes ws.now) words.entry) rows.now → AddsInTurn AddsSubcommand old commands.items new
-        → app_of new ≡ with_wanted whole (option_map (λ ws. map string_bytes ws.now) words.entry) rows.now) }
+// The subcommands of these rows.
+fn commands_of<'a>(alloc: Global, rows: &[Subcommand<'a>]) -> Result<Vec<Command<'a>>, AllocError>
+    ensures { IfOk result (λ commands. (old new : AnyCommand) (whole : App) → app_of old ≡ whole
+        → AddsInTurn AddsSubcommand old commands.items new → app_of new ≡ with_apps whole rows.now) }
 {
     let mut commands = Vec::new(alloc);
     for row in rows {
-        if is_wanted(words, row.name) {
-            match command_of(alloc, row) {
-                Ok(command) => commands.push(command)?,
-                Err(error) => return Err(error),
-            }
+        match command_of(alloc, row) {
+            Ok(command) => commands.push(command)?,
+            Err(error) => return Err(error),
         }
     }
     Ok(commands)
-}
-
-// Whether the subcommand is wanted for the words: they name it, or it is `load`, the first row,
-// since a command without subcommands reads words otherwise.
-fn is_wanted(words: Option<&[String]>, name: &str) -> bool
-    ensures { result ≡ spec.is_wanted (option_map (λ ws. map string_bytes ws.now) words.entry) name.now }
-{
-    match words {
-        Some(words) => name == "load" || is_among(words, name),
-        None => true,
-    }
-}
-
-// Whether one of the words is this name.
-fn is_among(words: &[String], name: &str) -> bool
-    ensures { result ≡ list_any (λ word. bytes_eq name.now (string_bytes word)) words.now }
-{
-    words.iter().any(|word| name == word.as_str())
 }
 
 // A subcommand with its entries.
@@ -484,7 +570,7 @@ fn command_of<'a>(alloc: Global, subcommand: &Subcommand<'a>) -> Result<Command<
     with_entries(alloc, bare, subcommand.entries)
 }
 
-// The command with these entries more.
+// The command with these entries added.
 fn with_entries<'a>(
     alloc: Global,
     mut command: Command<'a>,
@@ -511,16 +597,19 @@ fn argument_of<'a>(alloc: Global, entry: &Entry<'a>) -> Arg<'a>
         .help(entry.help)
 }
 
-// An argument or option of this id and form. It is begun in each arm, since one that lives across a
-// choice is dear to prove.
+// An argument or option of this id and form. Each arm begins its own, because one that lives across
+// a choice costs much proof time.
 fn formed<'a>(alloc: Global, id: &'a str, form: Form<'a>) -> Arg<'a>
     ensures rule { rule_of result ≡ rule_formed form.entry id.entry.now }
     ensures local { result.global ≡ false }
 {
     match form {
         Form::Letter(letter) => Arg::new(alloc, id).short(letter),
+        Form::Switch(letter) => Arg::new(alloc, id).short(letter).action(ArgAction::SetTrue),
         Form::Name(name) => Arg::new(alloc, id).long(name),
         Form::Second(name) => Arg::new(alloc, id).long(name).value_parser(second()),
+        Form::After(name) => Arg::new(alloc, id).long(name).value_parser(job()),
+        Form::Flag(name) => Arg::new(alloc, id).long(name).action(ArgAction::SetTrue),
         Form::One => Arg::new(alloc, id),
         Form::Job => Arg::new(alloc, id).value_parser(job()),
         Form::Any => Arg::new(alloc, id).num_args(0..),

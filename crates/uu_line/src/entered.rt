@@ -10,15 +10,16 @@ ghost use Rattle.uu_line.specs.Lines as spec;
 
 use crate::fault::LineFault;
 use crate::reading::{
-    done_task, drop_task, due_task, execute_task, failed_task, forget_task, list_task, mail_task,
-    neighbours_task, queues_task, regrade_task, request_task, send_task, systems_task, when_task,
+    answer_task, done_task, drop_task, due_task, execute_task, failed_task, forget_task, list_task,
+    mail_task, neighbours_task, pack_task, queues_task, regrade_task, request_task, send_task,
+    settle_task, systems_task, unpack_task, when_task,
 };
 use crate::task::Task;
-use crate::values::{job_in, jobs_in, paths_in, terms_of, text_in};
+use crate::values::{after_in, has_flag, job_in, jobs_in, paths_in, terms_of, text_in};
 use clap::ArgMatches;
 use std::alloc::Global;
 
-/// The task that a subcommand with these entries asks for.
+/// The task of a subcommand with these entries.
 pub(crate) fn task_in(alloc: Global, name: &str, given: &ArgMatches<'_>) -> Result<Task, LineFault>
     requires { IsEntered name.now (rows_of (found_of given.now)) }
     ensures { UnlessMemory (MeansTask name.now (rows_of (found_of given.now))) result }
@@ -66,7 +67,7 @@ fn report_task_in(alloc: Global, name: &str, given: &ArgMatches<'_>) -> Result<T
     }
 }
 
-// The task of a subcommand that notes a call, of one of the map, or of `name`.
+// The task of a subcommand that notes a call, of one of a bundle, or of one after those.
 fn call_task_in(alloc: Global, name: &str, given: &ArgMatches<'_>) -> Result<Task, LineFault>
     requires entered { IsEntered name.now (rows_of (found_of given.now)) }
     requires later { IsSome (find (λ subcommand. bytes_eq subcommand.0 name.now) (drop 16 subcommands)) }
@@ -76,6 +77,21 @@ fn call_task_in(alloc: Global, name: &str, given: &ArgMatches<'_>) -> Result<Tas
         "failed" => failed_in(alloc, given),
         "done" => done_in(alloc, given),
         "forget" => forget_in(alloc, given),
+        "pack" => pack_in(alloc, given),
+        "unpack" => unpack_in(alloc, given),
+        "settle" => settle_in(alloc, given),
+        "answer" => answer_in(alloc, given),
+        _ => site_task_in(alloc, name, given),
+    }
+}
+
+// The task of a subcommand of the map, or of `name`.
+fn site_task_in(alloc: Global, name: &str, given: &ArgMatches<'_>) -> Result<Task, LineFault>
+    requires entered { IsEntered name.now (rows_of (found_of given.now)) }
+    requires later { IsSome (find (λ subcommand. bytes_eq subcommand.0 name.now) (drop 23 subcommands)) }
+    ensures { UnlessMemory (MeansTask name.now (rows_of (found_of given.now))) result }
+{
+    match name {
         "map" => Ok(Task::Map),
         "neighbours" => neighbours_in(alloc, given),
         "name" => Ok(Task::Name),
@@ -83,7 +99,6 @@ fn call_task_in(alloc: Global, name: &str, given: &ArgMatches<'_>) -> Result<Tas
     }
 }
 
-// The task of `drop`.
 fn drop_in(alloc: Global, given: &ArgMatches<'_>) -> Result<Task, LineFault>
     requires { HaveTexts (codes "system" ∷ []) (rows_of (found_of given.now)) }
     ensures { UnlessMemory (spec.MeansDrop (rows_of (found_of given.now))) result }
@@ -91,7 +106,6 @@ fn drop_in(alloc: Global, given: &ArgMatches<'_>) -> Result<Task, LineFault>
     drop_task(alloc, text_in(given, "system"))
 }
 
-// The task of `send`.
 fn send_in(alloc: Global, given: &ArgMatches<'_>) -> Result<Task, LineFault>
     requires { HaveTexts (codes "system" ∷ codes "from" ∷ codes "to" ∷ codes "grade" ∷ []) (rows_of (found_of given.now)) }
     ensures { UnlessMemory (spec.MeansFile Task.Send (rows_of (found_of given.now))) result }
@@ -103,7 +117,6 @@ fn send_in(alloc: Global, given: &ArgMatches<'_>) -> Result<Task, LineFault>
     send_task(alloc, system, source, target, grade, given.get_str("once"))
 }
 
-// The task of `request`.
 fn request_in(alloc: Global, given: &ArgMatches<'_>) -> Result<Task, LineFault>
     requires { HaveTexts (codes "system" ∷ codes "from" ∷ codes "to" ∷ codes "grade" ∷ []) (rows_of (found_of given.now)) }
     ensures { UnlessMemory (spec.MeansFile Task.Request (rows_of (found_of given.now))) result }
@@ -115,7 +128,6 @@ fn request_in(alloc: Global, given: &ArgMatches<'_>) -> Result<Task, LineFault>
     request_task(alloc, system, source, target, grade, given.get_str("once"))
 }
 
-// The task of `exec`.
 fn execute_in(alloc: Global, given: &ArgMatches<'_>) -> Result<Task, LineFault>
     requires { HaveTexts (codes "grade" ∷ codes "system" ∷ codes "command" ∷ []) (rows_of (found_of given.now)) }
     ensures { UnlessMemory (spec.MeansExec (rows_of (found_of given.now))) result }
@@ -127,7 +139,6 @@ fn execute_in(alloc: Global, given: &ArgMatches<'_>) -> Result<Task, LineFault>
     execute_task(alloc, grade, once, system, command, given)
 }
 
-// The task of `mail`.
 fn mail_in(alloc: Global, given: &ArgMatches<'_>) -> Result<Task, LineFault>
     requires { HaveTexts (codes "grade" ∷ codes "address" ∷ []) (rows_of (found_of given.now)) }
     ensures { UnlessMemory (spec.MeansMailing (rows_of (found_of given.now))) result }
@@ -141,7 +152,6 @@ fn mail_in(alloc: Global, given: &ArgMatches<'_>) -> Result<Task, LineFault>
     }
 }
 
-// The task of `list`.
 fn list_in(alloc: Global, given: &ArgMatches<'_>) -> Result<Task, LineFault>
     ensures { Answers result (spec.list_task (first_of (codes "system") (rows_of (found_of given.now)))
         (first_of (codes "user") (rows_of (found_of given.now)))) }
@@ -149,7 +159,6 @@ fn list_in(alloc: Global, given: &ArgMatches<'_>) -> Result<Task, LineFault>
     list_task(alloc, given.get_str("system"), given.get_str("user"))
 }
 
-// The task of `show`.
 fn show_in(given: &ArgMatches<'_>) -> Task
     requires texts { HaveTexts (codes "job" ∷ []) (rows_of (found_of given.now)) }
     requires number { AreNumbersUpTo most_job (texts_at (codes "job") (rows_of (found_of given.now))) }
@@ -159,7 +168,6 @@ fn show_in(given: &ArgMatches<'_>) -> Task
     Task::Show { job }
 }
 
-// The task of `kill`.
 fn kill_in(given: &ArgMatches<'_>) -> Task
     requires texts { HaveTexts (codes "job" ∷ []) (rows_of (found_of given.now)) }
     requires number { AreNumbersUpTo most_job (texts_at (codes "job") (rows_of (found_of given.now))) }
@@ -169,7 +177,6 @@ fn kill_in(given: &ArgMatches<'_>) -> Task
     Task::Kill { job }
 }
 
-// The task of `regrade`.
 fn regrade_in(given: &ArgMatches<'_>) -> Result<Task, LineFault>
     requires texts { HaveTexts (codes "job" ∷ codes "grade" ∷ []) (rows_of (found_of given.now)) }
     requires number { AreNumbersUpTo most_job (texts_at (codes "job") (rows_of (found_of given.now))) }
@@ -178,7 +185,6 @@ fn regrade_in(given: &ArgMatches<'_>) -> Result<Task, LineFault>
     regrade_task(job_in(given), text_in(given, "grade"))
 }
 
-// The task of `rejuvenate`.
 fn rejuvenate_in(given: &ArgMatches<'_>) -> Task
     requires texts { HaveTexts (codes "job" ∷ []) (rows_of (found_of given.now)) }
     requires number { AreNumbersUpTo most_job (texts_at (codes "job") (rows_of (found_of given.now))) }
@@ -188,35 +194,31 @@ fn rejuvenate_in(given: &ArgMatches<'_>) -> Task
     Task::Rejuvenate { job }
 }
 
-// The task of `due`.
 fn due_in(alloc: Global, given: &ArgMatches<'_>) -> Result<Task, LineFault>
     ensures { Answers result (spec.due_task (first_of (codes "system") (rows_of (found_of given.now)))) }
 {
     due_task(alloc, given.get_str("system"))
 }
 
-// The task of `when`.
 fn when_in(alloc: Global, given: &ArgMatches<'_>) -> Result<Task, LineFault>
-    ensures { Answers result (spec.when_task (first_of (codes "system") (rows_of (found_of given.now)))) }
+    ensures { Answers result (spec.when_task (spec.has_flag (codes "all") (rows_of (found_of given.now))) (first_of (codes "system") (rows_of (found_of given.now)))) }
 {
-    when_task(alloc, given.get_str("system"))
+    let all = has_flag(given, "all");
+    when_task(alloc, all, given.get_str("system"))
 }
 
-// The task of `queues`.
 fn queues_in(alloc: Global, given: &ArgMatches<'_>) -> Result<Task, LineFault>
     ensures { Answers result (spec.queues_task (first_of (codes "system") (rows_of (found_of given.now)))) }
 {
     queues_task(alloc, given.get_str("system"))
 }
 
-// The task of `systems`.
 fn systems_in(alloc: Global, given: &ArgMatches<'_>) -> Result<Task, LineFault>
     ensures { Answers result (spec.systems_task (first_of (codes "system") (rows_of (found_of given.now)))) }
 {
     systems_task(alloc, given.get_str("system"))
 }
 
-// The task of `failed`.
 fn failed_in(alloc: Global, given: &ArgMatches<'_>) -> Result<Task, LineFault>
     requires { HaveTexts (codes "system" ∷ codes "why" ∷ []) (rows_of (found_of given.now)) }
     ensures { UnlessMemory (spec.MeansFailed (rows_of (found_of given.now))) result }
@@ -224,7 +226,6 @@ fn failed_in(alloc: Global, given: &ArgMatches<'_>) -> Result<Task, LineFault>
     failed_task(alloc, text_in(given, "system"), text_in(given, "why"))
 }
 
-// The task of `done`.
 fn done_in(alloc: Global, given: &ArgMatches<'_>) -> Result<Task, LineFault>
     requires texts { HaveTexts (codes "system" ∷ []) (rows_of (found_of given.now)) }
     requires numbers { AreNumbersUpTo most_job (texts_at (codes "job") (rows_of (found_of given.now))) }
@@ -237,7 +238,6 @@ fn done_in(alloc: Global, given: &ArgMatches<'_>) -> Result<Task, LineFault>
     }
 }
 
-// The task of `forget`.
 fn forget_in(alloc: Global, given: &ArgMatches<'_>) -> Result<Task, LineFault>
     requires texts { HaveTexts (codes "system" ∷ codes "job" ∷ []) (rows_of (found_of given.now)) }
     requires number { AreNumbersUpTo most_job (texts_at (codes "job") (rows_of (found_of given.now))) }
@@ -246,7 +246,46 @@ fn forget_in(alloc: Global, given: &ArgMatches<'_>) -> Result<Task, LineFault>
     forget_task(alloc, text_in(given, "system"), job_in(given))
 }
 
-// The task of `neighbours`.
+fn pack_in(alloc: Global, given: &ArgMatches<'_>) -> Result<Task, LineFault>
+    requires texts { HaveTexts (codes "system" ∷ codes "grade" ∷ []) (rows_of (found_of given.now)) }
+    requires number { AreNumbersUpTo most_job (texts_at (codes "job") (rows_of (found_of given.now))) }
+    ensures { UnlessMemory (spec.MeansPack (rows_of (found_of given.now))) result }
+{
+    let system = text_in(given, "system");
+    let grade = text_in(given, "grade");
+    let spool = given.get_str("spool");
+    let after = after_in(given);
+    let no_jobs = has_flag(given, "no-jobs");
+    pack_task(alloc, system, grade, spool, after, no_jobs)
+}
+
+fn unpack_in(alloc: Global, given: &ArgMatches<'_>) -> Result<Task, LineFault>
+    requires { HaveTexts (codes "sender" ∷ []) (rows_of (found_of given.now)) }
+    ensures { UnlessMemory (spec.MeansUnpack (rows_of (found_of given.now))) result }
+{
+    unpack_task(alloc, text_in(given, "sender"), given)
+}
+
+fn settle_in(alloc: Global, given: &ArgMatches<'_>) -> Result<Task, LineFault>
+    requires { HaveTexts (codes "system" ∷ []) (rows_of (found_of given.now)) }
+    ensures { UnlessMemory (spec.MeansSettle (rows_of (found_of given.now))) result }
+{
+    settle_task(alloc, text_in(given, "system"), given.get_str("spool"))
+}
+
+fn answer_in(alloc: Global, given: &ArgMatches<'_>) -> Result<Task, LineFault>
+    requires texts { HaveTexts (codes "sender" ∷ codes "grade" ∷ []) (rows_of (found_of given.now)) }
+    requires number { AreNumbersUpTo most_job (texts_at (codes "job") (rows_of (found_of given.now))) }
+    ensures { UnlessMemory (spec.MeansAnswer (rows_of (found_of given.now))) result }
+{
+    let sender = text_in(given, "sender");
+    let grade = text_in(given, "grade");
+    let spool = given.get_str("spool");
+    let after = after_in(given);
+    let no_jobs = has_flag(given, "no-jobs");
+    answer_task(alloc, sender, given, grade, spool, after, no_jobs)
+}
+
 fn neighbours_in(alloc: Global, given: &ArgMatches<'_>) -> Result<Task, LineFault>
     requires { HaveTexts (codes "host" ∷ []) (rows_of (found_of given.now)) }
     ensures { UnlessMemory (spec.MeansNeighbours (rows_of (found_of given.now))) result }

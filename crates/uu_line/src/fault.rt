@@ -1,14 +1,13 @@
-//! Why words are no line.
+//! Why words aren't a line.
 
 use std::alloc::{AllocError, AllocFailed};
 use thiserror::Error;
 use uu_names::NameFault;
 
-/// Why words are no line.
+/// Why words aren't a line.
 #[derive(Debug, Drop, Error)]
 pub enum LineFault {
-    /// The words are no line of the program, or ask for its help. `text` is what is printed, as it
-    /// is.
+    /// The words aren't a line of the program, or ask for its help. `text` is printed as it is.
     #[error("{text}")]
     Words {
         /// What is printed, with its line ends.
@@ -16,13 +15,13 @@ pub enum LineFault {
         /// Whether the words ask for help.
         help: bool,
     },
-    /// A user, a system, a word, a grade or an address of the line is none.
+    /// A user, a system, a word, a grade or an address of the line isn't valid.
     #[error("name: {0:?}")]
     Name(NameFault),
     /// The addresses of a message begin with different systems.
     #[error("addresses of two systems")]
     TwoSystems,
-    /// Memory ran out.
+    /// Out of memory.
     #[error("out of memory")]
     Memory,
 }

@@ -1,6 +1,6 @@
 //! From words to a line of typed values.
 
-ghost use Rattle.std.specs.Prelude.{◌≡◌, ◌≢◌, IfOk, IfErr, IfSome, map};
+ghost use Rattle.std.specs.Prelude.{◌≡◌, ◌≢◌, IfOk, IfErr, map};
 ghost use Rattle.std.specs.String.{string_bytes};
 ghost use Rattle.clap.specs.Words.{IsAmong, rows_of, found_of, kind_of, fault_of, subcommand_rows_of};
 ghost use Rattle.uu_line.specs.Commands.{program};
@@ -12,7 +12,7 @@ use crate::commands::program_command;
 use crate::entered::task_in;
 use crate::fault::LineFault;
 use crate::task::Task;
-use crate::values::{both, second_in, string_of, text_in, word_of};
+use crate::values::{second_in, string_of, text_in, word_of};
 use clap::ArgMatches;
 use clap::error::ErrorKind;
 use std::alloc::Global;
@@ -21,11 +21,11 @@ use uu_names::Word;
 /// One line of the program.
 #[derive(Drop)]
 pub struct CommandLine {
-    /// The path of the settings file of `-c`, `uuspool.toml` where it is not given.
+    /// The path of the settings file of `-c`, `uuspool.toml` if it is not given.
     pub config: String,
-    /// The second of `--at`, UTC, where it is given.
+    /// The second of `--at`, UTC, if it is given.
     pub at: Option<u64>,
-    /// The user of `--as`, `uucp` where it is not given.
+    /// The user of `--as`, `uucp` if it is not given.
     pub user: Word,
     /// What is to be done.
     pub task: Task,
@@ -34,10 +34,10 @@ pub struct CommandLine {
 /// The line that the words after the program's name mean.
 ///
 /// # Errors
-/// `Words` exactly where `clap` refuses the words, with `help` where they ask for help. `Name` with
-/// the first fault of the user, and then of the arguments and options in the order of the
-/// subcommand's usage (`Task`). `TwoSystems` where the addresses of a message begin with different
-/// systems. Else `Memory`.
+/// `Words` exactly if `clap` refuses the words, with `help` if they ask for help. `Name` with the
+/// first fault of the user, and then of the arguments and options in the order of the subcommand's
+/// usage (`Task`). `TwoSystems` if the addresses of a message begin with different systems. Else
+/// `Memory`.
 pub fn line_of(alloc: Global, words: &[String]) -> Result<CommandLine, LineFault>
     ensures { IsAnswerTo (map string_bytes words.now) result }
 {
@@ -48,26 +48,22 @@ pub fn line_of(alloc: Global, words: &[String]) -> Result<CommandLine, LineFault
 }
 
 // The line with these entries.
+#[tactic(auto, using(crate::proofs::LineLemmas::user_fault, crate::proofs::LineLemmas::task_fault, crate::proofs::LineLemmas::line_meant))]
 fn line_in(alloc: Global, given: &ArgMatches<'_>) -> Result<CommandLine, LineFault>
     requires { AreTaken (rows_of (found_of given.now)) (subcommand_rows_of given.now) }
     ensures { UnlessMemory (λ answer. spec.MeansEntries (rows_of (found_of given.now)) (subcommand_rows_of given.now) (spec.line_or_fault answer)) result }
 {
     let config = text_in(given, "config");
     let at = second_in(given);
-    let user = word_of(alloc, text_in(given, "as"));
-    let called = both(user, entered_in(alloc, given));
-    match both(called, string_of(alloc, config)) {
-        Ok(parts) => {
-            let ((user, task), config) = parts;
-            Ok(CommandLine {
-                config,
-                at,
-                user,
-                task,
-            })
-        }
-        Err(fault) => Err(fault),
-    }
+    let user = word_of(alloc, text_in(given, "as"))?;
+    let task = entered_in(alloc, given)?;
+    let config = string_of(alloc, config)?;
+    Ok(CommandLine {
+        config,
+        at,
+        user,
+        task,
+    })
 }
 
 // The entries that `clap` finds.
@@ -75,24 +71,9 @@ fn entries_of<'a>(alloc: Global, words: &'a [String]) -> Result<ArgMatches<'a>, 
     ensures entries { IfOk result (λ found. HasEntriesOf (map string_bytes words.now) found) }
     ensures refused { IfErr result (IsWordsOf (λ kind. IsAmong kind (fault_of program (map string_bytes words.now)))) }
 {
-    if let Some(matches) = entries_by_named(alloc, words) {
-        return Ok(matches);
-    }
-    match program_command(alloc, None)?.try_get_matches_from(words) {
+    match program_command(alloc)?.try_get_matches_from(words) {
         Ok(matches) => Ok(matches),
         Err(error) => Err(refused(alloc, &error)),
-    }
-}
-
-// The entries that `clap` finds with the subcommands that the words name, and `load`, which are
-// those that it finds with all. What it refuses so is asked once more of the whole command, whose
-// faults name every subcommand.
-fn entries_by_named<'a>(alloc: Global, words: &'a [String]) -> Option<ArgMatches<'a>>
-    ensures { IfSome result (λ found. HasEntriesOf (map string_bytes words.now) found) }
-{
-    match program_command(alloc, Some(words)) {
-        Ok(command) => command.try_get_matches_from(words).ok(),
-        Err(_) => None,
     }
 }
 

@@ -7,7 +7,7 @@ ghost use Rattle.uu_line.specs.Lines.{Answers, after_bang, named};
 ghost use Rattle.uu_line.specs.Lines as spec;
 
 use crate::fault::LineFault;
-use crate::values::{both, optional_word, site_of};
+use crate::values::{optional_word, site_of};
 use std::alloc::Global;
 use uu_names::{NameFault, SiteName, Word};
 
@@ -18,7 +18,7 @@ pub struct Origin {
     pub from: SiteName,
     /// The number that the job has there.
     pub number: u32,
-    /// Which of the neighbour's spools the number is of, where that is said.
+    /// Which of the neighbour's spools the number is of, if that is said.
     pub spool: Option<Word>,
 }
 
@@ -26,26 +26,23 @@ pub struct Origin {
 const LAST_NUMBER: u32 = 4_294_967_294;
 
 /// The text as `SYSTEM!NUMBER` or `SYSTEM!NUMBER!WORD`.
+#[tactic(auto, using(crate::proofs::LineLemmas::answers_then))]
 pub(crate) fn origin_of(alloc: Global, text: &str) -> Result<Origin, LineFault>
     ensures { Answers result (spec.origin_of text.now) }
 {
     let (site, number, word) = parts_of(text);
-    let numbered = both(site_of(alloc, site), number_of(number, site.len()));
-    match both(numbered, optional_word(alloc, word)) {
-        Ok(parts) => {
-            let ((from, number), spool) = parts;
-            Ok(Origin {
-                from,
-                number,
-                spool,
-            })
-        }
-        Err(fault) => Err(fault),
-    }
+    let from = site_of(alloc, site)?;
+    let number = number_of(number, site.len())?;
+    let spool = optional_word(alloc, word)?;
+    Ok(Origin {
+        from,
+        number,
+        spool,
+    })
 }
 
-// The parts of a text before its first `!`, between that and its second, and after the second,
-// where it has one.
+// The parts of a text before its first `!`, between that and its second, and after the second, if
+// it has one.
 fn parts_of(text: &str) -> (&str, &str, Option<&str>)
     ensures site { result.0.now ≡ first_hop text.now }
     ensures number { result.1.now ≡ first_hop (rest_of text.now) }
@@ -58,7 +55,7 @@ fn parts_of(text: &str) -> (&str, &str, Option<&str>)
     }
 }
 
-// The parts of a text before and after its first `!`. Where it has none, the second is empty.
+// The parts of a text before and after its first `!`. If it has none, the second is empty.
 fn halves(text: &str) -> (&str, &str)
     ensures site { result.0.now ≡ first_hop text.now }
     ensures rest { result.1.now ≡ rest_of text.now }
@@ -69,7 +66,7 @@ fn halves(text: &str) -> (&str, &str)
     }
 }
 
-// The number that a neighbour has for a job, or that there is none behind so many bytes.
+// The number that a neighbour has for a job, or the fault that none comes after so many bytes.
 fn number_of(text: &str, at: usize) -> Result<u32, LineFault>
     ensures { result ≡ named (ok_or (spec.handed_number text.now) (BadPath at)) }
 {

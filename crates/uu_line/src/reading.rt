@@ -1,20 +1,17 @@
 //! Tasks from the texts of their entries.
 
-ghost use Rattle.std.specs.Prelude.{◌≡◌, ℕ, List, Option, Ok, Some, IfOk, IfErr, IsSome, map, codes, option_map, slice_get};
+ghost use Rattle.std.specs.Prelude.{◌≡◌, ℕ, List, Some, IfOk, IfErr, IsSome, map, codes, option_map, slice_get};
 ghost use Rattle.std.specs.List.{list_all};
 ghost use Rattle.clap.specs.Words.{found_of, rows_of};
 ghost use Rattle.uu_names.specs.Path.{first_hop, rest_of};
-ghost use Rattle.uu_line.specs.Lines.{texts_at};
-ghost use Rattle.uu_line.specs.Lines.{Answers, and_then};
-ghost use Rattle.uu_line.specs.declared.origin.Origin.{Origin as AnyOrigin};
-ghost use Rattle.uu_line.specs.declared.task.Task.{Task as AnyTask};
+ghost use Rattle.uu_line.specs.Lines.{Answers, texts_at};
 ghost use Rattle.uu_line.specs.Lines as spec;
 
 use crate::fault::LineFault;
 use crate::origin::Origin;
 use crate::task::Task;
 use crate::values::{
-    both, grade_of, optional_site, optional_word, site_of, terms_of, word_of, words_in,
+    grade_of, optional_site, optional_word, site_of, sites_in, terms_of, word_of, words_in,
 };
 use clap::ArgMatches;
 use std::alloc::Global;
@@ -31,6 +28,7 @@ pub(crate) fn drop_task(alloc: Global, system: &str) -> Result<Task, LineFault>
 }
 
 /// The task of `send`.
+#[tactic(auto, using(crate::proofs::LineLemmas::answers_then))]
 pub(crate) fn send_task(
     alloc: Global,
     system: &str,
@@ -41,22 +39,21 @@ pub(crate) fn send_task(
 ) -> Result<Task, LineFault>
     ensures { Answers result (spec.file_task Task.Send system.now source.now target.now grade.now (option_map (λ text. text.now) once.entry)) }
 {
-    match file_parts(alloc, system, source, target, grade, once) {
-        Ok(parts) => {
-            let ((system, source), (target, (grade, once))) = parts;
-            Ok(Task::Send {
-                system,
-                source,
-                target,
-                grade,
-                once,
-            })
-        }
-        Err(fault) => Err(fault),
-    }
+    let system = site_of(alloc, system)?;
+    let source = word_of(alloc, source)?;
+    let target = word_of(alloc, target)?;
+    let (grade, once) = terms_of(alloc, grade, once)?;
+    Ok(Task::Send {
+        system,
+        source,
+        target,
+        grade,
+        once,
+    })
 }
 
 /// The task of `request`.
+#[tactic(auto, using(crate::proofs::LineLemmas::answers_then))]
 pub(crate) fn request_task(
     alloc: Global,
     system: &str,
@@ -67,41 +64,21 @@ pub(crate) fn request_task(
 ) -> Result<Task, LineFault>
     ensures { Answers result (spec.file_task Task.Request system.now source.now target.now grade.now (option_map (λ text. text.now) once.entry)) }
 {
-    match file_parts(alloc, system, source, target, grade, once) {
-        Ok(parts) => {
-            let ((system, source), (target, (grade, once))) = parts;
-            Ok(Task::Request {
-                system,
-                source,
-                target,
-                grade,
-                once,
-            })
-        }
-        Err(fault) => Err(fault),
-    }
-}
-
-// The parts of a task of a file.
-fn file_parts(
-    alloc: Global,
-    system: &str,
-    source: &str,
-    target: &str,
-    grade: &str,
-    once: Option<&str>,
-) -> Result<((SiteName, Word), (Word, (Grade, Option<Origin>))), LineFault>
-    ensures { (made : List ℕ → List ℕ → List ℕ → ℕ → Option AnyOrigin → AnyTask)
-        → Answers (and_then result (λ parts. Ok (made parts.0.0 parts.0.1 parts.1.0 parts.1.1.0 parts.1.1.1)))
-        (spec.file_task made system.now source.now target.now grade.now (option_map (λ text. text.now) once.entry)) }
-{
-    both(
-        both(site_of(alloc, system), word_of(alloc, source)),
-        both(word_of(alloc, target), terms_of(alloc, grade, once)),
-    )
+    let system = site_of(alloc, system)?;
+    let source = word_of(alloc, source)?;
+    let target = word_of(alloc, target)?;
+    let (grade, once) = terms_of(alloc, grade, once)?;
+    Ok(Task::Request {
+        system,
+        source,
+        target,
+        grade,
+        once,
+    })
 }
 
 /// The task of `exec`, with the arguments of these entries.
+#[tactic(auto, using(crate::proofs::LineLemmas::answers_then))]
 pub(crate) fn execute_task(
     alloc: Global,
     grade: &str,
@@ -112,24 +89,20 @@ pub(crate) fn execute_task(
 ) -> Result<Task, LineFault>
     ensures { Answers result (spec.exec_task grade.now (option_map (λ text. text.now) once.entry) system.now command.now (texts_at (codes "argument") (rows_of (found_of given.now)))) }
 {
-    let place = both(terms_of(alloc, grade, once), site_of(alloc, system));
-    let words = both(word_of(alloc, command), words_in(alloc, given, "argument"));
-    match both(place, words) {
-        Ok(parts) => {
-            let (((grade, once), system), (command, arguments)) = parts;
-            Ok(Task::Execute {
-                grade,
-                once,
-                system,
-                command,
-                arguments,
-            })
-        }
-        Err(fault) => Err(fault),
-    }
+    let (grade, once) = terms_of(alloc, grade, once)?;
+    let system = site_of(alloc, system)?;
+    let command = word_of(alloc, command)?;
+    let arguments = words_in(alloc, given, "argument")?;
+    Ok(Task::Execute {
+        grade,
+        once,
+        system,
+        command,
+        arguments,
+    })
 }
 
-/// The task of a message to these addresses, one or more.
+/// The task of a message to these addresses, at least one.
 pub(crate) fn mail_task(
     alloc: Global,
     terms: (Grade, Option<Origin>),
@@ -144,7 +117,7 @@ pub(crate) fn mail_task(
     }
 }
 
-// The task of a message to these addresses, of which this is the first.
+// The task of a message to these addresses; this is the path of the first.
 fn mail_by(
     alloc: Global,
     terms: (Grade, Option<Origin>),
@@ -156,18 +129,15 @@ fn mail_by(
     if !begin_alike(first.first_hop(), paths) {
         return Err(LineFault::TwoSystems);
     }
-    match both(site_of(alloc, first.first_hop()), rests_of(alloc, paths)) {
-        Ok((system, rests)) => {
-            let (grade, once) = terms;
-            Ok(Task::Mail {
-                grade,
-                once,
-                system,
-                rests,
-            })
-        }
-        Err(fault) => Err(fault),
-    }
+    let (grade, once) = terms;
+    let system = site_of(alloc, first.first_hop())?;
+    let rests = rests_of(alloc, paths)?;
+    Ok(Task::Mail {
+        grade,
+        once,
+        system,
+        rests,
+    })
 }
 
 // Whether each path begins with this system.
@@ -218,15 +188,23 @@ pub(crate) fn due_task(alloc: Global, system: Option<&str>) -> Result<Task, Line
 
 /// The task of `when`.
 #[tactic(auto, using(crate::proofs::LineLemmas::answers_then))]
-pub(crate) fn when_task(alloc: Global, system: Option<&str>) -> Result<Task, LineFault>
-    ensures { Answers result (spec.when_task (option_map (λ text. text.now) system.entry)) }
+pub(crate) fn when_task(alloc: Global, all: bool, system: Option<&str>) -> Result<Task, LineFault>
+    ensures { Answers result (spec.when_task all (option_map (λ text. text.now) system.entry)) }
 {
     let wanted = optional_site(alloc, system)?;
-    let filter = Filter {
-        system: wanted,
-        user: None,
-    };
-    Ok(Task::When { filter })
+    Ok(asked_when(all, wanted))
+}
+
+// The task of `when` for this system, if one is named.
+fn asked_when(all: bool, system: Option<SiteName>) -> Task
+    ensures { result ≡ spec.asked_when all system }
+{
+    if all {
+        return Task::Polls { system };
+    }
+    Task::When {
+        filter: Filter { system, user: None },
+    }
 }
 
 /// The task of `queues`.
@@ -265,10 +243,9 @@ pub(crate) fn regrade_task(job: u32, grade: &str) -> Result<Task, LineFault>
 pub(crate) fn failed_task(alloc: Global, system: &str, why: &str) -> Result<Task, LineFault>
     ensures { Answers result (spec.failed_task system.now why.now) }
 {
-    match both(site_of(alloc, system), word_of(alloc, why)) {
-        Ok((system, why)) => Ok(Task::Failed { system, why }),
-        Err(fault) => Err(fault),
-    }
+    let system = site_of(alloc, system)?;
+    let why = word_of(alloc, why)?;
+    Ok(Task::Failed { system, why })
 }
 
 /// The task of `done`.
@@ -287,6 +264,85 @@ pub(crate) fn forget_task(alloc: Global, system: &str, below: u32) -> Result<Tas
 {
     let system = site_of(alloc, system)?;
     Ok(Task::Forget { system, below })
+}
+
+/// The task of `pack`.
+#[tactic(auto, using(crate::proofs::LineLemmas::answers_then))]
+pub(crate) fn pack_task(
+    alloc: Global,
+    system: &str,
+    grade: &str,
+    spool: Option<&str>,
+    after: Option<u32>,
+    no_jobs: bool,
+) -> Result<Task, LineFault>
+    ensures { Answers result (spec.pack_task system.now grade.now (option_map (λ text. text.now) spool.entry) after no_jobs) }
+{
+    let system = site_of(alloc, system)?;
+    let lowest = grade_of(grade)?;
+    let spool = optional_word(alloc, spool)?;
+    Ok(Task::Pack {
+        system,
+        grade: lowest,
+        spool,
+        after,
+        no_jobs,
+    })
+}
+
+/// The task of `unpack`, with the systems of these entries.
+#[tactic(auto, using(crate::proofs::LineLemmas::answers_then))]
+pub(crate) fn unpack_task(
+    alloc: Global,
+    sender: &str,
+    given: &ArgMatches<'_>,
+) -> Result<Task, LineFault>
+    ensures { Answers result (spec.unpack_task sender.now (texts_at (codes "system") (rows_of (found_of given.now)))) }
+{
+    let sender = site_of(alloc, sender)?;
+    let onward = sites_in(alloc, given, "system")?;
+    Ok(Task::Unpack { sender, onward })
+}
+
+/// The task of `settle`.
+#[tactic(auto, using(crate::proofs::LineLemmas::answers_then))]
+pub(crate) fn settle_task(
+    alloc: Global,
+    system: &str,
+    spool: Option<&str>,
+) -> Result<Task, LineFault>
+    ensures { Answers result (spec.settle_task system.now (option_map (λ text. text.now) spool.entry)) }
+{
+    let system = site_of(alloc, system)?;
+    let spool = optional_word(alloc, spool)?;
+    Ok(Task::Settle { system, spool })
+}
+
+/// The task of `answer`, with the systems of these entries.
+#[tactic(auto, using(crate::proofs::LineLemmas::answers_then))]
+pub(crate) fn answer_task(
+    alloc: Global,
+    sender: &str,
+    given: &ArgMatches<'_>,
+    grade: &str,
+    spool: Option<&str>,
+    after: Option<u32>,
+    no_jobs: bool,
+) -> Result<Task, LineFault>
+    ensures { Answers result (spec.answer_task sender.now (texts_at (codes "system") (rows_of (found_of given.now))) grade.now (option_map (λ text. text.now) spool.entry) after no_jobs) }
+{
+    let sender = site_of(alloc, sender)?;
+    let onward = sites_in(alloc, given, "system")?;
+    let grade = grade_of(grade)?;
+    let spool = optional_word(alloc, spool)?;
+    Ok(Task::Answer {
+        sender,
+        onward,
+        grade,
+        spool,
+        after,
+        no_jobs,
+    })
 }
 
 /// The task of `neighbours`.

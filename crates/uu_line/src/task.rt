@@ -12,9 +12,9 @@ use uu_names::{Grade, Listed, Path, SiteName, Word};
 pub enum Task {
     /// `load`: defines the systems of the sys file that is the input.
     Load,
-    /// `drop SYSTEM`: forgets a system that no job waits for.
+    /// `drop SYSTEM`: removes a system, if no job waits for it.
     Drop {
-        /// The neighbour that is forgotten.
+        /// The neighbour to remove.
         system: SiteName,
     },
     /// `send SYSTEM FROM TO [-g GRADE] [--once SYSTEM!NUMBER[!WORD]]`: queues the input as a file
@@ -26,9 +26,9 @@ pub enum Task {
         source: Word,
         /// The file's name there.
         target: Word,
-        /// The job's grade, `N` where none is given.
+        /// The job's grade, `N` if none is given.
         grade: Grade,
-        /// The neighbour's job that it is, where it is to be queued once.
+        /// The neighbour's job that it is, if it is to be queued once.
         once: Option<Origin>,
     },
     /// `request SYSTEM FROM TO [-g GRADE] [--once SYSTEM!NUMBER[!WORD]]`: queues a request for a
@@ -40,17 +40,17 @@ pub enum Task {
         source: Word,
         /// The file's name here.
         target: Word,
-        /// The job's grade, `N` where none is given.
+        /// The job's grade, `N` if none is given.
         grade: Grade,
-        /// The neighbour's job that it is, where it is to be queued once.
+        /// The neighbour's job that it is, if it is to be queued once.
         once: Option<Origin>,
     },
     /// `exec [-g GRADE] [--once SYSTEM!NUMBER[!WORD]] SYSTEM COMMAND [ARG..]`: queues a command,
     /// with the input as its input.
     Execute {
-        /// The job's grade, `N` where none is given.
+        /// The job's grade, `N` if none is given.
         grade: Grade,
-        /// The neighbour's job that it is, where it is to be queued once.
+        /// The neighbour's job that it is, if it is to be queued once.
         once: Option<Origin>,
         /// The neighbour that runs the command.
         system: SiteName,
@@ -61,17 +61,17 @@ pub enum Task {
     },
     /// `mail [-g GRADE] [--once SYSTEM!NUMBER[!WORD]] ADDRESS..`: queues the input as a message.
     Mail {
-        /// The job's grade, `N` where none is given.
+        /// The job's grade, `N` if none is given.
         grade: Grade,
-        /// The neighbour's job that it is, where it is to be queued once.
+        /// The neighbour's job that it is, if it is to be queued once.
         once: Option<Origin>,
         /// The neighbour that each address begins with.
         system: SiteName,
-        /// What the neighbour is to do with the message: each address without its first site.
+        /// What the neighbour does with the message: each address without its first site.
         rests: Listed<Word>,
     },
-    /// `list [-s SYSTEM] [-u USER]`: reports the jobs that are for the system and of the user,
-    /// where they are given.
+    /// `list [-s SYSTEM] [-u USER]`: reports the jobs that are for the system and of the user, if
+    /// they are given.
     List {
         /// Which jobs.
         filter: Filter,
@@ -81,7 +81,7 @@ pub enum Task {
         /// The job's number.
         job: u32,
     },
-    /// `kill JOB`: lets a job go.
+    /// `kill JOB`: removes a job.
     Kill {
         /// The job's number.
         job: u32,
@@ -93,7 +93,7 @@ pub enum Task {
         /// The new grade.
         grade: Grade,
     },
-    /// `rejuvenate JOB`: lets a job count as queued now.
+    /// `rejuvenate JOB`: marks a job as queued now.
     Rejuvenate {
         /// The job's number.
         job: u32,
@@ -101,16 +101,23 @@ pub enum Task {
     /// `due [-s SYSTEM]`: reports which systems may be called now, each with its next job, or all
     /// jobs of one system that may go now.
     Due {
-        /// The neighbour whose jobs are reported, where one is named.
+        /// The neighbour whose jobs are reported, if one is named.
         system: Option<SiteName>,
     },
     /// `when [-s SYSTEM]`: reports when each system that has a job can next be called, or when this
-    /// one can, for which job, and why not now.
+    /// one can, for which job, and why not before.
     When {
         /// Whose jobs.
         filter: Filter,
     },
-    /// `queues [-s SYSTEM]`: reports what the jobs of each system come to, or those of this one.
+    /// `when -a [-s SYSTEM]`: reports when each system can next be called, or when this one can,
+    /// with a job or without one, and why not before.
+    Polls {
+        /// The one system, if not all.
+        system: Option<SiteName>,
+    },
+    /// `queues [-s SYSTEM]`: reports how many jobs wait for each system, or for this one, and their
+    /// size.
     Queues {
         /// Whose jobs.
         filter: Filter,
@@ -119,31 +126,75 @@ pub enum Task {
     Status,
     /// `systems [-s SYSTEM]`: prints the definitions of the systems, or of one, as a sys file.
     Systems {
-        /// The neighbour whose definition is printed, where one is named.
+        /// The neighbour whose definition is printed, if one is named.
         system: Option<SiteName>,
     },
-    /// `failed SYSTEM WHY`: notes a call that failed.
+    /// `failed SYSTEM WHY`: notes that a call failed, and why.
     Failed {
         /// The neighbour that was called.
         system: SiteName,
         /// Why the call failed.
         why: Word,
     },
-    /// `done SYSTEM [JOB..]`: notes a call that succeeded, and lets the jobs go that it carried
-    /// out.
+    /// `done SYSTEM [JOB..]`: notes that a call succeeded, and removes the jobs that it carried.
     Done {
         /// The neighbour that was called.
         system: SiteName,
-        /// The numbers of the jobs that were carried out, in the order given.
+        /// The numbers of the jobs that the call carried, in the order given.
         jobs: Listed<u32>,
     },
-    /// `forget SYSTEM NUMBER`: forgets which jobs below the number came from the system, which
-    /// won't hand them on again.
+    /// `forget SYSTEM NUMBER`: forgets which jobs with numbers below this one came from the system,
+    /// which won't hand them on again.
     Forget {
-        /// The neighbour that handed them on.
+        /// The neighbour that handed the jobs on.
         system: SiteName,
-        /// The least number that it may still hand on.
+        /// The lowest number that the neighbour may still hand on.
         below: u32,
+    },
+    /// `pack SYSTEM [-g GRADE] [--spool WORD] [--after JOB] [--no-jobs]`: reports the bundle for
+    /// the system: which of its jobs were taken here, and the jobs that wait for it.
+    Pack {
+        /// The neighbour that the bundle is for.
+        system: SiteName,
+        /// The lowest grade of the jobs, `z` if none is given.
+        grade: Grade,
+        /// Which of this site's spools numbers the jobs, if the line says it.
+        spool: Option<Word>,
+        /// The job after which the jobs begin, if one is given.
+        after: Option<u32>,
+        /// Whether the jobs are left out.
+        no_jobs: bool,
+    },
+    /// `unpack SENDER [SYSTEM..]`: queues the jobs of the bundle that is the input, each once.
+    Unpack {
+        /// The neighbour whose bundle it is.
+        sender: SiteName,
+        /// The neighbours to which mail is passed on.
+        onward: Listed<SiteName>,
+    },
+    /// `settle SYSTEM [--spool WORD]`: reads the system's bundle from the input, removes the jobs
+    /// that the system has, and reports them and those that it refused.
+    Settle {
+        /// The neighbour whose bundle it is.
+        system: SiteName,
+        /// Which of this site's spools numbers the jobs, if the line says it.
+        spool: Option<Word>,
+    },
+    /// `answer SENDER [SYSTEM..] [-g GRADE] [--spool WORD] [--after JOB] [--no-jobs]`: reads the
+    /// sender's bundle from the input, and reports the bundle for the sender that answers it.
+    Answer {
+        /// The neighbour whose bundle it is.
+        sender: SiteName,
+        /// The neighbours to which mail is passed on.
+        onward: Listed<SiteName>,
+        /// The lowest grade of the jobs, `z` if none is given.
+        grade: Grade,
+        /// Which of this site's spools numbers the jobs, if the line says it.
+        spool: Option<Word>,
+        /// The job after which the jobs begin, if one is given.
+        after: Option<u32>,
+        /// Whether the jobs are left out.
+        no_jobs: bool,
     },
     /// `map`: keeps the map entries that are the input.
     Map,
@@ -162,8 +213,14 @@ impl Task {
         ensures { result ≡ takes_input self.now }
     {
         match self {
-            Task::Load | Task::Send { .. } | Task::Execute { .. } | Task::Mail { .. } | Task::Map =>
-                true,
+            Task::Load
+            | Task::Send { .. }
+            | Task::Execute { .. }
+            | Task::Mail { .. }
+            | Task::Unpack { .. }
+            | Task::Settle { .. }
+            | Task::Answer { .. }
+            | Task::Map => true,
             Task::Drop { .. }
             | Task::Request { .. }
             | Task::List { .. }
@@ -173,12 +230,14 @@ impl Task {
             | Task::Rejuvenate { .. }
             | Task::Due { .. }
             | Task::When { .. }
+            | Task::Polls { .. }
             | Task::Queues { .. }
             | Task::Status
             | Task::Systems { .. }
             | Task::Failed { .. }
             | Task::Done { .. }
             | Task::Forget { .. }
+            | Task::Pack { .. }
             | Task::Neighbours { .. }
             | Task::Name => false,
         }

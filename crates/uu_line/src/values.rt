@@ -1,14 +1,13 @@
-//! The texts, numbers, words and bang paths that are given under an id, and texts as names, words
-//! and grades.
+//! The texts, numbers, words and bang paths under an id, and texts read as names, words and grades.
 
-ghost use Rattle.std.specs.Prelude.{◌≡◌, ◌∷◌, [], All, Ok, IfOk, IfErr, IsSome, IsTrue, Some, map, option_map, codes};
+ghost use Rattle.std.specs.Prelude.{◌≡◌, ◌∷◌, [], All, IfOk, IfErr, IsSome, IsTrue, Some, map, option_map, codes};
 ghost use Rattle.std.specs.String.{string_bytes};
 ghost use Rattle.clap.specs.ValueTests.{is_unsigned_in};
 ghost use Rattle.clap.specs.Words.{first_of, rows_of, found_of};
 ghost use Rattle.uu_names.specs.Path.{IsPathText};
 ghost use Rattle.uu_line.specs.Internal.Entries.{AreNumbersUpTo, most_job, most_second};
 ghost use Rattle.uu_line.specs.Lines.{texts_at};
-ghost use Rattle.uu_line.specs.Lines.{Answers, AreNumbers, IsNumber, IsNumberOf, WithText, and_then};
+ghost use Rattle.uu_line.specs.Lines.{Answers, AreNumbers, IsNumber, IsNumberOf, WithText};
 ghost use Rattle.uu_line.specs.Lines as spec;
 
 use crate::fault::LineFault;
@@ -37,7 +36,7 @@ pub(crate) fn job_in(given: &ArgMatches<'_>) -> u32
     job_of(text_in(given, "job"))
 }
 
-/// The second of `--at`, where it is given.
+/// The second of `--at`, if it is given.
 pub(crate) fn second_in(given: &ArgMatches<'_>) -> Option<u64>
     requires { AreNumbersUpTo most_second (texts_at (codes "at") (rows_of (found_of given.now))) }
     ensures { IsNumberOf 64 (first_of (codes "at") (rows_of (found_of given.now))) result }
@@ -48,7 +47,28 @@ pub(crate) fn second_in(given: &ArgMatches<'_>) -> Option<u64>
     }
 }
 
-/// The numbers of JOB, none where there is no such entry.
+/// The number of `--after`, if it is given.
+pub(crate) fn after_in(given: &ArgMatches<'_>) -> Option<u32>
+    requires { AreNumbersUpTo most_job (texts_at (codes "job") (rows_of (found_of given.now))) }
+    ensures { IsNumberOf 32 (first_of (codes "job") (rows_of (found_of given.now))) result }
+{
+    match given.get_str("job") {
+        Some(text) => Some(job_of(text)),
+        None => None,
+    }
+}
+
+/// Whether a flag is given.
+pub(crate) fn has_flag(given: &ArgMatches<'_>, id: &str) -> bool
+    ensures { result ≡ spec.has_flag id.now (rows_of (found_of given.now)) }
+{
+    match given.get_str(id) {
+        Some(text) => "true" == text,
+        None => false,
+    }
+}
+
+/// The numbers of JOB, none if there is no such entry.
 pub(crate) fn jobs_in(alloc: Global, given: &ArgMatches<'_>) -> Result<Listed<u32>, LineFault>
     requires { AreNumbersUpTo most_job (texts_at (codes "job") (rows_of (found_of given.now))) }
     ensures jobs { IfOk result (AreNumbers 32 (texts_at (codes "job") (rows_of (found_of given.now)))) }
@@ -84,7 +104,6 @@ fn job_of(text: &str) -> u32
     }
 }
 
-// A second.
 fn second_of(text: &str) -> u64
     requires { IsTrue (is_unsigned_in 0 most_second text.now) }
     ensures { IsNumber 64 text.now result }
@@ -126,7 +145,7 @@ pub(crate) fn word_of(alloc: Global, text: &str) -> Result<Word, LineFault>
     }
 }
 
-/// The text as a site name, where there is one.
+/// The text as a site name, if there is one.
 pub(crate) fn optional_site(
     alloc: Global,
     text: Option<&str>,
@@ -142,7 +161,7 @@ pub(crate) fn optional_site(
     }
 }
 
-/// The text as a word, where there is one.
+/// The text as a word, if there is one.
 pub(crate) fn optional_word(alloc: Global, text: Option<&str>) -> Result<Option<Word>, LineFault>
     ensures { Answers result (spec.optional spec.word_of (option_map (λ text. text.now) text.entry)) }
 {
@@ -168,7 +187,7 @@ pub(crate) fn grade_of(text: &str) -> Result<Grade, LineFault>
     }
 }
 
-/// The text as `SYSTEM!NUMBER[!WORD]`, where there is one.
+/// The text as `SYSTEM!NUMBER[!WORD]`, if there is one.
 pub(crate) fn optional_origin(
     alloc: Global,
     text: Option<&str>,
@@ -185,6 +204,7 @@ pub(crate) fn optional_origin(
 }
 
 /// The texts of `-g` and `--once`.
+#[tactic(auto, using(crate::proofs::LineLemmas::answers_then))]
 pub(crate) fn terms_of(
     alloc: Global,
     grade: &str,
@@ -192,10 +212,12 @@ pub(crate) fn terms_of(
 ) -> Result<(Grade, Option<Origin>), LineFault>
     ensures { Answers result (spec.terms_of grade.now (option_map (λ text. text.now) once.entry)) }
 {
-    both(grade_of(grade), optional_origin(alloc, once))
+    let grade = grade_of(grade)?;
+    let once = optional_origin(alloc, once)?;
+    Ok((grade, once))
 }
 
-/// The words of an entry, none where there is no such entry.
+/// The words of an entry, none if there is no such entry.
 pub(crate) fn words_in(
     alloc: Global,
     given: &ArgMatches<'_>,
@@ -209,7 +231,6 @@ pub(crate) fn words_in(
     }
 }
 
-// The texts as words.
 fn words_of(alloc: Global, texts: &[&str]) -> Result<Listed<Word>, LineFault>
     ensures { Answers result (spec.words_of (map (λ text. text.now) texts.now)) }
 {
@@ -223,7 +244,35 @@ fn words_of(alloc: Global, texts: &[&str]) -> Result<Listed<Word>, LineFault>
     Ok(Listed::from_vec(words))
 }
 
-/// The bang paths of an entry, none where there is no such entry.
+/// The site names of an entry, none if there is no such entry.
+pub(crate) fn sites_in(
+    alloc: Global,
+    given: &ArgMatches<'_>,
+    id: &str,
+) -> Result<Listed<SiteName>, LineFault>
+    ensures { Answers result (spec.sites_of (texts_at id.now (rows_of (found_of given.now)))) }
+{
+    match given.get_strs(id) {
+        Some(texts) => sites_of(alloc, texts),
+        None => Ok(Listed::from_vec(Vec::new(alloc))),
+    }
+}
+
+// The texts as site names.
+fn sites_of(alloc: Global, texts: &[&str]) -> Result<Listed<SiteName>, LineFault>
+    ensures { Answers result (spec.sites_of (map (λ text. text.now) texts.now)) }
+{
+    let mut sites = Vec::new(alloc);
+    for text in texts {
+        match site_of(alloc, text) {
+            Ok(site) => sites.push(site)?,
+            Err(fault) => return Err(fault),
+        }
+    }
+    Ok(Listed::from_vec(sites))
+}
+
+/// The bang paths of an entry, none if there is no such entry.
 pub(crate) fn paths_in(
     alloc: Global,
     given: &ArgMatches<'_>,
@@ -263,22 +312,5 @@ fn path_of(alloc: Global, text: &str) -> Result<Path, LineFault>
     match Path::parse(alloc, text) {
         Ok(path) => Ok(path),
         Err(fault) => Err(LineFault::from(fault)),
-    }
-}
-
-/// Both values, or the fault of the first that is none. A caller with an exit at each value is dear
-/// to prove.
-pub(crate) fn both<A: Drop, B: Drop>(
-    first: Result<A, LineFault>,
-    second: Result<B, LineFault>,
-) -> Result<(A, B), LineFault>
-    ensures { result ≡ and_then first (λ a. and_then second (λ b. Ok (a, b))) }
-{
-    match first {
-        Ok(first) => match second {
-            Ok(second) => Ok((first, second)),
-            Err(fault) => Err(fault),
-        },
-        Err(fault) => Err(fault),
     }
 }

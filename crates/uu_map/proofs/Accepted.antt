@@ -12,7 +12,7 @@ use Rattle.uu_map.specs.declared.expression.Stage.TheVariants.{Operand, Operator
 use Rattle.uu_map.specs.Expression.{Sum, Product, Factor, kept, one_product, added, one_factor, scaled, amount, dead, group, signed, sum_text, product_text, factor_text}
 use Rattle.uu_map.specs.Internal.Reading.{State, one_less, sum_with, flipped, with_factor, closed, at_operand, at_operator, at_stage, step, finish, run, start}
 
--- ---- what stands before a state
+-- ---- what comes before a state
 
 abbrev SumBefore : Option (Option ℤ × Additive) → List Token → Type 0
 SumBefore None t = t ≡ []
@@ -42,7 +42,7 @@ abbrev Grown : Option State → List Token → Type 0
 Grown None t = Unit {0}
 Grown (Some s) t = StageBefore s.outer s.level s.stage t
 
--- ---- trees of what stands before
+-- ---- trees of what comes before
 
 abbrev with_signs : List Additive → Factor → Factor
 with_signs [] f = f

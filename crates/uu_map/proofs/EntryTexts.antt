@@ -71,7 +71,7 @@ said-skipped : (host : List ℕ) (ss : List Numbered) → (all_said host ss).ski
 said-skipped host [] = refl
 said-skipped host (s ∷ ss) = skipped_more s ss (statement_of host s.text) (meanings host ss) (all_said host ss).skipped (said-skipped host ss)
 
--- what was said of the host that a text names is the entry of the text
+-- what the text says about the host that it names is the entry of the text
 pub entry_is : (text host : List ℕ) (entry : Entry) → Ok host ≡ host_of text → Says (all_said host (statements_of text)) host entry → IsEntry text entry
 entry_is text host entry eh says = record {
   meanings = meanings host (statements_of text);

@@ -1,5 +1,6 @@
 -- Reading an expression token by token gives its tree's value.
 use Rattle.std.proofs.Common.{◌≡◌, ℕ, zero, suc, ◌^◌, Bool, true, false, cond, ◌||◌, ◌&&◌, List, [], ◌∷◌, ◌++◌, Option, Some, None, option_and_then, ℤ, pos, negsuc, ◌+ℤ◌, ◌-ℤ◌, ◌*ℤ◌, neg_ℤ, unsigned_abs, nat_le, refl, sym, ap, ◌∙◌, append_assoc}
+use Rattle.std.proofs.Math.Bool.{or-false, or_assoc}
 use Rattle.std.specs.Int.RustNames.{int_div}
 use Rattle.uu_map.specs.declared.token.Additive.{Additive}
 use Rattle.uu_map.specs.declared.token.Additive.TheVariants.{Plus, Minus}
@@ -14,9 +15,6 @@ use Rattle.uu_map.specs.Expression.{Sum, Product, Factor, one_product, added, on
 use Rattle.uu_map.specs.Internal.Reading.{State, sum_with, product_with, negated_if, flipped, run, start}
 
 -- ---- values on the way are kept
-
-keeps : Option ℤ → Type 0
-keeps v = option_and_then kept v ≡ v
 
 kept_again : (z : ℤ) → option_and_then kept (kept z) ≡ kept z
 kept_again z = go (nat_le (unsigned_abs z) (10 ^ 12)) refl
@@ -100,17 +98,9 @@ negated_if-flipped Minus true v h = sym (negated_twice v h)
 
 -- ---- tests
 
-or_false : (b : Bool) → (b || false) ≡ b
-or_false true = refl
-or_false false = refl
-
 or_true : (b : Bool) → (b || true) ≡ true
 or_true true = refl
 or_true false = refl
-
-or_or : (a b c : Bool) → ((a || b) || c) ≡ (a || (b || c))
-or_or true b c = refl
-or_or false b c = refl
 
 cond_and : {A : Type 0} (a b : Bool) (x y : A) → cond (a && b) x y ≡ cond a (cond b x y) y
 cond_and true b x y = refl
@@ -148,7 +138,7 @@ mutual
       ∙ (reads_sum s outer base d (tokens.Additive op ∷ (product_text p ++ rest))
       ∙ (ap (λ v. cond (sum_fits base s) (run (at outer (plain (Some (v, op)) base) Operand (d || sum_is_dead s)) (product_text p ++ rest)) None) (sum_with-pending s)
       ∙ (ap (λ r. cond (sum_fits base s) r None) (reads_product p outer (Some (sum_value s, op)) base (d || sum_is_dead s) rest)
-      ∙ (ap (λ e. cond (sum_fits base s) (cond (product_fits base p) (run (at outer (plain (Some (sum_value s, op)) base) (Operator (product_value p)) e) rest) None) None) (or_or d (sum_is_dead s) (product_is_dead p))
+      ∙ (ap (λ e. cond (sum_fits base s) (cond (product_fits base p) (run (at outer (plain (Some (sum_value s, op)) base) (Operator (product_value p)) e) rest) None) None) (or_assoc d (sum_is_dead s) (product_is_dead p))
       ∙ sym (cond_and (sum_fits base s) (product_fits base p) _ _)))))
 
   reads_product : (p : Product) (outer : List Level) (sum : Option (Option ℤ × Additive)) (base : ℕ) (d : Bool) (rest : List Token) → run (at outer (plain sum base) Operand d) (product_text p ++ rest) ≡ cond (product_fits base p) (run (at outer (plain sum base) (Operator (product_value p)) (d || product_is_dead p)) rest) None
@@ -157,11 +147,11 @@ mutual
       ap (run (at outer (plain sum base) Operand d)) (append_assoc (product_text p) (tokens.Multiplicative op ∷ factor_text f) rest)
       ∙ (reads_product p outer sum base d (tokens.Multiplicative op ∷ (factor_text f ++ rest))
       ∙ (ap (λ r. cond (product_fits base p) r None) (reads_factor f outer sum (Some (product_value p, op)) false base base (d || product_is_dead p) rest)
-      ∙ (ap (λ e. cond (product_fits base p) (cond (factor_fits base f) (run (at outer (plain sum base) (Operator (both (product_of op) (product_value p) (factor_value f))) e) rest) None) None) (or_or d (product_is_dead p) (factor_is_dead f))
+      ∙ (ap (λ e. cond (product_fits base p) (cond (factor_fits base f) (run (at outer (plain sum base) (Operator (both (product_of op) (product_value p) (factor_value f))) e) rest) None) None) (or_assoc d (product_is_dead p) (factor_is_dead f))
       ∙ sym (cond_and (product_fits base p) (factor_fits base f) _ _))))
 
   reads_factor : (f : Factor) (outer : List Level) (sum : Option (Option ℤ × Additive)) (product : Option (Option ℤ × Multiplicative)) (negative : Bool) (room base : ℕ) (d : Bool) (rest : List Token) → run (at outer (level_of sum product negative room base) Operand d) (factor_text f ++ rest) ≡ cond (factor_fits room f) (run (at outer (plain sum base) (Operator (product_with product (negated_if negative (factor_value f)))) (d || factor_is_dead f)) rest) None
-  reads_factor (amount v) outer sum product negative room base d rest = ap (λ e. run (at outer (plain sum base) (Operator (product_with product (negated_if negative (option_and_then kept v)))) e) rest) (sym (or_false d))
+  reads_factor (amount v) outer sum product negative room base d rest = ap (λ e. run (at outer (plain sum base) (Operator (product_with product (negated_if negative (option_and_then kept v)))) e) rest) (sym (or-false d))
   reads_factor dead outer sum product negative room base d rest = ap (λ e. run (at outer (plain sum base) (Operator (product_with product (negated_if negative None))) e) rest) (sym (or_true d))
   reads_factor (group s) outer sum product negative zero base d rest = refl
   reads_factor (group s) outer sum product negative (suc room) base d rest =

@@ -77,7 +77,7 @@ not_below_both x y p q = same_name x y (go (slice_cmp nat_cmp x y) (slice_cmp na
     go Greater Equal e p q = absurd cc
     go Greater Greater e p q = absurd cc
 
--- x does not stand behind y
+-- x doesn't come after y
 abbrev NotAbove : Link → Link → Type 0
 NotAbove x y = is_lt (by_name_cmp y x) ≡ false
 

@@ -1,11 +1,12 @@
--- A link, an alias or a cost is read exactly where the text is one.
-use Rattle.std.proofs.Common.{◌≡◌, ◌≢◌, ℕ, suc, ◌+◌, Bool, true, false, cond, ◌&&◌, ◌==◌, List, [], ◌∷◌, ◌++◌, length, take, drop, map, Option, Some, None, option_map, option_and_then, nat_le, ℤ, pos, refl, sym, ap, ◌∙◌, inl, inr, arith}
+-- A link, an alias or a cost is read exactly if the text is one.
+use Rattle.std.proofs.Common.{◌≡◌, ◌≢◌, ℕ, ◌+◌, Bool, true, false, cond, ◌&&◌, ◌==◌, List, [], ◌∷◌, ◌++◌, length, take, drop, map, Option, Some, None, option_map, option_and_then, nat_le, ℤ, pos, refl, sym, ap, ◌∙◌, inl, inr, arith}
 use Rattle.std.specs.List.{prefix_len, list_all, onto_first}
 use Rattle.std.specs.Char.{is_ascii_digit, is_ascii_uppercase}
 use Rattle.std.specs.Str.{bytes_eq}
 use Rattle.std.specs.Prelude.{codes, IsTrue}
 use Rattle.std.proofs.lemmas.Bool.Decides.{nat_tests}
 use Rattle.std.proofs.lemmas.List.{take-append-drop, take_at, drop_at}
+use Rattle.std.proofs.lemmas.Option.{same_Some}
 use Rattle.uu_names.specs.Name.{is_site_byte, is_site_name}
 use Rattle.uu_map.specs.declared.entry.Cost.{Cost}
 use Rattle.uu_map.specs.declared.entry.Cost.TheVariants.{Value}
@@ -18,6 +19,7 @@ use Rattle.uu_map.specs.Expression.{kept, Sum, sum_text, sum_value, sum_fits, su
 use Rattle.uu_map.specs.Token as token
 use Rattle.uu_map.specs.Token.{begins, runs_on, words, symbol_amount, amount_token, symbol_token, sign_token, word_token, decimal}
 use Rattle.uu_names.specs.Text.{is_blank}
+use Rattle.uu_names.proofs.Basics.{and_first, and_second, front_passes}
 use Rattle.uu_map.specs.Internal.Reading.{run, start}
 use Rattle.uu_map.specs.Statement.{is_mark, all_blank, IsMarkAtMost, IsPriced, IsCost, IsLink, IsAlias}
 use Rattle.uu_map.specs.Internal.StatementReading.{skip, skip_mark, cost_behind, site_name, named_link, link_of, named_alias, alias_of}
@@ -26,18 +28,7 @@ use Rattle.uu_map.proofs.Accepted.{accepted_expression}
 
 -- ---- fronts
 
-pub one_more : (n : ℕ) → 1 + n ≡ suc n
-one_more n = omega arith
-
-pub front_passes : (p : ℕ → Bool) (xs : List ℕ) → list_all p (take (prefix_len p xs) xs) ≡ true
-front_passes p [] = refl
-front_passes p (x ∷ xs) = go (p x) refl (front_passes p xs)
-  where
-    go : (b : Bool) → p x ≡ b → list_all p (take (prefix_len p xs) xs) ≡ true → list_all p (take (cond b (1 + prefix_len p xs) 0) (x ∷ xs)) ≡ true
-    go true e ih = ap (λ n. list_all p (take n (x ∷ xs))) (one_more (prefix_len p xs)) ∙ (ap (λ b. b && list_all p (take (prefix_len p xs) xs)) e ∙ ih)
-    go false e ih = refl
-
--- the longest front that passes, where what follows it does not begin so
+-- the longest prefix that passes, if what follows it doesn't begin so
 pub prefix_len-front : (p : ℕ → Bool) (xs rest : List ℕ) → list_all p xs ≡ true → begins p rest ≡ false → prefix_len p (xs ++ rest) ≡ length xs
 prefix_len-front p [] [] all stops = refl
 prefix_len-front p [] (r ∷ rest) all stops = ap (λ b. cond b (1 + prefix_len p rest) 0) stops
@@ -55,22 +46,11 @@ take-front p xs rest all stops = ap (λ n. take n (xs ++ rest)) (prefix_len-fron
 
 -- ---- answers
 
-pub some_same : {A : Type 0} (x y : A) → Some x ≡ Some y → x ≡ y
-some_same x y e = cc
-
 when_fits : (t : Bool) (o : Option Cost) (cost : Cost) → cond t o None ≡ Some cost → (t ≡ true) × (o ≡ Some cost)
 when_fits true o cost e = (refl, e)
 when_fits false o cost e = absurd cc
 
 -- ---- bytes
-
-and_left : (a b : Bool) → (a && b) ≡ true → a ≡ true
-and_left true b e = refl
-and_left false b e = absurd cc
-
-and_right : (a b : Bool) → (a && b) ≡ true → b ≡ true
-and_right true b e = e
-and_right false b e = absurd cc
 
 pub site_byte_is_not_blank : (b : ℕ) → is_site_byte b ≡ true → is_blank b ≡ false
 site_byte_is_not_blank b h = grind (arith, nat_tests)
@@ -91,7 +71,7 @@ blank_is_no_mark : (b : ℕ) → is_blank b ≡ true → is_mark b ≡ false
 blank_is_no_mark b h = grind (arith, nat_tests)
 
 pub name_passes : (name : List ℕ) → is_site_name name ≡ true → list_all is_site_byte name ≡ true
-name_passes name h = and_right (nat_le 1 (length name)) (list_all is_site_byte name) (and_left (nat_le 1 (length name) && list_all is_site_byte name) (nat_le (length name) 63) h)
+name_passes name h = and_second (nat_le 1 (length name)) (list_all is_site_byte name) (and_first (nat_le 1 (length name) && list_all is_site_byte name) (nat_le (length name) 63) h)
 
 pub empty_is_no_name : is_site_name [] ≡ true → ⊥
 empty_is_no_name h = cc
@@ -144,7 +124,7 @@ parenthesis_is_no_site_byte b h = grind (arith, nat_tests)
 parenthesis_is_no_mark : (b : ℕ) → (b == 40) ≡ true → is_mark b ≡ false
 parenthesis_is_no_mark b h = grind (arith, nat_tests)
 
--- what stands behind a name begins with a blank or a parenthesis, if it isn't empty
+-- what comes after a name begins with a blank or a parenthesis, if it isn't empty
 record BehindName (text : List ℕ) : Type 0 where
   no_site_byte : begins is_site_byte text ≡ false
   no_mark : begins is_mark text ≡ false
@@ -170,7 +150,7 @@ cost_begins (b ∷ bs) cost h = go (is_blank b) refl h
 -- ---- costs
 
 cost_tokens : (text : List ℕ) (cost : Cost) (ts : List Token) → token.tokens text ≡ ts → cost_behind ts ≡ Some cost → IsCost text cost
-cost_tokens text cost [] e h = inl (e, sym (some_same (Value 4000) cost h))
+cost_tokens text cost [] e h = inl (e, sym (same_Some (Value 4000) cost h))
 cost_tokens text cost (tokens.Open ∷ ts) e h =
     let (tree, et) = accepted_expression 32 ts cost h in
     inr (tree, priced tree et)
@@ -205,7 +185,7 @@ site_name_is : (text name : List ℕ) → site_name text ≡ Some name → (IsTr
 site_name_is text name = go (is_site_name text) refl
   where
     go : (t : Bool) → is_site_name text ≡ t → cond t (Some text) None ≡ Some name → (IsTrue (is_site_name name)) × (text ≡ name)
-    go true e h = let same : text ≡ name = some_same text name h in (ap is_site_name (sym same) ∙ e, same)
+    go true e h = let same : text ≡ name = same_Some text name h in (ap is_site_name (sym same) ∙ e, same)
     go false e h = absurd cc
 
 record Named (text : List ℕ) (link : Link) : Type 0 where
@@ -221,7 +201,7 @@ named text link h = go (cost_behind (token.tokens (skip_mark (skip is_site_byte 
     go None ec n en h = absurd cc
     go (Some cost) ec None en h = absurd cc
     go (Some cost) ec (Some name) en h =
-        let is : record { to = name; cost = cost } ≡ link = some_same (record { to = name; cost = cost }) link h in
+        let is : record { to = name; cost = cost } ≡ link = same_Some (record { to = name; cost = cost }) link h in
         let (good, same) = site_name_is (take (prefix_len is_site_byte text) text) name en in
         let to : name ≡ link.to = ap (λ (l : Link). l.to) is in
         record {
@@ -256,7 +236,7 @@ link_is text link h =
 name_begins : (name rest : List ℕ) → is_site_name name ≡ true → (begins is_blank (name ++ rest) ≡ false) × (skip_mark (name ++ rest) ≡ name ++ rest)
 name_begins [] rest h = absurd (empty_is_no_name h)
 name_begins (b ∷ bs) rest h =
-    let passes : is_site_byte b ≡ true = and_left (is_site_byte b) (list_all is_site_byte bs) (name_passes (b ∷ bs) h) in
+    let passes : is_site_byte b ≡ true = and_first (is_site_byte b) (list_all is_site_byte bs) (name_passes (b ∷ bs) h) in
     (site_byte_is_not_blank b passes, ap (λ t. cond t (bs ++ rest) (b ∷ (bs ++ rest))) (site_byte_is_no_mark b passes))
 
 behind_mark : (mark text : List ℕ) → IsMarkAtMost mark → begins is_mark text ≡ false → skip_mark (mark ++ text) ≡ text
@@ -327,7 +307,7 @@ alias_is text name h =
 
 blanks_stop : (text : List ℕ) → all_blank text ≡ true → begins is_site_byte text ≡ false
 blanks_stop [] h = refl
-blanks_stop (b ∷ bs) h = blank_is_no_site_byte b (and_left (is_blank b) (all_blank bs) h)
+blanks_stop (b ∷ bs) h = blank_is_no_site_byte b (and_first (is_blank b) (all_blank bs) h)
 
 named_alias_is_read : (name behind : List ℕ) → IsTrue (is_site_name name) → IsTrue (all_blank behind) → named_alias (name ++ behind) ≡ Some name
 unfolding named_alias

@@ -1,12 +1,10 @@
 -- A text is cut one part at a time.
-use Rattle.std.proofs.Common.{◌≡◌, ℕ, suc, ◌+◌, ◌<◌, Bool, true, false, not, cond, List, [], ◌∷◌, ◌++◌, length, take, drop, Option, Some, None, option_map, option_and_then, refl, sym, ap, ◌∙◌, append_assoc, arith}
+use Rattle.std.proofs.Common.{◌≡◌, ℕ, ◌+◌, ◌<◌, Bool, true, false, not, cond, List, [], ◌∷◌, ◌++◌, length, take, drop, Option, Some, None, option_map, option_and_then, refl, sym, ap, ◌∙◌, append_assoc, arith}
 use Rattle.std.proofs.lemmas.List.{append-nil}
+use Rattle.std.proofs.Math.Numerals.{one-add}
 use Rattle.std.specs.List.{filter, onto_first, position_or_len}
 use Rattle.uu_map.specs.Statement.{cut, is_comma, all_blank, elements}
 use Rattle.uu_map.specs.Internal.StatementReading.{each_of, list_of}
-
-one_more : (n : ℕ) → 1 + n ≡ suc n
-one_more n = omega arith
 
 cut_cons : (p : ℕ → Bool) (b : ℕ) (bs : List ℕ) → cut p (b ∷ bs) ≡ take (position_or_len p (b ∷ bs)) (b ∷ bs) ∷ cut p (drop 1 (drop (position_or_len p (b ∷ bs)) (b ∷ bs)))
 cut_cons p b [] = go (p b)
@@ -18,7 +16,7 @@ cut_cons p b (c ∷ cs) = go (p b) (cut_cons p c cs)
   where
     go : (t : Bool) → cut p (c ∷ cs) ≡ take (position_or_len p (c ∷ cs)) (c ∷ cs) ∷ cut p (drop 1 (drop (position_or_len p (c ∷ cs)) (c ∷ cs))) → cond t ([] ∷ cut p (c ∷ cs)) (onto_first b (cut p (c ∷ cs))) ≡ take (cond (not t) (1 + position_or_len p (c ∷ cs)) 0) (b ∷ c ∷ cs) ∷ cut p (drop 1 (drop (cond (not t) (1 + position_or_len p (c ∷ cs)) 0) (b ∷ c ∷ cs)))
     go true ih = refl
-    go false ih = ap (onto_first b) ih ∙ ap (λ n. take n (b ∷ c ∷ cs) ∷ cut p (drop 1 (drop n (b ∷ c ∷ cs)))) (sym (one_more (position_or_len p (c ∷ cs))))
+    go false ih = ap (onto_first b) ih ∙ ap (λ n. take n (b ∷ c ∷ cs) ∷ cut p (drop 1 (drop n (b ∷ c ∷ cs)))) (sym (one-add (position_or_len p (c ∷ cs))))
 
 pub cut_first : (p : ℕ → Bool) (xs : List ℕ) → 0 < length xs → cut p xs ≡ take (position_or_len p xs) xs ∷ cut p (drop 1 (drop (position_or_len p xs) xs))
 cut_first p [] some = absurd (omega arith)
@@ -48,10 +46,6 @@ module _ {Y : Type 0} (read : List ℕ → Option Y) (text part after : List ℕ
       go : (o : Option (List Y)) → option_map (λ more. (front ++ y ∷ []) ++ more) o ≡ option_map (λ more. front ++ more) (option_map (λ ys. y ∷ ys) o)
       go None = refl
       go (Some ys) = ap Some (append_assoc front (y ∷ []) ys)
-
-pub list_start : {Y : Type 0} (o : Option (List Y)) → option_map (λ more. [] ++ more) o ≡ o
-list_start None = refl
-list_start (Some ys) = refl
 
 pub list_end : {Y : Type 0} (read : List ℕ → Option Y) (front : List Y) (text : List ℕ) → length text ≡ 0 → option_map (λ more. front ++ more) (list_of read text) ≡ Some front
 unfolding list_of

@@ -2,7 +2,7 @@
 use Rattle.std.proofs.Common.{◌≡◌, ◌↔◌, ℕ, ◌<◌, Bool, true, false, ◌&&◌, List, [], ◌∷◌, length, map, None, Ordering, nat_eq, refl, sym, ap, ◌∙◌, subst, IsPermutation, arith}
 use Rattle.std.specs.declared.cmp.Ordering.TheVariants.{Less, Equal, Greater}
 use Rattle.std.specs.Ordering.{nat_cmp, ordering_then, ordering_reverse, is_eq, eq_by_cmp}
-use Rattle.std.specs.Cmp.{IsTotalOrder, IsEquivalence}
+use Rattle.std.specs.Cmp.{IsTotalOrder, IsEquivalence, Equal-is}
 use Rattle.std.specs.Cmp.Lexicographic.{slice_cmp, pointwise, texts_ties}
 use Rattle.std.specs.List.{Contains, dedup, AllByRecursion}
 use Rattle.std.specs.List.Retain.{IsFiltered, DiffersFromLast}
@@ -52,11 +52,6 @@ ranked_ties a b =
     ∙ (ap (λ t. is_eq (cost_cmp a.cost b.cost) && t) (texts_ties a.to b.to)
     ∙ is_eq-then (cost_cmp a.cost b.cost) (slice_cmp nat_cmp a.to b.to))
 
-is_eq-Equal : (o : Ordering) → is_eq o ≡ true → o ≡ Equal
-is_eq-Equal Less e = absurd cc
-is_eq-Equal Equal e = refl
-is_eq-Equal Greater e = absurd cc
-
 is_eq-reverse : (o : Ordering) → is_eq (ordering_reverse o) ≡ is_eq o
 is_eq-reverse Less = refl
 is_eq-reverse Equal = refl
@@ -66,7 +61,7 @@ ranked_equivalence : IsEquivalence (eq_by_cmp ranked_cmp)
 ranked_equivalence = record {
   refl = λ x. ap is_eq (tied_itself ranked_total x);
   symm = λ x y. ap is_eq (ranked_total.antisymm x y) ∙ is_eq-reverse (ranked_cmp y x);
-  congr = λ x y z e. ap is_eq (ranked_total.congr x y z (is_eq-Equal (ranked_cmp x y) e));
+  congr = λ x y z e. ap is_eq (ranked_total.congr x y z ((Equal-is (ranked_cmp x y)).0 e));
 }
 
 cost_same : (x y : Cost) → cost_cmp x y ≡ Equal → x ≡ y
@@ -90,7 +85,7 @@ then_second Greater p e = absurd cc
 
 ranked_same : (a b : Ranked) → eq_by_cmp ranked_cmp a b ≡ true → a ≡ b
 ranked_same a b e =
-    let tied : ranked_cmp a b ≡ Equal = is_eq-Equal (ranked_cmp a b) e in
+    let tied : ranked_cmp a b ≡ Equal = (Equal-is (ranked_cmp a b)).0 e in
     let costs : a.cost ≡ b.cost = cost_same a.cost b.cost (then_first (cost_cmp a.cost b.cost) (slice_cmp nat_cmp a.to b.to) tied) in
     let names : a.to ≡ b.to = same_name a.to b.to (then_second (cost_cmp a.cost b.cost) (slice_cmp nat_cmp a.to b.to) tied) in
     ap (λ (c : Cost). let r : Ranked = record { cost = c; to = a.to } in r) costs ∙ ap (λ (t : List ℕ). let r : Ranked = record { cost = b.cost; to = t } in r) names

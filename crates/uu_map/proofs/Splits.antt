@@ -1,5 +1,6 @@
 -- A map text is cut offset by offset.
-use Rattle.std.proofs.Common.{◌≡◌, ℕ, suc, ◌+◌, ◌-◌, ◌<◌, Bool, true, false, cond, ◌&&◌, ◌||◌, ◌==◌, List, ◌∷◌, ◌++◌, length, get_or, drop, Option, Some, None, sym, ap, ◌∙◌, append_assoc, arith}
+use Rattle.std.proofs.Common.{◌≡◌, ℕ, suc, ◌+◌, ◌-◌, ◌<◌, true, false, cond, ◌&&◌, ◌||◌, ◌==◌, List, [], ◌∷◌, ◌++◌, length, get_or, drop, Option, Some, None, sym, ap, ◌∙◌, append_assoc, arith}
+use Rattle.std.specs.Prelude.{⊤}
 use Rattle.std.specs.List.{filter, range_with_len}
 use Rattle.std.proofs.lemmas.Bool.Decides.{nat_tests}
 use Rattle.std.proofs.lemmas.List.{append-nil}
@@ -7,10 +8,25 @@ use Rattle.std.proofs.lemmas.List.Sums.{count_by_more_yes, count_by_more_no}
 use Rattle.uu_map.specs.declared.entry.EntryText.{EntryText}
 use Rattle.uu_map.specs.declared.splitter.Start.{Start}
 use Rattle.uu_map.specs.Split.{is_newline, begins_line, begins_entry, entries_from, line_of}
-use Rattle.uu_map.specs.Internal.Splitting.{ended, starts_from, start_list, FoundUpTo}
+use Rattle.uu_map.specs.Internal.Splitting.{ended}
 
-starts_at : List ℕ → ℕ → Bool
-starts_at text k = begins_line text k && begins_entry (drop k text)
+-- the offsets from here on at which entries begin
+abbrev starts_from : List ℕ → ℕ → List ℕ
+starts_from text at = filter (λ k. begins_line text k && begins_entry (drop k text)) (range_with_len at (length text - at))
+
+abbrev start_list : Option Start → List ℕ
+start_list None = []
+start_list (Some s) = s.at ∷ []
+
+-- an entry that began has the number of its line
+abbrev HasItsLine : List ℕ → Option Start → Type 0
+HasItsLine text None = ⊤
+HasItsLine text (Some s) = s.line ≡ line_of text s.at
+
+-- what was found, and what will be found from here on
+pub record FoundUpTo (text : List ℕ) (found : List EntryText) (start : Option Start) (at : ℕ) : Type 0 where
+  pub all : found ++ entries_from text (start_list start ++ starts_from text at) ≡ entries_from text (starts_from text 0)
+  pub line : HasItsLine text start
 
 starts-step : (text : List ℕ) (at : ℕ) → at < length text → starts_from text at ≡ cond (begins_line text at && begins_entry (drop at text)) (at ∷ starts_from text (at + 1)) (starts_from text (at + 1))
 starts-step text at h =

@@ -1,19 +1,22 @@
--- A statement is read exactly where the text is one.
+-- A statement is read exactly if the text is one.
 use Rattle.std.proofs.Common.{◌≡◌, ℕ, ◌+◌, Bool, true, false, not, cond, ◌&&◌, List, [], ◌∷◌, ◌++◌, length, take, drop, Option, Some, None, option_map, option_and_then, refl, sym, ap, ◌∙◌, subst, arith}
 use Rattle.std.specs.List.{prefix_len, onto_first, filter, AllZip}
 use Rattle.std.specs.Str.{byte, bytes_eq}
 use Rattle.std.proofs.lemmas.Bool.Decides.{nat_tests}
 use Rattle.std.proofs.lemmas.List.{append-nil, take-append-drop, take_at, drop_at}
 use Rattle.std.proofs.lemmas.Slice.Eq.{bytes_eq-Decides}
+use Rattle.std.proofs.Math.Numerals.{one-add}
+use Rattle.std.proofs.lemmas.Option.{same_Some}
 use Rattle.uu_names.specs.Name.{is_site_byte}
 use Rattle.uu_map.specs.declared.entry.Cost.{Cost}
 use Rattle.uu_map.specs.declared.entry.Link.{Link}
 use Rattle.uu_map.specs.Token as token
 use Rattle.uu_map.specs.Token.{begins}
 use Rattle.uu_names.specs.Text.{is_blank}
+use Rattle.uu_names.proofs.Basics.{front_passes}
 use Rattle.uu_map.specs.Statement.{is_mark, is_comma, all_blank, cut, elements, IsLink, IsAlias, Meaning, IsStatement, alone, with_links, with_aliases}
 use Rattle.uu_map.specs.Internal.StatementReading.{skip, skip_mark, cost_behind, site_name, named_link, link_of, alias_of, each_of, list_of, is_equals, said_by, statement_of}
-use Rattle.uu_map.proofs.LinkTexts.{one_more, some_same, front_passes, skip-front, link_is, link_is_read, alias_is, alias_is_read}
+use Rattle.uu_map.proofs.LinkTexts.{skip-front, link_is, link_is_read, alias_is, alias_is_read}
 
 -- ---- lists
 
@@ -58,7 +61,7 @@ aliases_are_read list aliases h = each_is_read alias_of IsAlias alias_is_read (e
 -- ---- no list of links begins with an equals sign
 
 skip-blank : (b : ℕ) (bs : List ℕ) → is_blank b ≡ true → skip is_blank (b ∷ bs) ≡ skip is_blank bs
-skip-blank b bs h = ap (λ t. drop (cond t (1 + prefix_len is_blank bs) 0) (b ∷ bs)) h ∙ ap (λ n. drop n (b ∷ bs)) (one_more (prefix_len is_blank bs))
+skip-blank b bs h = ap (λ t. drop (cond t (1 + prefix_len is_blank bs) 0) (b ∷ bs)) h ∙ ap (λ n. drop n (b ∷ bs)) (one-add (prefix_len is_blank bs))
 
 skip-other : (b : ℕ) (bs : List ℕ) → is_blank b ≡ false → skip is_blank (b ∷ bs) ≡ b ∷ bs
 skip-other b bs h = ap (λ t. drop (cond t (1 + prefix_len is_blank bs) 0) (b ∷ bs)) h
@@ -147,7 +150,7 @@ no_links list h = by_part (first_part list h)
         go true e = let impossible : begins is_equals [] ≡ true = sym (ap (begins is_equals) (skip-all f.part e)) ∙ f.begins_so in absurd cc
         go false e = ap (λ o. option_and_then (λ y. option_map (λ ys. y ∷ ys) (each_of link_of (filter (λ x. not (all_blank x)) f.parts))) o) (no_link (skip is_blank f.part) f.begins_so)
 
--- ---- what stands behind the host
+-- ---- what comes after the host
 
 abbrev of_links : List Link → Meaning
 of_links links = record { aliases = []; links = links }
@@ -157,12 +160,12 @@ of_aliases aliases = record { aliases = aliases; links = [] }
 
 module _ (host : List ℕ) where
   said_is : (text : List ℕ) (m : Meaning) → said_by text ≡ Some m → IsStatement host (host ++ text) m
-  said_is [] m e = subst (λ t. IsStatement host t m) (sym (append-nil host)) (subst (λ n. IsStatement host host n) (some_same (record { aliases = []; links = [] }) m e) alone)
+  said_is [] m e = subst (λ t. IsStatement host t m) (sym (append-nil host)) (subst (λ n. IsStatement host host n) (same_Some (record { aliases = []; links = [] }) m e) alone)
   said_is (b ∷ bs) m e = go (begins is_equals (skip is_blank (b ∷ bs))) refl (is_blank b) refl e
     where
       as_links : is_blank b ≡ true → (o : Option (List Link)) → list_of link_of bs ≡ o → option_map of_links o ≡ Some m → IsStatement host (host ++ b ∷ bs) m
       as_links blank None eo e = absurd cc
-      as_links blank (Some links) eo e = subst (λ n. IsStatement host (host ++ b ∷ bs) n) (some_same (of_links links) m e) (with_links b bs links blank (links_are bs links eo))
+      as_links blank (Some links) eo e = subst (λ n. IsStatement host (host ++ b ∷ bs) n) (same_Some (of_links links) m e) (with_links b bs links blank (links_are bs links eo))
 
       equals_rest : (u : List ℕ) → begins is_equals u ≡ true → u ≡ byte "=" ∷ drop 1 u
       equals_rest [] h = absurd cc
@@ -174,7 +177,7 @@ module _ (host : List ℕ) where
           let text : b ∷ bs ≡ take (prefix_len is_blank (b ∷ bs)) (b ∷ bs) ++ (byte "=" ∷ drop 1 (skip is_blank (b ∷ bs))) =
           sym (take-append-drop (prefix_len is_blank (b ∷ bs)) (b ∷ bs)) ∙ ap (λ r. take (prefix_len is_blank (b ∷ bs)) (b ∷ bs) ++ r) (equals_rest (skip is_blank (b ∷ bs)) h) in
           subst (λ t. IsStatement host (host ++ t) m) (sym text)
-          (subst (λ n. IsStatement host (host ++ (take (prefix_len is_blank (b ∷ bs)) (b ∷ bs) ++ (byte "=" ∷ drop 1 (skip is_blank (b ∷ bs))))) n) (some_same (of_aliases aliases) m e)
+          (subst (λ n. IsStatement host (host ++ (take (prefix_len is_blank (b ∷ bs)) (b ∷ bs) ++ (byte "=" ∷ drop 1 (skip is_blank (b ∷ bs))))) n) (same_Some (of_aliases aliases) m e)
           (with_aliases (take (prefix_len is_blank (b ∷ bs)) (b ∷ bs)) (drop 1 (skip is_blank (b ∷ bs))) aliases (front_passes is_blank (b ∷ bs)) (aliases_are (drop 1 (skip is_blank (b ∷ bs))) aliases eo)))
 
       go : (t : Bool) → begins is_equals (skip is_blank (b ∷ bs)) ≡ t → (w : Bool) → is_blank b ≡ w → cond t (option_map of_aliases (list_of alias_of (drop 1 (skip is_blank (b ∷ bs))))) (cond w (option_map of_links (list_of link_of bs)) None) ≡ Some m → IsStatement host (host ++ b ∷ bs) m

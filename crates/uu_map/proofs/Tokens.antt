@@ -1,14 +1,12 @@
 -- The words of a text, one after another.
-use Rattle.std.proofs.Common.{◌≡◌, ℕ, suc, ◌+◌, ◌<◌, Bool, true, false, cond, List, [], ◌∷◌, length, take, drop, map, refl, sym, ap, ◌∙◌, arith}
+use Rattle.std.proofs.Common.{◌≡◌, ℕ, ◌+◌, ◌<◌, Bool, true, false, cond, List, [], ◌∷◌, length, take, drop, map, refl, sym, ap, ◌∙◌, arith}
 use Rattle.std.specs.List.{prefix_len, onto_first}
 use Rattle.std.specs.Char.{is_ascii_digit, is_ascii_uppercase}
 use Rattle.std.proofs.lemmas.Bool.Decides.{nat_tests}
+use Rattle.std.proofs.Math.Numerals.{one-add}
 use Rattle.uu_map.specs.Token.{begins, runs_on, words, word_token, tokens}
 use Rattle.uu_map.specs.Internal.Cutting.{word_len}
 use Rattle.uu_names.specs.Text.{is_blank}
-
-one_more : (n : ℕ) → 1 + n ≡ suc n
-one_more n = omega arith
 
 digit_is_not_blank : (c : ℕ) → is_ascii_digit c ≡ true → is_blank c ≡ false
 digit_is_not_blank c h = grind (arith, nat_tests)
@@ -26,7 +24,7 @@ words-skip [] = refl
 words-skip (x ∷ xs) = go (is_blank x) refl (words-skip xs)
   where
     go : (b : Bool) → is_blank x ≡ b → words (drop (prefix_len is_blank xs) xs) ≡ words xs → words (drop (cond b (1 + prefix_len is_blank xs) 0) (x ∷ xs)) ≡ cond b (words xs) (cond (runs_on x xs) (onto_first x (words xs)) ((x ∷ []) ∷ words xs))
-    go true e ih = ap (λ n. words (drop n (x ∷ xs))) (one_more (prefix_len is_blank xs)) ∙ ih
+    go true e ih = ap (λ n. words (drop n (x ∷ xs))) (one-add (prefix_len is_blank xs)) ∙ ih
     go false e ih = ap (λ t. cond t (words xs) (cond (runs_on x xs) (onto_first x (words xs)) ((x ∷ []) ∷ words xs))) e
 
 pub begins-skip : (p : ℕ → Bool) (xs : List ℕ) → begins p (drop (prefix_len p xs) xs) ≡ false
@@ -34,7 +32,7 @@ begins-skip p [] = refl
 begins-skip p (x ∷ xs) = go (p x) refl (begins-skip p xs)
   where
     go : (b : Bool) → p x ≡ b → begins p (drop (prefix_len p xs) xs) ≡ false → begins p (drop (cond b (1 + prefix_len p xs) 0) (x ∷ xs)) ≡ false
-    go true e ih = ap (λ n. begins p (drop n (x ∷ xs))) (one_more (prefix_len p xs)) ∙ ih
+    go true e ih = ap (λ n. begins p (drop n (x ∷ xs))) (one-add (prefix_len p xs)) ∙ ih
     go false e ih = e
 
 -- ---- words
@@ -44,12 +42,12 @@ run_word p each [] b h = each b [] h
 run_word p each (c ∷ cs) b h = each b (c ∷ cs) h ∙ go (p c) refl (run_word p each cs c)
   where
     go : (t : Bool) → p c ≡ t → (p c ≡ true → words (c ∷ cs) ≡ (c ∷ take (prefix_len p cs) cs) ∷ words (drop (prefix_len p cs) cs)) → cond t (onto_first b (words (c ∷ cs))) ((b ∷ []) ∷ words (c ∷ cs)) ≡ (b ∷ take (cond t (1 + prefix_len p cs) 0) (c ∷ cs)) ∷ words (drop (cond t (1 + prefix_len p cs) 0) (c ∷ cs))
-    go true e ih = ap (onto_first b) (ih e) ∙ ap (λ n. (b ∷ take n (c ∷ cs)) ∷ words (drop n (c ∷ cs))) (sym (one_more (prefix_len p cs)))
+    go true e ih = ap (onto_first b) (ih e) ∙ ap (λ n. (b ∷ take n (c ∷ cs)) ∷ words (drop n (c ∷ cs))) (sym (one-add (prefix_len p cs)))
     go false e ih = refl
 
 run_from : (p : ℕ → Bool) → ((c : ℕ) (cs : List ℕ) → p c ≡ true → words (c ∷ cs) ≡ cond (begins p cs) (onto_first c (words cs)) ((c ∷ []) ∷ words cs)) → (b : ℕ) (bs : List ℕ) → p b ≡ true → words (b ∷ bs) ≡ take (prefix_len p (b ∷ bs)) (b ∷ bs) ∷ words (drop (prefix_len p (b ∷ bs)) (b ∷ bs))
 run_from p each b bs h =
-    run_word p each bs b h ∙ ap (λ n. take n (b ∷ bs) ∷ words (drop n (b ∷ bs))) (sym (ap (λ t. cond t (1 + prefix_len p bs) 0) h ∙ one_more (prefix_len p bs)))
+    run_word p each bs b h ∙ ap (λ n. take n (b ∷ bs) ∷ words (drop n (b ∷ bs))) (sym (ap (λ t. cond t (1 + prefix_len p bs) 0) h ∙ one-add (prefix_len p bs)))
 
 each_digit : (c : ℕ) (cs : List ℕ) → is_ascii_digit c ≡ true → words (c ∷ cs) ≡ cond (begins is_ascii_digit cs) (onto_first c (words cs)) ((c ∷ []) ∷ words cs)
 each_digit c cs h = by_tests (is_blank c) (is_ascii_digit c) (digit_is_not_blank c h) h

@@ -1,5 +1,5 @@
--- What a map entry says of its host (UUCP Mapping Project README; what is skipped is this project's
--- choice).
+-- What a map entry says about its host (UUCP Mapping Project README; what is skipped is this
+-- project's choice).
 use Rattle.std.specs.Prelude.{◌≡◌, ⊤, ℕ, List, [], ◌∷◌, Option, Some, None, Result, Ok, Err, flat_map}
 use Rattle.std.specs.List.{AllZip}
 use Rattle.uu_map.specs.declared.entry.Link.{Link}
@@ -10,7 +10,7 @@ use Rattle.uu_map.specs.Statement.{Meaning, IsStatement}
 use Rattle.uu_map.specs.Text.{Numbered, host_of, statements_of}
 use Rattle.uu_map.specs.Listing.{IsListing}
 
--- A statement is kept with its meaning, or it is skipped, as it has none.
+-- A statement is kept with its meaning, or it has none and is skipped.
 abbrev pub IsParsed : List ℕ → Numbered → Option Meaning → Type 0
 IsParsed host s (Some m) = IsStatement host s.text m
 IsParsed host s None = (m : Meaning) → IsStatement host s.text m → ⊥
@@ -40,13 +40,13 @@ pub record IsEntry (text : List ℕ) (entry : Entry) : Type 0 where
   pub links : IsListing (flat_map links_in meanings) entry.links
   pub skipped : entry.skipped ≡ skipped_lines (statements_of text) meanings
 
--- What reading a text answers: its entry, the fault of its host, or that there is no memory.
+-- The answer to a text: its entry, the fault of its host, or out of memory.
 abbrev pub IsAnswer : List ℕ → Result Entry MapFault → Type 0
 IsAnswer text (Ok entry) = IsEntry text entry
 IsAnswer text (Err Memory) = ⊤
 IsAnswer text (Err fault) = host_of text ≡ Err fault
 
--- the answer is the expected one, or want of memory took its place
+-- the answer is the expected one, or out of memory
 abbrev pub AnswersUnlessMemory : {V : Type 0} → Result V MapFault → Result V MapFault → Type 0
 AnswersUnlessMemory (Err Memory) expected = ⊤
 AnswersUnlessMemory answer expected = answer ≡ expected

@@ -1,5 +1,5 @@
--- The expressions that stand for costs (UUCP Mapping Project README, on costs as arithmetic
--- expressions; the grammar's details, the limits and `DEAD` are this project's choice).
+-- The expressions that give costs (UUCP Mapping Project README, on costs as arithmetic expressions;
+-- the grammar's details, the limits and `DEAD` are this project's choice).
 --
 --     sum     := product (("+" | "-") product)*
 --     product := factor (("*" | "/") factor)*
@@ -15,8 +15,8 @@ use Rattle.uu_map.specs.declared.token.Multiplicative.TheVariants.{Times, Over}
 use Rattle.uu_map.specs.declared.token.Token.{Token}
 use Rattle.uu_map.specs.declared.token.Token.TheVariants as tokens
 
--- The tree of an expression: operators of one kind go from left to right, and those between factors
--- bind more tightly.
+-- The tree of an expression: operators of one kind go from left to right, and `*` and `/` bind more
+-- tightly than `+` and `-`.
 mutual
   pub data Sum : Type 0 where
     one_product : Product → Sum
@@ -48,11 +48,11 @@ abbrev mutual
   factor_text (group s) = tokens.Open ∷ (sum_text s ++ tokens.Close ∷ [])
   factor_text (signed op f) = tokens.Additive op ∷ factor_text f
 
--- the greatest value on the way, and the least is as far below 0
+-- the greatest value within an expression; the least is as far below 0
 abbrev pub most_value : ℕ
 most_value = 10 ^ 12
 
--- a value on the way is from -10^12 to 10^12
+-- a value within an expression is from -10^12 to 10^12
 abbrev pub kept : ℤ → Option ℤ
 kept z = if nat_le (unsigned_abs z) most_value then Some z else None
 
@@ -61,7 +61,7 @@ abbrev pub sum_of : Additive → ℤ → ℤ → Option ℤ
 sum_of Plus x y = kept (x +ℤ y)
 sum_of Minus x y = kept (x -ℤ y)
 
--- division cuts towards zero, and by zero there is none
+-- division rounds towards zero; division by zero has no value
 abbrev pub quotient_of : ℤ → ℤ → Option ℤ
 quotient_of x (pos zero) = None
 quotient_of x (pos (suc n)) = kept (int_div x (pos (suc n)))
@@ -84,7 +84,7 @@ abbrev pub with_sign : Additive → Option ℤ → Option ℤ
 with_sign Plus v = v
 with_sign Minus v = negated v
 
--- the value of a tree, or none where a value on the way passes the limit or a divisor is zero
+-- the value of a tree, or none if a value within it exceeds the limit or a divisor is zero
 abbrev mutual
   pub sum_value : Sum → Option ℤ
   sum_value (one_product p) = product_value p
@@ -100,7 +100,7 @@ abbrev mutual
   factor_value (group s) = sum_value s
   factor_value (signed op f) = with_sign op (factor_value f)
 
--- parentheses and signs are nested at most so deep
+-- parentheses and signs are nested at most this deep
 abbrev mutual
   pub sum_fits : ℕ → Sum → Bool
   sum_fits room (one_product p) = product_fits room p
@@ -134,8 +134,8 @@ abbrev mutual
   factor_is_dead (group s) = sum_is_dead s
   factor_is_dead (signed op f) = factor_is_dead f
 
--- what an expression of this value costs: a negative value counts as 0, and with `DEAD` the value
--- isn't looked at
+-- the cost of an expression of this value: a negative value counts as 0, and with `DEAD` the value
+-- doesn't count
 abbrev pub cost_of_value : ℤ → Cost
 cost_of_value (pos n) = Value n
 cost_of_value (negsuc n) = Value 0

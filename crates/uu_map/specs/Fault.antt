@@ -1,4 +1,4 @@
--- What a map text is refused with.
+-- Why a map text is refused.
 use Rattle.std.specs.Prelude.{ℕ}
 use Rattle.uu_map.specs.declared.fault.MapFault.{MapFault}
 use Rattle.uu_map.specs.declared.fault.MapFault.TheVariants.{NoName, BadHost, TooLarge, Memory}

@@ -1,4 +1,4 @@
--- Mirrors of the code, which the clauses within the crate cite and no public clause does.
+-- Mirrors of the code, which only clauses within the crate cite.
 pub mod Cutting
 pub mod Parsing
 pub mod Ranking

@@ -16,7 +16,7 @@ CostsAtMost (Value a) Dead = ⊤
 CostsAtMost Dead (Value b) = ⊥
 CostsAtMost Dead Dead = ⊤
 
--- the link is among these links, and none of them to the same name costs less
+-- the link is among these links, and no other link to the same name costs less
 abbrev pub IsLeast : List Link → Link → Type 0
 IsLeast links link = Contains links link × ((other : Link) → Contains links other → other.to ≡ link.to → CostsAtMost link.cost other.cost)
 
@@ -31,7 +31,7 @@ cost_cmp Dead Dead = Equal
 abbrev pub listing_cmp : Link → Link → Ordering
 listing_cmp a b = ordering_then (cost_cmp a.cost b.cost) (slice_cmp nat_cmp a.to b.to)
 
--- Listed are the links that cost least for their name, each once, in this order.
+-- The listed links are those that cost least for their name, each once, in this order.
 pub record IsListing (links listed : List Link) : Type 0 where
   pub least : (link : Link) → Contains listed link ↔ IsLeast links link
   pub in_order : IsStrictlySortedBy listing_cmp listed

@@ -30,17 +30,17 @@ abbrev pub cut : (ℕ → Bool) → List ℕ → List (List ℕ)
 cut at [] = []
 cut at (b ∷ bs) = if at b then [] ∷ cut at bs else onto_first b (cut at bs)
 
--- the elements of a list: its parts between commas, but for those with nothing or blanks alone
+-- the elements of a list: its parts between commas, without those that are empty or only blanks
 abbrev pub elements : List ℕ → List (List ℕ)
 elements list = filter (λ part. not (all_blank part)) (cut is_comma list)
 
--- a mark, or nothing
+-- nothing, or one mark
 abbrev pub IsMarkAtMost : List ℕ → Type 0
 IsMarkAtMost [] = ⊤
 IsMarkAtMost (b ∷ []) = IsTrue (is_mark b)
 IsMarkAtMost (b ∷ c ∷ bs) = ⊥
 
--- the cost of a link for which none is written, and how deep parentheses and signs may nest (this
+-- the cost of a link without a written cost, and how deep parentheses and signs may nest (this
 -- project's choice)
 abbrev pub usual_cost : ℕ
 usual_cost = 4000
@@ -48,8 +48,8 @@ usual_cost = 4000
 abbrev pub most_depth : ℕ
 most_depth = 32
 
--- What stands behind a link's name says the cost: nothing means 4000; an expression in parentheses,
--- in which parentheses and signs nest at most 32 deep, costs its value.
+-- The text after a link's name says the cost: nothing means 4000; an expression in parentheses
+-- costs its value. Parentheses and signs nest at most 32 deep in it.
 pub record IsPriced (text : List ℕ) (cost : Cost) (sum : Sum) : Type 0 where
   pub written : tokens text ≡ Open ∷ (sum_text sum ++ Close ∷ [])
   pub fits : IsTrue (sum_fits most_depth sum)
@@ -58,8 +58,8 @@ pub record IsPriced (text : List ℕ) (cost : Cost) (sum : Sum) : Type 0 where
 abbrev pub IsCost : List ℕ → Cost → Type 0
 IsCost text cost = ((tokens text ≡ []) × (cost ≡ Value usual_cost)) ⊎ ((sum : Sum) × IsPriced text cost sum)
 
--- a link as an element of a list: blanks, a mark or nothing, the name, a mark or nothing, and what
--- says its cost
+-- a link as an element of a list: blanks, a mark or nothing, the name, a mark or nothing, and the
+-- cost
 pub record IsLink (text : List ℕ) (link : Link) : Type 0 where
   pub blanks : List ℕ
   pub front : List ℕ
@@ -81,7 +81,7 @@ pub record IsAlias (text : List ℕ) (name : List ℕ) : Type 0 where
   pub is_name : IsTrue (is_site_name name)
   pub after : IsTrue (all_blank behind)
 
--- what a statement says of its host
+-- what a statement says about its host
 pub record Meaning : Type 0 where
   pub aliases : List (List ℕ)
   pub links : List Link

@@ -1,4 +1,4 @@
--- The lines of a map text, and what they say of entries and statements (UUCP Mapping Project
+-- The lines of a map text, and what they say about entries and statements (UUCP Mapping Project
 -- README, on `#N` lines and comments; continued lines are this project's choice).
 use Rattle.std.specs.Prelude.{ℕ, ◌+◌, Bool, true, not, ◌&&◌, ◌||◌, List, [], ◌∷◌, ◌++◌, length, take, drop, Option, Some, None, Result, Ok, Err, nat_lt, ◌==◌, codes, find, if◌then◌else◌}
 use Rattle.std.specs.List.{prefix_len, before_first, take_while}
@@ -16,7 +16,7 @@ abbrev pub ends_or_blank : List ℕ → Bool
 ends_or_blank [] = true
 ends_or_blank (b ∷ bs) = is_blank b
 
--- the line begins with `#N`, and then comes a blank or the line's end
+-- the line begins with `#N`, and then comes a blank or the end of the line
 abbrev pub is_name_line : List ℕ → Bool
 is_name_line line = bytes_eq (take 2 line) (codes "#N") && ends_or_blank (drop 2 line)
 
@@ -24,12 +24,12 @@ is_name_line line = bytes_eq (take 2 line) (codes "#N") && ends_or_blank (drop 2
 abbrev pub is_named_byte : ℕ → Bool
 is_named_byte b = not (is_blank b || is_comma b)
 
--- what a name line names: what stands behind `#N` and blanks, up to a blank, a comma or the line's
--- end
+-- what a name line names: the text after `#N` and blanks, up to a blank, a comma or the end of the
+-- line
 abbrev pub named_by : List ℕ → List ℕ
 named_by line = take_while is_named_byte (drop (prefix_len is_blank (drop 2 line)) (drop 2 line))
 
--- a text that is named, as a host
+-- the text of a name, as a host
 abbrev pub as_host : List ℕ → Result (List ℕ) MapFault
 as_host [] = Err NoName
 as_host (b ∷ bs) = if is_site_name (b ∷ bs) then Ok (b ∷ bs) else Err BadHost
@@ -42,7 +42,7 @@ host_by (Some line) = as_host (named_by line)
 abbrev pub most_entry : ℕ
 most_entry = 65536
 
--- the host of an entry, which has at most 65,536 bytes: its first name line names it
+-- the host of an entry of at most 65,536 bytes: its first name line names it
 abbrev pub host_of : List ℕ → Result (List ℕ) MapFault
 host_of text = if nat_lt most_entry (length text) then Err TooLarge else host_by (find is_name_line (lines text))
 

@@ -1,5 +1,5 @@
--- What an expression is made of: the words of its text (blanks only part them), and what each
--- stands for.
+-- What an expression is made of: the words of its text (blanks only separate them), and what each
+-- means.
 use Rattle.std.specs.Prelude.{ℕ, ◌+◌, ◌-◌, ◌*◌, Bool, false, List, [], ◌∷◌, Option, Some, None, option_map, ℤ, pos, negsuc, ◌==◌, codes, map, find, fold, if◌then◌else◌}
 use Rattle.std.specs.List.{onto_first}
 use Rattle.std.specs.Char.{is_ascii_digit, is_ascii_uppercase}
@@ -19,13 +19,13 @@ begins passes (b ∷ bs) = passes b
 abbrev pub runs_on : ℕ → List ℕ → Bool
 runs_on b bs = if is_ascii_digit b then begins is_ascii_digit bs else (if is_ascii_uppercase b then begins is_ascii_uppercase bs else false)
 
--- the words of a text: digits in a row, capitals in a row, and each other byte that is no blank
+-- the words of a text: digits in a row, capitals in a row, and each other byte except blanks
 abbrev pub words : List ℕ → List (List ℕ)
 words [] = []
 words (b ∷ bs) = if is_blank b then words bs else (if runs_on b bs then onto_first b (words bs) else (b ∷ []) ∷ words bs)
 
--- the symbols that stand for a number (their names are those of the UUCP Mapping Project; the
--- values are this project's profile)
+-- the symbols that mean a number (their names are those of the UUCP Mapping Project; the values are
+-- this project's profile)
 abbrev pub symbols : List (List ℕ × ℤ)
 symbols =
     (codes "LOCAL", pos 25) ∷ (codes "DEDICATED", pos 95) ∷ (codes "DIRECT", pos 200) ∷ (codes "DEMAND", pos 300) ∷
@@ -43,7 +43,7 @@ amount_token (Some z) = Amount (Some z)
 abbrev pub symbol_token : List ℕ → Token
 symbol_token name = if bytes_eq name (codes "DEAD") then Dead else amount_token (symbol_amount name)
 
--- the number that digits are written for
+-- the number that digits say
 abbrev pub decimal : List ℕ → ℕ
 decimal digits = fold (λ n digit. 10 * n + (digit - byte "0")) 0 digits
 

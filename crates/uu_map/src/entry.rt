@@ -1,7 +1,7 @@
-// What a map says of a site.
+// What a map says about a site.
 use uu_names::{Listed, SiteName};
 
-/// Where an entry stands in a map text.
+/// Where in a map text an entry is.
 #[derive(Clone, Copy, Debug, PartialEq, Eq)]
 pub struct EntryText {
     /// The line that begins the entry, counted from 1 in the whole text.
@@ -15,15 +15,15 @@ pub struct EntryText {
 /// What a link costs. Each value is below [`Cost::Dead`].
 #[derive(Clone, Copy, Debug, PartialEq, Eq, PartialOrd, Ord)]
 pub enum Cost {
-    /// A number without a unit, the less the better. Of an entry that was read, it is from 0 to
+    /// A number without a unit, the less the better. In an entry that was read it is at most
     /// 1,000,000,000,000.
     Value(u64),
-    /// The symbol `DEAD` stands in the cost: the link is not to be used.
+    /// The cost has the symbol `DEAD`: the link isn't to be used.
     Dead,
 }
 
-/// A link to a neighbour. Links compare by the bytes of the name and then by the cost, which is not
-/// the order in which an [`Entry`] lists them.
+/// A link to a neighbour. Links compare by the bytes of the name and then by the cost. An [`Entry`]
+/// lists them in another order.
 #[derive(Debug, PartialEq, Eq, PartialOrd, Ord, Drop)]
 pub struct Link {
     /// The neighbour.
@@ -32,7 +32,7 @@ pub struct Link {
     pub cost: Cost,
 }
 
-/// What a map entry says of its host.
+/// What a map entry says about its host.
 #[derive(Debug, Drop)]
 pub struct Entry {
     /// The site that the entry is about.

@@ -15,15 +15,15 @@ const DEPTH: u32 = 32;
 /// What was read between two parentheses, up to the part that is being read.
 #[derive(Clone, Copy)]
 pub(crate) struct Level {
-    /// The sum so far, with the operator behind it.
+    /// The sum so far, with the operator after it.
     sum: Option<(Option<i64>, Additive)>,
-    /// The product so far, with the operator behind it.
+    /// The product so far, with the operator after it.
     product: Option<(Option<i64>, Multiplicative)>,
     /// The signs before the next factor make it negative.
     negative: bool,
     /// How much deeper the next factor may nest.
     room: u32,
-    /// How much deeper each factor of this level may nest, before its signs.
+    /// How much deeper each factor of this level may nest before its signs.
     base: u32,
 }
 
@@ -160,7 +160,7 @@ impl Reading {
         }
     }
 
-    // A factor of this value was read.
+    // The reading after a factor of this value.
     fn with_factor(outer: Vec<Level>, level: Level, dead: bool, value: Option<i64>) -> Reading
         ensures { state_of result ≡ with_factor (reverse outer.items) level dead value }
     {
@@ -179,7 +179,7 @@ impl Reading {
         }
     }
 
-    // A parenthesis was opened.
+    // The reading after an opening parenthesis.
     fn opened(
         mut outer: Vec<Level>,
         level: Level,
@@ -197,7 +197,7 @@ impl Reading {
         })
     }
 
-    // Takes a token where a factor is wanted.
+    // Takes a token where an operand is expected.
     fn at_operand(
         outer: Vec<Level>,
         level: Level,
@@ -236,7 +236,7 @@ impl Reading {
         }
     }
 
-    // A parenthesis closed a sum of this value.
+    // The reading after the parenthesis that closes a sum of this value.
     fn closed(mut outer: Vec<Level>, level: Level, dead: bool, value: Option<i64>) -> Reading
         ensures { state_of result ≡ closed (reverse outer.items) level dead value }
     {
@@ -313,8 +313,8 @@ impl Reading {
     }
 }
 
-/// What an expression costs that begins behind its opening parenthesis and ends with the closing
-/// one, or none where the text is no such expression.
+/// The cost of an expression that begins after its opening parenthesis and ends with the closing
+/// one, or `None` if the text isn't such an expression.
 pub(crate) fn cost(alloc: Global, text: &[u8]) -> Result<Option<Cost>, AllocError>
     ensures { IfOk result (λ cost. cost ≡ run (start most_depth) (tokens text.now)) }
 {

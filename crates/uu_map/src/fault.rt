@@ -1,4 +1,4 @@
-// What a map text is refused with.
+// Why a map text is refused.
 ghost use Rattle.std.specs.Prelude.{◌≡◌};
 ghost use Rattle.uu_map.specs.declared.fault.MapFault.TheVariants.{Memory};
 ghost use Rattle.uu_map.specs.Fault.{fault_code};
@@ -9,17 +9,17 @@ use thiserror::Error;
 /// Why a text of a map was refused.
 #[derive(Clone, Copy, Debug, PartialEq, Eq, Error)]
 pub enum MapFault {
-    /// No line is a `#N` line, or there is no name on the first that is.
+    /// No line is a `#N` line, or the first one names nothing.
     #[error("no name")]
     NoName,
-    /// What the first `#N` line names is no site name, also where it is one but for its length.
+    /// The name on the first `#N` line isn't a site name, or is too long for one.
     #[error("bad host")]
     BadHost,
     /// The entry has more than 65,536 bytes.
     #[error("too large")]
     TooLarge,
-    /// Memory was refused, to [`read_entry`](crate::read_entry) or to [`split`](crate::split). It
-    /// may take the place of any other answer.
+    /// Out of memory, in [`read_entry`](crate::read_entry) or [`split`](crate::split). Any call may
+    /// give it instead of another answer.
     #[error("out of memory")]
     Memory,
 }

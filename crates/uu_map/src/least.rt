@@ -1,4 +1,4 @@
-// Each name's least cost.
+// The least cost of each name.
 ghost use Rattle.std.specs.Prelude.{◌≡◌, ◌↔◌, None, IfOk, Contains, IsPermutation, IsSorted, map, option_copied};
 ghost use Rattle.std.specs.List.Sorted.{IsStrictlySortedBy};
 ghost use Rattle.uu_map.specs.Listing.{IsListing};

@@ -84,7 +84,7 @@ impl Pending {
         })
     }
 
-    // The statement with a line more.
+    // The statement with one more line.
     fn continued(mut self, line: u32, text: &[u8]) -> Result<Pending, AllocError>
         ensures { IfOk result (λ pending. numbered_of pending ≡ joined (numbered_of self) (record { line = line; text = text.now })) }
     {
@@ -117,7 +117,7 @@ impl Parsed {
         }
     }
 
-    // Adds what a statement says, or its line where it is skipped.
+    // Adds what a statement says, or its line if it is skipped.
     fn add(&mut self, alloc: Global, host: &[u8], statement: &Pending) -> Result<(), AllocError>
         ensures { IfOk result (λ _. as_said self.new ≡ then_said (as_said self.old) (of_one statement.now.line (statement_of host.now statement.now.text.items))) }
     {
@@ -131,8 +131,7 @@ impl Parsed {
         Ok(())
     }
 
-    // Takes what a line says: it continues the pending statement, or it ends that and another
-    // begins.
+    // Takes a line: it continues the pending statement, or ends it and begins another.
     fn take_line(
         &mut self,
         alloc: Global,
@@ -158,7 +157,7 @@ impl Parsed {
         }
     }
 
-    /// What the statements of an entry say of the host.
+    /// What the statements of an entry say about the host.
     pub(crate) fn of_entry(alloc: Global, host: &[u8], text: &[u8]) -> Result<Parsed, AllocError>
         requires { length text.now ≤ most_entry }
         ensures { IfOk result (λ parsed. as_said parsed ≡ all_said host.now (statements_of text.now)) }
@@ -179,7 +178,7 @@ impl Parsed {
         parsed.finish(alloc, host, pending)
     }
 
-    // All that was said, with what the last statement says, if there is one.
+    // Everything so far, with the last statement, if there is one.
     fn finish(
         mut self,
         alloc: Global,
@@ -213,7 +212,7 @@ impl Parsed {
     }
 }
 
-// What an entry of at most 65,536 bytes says of this host.
+// What an entry of at most 65,536 bytes says about this host.
 fn entry_of(alloc: Global, host: SiteName, text: &[u8]) -> Result<Entry, AllocError>
     requires { length text.now ≤ most_entry }
     ensures { IfOk result (Says (all_said host (statements_of text.now)) host) }
@@ -222,17 +221,17 @@ fn entry_of(alloc: Global, host: SiteName, text: &[u8]) -> Result<Entry, AllocEr
     parsed.into_entry(alloc, host)
 }
 
-/// Reads a map entry: the host that its first `#N` line names, its aliases, its links and what was
-/// skipped.
+/// Reads a map entry: the host that its first `#N` line names, its aliases, its links, and the
+/// lines of what was skipped. A statement that can't be read is skipped whole.
 ///
-/// A text of more than 65,536 bytes is [`MapFault::TooLarge`], then one that names no host
-/// [`MapFault::NoName`], and then one whose host is no site name [`MapFault::BadHost`]. A statement
-/// that can't be read is skipped whole.
+/// The errors are checked in this order. A text of more than 65,536 bytes is
+/// [`MapFault::TooLarge`], one that names no host [`MapFault::NoName`], and one whose host isn't a
+/// site name [`MapFault::BadHost`].
 pub fn read_entry(alloc: Global, text: &[u8]) -> Result<Entry, MapFault>
-    // What is kept is in the grammar and has that meaning; what is skipped is not; each fault has
-    // its cause.
+    // What is kept is in the grammar and has that meaning. What is skipped isn't in the grammar.
+    // Each fault has its cause.
     ensures answer { IsAnswer text.now result }
-    // No other entry is that of the text.
+    // The text has no other entry.
     ensures only { (entry : Entry) → IsEntry text.now entry → AnswersUnlessMemory result (Ok entry) }
 {
     let host = host(alloc, text)?;

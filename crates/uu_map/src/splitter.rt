@@ -66,11 +66,11 @@ fn entries_of(alloc: Global, text: &[u8]) -> Result<Vec<EntryText>, AllocError>
     Ok(entries)
 }
 
-/// The entries of a map text, in its order. Each line that begins with `#N` and then a blank or its
-/// end begins an entry, which goes up to the next such line; what stands before the first is in no
+/// The entries of a map text, in its order. A line that is `#N`, or begins with `#N` and a blank,
+/// begins an entry, which goes up to the next such line. What comes before the first is in no
 /// entry.
 ///
-/// A text has at most 4,194,304 bytes. The one fault is [`MapFault::Memory`].
+/// A text has at most 4,194,304 bytes. The only error is [`MapFault::Memory`].
 pub fn split(alloc: Global, text: &[u8]) -> Result<Vec<EntryText>, MapFault>
     requires { length text.now ≤ most_text }
     ensures entries { IfOk result (λ v. v.items ≡ entries_of text.now) }

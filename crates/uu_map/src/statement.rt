@@ -14,14 +14,14 @@ use std::alloc::{AllocError, Global};
 use uu_names::text::{blanks_len, is_blank, len_before};
 use uu_names::{NameFault, SiteName, is_site_byte};
 
-/// What a statement says of its host.
+/// What a statement says about its host.
 #[derive(Drop)]
 pub(crate) struct Statement {
     pub(crate) aliases: Vec<SiteName>,
     pub(crate) links: Vec<Link>,
 }
 
-/// What a link costs for which no cost is written.
+/// The cost of a link without a written cost.
 const USUAL_COST: u64 = 4000;
 
 fn is_mark(byte: u8) -> bool
@@ -52,7 +52,7 @@ fn skip_mark(text: &[u8]) -> &[u8]
     }
 }
 
-// How long the run of bytes is that a name may have, from the text's first byte on.
+// The length of the longest prefix whose bytes a name may have.
 fn name_len(text: &[u8]) -> usize
     ensures value { result ≡ prefix_len is_site_byte text.now }
     ensures bound { result ≤ length text.now }
@@ -120,7 +120,7 @@ fn alias_of(alloc: Global, text: &[u8]) -> Result<Option<SiteName>, AllocError>
     named_alias(alloc, skip_blanks(text))
 }
 
-// The text before the first comma, and the text behind it.
+// The text before the first comma, and the text after it.
 fn first_part(text: &[u8]) -> (&[u8], &[u8])
     requires { 0 < length text.now }
     ensures parts { cut is_comma text.now ≡ result.0.now ∷ cut is_comma result.1.now }
@@ -169,7 +169,7 @@ fn aliases_of(alloc: Global, list: &[u8]) -> Result<Option<Vec<SiteName>>, Alloc
     Ok(Some(aliases))
 }
 
-// What stands behind the host.
+// What the text after the host says.
 fn said_by(alloc: Global, text: &[u8]) -> Result<Option<Statement>, AllocError>
     ensures { IfOk result (λ said. option_map meaning_of said ≡ said_by text.now) }
 {
@@ -200,7 +200,7 @@ fn said_by(alloc: Global, text: &[u8]) -> Result<Option<Statement>, AllocError>
     }
 }
 
-/// What a statement of the host says, or none where it is skipped.
+/// What a statement of the host says, or `None` if it is skipped.
 #[tactic(auto, unfolding(crate::specs::Internal::StatementReading::statement_of))]
 pub(crate) fn statement_of(
     alloc: Global,

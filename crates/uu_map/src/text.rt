@@ -5,7 +5,7 @@ ghost use Rattle.uu_map.specs.Text.{is_name_line, is_named_byte, named_by, befor
 
 use uu_names::text::{blanks_len, is_blank, len_before};
 
-/// What a line says, without its comment.
+/// The line without its comment.
 pub(crate) fn before_comment(line: &[u8]) -> &[u8]
     ensures { result.now ≡ before_comment line.now }
 {

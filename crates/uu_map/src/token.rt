@@ -25,7 +25,7 @@ pub(crate) enum Multiplicative {
 /// The least part of an expression.
 #[derive(Clone, Copy)]
 pub(crate) enum Token {
-    /// A number, or a symbol that stands for one; none where the number passes the limit.
+    /// A number, or a symbol that means one; `None` if the number exceeds the limit.
     Amount(Option<i64>),
     /// The symbol `DEAD`.
     Dead,
@@ -33,11 +33,11 @@ pub(crate) enum Token {
     Close,
     Additive(Additive),
     Multiplicative(Multiplicative),
-    /// What no expression has in it.
+    /// Anything that no expression contains.
     Other,
 }
 
-/// The greatest value on the way of an expression.
+/// The greatest value within an expression.
 pub(crate) const LIMIT: u64 = 1_000_000_000_000;
 
 fn digits_len(text: &[u8]) -> usize
@@ -56,7 +56,7 @@ fn capitals_len(text: &[u8]) -> usize
         .count()
 }
 
-// The number that digits are written for, or none past the limit.
+// The number that the digits say, or `None` if it exceeds the limit.
 fn number(digits: &[u8]) -> Option<i64>
     ensures { result ≡ kept (pos (decimal digits.now)) }
 {
@@ -130,7 +130,7 @@ fn word_token(word: &[u8]) -> Token
     }
 }
 
-// How long the word is that a text begins with.
+// The length of the word that a text begins with.
 fn word_len(text: &[u8]) -> usize
     ensures value { result ≡ word_len text.now }
     ensures some { 0 < length text.now → 0 < result }
@@ -144,7 +144,7 @@ fn word_len(text: &[u8]) -> usize
     }
 }
 
-/// The first token of a text, and what stands behind it.
+/// The first token of a text, and the text after it.
 pub(crate) fn next_token(text: &[u8]) -> Option<(Token, &[u8])>
     ensures value { MatchOption result (tokens text.now ≡ [])
         (λ found. tokens text.now ≡ found.0 ∷ tokens found.1.now) }

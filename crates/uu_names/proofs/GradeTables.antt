@@ -35,7 +35,7 @@ grade_bytes-at rank h = same-true _ _ (all_below-at (λ k. same (slice_get grade
 pub rank_of-at : (byte : ℕ) → byte < 256 → rank_of byte ≡ rank_at byte
 rank_of-at byte h = same-true _ _ (all_below-at (λ k. same (rank_of k) (rank_at k)) 256 refl byte h)
 
--- the same, where the rank goes by another name too
+-- the same, if the rank has another name too
 pub grade_bytes-is : (rank value byte : ℕ) → rank ≡ value → rank < 62 → byte ≡ letter_at rank → slice_get grade_bytes value ≡ Some byte
 grade_bytes-is rank value byte e h is = ap (slice_get grade_bytes) (sym e) ∙ grade_bytes-at rank h ∙ ap Some (sym is)
 

@@ -1,3 +1,4 @@
+pub mod Basics
 pub mod NameLemmas
 pub mod Lines
 pub mod EnvelopeJoins

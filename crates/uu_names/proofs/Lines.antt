@@ -1,23 +1,12 @@
 -- A text is taken apart one line at a time.
-use Rattle.std.proofs.Common.{◌≡◌, ℕ, ◌+◌, ◌<◌, ◌≤◌, ◌==◌, Bool, true, false, cond, List, [], ◌∷◌, length, take, drop, refl, sym, ap, ◌∙◌, arith}
-use Rattle.std.specs.List.{slice_split, onto_first, position_or_len}
+use Rattle.std.proofs.Common.{◌≡◌, ℕ, ◌+◌, ◌<◌, ◌≤◌, ◌==◌, false, cond, List, [], ◌∷◌, length, take, drop, sym, ap, ◌∙◌, arith}
+use Rattle.std.specs.List.{position_or_len}
 use Rattle.std.specs.Str.Lines.{lines, lines_of_parts, strip_carriage_return}
 use Rattle.std.proofs.lemmas.List.{length-drop, drop-drop, take_all, drop_all}
 use Rattle.std.proofs.lemmas.List.Sums.{fails_before_first}
 use Rattle.std.proofs.lemmas.List.Splits.{slice_split_first, slice_split_none}
 use Rattle.std.proofs.lemmas.Bool.Decides.{nat_tests}
-
-before_more : (x part : List ℕ) (parts : List (List ℕ)) (z : ℕ) → lines_of_parts (x ∷ onto_first z parts) ≡ strip_carriage_return x ∷ lines_of_parts (onto_first z parts)
-before_more x part [] z = refl
-before_more x part (p ∷ ps) z = refl
-
-lines_of_parts-cons : (p : ℕ → Bool) (x ys : List ℕ) → lines_of_parts (x ∷ slice_split p ys) ≡ strip_carriage_return x ∷ lines_of_parts (slice_split p ys)
-lines_of_parts-cons p x [] = refl
-lines_of_parts-cons p x (z ∷ zs) = go (p z)
-  where
-    go : (t : Bool) → lines_of_parts (x ∷ cond t ([] ∷ slice_split p zs) (onto_first z (slice_split p zs))) ≡ strip_carriage_return x ∷ lines_of_parts (cond t ([] ∷ slice_split p zs) (onto_first z (slice_split p zs)))
-    go true = refl
-    go false = before_more x x (slice_split p zs) z
+use Rattle.uu_names.proofs.Basics.{lines_of_parts_cons}
 
 -- a line that ends with a newline
 pub lines_first : (xs line rest : List ℕ) → line ≡ take (position_or_len (λ b. b == 10) xs) xs → rest ≡ drop (position_or_len (λ b. b == 10) xs) xs → 0 < length rest → lines xs ≡ strip_carriage_return line ∷ lines (drop 1 rest)
@@ -25,7 +14,7 @@ lines_first xs line rest el er some =
     let n : ℕ = position_or_len (λ b. b == 10) xs in
     let found : n < length xs = omega (arith, ap length er, length-drop n xs) in
     ap lines_of_parts (slice_split_first (λ b. b == 10) xs 0 found)
-    ∙ (lines_of_parts-cons (λ b. b == 10) (take n xs) (drop (n + 1) xs)
+    ∙ (lines_of_parts_cons (λ b. b == 10) (take n xs) (drop (n + 1) xs)
     ∙ (ap (λ l. strip_carriage_return l ∷ lines (drop (n + 1) xs)) (sym el) ∙ ap (λ r. strip_carriage_return line ∷ lines r) (sym (ap (drop 1) er ∙ drop-drop 1 n xs))))
 
 single : (xs : List ℕ) → 0 < length xs → lines_of_parts (xs ∷ []) ≡ xs ∷ []
@@ -42,7 +31,7 @@ lines_last xs line rest some el er none =
     ap lines_of_parts (slice_split_none (λ b. b == 10) xs (λ k d h. fails_before_first (λ b. b == 10) xs k d (omega arith)))
     ∙ (single xs some ∙ (ap (λ l. l ∷ []) (sym whole) ∙ ap (λ r. line ∷ lines r) (sym empty)))
 
--- the text behind the first line
+-- the text after the first line
 pub rest_after_feed : (xs rest : List ℕ) → rest ≡ drop (position_or_len (λ b. b == 10) xs) xs → drop 1 rest ≡ drop (position_or_len (λ b. b == 10) xs + 1) xs
 rest_after_feed xs rest er = ap (drop 1) er ∙ drop-drop 1 (position_or_len (λ b. b == 10) xs) xs
 

@@ -4,8 +4,8 @@ use Rattle.std.specs.Prelude.{is_ok, MatchResult, if◌then◌else◌}
 use Rattle.std.specs.List.{list_all, prefix_len}
 use Rattle.std.proofs.lemmas.Bool.Decides.{nat_tests}
 use Rattle.uu_names.specs.declared.fault.NameFault.{NameFault}
-use Rattle.uu_names.specs.declared.fault.NameFault.TheVariants.{TooLong, BadName, BadWord}
-use Rattle.uu_names.specs.Name.{has_form, checked_text, is_site_byte, is_word_byte, is_site_name, is_word, site_name_of, word_of}
+use Rattle.uu_names.specs.declared.fault.NameFault.TheVariants.{TooLong, BadName}
+use Rattle.uu_names.specs.Name.{has_form, checked_text, is_site_byte, is_site_name, site_name_of}
 
 prefix_len-not_not : (p : ℕ → Bool) (xs : List ℕ) → prefix_len (λ x. not (not (p x))) xs ≡ prefix_len p xs
 prefix_len-not_not p [] = refl
@@ -51,12 +51,7 @@ checked_text-at p limit bad_at text at e =
         by-form true = refl
         by-form false = refl
 
--- the empty text is refused at 0
-pub checked_text-empty : (p : ℕ → Bool) (limit : ℕ) (bad_at : ℕ → NameFault) (text : List ℕ) → length text ≡ 0 → checked_text p limit bad_at text ≡ Err (bad_at 0)
-checked_text-empty p limit bad_at [] e = refl
-checked_text-empty p limit bad_at (x ∷ xs) e = absurd (omega arith)
-
--- where every byte passes, the length alone decides
+-- if every byte passes, only the length decides
 all_pass : (p : ℕ → Bool) (text : List ℕ) → None ≡ position (λ x. not (p x)) text → list_all p text ≡ true
 all_pass p text e =
     elim (all_or_first p text) [ inl h ↦ h.0 | inr h ↦ absurd (some-none (e ∙ position-not p text) h.1) ]
@@ -75,19 +70,11 @@ checked_text-long p limit bad_at text e some long = by-length p limit bad_at tex
 pub checked_text-ok : (p : ℕ → Bool) (limit : ℕ) (bad_at : ℕ → NameFault) (text : List ℕ) → None ≡ position (λ x. not (p x)) text → 0 < length text → length text ≤ limit → checked_text p limit bad_at text ≡ Ok text
 checked_text-ok p limit bad_at text e some fits = by-length p limit bad_at text true e some (grind (arith, nat_tests))
 
--- reading a text as a site name succeeds exactly where it is one
+-- reading a text as a site name succeeds exactly if it is one
 pub is_ok-site_name_of : (text : List ℕ) → is_ok (site_name_of text) ≡ is_site_name text
 is_ok-site_name_of text = by-form (has_form is_site_byte text) (leb (length text) 63)
   where
     by-form : (form fits : Bool) → is_ok (if form then (if fits then Ok text else Err TooLong) else Err (BadName (prefix_len is_site_byte text))) ≡ form && fits
-    by-form true true = refl
-    by-form true false = refl
-    by-form false fits = refl
-
-pub is_ok-word_of : (text : List ℕ) → is_ok (word_of text) ≡ is_word text
-is_ok-word_of text = by-form (has_form is_word_byte text) (leb (length text) 255)
-  where
-    by-form : (form fits : Bool) → is_ok (if form then (if fits then Ok text else Err TooLong) else Err (BadWord (prefix_len is_word_byte text))) ≡ form && fits
     by-form true true = refl
     by-form true false = refl
     by-form false fits = refl

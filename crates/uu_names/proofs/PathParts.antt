@@ -7,7 +7,8 @@ use Rattle.std.proofs.lemmas.Str.{IsCharBoundary-before_ascii, IsCharBoundary-af
 use Rattle.std.proofs.lemmas.Str.Ascii.{IsAscii-nil, IsAscii-cons}
 use Rattle.uu_names.specs.Name.{is_word_byte, is_site_name, is_word}
 use Rattle.uu_names.specs.Path.{IsPathText, is_bang, first_hop, rest_of}
-use Rattle.uu_names.proofs.PathScan.{IsCut, cut_path, position-front, path_bytes, path_fits, and-left, and-right}
+use Rattle.uu_names.proofs.PathScan.{IsCut, cut_path, position-front, path_bytes, path_fits}
+use Rattle.uu_names.proofs.Basics.{and_first, and_second}
 
 below_128 : (b : ℕ) → is_word_byte b ≡ true → b < 128
 below_128 b h = grind (arith, nat_tests)
@@ -16,7 +17,7 @@ below_128 b h = grind (arith, nat_tests)
 pub word_bytes_ascii : (xs : List ℕ) → list_all is_word_byte xs ≡ true → IsAscii xs
 word_bytes_ascii [] e = IsAscii-nil
 word_bytes_ascii (x ∷ xs) e =
-    IsAscii-cons x xs (below_128 x (and-left (is_word_byte x) (list_all is_word_byte xs) e)) (word_bytes_ascii xs (and-right (is_word_byte x) (list_all is_word_byte xs) e))
+    IsAscii-cons x xs (below_128 x (and_first (is_word_byte x) (list_all is_word_byte xs) e)) (word_bytes_ascii xs (and_second (is_word_byte x) (list_all is_word_byte xs) e))
 
 pub path_ascii : (text : List ℕ) → IsPathText text → IsAscii text
 path_ascii text p = word_bytes_ascii text (path_bytes text p)

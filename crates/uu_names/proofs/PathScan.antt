@@ -9,6 +9,7 @@ use Rattle.uu_names.specs.Path.{BangPath, is_bang, path_text, is_local_byte, has
 use Rattle.uu_names.specs.Fault.{UnlessMemory}
 use Rattle.uu_names.specs.declared.fault.NameFault.{NameFault}
 use Rattle.uu_names.specs.declared.fault.NameFault.TheVariants.{BadGrade, BadName, BadPath, BadWord, NoEnvelope, TooLong, Memory}
+use Rattle.uu_names.proofs.Basics.{and_first, and_second, list_all_weaker}
 
 -- ---- the text of some sites and a part, from the front and from the end
 
@@ -36,25 +37,17 @@ whole-push_part (site ∷ sites) part =
 abbrev pub has_no_bang : List ℕ → Bool
 has_no_bang = list_all (λ b. not (is_bang b))
 
-pub and-left : (a b : Bool) → a && b ≡ true → a ≡ true
-and-left true b e = refl
-and-left false b e = e
-
-pub and-right : (a b : Bool) → a && b ≡ true → b ≡ true
-and-right true b e = e
-and-right false b e = cc
-
--- where neither front has a `!`, the fronts up to the first `!` are the same
+-- if neither prefix has a `!`, the prefixes up to the first `!` are the same
 pub same_front : (x y xs ys : List ℕ) → has_no_bang x ≡ true → has_no_bang y ≡ true → x ++ (33 ∷ xs) ≡ y ++ (33 ∷ ys) → (x ≡ y) × (xs ≡ ys)
 same_front [] [] xs ys p q e = (refl, cc)
 same_front [] (b ∷ y) xs ys p q e =
-    let h : 33 ≡ b = cc in let t = and-left _ (has_no_bang y) q in let r = rw (← h) at t in cc
+    let h : 33 ≡ b = cc in let t = and_first _ (has_no_bang y) q in let r = rw (← h) at t in cc
 same_front (a ∷ x) [] xs ys p q e =
-    let h : 33 ≡ a = cc in let t = and-left _ (has_no_bang x) p in let r = rw (← h) at t in cc
+    let h : 33 ≡ a = cc in let t = and_first _ (has_no_bang x) p in let r = rw (← h) at t in cc
 same_front (a ∷ x) (b ∷ y) xs ys p q e =
     let h : a ≡ b = cc in
     let t : x ++ (33 ∷ xs) ≡ y ++ (33 ∷ ys) = cc in
-    let r = same_front x y xs ys (and-right _ _ p) (and-right _ _ q) t in
+    let r = same_front x y xs ys (and_second _ _ p) (and_second _ _ q) t in
     (λ i. h i ∷ r.0 i, r.1)
 
 -- a list without `!` has none in its midst
@@ -62,25 +55,25 @@ pub no_bang_within : (x y xs : List ℕ) → has_no_bang x ≡ true → x ≡ y 
 no_bang_within [] [] xs p e = cc
 no_bang_within [] (b ∷ y) xs p e = cc
 no_bang_within (a ∷ x) [] xs p e =
-    let h : a ≡ 33 = cc in let t = and-left _ (has_no_bang x) p in let r = rw h at t in cc
-no_bang_within (a ∷ x) (b ∷ y) xs p e = no_bang_within x y xs (and-right _ _ p) cc
+    let h : a ≡ 33 = cc in let t = and_first _ (has_no_bang x) p in let r = rw h at t in cc
+no_bang_within (a ∷ x) (b ∷ y) xs p e = no_bang_within x y xs (and_second _ _ p) cc
 
 -- a byte other than `!` that comes before the first `!` is one of the front
 pub byte_of_front : (p : ℕ → Bool) (x y xs ys : List ℕ) (b : ℕ) → has_no_bang y ≡ true → is_bang b ≡ false → list_all p x ≡ true → x ++ (33 ∷ xs) ≡ y ++ (b ∷ ys) → p b ≡ true
 byte_of_front p [] [] xs ys b n f q e = let h : 33 ≡ b = cc in let r = rw (← h) at f in cc
 byte_of_front p [] (c ∷ y) xs ys b n f q e =
-    let h : 33 ≡ c = cc in let t = and-left _ (has_no_bang y) n in let r = rw (← h) at t in cc
+    let h : 33 ≡ c = cc in let t = and_first _ (has_no_bang y) n in let r = rw (← h) at t in cc
 byte_of_front p (a ∷ x) [] xs ys b n f q e =
-    let h : a ≡ b = cc in let t = and-left _ (list_all p x) q in rw h at t
+    let h : a ≡ b = cc in let t = and_first _ (list_all p x) q in rw h at t
 byte_of_front p (a ∷ x) (c ∷ y) xs ys b n f q e =
-    byte_of_front p x y xs ys b (and-right _ _ n) f (and-right _ _ q) cc
+    byte_of_front p x y xs ys b (and_second _ _ n) f (and_second _ _ q) cc
 
 -- a byte of a list
 pub byte_within : (p : ℕ → Bool) (x y xs : List ℕ) (b : ℕ) → list_all p x ≡ true → x ≡ y ++ (b ∷ xs) → p b ≡ true
 byte_within p [] [] xs b q e = cc
 byte_within p [] (c ∷ y) xs b q e = cc
-byte_within p (a ∷ x) [] xs b q e = let h : a ≡ b = cc in let t = and-left _ (list_all p x) q in rw h at t
-byte_within p (a ∷ x) (c ∷ y) xs b q e = byte_within p x y xs b (and-right _ _ q) cc
+byte_within p (a ∷ x) [] xs b q e = let h : a ≡ b = cc in let t = and_first _ (list_all p x) q in rw h at t
+byte_within p (a ∷ x) (c ∷ y) xs b q e = byte_within p x y xs b (and_second _ _ q) cc
 
 -- ---- what the classes of bytes have to do with each other
 
@@ -89,25 +82,20 @@ pub local-from_site : (b : ℕ) → is_site_byte b ≡ true → is_local_byte b 
 local-from_site b h = grind (arith, nat_tests)
 
 pub no_bang-from_local : (b : ℕ) → is_local_byte b ≡ true → not (is_bang b) ≡ true
-no_bang-from_local b h = and-right (is_word_byte b) _ h
-
-pub weaker : (p q : ℕ → Bool) (xs : List ℕ) → ((b : ℕ) → p b ≡ true → q b ≡ true) → list_all p xs ≡ true → list_all q xs ≡ true
-weaker p q [] h e = refl
-weaker p q (x ∷ xs) h e =
-    rw (h x (and-left (p x) (list_all p xs) e), weaker p q xs h (and-right (p x) (list_all p xs) e))
+no_bang-from_local b h = and_second (is_word_byte b) _ h
 
 pub local_has_no_bang : (xs : List ℕ) → list_all is_local_byte xs ≡ true → has_no_bang xs ≡ true
-local_has_no_bang xs e = weaker is_local_byte (λ b. not (is_bang b)) xs no_bang-from_local e
+local_has_no_bang xs e = list_all_weaker is_local_byte (λ b. not (is_bang b)) xs no_bang-from_local e
 
 pub site_has_no_bang : (xs : List ℕ) → list_all is_site_byte xs ≡ true → has_no_bang xs ≡ true
-site_has_no_bang xs e = local_has_no_bang xs (weaker is_site_byte is_local_byte xs local-from_site e)
+site_has_no_bang xs e = local_has_no_bang xs (list_all_weaker is_site_byte is_local_byte xs local-from_site e)
 
 -- the bytes of a text of some form, and that it has one
 pub form_bytes : (p : ℕ → Bool) (xs : List ℕ) → has_form p xs ≡ true → list_all p xs ≡ true
-form_bytes p xs e = and-right (leb 1 (length xs)) _ e
+form_bytes p xs e = and_second (leb 1 (length xs)) _ e
 
 pub form_some : (p : ℕ → Bool) (xs : List ℕ) → has_form p xs ≡ true → 0 < length xs
-form_some p xs e = let t = and-left (leb 1 (length xs)) _ e in grind (arith, nat_tests)
+form_some p xs e = let t = and_first (leb 1 (length xs)) _ e in grind (arith, nat_tests)
 
 pub form-from : (p : ℕ → Bool) (xs : List ℕ) → 0 < length xs → list_all p xs ≡ true → has_form p xs ≡ true
 form-from p xs l e = let t : leb 1 (length xs) ≡ true = grind (arith, nat_tests) in rw (t, e)
@@ -117,7 +105,7 @@ form-from p xs l e = let t : leb 1 (length xs) ≡ true = grind (arith, nat_test
 abbrev all_sites : List (List ℕ) → Bool
 all_sites = list_all (has_form is_site_byte)
 
--- Where a path's text goes on after some sites and a part, the path has these sites first.
+-- If a path's text goes on after some sites and a part, the path has these sites first.
 pub record GoesOn (sites others : List (List ℕ)) (part last rest : List ℕ) : Type 0 where
   pub more : List (List ℕ)
   pub sites_are : others ≡ sites ++ more
@@ -130,10 +118,10 @@ goes_on (site ∷ sites) [] part last rest p q r e =
     absurd (no_bang_within last site _ (local_has_no_bang last r) f)
 goes_on (site ∷ sites) (other ∷ others) part last rest p q r e =
     let f : other ++ (33 ∷ whole others last) ≡ site ++ (33 ∷ (whole sites part ++ rest)) = sym (whole-cons other others last) ∙ e ∙ ap (λ t. t ++ rest) (whole-cons site sites part) ∙ append_assoc site (33 ∷ whole sites part) rest in
-    let s = form_bytes is_site_byte other (and-left _ (all_sites others) q) in
-    let t = form_bytes is_site_byte site (and-left _ (all_sites sites) p) in
+    let s = form_bytes is_site_byte other (and_first _ (all_sites others) q) in
+    let t = form_bytes is_site_byte site (and_first _ (all_sites sites) p) in
     let same = same_front other site _ _ (site_has_no_bang other s) (site_has_no_bang site t) f in
-    let next = goes_on sites others part last rest (and-right _ _ p) (and-right _ _ q) r same.1 in
+    let next = goes_on sites others part last rest (and_second _ _ p) (and_second _ _ q) r same.1 in
     record { more = next.more; sites_are = λ i. same.0 i ∷ next.sites_are i; text = next.text }
 
 -- ---- the scan
@@ -144,7 +132,7 @@ abbrev pub part_byte : List (List ℕ) → ℕ → Bool
 part_byte [] = is_site_byte
 part_byte (site ∷ sites) = is_local_byte
 
--- where the first `!` stands
+-- the place of the first `!`
 abbrev pub first_len : List (List ℕ) → Option ℕ
 first_len [] = None
 first_len (site ∷ sites) = Some (length site)
@@ -164,9 +152,6 @@ pub record IsScanned (seen : List ℕ) (first_bang : Option ℕ) (part_len : ℕ
   pub is_site : part_is_site ≡ list_all is_site_byte part
   pub long : long_site ≡ list_any is_long_site sites
 
-pub scan_none : IsScanned [] None 0 true false
-scan_none = record { sites = []; part = []; text = refl; named = refl; bytes = refl; first = refl; len = refl; is_site = refl; long = refl }
-
 list_all-append : (p : ℕ → Bool) (xs ys : List ℕ) → list_all p (xs ++ ys) ≡ list_all p xs && list_all p ys
 list_all-append p [] ys = refl
 list_all-append p (x ∷ xs) ys = ap (λ b. p x && b) (list_all-append p xs ys) ∙ and-assoc (p x) _ _
@@ -178,7 +163,7 @@ list_all-append p (x ∷ xs) ys = ap (λ b. p x && b) (list_all-append p xs ys) 
 all_sites-push : (sites : List (List ℕ)) (part : List ℕ) → all_sites sites ≡ true → has_form is_site_byte part ≡ true → all_sites (sites ++ part ∷ []) ≡ true
 all_sites-push [] part p q = rw q
 all_sites-push (site ∷ sites) part p q =
-    rw (and-left (has_form is_site_byte site) (all_sites sites) p, all_sites-push sites part (and-right (has_form is_site_byte site) (all_sites sites) p) q)
+    rw (and_first (has_form is_site_byte site) (all_sites sites) p, all_sites-push sites part (and_second (has_form is_site_byte site) (all_sites sites) p) q)
 
 long-push : (sites : List (List ℕ)) (part : List ℕ) → list_any is_long_site (sites ++ part ∷ []) ≡ list_any is_long_site sites || is_long_site part
 long-push [] part = or-false (is_long_site part)
@@ -192,7 +177,7 @@ long-push (site ∷ sites) part = ap (λ b. is_long_site site || b) (long-push s
     or-assoc true b c = refl
     or-assoc false b c = refl
 
--- what stands for the first `!` after one more
+-- the place of the first `!`, if there is one more at this place
 abbrev pub or_at : Option ℕ → ℕ → Option ℕ
 or_at first at = option_or first (Some at)
 
@@ -309,9 +294,9 @@ scan_whole {text} {k} {n} {s} {l} z some = by-sites z.sites z.part z.text z.name
 
 path_sites : (path : BangPath) → IsTrue (has_path_form path) → (0 < length path.sites) × (all_sites path.sites ≡ true) × (has_form is_local_byte path.local_part ≡ true)
 path_sites path form =
-    let a = and-left (leb 1 (length path.sites) && all_sites path.sites) _ form in
-    let b = and-left (leb 1 (length path.sites)) _ a in
-    (grind (arith, nat_tests), and-right (leb 1 (length path.sites)) _ a, and-right (leb 1 (length path.sites) && all_sites path.sites) _ form)
+    let a = and_first (leb 1 (length path.sites) && all_sites path.sites) _ form in
+    let b = and_first (leb 1 (length path.sites)) _ a in
+    (grind (arith, nat_tests), and_second (leb 1 (length path.sites)) _ a, and_second (leb 1 (length path.sites) && all_sites path.sites) _ form)
 
 -- why a byte cannot follow
 abbrev pub IsStuck : Option ℕ → ℕ → Bool → ℕ → Type 0
@@ -334,7 +319,7 @@ stuck-local sites part last rest b some form why e =
       | inl w ↦ false-true (not (is_bang b)) (no_bang-from_local b local) (ap not w.0)
       | inr w ↦ elim w.2 [
         | inl none ↦ no-sites sites some none
-        | inr no_word ↦ false-true (is_word_byte b) (and-left (is_word_byte b) _ local) no_word
+        | inr no_word ↦ false-true (is_word_byte b) (and_first (is_word_byte b) _ local) no_word
       ]
     ]
   where
@@ -365,11 +350,11 @@ stuck-site part site rest others first b form no_bang why e =
 stuck-from : (sites more : List (List ℕ)) (part last rest : List ℕ) (b : ℕ) → 0 < length (sites ++ more) → all_sites more ≡ true → has_form is_local_byte last ≡ true → list_all (part_byte sites) part ≡ true → IsStuck (first_len sites) (length part) (list_all is_site_byte part) b → whole more last ≡ part ++ (b ∷ rest) → ⊥
 stuck-from sites [] part last rest b some named form bytes why e = stuck-local sites part last rest b some form why e
 stuck-from sites (site ∷ more) part last rest b some named form bytes why e =
-    stuck-site part site rest _ (first_len sites) b (and-left _ (all_sites more) named) (part_has_no_bang sites part bytes) why (sym (whole-cons site more last) ∙ e)
+    stuck-site part site rest _ (first_len sites) b (and_first _ (all_sites more) named) (part_has_no_bang sites part bytes) why (sym (whole-cons site more last) ∙ e)
 
 all_sites-right : (xs ys : List (List ℕ)) → all_sites (xs ++ ys) ≡ true → all_sites ys ≡ true
 all_sites-right [] ys e = e
-all_sites-right (x ∷ xs) ys e = all_sites-right xs ys (and-right (has_form is_site_byte x) _ e)
+all_sites-right (x ∷ xs) ys e = all_sites-right xs ys (and_second (has_form is_site_byte x) _ e)
 
 -- how a path's text goes on after what has been scanned
 record Onward (sites : List (List ℕ)) (part rest : List ℕ) : Type 0 where
@@ -404,7 +389,7 @@ stuck {seen} {first} {n} {s} {l} k b why path rest form e =
         (subst (λ (m : ℕ). IsStuck first m (list_all is_site_byte k.part) b) k.len
         (subst (λ (t : Bool). IsStuck first n t b) k.is_site why))
 
--- what has been scanned is itself no path where the last part is empty or no `!` was seen
+-- what has been scanned isn't itself a path if the last part is empty or no `!` was seen
 no_end : (sites more : List (List ℕ)) (part last : List ℕ) → 0 < length (sites ++ more) → all_sites more ≡ true → has_form is_local_byte last ≡ true → list_all (part_byte sites) part ≡ true → (first_len sites ≡ None) ⊎ (length part ≡ 0) → whole more last ≡ part ++ [] → ⊥
 no_end [] [] part last some named form bytes why e = omega arith
 no_end (site ∷ sites) [] part last some named form bytes why e =
@@ -448,7 +433,7 @@ bad_within text at b first n s l k within is why = record {
         let f = front text at m within above in
         ap (λ t. t ++ rest) (f.1 ∙ ap (λ c. take at text ++ (c ∷ f.0)) (sym is)) ∙ append_assoc (take at text) (b ∷ f.0) rest
 
--- the scan comes to the end, and the text is no path yet
+-- the scan comes to the end, and the text isn't a path yet
 pub bad_at_end : (text : List ℕ) (first : Option ℕ) (n : ℕ) (s l : Bool) → IsScanned text first n s l → (first ≡ None) ⊎ (n ≡ 0) → IsBadPathAt text (length text)
 bad_at_end text first n s l k why = record {
   no_path = λ path form e. unfinished k why path form e;
@@ -497,12 +482,12 @@ loop_byte text at b first first' n n' s s' l l' site k h is no_bang of ok ef en 
 pub position-front : (site rest : List ℕ) → has_no_bang site ≡ true → position_or_len is_bang (site ++ (33 ∷ rest)) ≡ length site
 position-front [] rest e = refl
 position-front (b ∷ site) rest e =
-    rw (and-left (not (is_bang b)) (has_no_bang site) e, position-front site rest (and-right (not (is_bang b)) (has_no_bang site) e)) (omega arith)
+    rw (and_first (not (is_bang b)) (has_no_bang site) e, position-front site rest (and_second (not (is_bang b)) (has_no_bang site) e)) (omega arith)
 
 hop-of : (text part : List ℕ) (sites : List (List ℕ)) (hop_len : ℕ) → whole sites part ≡ text → all_sites sites ≡ true → first_len sites ≡ Some hop_len → hop_len ≡ position_or_len is_bang text
 hop-of text part [] hop_len e named f = cc
 hop-of text part (site ∷ sites) hop_len e named f =
-    let no_bang = site_has_no_bang site (form_bytes is_site_byte site (and-left (has_form is_site_byte site) (all_sites sites) named)) in
+    let no_bang = site_has_no_bang site (form_bytes is_site_byte site (and_first (has_form is_site_byte site) (all_sites sites) named)) in
     let h : hop_len ≡ length site = cc in
     h ∙ sym (position-front site (whole sites part) no_bang) ∙ ap (position_or_len is_bang) (sym (whole-cons site sites part) ∙ e)
 
@@ -520,8 +505,8 @@ is_long text hop_len n first s l k f some over =
     record { path = w.path; is_text = w.is_text; form = w.form; over = λ fit. broken over (sym w.limits ∙ fit) }
   where
     broken : (l ≡ true) ⊎ (255 < length text) → not l && leb (length text) 255 ≡ true → ⊥
-    broken (inl long) e = let t = and-left (not l) _ e in false-true (not l) t (ap not long)
-    broken (inr h) e = let t = and-right (not l) _ e in grind (arith, nat_tests)
+    broken (inl long) e = let t = and_first (not l) _ e in false-true (not l) t (ap not long)
+    broken (inr h) e = let t = and_second (not l) _ e in grind (arith, nat_tests)
 
 -- ---- a path's text, cut at its first `!`
 
@@ -535,11 +520,11 @@ pub record IsCut (text : List ℕ) : Type 0 where
 
 whole_bytes : (sites : List (List ℕ)) (part : List ℕ) → all_sites sites ≡ true → has_form is_local_byte part ≡ true → has_form is_word_byte (whole sites part) ≡ true
 whole_bytes [] part named form =
-    form-from is_word_byte part (form_some is_local_byte part form) (weaker is_local_byte is_word_byte part (λ b h. and-left (is_word_byte b) _ h) (form_bytes is_local_byte part form))
+    form-from is_word_byte part (form_some is_local_byte part form) (list_all_weaker is_local_byte is_word_byte part (λ b h. and_first (is_word_byte b) _ h) (form_bytes is_local_byte part form))
 whole_bytes (site ∷ sites) part named form =
-    let site_form = and-left (has_form is_site_byte site) (all_sites sites) named in
-    let front = weaker is_site_byte is_word_byte site (λ b h. and-left (is_word_byte b) _ (local-from_site b h)) (form_bytes is_site_byte site site_form) in
-    let back = form_bytes is_word_byte (whole sites part) (whole_bytes sites part (and-right (has_form is_site_byte site) (all_sites sites) named) form) in
+    let site_form = and_first (has_form is_site_byte site) (all_sites sites) named in
+    let front = list_all_weaker is_site_byte is_word_byte site (λ b h. and_first (is_word_byte b) _ (local-from_site b h)) (form_bytes is_site_byte site site_form) in
+    let back = form_bytes is_word_byte (whole sites part) (whole_bytes sites part (and_second (has_form is_site_byte site) (all_sites sites) named) form) in
     ap (has_form is_word_byte) (whole-cons site sites part) ∙ form-from is_word_byte (site ++ (33 ∷ whole sites part)) (omega (arith, length-append site (33 ∷ whole sites part)))
     (list_all-append is_word_byte site (33 ∷ whole sites part) ∙ rw (front, back))
 
@@ -547,10 +532,10 @@ cut-sites : (text : List ℕ) (sites : List (List ℕ)) (part : List ℕ) → wh
 cut-sites text [] part e form limits = absurd (omega (arith, (path_sites (record { sites = []; local_part = part }) form).0))
 cut-sites text (site ∷ sites) part e form limits =
     let f = path_sites (record { sites = site ∷ sites; local_part = part }) form in
-    let site_form : has_form is_site_byte site ≡ true = and-left (has_form is_site_byte site) (all_sites sites) f.1 in
-    let lens = and-left (leb (length site) 63 && list_all (λ (u : List ℕ). leb (length u) 63) sites) _ limits in
-    let short = and-left (leb (length site) 63) _ lens in
-    let total : leb (length (whole (site ∷ sites) part)) 255 ≡ true = and-right (leb (length site) 63 && list_all (λ (u : List ℕ). leb (length u) 63) sites) _ limits in
+    let site_form : has_form is_site_byte site ≡ true = and_first (has_form is_site_byte site) (all_sites sites) f.1 in
+    let lens = and_first (leb (length site) 63 && list_all (λ (u : List ℕ). leb (length u) 63) sites) _ limits in
+    let short = and_first (leb (length site) 63) _ lens in
+    let total : leb (length (whole (site ∷ sites) part)) 255 ≡ true = and_second (leb (length site) 63 && list_all (λ (u : List ℕ). leb (length u) 63) sites) _ limits in
     let split = whole-cons site sites part in
     let parts : length (whole (site ∷ sites) part) ≡ length site + length (33 ∷ whole sites part) = ap length split ∙ length-append site (33 ∷ whole sites part) in
     let rest_fits : leb (length (whole sites part)) 255 ≡ true = grind (arith, nat_tests) in
@@ -560,7 +545,7 @@ cut-sites text (site ∷ sites) part e form limits =
       split = sym e ∙ split;
       no_bang = site_has_no_bang site (form_bytes is_site_byte site site_form);
       is_site = rw (site_form, short);
-      is_rest = rw (whole_bytes sites part (and-right (has_form is_site_byte site) (all_sites sites) f.1) f.2, rest_fits);
+      is_rest = rw (whole_bytes sites part (and_second (has_form is_site_byte site) (all_sites sites) f.1) f.2, rest_fits);
     }
 
 pub cut_path : (text : List ℕ) → IsPathText text → IsCut text
@@ -578,7 +563,7 @@ path_bytes text p =
 
 pub path_fits : (text : List ℕ) → IsPathText text → length text ≤ 255
 path_fits text p =
-    let t : leb (length (path_text p.path)) 255 ≡ true = and-right (list_all (λ (u : List ℕ). leb (length u) 63) p.path.sites) _ p.limits in
+    let t : leb (length (path_text p.path)) 255 ≡ true = and_second (list_all (λ (u : List ℕ). leb (length u) 63) p.path.sites) _ p.limits in
     let e = ap length p.is_text in
     let h : length (path_text p.path) ≤ 255 = grind (arith, nat_tests) in
     omega arith
@@ -603,7 +588,7 @@ no_long_path text long p =
     let same = one_path long.path p.path long.form p.form (p.is_text ∙ sym long.is_text) in
     long.over ((λ i. is_within_limits (record { sites = sym same.0 i; local_part = sym same.1 i })) ∙ p.limits)
 
--- what is refused is no path
+-- what is refused isn't a path
 pub fault-no_path : (text : List ℕ) (fault : NameFault) → IsPathFault text fault → UnlessMemory fault (¬ IsPathText text)
 fault-no_path text (BadPath at) f = λ p. f.no_path p.path p.form p.is_text
 fault-no_path text TooLong f = no_long_path text f

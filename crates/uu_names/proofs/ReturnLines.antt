@@ -39,7 +39,7 @@ raw-last (b ∷ c ∷ cs) e h = by-first (is_line_feed b) refl (λ q. raw-last (
         let g : 1 + position_or_len is_line_feed (c ∷ cs) ≡ length (b ∷ c ∷ cs) = rw f at e in
         rw f (ap (onto_first b) (again (omega arith)))
 
--- where the first byte of a kind stands, if there is one
+-- the place of the first byte of a kind, if there is one
 pub found_at : (p : ℕ → Bool) (text : List ℕ) (at : ℕ) → Some at ≡ position p text → (position_or_len p text ≡ at) × (at < length text)
 found_at p text at e = by-test (ltb n (length text)) refl
   where

@@ -41,7 +41,7 @@ one_sender marker line one other l m =
 
 -- ---- one run
 
--- the marker of the line behind those of these senders, where the first line has this one
+-- the marker of the line after those of these senders, if the first line has this one
 abbrev marker_after : List ℕ → List Sender → List ℕ
 marker_after marker [] = marker
 marker_after marker (sender ∷ senders) = later_marker

@@ -1,7 +1,7 @@
 -- What a line says, read from its ends: a sender is in a line in one way.
-use Rattle.std.proofs.Common.{◌≡◌, ℕ, suc, ◌+◌, ◌-◌, ◌<◌, ◌≤◌, Bool, true, false, cond, eqb, ltb, List, [], ◌∷◌, ◌++◌, length, take, drop, get_or, Some, position, refl, ap, sym, ◌∙◌, inl, inr, IsTrue, codes, arith, append_assoc, length-append, nat_eq}
+use Rattle.std.proofs.Common.{◌≡◌, ℕ, suc, ◌+◌, ◌-◌, ◌<◌, ◌≤◌, Bool, true, false, eqb, ltb, List, [], ◌∷◌, ◌++◌, length, take, drop, get_or, Some, position, refl, ap, sym, ◌∙◌, inl, inr, IsTrue, codes, arith, append_assoc, length-append, nat_eq}
 use Rattle.std.specs.Cmp.Lexicographic.{pointwise, bytes_decides}
-use Rattle.std.specs.List.{list_all, position_or_len, prefix_len, suffix_len}
+use Rattle.std.specs.List.{list_all, position_or_len, suffix_len}
 use Rattle.std.proofs.lemmas.Bool.Decides.{nat_tests}
 use Rattle.std.proofs.lemmas.List.{take_at, drop_at, take-append-drop, get_or-append-add, get_or_at, drop_more}
 use Rattle.std.proofs.lemmas.List.Sums.{suffix_len_is, passes_at_first, AllPass-from_list_all}
@@ -9,7 +9,8 @@ use borrow.Author.Tests.{lt-ltb}
 use Rattle.uu_names.proofs.ReturnLines.{found_at}
 use Rattle.uu_names.specs.Name.{is_site_byte, has_form, is_site_name}
 use Rattle.uu_names.specs.ReturnPath.{is_no_space, Sender, IsSpaced, IsLeadingLine}
-use Rattle.uu_names.proofs.PathScan.{and-left, and-right, weaker, form_bytes, form-from}
+use Rattle.uu_names.proofs.PathScan.{form_bytes, form-from}
+use Rattle.uu_names.proofs.Basics.{and_first, and_second, list_all_weaker, front_passes}
 
 -- a text that begins with another
 pub begins_with : (xs p : List ℕ) → pointwise nat_eq (take (length p) xs) p ≡ true → xs ≡ p ++ drop (length p) xs
@@ -18,19 +19,6 @@ begins_with xs p e = sym (take-append-drop (length p) xs) ∙ ap (λ t. t ++ dro
 pub begins_back : (xs p rest : List ℕ) → xs ≡ p ++ rest → pointwise nat_eq (take (length p) xs) p ≡ true
 begins_back xs p rest e = (bytes_decides (take (length p) xs) p).1 (ap (take (length p)) e ∙ take_at p rest (length p) refl)
 
--- a text that ends with another
-pub ends_with_it : (xs p : List ℕ) → pointwise nat_eq (drop (length xs - length p) xs) p ≡ true → xs ≡ take (length xs - length p) xs ++ p
-ends_with_it xs p e = sym (take-append-drop (length xs - length p) xs) ∙ ap (λ t. take (length xs - length p) xs ++ t) ((bytes_decides (drop (length xs - length p) xs) p).0 e)
-
-ends_at : (xs front p : List ℕ) → xs ≡ front ++ p → length xs - length p ≡ length front
-ends_at xs front p e = omega (arith, ap length e, length-append front p)
-
-pub ends_back : (xs front p : List ℕ) → xs ≡ front ++ p → pointwise nat_eq (drop (length xs - length p) xs) p ≡ true
-ends_back xs front p e = (bytes_decides (drop (length xs - length p) xs) p).1 ((λ i. drop (ends_at xs front p e i) (e i)) ∙ drop_at front p (length front) refl)
-
-pub ends_front : (xs front p : List ℕ) → xs ≡ front ++ p → take (length xs - length p) xs ≡ front
-ends_front xs front p e = (λ i. take (ends_at xs front p e i) (e i)) ∙ take_at front p (length front) refl
-
 -- the first space
 abbrev pub is_space : ℕ → Bool
 is_space b = eqb b 32
@@ -38,7 +26,7 @@ is_space b = eqb b 32
 pub space_after : (user rest : List ℕ) → list_all is_no_space user ≡ true → position_or_len is_space (user ++ (32 ∷ rest)) ≡ length user
 space_after [] rest e = refl
 space_after (b ∷ user) rest e =
-    rw (and-left (is_no_space b) (list_all is_no_space user) e, space_after user rest (and-right (is_no_space b) (list_all is_no_space user) e)) (omega arith)
+    rw (and_first (is_no_space b) (list_all is_no_space user) e, space_after user rest (and_second (is_no_space b) (list_all is_no_space user) e)) (omega arith)
 
 -- the bytes after the last space
 pub word_after : (front word : List ℕ) → list_all is_no_space word ≡ true → suffix_len is_no_space (front ++ (32 ∷ word)) ≡ length word
@@ -63,23 +51,15 @@ word_after front word e =
 
 -- a site name has no space
 pub site_has_no_space : (site : List ℕ) → IsTrue (is_site_name site) → list_all is_no_space site ≡ true
-site_has_no_space site e = weaker is_site_byte is_no_space site no_space (form_bytes is_site_byte site (and-left (has_form is_site_byte site) _ e))
+site_has_no_space site e = list_all_weaker is_site_byte is_no_space site no_space (form_bytes is_site_byte site (and_first (has_form is_site_byte site) _ e))
   where
     no_space : (b : ℕ) → is_site_byte b ≡ true → is_no_space b ≡ true
     no_space b h = grind (arith, nat_tests)
 
--- ---- what stands after the user
+-- ---- what comes after the user
 
 abbrev pub remote : List ℕ
 remote = codes " remote from "
-
-passes : (p : ℕ → Bool) (xs : List ℕ) → list_all p (take (prefix_len p xs) xs) ≡ true
-passes p [] = refl
-passes p (x ∷ xs) = by-test (p x) refl (passes p xs)
-  where
-    by-test : (t : Bool) → p x ≡ t → list_all p (take (prefix_len p xs) xs) ≡ true → list_all p (take (cond (p x) (1 + prefix_len p xs) 0) (x ∷ xs)) ≡ true
-    by-test true f again = let n : 1 + prefix_len p xs ≡ suc (prefix_len p xs) = omega arith in rw (f, n, f, again)
-    by-test false f again = rw f
 
 spaced-from : (between rest more : List ℕ) → between ++ rest ≡ 32 ∷ more → IsSpaced between
 spaced-from [] rest more e = inl refl
@@ -112,7 +92,7 @@ leading-from marker line rest user back front site n k starts er es eu eb ef et 
     tail = sym (take-append-drop (length front - 13) front) ∙ ap (λ t. between ++ t) (sym ((bytes_decides remote (drop (length front - 13) front)).0 ends))
 
     all : list_all is_no_space user ≡ true
-    all = ap (list_all is_no_space) (eu ∙ ap (λ m. take m rest) (sym at.0)) ∙ passes is_no_space rest
+    all = ap (list_all is_no_space) (eu ∙ ap (λ m. take m rest) (sym at.0)) ∙ front_passes is_no_space rest
 
     space : get_or rest n 0 ≡ 32
     space = is_space-is (get_or rest n 0) (ap (λ m. is_space (get_or rest m 0)) (sym at.0) ∙ passes_at_first is_space rest 0 (omega (arith, at.0, at.1)))

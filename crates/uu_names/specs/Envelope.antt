@@ -44,11 +44,11 @@ abbrev pub from_line : List ℕ → DateTime → List ℕ → List ℕ
 from_line user local site =
     concat (codes "From " ∷ user ∷ codes " " ∷ date_text local ∷ codes " remote from " ∷ site ∷ (line_feed ∷ []) ∷ [])
 
--- what stands between that line and the message: a `>` before a message that begins with a `From `
--- line of its own
+-- what comes between that line and the message: a `>`, if the message itself begins with a `From `
+-- line
 abbrev pub quote_of : List ℕ → List ℕ
 quote_of message = if starts_with nat_eq message (codes "From ") then codes ">" else []
 
--- the envelope: the line, and the message with its own line quoted
+-- the envelope: the line, and the message with its own `From ` line quoted
 abbrev pub envelope_of : List ℕ → DateTime → List ℕ → List ℕ → List ℕ
 envelope_of user local site message = from_line user local site ++ quote_of message ++ message

@@ -1,4 +1,4 @@
--- What a call of this crate is refused with.
+-- Why a call of this crate fails.
 use Rattle.std.specs.Prelude.{◌≡◌, ℕ, Result, Err, ⊤}
 use Rattle.uu_names.specs.declared.fault.NameFault.{NameFault}
 use Rattle.uu_names.specs.declared.fault.NameFault.TheVariants.{BadGrade, BadName, BadPath, BadWord, NoEnvelope, TooLong, Memory}
@@ -13,12 +13,12 @@ fault_code NoEnvelope = 5
 fault_code TooLong = 6
 fault_code Memory = 7
 
--- the answer is the expected one, or want of memory took its place
+-- the answer is the expected one, or out of memory
 abbrev pub AnswersUnlessMemory : {V : Type 0} → Result V NameFault → Result V NameFault → Type 0
 AnswersUnlessMemory (Err Memory) expected = ⊤
 AnswersUnlessMemory answer expected = answer ≡ expected
 
--- the fact, unless the fault is want of memory
+-- the fact, unless the fault is out of memory
 abbrev pub UnlessMemory : NameFault → Type 0 → Type 0
 UnlessMemory Memory fact = ⊤
 UnlessMemory fault fact = fact

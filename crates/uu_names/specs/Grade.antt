@@ -17,6 +17,6 @@ lowest_grade = 61
 abbrev pub rank_of : ℕ → Option ℕ
 rank_of byte = position (λ grade. grade == byte) grade_bytes
 
--- the grade of a job for which none is named, `N` (this project's choice)
+-- the grade of a job whose line names none, `N` (this project's choice)
 abbrev pub default_grade : ℕ
 default_grade = byte "N"

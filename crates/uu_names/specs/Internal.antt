@@ -1,3 +1,3 @@
--- Words of contracts within the crate, which no public clause cites.
+-- Words that only contracts within the crate cite.
 pub mod Form
 pub mod NextLine

@@ -10,7 +10,7 @@ use Rattle.uu_names.specs.declared.fault.NameFault.TheVariants.{BadName, BadWord
 abbrev pub is_site_byte : ℕ → Bool
 is_site_byte b = is_ascii_alphanumeric b || b == byte "-" || b == byte "_" || b == byte "."
 
--- a byte of a word: 0x21 to 0x7E, which is any that ASCII shows but the space
+-- a byte of a word: 0x21 to 0x7E, the printable characters of ASCII without the space
 abbrev pub is_word_byte : ℕ → Bool
 is_word_byte b = is_ascii_graphic b
 
@@ -33,9 +33,9 @@ is_site_name text = has_form is_site_byte text && nat_le (length text) most_name
 abbrev pub is_word : List ℕ → Bool
 is_word text = has_form is_word_byte text && nat_le (length text) most_word
 
--- What a text is, where each byte has to pass and a limit stands on their number. The form of the
--- whole text is looked at before its length. A text of another form is refused at the first byte
--- that does not pass, the empty text at 0.
+-- What a text is, if each of its bytes has to pass and their number has a limit. The form of the
+-- whole text is checked before its length. A text of another form is refused at the first byte that
+-- doesn't pass, the empty text at 0.
 abbrev pub checked_text : (ℕ → Bool) → ℕ → (ℕ → NameFault) → List ℕ → Result (List ℕ) NameFault
 checked_text passes limit bad_at text =
     if has_form passes text then (if nat_le (length text) limit then Ok text else Err TooLong) else Err (bad_at (prefix_len passes text))

@@ -33,8 +33,8 @@ abbrev pub IsSpaced : List ℕ → Type 0
 IsSpaced text = (text ≡ []) ⊎ ((more : List ℕ) × (text ≡ byte " " ∷ more))
 
 -- A leading line: a marker, a user of one byte or more without a space, nothing or a space and any
--- bytes, and ` remote from ` and a site name. As that has no space, this ` remote from ` is the
--- last one of the line.
+-- bytes, and ` remote from ` and a site name. A site name has no space, so this ` remote from ` is
+-- the last one of the line.
 pub record IsLeadingLine (marker line : List ℕ) (sender : Sender) : Type 0 where
   pub between : List ℕ
   pub text : line ≡ marker ++ (sender.user ++ (between ++ (codes " remote from " ++ sender.site)))
@@ -61,7 +61,7 @@ abbrev pub next_marker : List Sender → List ℕ
 next_marker [] = first_marker
 next_marker (sender ∷ senders) = later_marker
 
--- the next line is no leading line
+-- the next line isn't a leading line
 abbrev pub Stops : List ℕ → List (List ℕ) → Type 0
 Stops marker [] = ⊤
 Stops marker (line ∷ lines) = (sender : Sender) → ¬ IsLeadingLine marker (content line) sender
@@ -75,7 +75,7 @@ pub record HasLeadingLines (text : List ℕ) (senders : List Sender) (body : ℕ
   pub longest : Stops (next_marker senders) others
   pub start : body ≡ length (concat leading)
 
--- the last sender's user, where there is a sender
+-- the last sender's user, if there is a sender
 abbrev pub last_user : Sender → List Sender → List ℕ
 last_user sender [] = sender.user
 last_user sender (next ∷ senders) = last_user next senders
@@ -93,7 +93,7 @@ pub record IsReturnPath (text path : List ℕ) (body : ℕ) : Type 0 where
   pub is_path : IsPathText path
   pub is_text : path ≡ way_back first others
 
--- there are leading lines, but the way back is no path
+-- there are leading lines, but the way back isn't a path
 pub record HasBadWay (text : List ℕ) (fault : NameFault) : Type 0 where
   pub first : Sender
   pub others : List Sender
@@ -101,7 +101,7 @@ pub record HasBadWay (text : List ℕ) (fault : NameFault) : Type 0 where
   pub lines : HasLeadingLines text (first ∷ others) body
   pub fault_of : IsPathFault (way_back first others) fault
 
--- what a text is refused with
+-- why a text has no return path
 abbrev pub IsReturnFault : List ℕ → NameFault → Type 0
 IsReturnFault text NoEnvelope = HasLeadingLines text [] 0
 IsReturnFault text (BadPath at) = HasBadWay text (BadPath at)

@@ -75,9 +75,10 @@ fn append(bytes: &mut Vec<u8>, pieces: &[&[u8]]) -> Result<(), AllocError>
 }
 
 /// The message as `rmail` hands it on: the line
-/// `From USER Www Mmm dd hh:mm:ss yyyy remote from SITE`, with the local date and time in the form
-/// of C's `ctime`, and then the message, with a `>` before it where it begins with `From `. The year is 1000 to 9999. Fails only by
-/// [`NameFault::Memory`]. (RFC 976; the date's form is this project's choice.)
+/// `From USER Www Mmm dd hh:mm:ss yyyy remote from SITE`, and then the message. The date is local,
+/// in the form of C's `ctime`. If the message begins with `From `, a `>` comes before it. The year
+/// is 1000 to 9999. The only error is [`NameFault::Memory`]. (RFC 976; the date's form is this
+/// project's choice.)
 pub fn envelope(
     alloc: Global,
     user: &Word,

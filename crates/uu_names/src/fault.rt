@@ -1,4 +1,4 @@
-// What a text is refused with.
+// What is wrong with a text.
 ghost use Rattle.std.specs.Prelude.{◌≡◌};
 ghost use Rattle.uu_names.specs.declared.fault.NameFault.TheVariants.{Memory};
 ghost use Rattle.uu_names.specs.Fault.{fault_code};
@@ -6,28 +6,30 @@ ghost use Rattle.uu_names.specs.Fault.{fault_code};
 use std::alloc::{AllocError, AllocFailed};
 use thiserror::Error;
 
-/// Why a call of this crate was refused. An offset counts bytes from 0.
+/// Why a call of this crate failed. Offsets count bytes from 0.
 #[derive(Clone, Copy, Debug, PartialEq, Eq, Error)]
 pub enum NameFault {
-    /// The byte is no digit and no letter of ASCII.
+    /// The byte isn't a digit or a letter of ASCII.
     #[error("no grade")]
     BadGrade,
-    /// The text is no site name: the first byte that is not allowed, or 0 for the empty text.
+    /// The text isn't a site name. The offset is that of the first byte that isn't allowed, or 0
+    /// for the empty text.
     #[error("no site name, at byte {0}")]
     BadName(usize),
-    /// The text is no bang path: how many of its bytes could begin one.
+    /// The text isn't a bang path. The number says how many of its bytes could begin one.
     #[error("no bang path, at byte {0}")]
     BadPath(usize),
-    /// The text is no word: the first byte that is not allowed, or 0 for the empty text.
+    /// The text isn't a word. The offset is that of the first byte that isn't allowed, or 0 for the
+    /// empty text.
     #[error("no word, at byte {0}")]
     BadWord(usize),
-    /// The message does not begin with an envelope line.
+    /// The message doesn't begin with an envelope line.
     #[error("no envelope")]
     NoEnvelope,
     /// The form is right, but the text has more bytes than the limit.
     #[error("too long")]
     TooLong,
-    /// There is no memory for the value.
+    /// Out of memory.
     #[error("out of memory")]
     Memory,
 }

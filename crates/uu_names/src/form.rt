@@ -34,7 +34,7 @@ impl Form {
         }
     }
 
-    // The fault of a text of another form, which it leaves at this byte.
+    // The fault of a text that isn't of the form, because of the byte at this offset.
     fn bad_at(self, at: usize) -> NameFault
         ensures { result ≡ bad_at self at }
     {

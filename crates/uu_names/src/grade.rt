@@ -8,9 +8,9 @@ use std::marker::Model;
 /// How many grades there are.
 const COUNT: u8 = 62;
 
-/// A grade: one digit or letter of ASCII, seen as its rank, 0 to 61 for `0` to `9`, then `A` to
-/// `Z`, then `a` to `z`. A lower rank is a higher grade, so that grades are ordered by rank, the
-/// most urgent first (Taylor UUCP 1.07 manual, on grades).
+/// A grade: one digit or letter of ASCII, seen as its rank. `0` to `9` come first, then `A` to `Z`,
+/// then `a` to `z`, with the ranks 0 to 61. A lower rank is a higher grade, so grades are ordered
+/// by rank, the most urgent first (Taylor UUCP 1.07 manual, on grades).
 #[derive(Clone, Copy, Debug, PartialEq, Eq, PartialOrd, Ord, Hash)]
 pub struct Grade {
     rank: u8,
@@ -27,7 +27,7 @@ impl Model for Grade {
 }
 
 impl Grade {
-    /// Reads a grade. Any byte but a digit or a letter is [`NameFault::BadGrade`].
+    /// Reads a grade. Any byte except a digit or a letter is [`NameFault::BadGrade`].
     pub fn parse(byte: u8) -> Result<Grade, NameFault>
         ensures { result ≡ ok_or (rank_of byte) NameFault.BadGrade }
     {
@@ -43,7 +43,7 @@ impl Grade {
         }
     }
 
-    /// The grade of this rank, if it is one of 0 to 61.
+    /// The grade of this rank, if the rank is at most 61.
     pub fn of_rank(rank: u8) -> Option<Grade>
         ensures { SomeIff result (rank < grade_count) rank }
     {

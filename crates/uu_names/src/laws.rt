@@ -1,4 +1,4 @@
-//! Laws of the definitions that the contracts cite, and what the types see to.
+//! Laws of the definitions that the contracts cite, and what each value of a type keeps.
 ghost use Rattle.std.specs.Prelude.{◌≡◌, ◌<◌, ℕ, List, IsTrue};
 ghost use Rattle.uu_names.specs.Grade.{grade_count};
 ghost use Rattle.uu_names.specs.Name.{is_site_name, is_word};
@@ -7,12 +7,13 @@ ghost use Rattle.uu_names.specs.ReturnPath.{Sender, HasLeadingLines, IsReturnPat
 
 use crate::{Grade, SiteName, Word};
 
-/// A path is the one cut of its text into sites and a local part, lengths left aside.
+/// If lengths are ignored, a text is cut into sites and a local part in one way only.
 pub fn a_text_has_one_path()
     ensures { (path other : BangPath) → IsTrue (has_path_form path) → IsTrue (has_path_form other) → path_text path ≡ path_text other → path ≡ other }
 {}
 
-/// A text has one run of leading lines, and it starts one body; so it has one way back at most.
+/// A text has one run of leading lines, and one body starts after it. So it has at most one way
+/// back.
 pub fn a_text_has_one_way_back()
     ensures run { (text : List ℕ) (senders others : List Sender) (body end : ℕ) → HasLeadingLines text senders body → HasLeadingLines text others end → (senders ≡ others) × (body ≡ end) }
     ensures path { (text path other : List ℕ) (body end : ℕ) → IsReturnPath text path body → IsReturnPath text other end → (path ≡ other) × (body ≡ end) }

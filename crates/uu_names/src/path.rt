@@ -13,8 +13,8 @@ use std::alloc::{AllocError, Global};
 use std::marker::Model;
 
 /// A bang path, seen as its bytes: one or more site names and then a local part, joined by `!`, at
-/// most 255 bytes in all. The local part has bytes from 0x21 to 0x7E without `!`, and is not read
-/// any further: `@` and `%` stay as written. (RFC 976 writes such addresses; the grammar and the
+/// most 255 bytes in all. The local part has bytes from 0x21 to 0x7E without `!`, and isn't read
+/// any further, so `@` and `%` stay as written. (RFC 976 writes such addresses; the grammar and the
 /// limits are this project's choice.)
 #[derive(Debug, Drop)]
 pub struct Path {
@@ -34,8 +34,8 @@ impl Model for Path {
 /// The most bytes of a path.
 const MAX_LEN: usize = 255;
 
-// The offset of the first `!` of a path's text, or why the bytes are none. The one scan keeps what
-// the part after the last `!` is so far.
+// The offset of the first `!` of a path's text, or why the bytes aren't a path. One scan does both:
+// it keeps what the part after the last `!` is so far.
 fn check(bytes: &[u8]) -> Result<usize, NameFault>
     ensures { MatchResult result
         (λ hop_len. IsPathText bytes.now × (hop_len ≡ position_or_len is_bang bytes.now))
@@ -75,9 +75,9 @@ fn check(bytes: &[u8]) -> Result<usize, NameFault>
 }
 
 impl Path {
-    /// Reads a bang path. A text that is none is [`NameFault::BadPath`] with the length of its
-    /// longest prefix that some path begins with, lengths left aside. Of the right form, but with a
-    /// site name of more than 63 bytes or more than 255 bytes in all, it is [`NameFault::TooLong`].
+    /// Reads a bang path. A text that isn't one is [`NameFault::BadPath`] with the length of its
+    /// longest prefix that some path of any length begins with. If it has the right form but a site
+    /// name of more than 63 bytes, or more than 255 bytes in all, it is [`NameFault::TooLong`].
     pub fn parse(alloc: Global, text: &str) -> Result<Path, NameFault>
         ensures text { IfOk result (λ path. path ≡ text.now) }
         ensures path { IsOk result → IsPathText text.now }
@@ -105,7 +105,7 @@ impl Path {
         ensures text { result.now ≡ self.now }
         ensures path { IsPathText self.now }
     {
-        // The clause `path` speaks of the text and of where its first site ends.
+        // The clause `path` is about the text and the end of its first site.
         let _ = &self.hop_len;
         self.text.as_str()
     }
@@ -119,7 +119,7 @@ impl Path {
         &text[..self.hop_len]
     }
 
-    /// What the first site is to do with the message: the text after the first `!`.
+    /// The text after the first `!`: what the first site does with the message.
     pub fn rest(&self) -> &str
         ensures text { result.now ≡ rest_of self.now }
         ensures word { IsTrue (is_word result.now) }

@@ -95,16 +95,18 @@ fn next_sender<'a>(marker: &[u8], text: &'a [u8]) -> Option<Found<'a>>
     })
 }
 
-/// Reads the way back from the lines that the sites on a message's way have put before it, and the
-/// offset at which its body starts. The first line begins with `From `, each other with `>From `;
-/// after that come a user without a space, nothing or a space and any bytes, and ` remote from `
-/// and a site name. A line ends with a line feed, before which one carriage return is dropped, or
-/// at the end of the message. The longest run of such lines from the top counts. The path is their
-/// sites in order and the user of the last. Without such a line the answer is
-/// [`NameFault::NoEnvelope`]; where the way back is no path it is the fault of [`Path::parse`],
-/// whose offset counts in the way back, its sites and its user joined by `!`, and not in the
-/// message. Linear in the leading lines and one line more. (RFC 976; which lines count is this
-/// project's choice.)
+/// Reads the way back of a message from its leading lines, which the sites on its way have put
+/// before it, and the offset at which its body starts.
+///
+/// The first line begins with `From `, each other with `>From `. After that come a user without a
+/// space, nothing or a space and any bytes, and ` remote from ` and a site name. A line ends with a
+/// line feed, perhaps after a carriage return, or at the end of the message. The longest run of
+/// such lines from the top counts. The path is their sites in order and the user of the last.
+///
+/// Without such a line the answer is [`NameFault::NoEnvelope`]. If the way back isn't a path, the
+/// answer is the fault of [`Path::parse`]. Its offset counts in the way back, which is the sites
+/// and the user joined by `!`, and not in the message. The time is linear in the leading lines and
+/// one line more. (RFC 976; which lines count is this project's choice.)
 pub fn return_path(alloc: Global, message: &[u8]) -> Result<(Path, usize), NameFault>
     ensures path { IfOk result (λ read. IsReturnPath message.now read.0 read.1) }
     ensures fault { IfErr result (IsReturnFault message.now) }

@@ -47,8 +47,9 @@ pub(crate) fn is_site_name(bytes: &[u8]) -> bool
 }
 
 impl SiteName {
-    /// Reads a site name. A text with another byte is [`NameFault::BadName`] at the first such
-    /// byte, the empty text at 0; then one of more than 63 bytes is [`NameFault::TooLong`].
+    /// Reads a site name. A text with any other byte is [`NameFault::BadName`] at the first such
+    /// byte; the empty text is, too, at 0. Otherwise a text of more than 63 bytes is
+    /// [`NameFault::TooLong`].
     pub fn parse(alloc: Global, text: &str) -> Result<SiteName, NameFault>
         ensures { AnswersUnlessMemory result (site_name_of text.now) }
     {

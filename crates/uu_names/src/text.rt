@@ -17,7 +17,7 @@ pub fn is_blank(byte: u8) -> bool
     byte == b' ' || byte == b'\t'
 }
 
-/// How many blanks stand at the front of the text.
+/// How many blanks the text begins with.
 pub fn blanks_len(text: &[u8]) -> usize
     ensures value { result ≡ prefix_len is_blank text.now }
     ensures bound { result ≤ length text.now }
@@ -25,7 +25,8 @@ pub fn blanks_len(text: &[u8]) -> usize
     text.iter().take_while(|byte| is_blank(**byte)).count()
 }
 
-/// How many bytes stand before the first byte of this value; all of them where there is none.
+/// How many bytes come before the first byte of this value, or all of them if there is no such
+/// byte.
 pub fn len_before(text: &[u8], end: u8) -> usize
     ensures value { result ≡ position_or_len (λ byte. byte == end) text.now }
     ensures bound { result ≤ length text.now }
@@ -44,8 +45,8 @@ pub(crate) fn strip_carriage_return(line: &[u8]) -> &[u8]
     }
 }
 
-/// The first line of a text of one byte or more, and the text behind it. A line ends with a line
-/// feed, before which one carriage return is dropped, or at the end of the text, where none is.
+/// The first line of a text of one byte or more, and the text after it. A line ends with a line
+/// feed, perhaps after a carriage return, or at the end of the text.
 pub fn first_line(text: &[u8]) -> (&[u8], &[u8])
     requires { 0 < length text.now }
     ensures lines { lines text.now ≡ result.0.now ∷ lines result.1.now }

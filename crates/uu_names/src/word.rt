@@ -14,7 +14,7 @@ use std::alloc::{AllocError, Global};
 use std::cmp::Ordering;
 use std::marker::Model;
 
-/// A word, seen as its bytes: 1 to 255 bytes from 0x21 to 0x7E, which are those that ASCII shows,
+/// A word, seen as its bytes: 1 to 255 bytes from 0x21 to 0x7E, the printable characters of ASCII
 /// without the space. Users, file names, commands, arguments and reasons are words. Words are
 /// ordered by their bytes. (The bytes and the limit are this project's choice.)
 #[derive(Debug, Drop)]
@@ -40,8 +40,9 @@ pub(crate) fn is_word_byte(byte: u8) -> bool
 }
 
 impl Word {
-    /// Reads a word. A text with another byte is [`NameFault::BadWord`] at the first such byte, the
-    /// empty text at 0; then one of more than 255 bytes is [`NameFault::TooLong`].
+    /// Reads a word. A text with any other byte is [`NameFault::BadWord`] at the first such byte;
+    /// the empty text is, too, at 0. Otherwise a text of more than 255 bytes is
+    /// [`NameFault::TooLong`].
     pub fn parse(alloc: Global, text: &str) -> Result<Word, NameFault>
         ensures { AnswersUnlessMemory result (word_of text.now) }
     {

@@ -102,6 +102,3 @@ answers_as {T} {U} P R a b p r h ok step = record {
 pub none_ok : {T U : Type 0} (r : Result T Error) (q : Result U Error) → IsErr r → IsOk r → IsOk q
 none_ok (Ok x) q fails ok = absurd (cc)
 none_ok (Err e) q fails ok = absurd (cc)
-
-pub none_known : {T E : Type 0} (P : T → Type 0) (r : Result T E) → IsErr r → IfOk r P
-none_known P r fails = none_answered P r fails

@@ -1,89 +1,37 @@
 -- What is put together from the rows of systems is these systems.
-use Rattle.std.proofs.Common.{◌≡◌, ℕ, zero, suc, ◌+◌, ◌<◌, ◌==◌, Bool, true, false, cond, Option, Some, None, List, [], ◌∷◌, ◌++◌, map, filter, take, drop, length, flat_map, refl, sym, ap, subst, ◌∙◌, arith, map-id}
+use Rattle.std.proofs.Common.{◌≡◌, ℕ, zero, suc, ◌+◌, ◌<◌, ◌==◌, Bool, true, false, cond, List, [], ◌∷◌, ◌++◌, map, filter, take, drop, length, flat_map, refl, sym, ap, subst, ◌∙◌, arith, map-id}
 use Rattle.std.specs.Prelude.{◌&&◌}
-use Rattle.std.specs.List.{AllByRecursion, prefix_len}
-use Rattle.std.specs.Cmp.Lexicographic.{bytes_decides}
+use Rattle.std.specs.List.{AllByRecursion}
 use Rattle.std.proofs.lemmas.Bool.Decides.{nat_tests}
 use Rattle.std.proofs.lemmas.List.{map-append}
 use Rattle.std.proofs.lemmas.Grind.{flat_map-append}
-use Rattle.std.proofs.lemmas.Cmp.{nat_list_cmp_total}
-use Rattle.std.proofs.Common.{Less}
-use Rattle.std.specs.Ordering.{ordering_reverse}
+use Rattle.std.proofs.lemmas.List.Elements.{recursion_from_All, filter-append}
+use Rattle.std.proofs.Math.Seq.{take-append_seam, drop-append_seam}
 use Rattle.sqlite.specs.Tree.{IsAscending}
 use Rattle.sqlite_keyed.proofs.ListLemmas.{map-map}
+use Rattle.uu_names.proofs.Basics.{later_other, text_to, all_append}
+use Rattle.uu_check.proofs.OneState.{outcome_back, outcome_from}
+use Rattle.uu_check.proofs.Walks.{own_front}
 use Rattle.uu_times.specs.declared.system.Line.{Line}
 use Rattle.uu_times.specs.System.{AreWithinLimits}
 use Rattle.uu_core.specs.declared.system.SystemRow.{SystemRow}
 use Rattle.uu_core.specs.declared.system.CallState.{CallState}
-use Rattle.uu_core.specs.declared.system.Outcome.{Outcome}
-use Rattle.uu_core.specs.declared.system.Outcome.TheVariants.{Never, Failed, Done}
 use Rattle.uu_core.specs.State.{ComesBefore, IsLine, IsDefinition, same_text, is_system}
 use Rattle.uu_tables.specs.declared.rows.SystemColumns.{SystemColumns}
 use Rattle.uu_tables.specs.declared.rows.LineColumns.{LineColumns}
 use Rattle.uu_tables.specs.declared.rows.RangeColumns.{RangeColumns}
 use Rattle.uu_tables.specs.declared.rows.WaitColumns.{WaitColumns}
-use Rattle.uu_tables.specs.Tables.{PlacedLine, system_columns, call_columns, placed, placed_from, line_columns, range_columns, ranges_of, waits_from, waits_of, outcome_number, reason_of}
+use Rattle.uu_tables.specs.Tables.{PlacedLine, system_columns, call_columns, placed, placed_from, line_columns, range_columns, ranges_of, waits_from, waits_of}
 use Rattle.uu_questions.specs.Assembly.{is_line_of, is_range_of, is_wait_of, is_range_of_line, own, others, range_of, lines_from, wait_from, lines_and_wait, lines_and_wait_of_each, HaveWindows, MakeSystems}
-use Rattle.uu_rows.proofs.InOrder.{by_recursion}
-
--- ---- texts
-
-pub text_to : (a : List ℕ) → same_text a a ≡ true
-text_to a = (bytes_decides a a).1 refl
-
-pub text_from : (a b : List ℕ) → same_text a b ≡ true → a ≡ b
-text_from a b h = (bytes_decides a b).0 h
-
-pub not_true : (t : Bool) → (t ≡ true → ⊥) → t ≡ false
-not_true false h = refl
-not_true true h = absurd (h refl)
-
-apart : (a b : List ℕ) → ComesBefore a b → a ≡ b → ⊥
-apart a b h e = none (subst (ComesBefore a) (sym e) h)
-  where
-    turned : Less ≡ ordering_reverse Less → ⊥
-    turned q = cc
-
-    none : ComesBefore a a → ⊥
-    none k = turned (sym k ∙ nat_list_cmp_total.antisymm a a ∙ ap ordering_reverse k)
-
--- a name that comes later is another
-later_other : (a b : List ℕ) → ComesBefore a b → same_text b a ≡ false
-later_other a b h = not_true (same_text b a) (λ e. apart a b h (sym (text_from b a e)))
 
 -- ---- the front of a list
 
-front : {C : Type 0} (p : C → Bool) (xs rest : List C) → AllByRecursion (λ c. p c ≡ true) xs → AllByRecursion (λ c. p c ≡ false) rest → prefix_len p (xs ++ rest) ≡ length xs
-front p [] [] all none = refl
-front p [] (c ∷ rest) all none = rw none.0 refl
-front p (c ∷ xs) rest all none = rw (all.0, front p xs rest all.1 none) (omega arith)
-
-take_front : {X : Type 0} (xs ys : List X) → take (length xs) (xs ++ ys) ≡ xs
-take_front [] ys = refl
-take_front (x ∷ xs) ys = ap (λ l. x ∷ l) (take_front xs ys)
-
-drop_front : {X : Type 0} (xs ys : List X) → drop (length xs) (xs ++ ys) ≡ ys
-drop_front [] ys = refl
-drop_front (x ∷ xs) ys = drop_front xs ys
-
 module _ {P C : Type 0} (owns : P → C → Bool) (owner : P) (xs rest : List C) (all : AllByRecursion (λ c. owns owner c ≡ true) xs) (none : AllByRecursion (λ c. owns owner c ≡ false) rest) where
   own_is : own owns owner (xs ++ rest) ≡ xs
-  own_is = ap (λ n. take n (xs ++ rest)) (front (owns owner) xs rest all none) ∙ take_front xs rest
+  own_is = ap (λ n. take n (xs ++ rest)) (own_front (owns owner) xs rest all none) ∙ take-append_seam xs rest
 
   others_are : others owns owner (xs ++ rest) ≡ rest
-  others_are = ap (λ n. drop n (xs ++ rest)) (front (owns owner) xs rest all none) ∙ drop_front xs rest
-
-all_append : {X : Type 0} (P : X → Type 0) (xs ys : List X) → AllByRecursion P xs → AllByRecursion P ys → AllByRecursion P (xs ++ ys)
-all_append P [] ys h k = k
-all_append P (x ∷ xs) ys h k = (h.0, all_append P xs ys h.1 k)
-
-all_flat : {X C : Type 0} (P : C → Type 0) (f : X → List C) (xs : List X) → AllByRecursion (λ x. AllByRecursion P (f x)) xs → AllByRecursion P (flat_map f xs)
-all_flat P f [] h = tt
-all_flat P f (x ∷ xs) h = all_append P (f x) (flat_map f xs) h.0 (all_flat P f xs h.1)
-
-all_mapped : {X Y : Type 0} (P : Y → Type 0) (f : X → Y) (xs : List X) → AllByRecursion (λ x. P (f x)) xs → AllByRecursion P (map f xs)
-all_mapped P f [] h = tt
-all_mapped P f (x ∷ xs) h = (h.0, all_mapped P f xs h.1)
+  others_are = ap (λ n. drop n (xs ++ rest)) (own_front (owns owner) xs rest all none) ∙ drop-append_seam xs rest
 
 -- ---- the lines of a system
 
@@ -132,16 +80,6 @@ wait_passes p t name zero h = tt
 wait_passes p t name (suc n) h = (h _ refl, tt)
 
 -- ---- systems
-
-abbrev outcome_from : ℕ → Option (List ℕ) → Outcome
-outcome_from number (Some why) = Failed why
-outcome_from zero None = Never
-outcome_from (suc number) None = Done
-
-outcome_back : (o : Outcome) → outcome_from (outcome_number o) (reason_of o) ≡ o
-outcome_back Never = refl
-outcome_back (Failed why) = refl
-outcome_back Done = refl
 
 same_call : (x y : CallState) → call_columns x ≡ call_columns y → x ≡ y
 same_call x y h =
@@ -209,7 +147,7 @@ other_waits row (r ∷ rows) h =
 abbrev Rises : List SystemRow → Type 0
 Rises rows = IsAscending (λ (a b : SystemRow). ComesBefore a.def.name b.def.name) rows
 
--- the rows of the first system, and those behind them
+-- the rows of the first system, and those after them
 module _ (row : SystemRow) (rows : List SystemRow) (up : AllByRecursion (λ (r : SystemRow). ComesBefore row.def.name r.def.name) rows) where
   own_lines : own is_line_of (system_columns row) (lines_table (row ∷ rows)) ≡ map line_columns (placed row)
   own_lines =
@@ -262,7 +200,7 @@ rows_make [] good up = tt
 rows_make (row ∷ rows) good up =
     let theirs = sym (first_of_each row rows up.0) in (
       record {
-        windows = subst (λ l. HaveWindows l.0) theirs (have_windows row.def.lines (by_recursion IsLine row.def.lines good.0.lines));
+        windows = subst (λ l. HaveWindows l.0) theirs (have_windows row.def.lines (recursion_from_All IsLine row.def.lines good.0.lines));
         limits = subst (λ l. AreWithinLimits l.0 row.def.max_retries l.1) theirs good.0.limits;
         outcome = row.call.outcome;
         call = record { number = refl; why = refl };
@@ -274,15 +212,11 @@ rows_make (row ∷ rows) good up =
 
 -- ---- one system
 
-filter_all_or_none : {C : Type 0} (p : C → Bool) (t : Bool) (xs : List C) → AllByRecursion (λ c. p c ≡ t) xs → filter p xs ≡ cond t xs []
+pub filter_all_or_none : {C : Type 0} (p : C → Bool) (t : Bool) (xs : List C) → AllByRecursion (λ c. p c ≡ t) xs → filter p xs ≡ cond t xs []
 filter_all_or_none p true [] h = refl
 filter_all_or_none p false [] h = refl
 filter_all_or_none p true (x ∷ xs) h = rw h.0 (ap (λ l. x ∷ l) (filter_all_or_none p true xs h.1))
 filter_all_or_none p false (x ∷ xs) h = rw h.0 (filter_all_or_none p false xs h.1)
-
-filter_append : {C : Type 0} (p : C → Bool) (xs ys : List C) → filter p (xs ++ ys) ≡ filter p xs ++ filter p ys
-filter_append p [] ys = refl
-filter_append p (x ∷ xs) ys = elim (p x) as (λ b. cond b (x ∷ filter p (xs ++ ys)) (filter p (xs ++ ys)) ≡ cond b (x ∷ filter p xs) (filter p xs) ++ filter p ys) [ true ↦ ap (λ l. x ∷ l) (filter_append p xs ys) | false ↦ filter_append p xs ys ]
 
 -- the lines of the system of a name are those of the systems of that name
 pub lines_filtered : (name : List ℕ) (rows : List SystemRow) → filter (λ (l : LineColumns). same_text l.system name) (lines_table rows) ≡ lines_table (filter (is_system name) rows)
@@ -290,7 +224,7 @@ lines_filtered name [] = refl
 lines_filtered name (row ∷ rows) =
     let p = λ (l : LineColumns). same_text l.system name in
     let here = filter_all_or_none p (is_system name row) (map line_columns (placed row)) (lines_pass p (is_system name row) row.def.name 0 row.def.lines (λ l e. ap (λ n. same_text n name) e)) in
-    ap (filter p) (lines_split row rows) ∙ filter_append p (map line_columns (placed row)) (lines_table rows) ∙ (λ i. here i ++ lines_filtered name rows i)
+    ap (filter p) (lines_split row rows) ∙ filter-append p (map line_columns (placed row)) (lines_table rows) ∙ (λ i. here i ++ lines_filtered name rows i)
     ∙ elim (is_system name row) as (λ b. cond b (map line_columns (placed row)) [] ++ lines_table (filter (is_system name) rows) ≡ lines_table (cond b (row ∷ filter (is_system name) rows) (filter (is_system name) rows))) [ true ↦ sym (lines_split row (filter (is_system name) rows)) | false ↦ refl ]
 
 pub ranges_filtered : (name : List ℕ) (rows : List SystemRow) → filter (λ (r : RangeColumns). same_text r.system name) (ranges_table rows) ≡ ranges_table (filter (is_system name) rows)
@@ -298,7 +232,7 @@ ranges_filtered name [] = refl
 ranges_filtered name (row ∷ rows) =
     let p = λ (r : RangeColumns). same_text r.system name in
     let here = filter_all_or_none p (is_system name row) (flat_map ranges_of (placed row)) (all_ranges_pass p (is_system name row) row.def.name 0 row.def.lines (λ l e. ap (λ n. same_text n name) e)) in
-    ap (filter p) (ranges_split row rows) ∙ filter_append p (flat_map ranges_of (placed row)) (ranges_table rows) ∙ (λ i. here i ++ ranges_filtered name rows i)
+    ap (filter p) (ranges_split row rows) ∙ filter-append p (flat_map ranges_of (placed row)) (ranges_table rows) ∙ (λ i. here i ++ ranges_filtered name rows i)
     ∙ elim (is_system name row) as (λ b. cond b (flat_map ranges_of (placed row)) [] ++ ranges_table (filter (is_system name) rows) ≡ ranges_table (cond b (row ∷ filter (is_system name) rows) (filter (is_system name) rows))) [ true ↦ sym (ranges_split row (filter (is_system name) rows)) | false ↦ refl ]
 
 pub waits_filtered : (name : List ℕ) (rows : List SystemRow) → filter (λ (w : WaitColumns). same_text w.system name) (waits_table rows) ≡ waits_table (filter (is_system name) rows)
@@ -306,5 +240,5 @@ waits_filtered name [] = refl
 waits_filtered name (row ∷ rows) =
     let p = λ (w : WaitColumns). same_text w.system name in
     let here = filter_all_or_none p (is_system name row) (waits_of row) (wait_passes p (is_system name row) row.def.name row.def.success_wait (λ w e. ap (λ n. same_text n name) e)) in
-    filter_append p (waits_of row) (waits_table rows) ∙ (λ i. here i ++ waits_filtered name rows i)
+    filter-append p (waits_of row) (waits_table rows) ∙ (λ i. here i ++ waits_filtered name rows i)
     ∙ elim (is_system name row) as (λ b. cond b (waits_of row) [] ++ waits_table (filter (is_system name) rows) ≡ waits_table (cond b (row ∷ filter (is_system name) rows) (filter (is_system name) rows))) [ true ↦ refl | false ↦ refl ]

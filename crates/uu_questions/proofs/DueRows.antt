@@ -8,6 +8,7 @@ use Rattle.std.proofs.lemmas.Bool.Decides.{nat_tests}
 use Rattle.std.proofs.lemmas.List.{take_more, length-append, get_or_append_left}
 use Rattle.std.proofs.lemmas.List.Kept.{AllPairs-cons}
 use Rattle.std.proofs.lemmas.List.Sorted.{IsPermutation-sym}
+use Rattle.std.proofs.Math.Bool.{or-false}
 use Rattle.sqlite.specs.Order.{Row}
 use Rattle.sqlite.specs.Tree.{IsAscending}
 use Rattle.sqlite.specs.State as db
@@ -16,6 +17,7 @@ use Rattle.sqlite_typed.proofs.TestLemmas.{then_key, last_key}
 use Rattle.sqlite_keyed.specs.Lists.{sort_by, insert_sorted}
 use Rattle.sqlite_keyed.proofs.ListLemmas.{ascending_weaker, ascending-filter}
 use Rattle.sqlite_keyed.proofs.SortLemmas.{IsPermutation-sort_by}
+use Rattle.uu_names.proofs.Basics.{any_push}
 use Rattle.uu_schema.proofs.Answers.{answer_of}
 use Rattle.uu_schema.proofs.Sorted.{rises-insert_sorted}
 use Rattle.uu_times.specs.declared.moment.Moment.{Moment}
@@ -33,7 +35,7 @@ use Rattle.uu_questions.specs.Answers.{IsOf}
 use Rattle.uu_questions.specs.Listing.{by_rank, fits, listed}
 use Rattle.uu_questions.specs.Dues.{IsLeft, TakesRow, due_cells}
 use Rattle.uu_questions.specs.Walks.{Took}
-use Rattle.uu_questions.specs.Texts.{due_jobs_text}
+use Rattle.uu_questions.proofs.Texts.{due_jobs_text}
 use Rattle.uu_rows.proofs.Meanings.{at_places, by_places}
 use Rattle.uu_questions.proofs.Meanings.{due_jobs_means}
 use Rattle.uu_rows.proofs.Typed.{typed_sorted}
@@ -42,18 +44,6 @@ use Rattle.uu_rows.proofs.Comparing.{numbered, int_cmp-nat}
 use Rattle.uu_questions.proofs.Listed.{apart, numbers_rise}
 
 -- ---- one more of a list
-
-pub or-false : (b : Bool) → b || false ≡ b
-or-false true = refl
-or-false false = refl
-
-pub any_push : {X : Type 0} (p : X → Bool) (xs : List X) (x : X) → list_any p (xs ++ x ∷ []) ≡ list_any p xs || p x
-any_push p [] x = or-false (p x)
-any_push p (y ∷ xs) x = ap (λ b. p y || b) (any_push p xs x) ∙ or-assoc (p y) _ _
-  where
-    or-assoc : (a b c : Bool) → a || (b || c) ≡ (a || b) || c
-    or-assoc true b c = refl
-    or-assoc false b c = refl
 
 pub any_more : {X : Type 0} (p : X → Bool) (xs : List X) (i : ℕ) (d : X) → i < length xs → list_any p (take (i + 1) xs) ≡ list_any p (take i xs) || p (get_or xs i d)
 any_more p xs i d h = ap (list_any p) (take_more xs i d h) ∙ any_push p (take i xs) (get_or xs i d)

@@ -1,5 +1,5 @@
 -- The jobs whose numbers are named, looked for one after another.
-use Rattle.std.proofs.Common.{◌≡◌, ℕ, zero, suc, ◌+◌, ◌<◌, ◌==◌, Bool, true, false, List, [], ◌∷◌, ◌++◌, length, map, get_or, take, flat_map, Contains, Option, Some, None, refl, ap, sym, subst, ◌∙◌, inl, inr, ◌⊎◌, arith, append-nil}
+use Rattle.std.proofs.Common.{◌≡◌, ℕ, ◌+◌, ◌<◌, ◌==◌, Bool, true, false, List, [], ◌∷◌, ◌++◌, length, map, get_or, take, flat_map, Contains, Option, Some, None, refl, ap, sym, subst, ◌∙◌, inl, inr, arith, append-nil}
 use Rattle.std.specs.Prelude.{find}
 use Rattle.std.specs.List.{AllByRecursion}
 use Rattle.std.proofs.lemmas.Bool.{cases_Bool}
@@ -11,6 +11,7 @@ use Rattle.uu_core.specs.declared.job.JobHead.{JobHead}
 use Rattle.uu_core.specs.State.{State, Job, IsWellFormed, head_of}
 use Rattle.uu_core.specs.Laws.{AreFound, is_named}
 use Rattle.sqlite_keyed.proofs.ListLemmas.{ascending-map}
+use Rattle.uu_names.proofs.Basics.{first_or_later, first_of, later_of, none_in}
 use Rattle.uu_rows.proofs.InOrder.{ascending_pairs}
 
 abbrev pub has_number : ℕ → JobHead → Bool
@@ -23,24 +24,6 @@ one_or_none (Some x) = x ∷ []
 -- the jobs found, number by number
 abbrev pub found_in : List JobHead → List ℕ → List JobHead
 found_in jobs numbers = flat_map (λ n. one_or_none (find (has_number n) jobs)) numbers
-
--- ---- elements
-
-first_of : {X : Type 0} (x : X) (xs : List X) → Contains (x ∷ xs) x
-first_of x xs = (0, omega arith, refl)
-
-later_of : {X : Type 0} (x y : X) (xs : List X) → Contains xs y → Contains (x ∷ xs) y
-later_of x y xs h = (suc h.0, omega (arith, h.1), h.2)
-
-first_or_later : {X : Type 0} (x y : X) (xs : List X) → Contains (x ∷ xs) y → (x ≡ y) ⊎ Contains xs y
-first_or_later x y xs h = by-place h.0 h.1 h.2
-  where
-    by-place : (k : ℕ) → k < length (x ∷ xs) → get_or (x ∷ xs) k y ≡ y → (x ≡ y) ⊎ Contains xs y
-    by-place zero l e = inl e
-    by-place (suc k) l e = inr (k, omega arith, e)
-
-none_in : {X : Type 0} (y : X) → Contains [] y → ⊥
-none_in y h = omega (arith, h.1)
 
 -- ---- one number
 

@@ -1,55 +1,26 @@
 -- The bytes of a job are those of its pieces.
-use Rattle.std.proofs.Common.{◌≡◌, ℕ, zero, suc, ◌+◌, ◌*◌, ◌<◌, ◌≤◌, ◌==◌, List, [], ◌∷◌, ◌++◌, Bool, true, false, cond, filter, flat_map, length, take, drop, refl, sym, ap, subst, ◌∙◌, Option, Some, None, option_map, Vec, arith, append-nil}
+use Rattle.std.proofs.Common.{◌≡◌, ℕ, zero, suc, ◌+◌, ◌<◌, ◌==◌, List, [], ◌∷◌, ◌++◌, true, false, cond, filter, flat_map, length, drop, refl, sym, ap, subst, ◌∙◌, Option, Some, None, option_map, Vec, arith, append-nil}
 use Rattle.std.specs.Prelude.{find}
 use Rattle.std.specs.declared.alloc.Global.{Global}
 use Rattle.std.specs.List.{AllByRecursion}
 use Rattle.std.proofs.lemmas.Bool.{cases_Bool}
 use Rattle.std.proofs.lemmas.Bool.Decides.{nat_tests}
-use Rattle.std.proofs.lemmas.List.{length-drop}
 use Rattle.std.proofs.Common.{inl, inr}
+use Rattle.std.proofs.lemmas.List.Elements.{filter-append}
 use Rattle.sqlite.specs.Tree.{IsAscending}
 use Rattle.sqlite_keyed.proofs.ListLemmas.{filter_none, all_weaker}
+use Rattle.uu_check.proofs.Rising.{as_pieces}
+use Rattle.uu_check.proofs.OneState.{bytes_back}
+use Rattle.uu_questions.proofs.Assembled.{filter_all_or_none}
 use Rattle.uu_core.specs.declared.job.JobHead.{JobHead}
 use Rattle.uu_core.specs.State.{State, Job, IsWellFormed, head_of, job_at, is_job}
-use Rattle.uu_tables.specs.Tables.{Piece, tables_of, pieces_of, piece_count}
-use Rattle.uu_check.proofs.Cuts.{pieces_from}
+use Rattle.uu_tables.specs.Tables.{tables_of, pieces_of, piece_count}
+use Rattle.uu_check.proofs.Cuts.{pieces_from, bytes_of}
 use Rattle.uu_questions.specs.Listing.{handed_out, whole}
 use Rattle.uu_rows.proofs.InOrder.{ascending_pairs}
 use Rattle.uu_questions.proofs.Listed.{is_piece_of}
-use Rattle.uu_questions.proofs.Rising.{as_pieces}
-
-abbrev bytes_of : List Piece → List ℕ
-bytes_of ps = flat_map (λ (p : Piece). p.bytes) ps
-
--- ---- pieces together
-
-take_drop : (n : ℕ) (xs : List ℕ) → take n xs ++ drop n xs ≡ xs
-take_drop zero xs = refl
-take_drop (suc n) [] = refl
-take_drop (suc n) (x ∷ xs) = ap (λ l. x ∷ l) (take_drop n xs)
-
-none_left : (xs : List ℕ) → length xs ≤ 0 → xs ≡ []
-none_left [] h = refl
-none_left (x ∷ xs) h = absurd (omega (arith, h))
-
-together : (job place n : ℕ) (bytes : List ℕ) → length bytes ≤ n * 16384 → bytes_of (pieces_from job place n bytes) ≡ bytes
-together job place zero bytes h = sym (none_left bytes (omega (arith, h)))
-together job place (suc n) bytes h = ap (λ l. take 16384 bytes ++ l) (together job (place + 1) n (drop 16384 bytes) (let less = length-drop 16384 bytes in omega (arith, h, less))) ∙ take_drop 16384 bytes
-
-pub pieces_together : (j : Job) → bytes_of (pieces_of j) ≡ j.bytes
-pieces_together j = ap bytes_of (as_pieces j) ∙ together j.number 0 (piece_count (length j.bytes)) j.bytes (omega arith)
 
 -- ---- those of one job
-
-keep_all : {C : Type 0} (p : C → Bool) (t : Bool) (xs : List C) → AllByRecursion (λ c. p c ≡ t) xs → filter p xs ≡ cond t xs []
-keep_all p true [] h = refl
-keep_all p false [] h = refl
-keep_all p true (x ∷ xs) h = rw h.0 (ap (λ l. x ∷ l) (keep_all p true xs h.1))
-keep_all p false (x ∷ xs) h = rw h.0 (keep_all p false xs h.1)
-
-filter_append : {C : Type 0} (p : C → Bool) (xs ys : List C) → filter p (xs ++ ys) ≡ filter p xs ++ filter p ys
-filter_append p [] ys = refl
-filter_append p (x ∷ xs) ys = elim (p x) as (λ b. cond b (x ∷ filter p (xs ++ ys)) (filter p (xs ++ ys)) ≡ cond b (x ∷ filter p xs) (filter p xs) ++ filter p ys) [ true ↦ ap (λ l. x ∷ l) (filter_append p xs ys) | false ↦ filter_append p xs ys ]
 
 own_from : (n job place count : ℕ) (bytes : List ℕ) → AllByRecursion (λ p. is_piece_of n p ≡ (job == n)) (pieces_from job place count bytes)
 own_from n job place zero bytes = tt
@@ -61,10 +32,10 @@ own_pieces n j = subst (AllByRecursion (λ p. is_piece_of n p ≡ is_job n j)) (
 of_job : (n : ℕ) (jobs : List Job) → filter (is_piece_of n) (flat_map pieces_of jobs) ≡ flat_map pieces_of (filter (is_job n) jobs)
 of_job n [] = refl
 of_job n (j ∷ jobs) =
-    filter_append (is_piece_of n) (pieces_of j) (flat_map pieces_of jobs) ∙ (λ i. keep_all (is_piece_of n) (is_job n j) (pieces_of j) (own_pieces n j) i ++ of_job n jobs i)
+    filter-append (is_piece_of n) (pieces_of j) (flat_map pieces_of jobs) ∙ (λ i. filter_all_or_none (is_piece_of n) (is_job n j) (pieces_of j) (own_pieces n j) i ++ of_job n jobs i)
     ∙ elim (is_job n j) as (λ b. cond b (pieces_of j) [] ++ flat_map pieces_of (filter (is_job n) jobs) ≡ flat_map pieces_of (cond b (j ∷ filter (is_job n) jobs) (filter (is_job n) jobs))) [ true ↦ refl | false ↦ refl ]
 
--- where numbers rise, a number is that of one job
+-- if numbers rise, a number is that of one job
 is_other : (n : ℕ) (x y : Job) → x.number ≡ n → x.number < y.number → is_job n y ≡ false
 is_other n x y same less = grind (arith, nat_tests)
 
@@ -81,7 +52,7 @@ alone n (x ∷ jobs) j up h = elim (cases_Bool (is_job n x)) [
 pub job_together : (s : State) (n : ℕ) (j : Job) → IsWellFormed s → job_at s n ≡ Some j → bytes_of (filter (is_piece_of n) (tables_of s).pieces) ≡ j.bytes
 job_together s n j good is =
     let one = alone n s.jobs j (ascending_pairs (λ (a b : Job). a.number < b.number) s.jobs good.rising) is in
-    ap bytes_of (of_job n s.jobs ∙ ap (flat_map pieces_of) one ∙ append-nil (pieces_of j)) ∙ pieces_together j
+    ap bytes_of (of_job n s.jobs ∙ ap (flat_map pieces_of) one ∙ append-nil (pieces_of j)) ∙ bytes_back j
 
 -- ---- a job as it is handed out
 

@@ -1,8 +1,8 @@
 -- What the answers of the questions before a command say of the state.
-use Rattle.std.proofs.Common.{◌≡◌, ℕ, pos, List, [], ◌∷◌, Bool, true, false, not, ◌||◌, ◌==◌, nat_eq, length, map, filter, refl, ap, subst, ◌∙◌, arith, Less, ◌<◌, Option, option_map, slice_get, take}
+use Rattle.std.proofs.Common.{◌≡◌, ℕ, pos, List, [], ◌∷◌, Bool, true, false, not, ◌==◌, nat_eq, length, map, filter, refl, ap, subst, ◌∙◌, arith, Less, ◌<◌, Option, option_map, slice_get, take}
 use Rattle.std.specs.Prelude.{find, IfSome}
 use Rattle.std.proofs.lemmas.Option.{slice_get-map}
-use Rattle.std.specs.List.{list_any, list_all}
+use Rattle.std.specs.List.{list_all}
 use Rattle.std.specs.List.Sorted.{IsPermutation}
 use Rattle.std.proofs.lemmas.Bool.Decides.{nat_tests}
 use Rattle.std.proofs.lemmas.List.{length-map}
@@ -20,7 +20,8 @@ use Rattle.sqlite.proofs.Callers.{one_permutation}
 use Rattle.sqlite_keyed.proofs.ListLemmas.{none_counted, slice_get-filter, ascending_weaker, ascending-filter, ascending-map}
 use Rattle.sqlite_typed.proofs.TestLemmas.{at_ints, at_texts, last_term, last_key}
 use Rattle.sqlite_value.proofs.OrderLemmas.{value_cmp-Int}
-use Rattle.uu_schema.specs.Layout.{where_is}
+use Rattle.uu_names.proofs.Basics.{any_mapped}
+use Rattle.uu_schema.proofs.Terms.{where_is}
 use Rattle.uu_schema.proofs.Asks.{ordered}
 use Rattle.uu_schema.proofs.Answers.{answer_of, answer_moved}
 use Rattle.uu_core.specs.declared.job.JobHead.{JobHead}
@@ -33,7 +34,7 @@ use Rattle.uu_schema.specs.Made.{spool_row}
 use Rattle.uu_schema.specs.Held.{system_places, job_places}
 use Rattle.uu_schema.specs.Cells.{system_cells, job_cells}
 use Rattle.uu_questions.specs.Answers.{IsOf}
-use Rattle.uu_questions.specs.Texts.{next_text, known_text, waiting_text, head_text}
+use Rattle.uu_questions.proofs.Texts.{next_text, known_text, waiting_text, head_text}
 use Rattle.uu_rows.proofs.Meanings.{at_places, by_places, is_first}
 use Rattle.uu_questions.proofs.Meanings.{next_means, known_means, waiting_means, head_means}
 use Rattle.uu_rows.proofs.Comparing.{beside, numbered, int_cmp-nat, below_is, int_eq-nat}
@@ -58,10 +59,6 @@ next_rows old new s rows of h =
     one_permutation _ rows (subst (λ l. IsPermutation l rows) (ap shown of.holds.spool ∙ one) moved)
 
 -- ---- a system
-
-pub any_mapped : {A B : Type 0} (p : B → Bool) (f : A → B) (xs : List A) → list_any p (map f xs) ≡ list_any (λ x. p (f x)) xs
-any_mapped p f [] = refl
-any_mapped p f (x ∷ xs) = ap (λ b. p (f x) || b) (any_mapped p f xs)
 
 abbrev pub has_name : List ℕ → SystemColumns → Bool
 has_name name row = same_text row.name name

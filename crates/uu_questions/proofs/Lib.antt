@@ -1,3 +1,4 @@
+mod Texts
 pub mod Meanings
 pub mod Answering
 pub mod Asking
@@ -18,3 +19,6 @@ pub mod OpenLines
 pub mod OpenRows
 pub mod DueRows
 pub mod LinkRows
+pub mod TakenRows
+pub mod WaitingJobs
+pub mod Offers

@@ -1,5 +1,5 @@
 -- What the questions on a link answer of a state.
-use Rattle.std.proofs.Common.{◌≡◌, ℕ, zero, suc, pos, List, [], ◌∷◌, ◌++◌, ◌==◌, Bool, true, false, cond, map, filter, refl, sym, ap, ◌∙◌, Option, Some, None, option_map, slice_get, unwrap_or}
+use Rattle.std.proofs.Common.{◌≡◌, ℕ, zero, suc, pos, List, [], ◌∷◌, ◌++◌, ◌==◌, Bool, true, false, cond, filter, refl, sym, ap, ◌∙◌, Option, Some, None, option_map, slice_get, unwrap_or}
 use Rattle.std.specs.Prelude.{◌&&◌, find, IfSome}
 use Rattle.std.specs.List.{AllByRecursion, flat_map}
 use Rattle.std.proofs.lemmas.Map.Text.{is_eq-slice_cmp}
@@ -11,7 +11,9 @@ use Rattle.sqlite.specs.State as db
 use Rattle.sqlite_sql.specs.declared.ops.CompareOp.TheVariants.{Eq}
 use Rattle.sqlite_typed.proofs.TestLemmas.{at_ints, at_texts, then_term, last_term}
 use Rattle.sqlite_keyed.proofs.ListLemmas.{slice_get-filter}
-use Rattle.uu_schema.specs.Layout.{where_is}
+use Rattle.uu_names.proofs.Basics.{later_other, text_from, find_same}
+use Rattle.uu_check.proofs.Lists.{all_flat_of}
+use Rattle.uu_schema.proofs.Terms.{where_is}
 use Rattle.uu_core.specs.declared.custody.Taken.{Taken}
 use Rattle.uu_core.specs.State.{State, Link, ComesBefore, is_link, is_taken, new_link, link_of, taken_at, same_text}
 use Rattle.uu_tables.specs.declared.rows.LinkColumns.{LinkColumns}
@@ -22,11 +24,9 @@ use Rattle.uu_tables.proofs.SystemLemmas.{each_link}
 use Rattle.uu_tables.proofs.RowLemmas.{each_made}
 use Rattle.uu_schema.specs.Cells.{link_cells, taken_cells}
 use Rattle.uu_schema.specs.Schema.{site}
-use Rattle.uu_check.proofs.LinkRows.{all_flat, not_back}
-use Rattle.uu_check.proofs.Meanings.{text_from, text_to}
 use Rattle.uu_questions.specs.Answers.{IsOf}
 use Rattle.uu_questions.specs.Links.{below_in, taken_in}
-use Rattle.uu_questions.specs.Texts.{link_text, taken_text}
+use Rattle.uu_questions.proofs.Texts.{link_text, taken_text}
 use Rattle.uu_questions.proofs.Meanings.{link_means, taken_means}
 use Rattle.uu_rows.proofs.InOrder.{ascending_pairs}
 use Rattle.uu_questions.proofs.Finding.{found_mapped}
@@ -35,7 +35,7 @@ use Rattle.uu_rows.proofs.Back.{same_one, link_back, link_returns, taken_back, t
 use Rattle.uu_rows.proofs.Comparing.{int_eq-nat}
 use Rattle.uu_rows.proofs.InTables.{links_are, taken_are}
 
--- ---- what is found in lists one behind the other
+-- ---- what is found in lists, one after the other
 
 find_front : {X : Type 0} (p : X → Bool) (xs ys : List X) → AllByRecursion (λ x. p x ≡ false) ys → find p (xs ++ ys) ≡ find p xs
 find_front p [] [] h = refl
@@ -45,10 +45,6 @@ find_front p (x ∷ xs) ys h = ap (λ o. cond (p x) (Some x) o) (find_front p xs
 find_back : {X : Type 0} (p : X → Bool) (xs ys : List X) → AllByRecursion (λ x. p x ≡ false) xs → find p (xs ++ ys) ≡ find p ys
 find_back p [] ys h = refl
 find_back p (x ∷ xs) ys h = rw h.0 (find_back p xs ys h.1)
-
-find_same : {X : Type 0} (p q : X → Bool) → ((x : X) → p x ≡ q x) → (xs : List X) → find p xs ≡ find q xs
-find_same p q same [] = refl
-find_same p q same (x ∷ xs) = λ i. cond (same x i) (Some x) (find_same p q same xs i)
 
 -- ---- the rows of one link
 
@@ -69,7 +65,7 @@ below_found name (l ∷ ls) up = by_test (is_link name l) refl (below_found name
     by_test : (t : Bool) → is_link name l ≡ t → below_in (find (is_link_of name) (flat_map links_of ls)) ≡ (its name ls).below → below_in (find (is_link_of name) (links_of l ++ flat_map links_of ls)) ≡ (unwrap_or (cond t (Some l) (find (is_link name) ls)) (new_link name)).below
     by_test true e rest =
         let same : l.name ≡ name = text_from l.name name e in
-        let others : AllByRecursion (λ r. is_link_of name r ≡ false) (flat_map links_of ls) = all_flat (λ r. is_link_of name r ≡ false) (Before l) links_of (λ x before. each_link (λ r. is_link_of name r ≡ false) x.name (λ below. ap (same_text x.name) (sym same) ∙ not_back l.name x.name before) x.below) ls up.0 in
+        let others : AllByRecursion (λ r. is_link_of name r ≡ false) (flat_map links_of ls) = all_flat_of (λ r. is_link_of name r ≡ false) (Before l) links_of (λ x before. each_link (λ r. is_link_of name r ≡ false) x.name (λ below. ap (same_text x.name) (sym same) ∙ later_other l.name x.name before) x.below) ls up.0 in
         ap below_in (find_front (is_link_of name) (links_of l) (flat_map links_of ls) others) ∙ below_first name l.name l.below e
     by_test false e rest = ap below_in (find_back (is_link_of name) (links_of l) (flat_map links_of ls) (each_link (λ r. is_link_of name r ≡ false) l.name (λ below. e) l.below)) ∙ rest
 
@@ -88,8 +84,8 @@ taken_found name number (l ∷ ls) up = by_test (is_link name l) refl (taken_fou
         → taken_in (find (is_row name number) (taken_rows l ++ flat_map taken_rows ls)) ≡ taken_at (unwrap_or (cond t (Some l) (find (is_link name) ls)) (new_link name)) number
     by_test true e rest =
         let same : l.name ≡ name = text_from l.name name e in
-        let others : AllByRecursion (λ r. is_row name number r ≡ false) (flat_map taken_rows ls) = all_flat (λ r. is_row name number r ≡ false) (Before l) taken_rows
-        (λ x before. each_made (λ r. is_row name number r ≡ false) (taken_columns x.name) (λ t. ap (λ b. b && (t.number == number)) (ap (same_text x.name) (sym same) ∙ not_back l.name x.name before)) x.taken) ls up.0 in
+        let others : AllByRecursion (λ r. is_row name number r ≡ false) (flat_map taken_rows ls) = all_flat_of (λ r. is_row name number r ≡ false) (Before l) taken_rows
+        (λ x before. each_made (λ r. is_row name number r ≡ false) (taken_columns x.name) (λ t. ap (λ b. b && (t.number == number)) (ap (same_text x.name) (sym same) ∙ later_other l.name x.name before)) x.taken) ls up.0 in
         ap taken_in (find_front (is_row name number) (taken_rows l) (flat_map taken_rows ls) others ∙ found_mapped (is_row name number) (taken_columns l.name) l.taken)
         ∙ mapped (find (λ t. is_row name number (taken_columns l.name t)) l.taken) ∙ find_same (λ t. is_row name number (taken_columns l.name t)) (is_taken number) (λ t. ap (λ b. b && (t.number == number)) e) l.taken
     by_test false e rest = ap taken_in (find_back (is_row name number) (taken_rows l) (flat_map taken_rows ls) (each_made (λ r. is_row name number r ≡ false) (taken_columns l.name) (λ t. ap (λ b. b && (t.number == number)) e) l.taken)) ∙ rest

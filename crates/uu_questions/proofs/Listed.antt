@@ -23,7 +23,7 @@ use Rattle.sqlite_trees.proofs.ListLemmas.{all-permutation}
 use Rattle.sqlite_typed.proofs.TestLemmas.{truth_or, at_ints, at_texts, at_or, at_is_null, then_term, last_term, then_key, last_key}
 use Rattle.sqlite_value.specs.Order.{value_cmp}
 use Rattle.sqlite_value.proofs.OrderLemmas.{value_cmp-Int}
-use Rattle.uu_schema.specs.Layout.{where_is}
+use Rattle.uu_schema.proofs.Terms.{where_is}
 use Rattle.uu_schema.proofs.Asks.{ordered}
 use Rattle.uu_schema.proofs.Answers.{answer_of}
 use Rattle.uu_schema.proofs.Sorted.{IsPermutation-insert_sorted}
@@ -37,10 +37,10 @@ use Rattle.uu_schema.specs.Held.{job_places, piece_places}
 use Rattle.uu_schema.specs.Cells.{job_cells, piece_cells, entry_cells}
 use Rattle.uu_core.specs.declared.filter.Filter.{Filter}
 use Rattle.uu_questions.specs.Answers.{IsOf}
-use Rattle.uu_questions.specs.Listing.{is_wanted, fits, WantsAll, by_rank, listed, sought}
-use Rattle.uu_rows.specs.Order.{piece_cmp, entry_cmp}
+use Rattle.uu_questions.specs.Listing.{is_wanted, fits, WantsAll, by_rank, listed}
+use Rattle.uu_tables.specs.Order.{piece_cmp, entry_cmp}
 use Rattle.uu_rows.specs.Readable.{IsHead}
-use Rattle.uu_questions.specs.Texts.{all_jobs_text, jobs_text, pieces_text, entry_text}
+use Rattle.uu_questions.proofs.Texts.{all_jobs_text, jobs_text, pieces_text, entry_text}
 use Rattle.uu_rows.proofs.Meanings.{at_places, by_places}
 use Rattle.uu_questions.proofs.Meanings.{fit_terms, all_jobs_means, jobs_means, pieces_means, entry_means}
 use Rattle.uu_rows.proofs.Comparing.{beside, numbered, int_cmp-nat, int_eq-nat, below_is}
@@ -51,6 +51,10 @@ use Rattle.uu_rows.proofs.Back.{same_all, same_one, head_back, head_returns, ent
 use Rattle.uu_rows.proofs.Heads.{heads_good}
 use Rattle.uu_questions.proofs.Finding.{found_mapped}
 use Rattle.uu_questions.proofs.Rising.{pieces_rise}
+
+-- what the question is given: the system and the user, each NULL if none is wanted
+abbrev pub sought : Filter → Row
+sought f = or_null Text f.system ∷ or_null Text f.user ∷ []
 
 -- what is bound of a text that may be wanted
 pub wanted_bound : (text : Option (Bor (List ℕ))) (wanted : Option (List ℕ)) (value : Value) → value ≡ or_null (λ t. Text t.now) text → option_map (λ t. t.now) text ≡ wanted → bound_value value ≡ or_null Text wanted
@@ -100,7 +104,7 @@ jobs_listed old new s f rows of h found good read =
     (ascending-filter _ (fits f) hs (ascending_weaker _ (λ x y. is_eq (by_rank x y) ≡ false) apart hs (numbers_rise s of.good))) in
     same_all job_cells head_back IsHead head_returns found (listed f s) good (all_sorted (filter (fits f) hs) (all_kept IsHead (fits f) hs (heads_good s of.good))) (sym read ∙ sorted)
 
--- the same of all jobs, where none is wanted more than another
+-- the same for all jobs, if the filter gives no system and no user
 pub all_jobs_listed : (old new : db.State) (s : State) (f : Filter) → WantsAll f → (rows : List Row) → IsOf s old → db.Shown all_jobs_text [] old new rows → (found : List JobHead) → AllByRecursion IsHead found → rows ≡ map job_cells found → found ≡ listed f s
 all_jobs_listed old new s f all rows of h found good read =
     let order = by_places (3 ∷ 0 ∷ []) in

@@ -2,7 +2,7 @@
 use Rattle.std.proofs.Common.{◌≡◌, ℕ, ◌<◌, List, [], map, filter, flat_map, All, AllPairs, Bool, true, false, true≢false, Result, Ok, refl, sym, ap, subst, ◌∙◌, arith}
 use Rattle.std.specs.Prelude.{◌↔◌, IfOk}
 use Rattle.std.specs.declared.alloc.AllocError.{AllocError}
-use Rattle.std.proofs.lemmas.List.Elements.{All-nil, All-filter}
+use Rattle.std.proofs.lemmas.List.Elements.{All-nil, All-filter, recursion_from_All}
 use Rattle.std.proofs.lemmas.List.Kept.{AllPairs-filter}
 use Rattle.uu_core.specs.declared.system.SystemRow.{SystemRow}
 use Rattle.uu_core.specs.State.{State, Job, MapEntry, Link, ComesBefore, IsCall, IsDefinition, IsWellFormed, is_system}
@@ -13,7 +13,7 @@ use Rattle.uu_tables.specs.declared.rows.WaitColumns.{WaitColumns}
 use Rattle.uu_tables.specs.Tables.{Tables, system_columns, line_columns, placed, ranges_of}
 use Rattle.uu_check.specs.OfState.{AreTables}
 use Rattle.uu_questions.specs.Assembly.{holding, AreRowsOfSystems, MakeSystems, lines_and_wait, lines_and_wait_of_each}
-use Rattle.uu_rows.proofs.InOrder.{by_recursion, ascending_pairs}
+use Rattle.uu_rows.proofs.InOrder.{ascending_pairs}
 use Rattle.uu_questions.proofs.Assembled.{assembled, rows_make, same_rows}
 
 -- ---- a spool of systems alone
@@ -105,7 +105,7 @@ module _ (systems : List SystemColumns) (lines : List LineColumns) (ranges : Lis
   pub make_theirs : (rows : List SystemRow) → AreRowsOfSystems rows systems lines ranges waits → MakeSystems systems lines ranges waits
   make_theirs rows h =
       let own_lines = map line_columns (flat_map placed rows) in
-      let made = rows_make rows (by_recursion (λ (row : SystemRow). IsDefinition row.def) rows h.good.definitions) (ascending_pairs Before rows h.good.by_name) in
+      let made = rows_make rows (recursion_from_All (λ (row : SystemRow). IsDefinition row.def) rows h.good.definitions) (ascending_pairs Before rows h.good.by_name) in
       subst (λ s. MakeSystems s lines ranges waits) h.systems_are
       (subst (λ l. MakeSystems (map system_columns rows) l ranges waits) h.lines_are
       (subst (λ r. MakeSystems (map system_columns rows) own_lines r waits) h.ranges_are

@@ -4,11 +4,14 @@ use Rattle.std.proofs.Common.{◌≡◌, ◌+◌, ◌==◌, ℕ, Bool, true, fal
 use Rattle.std.specs.List.{AllByRecursion, list_any, reduce}
 use Rattle.std.specs.Ordering.{ordering_then}
 use Rattle.std.specs.Cmp.Lexicographic.{slice_cmp}
-use Rattle.std.proofs.lemmas.Bool.{and_parts, cases_Bool}
+use Rattle.std.proofs.lemmas.Bool.{and_parts, cases_Bool, false_from_ne_true, eqb-true, eq-eqb}
 use Rattle.std.proofs.lemmas.Bool.Decides.{nat_tests}
 use Rattle.std.proofs.lemmas.List.Folds.{list_any-append}
+use Rattle.std.proofs.lemmas.Cmp.{tied_itself, nat_list_cmp_total, nat_cmp_total}
+use Rattle.std.proofs.Math.Bool.{or_assoc, and-false, or-false}
 use Rattle.sqlite.specs.Tree.{IsAscending}
 use Rattle.sqlite_keyed.proofs.ListLemmas.{all_weaker, all_both, any_from_none, ascending_weaker}
+use Rattle.uu_names.proofs.Basics.{text_from, text_to, any_mapped}
 use Rattle.uu_times.specs.declared.system.Line.{Line}
 use Rattle.uu_times.specs.declared.moment.Moment.{Moment}
 use Rattle.uu_times.specs.Ranges.{within, holds}
@@ -21,25 +24,13 @@ use Rattle.uu_tables.specs.declared.rows.LineColumns.{LineColumns}
 use Rattle.uu_tables.specs.declared.rows.RangeColumns.{RangeColumns}
 use Rattle.uu_tables.specs.Tables.{PlacedLine, system_columns, line_columns, range_columns, placed, placed_from, ranges_of}
 use Rattle.uu_questions.specs.Dues.{lets_through, is_open, is_among}
-use Rattle.uu_questions.proofs.Known.{any_mapped}
-use Rattle.uu_questions.proofs.Assembled.{text_to, text_from, not_true}
-use Rattle.uu_questions.proofs.DueRows.{or-false}
-use Rattle.uu_rows.proofs.InOrder.{same_name, same_number}
 use Rattle.uu_questions.proofs.Rising.{LineBefore, names_rise, placed_rise}
 
 -- ---- truths
 
-or-assoc : (a b c : Bool) → ((a || b) || c) ≡ (a || (b || c))
-or-assoc true b c = refl
-or-assoc false b c = refl
-
 and-true : (b : Bool) → b && true ≡ b
 and-true true = refl
 and-true false = refl
-
-and-false : (b : Bool) → b && false ≡ false
-and-false true = refl
-and-false false = refl
 
 -- ---- tests of lists
 
@@ -84,7 +75,7 @@ greater grade x y = grind (arith, nat_tests)
 
 within_fold : (grade x : ℕ) (xs : List ℕ) → leb grade (fold max x xs) ≡ (leb grade x || list_any (leb grade) xs)
 within_fold grade x [] = sym (or-false (leb grade x))
-within_fold grade x (y ∷ xs) = within_fold grade (max x y) xs ∙ ap (λ b. b || list_any (leb grade) xs) (greater grade x y) ∙ or-assoc (leb grade x) (leb grade y) (list_any (leb grade) xs)
+within_fold grade x (y ∷ xs) = within_fold grade (max x y) xs ∙ ap (λ b. b || list_any (leb grade) xs) (greater grade x y) ∙ or_assoc (leb grade x) (leb grade y) (list_any (leb grade) xs)
 
 within_any : (grade : ℕ) (grades : List ℕ) → is_within (reduce max grades) grade ≡ list_any (leb grade) grades
 within_any grade [] = refl
@@ -121,12 +112,6 @@ module _ (week : ℕ) (name : List ℕ) (grade : ℕ) where
 
 -- ---- lines and their ranges
 
-number_from : (a b : ℕ) → (a == b) ≡ true → a ≡ b
-number_from a b h = grind (arith, nat_tests)
-
-number_to : (a : ℕ) → (a == a) ≡ true
-number_to a = grind (arith, nat_tests)
-
 abbrev same_place : PlacedLine → LineColumns → Bool
 same_place p l = same_text p.system l.system && (p.place == l.place)
 
@@ -135,8 +120,8 @@ unequal q = cc
 
 tied : (a b : PlacedLine) → LineBefore a b → a.system ≡ b.system → a.place ≡ b.place → ⊥
 tied a b less s p =
-    let names : slice_cmp nat_cmp a.system b.system ≡ Equal = ap (slice_cmp nat_cmp a.system) (sym s) ∙ same_name a.system in
-    let places : nat_cmp a.place b.place ≡ Equal = ap (nat_cmp a.place) (sym p) ∙ same_number a.place in
+    let names : slice_cmp nat_cmp a.system b.system ≡ Equal = ap (slice_cmp nat_cmp a.system) (sym s) ∙ tied_itself nat_list_cmp_total a.system in
+    let places : nat_cmp a.place b.place ≡ Equal = ap (nat_cmp a.place) (sym p) ∙ tied_itself nat_cmp_total a.place in
     unequal (sym (λ i. ordering_then (names i) (places i)) ∙ less)
 
 abbrev Apart : PlacedLine → PlacedLine → Type 0
@@ -144,8 +129,8 @@ Apart a b = (same_place a (line_columns b) ≡ false) × (same_place b (line_col
 
 differ : (a b : PlacedLine) → LineBefore a b → Apart a b
 differ a b less = (
-  not_true _ (λ e. let it = and_parts (same_text a.system b.system) (a.place == b.place) e in tied a b less (text_from _ _ it.0) (number_from _ _ it.1)),
-  not_true _ (λ e. let it = and_parts (same_text b.system a.system) (b.place == a.place) e in tied a b less (sym (text_from _ _ it.0)) (sym (number_from _ _ it.1))),
+  false_from_ne_true _ (λ e. let it = and_parts (same_text a.system b.system) (a.place == b.place) e in tied a b less (text_from _ _ it.0) (eqb-true _ _ it.1)),
+  false_from_ne_true _ (λ e. let it = and_parts (same_text b.system a.system) (b.place == a.place) e in tied a b less (sym (text_from _ _ it.0)) (sym (eqb-true _ _ it.1))),
 )
 
 -- of the lines in their order just one is the line itself
@@ -154,7 +139,7 @@ module _ (h : PlacedLine → Bool) where
   here l p = same_place p (line_columns l) && h p
 
   itself : (l : PlacedLine) → same_place l (line_columns l) ≡ true
-  itself l = rw (text_to l.system) (number_to l.place)
+  itself l = rw (text_to l.system) (eq-eqb l.place l.place refl)
 
   first_one : (x : PlacedLine) (xs : List PlacedLine) → AllByRecursion (Apart x) xs → list_any (here x) (x ∷ xs) ≡ h x
   first_one x xs apart =
@@ -213,7 +198,7 @@ module _ (at : Moment) (name : List ℕ) (grade : ℕ) where
 
   other : (a b : SystemRow) → ComesBefore a.def.name b.def.name → is_system name a ≡ true → is_system name b ≡ false
   other a b before is =
-      not_true _ (λ e. let same = text_from _ _ is ∙ sym (text_from _ _ e) in unequal (sym (ap (slice_cmp nat_cmp a.def.name) (sym same) ∙ same_name a.def.name) ∙ before))
+      false_from_ne_true _ (λ e. let same = text_from _ _ is ∙ sym (text_from _ _ e) in unequal (sym (ap (slice_cmp nat_cmp a.def.name) (sym same) ∙ tied_itself nat_list_cmp_total a.def.name) ∙ before))
 
   one_held : (h : Bool) (limit : Option ℕ) → is_within (if h then None else limit) grade ≡ (is_within limit grade && not h)
   one_held true limit = sym (and-false (is_within limit grade))
@@ -251,8 +236,7 @@ module _ (at : Moment) (name : List ℕ) (grade : ℕ) where
       ∙ any_kept (λ row. is_system name row) (λ row. is_held row.call at.second) rows
       ∙ any_same (λ row. is_held row.call at.second && is_system name row) kept (λ row. and-comm (is_held row.call at.second) (is_system name row)) rows
 
-  -- a system may be called for a grade where one of its lines lets it through and it is not left
-  -- alone
+  -- a system may be called for a grade if one of its lines allows it and it isn't left alone
   pub called : (s : State) → IsWellFormed s → (lines : List LineColumns) (held : List SystemColumns) → lets_through lines name grade ≡ is_open s.systems at.week name grade
       → held ≡ map system_columns (filter (λ row. is_held row.call at.second) s.systems) → (lets_through lines name grade && not (is_among held name)) ≡ may_be_called s.systems at name grade
   called s good lines held opened is =

@@ -7,6 +7,7 @@ use Rattle.std.proofs.lemmas.List.Sorted.{IsPermutation-map, list_any-IsPermutat
 use Rattle.std.proofs.lemmas.Int.{ints}
 use Rattle.std.proofs.lemmas.Bool.Decides.{nat_tests}
 use Rattle.std.proofs.lemmas.Map.Text.{is_eq-slice_cmp}
+use Rattle.std.proofs.lemmas.List.Elements.{recursion_from_All}
 use Rattle.sqlite.specs.declared.types.Value.TheVariants.{Int}
 use Rattle.sqlite.specs.Order.{Row, column}
 use Rattle.sqlite.specs.Term.{holds, Env}
@@ -20,6 +21,7 @@ use Rattle.sqlite_sql.specs.declared.ops.BinaryOp.TheVariants.{Compare}
 use Rattle.sqlite_sql.specs.declared.ops.CompareOp.TheVariants.{Eq, Le, Lt}
 use Rattle.sqlite_typed.proofs.TestLemmas.{truth_or, at_ints, at_texts, then_term, last_term, sum_fits}
 use Rattle.sqlite_keyed.proofs.ListLemmas.{filter-map, all_weaker}
+use Rattle.uu_names.proofs.Basics.{any_mapped}
 use Rattle.uu_schema.proofs.Answers.{answer_of}
 use Rattle.uu_core.specs.declared.system.SystemRow.{SystemRow}
 use Rattle.uu_core.specs.State.{State, IsCall, same_text}
@@ -37,9 +39,7 @@ use Rattle.uu_rows.proofs.Comparing.{beside, int_eq-nat}
 use Rattle.uu_rows.proofs.InTables.{systems_are}
 use Rattle.uu_questions.specs.Answers.{IsOf}
 use Rattle.uu_questions.specs.Dues.{lets_through, is_open}
-use Rattle.uu_questions.specs.Texts.{held_text, open_text}
-use Rattle.uu_rows.proofs.InOrder.{by_recursion}
-use Rattle.uu_questions.proofs.Known.{any_mapped}
+use Rattle.uu_questions.proofs.Texts.{held_text, open_text}
 use Rattle.uu_questions.proofs.Meanings.{held_terms, held_means, open_terms, open_query, open_means}
 use Rattle.uu_questions.proofs.OpenLines.{any_same, any_flat, any_one, joined, lets_line, open_systems}
 use Rattle.uu_questions.proofs.SystemRows.{same_cells, systems_rise}
@@ -73,7 +73,7 @@ pub held_found : (old new : db.State) (s : State) (second : ℕ) (rows : List Ro
 held_found old new s second rows of h found read =
     let params : Row = Int (pos second) ∷ [] in
     let passes : SystemColumns → Bool = λ x. list_all (holds (params ∷ beside (system_cells x) ∷ [])) held_terms in
-    let calls = by_recursion (λ (row : SystemRow). IsCall row.call) s.systems of.good.calls in
+    let calls = recursion_from_All (λ (row : SystemRow). IsCall row.call) s.systems of.good.calls in
     same_cells system_cells system_back system_returns found _ (sym read
     ∙ systems_are site old new rows of.stands.schema held_text _ params held_terms h held_means (λ r. refl) (map system_columns s.systems) of.holds.systems.same (systems_rise s of.good) passes (λ x. refl))
     ∙ filter-map passes system_columns s.systems

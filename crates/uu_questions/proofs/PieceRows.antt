@@ -7,7 +7,7 @@ use Rattle.uu_core.specs.State.{State}
 use Rattle.uu_tables.specs.Tables.{Piece, tables_of}
 use Rattle.uu_questions.specs.Answers.{IsOf}
 use Rattle.uu_questions.specs.Walks.{Took}
-use Rattle.uu_questions.specs.Texts.{pieces_text}
+use Rattle.uu_questions.proofs.Texts.{pieces_text}
 use Rattle.uu_questions.proofs.Listed.{is_piece_of, piece_shown, pieces_found}
 
 abbrev bytes_in : Piece → List ℕ

@@ -1,14 +1,13 @@
--- The tables of a state stand in the order of their keys, as the answers to questions with ORDER BY
--- do.
-use Rattle.std.proofs.Common.{◌≡◌, List, length, flat_map, Less}
+-- The tables of a state are in the order of their keys, like the answers to questions with ORDER
+-- BY.
+use Rattle.std.proofs.Common.{◌≡◌, flat_map, Less}
 use Rattle.sqlite.specs.Tree.{IsAscending}
 use Rattle.sqlite_keyed.proofs.ListLemmas.{ascending_from_map}
 use Rattle.uu_core.specs.declared.system.SystemRow.{SystemRow}
-use Rattle.uu_core.specs.State.{State, Job, IsWellFormed, ComesBefore}
-use Rattle.uu_tables.specs.Tables.{PlacedLine, tables_of, line_columns, placed, pieces_of, piece_count}
-use Rattle.uu_check.proofs.Cuts.{pieces_from, as_from}
+use Rattle.uu_core.specs.State.{State, IsWellFormed, ComesBefore}
+use Rattle.uu_tables.specs.Tables.{PlacedLine, tables_of, line_columns, placed}
 use Rattle.uu_check.proofs.Rising.{in_order}
-use Rattle.uu_rows.specs.Order.{line_cmp, range_cmp, wait_cmp, link_cmp, taken_cmp, piece_cmp}
+use Rattle.uu_tables.specs.Order.{line_cmp, range_cmp, wait_cmp, link_cmp, taken_cmp, piece_cmp}
 use Rattle.uu_rows.proofs.InOrder.{ascending_pairs}
 
 pub names_rise : (s : State) → IsWellFormed s → IsAscending (λ (a b : SystemRow). ComesBefore a.def.name b.def.name) s.systems
@@ -37,8 +36,3 @@ taken_rise s good = ascending_pairs (λ a b. taken_cmp a b ≡ Less) (tables_of 
 
 pub pieces_rise : (s : State) → IsWellFormed s → IsAscending (λ a b. piece_cmp a b ≡ Less) (tables_of s).pieces
 pieces_rise s good = ascending_pairs (λ a b. piece_cmp a b ≡ Less) (tables_of s).pieces (in_order s good).pieces
-
--- ---- pieces
-
-pub as_pieces : (j : Job) → pieces_of j ≡ pieces_from j.number 0 (piece_count (length j.bytes)) j.bytes
-as_pieces j = as_from j.number j.bytes 0 (piece_count (length j.bytes))

@@ -8,7 +8,7 @@ use Rattle.sqlite_sql.specs.declared.ops.CompareOp.TheVariants.{Eq}
 use Rattle.std.proofs.lemmas.Map.Text.{is_eq-slice_cmp}
 use Rattle.sqlite_typed.proofs.TestLemmas.{at_texts, last_term}
 use Rattle.sqlite_keyed.proofs.ListLemmas.{filter-map, map_back, ascending-map, slice_get-filter}
-use Rattle.uu_schema.specs.Layout.{where_is}
+use Rattle.uu_schema.proofs.Terms.{where_is}
 use Rattle.uu_core.specs.declared.system.SystemRow.{SystemRow}
 use Rattle.uu_core.specs.State.{State, IsWellFormed, is_system, same_text, system_at}
 use Rattle.uu_tables.specs.declared.rows.SystemColumns.{SystemColumns}
@@ -21,8 +21,8 @@ use Rattle.uu_schema.specs.Schema.{site}
 use Rattle.uu_schema.specs.declared.version.Version.TheVariants.{Third}
 use Rattle.uu_questions.specs.Answers.{IsOf}
 use Rattle.uu_questions.specs.Assembly.{AreRowsOfSystems}
-use Rattle.uu_rows.specs.Order.{system_cmp}
-use Rattle.uu_questions.specs.Texts.{system_text, lines_of_text, ranges_of_text, waits_of_text}
+use Rattle.uu_tables.specs.Order.{system_cmp}
+use Rattle.uu_questions.proofs.Texts.{system_text, lines_of_text, ranges_of_text, waits_of_text}
 use Rattle.uu_rows.specs.Texts.{systems_text, lines_text, ranges_text, waits_text}
 use Rattle.uu_questions.proofs.Meanings.{system_means, lines_of_means, ranges_of_means, waits_of_means}
 use Rattle.uu_rows.proofs.Meanings.{systems_means, lines_means, ranges_means, waits_means}

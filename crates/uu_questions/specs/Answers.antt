@@ -20,14 +20,14 @@ pub record IsAt (s : State) (database : Database) : Type 0 where
 abbrev pub IsOf : State → db.State → Type 0
 IsOf s shown = IsAt s shown.now
 
--- A question commits nothing and, while the connection is open, changes nothing, whatever it
--- answers. What it answers of the tables of a state is exact.
+-- A question commits nothing. While the connection is open, it changes nothing, with any answer.
+-- What it answers about the tables of a state is exact.
 pub record Answers {T : Type 0} (IsAnswer : State → T → Type 0) (old new : db.State) (r : Result T Error) : Type 0 where
   pub told : Told site old new r
   pub same : db.HasCleanDisk new → Stands site old.now → OnOk r (new.now ≡ old.now)
   pub exact : db.HasCleanDisk new → (s : State) → IsOf s old → IfOk r (IsAnswer s)
 
--- The question is asked over a connection: it is answered so, and an idle connection stays idle.
+-- The question is asked over a connection, with this answer; an idle connection stays idle.
 pub record Asks {S T : Type 0} (g : Ghosts S) (IsAnswer : State → T → Type 0) (old new : Held S) (r : Result T Error) : Type 0 where
   pub idle : StaysIdle old new
   pub answers : Answers IsAnswer (state g old) (state g new) r

@@ -1,4 +1,4 @@
--- Systems put together from the rows of four tables, each in the order of its key.
+-- Systems assembled from the rows of four tables, each in the order of its key.
 use Rattle.std.specs.Prelude.{◌≡◌, ⊤, ℕ, Bool, ◌==◌, ◌&&◌, List, [], ◌∷◌, map, take, drop}
 use Rattle.std.specs.List.{prefix_len, flat_map, AllByRecursion}
 use Rattle.uu_times.specs.declared.system.Line.{Line}
@@ -16,11 +16,11 @@ use Rattle.uu_tables.specs.declared.rows.WaitColumns.{WaitColumns}
 
 -- ---- rows of systems
 
--- a spool that holds these systems and nothing else
+-- a spool that has only these systems
 abbrev pub holding : List SystemRow → State
 holding systems = record { jobs = []; systems = systems; entries = []; next = 1; links = [] }
 
--- The rows are those of these systems, all of them, and a spool may hold these.
+-- The rows are exactly those of these systems, and a spool may have these systems.
 pub record AreRowsOfSystems (made : List SystemRow) (systems : List SystemColumns) (lines : List LineColumns) (ranges : List RangeColumns) (waits : List WaitColumns) : Type 0 where
   pub good : IsWellFormed (holding made)
   pub systems_are : map system_columns made ≡ systems
@@ -28,7 +28,7 @@ pub record AreRowsOfSystems (made : List SystemRow) (systems : List SystemColumn
   pub ranges_are : flat_map ranges_of (flat_map placed made) ≡ ranges
   pub waits_are : flat_map waits_of made ≡ waits
 
--- the columns have the number of the outcome, and its reason where it has one
+-- the columns have the number of the outcome, and its reason if it has one
 pub record HasOutcome (call : CallColumns) (outcome : Outcome) : Type 0 where
   pub number : outcome_number outcome ≡ call.outcome
   pub why : reason_of outcome ≡ call.why
@@ -47,7 +47,7 @@ is_wait_of system wait = same_text wait.system system.name
 abbrev pub is_range_of_line : LineColumns → RangeColumns → Bool
 is_range_of_line line range = same_text range.system line.system && (range.place == line.place)
 
--- what stands at the front and belongs there, and the rest
+-- what belongs to it at the beginning, and the rest
 abbrev pub own : {P C : Type 0} → (P → C → Bool) → P → List C → List C
 own owns owner children = take (prefix_len (owns owner) children) children
 
@@ -66,16 +66,16 @@ abbrev pub lines_from : List LineColumns → List RangeColumns → List Line
 lines_from [] ranges = []
 lines_from (line ∷ lines) ranges = line_from line (own is_range_of_line line ranges) ∷ lines_from lines (others is_range_of_line line ranges)
 
--- the seconds of the first row, and 0 where there is none
+-- the seconds of the first row, or 0 if there is none
 abbrev pub wait_from : List WaitColumns → ℕ
 wait_from [] = 0
 wait_from (wait ∷ waits) = wait.wait
 
--- what the other tables have of a system
+-- what the other tables have for a system
 abbrev pub lines_and_wait : SystemRow → List Line × ℕ
 lines_and_wait row = (row.def.lines, row.def.success_wait)
 
--- the same of each system, one system after the other
+-- the same for each system, one after the other
 abbrev pub lines_and_wait_of_each : List SystemColumns → List LineColumns → List RangeColumns → List WaitColumns → List (List Line × ℕ)
 lines_and_wait_of_each [] lines ranges waits = []
 lines_and_wait_of_each (s ∷ systems) lines ranges waits =
@@ -88,15 +88,15 @@ lines_and_wait_of_each (s ∷ systems) lines ranges waits =
 abbrev pub HaveWindows : List Line → Type 0
 HaveWindows lines = AllByRecursion (λ (line : Line). AreRuns line.windows) lines
 
--- the rows are those of the system that they make, with this success wait, and it is within its
--- limits
+-- the rows are those of the system that they make with this success wait, and the system is within
+-- its limits
 pub record MakeSystem (s : SystemColumns) (lines : List LineColumns) (ranges : List RangeColumns) (wait : ℕ) : Type 0 where
   pub windows : HaveWindows (lines_from lines ranges)
   pub limits : AreWithinLimits (lines_from lines ranges) s.max_retries wait
   pub outcome : Outcome
   pub call : HasOutcome s.call outcome
 
--- those of each system make it
+-- the rows of each system make it
 abbrev pub MakeSystems : List SystemColumns → List LineColumns → List RangeColumns → List WaitColumns → Type 0
 MakeSystems [] lines ranges waits = ⊤
 MakeSystems (s ∷ systems) lines ranges waits =

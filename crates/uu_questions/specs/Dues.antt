@@ -1,5 +1,5 @@
--- Which systems may be called, and a walk along the jobs that lists each of them once, for the
--- first job for which it may be called.
+-- Which systems may be called, and a walk through the jobs that lists each of the systems once, for
+-- the first job for which it may be called.
 use Rattle.std.specs.Prelude.{◌≡◌, ℕ, pos, nat_le, Bool, not, ◌&&◌, if◌then◌else◌, List, [], ◌∷◌, ◌++◌, Option}
 use Rattle.std.specs.List.{list_any}
 use Rattle.sqlite.specs.declared.types.Value.TheVariants.{Int, Text}
@@ -16,7 +16,7 @@ use Rattle.uu_tables.specs.declared.rows.SystemColumns.{SystemColumns}
 abbrev pub lets_through : List LineColumns → List ℕ → ℕ → Bool
 lets_through lines name grade = list_any (λ line. same_text line.system name && nat_le grade line.grade) lines
 
--- the windows of one of the lines of the system of this name hold the minute, and its grade is this
+-- the windows of a line of the system of this name contain the minute, and the line's grade is this
 -- one or a lower one
 abbrev pub is_open : List SystemRow → ℕ → List ℕ → ℕ → Bool
 is_open rows week name grade = list_any (λ row. is_system name row && is_within (limit_at row.def.lines week) grade) rows
@@ -25,24 +25,24 @@ is_open rows week name grade = list_any (λ row. is_system name row && is_within
 abbrev pub is_among : List SystemColumns → List ℕ → Bool
 is_among systems name = list_any (λ system. same_text system.name name) systems
 
--- what is asked of a job
+-- the columns of a job in the answer
 abbrev pub due_cells : Due → Row
 due_cells due = Text due.system ∷ Int (pos due.grade) ∷ Int (pos due.number) ∷ []
 
--- each system has the limit that lets those grades through for which it may be called
+-- each system's limit allows exactly the grades for which it may be called
 abbrev pub AreLimits : (List ℕ → Option ℕ) → (List ℕ → ℕ → Bool) → Type 0
 AreLimits limit may = (name : List ℕ) (grade : ℕ) → is_within (limit name) grade ≡ may name grade
 
--- the limit that is left of each system lets those grades through for which it may be called, until
--- it is listed
+-- each system's remaining limit allows exactly the grades for which it may be called, until the
+-- system is listed
 abbrev pub IsLeft : (List ℕ → ℕ → Bool) → (List ℕ → Option ℕ) → List Due → Type 0
 IsLeft may limit dues = AreLimits limit (λ name grade. may name grade && not (is_listed dues name))
 
--- a job more is listed where its system may be called for it and isn't listed
+-- one more job is listed if its system may be called for it and isn't listed
 abbrev pub with_due : (List ℕ → ℕ → Bool) → List Due → Due → List Due
 with_due may dues due = if may due.system due.grade && not (is_listed dues due.system) then dues ++ due ∷ [] else dues
 
--- A row is taken: its job is listed if its system may be called for it and isn't listed yet, and
--- then the system is no longer left.
+-- A row is taken: its job is listed if its system may be called for it and isn't listed yet. Then
+-- the system has no limit any more.
 abbrev pub TakesRow : (List ℕ → Option ℕ) → List Due → Row → (List ℕ → Option ℕ) → List Due → Type 0
 TakesRow limit dues row left more = (may : List ℕ → ℕ → Bool) (due : Due) → row ≡ due_cells due → IsLeft may limit dues → IsLeft may left more × (more ≡ with_due may dues due)

@@ -1,4 +1,3 @@
-pub mod Texts
 pub mod Answers
 pub mod Reading
 pub mod Assembly
@@ -6,3 +5,4 @@ pub mod Listing
 pub mod Walks
 pub mod Dues
 pub mod Links
+pub mod Waiting

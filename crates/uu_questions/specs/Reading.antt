@@ -1,4 +1,4 @@
--- Questions in SQL, with what is read of the rows that they show.
+-- Questions in SQL, with what is read from the rows of their answers.
 use Rattle.std.specs.Prelude.{◌≡◌, ℕ, nat_eq, Bool, not, List, length, map, Option, option_map, slice_get, Vec, Result, IfOk, IfSome, OnOk}
 use Rattle.std.specs.List.{AllByRecursion}
 use Rattle.std.specs.declared.alloc.Global.{Global}
@@ -10,19 +10,20 @@ use Rattle.sqlite.specs.Store.{Ghosts}
 use Rattle.uu_schema.specs.Steps.{Stands, StaysIdle, Told}
 use Rattle.uu_schema.specs.Schema.{site}
 
--- A question commits nothing and changes nothing, whatever it answers. What is read is read of the
+-- A question commits nothing and changes nothing, with any answer. What is read is read from the
 -- rows that its text means.
 pub record Reads {T : Type 0} (IsRead : List Row → T → Type 0) (text : List ℕ) (params : Row) (old new : db.State) (r : Result T Error) : Type 0 where
   pub told : Told site old new r
   pub same : db.HasCleanDisk new → Stands site old.now → OnOk r (new.now ≡ old.now)
   pub rows : db.HasCleanDisk new → IfOk r (λ read. (rows : List Row) × db.Shown text params old new rows × IsRead rows read)
 
--- The text is asked over a connection, and this is read of its rows; an idle connection stays idle.
+-- The text is asked over a connection, and this is read from its rows; an idle connection stays
+-- idle.
 pub record AsksAndReads {S T : Type 0} (g : Ghosts S) (IsRead : List Row → T → Type 0) (text : List ℕ) (params : Row) (old new : Held S) (r : Result T Error) : Type 0 where
   pub idle : StaysIdle old new
   pub reads : Reads IsRead text params (state g old) (state g new) r
 
--- all of the rows, as typed rows whose values are those of their types
+-- all of the rows, as typed rows whose values are within the limits of their types
 abbrev pub AreTyped : {T : Type 0} → (T → Row) → (T → Type 0) → List Row → Vec T Global → Type 0
 AreTyped cells IsReadable rows typed = (rows ≡ map cells typed.items) × AllByRecursion IsReadable typed.items
 

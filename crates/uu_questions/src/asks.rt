@@ -10,7 +10,7 @@ use sqlite::{Alter, Connection, Error};
 use std::alloc::Global;
 use uu_rows::{TypedRow, first_row, read_rows};
 
-/// The rows that the question shows, as typed rows.
+/// The rows of the answer, as typed rows.
 pub(crate) fn typed_rows<S: Alter, T: TypedRow>(
     alloc: Global,
     conn: &mut Connection<S>,
@@ -24,7 +24,7 @@ pub(crate) fn typed_rows<S: Alter, T: TypedRow>(
     read_rows(alloc, &rows)
 }
 
-/// The first row that the question shows, as a typed row, if there is one.
+/// The first row of the answer, as a typed row, if there is one.
 pub(crate) fn typed_row<S: Alter, T: TypedRow>(
     alloc: Global,
     conn: &mut Connection<S>,
@@ -38,7 +38,7 @@ pub(crate) fn typed_row<S: Alter, T: TypedRow>(
     first_row(alloc, &rows)
 }
 
-/// Whether the question shows a row.
+/// Whether the answer has a row.
 pub(crate) fn has_row<S: Alter>(
     conn: &mut Connection<S>,
     sql: &str,

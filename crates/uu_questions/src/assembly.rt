@@ -1,4 +1,4 @@
-// Systems put together from the rows of four tables.
+// Systems assembled from the rows of four tables.
 ghost use Rattle.std.specs.Prelude.{◌≡◌, ◌≤◌, ◌<◌, ◌^◌, true, false, List, Bool, map, Ok, IfOk, length};
 ghost use Rattle.std.specs.List.{prefix_len};
 ghost use Rattle.uu_questions.specs.Assembly.{is_line_of, is_range_of, is_wait_of, is_range_of_line, own, others, range_of, line_from, lines_from, wait_from, lines_and_wait, lines_and_wait_of_each, AreRowsOfSystems, HasOutcome, HaveWindows, MakeSystem, MakeSystems};
@@ -60,7 +60,7 @@ impl Owner<RangeColumns> for LineColumns {
     }
 }
 
-// How many rows at the front belong to the owner.
+// How many rows at the beginning belong to the owner.
 fn count_own<P: Owner<C>, C>(owner: &P, children: &[C]) -> usize
     ensures within { result ≤ length children.now }
     ensures count { result ≡ prefix_len (P.owns owner.now) children.now }
@@ -75,7 +75,7 @@ fn count_own<P: Owner<C>, C>(owner: &P, children: &[C]) -> usize
     count
 }
 
-// The rows at the front that belong to the owner, and the rest.
+// The rows at the beginning that belong to the owner, and the rest.
 fn split_own<'a, P: Owner<C>, C>(owner: &P, children: &'a [C]) -> (&'a [C], &'a [C])
     ensures own { result.0.now ≡ own P.owns owner.now children.now }
     ensures others { result.1.now ≡ others P.owns owner.now children.now }
@@ -90,7 +90,7 @@ fn minute_of(minute: u32) -> Result<u16, RowFault>
     u16::try_from(minute).map_err(|_| RowFault::Bad)
 }
 
-// The set of minutes whose ranges these are.
+// The set of minutes with these ranges.
 fn windows_of(alloc: Global, ranges: &[RangeColumns]) -> Result<Windows, RowFault>
     ensures windows { IfOk result (λ windows. windows ≡ map range_of ranges.now) }
     ensures bad { NotIf result (AreRuns (map range_of ranges.now)) }
@@ -124,7 +124,7 @@ fn lines_of(
     Ok(Listed::from_vec(made))
 }
 
-// The seconds of the first row, and 0 where there is none.
+// The seconds of the first row, or 0 if there is none.
 fn wait_of(waits: &[WaitColumns]) -> u32
     ensures { result ≡ wait_from waits.now }
 {
@@ -171,8 +171,8 @@ fn system_of(
     })
 }
 
-// The systems whose rows, with those of their lines, of the ranges of these and of their success
-// waits, stand at the front one after the other.
+// The systems whose rows are the first ones of these lists, one system after the other. The lists
+// have the rows of systems, of their lines, of the ranges of these, and of their success waits.
 fn put_in_turn(
     alloc: Global,
     systems: &[SystemColumns],
@@ -201,8 +201,8 @@ fn put_in_turn(
     Ok(made)
 }
 
-// Whether the rows are those of systems that a spool may hold: none is left over, and each line
-// stands at its place.
+// Whether the rows are those of systems that a spool may have: no row is left over, and each line
+// is at its place.
 fn are_of_systems(
     alloc: Global,
     systems: &[SystemColumns],
@@ -230,8 +230,8 @@ fn are_of_systems(
     )
 }
 
-/// The systems whose rows, with those of their lines, of the ranges of these and of their success
-/// waits, are given, each list in the order of its key.
+/// The systems with these rows: their own, those of their lines, of the ranges of these, and of
+/// their success waits, each list in the order of its key.
 pub(crate) fn systems_of(
     alloc: Global,
     systems: &[SystemColumns],

@@ -20,7 +20,7 @@ use uu_times::Moment;
 
 // ---- what the tables say
 
-// A moment's second, which 32 bits hold.
+// A moment's second, which fits into 32 bits.
 fn second_of(at: &Moment) -> u32
     ensures { result ≡ at.now.second }
 {
@@ -50,7 +50,7 @@ fn held_systems<S: Alter>(
     )
 }
 
-// The lines whose windows hold the minute of the week.
+// The lines whose windows contain the minute of the week.
 fn open_lines<S: Alter>(
     alloc: Global,
     conn: &mut Connection<S>,
@@ -68,7 +68,7 @@ fn open_lines<S: Alter>(
 
 // ---- limits
 
-// The lowest grade of the lines of each system.
+// The lowest grade of each system's lines.
 fn lowest_of(alloc: Global, lines: &[LineColumns]) -> Result<BTreeMap<SiteName, Grade>, AllocError>
     ensures { IfOk result (λ limits. AreLimits (get (slice_cmp nat_cmp) limits) (lets_through lines.now)) }
 {
@@ -93,8 +93,8 @@ fn without(
     left
 }
 
-// The lowest grade for which each system may be called; a system that may not be called isn't
-// there.
+// The lowest grade for which each system may be called. A system that may not be called isn't in
+// the map.
 fn limits(
     alloc: Global,
     lines: &[LineColumns],
@@ -106,9 +106,9 @@ fn limits(
     Ok(without(lowest, held))
 }
 
-/// The lowest grade for which each system may be called at this moment; a system that may not be
-/// called isn't there. Only the lines whose windows hold the minute and the systems that are left
-/// alone are read.
+/// The lowest grade for which each system may be called at this moment. A system that may not be
+/// called isn't in the map. It reads only the lines whose windows contain the minute, and the
+/// systems that are left alone.
 pub(crate) fn callable<S: Alter>(
     alloc: Global,
     conn: &mut Connection<S>,

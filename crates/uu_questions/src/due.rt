@@ -40,7 +40,7 @@ fn read_due(alloc: Global, row: &Row) -> Result<Due, RowFault>
     })
 }
 
-// A job with its system and grade, as a row shows it.
+// The job of a row, with its system and grade.
 fn due_in(alloc: Global, row: &Row) -> Result<Due, Error>
     ensures due { IfOk result (λ due. (other : Due) → row.now ≡ due_cells other → due ≡ other) }
     ensures memory { (due : Due) → IsTrue (is_site_name due.system) → due.grade < grade_count → IsSmall due.number → row.now ≡ due_cells due → IfErr result (λ error. error ≡ SqliteFailure OutOfMemory) }
@@ -49,7 +49,7 @@ fn due_in(alloc: Global, row: &Row) -> Result<Due, Error>
     or_error(read_due(alloc, row))
 }
 
-// Lists the job if its system may be called for it, and lets the system go then.
+// Lists the job if its system may be called for it, and then removes the system's limit.
 fn offer(
     left: &mut BTreeMap<SiteName, Grade>,
     dues: &mut Vec<Due>,
@@ -65,8 +65,7 @@ fn offer(
     Ok(())
 }
 
-// The systems that may still be called, each with the lowest grade for which, and what is listed so
-// far.
+// The systems that may still be called, each with its lowest grade, and what is listed so far.
 #[derive(Drop)]
 struct DueWalk {
     alloc: Global,
@@ -84,7 +83,7 @@ impl RowTaker for DueWalk {
     }
 }
 
-// What is due, of systems with these limits.
+// What is due, if the systems have these limits.
 fn due_within<S: Alter>(
     alloc: Global,
     conn: &mut Connection<S>,
@@ -109,10 +108,11 @@ fn due_within<S: Alter>(
     Ok(walk.dues)
 }
 
-/// The systems that may be called at this moment and have a job to be called for, each with the
-/// first of its jobs by grade and number whose grade is within its limit. They stand by grade and
-/// number of these jobs. Three questions are asked: which lines have windows that hold the minute,
-/// which systems are left alone, and the jobs, which are taken one at a time, without their bytes.
+/// The systems that may be called at this moment and have a job to be called for. Each comes with
+/// the first of its jobs, by grade and number, whose grade is within its limit. The list is in the
+/// order of these jobs, by grade and number. It asks three questions: which lines have windows that
+/// contain the minute, which systems are left alone, and the jobs. These are read one at a time,
+/// without their bytes.
 pub fn systems_due<S: Alter>(
     alloc: Global,
     conn: &mut Connection<S>,

@@ -1,29 +1,32 @@
-// What is asked before a command: the facts that it is planned by.
-ghost use Rattle.std.specs.Prelude.{◌≡◌, ℕ, pos, [], ◌∷◌, option_map, map, IfOk, IfErr};
+// What is asked before a command: the facts from which it is planned.
+ghost use Rattle.std.specs.Prelude.{◌≡◌, ℕ, pos, [], ◌∷◌, option_map, map, filter, IfOk, IfErr};
 ghost use Rattle.sqlite.specs.declared.types.Value.TheVariants.{Int};
 ghost use Rattle.sqlite.specs.declared.error.Error.TheVariants.{SqliteFailure};
 ghost use Rattle.sqlite.specs.declared.error.ErrorCode.TheVariants.{OutOfMemory};
 ghost use Rattle.uu_core.specs.State.{has_system, system_at, is_waiting, job_at, head_of, link_of, taken_at};
-ghost use Rattle.uu_core.specs.Verdict.{are_known, taken_of};
+ghost use Rattle.uu_core.specs.Verdict.{verdict, are_known, taken_of};
 ghost use Rattle.uu_core.specs.Laws.{AreFound};
 ghost use Rattle.uu_tables.specs.declared.facts.Facts.{Facts};
-ghost use Rattle.uu_tables.specs.Plans.{AreFacts, AreOfSuccess};
+ghost use Rattle.uu_core.specs.declared.command.Command.TheVariants.{Define, Remove, Queue, QueueOnce, Kill, Regrade, Rejuvenate, Failed, Done, Release, Forget};
+ghost use Rattle.uu_tables.specs.Plans.{AreFacts, AreOfSuccess, AreOfRelease, IsFor, waits_under};
 ghost use Rattle.uu_rows.specs.Readable.{IsSmall};
 ghost use Rattle.uu_questions.specs.Answers.{Asks};
 ghost use Rattle.uu_questions.specs.Links.{below_in, taken_in};
+ghost use Rattle.uu_questions.specs.Waiting.{is_for};
 
 use crate::asks::{has_row, typed_row};
 use crate::systems::system_of_name;
 use sqlite::{Alter, Connection, Error, Row, params};
 use std::alloc::Global;
-use uu_core::{Command, JobHead, Key, NewJob, Taken};
+use uu_core::laws::refusals_change_nothing;
+use uu_core::{Command, JobHead, Key, NewJob, Refusal, Taken};
 use uu_names::SiteName;
-use uu_tables::{Facts, LinkColumns, TakenColumns};
+use uu_tables::{Facts, LinkColumns, TakenColumns, make_plan};
 
 // ---- what a command names
 
 // Whether a system of this name is known.
-fn is_known<S: Alter>(conn: &mut Connection<S>, name: &SiteName) -> Result<bool, Error>
+pub(crate) fn is_known<S: Alter>(conn: &mut Connection<S>, name: &SiteName) -> Result<bool, Error>
     ensures { Asks S.Store (λ s known. known ≡ has_system s name.now) conn.old conn.new result }
 {
     has_row(
@@ -44,7 +47,7 @@ fn is_waiting<S: Alter>(conn: &mut Connection<S>, name: &SiteName) -> Result<boo
     )
 }
 
-// The number that the rows of the question show. No row is no spool's.
+// The number in the rows of the answer. A spool always has the row.
 fn next_in(rows: &[Row]) -> Result<u32, Error>
     ensures next { IfOk result (λ next. (n : ℕ) → rows.now ≡ (Int (pos n) ∷ []) ∷ [] → next ≡ n) }
     ensures memory { (n : ℕ) → IsSmall n → rows.now ≡ (Int (pos n) ∷ []) ∷ [] → IfErr result (λ error. error ≡ SqliteFailure OutOfMemory) }
@@ -79,7 +82,7 @@ pub(crate) fn head_of_job<S: Alter>(
     )
 }
 
-// The jobs of these numbers without their bytes, as many as are there; a number that stands twice
+// The jobs of these numbers without their bytes, as many as are there. A number that occurs twice
 // gives its job twice.
 fn heads_of_jobs<S: Alter>(
     alloc: Global,
@@ -97,7 +100,48 @@ fn heads_of_jobs<S: Alter>(
     Ok(found)
 }
 
-// The number of the row of a link, if it has one.
+// Whether the job is there and waits for the system of this name.
+fn is_for(head: &Option<JobHead>, name: &SiteName) -> bool
+    ensures { result ≡ is_for name.now head.now }
+{
+    match head {
+        Some(head) => head.system == *name,
+        None => false,
+    }
+}
+
+// Whether the job of this number waits for the system of this name.
+fn waits_under<S: Alter>(
+    alloc: Global,
+    conn: &mut Connection<S>,
+    name: &SiteName,
+    number: u32,
+) -> Result<bool, Error>
+    ensures { Asks S.Store (λ s waits. waits ≡ waits_under s name.now number) conn.old conn.new result }
+{
+    let head = head_of_job(alloc, conn, number)?;
+    Ok(is_for(&head, name))
+}
+
+// Those of the numbers under which a job waits for the system of this name.
+fn numbers_that_wait<S: Alter>(
+    alloc: Global,
+    conn: &mut Connection<S>,
+    name: &SiteName,
+    numbers: &[u32],
+) -> Result<Vec<u32>, Error>
+    ensures { Asks S.Store (λ s found. found.items ≡ filter (waits_under s name.now) numbers.now) conn.old conn.new result }
+{
+    let mut found = Vec::new(alloc);
+    for number in numbers {
+        if waits_under(alloc, conn, name, *number)? {
+            found.push(*number)?;
+        }
+    }
+    Ok(found)
+}
+
+// The number in the row of a link, or 0 if there is no row.
 fn below_in(row: Option<LinkColumns>) -> u32
     ensures { result ≡ below_in row }
 {
@@ -123,8 +167,8 @@ fn row_of_link<S: Alter>(
     )
 }
 
-// The number below which the neighbour asks for none again.
-fn below_of<S: Alter>(
+// The number below which the neighbour won't ask again.
+pub(crate) fn below_of<S: Alter>(
     alloc: Global,
     conn: &mut Connection<S>,
     name: &SiteName,
@@ -135,7 +179,7 @@ fn below_of<S: Alter>(
     Ok(below_in(row))
 }
 
-// What was taken, of its row.
+// What was taken, from its row.
 fn taken_in(row: Option<TakenColumns>) -> Option<Taken>
     ensures { result ≡ taken_in row }
 {
@@ -163,7 +207,7 @@ fn row_of_taken<S: Alter>(
 }
 
 // What was taken from the neighbour under this number.
-fn taken_of<S: Alter>(
+pub(crate) fn taken_of<S: Alter>(
     alloc: Global,
     conn: &mut Connection<S>,
     name: &SiteName,
@@ -178,14 +222,16 @@ fn taken_of<S: Alter>(
 // ---- the facts of each command
 
 fn definition<S: Alter>(conn: &mut Connection<S>, system: &SiteName) -> Result<Facts, Error>
-    ensures { Asks S.Store (λ s facts. facts ≡ Facts.Definition (has_system s system.now)) conn.old conn.new result }
+    ensures asks { Asks S.Store (λ s facts. facts ≡ Facts.Definition (has_system s system.now)) conn.old conn.new result }
+    ensures suits { (def : _) → IfOk result (λ facts. IsFor facts (Define def)) }
 {
     let known = is_known(conn, system)?;
     Ok(Facts::Definition { known })
 }
 
 fn removal<S: Alter>(conn: &mut Connection<S>, system: &SiteName) -> Result<Facts, Error>
-    ensures { Asks S.Store (λ s facts. facts ≡ Facts.Removal (has_system s system.now) (is_waiting s system.now)) conn.old conn.new result }
+    ensures asks { Asks S.Store (λ s facts. facts ≡ Facts.Removal (has_system s system.now) (is_waiting s system.now)) conn.old conn.new result }
+    ensures suits { (name : _) → IfOk result (λ facts. IsFor facts (Remove name)) }
 {
     let known = is_known(conn, system)?;
     let waiting = is_waiting(conn, system)?;
@@ -193,7 +239,8 @@ fn removal<S: Alter>(conn: &mut Connection<S>, system: &SiteName) -> Result<Fact
 }
 
 fn queueing<S: Alter>(conn: &mut Connection<S>, system: &SiteName) -> Result<Facts, Error>
-    ensures { Asks S.Store (λ s facts. facts ≡ Facts.Queueing (has_system s system.now) s.next) conn.old conn.new result }
+    ensures asks { Asks S.Store (λ s facts. facts ≡ Facts.Queueing (has_system s system.now) s.next) conn.old conn.new result }
+    ensures suits { (job : _) → IfOk result (λ facts. IsFor facts (Queue job)) }
 {
     let known = is_known(conn, system)?;
     let next = next_number(conn)?;
@@ -201,7 +248,10 @@ fn queueing<S: Alter>(conn: &mut Connection<S>, system: &SiteName) -> Result<Fac
 }
 
 fn head<S: Alter>(alloc: Global, conn: &mut Connection<S>, number: u32) -> Result<Facts, Error>
-    ensures { Asks S.Store (λ s facts. facts ≡ Facts.Head (option_map head_of (job_at s number))) conn.old conn.new result }
+    ensures asks { Asks S.Store (λ s facts. facts ≡ Facts.Head (option_map head_of (job_at s number))) conn.old conn.new result }
+    ensures kill { (job : _) → (by : _) → IfOk result (λ facts. IsFor facts (Kill job by)) }
+    ensures regrade { (job : _) → (grade : _) → (by : _) → IfOk result (λ facts. IsFor facts (Regrade job grade by)) }
+    ensures rejuvenate { (job : _) → (at : _) → (by : _) → IfOk result (λ facts. IsFor facts (Rejuvenate job at by)) }
 {
     let head = head_of_job(alloc, conn, number)?;
     Ok(Facts::Head(head))
@@ -212,7 +262,8 @@ fn failure<S: Alter>(
     conn: &mut Connection<S>,
     system: &SiteName,
 ) -> Result<Facts, Error>
-    ensures { Asks S.Store (λ s facts. facts ≡ Facts.Failure (system_at s system.now)) conn.old conn.new result }
+    ensures asks { Asks S.Store (λ s facts. facts ≡ Facts.Failure (system_at s system.now)) conn.old conn.new result }
+    ensures suits { (name : _) → (at : _) → (why : _) → IfOk result (λ facts. IsFor facts (Failed name at why)) }
 {
     let row = system_of_name(alloc, conn, system)?;
     Ok(Facts::Failure(row))
@@ -224,7 +275,8 @@ fn success<S: Alter>(
     system: &SiteName,
     numbers: &[u32],
 ) -> Result<Facts, Error>
-    ensures { Asks S.Store (λ s facts. AreOfSuccess facts s system.now numbers.now) conn.old conn.new result }
+    ensures asks { Asks S.Store (λ s facts. AreOfSuccess facts s system.now numbers.now) conn.old conn.new result }
+    ensures suits { (name : _) → (at : _) → (jobs : _) → IfOk result (λ facts. IsFor facts (Done name at jobs)) }
 {
     let row = system_of_name(alloc, conn, system)?;
     let found = heads_of_jobs(alloc, conn, numbers)?;
@@ -236,7 +288,8 @@ fn forgetting<S: Alter>(
     conn: &mut Connection<S>,
     system: &SiteName,
 ) -> Result<Facts, Error>
-    ensures { Asks S.Store (λ s facts. facts ≡ Facts.Forgetting (has_system s system.now) (link_of s system.now).below) conn.old conn.new result }
+    ensures asks { Asks S.Store (λ s facts. facts ≡ Facts.Forgetting (has_system s system.now) (link_of s system.now).below) conn.old conn.new result }
+    ensures suits { (name : _) → (below : _) → IfOk result (λ facts. IsFor facts (Forget name below)) }
 {
     let known = is_known(conn, system)?;
     let before = below_of(alloc, conn, system)?;
@@ -265,7 +318,7 @@ fn are_known_and_next<S: Alter>(
     Ok((known, next))
 }
 
-// What is known of the key's link.
+// What is known about the key's link.
 fn below_and_taken<S: Alter>(
     alloc: Global,
     conn: &mut Connection<S>,
@@ -284,7 +337,8 @@ fn keyed_queueing<S: Alter>(
     key: &Key,
     job: &NewJob,
 ) -> Result<Facts, Error>
-    ensures { Asks S.Store (λ s facts. facts ≡ Facts.KeyedQueueing (are_known s key.now job.now) s.next (link_of s key.now.from).below (taken_of s key.now)) conn.old conn.new result }
+    ensures asks { Asks S.Store (λ s facts. facts ≡ Facts.KeyedQueueing (are_known s key.now job.now) s.next (link_of s key.now.from).below (taken_of s key.now)) conn.old conn.new result }
+    ensures suits { (key : _) → (job : _) → IfOk result (λ facts. IsFor facts (QueueOnce key job)) }
 {
     let (known, next) = are_known_and_next(conn, key, job)?;
     let (below, taken) = below_and_taken(alloc, conn, key)?;
@@ -296,13 +350,28 @@ fn keyed_queueing<S: Alter>(
     })
 }
 
-/// What is to be known before the command is planned, as far as the command names it.
+fn releasing<S: Alter>(
+    alloc: Global,
+    conn: &mut Connection<S>,
+    system: &SiteName,
+    numbers: &[u32],
+) -> Result<Facts, Error>
+    ensures asks { Asks S.Store (λ s facts. AreOfRelease facts s system.now numbers.now) conn.old conn.new result }
+    ensures suits { (name : _) → (jobs : _) → IfOk result (λ facts. IsFor facts (Release name jobs)) }
+{
+    let found = numbers_that_wait(alloc, conn, system, numbers)?;
+    Ok(Facts::Releasing { found })
+}
+
+/// What has to be known before the command is planned: only what the command names. The facts are
+/// of the kind that the command asks for, with any database.
 pub fn facts_for<S: Alter>(
     alloc: Global,
     conn: &mut Connection<S>,
     command: &Command,
 ) -> Result<Facts, Error>
-    ensures { Asks S.Store (λ s facts. AreFacts facts s command.now) conn.old conn.new result }
+    ensures asks { Asks S.Store (λ s facts. AreFacts facts s command.now) conn.old conn.new result }
+    ensures suits { IfOk result (λ facts. IsFor facts command.now) }
 {
     match command {
         Command::Define(def) => definition(conn, &def.name),
@@ -314,7 +383,22 @@ pub fn facts_for<S: Alter>(
         | Command::Rejuvenate { job, .. } => head(alloc, conn, *job),
         Command::Failed { system, .. } => failure(alloc, conn, system),
         Command::Done { system, jobs, .. } => success(alloc, conn, system, jobs.as_slice()),
+        Command::Release { system, jobs } => releasing(alloc, conn, system, jobs.as_slice()),
         Command::Entry(_) => Ok(Facts::Nothing),
         Command::Forget { system, .. } => forgetting(alloc, conn, system),
     }
+}
+
+/// Why the command would be refused now, if it would be: the refusal that its plan has.
+pub fn refusal_of<S: Alter>(
+    alloc: Global,
+    conn: &mut Connection<S>,
+    command: &Command,
+) -> Result<Option<Refusal>, Error>
+    ensures { Asks S.Store (λ s refusal. refusal ≡ verdict s command.now) conn.old conn.new result }
+{
+    refusals_change_nothing();
+    let facts = facts_for(alloc, conn, command)?;
+    let plan = make_plan(alloc, &facts, command)?;
+    Ok(plan.reply.refusal())
 }

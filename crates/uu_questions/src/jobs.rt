@@ -19,14 +19,14 @@ use sqlite::{Alter, Connection, Error, Row, params};
 use std::alloc::Global;
 use uu_core::{Filter, JobHead};
 
-// Whether neither the system nor the user matters.
+// Whether the filter gives no system and no user.
 fn wants_all(filter: &Filter) -> bool
     ensures { IsTrue result ↔ WantsAll filter.now }
 {
     filter.system_text().is_none() && filter.user_text().is_none()
 }
 
-// All jobs, which are those that fit where neither the system nor the user matters.
+// All jobs, which match a filter that gives no system and no user.
 fn list_all_jobs<S: Alter>(alloc: Global, conn: &mut Connection<S>) -> Result<Vec<JobHead>, Error>
     ensures { Asks S.Store (λ s heads. (f : Filter) → WantsAll f → heads.items ≡ listed f s) conn.old conn.new result }
 {
@@ -38,7 +38,7 @@ fn list_all_jobs<S: Alter>(alloc: Global, conn: &mut Connection<S>) -> Result<Ve
     )
 }
 
-// The jobs that fit.
+// The jobs that match.
 fn list_fitting_jobs<S: Alter>(
     alloc: Global,
     conn: &mut Connection<S>,
@@ -56,7 +56,7 @@ fn list_fitting_jobs<S: Alter>(
     )
 }
 
-/// The jobs that fit, without their bytes, by (rank, number).
+/// The jobs that match, without their bytes, by (rank, number).
 pub fn list_jobs<S: Alter>(
     alloc: Global,
     conn: &mut Connection<S>,
@@ -91,7 +91,7 @@ impl RowTaker for Joined {
     }
 }
 
-// The bytes of the job of this number, taken one piece at a time.
+// The bytes of the job of this number, read one piece at a time.
 fn bytes_of_job<S: Alter>(
     alloc: Global,
     conn: &mut Connection<S>,
@@ -124,9 +124,9 @@ fn whole_job(head: JobHead, bytes: Vec<u8>) -> Result<Option<(JobHead, Vec<u8>)>
     }
 }
 
-/// The job of this number with its bytes, if it is there. Beside the job itself one piece at a time
-/// is held. A job that has another number of bytes than its row says is an error, off a clean store
-/// too.
+/// The job of this number with its bytes, if it is there. Besides the job itself, one piece at a
+/// time is in memory. If a job hasn't as many bytes as its row says, that is an error, on an
+/// unclean store too.
 pub fn job_of_number<S: Alter>(
     alloc: Global,
     conn: &mut Connection<S>,

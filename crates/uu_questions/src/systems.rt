@@ -67,7 +67,7 @@ fn ranges_of<S: Alter>(
     )
 }
 
-// The row of the success wait of the system of this name, if it is not 0.
+// The row of the success wait of the system of this name, if it isn't 0.
 fn waits_of<S: Alter>(
     alloc: Global,
     conn: &mut Connection<S>,
@@ -118,7 +118,7 @@ fn all_waits<S: Alter>(alloc: Global, conn: &mut Connection<S>) -> Result<Vec<Wa
     read_rows(alloc, &rows)
 }
 
-// Lines with their ranges, and success waits, as they are put together with their systems.
+// Lines with their ranges, and success waits, to be assembled with their systems.
 #[derive(Drop)]
 struct LineRows {
     lines: Vec<LineColumns>,
@@ -162,7 +162,7 @@ fn all_line_rows<S: Alter>(alloc: Global, conn: &mut Connection<S>) -> Result<Li
     })
 }
 
-// The systems that the rows make.
+// The systems of these rows.
 fn put_together(
     alloc: Global,
     systems: &[SystemColumns],
@@ -170,10 +170,10 @@ fn put_together(
 ) -> Result<Vec<SystemRow>, Error>
     ensures systems { IfOk result (λ made. AreRowsOfSystems made.items systems.now rows.now.lines.items rows.now.ranges.items rows.now.waits.items) }
 
-    // Of rows of systems that a spool may hold, want of memory is the only error.
+    // If the rows are those of systems that a spool may have, the only error is out of memory.
     ensures memory { (made : List SystemRow) → AreRowsOfSystems made systems.now rows.now.lines.items rows.now.ranges.items rows.now.waits.items → IfErr result (λ error. error ≡ SqliteFailure OutOfMemory) }
 
-    // Of any rows, any other error is that of rows that the format does not allow.
+    // Any other error is that of rows that the format doesn't allow.
     ensures bad { IfErr result (λ error. error ≢ SqliteFailure OutOfMemory → error ≡ QueryReturnedNoRows) }
 {
     or_error(systems_of(alloc, systems, &rows.lines, &rows.ranges, &rows.waits))
@@ -199,8 +199,8 @@ pub(crate) fn system_of_name<S: Alter>(
     Ok(first_of(put_together(alloc, &columns, &rows)?))
 }
 
-/// All systems in the byte order of their names, with their definitions and their calls. A spool
-/// may hold what is handed out, off a clean store too.
+/// All systems in the byte order of their names, with their definitions and their calls. The result
+/// could be in a spool, on an unclean store too.
 pub fn all_systems<S: Alter>(
     alloc: Global,
     conn: &mut Connection<S>,

@@ -1,4 +1,4 @@
-// The rows of an answer, taken one at a time.
+// The rows of an answer, read one at a time.
 ghost use Rattle.std.specs.Prelude.{OnOk};
 ghost use Rattle.sqlite.specs.Order.{Row};
 ghost use Rattle.sqlite.specs.Values.{bound};
@@ -10,7 +10,7 @@ ghost use Rattle.uu_questions.specs.Walks.{AsksAndWalks};
 use sqlite::types::ValueRef;
 use sqlite::{Alter, Connection, Error, Row};
 
-/// What takes the rows of an answer, one after the other.
+/// Something that takes the rows of an answer, one after the other.
 pub(crate) trait RowTaker {
     /// What it is before a row, the row, and what it is after it.
     ghost takes: { Self → Row → Self → Type 0 };
@@ -20,7 +20,7 @@ pub(crate) trait RowTaker {
         ensures { OnOk result (takes self.old row.now self.new) };
 }
 
-/// Hands over each row that the question shows, one at a time.
+/// Passes on each row of the answer, one at a time.
 pub(crate) fn walk_rows<S: Alter, T: RowTaker>(
     conn: &mut Connection<S>,
     sql: &str,

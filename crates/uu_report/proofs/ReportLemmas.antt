@@ -20,7 +20,7 @@ pub lines_grow : {X : Type 0} (IsLine : X → List ℕ → Type 0) (xs : List X)
     → i < length xs → x ≡ get_or xs i x → AreLines IsLine (take i xs) report → IsLine x line → AreLines IsLine (take (i + 1) xs) (report ++ line)
 lines_grow IsLine xs i x report line inside is all one = rw (take_with xs i x inside is) (AreLines-append IsLine (take i xs) x report line all one)
 
--- the same where each item has one line, after what was there at the start
+-- the same if each item has one line, after what was there at the start
 pub texts_grow : {X : Type 0} (text : X → List ℕ) (xs : List X) (i : ℕ) (x : X) (start before line after : List ℕ)
     → i < length xs → x ≡ get_or xs i x → before ≡ start ++ flat_map text (take i xs) → line ≡ text x → after ≡ before ++ line
     → after ≡ start ++ flat_map text (take (i + 1) xs)

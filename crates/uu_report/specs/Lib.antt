@@ -1,3 +1,4 @@
 pub mod Reports
 pub mod Replies
 pub mod Outputs
+pub mod Internal

@@ -1,4 +1,4 @@
--- What is printed of a reply. The texts are this project's choice.
+-- What is printed for a reply. The texts are this project's choice.
 use Rattle.std.specs.Prelude.{ℕ, Bool, true, false, List, [], ◌∷◌, ◌++◌, codes}
 use Rattle.std.specs.Fmt.{decimal}
 use Rattle.uu_core.specs.Refusal.{refusal_name}

@@ -1,8 +1,8 @@
 -- The reports of jobs, of what is due, of next calls, of queues, of systems and of links. Their
 -- forms are this project's choice; the civil calendar is that of `jiff_core`.
-use Rattle.std.specs.Prelude.{◌≡◌, ℕ, ◌-◌, Option, Some, List, [], ◌∷◌, ◌++◌, None, codes, slice_get, option_to_list}
+use Rattle.std.specs.Prelude.{◌≡◌, ℕ, ◌≤◌, ◌-◌, All, Option, Some, List, [], ◌∷◌, ◌++◌, None, codes, length, map, slice_get, option_to_list}
 use Rattle.std.specs.Fmt.{decimal}
-use Rattle.std.specs.List.{flat_map}
+use Rattle.std.specs.List.{concat, flat_map}
 use Rattle.jiff_core.specs.DateTime.{civil_nanos}
 use Rattle.jiff_core.specs.Timestamp.{nanos_of_seconds}
 use Rattle.jiff_core.specs.declared.civil.datetime.DateTime.{DateTime}
@@ -14,11 +14,15 @@ use Rattle.uu_map.specs.declared.entry.Cost.{Cost}
 use Rattle.uu_map.specs.declared.entry.Cost.TheVariants.{Value, Dead}
 use Rattle.uu_map.specs.declared.entry.Link.{Link}
 use Rattle.uu_map.specs.declared.entry.Entry.{Entry}
+use Rattle.uu_bundle.specs.declared.bundle.Refused.{Refused}
+use Rattle.uu_core.specs.Refusal.{refusal_name}
+use Rattle.uu_core.specs.State.{most_done}
 use Rattle.uu_core.specs.declared.job.JobHead.{JobHead}
 use Rattle.uu_core.specs.declared.job.Kind.{Kind}
 use Rattle.uu_core.specs.declared.job.Kind.TheVariants.{Send, Request, Execute}
 use Rattle.uu_core.specs.declared.due.Due.{Due}
 use Rattle.uu_core.specs.declared.next_call.NextCall.{NextCall}
+use Rattle.uu_core.specs.declared.next_call.NextPoll.{NextPoll}
 use Rattle.uu_core.specs.declared.next_call.Why.{Why}
 use Rattle.uu_core.specs.declared.next_call.Why.TheVariants as why
 use Rattle.uu_core.specs.declared.queue.Queue.{Queue}
@@ -29,7 +33,7 @@ use Rattle.uu_core.specs.declared.system.SystemRow.{SystemRow}
 
 -- ---- moments
 
--- what a site's clock shows at a second
+-- the local time of a site at a second
 abbrev pub IsLocalTime : Zone → ℕ → DateTime → Type 0
 IsLocalTime zone second local = civil_nanos local ≡ nanos_of_seconds (local_second zone second)
 
@@ -37,7 +41,7 @@ IsLocalTime zone second local = civil_nanos local ≡ nanos_of_seconds (local_se
 unfoldable pub clock_text : DateTime → List ℕ
 clock_text local = date_text local.date ++ 32 ∷ time_text None local.time
 
--- what such a clock shows at a second, as a text
+-- the local time of a site at a second, as a text
 abbrev pub IsMoment : Zone → ℕ → List ℕ → Type 0
 IsMoment zone second text =
     (local : DateTime) × IsLocalTime zone second local × (text ≡ clock_text local)
@@ -66,7 +70,7 @@ grade_text rank = option_to_list (slice_get grade_bytes rank)
 
 -- ---- jobs
 
--- what is to be done with the job
+-- what the job is for
 abbrev pub work_text : Kind → List ℕ
 work_text (Send source target) = spaced (codes "send" ∷ source ∷ target ∷ [])
 work_text (Request source target) = spaced (codes "request" ∷ source ∷ target ∷ [])
@@ -77,7 +81,7 @@ abbrev pub job_text : List ℕ → JobHead → List ℕ
 job_text moment job =
     line_of (decimal job.number ∷ job.system ∷ job.user ∷ grade_text job.grade ∷ moment ∷ decimal job.size ∷ work_text job.kind ∷ [])
 
--- the line of a job
+-- the line of a job at its local time
 abbrev pub IsJobLine : Zone → JobHead → List ℕ → Type 0
 IsJobLine zone job line =
     (moment : List ℕ) × IsMoment zone job.queued moment × (line ≡ job_text moment job)
@@ -94,14 +98,14 @@ due_text due = line_of (due.system ∷ grade_text due.grade ∷ decimal due.numb
 
 -- ---- next calls
 
--- why the system is called now for its first job, or why not
+-- why the system isn't called earlier, or that it is called now
 abbrev pub why_text : Why → List ℕ
 why_text why.Due = codes "due"
 why_text why.Held = codes "held"
 why_text why.Closed = codes "closed"
 why_text why.Grade = codes "grade"
 
--- in how many seconds a call comes, counted from the second `now` on, and at which moment; or that
+-- in how many seconds, counted from the second `now` on, and at which moment a call comes; or that
 -- it never comes
 abbrev pub IsTimeText : Zone → ℕ → Option ℕ → List ℕ → Type 0
 IsTimeText zone now None text = text ≡ codes "never"
@@ -118,6 +122,16 @@ IsNextCallLine zone now call line =
 abbrev pub IsNextCallsReport : Zone → ℕ → List NextCall → List ℕ → Type 0
 IsNextCallsReport zone now = AreLines (IsNextCallLine zone now)
 
+-- the line of a system with a job or without one
+abbrev pub IsNextPollLine : Zone → ℕ → NextPoll → List ℕ → Type 0
+IsNextPollLine zone now poll line =
+    (time : List ℕ) × IsTimeText zone now poll.second time
+    × (line ≡ line_of (poll.system ∷ codes "-" ∷ codes "-" ∷ time ∷ why_text poll.why ∷ []))
+
+-- the report of when systems can next be called, with a job or without one
+abbrev pub IsNextPollsReport : Zone → ℕ → List NextPoll → List ℕ → Type 0
+IsNextPollsReport zone now = AreLines (IsNextPollLine zone now)
+
 -- ---- queues
 
 -- the line of a system for which jobs wait, the oldest since this moment
@@ -125,7 +139,7 @@ abbrev pub queue_text : List ℕ → Queue → List ℕ
 queue_text moment queue =
     line_of (queue.system ∷ decimal queue.sums.jobs ∷ decimal queue.sums.bytes ∷ grade_text queue.sums.grade ∷ moment ∷ [])
 
--- the line of a system for which jobs wait
+-- the line of a system for which jobs wait, at local time
 abbrev pub IsQueueLine : Zone → Queue → List ℕ → Type 0
 IsQueueLine zone queue line =
     (moment : List ℕ) × IsMoment zone queue.sums.oldest moment × (line ≡ queue_text moment queue)
@@ -136,7 +150,7 @@ IsQueuesReport zone = AreLines (IsQueueLine zone)
 
 -- ---- systems
 
--- how the last call went, which was at this moment
+-- how the last call went, given its moment
 abbrev pub call_text : List ℕ → Outcome → List ℕ
 call_text moment Never = codes "never"
 call_text moment Done = spaced (codes "done" ∷ moment ∷ [])
@@ -173,7 +187,36 @@ alias_text alias = line_of (codes "=" ∷ alias ∷ [])
 abbrev pub skipped_text : ℕ → List ℕ
 skipped_text line = line_of (codes "skipped" ∷ decimal line ∷ [])
 
--- what an entry says of its host: the links, the other names, and the lines of the skipped
+-- what an entry says about its host: the links, the other names, and the lines of the skipped
 -- statements
 abbrev pub links_text : Entry → List ℕ
 links_text entry = flat_map link_text entry.links ++ flat_map alias_text entry.aliases ++ flat_map skipped_text entry.skipped
+
+-- ---- what is settled
+
+-- a system and the numbers of jobs
+abbrev pub settled_words : List ℕ → List ℕ → List ℕ
+settled_words system numbers = spaced (system ∷ map decimal numbers)
+
+abbrev pub settled_line : List ℕ → List ℕ → List ℕ
+settled_line system numbers = settled_words system numbers ++ 10 ∷ []
+
+-- The lines of the jobs that a system has: all their numbers, in their order, as many on a line as
+-- one report of a call may have, and at least one line.
+pub record AreSettledLines (system numbers report : List ℕ) : Type 0 where
+  pub full : List (List ℕ)
+  pub last : List ℕ
+  pub all : numbers ≡ concat full ++ last
+  pub full_have : All (λ line. length line ≡ most_done) full
+  pub last_has : length last ≤ most_done
+  pub some : 1 ≤ length full → 1 ≤ length last
+  pub report_is : report ≡ flat_map (settled_line system) full ++ settled_line system last
+
+-- the line of a job that the system refuses, and why
+abbrev pub refused_line : List ℕ → Refused → List ℕ
+refused_line system job = line_of (system ∷ codes "refused" ∷ decimal job.number ∷ refusal_name job.reason ∷ [])
+
+-- the report of the jobs that a system has, and then of those that it refuses
+abbrev pub IsSettleReport : List ℕ → List ℕ → List Refused → List ℕ → Type 0
+IsSettleReport system numbers refused report =
+    (lines : List ℕ) × AreSettledLines system numbers lines × (report ≡ lines ++ flat_map (refused_line system) refused)

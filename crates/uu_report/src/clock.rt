@@ -1,4 +1,4 @@
-//! What a site's clock shows at a second, as a text.
+//! The local time of a site at a second, as a text.
 
 ghost use Rattle.std.specs.Prelude.{◌≤◌, IfOk};
 ghost use Rattle.std.specs.String.{string_bytes};

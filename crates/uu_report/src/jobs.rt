@@ -12,7 +12,8 @@ use uu_times::Zone;
 use uu_times::moment::LAST_SECOND;
 
 /// The report of these jobs, in their order, a line for each:
-/// `NUMBER SYSTEM USER GRADE MOMENT SIZE KIND WORDS`, the moment as `yyyy-mm-dd hh:mm:ss` on the site's clock.
+/// `NUMBER SYSTEM USER GRADE MOMENT SIZE KIND WORDS`. The moment is the site's local time, as
+/// `yyyy-mm-dd hh:mm:ss`.
 pub fn jobs_report(alloc: Global, jobs: &[JobHead], zone: &Zone) -> Result<Vec<u8>, AllocError>
     requires seconds { All (λ job. job.queued ≤ LAST_SECOND) jobs.now }
     ensures { IfOk result (λ report. IsJobsReport zone.now jobs.now report.items) }
@@ -63,7 +64,7 @@ pub(crate) fn letter(grade: Grade) -> char
     char::from(grade.as_byte())
 }
 
-// Appends what is to be done with the job.
+// Appends what the job is for.
 fn append_work(text: &mut String, kind: &Kind) -> Result<(), AllocError>
     ensures { OnOk result (string_bytes text.new ≡ string_bytes text.old ++ work_text kind.now) }
 {

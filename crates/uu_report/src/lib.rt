@@ -1,5 +1,5 @@
-//! What the program prints of what a spool holds and answers: reports, and the output of commands.
-//! It knows of no file and no store.
+//! What the program prints of a spool's contents and answers: reports, and the output of commands.
+//! The crate knows no file and no store.
 #![tactic(auto)]
 
 mod clock;
@@ -10,13 +10,15 @@ mod next_calls;
 mod output;
 mod queues;
 mod reply;
+mod settled;
 mod status;
 
 pub use due::due_report;
 pub use jobs::{job_line, jobs_report};
 pub use links::links_report;
-pub use next_calls::next_calls_report;
+pub use next_calls::{next_calls_report, next_polls_report};
 pub use output::{answer_lines, output_of, status_of};
 pub use queues::queues_report;
 pub use reply::reply_line;
+pub use settled::settle_report;
 pub use status::status_report;

@@ -31,7 +31,6 @@ fn append_links(alloc: Global, report: &mut Vec<u8>, links: &[Link]) -> Result<(
     Ok(())
 }
 
-// The line of one link.
 fn link_line(alloc: Global, link: &Link) -> Result<String, AllocError>
     ensures { IfOk result (λ line. string_bytes line ≡ link_text link.now) }
 {
@@ -56,7 +55,6 @@ fn append_aliases(
     Ok(())
 }
 
-// The line of one alias.
 fn alias_line(alloc: Global, alias: &SiteName) -> Result<String, AllocError>
     ensures { IfOk result (λ line. string_bytes line ≡ alias_text alias.now) }
 {

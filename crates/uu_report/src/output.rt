@@ -1,4 +1,4 @@
-//! What is printed of the replies to a line's commands, and the line's status.
+//! What is printed for the replies to a line's commands, and the line's status.
 
 ghost use Rattle.std.specs.Prelude.{◌≡◌, IfOk};
 ghost use Rattle.std.specs.String.{string_bytes};
@@ -11,7 +11,7 @@ use crate::reply::{is_refused, reply_line};
 use std::alloc::{AllocError, Global};
 use uu_core::{Reply, Subject};
 
-/// The lines of the replies, in their order, each after what its subject says of itself.
+/// The lines of the replies, in their order, each after the text of its subject.
 pub fn answer_lines(
     alloc: Global,
     subjects: &[Subject],
@@ -27,8 +27,8 @@ pub fn answer_lines(
     Ok(lines)
 }
 
-/// The output of a line whose commands were all answered: their lines, and then `skipped LINE` for
-/// each line of the input that was skipped.
+/// The output of a line whose commands were all answered: the lines of the replies, and then
+/// `skipped LINE` for each line of the input that was skipped.
 pub fn output_of(
     alloc: Global,
     subjects: &[Subject],
@@ -42,7 +42,7 @@ pub fn output_of(
     Ok(output)
 }
 
-/// The status of a line with these replies: 1 where one of them is a refusal, else 0.
+/// The status of a line with these replies: 1 if one of them is a refusal, otherwise 0.
 pub fn status_of(replies: &[Reply]) -> u8
     ensures { result ≡ replies_status replies.now }
 {
@@ -55,7 +55,7 @@ fn are_any_refused(replies: &[Reply]) -> bool
     replies.iter().any(|reply| is_refused(*reply))
 }
 
-// The line of a reply, after what its subject says of itself.
+// The line of a reply, after the text of its subject.
 fn answer_line(alloc: Global, subject: &Subject, reply: Reply) -> Result<String, AllocError>
     ensures { IfOk result (λ line. string_bytes line ≡ answer_text subject.now reply) }
 {
@@ -67,5 +67,6 @@ fn answer_line(alloc: Global, subject: &Subject, reply: Reply) -> Result<String,
             format!(in alloc; "{name} {answer}")
         }
         Subject::Entry(line) => format!(in alloc; "entry {line} {answer}"),
+        Subject::Parcel(number) => format!(in alloc; "{number} {answer}"),
     }
 }

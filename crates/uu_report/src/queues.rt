@@ -11,9 +11,9 @@ use uu_core::Queue;
 use uu_times::Zone;
 use uu_times::moment::LAST_SECOND;
 
-/// The report of these queues, in their order, a line for each: `SYSTEM JOBS BYTES GRADE MOMENT`:
-/// how many jobs there are, the sum of their sizes, the highest grade, and the moment at which the
-/// oldest was queued on the site's clock.
+/// The report of these queues, in their order, a line for each: `SYSTEM JOBS BYTES GRADE MOMENT`.
+/// It says how many jobs there are, the sum of their sizes, the highest grade, and the site's local
+/// time when the oldest was queued.
 pub fn queues_report(alloc: Global, queues: &[Queue], zone: &Zone) -> Result<Vec<u8>, AllocError>
     requires seconds { All (λ queue. queue.sums.oldest ≤ LAST_SECOND) queues.now }
     ensures { IfOk result (λ report. IsQueuesReport zone.now queues.now report.items) }

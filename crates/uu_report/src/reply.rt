@@ -1,4 +1,4 @@
-//! What is printed of a reply.
+//! What is printed for a reply.
 
 ghost use Rattle.std.specs.Prelude.{◌≡◌, IfOk};
 ghost use Rattle.std.specs.String.{string_bytes};

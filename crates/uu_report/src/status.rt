@@ -10,9 +10,9 @@ use uu_core::{CallState, Outcome, SystemRow};
 use uu_times::Zone;
 use uu_times::moment::LAST_SECOND;
 
-/// The report of these systems, in their order, a line for each: `SYSTEM FAILURES WAIT STATE`, the
-/// wait in seconds, the state as `never`, `done MOMENT` or `failed MOMENT WHY`, the moment on the
-/// site's clock.
+/// The report of these systems, in their order, a line for each: `SYSTEM FAILURES WAIT STATE`. The
+/// wait is in seconds. The state is `never`, `done MOMENT` or `failed MOMENT WHY`, the moment in
+/// the site's local time.
 pub fn status_report(
     alloc: Global,
     systems: &[SystemRow],
@@ -29,7 +29,6 @@ pub fn status_report(
     Ok(report)
 }
 
-// The line of one system.
 fn system_line(alloc: Global, row: &SystemRow, zone: &Zone) -> Result<String, AllocError>
     requires second { row.now.call.last ≤ LAST_SECOND }
     ensures { IfOk result (λ line. IsSystemLine zone.now row.now (string_bytes line)) }

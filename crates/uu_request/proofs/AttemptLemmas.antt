@@ -27,6 +27,8 @@ key_first (command ∷ commands) = key_in command
 abbrev key_asked : Result Request RequestFault → Option Key
 key_asked (Ok (request.Commands list)) = key_first list.commands
 key_asked (Ok (request.Question question)) = None
+key_asked (Ok (request.Settling it)) = None
+key_asked (Ok (request.Unpacking it)) = None
 key_asked (Err fault) = None
 
 key_stays : (before now : Settings) (first again : Moment) (input user : List ℕ) (grade : ℕ) (t : Task)
@@ -48,12 +50,17 @@ key_stays before now first again input user grade (task.Regrade job rank) = refl
 key_stays before now first again input user grade (task.Rejuvenate job) = refl
 key_stays before now first again input user grade (task.Due system) = refl
 key_stays before now first again input user grade (task.When filter) = refl
+key_stays before now first again input user grade (task.Polls system) = refl
 key_stays before now first again input user grade (task.Queues filter) = refl
 key_stays before now first again input user grade task.Status = refl
 key_stays before now first again input user grade (task.Systems system) = refl
 key_stays before now first again input user grade (task.Failed system why) = refl
 key_stays before now first again input user grade (task.Done system jobs) = refl
 key_stays before now first again input user grade (task.Forget system below) = refl
+key_stays before now first again input user grade (task.Pack system least spool after no_jobs) = refl
+key_stays before now first again input user grade (task.Unpack sender onward) = refl
+key_stays before now first again input user grade (task.Settle system spool) = refl
+key_stays before now first again input user grade (task.Answer sender onward least spool after no_jobs) = refl
 key_stays before now first again input user grade task.Map = refl
 key_stays before now first again input user grade (task.Neighbours host) = refl
 key_stays before now first again input user grade task.Name = refl

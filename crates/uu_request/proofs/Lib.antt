@@ -1,7 +1,10 @@
 pub mod Lists
 pub mod Places
 pub mod Years
-mod MarkLemmas
 mod TextLemmas
 mod AttemptLemmas
 mod ReceiverLemmas
+mod CarriedLemmas
+pub mod FrontLemmas
+pub mod WordLemmas
+mod PathLemmas

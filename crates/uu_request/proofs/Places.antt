@@ -6,7 +6,7 @@ use Rattle.uu_map.specs.declared.entry.EntryText.{EntryText}
 use Rattle.uu_map.specs.Split.{begins_line, begins_entry, entry_starts, entries_from, entries_of}
 use Rattle.uu_request.specs.Requests.{IsPlace}
 
--- an entry at no place, which stands for one past the last
+-- an entry at no place, for a place after the last one
 abbrev pub nowhere : EntryText
 nowhere = record { line = 0; start = 0; end = 0 }
 

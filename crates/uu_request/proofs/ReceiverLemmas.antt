@@ -4,8 +4,8 @@ use Rattle.std.proofs.Math.Seq.{drop-append_seam}
 use Rattle.std.proofs.lemmas.List.{length-append}
 use Rattle.std.specs.List.{ends_with}
 use Rattle.std.specs.Cmp.Lexicographic.{pointwise}
-use Rattle.std.proofs.lemmas.Bool.{eq-eqb}
 use Rattle.uu_names.specs.Envelope.{envelope_of, from_line, quote_of}
+use Rattle.uu_names.proofs.Basics.{text_to}
 use Rattle.uu_times.specs.declared.moment.Moment.{Moment}
 use Rattle.uu_core.specs.declared.command.Command.TheVariants as command
 use Rattle.uu_core.specs.declared.job.Kind.{Kind}
@@ -17,40 +17,37 @@ use Rattle.uu_line.specs.declared.task.Task.{Task}
 use Rattle.uu_line.specs.declared.task.Task.TheVariants as task
 use Rattle.uu_settings.specs.declared.settings.Settings.{Settings}
 use Rattle.uu_request.specs.Attempts.{regraded}
-use Rattle.uu_request.specs.Marks.{handed_text, key_of, mark_of, marked_text}
+use Rattle.uu_bundle.specs.Marks.{mark_of}
+use Rattle.uu_request.specs.Marks.{handed_text, key_of, marked_text}
 use Rattle.uu_request.specs.Receivers.{is_job, is_made, once_of, same_kind, text_given}
 use Rattle.uu_request.specs.Requests.{one, queue, task_request}
 
-same : (text : List ℕ) → same_text text text ≡ true
-same [] = refl
-same (byte ∷ text) = rw (eq-eqb byte byte refl) (same text)
-
 all_same : (texts : List (List ℕ)) → pointwise same_text texts texts ≡ true
 all_same [] = refl
-all_same (text ∷ texts) = rw (same text) (all_same texts)
+all_same (text ∷ texts) = rw (text_to text) (all_same texts)
 
 kind_same : (k : Kind) → same_kind k k ≡ true
-kind_same (kind.Send source target) = rw (same source, same target) refl
-kind_same (kind.Request source target) = rw (same source, same target) refl
-kind_same (kind.Execute command arguments) = rw (same command, all_same arguments) refl
+kind_same (kind.Send source target) = rw (text_to source, text_to target) refl
+kind_same (kind.Request source target) = rw (text_to source, text_to target) refl
+kind_same (kind.Execute command arguments) = rw (text_to command, all_same arguments) refl
 
-abbrev job_with : List ℕ → List ℕ → ℕ → Kind → List ℕ → Moment → NewJob
+abbrev pub job_with : List ℕ → List ℕ → ℕ → Kind → List ℕ → Moment → NewJob
 job_with user system grade k bytes at = record { system = system; grade = grade; user = user; kind = k; bytes = bytes; at = at }
 
 is_its : (user system : List ℕ) (grade : ℕ) (k : Kind) (bytes : List ℕ) (at : Moment) → is_job user system k (job_with user system grade k bytes at) ≡ true
-is_its user system grade k bytes at = rw (same user, same system, kind_same k) refl
+is_its user system grade k bytes at = rw (text_to user, text_to system, kind_same k) refl
 
-with_bytes : (user system : List ℕ) (grade : ℕ) (k : Kind) (bytes : List ℕ) (at : Moment)
+pub with_bytes : (user system : List ℕ) (grade : ℕ) (k : Kind) (bytes : List ℕ) (at : Moment)
     → (is_job user system k (job_with user system grade k bytes at) && same_text bytes bytes) ≡ true
-with_bytes user system grade k bytes at = rw (is_its user system grade k bytes at, same bytes) refl
+with_bytes user system grade k bytes at = rw (is_its user system grade k bytes at, text_to bytes) refl
 
 -- the bytes of a message end with it
 ends_so : (front back : List ℕ) → ends_with nat_eq (front ++ back) back ≡ true
 ends_so front back =
     let behind : length (front ++ back) - length back ≡ length front = omega (arith, length-append front back) in
-    ap (λ n. same_text back (drop n (front ++ back))) behind ∙ ap (same_text back) (drop-append_seam front back) ∙ same back
+    ap (λ n. same_text back (drop n (front ++ back))) behind ∙ ap (same_text back) (drop-append_seam front back) ∙ text_to back
 
-mailed : (user system : List ℕ) (grade : ℕ) (rests : List (List ℕ)) (line input : List ℕ) (at : Moment)
+pub mailed : (user system : List ℕ) (grade : ℕ) (rests : List (List ℕ)) (line input : List ℕ) (at : Moment)
     → (let k = kind.Execute (codes "rmail") rests in
     is_job user system k (job_with user system grade k (line ++ quote_of input ++ input) at) && ends_with nat_eq (line ++ quote_of input ++ input) (quote_of input ++ input)) ≡ true
 mailed user system grade rests line input at =
@@ -95,12 +92,17 @@ takes settings at grade input user origin (task.Regrade job rank) is = absurd cc
 takes settings at grade input user origin (task.Rejuvenate job) is = absurd cc
 takes settings at grade input user origin (task.Due system) is = absurd cc
 takes settings at grade input user origin (task.When filter) is = absurd cc
+takes settings at grade input user origin (task.Polls system) is = absurd cc
 takes settings at grade input user origin (task.Queues filter) is = absurd cc
 takes settings at grade input user origin task.Status is = absurd cc
 takes settings at grade input user origin (task.Systems system) is = absurd cc
 takes settings at grade input user origin (task.Failed system why) is = absurd cc
 takes settings at grade input user origin (task.Done system jobs) is = absurd cc
 takes settings at grade input user origin (task.Forget system below) is = absurd cc
+takes settings at grade input user origin (task.Pack system least spool after no_jobs) is = absurd cc
+takes settings at grade input user origin (task.Unpack sender onward) is = absurd cc
+takes settings at grade input user origin (task.Settle system spool) is = absurd cc
+takes settings at grade input user origin (task.Answer sender onward least spool after no_jobs) is = absurd cc
 takes settings at grade input user origin task.Map is = absurd cc
 takes settings at grade input user origin (task.Neighbours host) is = absurd cc
 takes settings at grade input user origin task.Name is = absurd cc

@@ -1,18 +1,15 @@
 -- The text of what is handed in is cut at its spaces and its line end in one way.
-use Rattle.std.proofs.Common.{◌≡◌, ◌∙◌, ◌&&◌, ap, sym, refl, Bool, true, false, true≢false, ℕ, List, [], ◌∷◌, ◌++◌, Option, Some, None, drop, length, append_assoc, unwrap_or}
+use Rattle.std.proofs.Common.{◌≡◌, ◌∙◌, ap, sym, refl, true, false, true≢false, ℕ, List, [], ◌∷◌, ◌++◌, Option, Some, None, drop, length, append_assoc, unwrap_or}
+use Rattle.std.proofs.lemmas.Bool.{and_parts}
 use Rattle.std.specs.Prelude.{nat_le}
 use Rattle.std.specs.List.{list_all}
 use Rattle.std.specs.Option.{option_map_or}
 use Rattle.uu_names.specs.Name.{has_form, is_word, is_word_byte, most_word}
 use Rattle.uu_request.specs.Marks.{Given, HasWords, spaced_words, text_of}
 
-both : (a b : Bool) → (a && b) ≡ true → (a ≡ true) × (b ≡ true)
-both true b e = (refl, e)
-both false b e = absurd (true≢false (sym e))
-
 -- the bytes of a word are those of words
 bytes_pass : (word : List ℕ) → is_word word ≡ true → list_all is_word_byte word ≡ true
-bytes_pass word e = (both (nat_le 1 (length word)) _ (both (has_form is_word_byte word) (nat_le (length word) most_word) e).0).1
+bytes_pass word e = (and_parts (nat_le 1 (length word)) _ (and_parts (has_form is_word_byte word) (nat_le (length word) most_word) e).0).1
 
 -- what begins with a byte of no word
 abbrev Ends : List ℕ → Type 0
@@ -25,14 +22,14 @@ cut [] [] r s of_x of_y end_r end_s e = (refl, e)
 cut [] (b ∷ y) [] s of_x of_y end_r end_s e = absurd end_r
 cut [] (b ∷ y) (p ∷ r) s of_x of_y end_r end_s e =
     let same : p ≡ b = cc in
-    absurd (true≢false (sym (both (is_word_byte b) (list_all is_word_byte y) of_y).0 ∙ ap is_word_byte (sym same) ∙ end_r))
+    absurd (true≢false (sym (and_parts (is_word_byte b) (list_all is_word_byte y) of_y).0 ∙ ap is_word_byte (sym same) ∙ end_r))
 cut (a ∷ x) [] r [] of_x of_y end_r end_s e = absurd end_s
 cut (a ∷ x) [] r (q ∷ s) of_x of_y end_r end_s e =
     let same : a ≡ q = cc in
-    absurd (true≢false (sym (both (is_word_byte a) (list_all is_word_byte x) of_x).0 ∙ ap is_word_byte same ∙ end_s))
+    absurd (true≢false (sym (and_parts (is_word_byte a) (list_all is_word_byte x) of_x).0 ∙ ap is_word_byte same ∙ end_s))
 cut (a ∷ x) (b ∷ y) r s of_x of_y end_r end_s e =
     let same : a ≡ b = cc in
-    let more = cut x y r s (both (is_word_byte a) (list_all is_word_byte x) of_x).1 (both (is_word_byte b) (list_all is_word_byte y) of_y).1 end_r end_s cc in
+    let more = cut x y r s (and_parts (is_word_byte a) (list_all is_word_byte x) of_x).1 (and_parts (is_word_byte b) (list_all is_word_byte y) of_y).1 end_r end_s cc in
     (ap (λ c. c ∷ x) same ∙ ap (λ z. b ∷ z) more.0, more.1)
 
 -- after a word comes a space, or the line end
@@ -40,15 +37,15 @@ ends : (words : List (List ℕ)) (input : List ℕ) → Ends (spaced_words words
 ends [] input = refl
 ends (word ∷ words) input = refl
 
--- the words of a line, and the input behind it
+-- the words of a line, and the input after it
 lines_cut : (xs ys : List (List ℕ)) (i j : List ℕ) → list_all is_word xs ≡ true → list_all is_word ys ≡ true
     → spaced_words xs ++ 10 ∷ i ≡ spaced_words ys ++ 10 ∷ j → (xs ≡ ys) × (i ≡ j)
 lines_cut [] [] i j of_xs of_ys e = (refl, cc)
 lines_cut [] (y ∷ ys) i j of_xs of_ys e = absurd cc
 lines_cut (x ∷ xs) [] i j of_xs of_ys e = absurd cc
 lines_cut (x ∷ xs) (y ∷ ys) i j of_xs of_ys e =
-    let first = both (is_word x) (list_all is_word xs) of_xs in
-    let second = both (is_word y) (list_all is_word ys) of_ys in
+    let first = and_parts (is_word x) (list_all is_word xs) of_xs in
+    let second = and_parts (is_word y) (list_all is_word ys) of_ys in
     let whole : 32 ∷ (x ++ (spaced_words xs ++ 10 ∷ i)) ≡ 32 ∷ (y ++ (spaced_words ys ++ 10 ∷ j)) =
     sym (append_assoc (32 ∷ x) (spaced_words xs) (10 ∷ i)) ∙ e ∙ append_assoc (32 ∷ y) (spaced_words ys) (10 ∷ j) in
     let parts = cut x y (spaced_words xs ++ 10 ∷ i) (spaced_words ys ++ 10 ∷ j) (bytes_pass x first.0) (bytes_pass y second.0) (ends xs i) (ends ys j) cc in
@@ -90,13 +87,13 @@ pub told_apart : (one other : Given) → HasWords one → HasWords other → tex
 told_apart one other of_one of_other e =
     let own = one.system ∷ one.user ∷ one.words in
     let others = other.system ∷ other.user ∷ other.words in
-    let own_words = both (list_all is_word (one.subcommand ∷ own)) (option_map_or is_word one.spool true) of_one in
-    let other_words = both (list_all is_word (other.subcommand ∷ others)) (option_map_or is_word other.spool true) of_other in
+    let own_words = and_parts (list_all is_word (one.subcommand ∷ own)) (option_map_or is_word one.spool true) of_one in
+    let other_words = and_parts (list_all is_word (other.subcommand ∷ others)) (option_map_or is_word other.spool true) of_other in
     let spools = cut (unwrap_or one.spool []) (unwrap_or other.spool []) (10 ∷ ((one.subcommand ++ spaced_words own) ++ 10 ∷ one.input)) (10 ∷ ((other.subcommand ++ spaced_words others) ++ 10 ∷ other.input))
     (spool_passes one.spool own_words.1) (spool_passes other.spool other_words.1) refl refl e in
     let lines : (one.subcommand ++ spaced_words own) ++ 10 ∷ one.input ≡ (other.subcommand ++ spaced_words others) ++ 10 ∷ other.input = ap tail_of spools.1 in
-    let first = both (is_word one.subcommand) (list_all is_word own) own_words.0 in
-    let second = both (is_word other.subcommand) (list_all is_word others) other_words.0 in
+    let first = and_parts (is_word one.subcommand) (list_all is_word own) own_words.0 in
+    let second = and_parts (is_word other.subcommand) (list_all is_word others) other_words.0 in
     let whole = sym (append_assoc one.subcommand (spaced_words own) (10 ∷ one.input)) ∙ lines ∙ append_assoc other.subcommand (spaced_words others) (10 ∷ other.input) in
     let parts = cut one.subcommand other.subcommand (spaced_words own ++ 10 ∷ one.input) (spaced_words others ++ 10 ∷ other.input)
     (bytes_pass one.subcommand first.0) (bytes_pass other.subcommand second.0) (ends own one.input) (ends others other.input) whole in

@@ -1,9 +1,9 @@
--- What a line asks again, of the same user, with the same words and input.
+-- A line that asks the same again: of the same user, with the same words and input.
 use Rattle.std.specs.Prelude.{ℕ}
 use Rattle.uu_line.specs.declared.task.Task.{Task}
 use Rattle.uu_line.specs.declared.task.Task.TheVariants as task
 
--- the task with another grade, where it hands a job in
+-- the task with another grade, if it hands in a job
 abbrev pub regraded : ℕ → Task → Task
 regraded grade (task.Send system source target before once) = task.Send system source target grade once
 regraded grade (task.Request system source target before once) = task.Request system source target grade once

@@ -1,8 +1,8 @@
 -- What a line asks of a spool, at a moment on the site's clock and with an input. (Sending and
 -- requesting files, executing commands, killing and rejuvenating jobs: Taylor UUCP 1.07 manual, on
--- uucp, uux and uustat; `rmail` and its envelope: RFC 976; the subcommands and what else they ask
+-- uucp, uux and uustat. `rmail` and its envelope: RFC 976. The subcommands and what else they ask
 -- are this project's choice.)
-use Rattle.std.specs.Prelude.{◌≡◌, ℕ, ◌≤◌, ◌&&◌, nat_lt, length, List, [], ◌∷◌, map, Option, Some, None, Result, Ok, Err, codes, ⊤, slice_range, if◌then◌else◌}
+use Rattle.std.specs.Prelude.{◌≡◌, ℕ, ◌≤◌, ◌⊎◌, Bool, false, ◌&&◌, nat_lt, length, List, [], ◌∷◌, map, Option, Some, None, Result, Ok, Err, IsTrue, codes, ⊤, slice_range}
 use Rattle.std.specs.List.{list_any}
 use Rattle.uu_names.specs.Envelope.{envelope_of}
 use Rattle.uu_names.specs.Text.{most_text}
@@ -28,13 +28,15 @@ use Rattle.uu_line.specs.declared.task.Task.TheVariants as task
 use Rattle.uu_request.specs.Marks.{handed_text, key_of}
 use Rattle.uu_settings.specs.declared.settings.Settings.{Settings}
 use Rattle.uu_request.specs.declared.fault.RequestFault.{RequestFault}
-use Rattle.uu_request.specs.declared.fault.RequestFault.TheVariants.{Input, Time, Memory}
+use Rattle.uu_request.specs.declared.fault.RequestFault.TheVariants.{Bundle, Input, Time, Memory}
+use Rattle.uu_request.specs.declared.fault.WrongBundle.TheVariants.{NoBundle}
 use Rattle.uu_request.specs.declared.request.Question.{Question}
 use Rattle.uu_request.specs.declared.request.Question.TheVariants as question
 use Rattle.uu_request.specs.declared.request.Request.{Request}
 use Rattle.uu_request.specs.declared.request.Request.TheVariants as request
 use Rattle.uu_core.specs.declared.subject.Subject.{Subject}
 use Rattle.uu_core.specs.declared.subject.Subject.TheVariants as subject
+use Rattle.uu_request.specs.Unpacking.{AsksOf, answer, pack, packing, settle, unpack}
 
 -- ---- one command
 
@@ -46,7 +48,7 @@ one command = request.Commands (record { commands = command ∷ []; subjects = s
 abbrev pub by_of : Settings → List ℕ → By
 by_of settings user = record { user = user; admin = list_any (λ admin. same_text admin user) settings.admins.items }
 
--- a job is handed in, under a key where it is a neighbour's
+-- a job is handed in, under a key if it is a neighbour's
 abbrev pub hand_in : Option Key → NewJob → Command
 hand_in None job = command.Queue job
 hand_in (Some key) job = command.QueueOnce key job
@@ -56,8 +58,8 @@ abbrev pub queue : Option Key → List ℕ → Moment → List ℕ → ℕ → K
 queue key user at system grade kind bytes =
     one (hand_in key (record { system = system; grade = grade; user = user; kind = kind; bytes = bytes; at = at }))
 
--- A message: the system runs `rmail` with what it is to do as its arguments, and the envelope as
--- its input, with the date and time of the site's clock and the site's name.
+-- A message: the system runs `rmail` with its arguments, and the envelope as its input, with the
+-- site's local date and time and the site's name.
 abbrev pub mail : Settings → Option Key → List ℕ → Moment → List ℕ → ℕ → List (List ℕ) → List ℕ → Request
 mail settings key user at system grade rests message =
     queue key user at system grade (kind.Execute (codes "rmail") rests) (envelope_of user at.local settings.name message)
@@ -84,7 +86,7 @@ bytes_at text place = slice_range text place.start place.end
 abbrev pub IsPlace : List ℕ → EntryText → Type 0
 IsPlace text place = (place.start ≤ place.end) × (place.end ≤ length text)
 
--- the reply to an entry names its host, and where it has none the line where it begins
+-- the reply to an entry names its host, or, if it has none, the line where it begins
 abbrev pub entry_subject : Result (List ℕ) MapFault → ℕ → Subject
 entry_subject (Ok host) line = subject.Site host
 entry_subject (Err fault) line = subject.Entry line
@@ -109,7 +111,7 @@ due_question (Some system) at = question.AllDue (record { system = Some system; 
 
 -- ---- lines
 
--- what a task asks for, of this user
+-- what a task of this user asks for, with an input that isn't a bundle
 abbrev pub task_request : Settings → Moment → List ℕ → List ℕ → Task → Result Request RequestFault
 task_request settings at input user task.Load = load_request (sys_file_of input)
 task_request settings at input user (task.Drop system) = Ok (one (command.Remove system))
@@ -128,22 +130,47 @@ task_request settings at input user (task.Regrade job grade) = Ok (one (command.
 task_request settings at input user (task.Rejuvenate job) = Ok (one (command.Rejuvenate job at (by_of settings user)))
 task_request settings at input user (task.Due system) = Ok (request.Question (due_question system at))
 task_request settings at input user (task.When filter) = Ok (request.Question (question.NextCalls filter at))
+task_request settings at input user (task.Polls system) = Ok (request.Question (question.NextPolls system at))
 task_request settings at input user (task.Queues filter) = Ok (request.Question (question.Queues filter))
 task_request settings at input user task.Status = Ok (request.Question question.Systems)
 task_request settings at input user (task.Systems system) = Ok (request.Question (question.Definitions system))
 task_request settings at input user (task.Failed system why) = Ok (one (command.Failed system at why))
 task_request settings at input user (task.Done system jobs) = Ok (one (command.Done system at jobs))
 task_request settings at input user (task.Forget system below) = Ok (one (command.Forget system below))
+task_request settings at input user (task.Pack system grade spool after no_jobs) = Ok (pack (packing system grade spool after no_jobs))
+task_request settings at input user (task.Unpack sender onward) = Err (Bundle NoBundle)
+task_request settings at input user (task.Settle system spool) = Err (Bundle NoBundle)
+task_request settings at input user (task.Answer sender onward grade spool after no_jobs) = Err (Bundle NoBundle)
 task_request settings at input user task.Map = Ok (entries input)
 task_request settings at input user (task.Neighbours host) = Ok (request.Question (question.Entry host))
 task_request settings at input user task.Name = Ok (request.Question question.Name)
 
--- what a line asks for, where its input is not too large
-abbrev pub request_of : Settings → Moment → List ℕ → CommandLine → Result Request RequestFault
-request_of settings at input line =
-    if takes_input line.task && nat_lt most_text (length input) then Err Input else task_request settings at input line.user line.task
+-- what a task of this user asks for, with any input
+abbrev pub TaskAsks : Settings → Moment → List ℕ → List ℕ → Task → Result Request RequestFault → Type 0
+TaskAsks settings at input user (task.Unpack sender onward) asked =
+    AsksOf sender settings.name input (unpack settings at sender onward) asked
+TaskAsks settings at input user (task.Settle system spool) asked =
+    AsksOf system settings.name input (settle system spool) asked
+TaskAsks settings at input user (task.Answer sender onward grade spool after no_jobs) asked =
+    AsksOf sender settings.name input (answer settings at onward (packing sender grade spool after no_jobs)) asked
+TaskAsks settings at input user task asked = asked ≡ task_request settings at input user task
 
--- the answer is the expected one, or want of memory took its place
+-- the line takes an input, and the input is too large
+abbrev pub has_too_much : List ℕ → CommandLine → Bool
+has_too_much input line = takes_input line.task && nat_lt most_text (length input)
+
+-- what a line asks for
+abbrev pub Asks : Settings → Moment → List ℕ → CommandLine → Result Request RequestFault → Type 0
+Asks settings at input line asked =
+    (IsTrue (has_too_much input line) × (asked ≡ Err Input))
+    ⊎ ((has_too_much input line ≡ false) × TaskAsks settings at input line.user line.task asked)
+
+-- the answer is the expected one, or out of memory
 abbrev pub AnswersUnlessMemory : Result Request RequestFault → Result Request RequestFault → Type 0
 AnswersUnlessMemory (Err Memory) expected = ⊤
 AnswersUnlessMemory answer expected = answer ≡ expected
+
+-- the answer has the property, or is out of memory
+abbrev pub UnlessMemory : {V : Type 0} → (Result V RequestFault → Type 0) → Result V RequestFault → Type 0
+UnlessMemory holds (Err Memory) = ⊤
+UnlessMemory holds answer = holds answer

@@ -10,12 +10,26 @@ pub enum RequestFault {
     /// The input has more than 4,194,304 bytes.
     #[error("too much input")]
     Input,
-    /// The input is no sys file.
+    /// The input isn't a sys file.
     #[error("sys file: {0}")]
     Time(TimeFault),
-    /// Memory ran out.
+    /// The input isn't a bundle from the one site to the other.
+    #[error("bundle: {0:?}")]
+    Bundle(WrongBundle),
+    /// Out of memory.
     #[error("out of memory")]
     Memory,
+}
+
+/// Why an input isn't a bundle from this neighbour to this site.
+#[derive(Clone, Copy, PartialEq, Eq, Debug, Drop)]
+pub enum WrongBundle {
+    /// It doesn't begin with the first line of a bundle.
+    NoBundle,
+    /// It is from another site.
+    OtherSender,
+    /// It is for another site.
+    OtherSite,
 }
 
 impl From<AllocError> for RequestFault {

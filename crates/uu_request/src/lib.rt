@@ -1,4 +1,4 @@
-//! What a line of the program asks of a spool. It knows of no file, no clock and no store.
+//! What a line of the program asks of a spool. The crate knows no file, no clock and no store.
 #![tactic(auto)]
 
 mod fault;
@@ -8,6 +8,9 @@ mod maps;
 mod marks;
 mod request;
 mod systems;
+mod unpacking;
 
-pub use fault::RequestFault;
-pub use request::{CommandList, Question, Request, request_of};
+pub use fault::{RequestFault, WrongBundle};
+pub use request::{
+    Answering, CommandList, Packing, Question, Request, Settling, Unpacking, request_of,
+};

@@ -16,7 +16,7 @@ use uu_settings::Settings;
 use uu_times::Moment;
 use uu_times::laws::zones_are_what_they_say;
 
-/// A message to a system, which is to run `rmail` with these arguments: its envelope is handed in
+/// A message to a system, which will run `rmail` with these arguments. Its envelope is handed in
 /// now.
 pub(crate) fn mail(
     alloc: Global,
@@ -36,7 +36,7 @@ pub(crate) fn mail(
     queue_mail(alloc, key, user, system, grade, rests, envelope, at)
 }
 
-// The system is to run `rmail` with these arguments, and the envelope as its input.
+// The system will run `rmail` with these arguments, and the envelope as its input.
 fn queue_mail(
     alloc: Global,
     key: Option<Key>,
@@ -63,8 +63,8 @@ fn queue_mail(
     }
 }
 
-// The message with its envelope: the date and time are those of the moment on the site's clock.
-fn with_envelope(
+/// The message with its envelope. The date and time are the local time of the moment.
+pub(crate) fn with_envelope(
     alloc: Global,
     user: &Word,
     at: &Moment,

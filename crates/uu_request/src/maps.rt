@@ -13,7 +13,7 @@ use std::alloc::{AllocError, Global};
 use uu_core::{Command, Subject};
 use uu_map::{EntryText, Listed, entry_host, split};
 
-/// The entries of a map text, handed in one by one in the order of the text.
+/// The commands for the entries of a map text, one for each, in the order of the text.
 pub(crate) fn entries(alloc: Global, input: &[u8]) -> Result<Request, RequestFault>
     requires { length input.now ≤ most_text }
     ensures { AnswersUnlessMemory result (Ok (spec.entries input.now)) }
@@ -43,7 +43,7 @@ fn commands_at(alloc: Global, text: &[u8], places: &[EntryText]) -> Result<Vec<C
     Ok(commands)
 }
 
-// What the reply to the entry at each place is told of.
+// What the reply to the entry at each place is about.
 fn subjects_at(alloc: Global, text: &[u8], places: &[EntryText]) -> Result<Vec<Subject>, AllocError>
     requires { All (spec.IsPlace text.now) places.now }
     ensures { IfOk result (λ subjects. subjects.items ≡ map (subject_at text.now) places.now) }
@@ -56,7 +56,7 @@ fn subjects_at(alloc: Global, text: &[u8], places: &[EntryText]) -> Result<Vec<S
     Ok(subjects)
 }
 
-// What the reply to an entry is told of: its host, or where it has none the line where it begins.
+// What the reply to an entry is about: its host, or if it has none the line at which it begins.
 fn subject_at(alloc: Global, text: &[u8], place: &EntryText) -> Result<Subject, AllocError>
     requires { spec.IsPlace text.now place.now }
     ensures { IfOk result (λ subject. subject ≡ subject_at text.now place.now) }

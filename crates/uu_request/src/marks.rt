@@ -2,15 +2,17 @@
 
 ghost use Rattle.std.specs.Prelude.{◌≡◌, ℕ, List, ◌∷◌, [], ◌++◌, codes};
 ghost use Rattle.sha2.specs.Hashers.{Holds256};
-ghost use Rattle.uu_request.specs.Marks.{handed_text, mark_of, marked_text, spaced_words};
+ghost use Rattle.uu_bundle.specs.Marks.{mark_of};
+ghost use Rattle.uu_request.specs.Marks.{handed_text, marked_text, spaced_words};
 ghost use Rattle.uu_request.specs.Marks as spec;
 
 use sha2::{Digest, Sha256};
+use uu_bundle::held_mark;
 use uu_core::{Key, Mark};
 use uu_line::Origin;
 use uu_names::{SiteName, Word};
 
-/// The key of a file that is sent or requested, where the line says whose job it is.
+/// The key of a file that is sent or requested, if the line says whose job it is.
 pub(crate) fn file_key(
     once: Option<Origin>,
     subcommand: &str,
@@ -33,7 +35,7 @@ pub(crate) fn file_key(
     }
 }
 
-/// The key of a command, where the line says whose job it is.
+/// The key of a command, if the line says whose job it is.
 pub(crate) fn execution_key(
     once: Option<Origin>,
     system: &SiteName,
@@ -55,7 +57,7 @@ pub(crate) fn execution_key(
     }
 }
 
-/// The key of a message, where the line says whose job it is: of the message as it is given, since
+/// The key of a message, if the line says whose job it is: of the message as it is given, because
 /// its envelope has the date.
 pub(crate) fn message_key(
     once: Option<Origin>,
@@ -76,7 +78,7 @@ pub(crate) fn message_key(
     }
 }
 
-// The key of a neighbour's job, of which this is the mark.
+// The key of a neighbour's job with this mark.
 fn key_of(origin: Origin, mark: Mark) -> Key
     ensures from { result.from ≡ origin.from }
     ensures number { result.number ≡ origin.number }
@@ -90,7 +92,8 @@ fn key_of(origin: Origin, mark: Mark) -> Key
     Key { from, number, mark }
 }
 
-// Begins with the line of the neighbour's spool, and then the subcommand, the system and the user.
+// Begins with the line of the neighbour's spool, and then adds the subcommand, the system and the
+// user.
 fn begin(spool: &Option<Word>, subcommand: &str, system: &SiteName, user: &Word) -> Sha256
     ensures { Holds256 result (marked_text spool.now (subcommand.now ++ spaced_words (system.now ∷ user.now ∷ []))) }
 {
@@ -128,6 +131,5 @@ fn end(mut hasher: Sha256, input: &[u8]) -> Mark
 {
     hasher.update("\n");
     hasher.update(input);
-    let [a, b, c, d, e, f, g, h, ..] = hasher.finalize();
-    Mark::of_digest(u64::from_be_bytes([a, b, c, d, e, f, g, h]))
+    held_mark(hasher)
 }

@@ -1,11 +1,11 @@
-//! What a line asks of a spool: commands, one after the other, or one question.
+//! What a line asks of a spool: commands, one after the other, one question, or a neighbour's bundle.
 
 ghost use Rattle.std.specs.Prelude.{◌≡◌, ◌≤◌, Ok, IsTrue, length};
 ghost use Rattle.std.specs.List.{list_any};
 ghost use Rattle.uu_names.specs.Text.{most_text};
 ghost use Rattle.uu_times.specs.Moment.{Shows, local_second};
 ghost use Rattle.uu_line.specs.Lines.{same_text, takes_input};
-ghost use Rattle.uu_request.specs.Requests.{AnswersUnlessMemory};
+ghost use Rattle.uu_request.specs.Requests.{AnswersUnlessMemory, UnlessMemory};
 ghost use Rattle.uu_request.specs.Requests as spec;
 
 use crate::fault::RequestFault;
@@ -13,9 +13,11 @@ use crate::mail::mail;
 use crate::maps::entries;
 use crate::marks::{execution_key, file_key, message_key};
 use crate::systems::load;
+use crate::unpacking::{answer, pack, packing, settle, unpack};
 use std::alloc::Global;
 use std::mem::drop;
-use uu_core::{By, Command, Filter, Key, Kind, NewJob, Subject};
+use uu_bundle::{Refused, Told};
+use uu_core::{By, Command, Filter, Key, Kind, NewJob, Subject, TakeIn};
 use uu_line::{CommandLine, Task};
 use uu_names::text::MAX_TEXT;
 use uu_names::{Grade, Listed, SiteName, Word};
@@ -29,6 +31,10 @@ pub enum Request {
     Commands(CommandList),
     /// One question, which changes nothing.
     Question(Question),
+    /// One command, which depends on the spool's state: the jobs that a neighbour has are removed.
+    Settling(Settling),
+    /// A bundle of a neighbour's, which is taken whole or not at all.
+    Unpacking(Unpacking),
 }
 
 /// Commands, and how their replies are printed.
@@ -36,9 +42,9 @@ pub enum Request {
 pub struct CommandList {
     /// The commands, in the order in which they are given.
     pub commands: Listed<Command>,
-    /// For each command, what its reply is told of.
+    /// For each command, what its reply is about.
     pub subjects: Listed<Subject>,
-    /// The lines of the input that were skipped, counted from 1. They are told once every command
+    /// The lines of the input that were skipped, counted from 1. They are printed once every command
     /// was answered.
     pub skipped: Listed<u32>,
 }
@@ -46,35 +52,97 @@ pub struct CommandList {
 /// A question.
 #[derive(Drop)]
 pub enum Question {
-    /// Which jobs fit.
+    /// Which jobs match.
     Jobs(Filter),
     /// The job of this number, with its bytes.
     Job(u32),
     /// Which systems may be called at this moment, each with its next job.
     Due(Moment),
-    /// Which of the jobs that fit may go at this moment.
+    /// Which of the jobs that match may go at this moment.
     AllDue(Filter, Moment),
-    /// When each system for which a job fits can next be called from this moment on, for the first
-    /// of these jobs.
+    /// When each system for which a job matches can next be called from this moment on, for the
+    /// first of these jobs.
     NextCalls(Filter, Moment),
-    /// What the jobs that fit come to, for each system.
+    /// When each system, or the one of this name, can next be called from this moment on, with a job
+    /// or without one.
+    NextPolls(Option<SiteName>, Moment),
+    /// The sums of the jobs that match, for each system.
     Queues(Filter),
     /// All systems, and how their calls went.
     Systems,
-    /// The definitions of the systems, or of the system of this name alone.
+    /// The definitions of the systems, or only that of the system of this name.
     Definitions(Option<SiteName>),
     /// The map entry of this host.
     Entry(SiteName),
     /// The site's own name, which the settings give.
     Name,
+    /// The bundle for a system.
+    Pack(Packing),
+    /// The bundle for a system that answers one of its own.
+    Answer(Answering),
+}
+
+/// Which bundle is printed for a system.
+#[derive(Drop)]
+pub struct Packing {
+    /// The system that the bundle is for.
+    pub system: SiteName,
+    /// The grade of its first line. It has no jobs of a lower grade, and asks for none in the
+    /// answer.
+    pub grade: Grade,
+    /// The word that says which spool its jobs are from.
+    pub spool: Word,
+    /// The job after which its jobs begin, in the order of grade and number, if one is given.
+    pub after: Option<u32>,
+    /// Whether its jobs are left out.
+    pub no_jobs: bool,
+}
+
+/// Which bundle is printed to answer one.
+#[derive(Drop)]
+pub struct Answering {
+    /// The bundle for the system whose bundle is answered.
+    pub packing: Packing,
+    /// The grade of the first line of the bundle that is answered. That bundle asks for no jobs of
+    /// a lower grade.
+    pub asked: Grade,
+    /// For each job of the bundle that is answered, in its order, the command that queues it, once.
+    pub commands: Listed<Command>,
+}
+
+/// Which jobs are settled.
+#[derive(Drop)]
+pub struct Settling {
+    /// The system that has or refused them.
+    pub system: SiteName,
+    /// The word that says which spool this site's jobs are from.
+    pub spool: Word,
+    /// The jobs that the system has.
+    pub has: Listed<Told>,
+    /// The jobs that the system refused.
+    pub refused: Listed<Refused>,
+}
+
+/// A bundle that is taken, and how the replies are printed.
+#[derive(Drop)]
+pub struct Unpacking {
+    /// The bundle: what its sender won't hand on again, and its jobs.
+    pub bundle: TakeIn,
+    /// What each reply is about: the first the sender, and each other the number that a job has
+    /// there.
+    pub subjects: Listed<Subject>,
+    /// The line of the text that was not read, if there is one, counted from 1. It is printed after
+    /// the replies.
+    pub skipped: Listed<u32>,
 }
 
 /// What the line asks of a spool, at this moment on the site's clock and with this input, which is
-/// the job's where the line hands one in.
+/// the job's if the line hands one in.
 ///
 /// # Errors
-/// `Input` exactly where the line takes an input and that has more than `MAX_TEXT` bytes, then
-/// `Time` with the fault of the first faulty line of a sys file, else `Memory`.
+/// `Input` exactly if the line takes an input and that has more than `MAX_TEXT` bytes, then `Time`
+/// with the fault of the first faulty line of a sys file, or `Bundle` if the input isn't a bundle
+/// from the neighbour to this site, else `Memory`.
 pub fn request_of(
     alloc: Global,
     line: CommandLine,
@@ -83,7 +151,7 @@ pub fn request_of(
     input: Vec<u8>,
 ) -> Result<Request, RequestFault>
     requires { Shows at.local (local_second settings.now.zone at.second) }
-    ensures { AnswersUnlessMemory result (spec.request_of settings.now at input.items line) }
+    ensures { UnlessMemory (spec.Asks settings.now at input.items line) result }
 {
     if line.task.has_input() && input.len() > MAX_TEXT {
         drop(line);
@@ -109,7 +177,7 @@ fn task_request(
 ) -> Result<Request, RequestFault>
     requires clock { Shows at.local (local_second settings.now.zone at.second) }
     requires fits { IsTrue (takes_input task) → length input.items ≤ most_text }
-    ensures { AnswersUnlessMemory result (spec.task_request settings.now at input.items user task) }
+    ensures { UnlessMemory (spec.TaskAsks settings.now at input.items user task) result }
 {
     match task {
         Task::Load => load(alloc, &input),
@@ -172,19 +240,42 @@ fn task_request(
         }
         Task::Due { system } => Ok(Request::Question(due_question(system, at))),
         Task::When { filter } => Ok(Request::Question(Question::NextCalls(filter, at))),
+        Task::Polls { system } => Ok(Request::Question(Question::NextPolls(system, at))),
         Task::Queues { filter } => Ok(Request::Question(Question::Queues(filter))),
         Task::Status => Ok(Request::Question(Question::Systems)),
         Task::Systems { system } => Ok(Request::Question(Question::Definitions(system))),
         Task::Failed { system, why } => one(alloc, Command::Failed { system, at, why }),
         Task::Done { system, jobs } => one(alloc, Command::Done { system, at, jobs }),
         Task::Forget { system, below } => one(alloc, Command::Forget { system, below }),
+        Task::Pack {
+            system,
+            grade,
+            spool,
+            after,
+            no_jobs,
+        } => pack(alloc, system, grade, spool, after, no_jobs),
+        Task::Unpack { sender, onward } => {
+            unpack(alloc, sender, onward.as_slice(), settings, &at, &input)
+        }
+        Task::Settle { system, spool } => settle(alloc, system, spool, settings, &input),
+        Task::Answer {
+            sender,
+            onward,
+            grade,
+            spool,
+            after,
+            no_jobs,
+        } => {
+            let packing = packing(alloc, sender, grade, spool, after, no_jobs)?;
+            answer(alloc, packing, onward.as_slice(), settings, &at, &input)
+        }
         Task::Map => entries(alloc, &input),
         Task::Neighbours { host } => Ok(Request::Question(Question::Entry(host))),
         Task::Name => Ok(Request::Question(Question::Name)),
     }
 }
 
-// What may go at this moment: each system's first job, or all jobs of the one that is named.
+// What may go at this moment: each system's first job, or all jobs of the system that is named.
 fn due_question(system: Option<SiteName>, at: Moment) -> Question
     ensures { result ≡ spec.due_question system at }
 {
@@ -215,7 +306,7 @@ pub(crate) fn one(alloc: Global, command: Command) -> Result<Request, RequestFau
     }))
 }
 
-/// A job of these bytes is handed in now, under the key where there is one.
+/// A job of these bytes is handed in now, under the key if there is one.
 pub(crate) fn queue(
     alloc: Global,
     key: Option<Key>,

@@ -45,7 +45,7 @@ fn definitions(alloc: Global, file: SysFile) -> Result<Request, RequestFault>
     }))
 }
 
-// Each system's reply is told of its name.
+// Each system's reply is about its name.
 fn names_of(alloc: Global, systems: &[SystemDef]) -> Result<Vec<Subject>, AllocError>
     ensures { IfOk result (λ subjects. subjects.items ≡ map (λ system. subject.Site system.name) systems.now) }
 {

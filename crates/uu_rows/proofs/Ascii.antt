@@ -9,10 +9,7 @@ use Rattle.std.proofs.lemmas.Str.Ascii.{IsAscii-nil, IsAscii-cons}
 use Rattle.std.specs.Prelude.{nat_le, length}
 use Rattle.sqlite.specs.declared.types.Value.TheVariants.{Text}
 use Rattle.sqlite.specs.Order.{Row, column}
-use Rattle.uu_names.specs.Name.{is_word, is_word_byte, is_site_name, is_site_byte, has_form}
-
-below : (b : ℕ) → is_site_byte b ≡ true → b < 128
-below b h = grind (arith, nat_tests)
+use Rattle.uu_names.specs.Name.{is_word, is_word_byte, has_form}
 
 word_below : (b : ℕ) → is_word_byte b ≡ true → b < 128
 word_below b h = grind (arith, nat_tests)
@@ -23,9 +20,6 @@ all_ascii passes low (b ∷ text) h = let it = and_parts (passes b) (list_all pa
 
 form_ascii : (passes : ℕ → Bool) → ((b : ℕ) → passes b ≡ true → b < 128) → (text : List ℕ) → has_form passes text ≡ true → IsAscii text
 form_ascii passes low text h = all_ascii passes low text (and_parts (nat_le 1 (length text)) (list_all passes text) h).1
-
-pub site_ascii : (name : List ℕ) → IsTrue (is_site_name name) → IsAscii name
-site_ascii name h = form_ascii is_site_byte below name (and_parts (has_form is_site_byte name) (nat_le (length name) 63) h).0
 
 pub word_ascii : (word : List ℕ) → IsTrue (is_word word) → IsAscii word
 word_ascii word h = form_ascii is_word_byte word_below word (and_parts (has_form is_word_byte word) (nat_le (length word) 255) h).0

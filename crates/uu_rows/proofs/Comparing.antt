@@ -9,11 +9,11 @@ use Rattle.sqlite.specs.Order.{Row}
 
 -- ---- rows as a query sees them, from their columns alone
 
--- where the rowid is not shown
+-- if the rowid isn't shown
 abbrev pub beside : Row → Row
 beside c = Null ∷ c
 
--- where the first column is the rowid
+-- if the first column is the rowid
 abbrev pub numbered : Row → Row
 numbered (v ∷ c) = v ∷ Null ∷ c
 numbered [] = []

@@ -1,12 +1,12 @@
 -- The heads of a state's jobs can be read as rows.
 use Rattle.std.proofs.Common.{◌<◌, List, [], ◌∷◌, map, arith}
+use Rattle.std.proofs.lemmas.List.Elements.{recursion_from_All}
 use Rattle.std.specs.List.{AllByRecursion}
 use Rattle.uu_core.specs.declared.job.Kind.{Kind}
 use Rattle.uu_core.specs.declared.job.Kind.TheVariants.{Send, Request, Execute}
 use Rattle.uu_core.specs.State.{State, Job, IsJob, IsKind, IsWellFormed, head_of}
 use Rattle.uu_core.specs.WellFormed.{HasWords}
 use Rattle.uu_rows.specs.Readable.{IsHead}
-use Rattle.uu_rows.proofs.InOrder.{by_recursion}
 
 kind_words : (kind : Kind) → IsKind kind → HasWords kind
 kind_words (Send source target) good = good
@@ -28,4 +28,4 @@ heads_of s good [] each below = tt
 heads_of s good (j ∷ jobs) each below = (head_good s j good each.0 below.0, heads_of s good jobs each.1 below.1)
 
 pub heads_good : (s : State) → IsWellFormed s → AllByRecursion IsHead (map head_of s.jobs)
-heads_good s good = heads_of s good s.jobs (by_recursion IsJob s.jobs good.jobs) (by_recursion (λ (j : Job). j.number < s.next) s.jobs good.below_next)
+heads_good s good = heads_of s good s.jobs (recursion_from_All IsJob s.jobs good.jobs) (recursion_from_All (λ (j : Job). j.number < s.next) s.jobs good.below_next)

@@ -5,7 +5,7 @@ use Rattle.sqlite.specs.Term.{Term, lit, col}
 use Rattle.sqlite_tied.specs.Compute.{everything}
 use Rattle.sqlite.specs.Listing.{understood}
 use Rattle.sqlite_value.specs.declared.keys.Key.{Key}
-use Rattle.uu_schema.specs.Layout.{equal_terms}
+use Rattle.uu_schema.proofs.Terms.{equal_terms}
 use Rattle.uu_schema.proofs.Asks.{Means, ordered, up}
 use Rattle.uu_schema.specs.Queries.{IsQuery}
 use Rattle.uu_schema.specs.Schema.{site, second_site, site_of, systems, lines, ranges, success_waits, links, taken}

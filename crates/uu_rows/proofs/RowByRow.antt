@@ -1,7 +1,6 @@
 -- Typed rows that are read from rows, one after another.
-use Rattle.std.proofs.Common.{◌≡◌, ℕ, zero, suc, ◌+◌, ◌<◌, List, [], ◌∷◌, ◌++◌, map, take, length, get_or, sym, ap, ◌∙◌, arith}
+use Rattle.std.proofs.Common.{◌≡◌, ℕ, zero, suc, ◌<◌, List, [], ◌∷◌, map, length, get_or, ◌∙◌, arith}
 use Rattle.std.specs.List.{AllByRecursion}
-use Rattle.std.proofs.lemmas.List.{take_more, map-append}
 use Rattle.sqlite.specs.Order.{Row}
 
 module _ {A : Type 0} (cells : A → Row) where
@@ -16,8 +15,3 @@ module _ {A : Type 0} (cells : A → Row) where
   met P (r ∷ rows) [] i row good full lt is = absurd (cc)
   met P (r ∷ rows) (x ∷ all) zero row good full lt is = let head : r ≡ cells x = cc in record { it = x; is = is ∙ head; good = good.0 }
   met P (r ∷ rows) (x ∷ all) (suc i) row good full lt is = let tail : rows ≡ map cells all = cc in met P rows all i row good.1 tail (omega (arith, lt)) is
-
-  pub read_more : (rows : List Row) (xs : List A) (i : ℕ) (row : Row) (x : A) → i < length rows → row ≡ get_or rows i row → take i rows ≡ map cells xs → row ≡ cells x → take (i + 1) rows ≡ map cells (xs ++ x ∷ [])
-  read_more rows xs i row x lt is read one =
-      let longer : take (i + 1) rows ≡ take i rows ++ row ∷ [] = take_more rows i row lt ∙ ap (λ r. take i rows ++ r ∷ []) (sym is) in
-      longer ∙ (λ j. read j ++ one j ∷ []) ∙ sym (map-append cells xs (x ∷ []))

@@ -1,4 +1,4 @@
--- What holds of what a caller is told.
+-- What holds of a caller's answer.
 use Rattle.std.proofs.Common.{◌≡◌, ◌≢◌, Result, Ok, Err, Option, MatchOption, sym, subst, refl}
 use Rattle.std.specs.Prelude.{IfOk, IfErr}
 use Rattle.sqlite.specs.declared.error.Error.{Error}
@@ -28,7 +28,7 @@ module _ {T : Type 0} (read : Result T RowFault) (told : Result T Error) (is : t
   pub told_ok : (P : T → Type 0) → IfOk read P → IfOk told P
   told_ok P h = subst (λ r. IfOk r P) (sym is) (ok_of P read h)
 
-  -- want of memory is the only error, where the rows are not bad
+  -- out of memory is the only error if the rows aren't bad
   pub told_memory : (read ≡ Err Bad → ⊥) → IfErr told (λ error. error ≡ SqliteFailure OutOfMemory)
   told_memory none = subst (λ r. IfErr r (λ error. error ≡ SqliteFailure OutOfMemory)) (sym is) (memory_of read none)
 
@@ -48,7 +48,7 @@ only_memory (Err Bad) = tt
 only_memory (Err Memory) = refl
 
 module _ {T : Type 0} (read : Result T RowFault) (told : Result (Option T) Error) (is : told ≡ or_none read) where
-  -- none is told only where the rows are bad
+  -- the answer is none only if the rows are bad
   pub found_or_none : (Absent : Type 0) (P : T → Type 0) → IfOk read P → (read ≡ Err Bad → Absent) → IfOk told (λ found. MatchOption found Absent P)
   found_or_none Absent P h none = subst (λ r. IfOk r (λ found. MatchOption found Absent P)) (sym is) (found_of Absent P read h none)
 

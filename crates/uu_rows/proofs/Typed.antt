@@ -1,5 +1,5 @@
--- From the answer of a query over one table to what it says of the table's typed rows, in whatever
--- order the table has them.
+-- From the answer of a query over one table to what it says about the table's typed rows, in any
+-- order of the table's rows.
 use Rattle.std.proofs.Common.{◌≡◌, ℕ, List, [], ◌∷◌, map, filter, Bool, false, Ordering, Less, sym, ap, subst, ◌∙◌}
 use Rattle.std.specs.List.{list_all}
 use Rattle.std.specs.Ordering.{is_eq}
@@ -18,8 +18,8 @@ use Rattle.sqlite_keyed.proofs.SortLemmas.{sorted_unique, sorted_is-sort_by, sor
 use Rattle.uu_schema.proofs.Asks.{ordered}
 use Rattle.uu_schema.proofs.Rows.{matched}
 
--- `shown` is what the table's rows show of themselves, and `see` makes of that a row of which the
--- query says the same
+-- `shown` is what the table's rows show, and `see` makes a row of that about which the query says
+-- the same
 module _ (t : ℕ) (tests project : List Term) (order : List (Term × Key)) (db : Trees) (params : Row) (rows : List Row) (bare : overlay db [] t ≡ db t)
     (a : IsAnswer (ordered t tests project order) (overlay db []) params rows)
     (shown see : Row → Row)
@@ -75,7 +75,7 @@ module _ (t : ℕ) (tests project : List Term) (order : List (Term × Key)) (db 
       subst (λ l. IsPermutation l rows) (map-map second typed (filter p xs))
       (subst (IsPermutation (map second (map typed (filter p xs)))) (sym a.shown) (IsPermutation-map second _ _ arranged))
 
-  -- and it shows them in the order of their keys, where no two of them tie
+  -- and it shows them in the order of their keys, if no two of them tie
   pub typed_sorted : (cmp : X → X → Ordering) → ((x y : X) → output_cmp q (typed x) (typed y) ≡ cmp x y) → IsAscending (λ x y. is_eq (cmp x y) ≡ false) (filter p xs)
       → rows ≡ map told_of (sort_by cmp (filter p xs))
   typed_sorted cmp is apart =
@@ -84,7 +84,7 @@ module _ (t : ℕ) (tests project : List Term) (order : List (Term × Key)) (db 
       ∙ sort_by-map (output_cmp q) typed (filter p xs) ∙ (λ i. map typed (sort_by (λ x y. is x y i) (filter p xs))) in
       a.shown ∙ ap (map second) all ∙ map-map second typed (sort_by cmp (filter p xs))
 
-  -- rows that stand in the order of their keys are the answer as they stand
+  -- rows that are in the order of their keys are the answer as they are
   pub typed_only : IsAscending (λ x y. output_cmp q (typed x) (typed y) ≡ Less) (filter p xs) → rows ≡ map told_of (filter p xs)
   typed_only strict =
       a.shown ∙ ap (map second) (sorted_unique (output_cmp q) (output_cmp_total q) (map typed (filter p xs)) a.ordered (ascending-map (λ x y. output_cmp q x y ≡ Less) typed _ strict) arranged a.sorted)

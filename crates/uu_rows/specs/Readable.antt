@@ -1,6 +1,6 @@
--- Typed rows whose values are those of their types, so that their rows can be read: numbers of 32
--- bits, names, words, grades and marks. The rows of a state keep closer limits, which `uu_check` says
--- (`specs/Readable.antt` there).
+-- Typed rows whose values are within the limits of their types, so their rows can be read: numbers
+-- of 32 bits, names, words, grades and marks. The rows of a state are within closer limits
+-- (`specs/Readable.antt` of `uu_check`).
 use Rattle.std.specs.Prelude.{ℕ, pos, ◌<◌, ◌^◌, [], ◌∷◌, IsTrue, IfSome}
 use Rattle.sqlite.specs.declared.types.Value.TheVariants.{Int}
 use Rattle.sqlite.specs.Order.{Row}
@@ -73,6 +73,6 @@ pub record IsTaken (t : TakenColumns) : Type 0 where
   pub mark : t.taken.mark < marks_end
   pub job : IsSmall t.taken.job
 
--- what is asked of a piece: its bytes stay where they are
+-- the columns that a question on a piece gives, without its bytes
 abbrev pub size_cells : PieceSize → Row
 size_cells p = Int (pos p.job) ∷ Int (pos p.place) ∷ Int (pos p.length) ∷ []

@@ -12,21 +12,21 @@ use Rattle.uu_schema.specs.Spares.{Spares}
 use Rattle.uu_schema.specs.Steps.{StaysIdle, Told}
 use Rattle.uu_schema.specs.Schema.{site}
 
--- What a question in SQL shows are the rows that its text means, and it changes nothing, whatever
--- tables there are. An error is the database's, of this text.
+-- The answer to a question in SQL is the rows that its text means, and nothing changes, for any
+-- tables. An error is the database's, about this text.
 pub record Shows (text : List ℕ) (params : Row) (old new : db.State) (r : Result (Vec Row Global) Error) : Type 0 where
   pub told : Told site old new r
   pub same : db.HasCleanDisk new → OnOk r (new.now ≡ old.now)
   pub rows : db.HasCleanDisk new → IfOk r (λ rows. db.Shown text params old new rows.items)
   pub refused : db.HasCleanDisk new → IfErr r (db.FailsToQuery text params old new)
 
--- The text is asked over a connection, without parameters: the rows are shown that it means, whatever
--- tables there are, and an idle connection stays idle.
+-- The text is asked over a connection, without parameters. The answer is the rows that it means,
+-- for any tables. An idle connection stays idle.
 pub record AsksText {S : Type 0} (g : Ghosts S) (text : List ℕ) (old new : Held S) (r : Result (Vec Row Global) Error) : Type 0 where
   pub idle : StaysIdle old new
   pub shows : Shows text [] (state g old) (state g new) r
   pub spares : Spares (state g old) (state g new) r
 
--- memory was refused, or the database refused the question
+-- out of memory, or the database refused the question
 abbrev pub IsRefused : List ℕ → Row → db.State → db.State → Error → Type 0
 IsRefused text params old new error = (error ≡ SqliteFailure OutOfMemory) ⊎ db.FailsToQuery text params old new error

@@ -1,5 +1,5 @@
--- The texts of the questions on every row of the systems, of their lines, of the ranges of these,
--- of their success waits and of their links, in the order of their keys. (This project's choice.)
+-- The texts of the questions on every row of the systems, their lines, the ranges of these, their
+-- success waits and their links, in the order of their keys. (This project's choice.)
 use Rattle.std.specs.Prelude.{List, ℕ, codes}
 
 abbrev pub systems_text : List ℕ

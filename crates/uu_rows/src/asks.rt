@@ -1,11 +1,11 @@
-// Queries in SQL without parameters, and those that taking a database and asking a spool share.
+// Queries in SQL without parameters. Adopting a database and asking a spool share them.
 ghost use Rattle.uu_rows.specs.Texts.{systems_text, lines_text, ranges_text, waits_text, links_text, taken_text};
 ghost use Rattle.uu_schema.specs.Queries.{IsQuery};
 ghost use Rattle.uu_rows.specs.Shows.{AsksText};
 
 use sqlite::{Alter, Connection, Error, Row};
 
-/// The rows that a query shows.
+/// The rows that a query gives.
 pub fn ask<S: Alter>(conn: &mut Connection<S>, sql: &str) -> Result<Vec<Row>, Error>
     requires { IsQuery sql.now }
     ensures { AsksText S.Store sql.now conn.old conn.new result }
@@ -53,14 +53,14 @@ pub fn ask_waits<S: Alter>(conn: &mut Connection<S>) -> Result<Vec<Row>, Error>
     )
 }
 
-/// All numbers below which neighbours ask for none again, by system.
+/// All numbers below which neighbours won't ask again, by system.
 pub fn ask_links<S: Alter>(conn: &mut Connection<S>) -> Result<Vec<Row>, Error>
     ensures { AsksText S.Store links_text conn.old conn.new result }
 {
     ask(conn, "SELECT system, below FROM links ORDER BY system")
 }
 
-/// All that was taken from neighbours, by system and number.
+/// Everything that was taken from neighbours, by system and number.
 pub fn ask_taken<S: Alter>(conn: &mut Connection<S>) -> Result<Vec<Row>, Error>
     ensures { AsksText S.Store taken_text conn.old conn.new result }
 {

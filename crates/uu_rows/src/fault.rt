@@ -1,4 +1,4 @@
-// Why a row is not read.
+// Why a row isn't read.
 ghost use Rattle.std.specs.Prelude.{◌≡◌, ◌≢◌};
 ghost use Rattle.sqlite.specs.declared.error.Error.TheVariants.{SqliteFailure};
 ghost use Rattle.sqlite.specs.declared.error.ErrorCode.TheVariants.{OutOfMemory};
@@ -10,18 +10,18 @@ use std::alloc::{AllocError, AllocFailed};
 use uu_names::NameFault;
 use uu_schema::is_memory;
 
-/// Why a row is not read.
+/// Why a row isn't read.
 #[derive(Clone, Copy, Debug, PartialEq, Eq)]
 pub enum RowFault {
-    /// Memory was refused.
+    /// Out of memory.
     Memory,
-    /// The tables allow the row, and the format does not.
+    /// The tables allow the row, but the format doesn't.
     Bad,
 }
 
 impl RowFault {
-    /// The same as an error of the database: want of memory as want of memory, and a bad row as one
-    /// that is not there.
+    /// The same as an error of the database: out of memory as out of memory, and a bad row as a row
+    /// that isn't there.
     pub fn as_error(self) -> Error
         ensures { result ≡ error_of self }
     {
@@ -58,7 +58,7 @@ pub fn or_error<T>(read: Result<T, RowFault>) -> Result<T, Error>
     }
 }
 
-/// What was read, or none where a row is bad. Want of memory stays an error.
+/// What was read, or `None` if a row is bad. Out of memory stays an error.
 pub fn or_none<T>(read: Result<T, RowFault>) -> Result<Option<T>, Error>
     ensures { result ≡ or_none read }
 {
@@ -69,7 +69,7 @@ pub fn or_none<T>(read: Result<T, RowFault>) -> Result<Option<T>, Error>
     }
 }
 
-/// Why a column is not read, by the error of the database.
+/// Why a column isn't read, from the error of the database.
 pub fn read_fault(error: &Error) -> RowFault
     ensures memory { result ≡ RowFault.Memory → error.now ≡ SqliteFailure OutOfMemory }
     ensures bad { result ≡ RowFault.Bad → error.now ≢ SqliteFailure OutOfMemory }

@@ -1,6 +1,6 @@
-//! Rows of the spool's tables, read as typed rows: what each column has to hold, and the rows of a
-//! table in the order of its key. Want of memory is `RowFault::Memory`; a row that the tables allow
-//! and the format does not is `RowFault::Bad`.
+//! Rows of the spool's tables, read as typed rows: what each column has to be, and the rows of a
+//! table in the order of its key. Out of memory is `RowFault::Memory`. A row that the tables allow
+//! but the format doesn't is `RowFault::Bad`.
 #![tactic(auto)]
 
 mod asks;

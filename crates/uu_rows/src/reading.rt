@@ -15,7 +15,7 @@ pub trait TypedRow: Drop {
     /// The columns of its row.
     ghost cells: { Self → Row };
 
-    /// Its values are those of their types, so that its row can be read.
+    /// Its values are within the limits of their types, so its row can be read.
     ghost IsReadable: { Self → Type 0 };
 
     /// The typed row that has these columns.
@@ -38,15 +38,15 @@ pub fn read_all<T: TypedRow>(alloc: Global, rows: &[Row]) -> Result<Vec<T>, RowF
     Ok(all)
 }
 
-/// The same, where a row that the format does not allow is an error of the database.
+/// The same, but a row that the format doesn't allow is an error of the database.
 pub fn read_rows<T: TypedRow>(alloc: Global, rows: &[Row]) -> Result<Vec<T>, Error>
     ensures rows { IfOk result (λ all. rows.now ≡ map T.cells all.items) }
     ensures readable { IfOk result (λ all. AllByRecursion T.IsReadable all.items) }
 
-    // Of rows that are typed rows, want of memory is the only error.
+    // If the rows are typed rows, the only error is out of memory.
     ensures memory { (all : List T) → AllByRecursion T.IsReadable all → rows.now ≡ map T.cells all → IfErr result (λ error. error ≡ SqliteFailure OutOfMemory) }
 
-    // Of any rows, any other error is that of a row that the format does not allow.
+    // Any other error is that of a row that the format doesn't allow.
     ensures bad { IfErr result (λ error. error ≢ SqliteFailure OutOfMemory → error ≡ QueryReturnedNoRows) }
 {
     or_error(read_all(alloc, rows))
@@ -64,16 +64,16 @@ fn read_first<T: TypedRow>(alloc: Global, rows: &[Row]) -> Result<Option<T>, Row
     }
 }
 
-/// The first of the rows as a typed row, if there is one. A row that the format does not allow is
-/// an error of the database.
+/// The first of the rows as a typed row, if there is one. A row that the format doesn't allow is an
+/// error of the database.
 pub fn first_row<T: TypedRow>(alloc: Global, rows: &[Row]) -> Result<Option<T>, Error>
     ensures row { IfOk result (λ found. option_map T.cells found ≡ slice_get rows.now 0) }
     ensures readable { IfOk result (λ found. IfSome found T.IsReadable) }
 
-    // Of no row, and of one that is a typed row, want of memory is the only error.
+    // If there is no row, or it is a typed row, the only error is out of memory.
     ensures memory { (found : Option T) → IfSome found T.IsReadable → option_map T.cells found ≡ slice_get rows.now 0 → IfErr result (λ error. error ≡ SqliteFailure OutOfMemory) }
 
-    // Of any row, any other error is that of a row that the format does not allow.
+    // Any other error is that of a row that the format doesn't allow.
     ensures bad { IfErr result (λ error. error ≢ SqliteFailure OutOfMemory → error ≡ QueryReturnedNoRows) }
 {
     or_error(read_first(alloc, rows))

@@ -28,7 +28,7 @@ pub fn number_in(row: &Row, at: usize) -> Result<u32, RowFault>
     }
 }
 
-/// The number in this column, or none where it is NULL.
+/// The number in this column, or `None` if it is NULL.
 pub(crate) fn number_or_null_in(row: &Row, at: usize) -> Result<Option<u32>, RowFault>
     ensures value { IfOk result (λ number. column row.now at ≡ or_null number_cell number) }
     ensures bad { (o : Option ℕ) → IfSome o (λ n. n < 2 ^ 32) → at < length row.now → NotIf result (column row.now at ≡ or_null number_cell o) }
@@ -91,7 +91,7 @@ pub(crate) fn bytes_in(row: &Row, at: usize) -> Result<Vec<u8>, RowFault>
     }
 }
 
-// The bytes of the text in this column, which stay where they are.
+// The bytes of the text in this column, borrowed.
 fn bytes_of_text_in<'a>(row: &'a Row, at: usize) -> Result<&'a [u8], RowFault>
     ensures value { IfOk result (λ bytes. column row.now at ≡ Text bytes.now) }
     ensures bad { (t : List ℕ) → NotIf result (column row.now at ≡ Text t) }
@@ -139,7 +139,7 @@ pub(crate) fn word_in(alloc: Global, row: &Row, at: usize) -> Result<Word, RowFa
     }
 }
 
-/// The word in this column, or none where it is NULL.
+/// The word in this column, or `None` if it is NULL.
 pub(crate) fn word_or_null_in(alloc: Global, row: &Row, at: usize) -> Result<Option<Word>, RowFault>
     ensures value { IfOk result (λ word. column row.now at ≡ or_null Text word) }
     ensures word { IfOk result (λ word. IfSome word (λ w. IsTrue (is_word w))) }
@@ -175,7 +175,7 @@ fn words_of(alloc: Global, text: &str) -> Result<Vec<Word>, RowFault>
     Ok(words)
 }
 
-/// The words in this column, which stand there as one text with one space between two.
+/// The words in this column, which are one text with one space between two.
 pub(crate) fn arguments_in(alloc: Global, row: &Row, at: usize) -> Result<Listed<Word>, RowFault>
     ensures text { IfOk result (λ words. column row.now at ≡ Text (join_with_byte space words)) }
     ensures words { IfOk result (λ words. All (λ word. IsTrue (is_word word)) words) }

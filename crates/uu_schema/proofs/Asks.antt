@@ -9,7 +9,7 @@ use Rattle.sqlite.proofs.Callers.{command_of, IsPlain}
 use Rattle.sqlite_value.specs.declared.keys.Key.{Key}
 use Rattle.sqlite_value.specs.declared.keys.Collation.TheVariants.{Binary}
 use Rattle.sqlite_value.specs.Keys.{ascending}
-use Rattle.uu_schema.specs.Layout.{over}
+use Rattle.uu_schema.proofs.Terms.{over}
 
 -- sorted by the term, from low to high
 abbrev pub up : Term → Term × Key

@@ -9,12 +9,25 @@ use Rattle.uu_tables.specs.Tables.{Tables}
 use Rattle.uu_schema.specs.Schema.{first_site, spool, systems, lines, ranges, jobs, pieces, entries, success_waits, links, taken}
 use Rattle.uu_schema.specs.declared.version.Version.{Version}
 use Rattle.uu_schema.specs.declared.version.Version.TheVariants.{First, Second}
-use Rattle.uu_schema.specs.Made.{AllMade, IsEmpty, IsMade, FromFirst, FromSecond, spool_row_of}
+use Rattle.uu_schema.specs.Made.{AllMade, IsMade, FromFirst, FromSecond, spool_row, spool_row_of}
 use Rattle.uu_schema.specs.Held.{MakesEmpty, Migrates, Holds, HoldsAs, AreLinks, AreTaken, link_key, taken_key, link_places, taken_places, AreSystems, AreLines, AreRanges, AreJobs, ArePieces, AreEntries, AreWaits, system_key, line_key, range_key, job_key, piece_key, entry_key, wait_key, system_places, line_places, range_places, job_places, piece_places, entry_places, wait_places}
 use Rattle.uu_schema.specs.Cells.{system_cells, line_cells, range_cells, job_cells, piece_cells, entry_cells, wait_cells, link_cells, taken_cells}
 
 none : {K X : Type 0} (key : X → K) (cells : X → Row) (places : List ℕ) (rows : List Row) → rows ≡ [] → Keyed key cells places [] rows
 none key cells places rows is = subst (Keyed key cells places []) (sym is) (record { same = IsPermutation-refl []; numbered = tt; once = λ a b h. absurd h; apart = tt })
+
+-- the trees in the end: `spool` has its one row, and no other table has a row
+record IsEmpty (db : Trees) : Type 0 where
+  pub row : db spool.tree ≡ spool_row 1 ∷ []
+  pub systems : db systems.tree ≡ []
+  pub lines : db lines.tree ≡ []
+  pub ranges : db ranges.tree ≡ []
+  pub jobs : db jobs.tree ≡ []
+  pub pieces : db pieces.tree ≡ []
+  pub entries : db entries.tree ≡ []
+  pub success_waits : db success_waits.tree ≡ []
+  pub links : db links.tree ≡ []
+  pub taken : db taken.tree ≡ []
 
 all_empty : (old new : Trees) → AllMade old new → IsEmpty new
 all_empty old new a =
@@ -57,7 +70,7 @@ begins_empty old new a = let it = all_empty old new a in record {
 
 -- ---- migrations
 
--- The tables of version 2 hold these lists, whatever version their one row of `spool` tells.
+-- The tables of version 2 hold these lists, with any version in their one row of `spool`.
 record HoldSecond (v : Version) (db : Trees) (t : Tables) : Type 0 where
   spool : db spool.tree ≡ spool_row_of v t.next ∷ []
   systems : AreSystems t.systems (db systems.tree)

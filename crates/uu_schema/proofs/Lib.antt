@@ -1,3 +1,4 @@
+pub mod Terms
 pub mod Alive
 pub mod Asks
 pub mod Writes
@@ -9,7 +10,8 @@ pub mod Questions
 pub mod Sorted
 pub mod Objects
 pub mod Rowids
-pub mod Texts
+mod Texts
+pub mod Meanings
 pub mod Keeps
 pub mod Made
 pub mod Begun

@@ -1,4 +1,4 @@
--- What the statements that make the tables make of the trees.
+-- The trees after the statements that make the tables.
 use Rattle.std.proofs.Common.{◌≡◌, ℕ, pos, List, [], ◌∷◌, true, map, filter, false, Ok, Result, None, refl, sym, ap, subst, ◌∙◌}
 use Rattle.std.specs.List.Sorted.{IsPermutation}
 use Rattle.sqlite.specs.Order.{Row}
@@ -9,7 +9,7 @@ use Rattle.sqlite_value.proofs.OrderLemmas.{value_cmp-Int}
 use Rattle.sqlite_schema.specs.declared.program.Program.{Program}
 use Rattle.sqlite_rules.specs.Action.{Writes as WritesTrees}
 use Rattle.sqlite_rules.specs.Calls.{ids_of}
-use Rattle.uu_schema.specs.Layout.{over}
+use Rattle.uu_schema.proofs.Terms.{over}
 use Rattle.sqlite.specs.Table.{Table}
 use Rattle.sqlite.specs.Schema.{Schema}
 use Rattle.sqlite.specs.Source.TheVariants.{Values}
@@ -29,10 +29,11 @@ use Rattle.sqlite.proofs.Callers.{IsPlain, command_of, statement_of, runs_as, on
 use Rattle.uu_schema.specs.Steps.{Stands}
 use Rattle.uu_schema.proofs.Rows.{cast_int, cast_null, over_rows}
 use Rattle.uu_schema.proofs.Writes.{went, same_value, insert_ran, insert_applies, inserted, update_ran, update_writes}
-use Rattle.uu_schema.specs.Schema.{first_site, second_site, with_links, links, taken, create_links, create_taken, success_waits, create_success_waits, raise_version, site, no_schema, with_spool, with_systems, with_lines, with_ranges, with_jobs, with_pieces, spool, systems, lines, ranges, jobs, pieces, entries, create_spool, create_systems, create_lines, create_ranges, create_jobs, create_pieces, create_entries, insert_spool}
+use Rattle.uu_schema.specs.Schema.{first_site, second_site, with_links, links, taken, success_waits, site, no_schema, with_spool, with_systems, with_lines, with_ranges, with_jobs, with_pieces, spool, systems, lines, ranges, jobs, pieces, entries}
+use Rattle.uu_schema.proofs.Texts.{create_links, create_taken, create_success_waits, raise_version, create_spool, create_systems, create_lines, create_ranges, create_jobs, create_pieces, create_entries, insert_spool}
 use Rattle.uu_schema.specs.Made.{spool_row, IsMade, IsBegun, IsRaised}
 use Rattle.uu_schema.proofs.Keeps.{keeps_one}
-use Rattle.uu_schema.proofs.Texts.{create_spool_is, create_spool_plain, create_systems_is, create_systems_plain, create_lines_is, create_lines_plain, create_ranges_is, create_ranges_plain, create_jobs_is, create_jobs_plain, create_pieces_is, create_pieces_plain, create_entries_is, create_entries_plain, created_spool, created_systems, created_lines, created_ranges, created_jobs, created_pieces, created_entries, insert_spool_is, insert_spool_plain, spool_terms, create_success_waits_is, create_success_waits_plain, created_success_waits, create_links_is, create_links_plain, created_links, create_taken_is, create_taken_plain, created_taken, raise_terms, raise_version_is, raise_version_plain}
+use Rattle.uu_schema.proofs.Meanings.{create_spool_is, create_spool_plain, create_systems_is, create_systems_plain, create_lines_is, create_lines_plain, create_ranges_is, create_ranges_plain, create_jobs_is, create_jobs_plain, create_pieces_is, create_pieces_plain, create_entries_is, create_entries_plain, created_spool, created_systems, created_lines, created_ranges, created_jobs, created_pieces, created_entries, insert_spool_is, insert_spool_plain, spool_terms, create_success_waits_is, create_success_waits_plain, created_success_waits, create_links_is, create_links_plain, created_links, create_taken_is, create_taken_plain, created_taken, raise_terms, raise_version_is, raise_version_plain}
 
 -- what a CREATE TABLE makes, of a text whose table is known
 module _ (old new : State) (from to : Schema) (text : List ℕ) (table : Table) (count : ℕ) (stands : Stands from old.now)

@@ -38,7 +38,7 @@ one_table row t u h k =
     let made : h.defined.0 ≡ k.defined.0 = let a = h.defined.1 in let b = k.defined.1 in cc in
     h.defined.2 ∙ (λ i. record (made i) { tree = tree i }) ∙ sym k.defined.2
 
--- where there is one key at most, it stands at place 0
+-- if there is at most one key, it is at place 0
 first_place : (keys : List (List ℕ)) (at : ℕ) (key : List ℕ) → length keys ≤ 1 → slice_get keys at ≡ Some key → at ≡ 0
 first_place keys zero key few h = refl
 first_place [] (suc at) key few h = absurd (cc)

@@ -1,5 +1,4 @@
--- A text that asks means a query under every schema, so it changes no database, whatever tables
--- that has.
+-- A text that asks means a query under every schema, so it changes no database, with any tables.
 use Rattle.std.proofs.Common.{◌≡◌, ◌⊎◌, inl, inr, ℕ, Bool, true, false, List, Option, Some, None, Result, Ok, Err, refl, sym, ap, subst, ◌∙◌, arith}
 use Rattle.std.specs.Prelude.{cond, ◌+◌, IsTrue, IsSome, IsOk, IfOk, IfErr, OnOk, Vec}
 use Rattle.std.specs.declared.alloc.Global.{Global}
@@ -74,7 +73,7 @@ of_listing (Ok k) from c made = go (is_select k.command) made
     go true same = subst (λ (d : Compiled). d.returning ≡ None) (ok_same k c same) (from k refl)
     go false same = absurd (cc)
 
--- a question has no RETURNING, under whatever schema
+-- a question has no RETURNING, under any schema
 pub never_returns : (text : List ℕ) → IsQuery text → (schema : Schema) (c : Compiled) → understood schema text ≡ Ok c → c.returning ≡ None
 unfolding understood
 never_returns text is schema c made = go (reads_listing schema text) made

@@ -5,7 +5,7 @@ use Rattle.std.specs.List.{list_all}
 use Rattle.std.specs.Ordering.{is_eq}
 use Rattle.std.specs.List.Sorted.{IsPermutation}
 use Rattle.std.proofs.lemmas.List.Sorted.{IsPermutation-map, IsPermutation-refl, IsPermutation-cons, IsPermutation-swap, IsPermutation-trans}
-use Rattle.std.proofs.lemmas.Bool.{or_parts}
+use Rattle.std.proofs.lemmas.Bool.{or_parts, false_from_ne_true}
 use Rattle.std.specs.Ordering.{match_ordering}
 use Rattle.sqlite.specs.Ops.{unary}
 use Rattle.sqlite.specs.Cast.{cast}
@@ -31,11 +31,12 @@ use Rattle.sqlite.specs.Edit.{id_in, without_all}
 use Rattle.sqlite_rules.proofs.TableLemmas.{int_is}
 use Rattle.sqlite_trees.proofs.ListLemmas.{map-map, filter_same}
 use Rattle.std.proofs.lemmas.Cmp.{tied_itself}
+use Rattle.std.specs.Cmp.{Equal-is}
 use Rattle.sqlite_rules.specs.Lists.{Has}
 use Rattle.sqlite_rules.proofs.ListLemmas.{all_has, all_from, test_from, fails_from}
 use Rattle.sqlite_rules.proofs.PlaceLemmas.{tied_same}
 use Rattle.sqlite_value.proofs.OrderLemmas.{value_cmp_total}
-use Rattle.uu_schema.specs.Layout.{over, where_is}
+use Rattle.uu_schema.proofs.Terms.{over, where_is}
 use Rattle.uu_schema.specs.Rowids.{AreNumbered, OnceEach}
 
 pub matched : (p : Row → Bool) (f : Row → Env) (rows : List Row) → flat_map (λ r. cond (p r) (f r ∷ []) []) rows ≡ map f (filter p rows)
@@ -95,15 +96,6 @@ pub without_is : (ids : List ℤ) (rows : List Row) → without_all rows ids ≡
 without_is [] rows = all_stay rows
 without_is (id ∷ ids) rows = without_is ids (without_rowid id rows) ∙ filter_both (λ r. not (has_rowid id r)) (lacks ids) rows
 
-equal_is : (o : Ordering) → is_eq o ≡ true → o ≡ Equal
-equal_is Less h = absurd (cc)
-equal_is Equal h = refl
-equal_is Greater h = absurd (cc)
-
-not_true : (b : Bool) → (b ≡ true → ⊥) → b ≡ false
-not_true true h = absurd (h refl)
-not_true false h = refl
-
 pub once : (rows : List Row) → IsTable rows → OnceEach rows
 once rows up a b h k tie = tied_same rows a b up h k tie
 
@@ -114,9 +106,9 @@ pub cleared : (p : Row → Bool) (rows : List Row) (ids : List ℤ) → OnceEach
 cleared p rows ids up ints sound complete = without_is ids rows ∙ filter_same (lacks ids) (λ r. not (p r)) rows (all_from _ rows (λ r h. elim (cases_Bool (p r)) [
   | inl here ↦ rw here (let id = int_is (rowid r) (all_has _ rows r ints h) in
       fails_from _ ids (id_in (rowid r)) (complete r _ h here id) (ap (λ v. not (is_eq (value_cmp v (Int (id_in (rowid r)))))) id ∙ ap (λ o. not (is_eq o)) (tied_itself value_cmp_total (Int (id_in (rowid r))))))
-  | inr other ↦ rw other (test_from _ ids (λ id k. ap not (not_true _ (λ tie.
+  | inr other ↦ rw other (test_from _ ids (λ id k. ap not (false_from_ne_true _ (λ tie.
       let it = sound id k in
-      let same = up r it.0 h it.1 (equal_is _ (rw it.3 tie)) in
+      let same = up r it.0 h it.1 ((Equal-is _).0 (rw it.3 tie)) in
       true≢false (sym it.2 ∙ ap p (sym same) ∙ other)))))
 ]))
 
@@ -133,10 +125,6 @@ cast_null = either _ Null
 pub cast_int : (n : ℤ) → cast Integer (Int n) ≡ Int n
 unfolding unary
 cast_int n = either _ (Int n)
-
-pub not_false : (b : Bool) → not b ≡ true → b ≡ false
-not_false true h = absurd (cc)
-not_false false h = refl
 
 -- a row that is put at a free rowid is one more row
 pub put_permutes : (new : Row) (rows : List Row) → is_taken rows new ≡ false → IsPermutation (new ∷ rows) (put_row new rows)

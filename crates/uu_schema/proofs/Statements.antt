@@ -44,11 +44,11 @@ module _ {S : Type 0} {g : Ghosts S} where
   pub step_weaker : {from to : Schema} {A B : Trees → Trees → Type 0} {T E : Type 0} {a b : Transaction S} {r : Result T E} → ((x y : Trees) → A x y → B x y) → TakesStep g from to A a b r → TakesStep g from to B a b r
   step_weaker {from} {to} {A} {B} {a = a} {b = b} {r = r} is step = record { same_reference = step.same_reference; outcome = weaker from to (state g a.conn.now) (state g b.conn.now) A B is r step.outcome }
 
-  -- whatever value a call that succeeded gave
+  -- any value that a call that succeeded gave
   pub step_done : {from to : Schema} {A B : Trees → Trees → Type 0} {T E U F : Type 0} {a b : Transaction S} {x : T} {y : U} → ((x y : Trees) → A x y → B x y) → TakesStep {E = E} g from to A a b (Ok x) → TakesStep {E = F} g from to B a b (Ok y)
   step_done {B = B} is step = let it = step_weaker {B = B} is step in record { same_reference = it.same_reference; outcome = record { went = it.outcome.went; kept = it.outcome.kept; survives = it.outcome.survives } }
 
-  -- what was refused took no step, of whatever kind
+  -- what was refused took no step of any kind
   pub step_refused : {from mid to last : Schema} {A B : Trees → Trees → Type 0} {T E U F : Type 0} {a b : Transaction S} {r : Result T E} (q : Result U F) → IsErr q → TakesStep g from mid A a b r → TakesStep g last to B a b q
   step_refused {to = to} {last = last} {B = B} {a = a} {b = b} q fails step = record { same_reference = step.same_reference; outcome = refused last to (state g a.conn.now) (state g b.conn.now) B q fails step.outcome.kept step.outcome.survives }
 

@@ -1,146 +1,40 @@
--- What each text that makes a table means under the schema so far.
-use Rattle.std.proofs.Common.{◌≡◌, ◌∷◌, [], refl, List, pos, Ok}
-use Rattle.sqlite.specs.declared.types.Value.TheVariants.{Null, Int}
-use Rattle.sqlite.specs.Term.{Term, lit, col}
-use Rattle.sqlite.specs.Source.TheVariants.{Values}
-use Rattle.sqlite.specs.Command.TheVariants.{Insert, CreateTable, Update}
-use Rattle.sqlite.specs.Compile.{table_defined_by}
-use Rattle.sqlite.specs.Change.{created}
-use Rattle.sqlite_tied.specs.Compute.{everything}
-use Rattle.sqlite.specs.Listing.{understood}
-use Rattle.sqlite.proofs.Callers.{IsPlain, command_of, statement_of}
-use Rattle.uu_schema.specs.Layout.{over}
-use Rattle.uu_schema.specs.Schema.{first_site, second_site, with_links, links, taken, create_links, create_taken, success_waits, create_success_waits, raise_version, site, no_schema, with_spool, with_systems, with_lines, with_ranges, with_jobs, with_pieces, spool, systems, lines, ranges, jobs, pieces, entries, create_spool, create_systems, create_lines, create_ranges, create_jobs, create_pieces, create_entries, insert_spool}
+-- The texts of the statements that make the tables. (This project's choice.)
+use Rattle.std.specs.Prelude.{codes, List, ℕ}
 
-pub create_spool_is : (command_of (understood no_schema create_spool) ≡ CreateTable) × (statement_of create_spool (understood no_schema create_spool) ≡ create_spool) × (table_defined_by create_spool ≡ Ok spool)
-unfolding understood everything
-create_spool_is = (refl, refl, refl)
+abbrev pub create_spool : List ℕ
+create_spool = codes "CREATE TABLE spool (id INTEGER PRIMARY KEY, version INTEGER NOT NULL, next INTEGER NOT NULL) STRICT"
 
-pub create_spool_plain : IsPlain (understood no_schema create_spool)
-unfolding understood everything
-create_spool_plain = (refl, refl)
+abbrev pub create_systems : List ℕ
+create_systems = codes "CREATE TABLE systems (name TEXT NOT NULL PRIMARY KEY, max_retries INTEGER NOT NULL, last INTEGER NOT NULL, failures INTEGER NOT NULL, wait INTEGER NOT NULL, outcome INTEGER NOT NULL, why TEXT) STRICT"
 
-pub created_spool : created no_schema spool ≡ with_spool
-created_spool = refl
+abbrev pub create_lines : List ℕ
+create_lines = codes "CREATE TABLE lines (system TEXT NOT NULL REFERENCES systems (name) ON DELETE CASCADE, place INTEGER NOT NULL, rank INTEGER NOT NULL, retry INTEGER, PRIMARY KEY (system, place)) STRICT"
 
-pub create_systems_is : (command_of (understood with_spool create_systems) ≡ CreateTable) × (statement_of create_systems (understood with_spool create_systems) ≡ create_systems) × (table_defined_by create_systems ≡ Ok (record systems { tree = 0 }))
-unfolding understood everything
-create_systems_is = (refl, refl, refl)
+abbrev pub create_ranges : List ℕ
+create_ranges = codes "CREATE TABLE ranges (system TEXT NOT NULL, place INTEGER NOT NULL, low INTEGER NOT NULL, high INTEGER NOT NULL, PRIMARY KEY (system, place, low), FOREIGN KEY (system, place) REFERENCES lines (system, place) ON DELETE CASCADE) STRICT"
 
-pub create_systems_plain : IsPlain (understood with_spool create_systems)
-unfolding understood everything
-create_systems_plain = (refl, refl)
+abbrev pub create_jobs : List ℕ
+create_jobs = codes "CREATE TABLE jobs (number INTEGER PRIMARY KEY, system TEXT NOT NULL REFERENCES systems (name), rank INTEGER NOT NULL, user TEXT NOT NULL, kind INTEGER NOT NULL, queued INTEGER NOT NULL, first_word TEXT NOT NULL, second_word TEXT NOT NULL, size INTEGER NOT NULL) STRICT"
 
-pub created_systems : created with_spool (record systems { tree = 0 }) ≡ with_systems
-created_systems = refl
+abbrev pub create_pieces : List ℕ
+create_pieces = codes "CREATE TABLE pieces (job INTEGER NOT NULL REFERENCES jobs (number) ON DELETE CASCADE, place INTEGER NOT NULL, bytes BLOB NOT NULL, PRIMARY KEY (job, place)) STRICT"
 
-pub create_lines_is : (command_of (understood with_systems create_lines) ≡ CreateTable) × (statement_of create_lines (understood with_systems create_lines) ≡ create_lines) × (table_defined_by create_lines ≡ Ok (record lines { tree = 0 }))
-unfolding understood everything
-create_lines_is = (refl, refl, refl)
+abbrev pub create_entries : List ℕ
+create_entries = codes "CREATE TABLE entries (host TEXT NOT NULL PRIMARY KEY, bytes BLOB NOT NULL) STRICT"
 
-pub create_lines_plain : IsPlain (understood with_systems create_lines)
-unfolding understood everything
-create_lines_plain = (refl, refl)
+abbrev pub insert_spool : List ℕ
+insert_spool = codes "INSERT INTO spool (id, version, next) VALUES (1, 3, 1)"
 
-pub created_lines : created with_systems (record lines { tree = 0 }) ≡ with_lines
-created_lines = refl
+abbrev pub create_success_waits : List ℕ
+create_success_waits = codes "CREATE TABLE success_waits (system TEXT NOT NULL PRIMARY KEY REFERENCES systems (name) ON DELETE CASCADE, wait INTEGER NOT NULL) STRICT"
 
-pub create_ranges_is : (command_of (understood with_lines create_ranges) ≡ CreateTable) × (statement_of create_ranges (understood with_lines create_ranges) ≡ create_ranges) × (table_defined_by create_ranges ≡ Ok (record ranges { tree = 0 }))
-unfolding understood everything
-create_ranges_is = (refl, refl, refl)
+abbrev pub create_links : List ℕ
+create_links = codes "CREATE TABLE links (system TEXT NOT NULL PRIMARY KEY REFERENCES systems (name) ON DELETE CASCADE, below INTEGER NOT NULL) STRICT"
 
-pub create_ranges_plain : IsPlain (understood with_lines create_ranges)
-unfolding understood everything
-create_ranges_plain = (refl, refl)
+abbrev pub create_taken : List ℕ
+create_taken = codes "CREATE TABLE taken (system TEXT NOT NULL REFERENCES systems (name) ON DELETE CASCADE, number INTEGER NOT NULL, mark INTEGER NOT NULL, job INTEGER NOT NULL, PRIMARY KEY (system, number)) STRICT"
 
-pub created_ranges : created with_lines (record ranges { tree = 0 }) ≡ with_ranges
-created_ranges = refl
+-- ---- the statement that makes an earlier version version 3, after those that make its tables
 
-pub create_jobs_is : (command_of (understood with_ranges create_jobs) ≡ CreateTable) × (statement_of create_jobs (understood with_ranges create_jobs) ≡ create_jobs) × (table_defined_by create_jobs ≡ Ok (record jobs { tree = 0 }))
-unfolding understood everything
-create_jobs_is = (refl, refl, refl)
-
-pub create_jobs_plain : IsPlain (understood with_ranges create_jobs)
-unfolding understood everything
-create_jobs_plain = (refl, refl)
-
-pub created_jobs : created with_ranges (record jobs { tree = 0 }) ≡ with_jobs
-created_jobs = refl
-
-pub create_pieces_is : (command_of (understood with_jobs create_pieces) ≡ CreateTable) × (statement_of create_pieces (understood with_jobs create_pieces) ≡ create_pieces) × (table_defined_by create_pieces ≡ Ok (record pieces { tree = 0 }))
-unfolding understood everything
-create_pieces_is = (refl, refl, refl)
-
-pub create_pieces_plain : IsPlain (understood with_jobs create_pieces)
-unfolding understood everything
-create_pieces_plain = (refl, refl)
-
-pub created_pieces : created with_jobs (record pieces { tree = 0 }) ≡ with_pieces
-created_pieces = refl
-
-pub create_entries_is : (command_of (understood with_pieces create_entries) ≡ CreateTable) × (statement_of create_entries (understood with_pieces create_entries) ≡ create_entries) × (table_defined_by create_entries ≡ Ok (record entries { tree = 0 }))
-unfolding understood everything
-create_entries_is = (refl, refl, refl)
-
-pub create_entries_plain : IsPlain (understood with_pieces create_entries)
-unfolding understood everything
-create_entries_plain = (refl, refl)
-
-pub created_entries : created with_pieces (record entries { tree = 0 }) ≡ first_site
-created_entries = refl
-
-abbrev pub spool_terms : List Term
-spool_terms = lit (Int (pos 1)) ∷ lit Null ∷ lit (Int (pos 3)) ∷ lit (Int (pos 1)) ∷ []
-
-pub insert_spool_is : command_of (understood site insert_spool) ≡ Insert 0 (Values spool_terms 4)
-unfolding understood everything
-insert_spool_is = refl
-
-pub insert_spool_plain : IsPlain (understood site insert_spool)
-unfolding understood everything
-insert_spool_plain = (refl, refl)
-
-pub create_success_waits_is : (command_of (understood first_site create_success_waits) ≡ CreateTable) × (statement_of create_success_waits (understood first_site create_success_waits) ≡ create_success_waits)
-    × (table_defined_by create_success_waits ≡ Ok (record success_waits { tree = 0 }))
-unfolding understood everything
-create_success_waits_is = (refl, refl, refl)
-
-pub create_success_waits_plain : IsPlain (understood first_site create_success_waits)
-unfolding understood everything
-create_success_waits_plain = (refl, refl)
-
-pub created_success_waits : created first_site (record success_waits { tree = 0 }) ≡ second_site
-created_success_waits = refl
-
-pub create_links_is : (command_of (understood second_site create_links) ≡ CreateTable) × (statement_of create_links (understood second_site create_links) ≡ create_links) × (table_defined_by create_links ≡ Ok (record links { tree = 0 }))
-unfolding understood everything
-create_links_is = (refl, refl, refl)
-
-pub create_links_plain : IsPlain (understood second_site create_links)
-unfolding understood everything
-create_links_plain = (refl, refl)
-
-pub created_links : created second_site (record links { tree = 0 }) ≡ with_links
-created_links = refl
-
-pub create_taken_is : (command_of (understood with_links create_taken) ≡ CreateTable) × (statement_of create_taken (understood with_links create_taken) ≡ create_taken) × (table_defined_by create_taken ≡ Ok (record taken { tree = 0 }))
-unfolding understood everything
-create_taken_is = (refl, refl, refl)
-
-pub create_taken_plain : IsPlain (understood with_links create_taken)
-unfolding understood everything
-create_taken_plain = (refl, refl)
-
-pub created_taken : created with_links (record taken { tree = 0 }) ≡ site
-created_taken = refl
-
-abbrev pub raise_terms : List Term
-raise_terms = col 1 0 ∷ col 1 0 ∷ lit Null ∷ lit (Int (pos 3)) ∷ col 1 3 ∷ []
-
-pub raise_version_is : command_of (understood site raise_version) ≡ Update 0 (record { lets = []; body = over 0 [] raise_terms })
-unfolding understood everything
-raise_version_is = refl
-
-pub raise_version_plain : IsPlain (understood site raise_version)
-unfolding understood everything
-raise_version_plain = (refl, refl)
+abbrev pub raise_version : List ℕ
+raise_version = codes "UPDATE spool SET version = 3"

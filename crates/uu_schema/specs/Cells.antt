@@ -37,7 +37,7 @@ link_cells l = Text l.system ∷ Int (pos l.below) ∷ []
 abbrev pub taken_cells : TakenColumns → Row
 taken_cells t = Text t.system ∷ Int (pos t.taken.number) ∷ Int (pos t.taken.mark) ∷ Int (pos t.taken.job) ∷ []
 
--- ---- a job: of a command its arguments stand in one text, with one space between two
+-- ---- a job: the arguments of a command are one text, with one space between two
 
 abbrev pub kind_number : Kind → ℕ
 kind_number (Send source target) = 0

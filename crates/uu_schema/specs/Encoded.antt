@@ -30,20 +30,20 @@ pub record EncodesAs (v : Version) (database : Database) (s : State) : Type 0 wh
 abbrev pub Encodes : Database → State → Type 0
 Encodes = EncodesAs Third
 
--- what a version held of a state, the one that is written holds of it
+-- each state that the tables of a version had, the tables of the written version have
 abbrev pub HoldsAgain : Version → Trees → Trees → Type 0
 HoldsAgain v old new = (s : State) → HoldsStateAs v old s → HoldsState new s
 
--- a version held a state, and the one that is written holds the same
+-- a version had a state, and the written version has the same
 pub record Migrated (v : Version) (old new : Trees) : Type 0 where
   pub state : State
   pub held : HoldsStateAs v old state
   pub again : HoldsAgain v old new
 
--- a stop may leave only what encodes the state
+-- a stop leaves only what encodes the state
 abbrev pub Leaves : db.State → State → Type 0
 Leaves now s = (trees : Trees) → now.may_leave trees → IsSound site trees × HoldsState trees s
 
--- a stop may leave only what encodes the one state or the other
+-- a stop leaves only what encodes one of the two states
 abbrev pub LeavesEither : db.State → State → State → Type 0
 LeavesEither now s t = (trees : Trees) → now.may_leave trees → IsSound site trees × (HoldsState trees s ⊎ HoldsState trees t)

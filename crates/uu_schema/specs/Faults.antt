@@ -11,7 +11,7 @@ use Rattle.uu_schema.specs.declared.fault.StoreFault.TheVariants.{Memory, Store,
 use Rattle.uu_schema.specs.declared.fault.Halt.{Halt}
 use Rattle.uu_schema.specs.declared.fault.Halt.TheVariants.{Commit}
 
--- which part of the store an error of the database tells of
+-- which part of the store an error of the database is about
 abbrev pub kind_of_code : ErrorCode → StoreKind
 kind_of_code SystemIoFailure = Disk
 kind_of_code DatabaseCorrupt = Disk
@@ -30,7 +30,7 @@ fault_code Failed = 3
 fault_code Foreign = 4
 fault_code Newer = 5
 
--- a fault of the store beside those that only an opening or an earlier failure gives
+-- a fault of the store, except those that only an opening or an earlier failure gives
 abbrev pub IsFaultOfThisCall : StoreFault → Type 0
 IsFaultOfThisCall Memory = ⊤
 IsFaultOfThisCall (Store kind) = ⊤
@@ -38,14 +38,14 @@ IsFaultOfThisCall Failed = ⊥
 IsFaultOfThisCall Foreign = ⊥
 IsFaultOfThisCall Newer = ⊥
 
--- a part of the store that it names is that of the error
+-- if it names a part of the store, it is the part that the error is about
 abbrev pub NamesPartOf : Error → StoreFault → Type 0
 NamesPartOf error fault = (kind : StoreKind) → fault ≡ Store kind → kind ≡ kind_of_error error
 
--- of any error but want of memory it is the failure of the part that the error tells of
+-- unless the error is out of memory, it is the failure of the part that the error is about
 abbrev pub NamesPartUnlessMemory : Error → StoreFault → Type 0
 NamesPartUnlessMemory error fault = error ≢ SqliteFailure OutOfMemory → fault ≡ Store (kind_of_error error)
 
--- of a commit that was refused it names the part, and is never want of memory
+-- for a failed commit it names the part, and is never out of memory
 abbrev pub NamesPartOfCommit : Halt → StoreFault → Type 0
 NamesPartOfCommit halt fault = (error : Error) → halt ≡ Commit error → fault ≡ Store (kind_of_error error)

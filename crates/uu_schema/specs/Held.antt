@@ -19,7 +19,7 @@ use Rattle.uu_schema.specs.Keyed.{Keyed}
 use Rattle.uu_schema.specs.Made.{spool_row_of}
 use Rattle.uu_schema.specs.Cells.{system_cells, line_cells, range_cells, job_cells, piece_cells, entry_cells, wait_cells, link_cells, taken_cells}
 
--- ---- the key of each table, and where its columns stand in a row
+-- ---- the key of each table, and where in a row its columns are
 
 abbrev pub system_key : SystemColumns → List ℕ
 system_key s = s.name
@@ -105,14 +105,14 @@ AreLinks = Keyed link_key link_cells link_places
 abbrev pub AreTaken : List TakenColumns → List Row → Type 0
 AreTaken = Keyed taken_key taken_cells taken_places
 
--- the success waits of a version: version 1 has no table of them, and each is 0
+-- the success waits of a version: version 1 has no table of them, so each is 0
 abbrev pub AreWaitsOf : Version → List WaitColumns → Trees → Type 0
 AreWaitsOf First waits db = waits ≡ []
 AreWaitsOf Second waits db = AreWaits waits (db success_waits.tree)
 AreWaitsOf Third waits db = AreWaits waits (db success_waits.tree)
 
--- the links of a version, and what was taken by them: earlier versions have no tables of them, and
--- keep nothing of links
+-- the links of a version, and what was taken by them: earlier versions have no such tables and no
+-- links
 abbrev pub AreLinksOf : Version → List LinkColumns → Trees → Type 0
 AreLinksOf First rows db = rows ≡ []
 AreLinksOf Second rows db = rows ≡ []
@@ -140,7 +140,7 @@ pub record HoldsAs (v : Version) (db : Trees) (t : Tables) : Type 0 where
 abbrev pub Holds : Trees → Tables → Type 0
 Holds = HoldsAs Third
 
--- what the tables of a version held, those of the version that is written hold
+-- the tables of the written version have what those of this version had
 abbrev pub Migrates : Version → Trees → Trees → Type 0
 Migrates v old new = (t : Tables) → HoldsAs v old t → Holds new t
 

@@ -1,4 +1,4 @@
--- What the statements that make the tables make of the trees.
+-- The trees after the statements that make the tables.
 use Rattle.std.specs.Prelude.{◌≡◌, ◌==◌, ℕ, pos, List, [], ◌∷◌, false}
 use Rattle.std.specs.List.{AllByRecursion, list_any}
 use Rattle.sqlite.specs.declared.types.Value.TheVariants.{Null, Int}
@@ -11,7 +11,7 @@ use Rattle.uu_schema.specs.Schema.{site, no_schema, with_spool, with_systems, wi
 use Rattle.uu_schema.specs.declared.version.Version.{Version}
 use Rattle.uu_schema.specs.declared.version.Version.TheVariants.{First, Second, Third}
 
--- the tables but those at these trees have the rows that they had
+-- the tables except those at these trees have the rows that they had
 abbrev pub Keeps : List ℕ → Trees → Trees → Type 0
 Keeps written old new = AllByRecursion (λ (t : Table). list_any (λ n. n == t.tree) written ≡ false → new t.tree ≡ old t.tree) site.tables
 
@@ -25,8 +25,8 @@ number_of Third = 3
 abbrev pub version : ℕ
 version = number_of Third
 
--- The row of `spool` as the port keeps it: the rowid, then the columns, where an INTEGER PRIMARY
--- KEY is kept as Null.
+-- The row of `spool` as the port keeps it: the rowid, then the columns. An INTEGER PRIMARY KEY is
+-- kept as Null.
 abbrev pub spool_row_of : Version → ℕ → Row
 spool_row_of v next = Int (pos 1) ∷ Null ∷ Int (pos (number_of v)) ∷ Int (pos next) ∷ []
 
@@ -43,7 +43,7 @@ pub record IsBegun (old new : Trees) : Type 0 where
   pub row : old spool.tree ≡ [] → new spool.tree ≡ spool_row 1 ∷ []
   pub others : Keeps (spool.tree ∷ []) old new
 
--- the one row of `spool` has the version that is written then, and nothing else differs
+-- the one row of `spool` has the written version, and nothing else differs
 pub record HasRaised (next : ℕ) (old new : Trees) : Type 0 where
   pub row : new spool.tree ≡ spool_row next ∷ []
   pub others : Keeps (spool.tree ∷ []) old new
@@ -89,16 +89,3 @@ FromSecond = Both (IsMade second_site links.tree) (Both (IsMade with_links taken
 -- those that version 1 lacks
 abbrev pub FromFirst : Trees → Trees → Type 0
 FromFirst = Both (IsMade first_site success_waits.tree) FromSecond
-
--- what the whole leaves: one row of `spool`, and no other
-pub record IsEmpty (db : Trees) : Type 0 where
-  pub row : db spool.tree ≡ spool_row 1 ∷ []
-  pub systems : db systems.tree ≡ []
-  pub lines : db lines.tree ≡ []
-  pub ranges : db ranges.tree ≡ []
-  pub jobs : db jobs.tree ≡ []
-  pub pieces : db pieces.tree ≡ []
-  pub entries : db entries.tree ≡ []
-  pub success_waits : db success_waits.tree ≡ []
-  pub links : db links.tree ≡ []
-  pub taken : db taken.tree ≡ []

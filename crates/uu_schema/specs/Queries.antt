@@ -1,4 +1,4 @@
--- Texts that are queries, under whatever schema.
+-- Texts that are queries, under any schema.
 use Rattle.std.specs.Prelude.{◌≡◌, ℕ, Bool, true, false, List, Ok, Err}
 use Rattle.sqlite_ast.specs.declared.Statement.{Statement}
 use Rattle.sqlite_ast.specs.declared.Statement.TheVariants as written

@@ -1,6 +1,5 @@
--- The ten tables of the spool, version 3, those of earlier versions, and the texts that make them. (This
--- project's choice.)
-use Rattle.std.specs.Prelude.{[], ◌∷◌, codes, List, ℕ}
+-- The ten tables of the spool, version 3, and those of earlier versions. (This project's choice.)
+use Rattle.std.specs.Prelude.{[], ◌∷◌, codes}
 use Rattle.sqlite.specs.Table.{Table}
 use Rattle.sqlite.specs.Schema.{Schema}
 use Rattle.sqlite.specs.Kind.TheVariants.{Integer, Text, Blob}
@@ -24,7 +23,7 @@ systems = by_key (codes "systems") 1
     ∷ [])
     (1 ∷ []) []
 
--- a line goes with its system
+-- a line is removed with its system
 abbrev pub to_system : Reference
 to_system = refers (1 ∷ []) (codes "systems") (codes "name" ∷ []) Cascade
 
@@ -32,7 +31,7 @@ to_system = refers (1 ∷ []) (codes "systems") (codes "name" ∷ []) Cascade
 abbrev pub lines : Table
 lines = by_key (codes "lines") 3 (must (codes "system") Text ∷ must (codes "place") Integer ∷ must (codes "rank") Integer ∷ may (codes "retry") Integer ∷ []) (1 ∷ 2 ∷ []) (to_system ∷ [])
 
--- a range goes with its line
+-- a range is removed with its line
 abbrev pub to_line : Reference
 to_line = refers (1 ∷ 2 ∷ []) (codes "lines") (codes "system" ∷ codes "place" ∷ []) Cascade
 
@@ -40,7 +39,7 @@ to_line = refers (1 ∷ 2 ∷ []) (codes "lines") (codes "system" ∷ codes "pla
 abbrev pub ranges : Table
 ranges = by_key (codes "ranges") 5 (must (codes "system") Text ∷ must (codes "place") Integer ∷ must (codes "low") Integer ∷ must (codes "high") Integer ∷ []) (1 ∷ 2 ∷ 3 ∷ []) (to_line ∷ [])
 
--- a system can't go while a job waits for it
+-- a system can't be removed while a job waits for it
 abbrev pub to_known_system : Reference
 to_known_system = refers (2 ∷ []) (codes "systems") (codes "name" ∷ []) NoAction
 
@@ -51,11 +50,11 @@ jobs = by_number (codes "jobs") 7
     ∷ must (codes "first_word") Text ∷ must (codes "second_word") Text ∷ must (codes "size") Integer ∷ [])
     (to_known_system ∷ [])
 
--- a piece goes with its job
+-- a piece is removed with its job
 abbrev pub to_job : Reference
 to_job = refers (1 ∷ []) (codes "jobs") (codes "number" ∷ []) Cascade
 
--- the bytes of the jobs, cut
+-- the bytes of the jobs, cut into pieces
 abbrev pub pieces : Table
 pieces = by_key (codes "pieces") 8 (must (codes "job") Integer ∷ must (codes "place") Integer ∷ must (codes "bytes") Blob ∷ []) (1 ∷ 2 ∷ []) (to_job ∷ [])
 
@@ -63,11 +62,11 @@ pieces = by_key (codes "pieces") 8 (must (codes "job") Integer ∷ must (codes "
 abbrev pub entries : Table
 entries = by_key (codes "entries") 10 (must (codes "host") Text ∷ must (codes "bytes") Blob ∷ []) (1 ∷ []) []
 
--- the success waits of the systems, but for those that are 0
+-- the success waits of the systems, without those that are 0
 abbrev pub success_waits : Table
 success_waits = by_key (codes "success_waits") 12 (must (codes "system") Text ∷ must (codes "wait") Integer ∷ []) (1 ∷ []) (to_system ∷ [])
 
--- the numbers below which neighbours ask for none again, but for those that are 0
+-- the numbers below which neighbours won't ask again, without those that are 0
 abbrev pub links : Table
 links = by_key (codes "links") 14 (must (codes "system") Text ∷ must (codes "below") Integer ∷ []) (1 ∷ []) (to_system ∷ [])
 
@@ -154,43 +153,3 @@ abbrev pub site_of : Version → Schema
 site_of First = first_site
 site_of Second = second_site
 site_of Third = site
-
--- ---- statements that make the tables
-
-abbrev pub create_spool : List ℕ
-create_spool = codes "CREATE TABLE spool (id INTEGER PRIMARY KEY, version INTEGER NOT NULL, next INTEGER NOT NULL) STRICT"
-
-abbrev pub create_systems : List ℕ
-create_systems = codes "CREATE TABLE systems (name TEXT NOT NULL PRIMARY KEY, max_retries INTEGER NOT NULL, last INTEGER NOT NULL, failures INTEGER NOT NULL, wait INTEGER NOT NULL, outcome INTEGER NOT NULL, why TEXT) STRICT"
-
-abbrev pub create_lines : List ℕ
-create_lines = codes "CREATE TABLE lines (system TEXT NOT NULL REFERENCES systems (name) ON DELETE CASCADE, place INTEGER NOT NULL, rank INTEGER NOT NULL, retry INTEGER, PRIMARY KEY (system, place)) STRICT"
-
-abbrev pub create_ranges : List ℕ
-create_ranges = codes "CREATE TABLE ranges (system TEXT NOT NULL, place INTEGER NOT NULL, low INTEGER NOT NULL, high INTEGER NOT NULL, PRIMARY KEY (system, place, low), FOREIGN KEY (system, place) REFERENCES lines (system, place) ON DELETE CASCADE) STRICT"
-
-abbrev pub create_jobs : List ℕ
-create_jobs = codes "CREATE TABLE jobs (number INTEGER PRIMARY KEY, system TEXT NOT NULL REFERENCES systems (name), rank INTEGER NOT NULL, user TEXT NOT NULL, kind INTEGER NOT NULL, queued INTEGER NOT NULL, first_word TEXT NOT NULL, second_word TEXT NOT NULL, size INTEGER NOT NULL) STRICT"
-
-abbrev pub create_pieces : List ℕ
-create_pieces = codes "CREATE TABLE pieces (job INTEGER NOT NULL REFERENCES jobs (number) ON DELETE CASCADE, place INTEGER NOT NULL, bytes BLOB NOT NULL, PRIMARY KEY (job, place)) STRICT"
-
-abbrev pub create_entries : List ℕ
-create_entries = codes "CREATE TABLE entries (host TEXT NOT NULL PRIMARY KEY, bytes BLOB NOT NULL) STRICT"
-
-abbrev pub insert_spool : List ℕ
-insert_spool = codes "INSERT INTO spool (id, version, next) VALUES (1, 3, 1)"
-
-abbrev pub create_success_waits : List ℕ
-create_success_waits = codes "CREATE TABLE success_waits (system TEXT NOT NULL PRIMARY KEY REFERENCES systems (name) ON DELETE CASCADE, wait INTEGER NOT NULL) STRICT"
-
-abbrev pub create_links : List ℕ
-create_links = codes "CREATE TABLE links (system TEXT NOT NULL PRIMARY KEY REFERENCES systems (name) ON DELETE CASCADE, below INTEGER NOT NULL) STRICT"
-
-abbrev pub create_taken : List ℕ
-create_taken = codes "CREATE TABLE taken (system TEXT NOT NULL REFERENCES systems (name) ON DELETE CASCADE, number INTEGER NOT NULL, mark INTEGER NOT NULL, job INTEGER NOT NULL, PRIMARY KEY (system, number)) STRICT"
-
--- ---- the statement that makes an earlier version version 3, behind those that make its tables
-
-abbrev pub raise_version : List ℕ
-raise_version = codes "UPDATE spool SET version = 3"

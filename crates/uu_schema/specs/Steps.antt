@@ -16,7 +16,7 @@ use Rattle.sqlite_catalog.specs.Listing.{IsSound}
 abbrev pub IsIdle : {S : Type 0} → Held S → Type 0
 IsIdle conn = conn.in_transaction ≡ false
 
--- a connection on which no transaction is open is left with none
+-- if no transaction was open on a connection, none is
 abbrev pub StaysIdle : {S : Type 0} → Held S → Held S → Type 0
 StaysIdle old new = IsIdle old → IsIdle new
 
@@ -24,7 +24,7 @@ StaysIdle old new = IsIdle old → IsIdle new
 abbrev pub CommitsNothing : {S : Type 0} → Ghosts S → Held S → Held S → Type 0
 CommitsNothing g old new = Survives (state g old) (state g new) (λ _. ⊥)
 
--- where this is found, the connection was open, and nothing changed
+-- if `Found` holds, the connection was open and nothing changed
 abbrev pub UnchangedIf : {S : Type 0} → Ghosts S → Type 0 → Held S → Held S → Type 0
 UnchangedIf g Found old new = HasCleanDisk (state g new) → Found → IsTrue (state g old).is_open × IsUnchanged (state g old) (state g new)
 
@@ -48,8 +48,8 @@ pub record Both (First Second : Trees → Trees → Type 0) (old new : Trees) : 
   pub first : First old mid
   pub second : Second mid new
 
--- A call inside a transaction: on a database of the first schema it took the step, to one of the
--- second, or it was refused. Whatever the database, it committed nothing.
+-- A call inside a transaction. On a database of the first schema it took the step to the second, or
+-- it failed. On any database, it committed nothing.
 pub record Outcome {T E : Type 0} (from to : Schema) (Step : Trees → Trees → Type 0) (old new : State) (r : Result T E) : Type 0 where
   pub went : HasCleanDisk new → IsTrue old.in_transaction → Stands from old.now → OnOk r (Went to Step old new)
   pub kept : HasCleanDisk new → KeepsCommit old new
@@ -61,7 +61,7 @@ pub record Rests (s : State) : Type 0 where
   pub idle : s.in_transaction ≡ false
   pub settled : s.now ≡ s.committed
 
--- the step is committed, and a stop leaves that alone
+-- the step is committed, and a stop leaves only that
 pub record Did (to : Schema) (Step : Trees → Trees → Type 0) (old new : State) : Type 0 where
   pub rests : Rests new
   pub stands : Stands to new.now
@@ -69,7 +69,7 @@ pub record Did (to : Schema) (Step : Trees → Trees → Type 0) (old new : Stat
   pub left : (db : Trees) → new.may_leave db → db ≡ new.now.trees
 
 -- nothing is committed: while the connection is open it shows what was committed before, and a stop
--- leaves that alone
+-- leaves only that
 pub record Undid (old new : State) : Type 0 where
   pub undone : IsTrue new.is_open → (new.now ≡ old.committed) × (new.committed ≡ old.committed)
   pub left : IsTrue new.is_open → (db : Trees) → new.may_leave db → db ≡ old.committed.trees
@@ -78,8 +78,8 @@ abbrev pub Ends : {T E : Type 0} → Schema → (Trees → Trees → Type 0) →
 Ends to Step old new (Ok x) = Did to Step old new
 Ends to Step old new (Err e) = Undid old new
 
--- a whole transaction: how it ends, and what a stop at its end may leave beside what it could leave
--- before
+-- a whole transaction: how it ends, and what a stop at its end may leave besides what it could
+-- leave before
 pub record Whole {T E : Type 0} (from to : Schema) (Step : Trees → Trees → Type 0) (old new : State) (r : Result T E) : Type 0 where
   pub ends : HasCleanDisk new → Stands from old.now → Ends to Step old new r
   pub survives : Survives old new (λ db. Stands from old.now → Step old.now.trees db × IsSound to db)

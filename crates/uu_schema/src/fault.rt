@@ -12,28 +12,28 @@ use thiserror::Error;
 /// Which part of the store failed.
 #[derive(Clone, Copy, Debug, PartialEq, Eq)]
 pub enum StoreKind {
-    /// The device failed or is full, or it returned other bytes than were written.
+    /// The disk failed or is full, or it returned other bytes than were written.
     Disk,
     /// A row or the file is too big.
     Size,
-    /// Any other refusal of the database.
+    /// Any other error of the database.
     Database,
 }
 
 /// Why the store gives no answer.
 #[derive(Clone, Copy, Debug, PartialEq, Eq, Error)]
 pub enum StoreFault {
-    /// Memory was refused. Nothing changed, and the spool can be used.
+    /// Out of memory. Nothing changed, and the spool can be used.
     #[error("out of memory")]
     Memory,
-    /// The database failed. The command in hand may stand in the file or not; from then on every
-    /// command and question answers `Failed`, and so does a close.
+    /// The database failed. The request in hand, a command or a bundle, may be in the file, whole,
+    /// or not. From then on every command, bundle, question and close answers `Failed`.
     #[error("the store failed")]
     Store(StoreKind),
-    /// An earlier call answered `Store`. The file is to be opened again.
+    /// An earlier call answered `Store`. The file has to be reopened.
     #[error("the store failed before")]
     Failed,
-    /// The database is not that of a spool.
+    /// The database isn't that of a spool.
     #[error("not a spool")]
     Foreign,
     /// The database is that of a later version of this program.
@@ -75,9 +75,9 @@ impl<T: Drop> From<AllocFailed<T>> for StoreFault {
 /// Why a transaction stopped.
 #[derive(Debug, Drop)]
 pub enum Halt {
-    /// A statement or a growth before the commit was refused, and nothing is committed.
+    /// A statement before the commit failed, or memory ran out. Nothing is committed.
     Before(SqlError),
-    /// The commit itself was refused, so that nobody knows what is kept.
+    /// The commit itself failed, so nobody knows what is kept.
     Commit(SqlError),
 }
 
@@ -89,16 +89,15 @@ impl From<SqlError> for Halt {
     }
 }
 
-/// Whether the error says that memory was refused.
+/// Whether the error is out of memory.
 pub fn is_memory(error: &SqlError) -> bool
     ensures { IsTrue result ↔ (error.now ≡ SqlError.SqliteFailure ErrorCode.OutOfMemory) }
 {
     matches!(error, SqlError::SqliteFailure(ErrorCode::OutOfMemory))
 }
 
-/// Whether the connection still answers. It is asked for a statement that begins with no word of
-/// SQL: a connection that answers refuses it by name, and takes no memory for that, so that the
-/// question is answered where memory is short, too.
+/// Whether the connection still answers. We send it a string that isn't SQL. A connection that
+/// works rejects it by name without allocating, so the answer is right even if memory is short.
 pub fn is_alive<S: Alter>(conn: &mut Connection<S>) -> bool
     requires { IsIdle conn.old }
     ensures idle { IsIdle conn.new }
@@ -108,7 +107,7 @@ pub fn is_alive<S: Alter>(conn: &mut Connection<S>) -> bool
     matches!(conn.prepare("alive"), Err(SqlError::SqlInputError(_)))
 }
 
-/// Which part of the store an error of the database tells of.
+/// Which part of the store an error of the database is about.
 pub fn kind_of(error: &SqlError) -> StoreKind
     ensures { result ≡ kind_of_error error.now }
 {
@@ -121,8 +120,8 @@ pub fn kind_of(error: &SqlError) -> StoreKind
     }
 }
 
-/// What an error of the database means for the caller. It is want of memory only where the
-/// connection still answers.
+/// What an error of the database means for the caller. It is `Memory` only if the connection still
+/// answers.
 pub fn store_fault<S: Alter>(conn: &mut Connection<S>, error: &SqlError) -> StoreFault
     requires { IsIdle conn.old }
     ensures idle { IsIdle conn.new }
@@ -139,8 +138,8 @@ pub fn store_fault<S: Alter>(conn: &mut Connection<S>, error: &SqlError) -> Stor
     }
 }
 
-/// What a command that stopped means for the caller. A commit that was refused is never want of
-/// memory, since what it left is not known; the database is not asked any more then.
+/// What a command that stopped means for the caller. A failed commit is never `Memory`, because
+/// nobody knows what it left, and the database isn't asked any more then.
 pub fn halt_fault<S: Alter>(conn: &mut Connection<S>, halt: &Halt) -> StoreFault
     requires { IsIdle conn.old }
     ensures idle { IsIdle conn.new }

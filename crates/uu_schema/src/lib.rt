@@ -1,6 +1,6 @@
-//! The ten tables of the spool in a database: their schema, the rows that hold the typed ones, an
-//! empty spool, and why the store gives no answer. Below them, for any schema, what statements and
-//! transactions of the port of SQLite mean, and what a stop leaves of them: those lemmas stand in
+//! The ten tables of the spool in a database: their schema, the rows for the typed ones, an empty
+//! spool, and why the store gives no answer. Below them, for any schema, is what statements and
+//! transactions of the SQLite port mean, and what a stop leaves of them. Those lemmas are in
 //! `proofs/`, for the crates above.
 #![tactic(auto)]
 

@@ -179,8 +179,8 @@ fn create_tables<S: Alter>(tx: &mut Transaction<'_, S>) -> Result<usize, Error>
     create_from_systems(tx)
 }
 
-/// Makes the tables of an empty spool in a database without tables, all of them or none, in one
-/// transaction.
+/// Makes the tables of an empty spool in a database without tables, in one transaction: all of them
+/// or none.
 pub fn create<S: Alter>(conn: &mut Connection<S>) -> Result<(), Halt>
     requires { IsIdle conn.old }
     ensures { Transacts S.Store no_schema site MakesEmpty conn.old conn.new result }
@@ -220,7 +220,7 @@ fn migrate_first<S: Alter>(tx: &mut Transaction<'_, S>) -> Result<usize, Error>
     migrate_second(tx)
 }
 
-// The tables that a version lacks; the last one lacks none.
+// The tables that a version lacks; version 3 lacks none.
 fn migrate_tables<S: Alter>(tx: &mut Transaction<'_, S>, from: Version) -> Result<usize, Error>
     ensures { TakesStep S.Store (site_of from) site (Migrates from) tx.old tx.new result }
 {
@@ -231,8 +231,8 @@ fn migrate_tables<S: Alter>(tx: &mut Transaction<'_, S>, from: Version) -> Resul
     }
 }
 
-/// Makes the tables of version 3 of those of an earlier one, whole or not at all, in one
-/// transaction; those of version 3 stay as they are.
+/// Makes the tables of version 3 from those of an earlier one, in one transaction: all of them or
+/// none. Those of version 3 stay as they are.
 pub fn migrate<S: Alter>(conn: &mut Connection<S>, from: Version) -> Result<(), Halt>
     requires { IsIdle conn.old }
     ensures { Transacts S.Store (site_of from) site (Migrates from) conn.old conn.new result }

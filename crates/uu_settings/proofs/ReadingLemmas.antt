@@ -8,7 +8,7 @@ use Rattle.uu_settings.specs.declared.fault.SettingsFault.{SettingsFault}
 use Rattle.uu_settings.specs.declared.fault.SettingsFault.TheVariants.{BadValue}
 use Rattle.uu_settings.specs.declared.fault.SettingsFault.TheVariants as fault
 
--- of a fault that is no want of memory, what follows from it
+-- what follows from a fault that isn't out of memory
 pub err_weaker : {V W X Y : Type 0} (seen : V → W) (shown : X → Y) (f : SettingsFault) (a : Result W SettingsFault) (b : Result Y SettingsFault)
     → (Err f ≡ a → Err f ≡ b) → AnswersAs seen (Err f) a → AnswersAs shown (Err f) b
 err_weaker seen shown fault.NotToml a b weaker is = weaker is
@@ -54,7 +54,7 @@ words_next (x ∷ xs) (suc i) value words word inside at so_far is =
     ∙ ap (option_map (λ ws. head ∷ ws)) next
     ∙ ap (λ ws. Some (ws ++ word ∷ [])) (sym whole)
 
--- a value that is no word stops the reading
+-- a value that isn't a word stops the reading
 pub words_stop : (values : List Value) (i : ℕ) (value : Value) (words : List (List ℕ)) → i < length values
     → value ≡ slice_index_or values i value → words_in (items_view (take i values)) ≡ Some words → None ≡ word_in (view value)
     → None ≡ words_in (items_view values)

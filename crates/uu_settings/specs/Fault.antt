@@ -1,4 +1,4 @@
--- Why a text is no settings of a site. The numbers and names are this project's choice.
+-- Why a text isn't the settings of a site. The numbers and names are this project's choice.
 use Rattle.std.specs.Prelude.{ℕ, List, codes}
 use Rattle.uu_names.specs.declared.fault.NameFault.{NameFault}
 use Rattle.uu_names.specs.declared.fault.NameFault.TheVariants as name
@@ -22,7 +22,7 @@ key_name key.Zone = codes "zone"
 key_name key.Spool = codes "spool"
 key_name key.Admins = codes "admins"
 
--- the fault of a key whose value is no name: want of memory stays what it is
+-- the fault of a key whose value isn't a name; out of memory stays out of memory
 abbrev pub value_fault : Key → NameFault → SettingsFault
 value_fault key name.Memory = Memory
 value_fault key _ = BadValue key

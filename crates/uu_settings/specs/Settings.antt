@@ -27,7 +27,7 @@ pub record Site : Type 0 where
 
 -- ---- values
 
--- the value, where it passes
+-- the value, if it passes
 abbrev pub where_it : {V : Type 0} → (V → Bool) → V → Option V
 where_it passes value = if passes value then Some value else None
 
@@ -35,7 +35,7 @@ where_it passes value = if passes value then Some value else None
 abbrev pub name_in : Data → Option (List ℕ)
 name_in value = option_and_then (λ text. result_ok (site_name_of text)) (as_str value)
 
--- a whole number of minutes that a clock is always ahead of UTC
+-- a clock that is always a whole number of minutes ahead of UTC
 abbrev pub offset_in : Data → Option TzText
 offset_in value = option_map always (option_and_then (where_it is_offset) (as_integer value))
 
@@ -62,7 +62,7 @@ admins_in value = option_and_then words_in (as_array value)
 
 -- ---- keys
 
--- the value of a key that has to be there
+-- the value of a required key
 abbrev pub required_as : {V : Type 0} → Key → (Data → Option V) → Option Data → Result V SettingsFault
 required_as key read None = Err (Missing key)
 required_as key read (Some value) = ok_or (read value) (BadValue key)
@@ -70,7 +70,7 @@ required_as key read (Some value) = ok_or (read value) (BadValue key)
 abbrev pub required : {V : Type 0} → Key → (Data → Option V) → Members → Result V SettingsFault
 required key read document = required_as key read (get_member (key_name key) document)
 
--- the value of a key that may be left out
+-- the value of an optional key
 abbrev pub optional_as : {V : Type 0} → Key → (Data → Option V) → V → Option Data → Result V SettingsFault
 optional_as key read default None = Ok default
 optional_as key read default (Some value) = ok_or (read value) (BadValue key)
@@ -78,16 +78,16 @@ optional_as key read default (Some value) = ok_or (read value) (BadValue key)
 abbrev pub optional : {V : Type 0} → Key → (Data → Option V) → V → Members → Result V SettingsFault
 optional key read default document = optional_as key read default (get_member (key_name key) document)
 
--- what the one reading comes to, and then the next; the first fault is told
+-- the result of the first reading, and then of the next; the first fault is reported
 abbrev pub and_then : {V W : Type 0} → Result V SettingsFault → (V → Result W SettingsFault) → Result W SettingsFault
 and_then (Ok value) next = next value
 and_then (Err fault) next = Err fault
 
--- the clock by its minutes, where these are said
+-- the clock from its minutes, if they are given
 abbrev pub offset : Members → Result (Option TzText) SettingsFault
 offset document = optional key.Offset (λ value. option_map Some (offset_in value)) None document
 
--- the clock: by its minutes or by a rule and not by both, and UTC where neither is said
+-- the clock from its minutes or from a rule, not from both; UTC if neither is given
 abbrev pub clock_as : Option TzText → Option Data → Result TzText SettingsFault
 clock_as None None = Ok (always (pos 0))
 clock_as (Some minutes) None = Ok minutes
@@ -99,7 +99,7 @@ clock minutes document = clock_as minutes (get_member (key_name key.Zone) docume
 
 -- ---- settings
 
--- what a document sets; other keys are passed over
+-- what a document sets; other keys are ignored
 abbrev pub site_in : Members → Result Site SettingsFault
 site_in document =
     and_then (required key.Name name_in document) (λ name.
@@ -122,7 +122,7 @@ said settings = record {
   admins = settings.admins.items;
 }
 
--- the answer, seen in this way, is the expected one; want of memory may take its place
+-- the answer, seen in this way, is the expected one, or it is out of memory
 abbrev pub AnswersAs : {V W : Type 0} → (V → W) → Result V SettingsFault → Result W SettingsFault → Type 0
 AnswersAs seen (Ok value) expected = Ok (seen value) ≡ expected
 AnswersAs seen (Err Memory) expected = ⊤

@@ -1,4 +1,4 @@
-//! Why a text is no settings of a site.
+//! Why a text isn't the settings of a site.
 ghost use Rattle.std.specs.Prelude.{◌≡◌};
 ghost use Rattle.uu_settings.specs.declared.fault.SettingsFault.TheVariants.{Memory};
 ghost use Rattle.uu_settings.specs.Fault.{fault_code, key_name};
@@ -13,7 +13,7 @@ pub enum Key {
     Name,
     /// `offset`: the minutes that local time is ahead of UTC, a whole number from -1439 to 1439.
     Offset,
-    /// `zone`: the POSIX rule of the site's clock, a text, in place of `offset`.
+    /// `zone`: the POSIX rule of the site's clock, a text, instead of `offset`.
     Zone,
     /// `spool`: the path of the spool's file, a text of one byte or more.
     Spool,
@@ -36,19 +36,19 @@ impl Key {
     }
 }
 
-/// Why a text is no settings of a site.
+/// Why a text isn't the settings of a site.
 #[derive(Clone, Copy, Debug, PartialEq, Eq, Error)]
 pub enum SettingsFault {
-    /// The text is no TOML document.
+    /// The text isn't a TOML document.
     #[error("not toml")]
     NotToml,
-    /// The key has to be there and isn't.
+    /// A required key is missing.
     #[error("{0:?} missing")]
     Missing(Key),
-    /// The key is there, with a value of another type or past its limits.
+    /// The key has a value of another type, or beyond its limits.
     #[error("{0:?} bad")]
     BadValue(Key),
-    /// Memory was refused. It may take the place of any other answer.
+    /// Out of memory. Any call may give it instead of another answer.
     #[error("out of memory")]
     Memory,
 }

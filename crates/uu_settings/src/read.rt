@@ -1,4 +1,4 @@
-//! How a text gives the settings of a site.
+//! Reading the settings of a site from a text.
 ghost use Rattle.toml.specs.View.{table_view};
 ghost use Rattle.uu_settings.specs.Settings.{AnswersAs, IsAnswerTo, said};
 ghost use Rattle.uu_settings.specs.Settings as spec;
@@ -11,15 +11,15 @@ use toml::Table;
 
 impl Settings {
     /// Reads settings from a TOML document (TOML 1.1). The keys `name`, a site name, and `spool`, a
-    /// text of one byte or more, have to be there. `offset`, a whole number of minutes from -1439
-    /// to 1439, or `zone`, the text of a POSIX rule, says the clock, which is UTC where both are
-    /// absent; `admins`, an array of words, is empty where it is. Other keys are passed over.
+    /// text of one byte or more, are required. The clock is given by `offset`, a whole number of
+    /// minutes from -1439 to 1439, or by `zone`, the text of a POSIX rule. Without both it is UTC.
+    /// `admins` is an array of words; without it there are none. Other keys are ignored.
     ///
     /// # Errors
-    /// `NotToml` where the text is no TOML document. Else the first fault of the keys in the order
-    /// `name`, `offset`, `zone`, `spool`, `admins`: `Missing` where a key that has to be there
-    /// isn't, `BadValue` where a key has another value, and of `zone` where `offset` is there too.
-    /// Else `Memory`.
+    /// `NotToml` if the text isn't a TOML document. Otherwise the first fault of the keys in the
+    /// order `name`, `offset`, `zone`, `spool`, `admins`. `Missing` if a required key isn't there.
+    /// `BadValue` if a key has a value that isn't allowed, or if `zone` is there beside `offset`.
+    /// The only other error is `Memory`.
     pub fn read(alloc: Global, text: &str) -> Result<Settings, SettingsFault>
         ensures { IsAnswerTo text.now result }
     {
@@ -31,7 +31,6 @@ impl Settings {
     }
 }
 
-// The settings that a document gives.
 #[tactic(auto, using(crate::proofs::ReadingLemmas::answers_then))]
 fn settings_in(alloc: Global, document: &Table) -> Result<Settings, SettingsFault>
     ensures { AnswersAs said result (spec.site_in (table_view document.now)) }

@@ -9,7 +9,7 @@ pub struct Settings {
     pub name: SiteName,
     /// The clock of this site.
     pub zone: Zone,
-    /// The path of the spool's file, one byte or more. A relative one is taken from the working
+    /// The path of the spool's file, one byte or more. A relative one starts at the working
     /// directory.
     pub spool: String,
     /// The users who may change jobs of others.

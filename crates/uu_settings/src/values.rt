@@ -27,7 +27,7 @@ pub(crate) fn name_of(alloc: Global, document: &Table) -> Result<SiteName, Setti
     }
 }
 
-/// The clock by the minutes that it is ahead of UTC, where these are said.
+/// The clock from the minutes that it is ahead of UTC, if they are given.
 pub(crate) fn offset_of(document: &Table) -> Result<Option<Zone>, SettingsFault>
     ensures { AnswersAs (λ minutes. option_map said minutes) result (spec.offset (table_view document.now)) }
 {
@@ -40,7 +40,7 @@ pub(crate) fn offset_of(document: &Table) -> Result<Option<Zone>, SettingsFault>
     }
 }
 
-/// The clock: by its minutes or by a rule, and UTC where neither is said.
+/// The clock from its minutes or from a rule, or UTC if neither is given.
 pub(crate) fn zone_of(document: &Table, minutes: Option<Zone>) -> Result<Zone, SettingsFault>
     ensures { AnswersAs said result (spec.clock (option_map said minutes) (table_view document.now)) }
 {
@@ -72,7 +72,7 @@ pub(crate) fn admins_of(alloc: Global, document: &Table) -> Result<Vec<Word>, Se
     }
 }
 
-// The value of a key, where it is there.
+// The value of a key, if it is there.
 fn value_of(document: &Table, key: Key) -> Option<&Value>
     ensures { option_map (λ value. view value.now) result ≡ get_member (key_name key) (table_view document.now) }
 {
@@ -145,7 +145,6 @@ fn admins_in(alloc: Global, value: &Value) -> Result<Vec<Word>, SettingsFault>
     }
 }
 
-// The values as words.
 fn words_in(alloc: Global, values: &[Value]) -> Result<Vec<Word>, SettingsFault>
     ensures { AnswersAs (λ words. words.items) result (ok_or (spec.words_in (items_view values.now)) (SettingsFault.BadValue Key.Admins)) }
 {
@@ -159,7 +158,6 @@ fn words_in(alloc: Global, values: &[Value]) -> Result<Vec<Word>, SettingsFault>
     Ok(words)
 }
 
-// The value as a word.
 fn word_in(alloc: Global, value: &Value) -> Result<Word, SettingsFault>
     ensures { AnswersAs (λ word. word) result (ok_or (spec.word_in (view value.now)) (SettingsFault.BadValue Key.Admins)) }
 {
@@ -172,7 +170,7 @@ fn word_in(alloc: Global, value: &Value) -> Result<Word, SettingsFault>
     }
 }
 
-// The fault of a value that is no name or word.
+// The fault of a value that isn't a name or word.
 fn fault_at(key: Key, fault: NameFault) -> SettingsFault
     ensures { result ≡ value_fault key fault }
 {

@@ -26,8 +26,8 @@ use Rattle.uu_tables.specs.Changes.{insert_by, insert_at, append, new_system}
 use Rattle.uu_schema.specs.Schema.{site, systems, lines, ranges, jobs, pieces, entries, success_waits, links, taken}
 use Rattle.uu_schema.specs.Cells.{system_cells, line_cells, range_cells, job_cells, piece_cells, entry_cells, wait_cells, link_cells, taken_cells, kind_number, first_word, second_word}
 use Rattle.uu_schema.specs.Held.{Holds, system_key, line_key, range_key, job_key, piece_key, entry_key, wait_key, link_key, taken_key, link_places, taken_places, system_places, line_places, range_places, job_places, piece_places, entry_places, wait_places}
-use Rattle.uu_statements.specs.Texts.{insert_system, insert_line, insert_range, insert_job, insert_piece, insert_entry, insert_wait, insert_link, insert_taken}
-use Rattle.uu_statements.proofs.Texts.{insert_system_is, insert_system_plain, insert_system_terms, insert_line_is, insert_line_plain, insert_line_terms, insert_range_is, insert_range_plain, insert_range_terms, insert_job_is, insert_job_plain, insert_job_terms, insert_piece_is, insert_piece_plain, insert_piece_terms, insert_entry_is, insert_entry_plain, insert_entry_terms, insert_wait_is, insert_wait_plain, insert_wait_terms, insert_link_is, insert_link_plain, insert_link_terms, insert_taken_is, insert_taken_plain, insert_taken_terms}
+use Rattle.uu_statements.proofs.Texts.{insert_system, insert_line, insert_range, insert_job, insert_piece, insert_entry, insert_wait, insert_link, insert_taken}
+use Rattle.uu_statements.proofs.Meanings.{insert_system_is, insert_system_plain, insert_system_terms, insert_line_is, insert_line_plain, insert_line_terms, insert_range_is, insert_range_plain, insert_range_terms, insert_job_is, insert_job_plain, insert_job_terms, insert_piece_is, insert_piece_plain, insert_piece_terms, insert_entry_is, insert_entry_plain, insert_entry_terms, insert_wait_is, insert_wait_plain, insert_wait_terms, insert_link_is, insert_link_plain, insert_link_terms, insert_taken_is, insert_taken_plain, insert_taken_terms}
 use Rattle.uu_statements.proofs.Keyed.{put_by_name, put_in_order, put_last}
 use Rattle.uu_statements.proofs.Unique.{unique_systems, unique_lines, unique_ranges, unique_pieces, unique_entries, unique_waits, unique_links, unique_taken, agree_text, agree_text_number, agree_text_numbers, agree_numbers}
 use Rattle.uu_statements.proofs.Statements.{row_added, adds, fresh_by_index, fresh_by_number, cast_number}

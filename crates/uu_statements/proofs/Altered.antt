@@ -4,10 +4,9 @@ use Rattle.std.specs.Prelude.{IsTrue, ◌<ℤ◌}
 use Rattle.std.specs.List.Sorted.{IsPermutation}
 use Rattle.std.specs.Ordering.{is_eq, int_eq, MatchOrdering}
 use Rattle.std.specs.Cmp.{ranked, int_cmp_is, unsigned_tied}
-use Rattle.std.proofs.lemmas.Bool.Decides.{nat_tests}
 use Rattle.std.proofs.lemmas.Int.{ints}
 use Rattle.std.proofs.lemmas.Map.Text.{is_eq-slice_cmp}
-use Rattle.std.proofs.lemmas.Slice.Eq.{bytes_eq-Decides}
+use Rattle.std.proofs.lemmas.Bool.{eqb-true}
 use Rattle.sqlite.specs.declared.types.Value.TheVariants.{Null, Int, Text}
 use Rattle.sqlite.specs.Values.{or_null}
 use Rattle.sqlite.specs.Order.{Row, column, value_cmp}
@@ -29,8 +28,9 @@ use Rattle.sqlite_keyed.proofs.ListLemmas.{filter_same, all_weaker}
 use Rattle.sqlite.specs.Listing.{understood}
 use Rattle.sqlite.specs.State.{State, Executes}
 use Rattle.sqlite.proofs.Callers.{statement_of, runs_as, one_step, one_permutation}
+use Rattle.uu_names.proofs.Basics.{text_from}
 use Rattle.uu_schema.specs.Steps.{Stands}
-use Rattle.uu_schema.specs.Layout.{over, where_is}
+use Rattle.uu_schema.proofs.Terms.{over, where_is}
 use Rattle.uu_schema.proofs.Rows.{cast_int, cast_null, over_rows, at_text, at_key}
 use Rattle.uu_schema.proofs.Writes.{update_ran, update_writes}
 use Rattle.uu_core.specs.State.{same_text}
@@ -45,8 +45,8 @@ use Rattle.uu_schema.specs.Made.{spool_row}
 use Rattle.uu_schema.specs.Cells.{system_cells, job_cells, kind_number, first_word, second_word}
 use Rattle.uu_schema.specs.Held.{Holds, system_key, system_places, job_key, job_places}
 use Rattle.uu_schema.proofs.Keeps.{keeps_one}
-use Rattle.uu_statements.specs.Texts.{set_retries, set_calls, set_rank, set_second, set_number}
-use Rattle.uu_statements.proofs.Texts.{set_retries_is, set_retries_plain, set_retries_terms, set_calls_is, set_calls_plain, set_calls_terms, set_rank_is, set_rank_plain, set_rank_terms, set_second_is, set_second_plain, set_second_terms, set_number_is, set_number_plain, set_number_terms}
+use Rattle.uu_statements.proofs.Texts.{set_retries, set_calls, set_rank, set_second, set_number}
+use Rattle.uu_statements.proofs.Meanings.{set_retries_is, set_retries_plain, set_retries_terms, set_calls_is, set_calls_plain, set_calls_terms, set_rank_is, set_rank_plain, set_rank_terms, set_second_is, set_second_plain, set_second_terms, set_number_is, set_number_plain, set_number_terms}
 use Rattle.uu_statements.proofs.Statements.{row_altered, cast_text}
 use Rattle.uu_statements.proofs.Holding.{holds_systems, holds_jobs, holds_next}
 
@@ -58,9 +58,6 @@ is_text name at r = is_eq (value_cmp (column r at) (Text name))
 
 pub text_test : (name text : List ℕ) → is_eq (value_cmp (Text text) (Text name)) ≡ same_text text name
 text_test name text = ap is_eq (value_cmp-Text text name) ∙ is_eq-slice_cmp text name
-
-pub same_texts : (a b : List ℕ) → same_text a b ≡ true → a ≡ b
-same_texts a b h = (bytes_eq-Decides a b).0 h
 
 -- the value is this number
 abbrev pub is_number : ℕ → ℕ → Row → Bool
@@ -76,9 +73,6 @@ int_eq-nat a b = ap is_eq (sym (int_cmp_is (pos a) (pos b) (nat_cmp a b) (compar
 
 pub number_test : (n m : ℕ) → is_eq (value_cmp (Int (pos m)) (Int (pos n))) ≡ (m == n)
 number_test n m = ap is_eq (value_cmp-Int (pos m) (pos n)) ∙ int_eq-nat m n
-
-pub same_numbers : (a b : ℕ) → (a == b) ≡ true → a ≡ b
-same_numbers a b h = grind (arith, nat_tests)
 
 -- ---- systems
 
@@ -102,7 +96,7 @@ retries_set old new name max_retries count stands h =
     let params : Row = Text name ∷ Int (pos max_retries) ∷ [] in
     let f : SystemColumns → SystemColumns = λ row. record row { max_retries = max_retries } in
     let it = row_altered old new stands set_retries params count 1 systems refl system_key system_cells system_places (has_name name) (is_text name 1) (is_text name 0) (λ x. text_test name x.name) (λ r. refl)
-    (λ x y h k. same_texts x.name name h ∙ sym (same_texts y.name name k)) f (λ x. refl) (where_is 1 0 ∷ []) set_retries_terms set_retries_is set_retries_plain h refl
+    (λ x y h k. text_from x.name name h ∙ sym (text_from y.name name k)) f (λ x. refl) (where_is 1 0 ∷ []) set_retries_terms set_retries_is set_retries_plain h refl
     (λ numbered. filter_same _ (is_text name 1) (at_text 1 name (Int (pos max_retries) ∷ [])) (old.now.trees systems.tree)) (λ x id. Int id ∷ system_cells (f x))
     (λ x was id key shows. let it = at_system x was shows in rw (key, it.0, it.2, it.3, it.4, it.5, it.6) refl)
     (λ x id. system_casts old.now.trees (f x) id) (λ x id. refl) (λ x was id key shows. refl) no_system_follows in
@@ -118,7 +112,7 @@ call_set old new name call count stands h =
     let params : Row = Text name ∷ call_cells call in
     let f : SystemColumns → SystemColumns = λ row. record row { call = call } in
     let it = row_altered old new stands set_calls params count 1 systems refl system_key system_cells system_places (has_name name) (is_text name 1) (is_text name 0) (λ x. text_test name x.name) (λ r. refl)
-    (λ x y h k. same_texts x.name name h ∙ sym (same_texts y.name name k)) f (λ x. refl) (where_is 1 0 ∷ []) set_calls_terms set_calls_is set_calls_plain h refl
+    (λ x y h k. text_from x.name name h ∙ sym (text_from y.name name k)) f (λ x. refl) (where_is 1 0 ∷ []) set_calls_terms set_calls_is set_calls_plain h refl
     (λ numbered. filter_same _ (is_text name 1) (at_text 1 name (call_cells call)) (old.now.trees systems.tree)) (λ x id. Int id ∷ system_cells (f x))
     (λ x was id key shows. let it = at_system x was shows in rw (key, it.0, it.1) refl)
     (λ x id. system_casts old.now.trees (f x) id) (λ x id. refl) (λ x was id key shows. refl) no_system_follows in
@@ -130,7 +124,7 @@ no_job_follows : (olds : List Row) (new : Row) → works site Enforced 0 7 olds 
 unfolding same_name joined
 no_job_follows olds new = refl
 
--- a job's row behind its rowid
+-- a job's row after its rowid
 abbrev pub job_tail : JobHead → Row
 job_tail x = Null ∷ Text x.system ∷ Int (pos x.grade) ∷ Text x.user ∷ Int (pos (kind_number x.kind)) ∷ Int (pos x.queued) ∷ Text (first_word x.kind) ∷ Text (second_word x.kind) ∷ Int (pos x.size) ∷ []
 
@@ -148,7 +142,7 @@ grade_set old new number grade count stands h =
     let params : Row = Int (pos number) ∷ Int (pos grade) ∷ [] in
     let f : JobHead → JobHead = λ row. record row { grade = grade } in
     let it = row_altered old new stands set_rank params count 4 jobs refl job_key job_cells job_places (has_number number) (has_rowid (pos number)) (is_number number 0) (λ x. number_test number x.number) (λ r. refl)
-    (λ x y h k. same_numbers x.number number h ∙ sym (same_numbers y.number number k)) f (λ x. refl) (where_is 0 0 ∷ []) set_rank_terms set_rank_is set_rank_plain h refl
+    (λ x y h k. eqb-true x.number number h ∙ sym (eqb-true y.number number k)) f (λ x. refl) (where_is 0 0 ∷ []) set_rank_terms set_rank_is set_rank_plain h refl
     (λ numbered. filter_same_on _ (has_rowid (pos number)) (old.now.trees jobs.tree) (all_weaker (λ r. IsTrue (is_int (rowid r))) _ (λ r int. at_key (pos number) (Int (pos grade) ∷ []) r int) (old.now.trees jobs.tree) numbered))
     (λ x id. Int id ∷ job_tail (f x)) (λ x was id key shows. let it = at_job x was shows in rw (key, it.0, it.2, it.3, it.4, it.5, it.6, it.7) refl)
     (λ x id. job_casts old.now.trees (f x) id) (λ x id. refl) (λ x was id key shows. ap (λ v. columns job_places (v ∷ job_tail (f x))) (sym key ∙ ap (λ cs. column cs 0) shows)) no_job_follows in
@@ -160,7 +154,7 @@ queued_set old new number queued count stands h =
     let params : Row = Int (pos number) ∷ Int (pos queued) ∷ [] in
     let f : JobHead → JobHead = λ row. record row { queued = queued } in
     let it = row_altered old new stands set_second params count 4 jobs refl job_key job_cells job_places (has_number number) (has_rowid (pos number)) (is_number number 0) (λ x. number_test number x.number) (λ r. refl)
-    (λ x y h k. same_numbers x.number number h ∙ sym (same_numbers y.number number k)) f (λ x. refl) (where_is 0 0 ∷ []) set_second_terms set_second_is set_second_plain h refl
+    (λ x y h k. eqb-true x.number number h ∙ sym (eqb-true y.number number k)) f (λ x. refl) (where_is 0 0 ∷ []) set_second_terms set_second_is set_second_plain h refl
     (λ numbered. filter_same_on _ (has_rowid (pos number)) (old.now.trees jobs.tree) (all_weaker (λ r. IsTrue (is_int (rowid r))) _ (λ r int. at_key (pos number) (Int (pos queued) ∷ []) r int) (old.now.trees jobs.tree) numbered))
     (λ x id. Int id ∷ job_tail (f x)) (λ x was id key shows. let it = at_job x was shows in rw (key, it.0, it.1, it.2, it.3, it.5, it.6, it.7) refl)
     (λ x id. job_casts old.now.trees (f x) id) (λ x id. refl) (λ x was id key shows. ap (λ v. columns job_places (v ∷ job_tail (f x))) (sym key ∙ ap (λ cs. column cs 0) shows)) no_job_follows in

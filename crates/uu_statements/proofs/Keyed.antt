@@ -1,12 +1,13 @@
 -- Tables as lists with a key: a row more, rows that go, a row that changes. For any type of rows.
-use Rattle.std.proofs.Common.{◌≡◌, ◌≢◌, ◌⊎◌, inl, inr, ℕ, ℤ, List, [], ◌∷◌, ◌++◌, map, filter, Bool, true, false, not, cond, refl, sym, ap, subst, ◌∙◌, arith, Ordering, Less, Equal, Greater, true≢false}
+use Rattle.std.proofs.Common.{◌≡◌, ◌≢◌, ◌⊎◌, inl, inr, ℕ, ℤ, List, [], ◌∷◌, ◌++◌, map, filter, Bool, true, false, not, cond, refl, sym, ap, subst, ◌∙◌, arith, Ordering, true≢false}
 use Rattle.std.specs.Prelude.{IsTrue}
 use Rattle.std.specs.List.{AllByRecursion}
 use Rattle.std.specs.List.Sorted.{IsPermutation}
 use Rattle.std.specs.Ordering.{is_eq, is_lt}
-use Rattle.std.proofs.lemmas.Bool.{cases_Bool}
+use Rattle.std.proofs.lemmas.Bool.{cases_Bool, not-true}
 use Rattle.std.proofs.lemmas.Cmp.{tied_itself}
 use Rattle.std.proofs.lemmas.List.Sorted.{IsPermutation-refl, IsPermutation-sym, IsPermutation-trans, IsPermutation-cons, IsPermutation-swap, IsPermutation-middle, IsPermutation-to_front, IsPermutation-map, length_permutation}
+use Rattle.std.specs.Cmp.{Equal-is}
 use Rattle.sqlite.specs.declared.types.Value.TheVariants.{Int}
 use Rattle.sqlite.specs.Order.{Row, value_cmp}
 use Rattle.sqlite.specs.Tree.{IsAscending, rowid, has_rowid, without_rowid, put_row}
@@ -18,6 +19,7 @@ use Rattle.sqlite_rules.specs.Lists.{Has}
 use Rattle.sqlite_rules.proofs.ListLemmas.{all_has, all_from, has_filtered, has_kept}
 use Rattle.sqlite_rules.proofs.ProbeLemmas.{has_mapped, mapped_has}
 use Rattle.sqlite_keyed.proofs.ListLemmas.{filter-map, filter_none, filter_same, along_permutation, all_weaker, all_unmap, all-map, all-filter, any_from_none, ascending-filter, ascending-map, ascending_weaker, IsPermutation-filter}
+use Rattle.uu_names.proofs.Basics.{all_kept}
 use Rattle.uu_schema.specs.Rowids.{OnceEach}
 use Rattle.uu_schema.proofs.Rows.{put_permutes}
 use Rattle.uu_schema.proofs.Rowids.{has_moved, numbered_put, once_put, once_left}
@@ -65,15 +67,15 @@ parted p (x ∷ xs) = elim (cases_Bool (p x)) [
   | inr other ↦ rw other (IsPermutation-cons x _ _ (parted p xs))
 ]
 
--- one more behind those of its own name and of names before it
+-- one more after those of its own name and of names before it
 pub put_by_name : {X : Type 0} (name : X → List ℕ) (x : X) (xs : List X) → IsPermutation (x ∷ xs) (insert_by name x xs)
 put_by_name name x xs = IsPermutation-trans _ _ _ (IsPermutation-cons x _ _ (IsPermutation-sym _ _ (parted (λ other. is_before name x other) xs))) (IsPermutation-sym _ _ (IsPermutation-middle (filter (λ other. not (is_before name x other)) xs) x (filter (λ other. is_before name x other) xs)))
 
--- one more behind those of its own key and of keys before it
+-- one more after those of its own key and of keys before it
 pub put_in_order : {X : Type 0} (order : X → X → Ordering) (x : X) (xs : List X) → IsPermutation (x ∷ xs) (insert_at order x xs)
 put_in_order order x xs = IsPermutation-trans _ _ _ (IsPermutation-cons x _ _ (IsPermutation-sym _ _ (parted (λ other. is_lt (order x other)) xs))) (IsPermutation-sym _ _ (IsPermutation-middle (filter (λ other. not (is_lt (order x other))) xs) x (filter (λ other. is_lt (order x other)) xs)))
 
--- one more behind all others
+-- one more after all others
 pub put_last : {X : Type 0} (x : X) (xs : List X) → IsPermutation (x ∷ xs) (append x xs)
 put_last x xs = IsPermutation-sym _ _ (IsPermutation-to_front xs x)
 
@@ -84,23 +86,6 @@ no_permutation (y ∷ ys) h = absurd (let e = length_permutation [] (y ∷ ys) h
 pub none_mapped : {X Y : Type 0} (f : X → Y) (xs : List X) → map f xs ≡ [] → xs ≡ []
 none_mapped f [] h = refl
 none_mapped f (x ∷ xs) h = absurd (cc)
-
-pub one_mapped : {X Y : Type 0} (f : X → Y) (xs : List X) (y : Y) → map f xs ≡ y ∷ [] → (x : X) × (xs ≡ x ∷ []) × (f x ≡ y)
-one_mapped f [] y h = absurd (cc)
-one_mapped f (x ∷ []) y h = (x, refl, cc)
-one_mapped f (x ∷ z ∷ xs) y h = absurd (cc)
-
-passed : {X : Type 0} (p : X → Bool) (xs : List X) → AllByRecursion (λ x. p x ≡ true) (filter p xs)
-passed p xs = all_from (λ x. p x ≡ true) (filter p xs) (λ x h. (has_filtered p xs x h).1)
-
-not_yes : (b : Bool) → not b ≡ true → b ≡ false
-not_yes true h = absurd (cc)
-not_yes false h = refl
-
-equal_is : (o : Ordering) → is_eq o ≡ true → o ≡ Equal
-equal_is Less h = absurd (cc)
-equal_is Equal h = refl
-equal_is Greater h = absurd (cc)
 
 -- keys that differ still differ in another order
 module _ {K X : Type 0} (key : X → K) where
@@ -119,7 +104,7 @@ module _ {K X : Type 0} (key : X → K) where
 
 -- ---- rows
 
--- where one row passes a test, it is the one of its rowid
+-- if one row passes a test, it is the one of its rowid
 pub by_rowid : (q : Row → Bool) (rows : List Row) → OnceEach rows → (was : Row) → filter q rows ≡ was ∷ [] → (id : ℤ) → rowid was ≡ Int id → filter (λ r. not (q r)) rows ≡ without_rowid id rows
 by_rowid q rows once was one id key = filter_alike_on (λ r. not (q r)) (λ r. not (has_rowid id r)) rows (all_from _ rows (λ r k. ap not (go r k (cases_Bool (q r)))))
   where
@@ -135,14 +120,14 @@ by_rowid q rows once was one id key = filter_alike_on (λ r. not (q r)) (λ r. n
         let same = only r (subst (λ l. Has l r) one (has_kept q rows r k here)) in
         here ∙ sym (ap (λ y. is_eq (value_cmp (rowid y) (Int id))) same ∙ ap (λ v. is_eq (value_cmp v (Int id))) key ∙ ap is_eq (tied_itself value_cmp_total (Int id)))
     go r k (inr other) = other ∙ sym (elim (cases_Bool (has_rowid id r)) [
-      | inl tie ↦ absurd (let same = once r was k there.0 (equal_is _ (subst (λ v. is_eq (value_cmp (rowid r) v) ≡ true) (sym key) tie)) in true≢false (sym (ap q same ∙ there.1) ∙ other))
+      | inl tie ↦ absurd (let same = once r was k there.0 ((Equal-is _).0 (subst (λ v. is_eq (value_cmp (rowid r) v) ≡ true) (sym key) tie)) in true≢false (sym (ap q same ∙ there.1) ∙ other))
       | inr apart ↦ apart
     ])
 
 free : (id : ℤ) (row : Row) (rows : List Row) → rowid row ≡ Int id → is_taken (without_rowid id rows) row ≡ false
 free id row rows key = any_from_none (λ r. is_eq (value_cmp (rowid r) (rowid row))) (without_rowid id rows)
-    (all_weaker (λ r. not (has_rowid id r) ≡ true) (λ r. is_eq (value_cmp (rowid r) (rowid row)) ≡ false) (λ r h. ap (λ v. is_eq (value_cmp (rowid r) v)) key ∙ not_yes (has_rowid id r) h) (without_rowid id rows)
-    (passed (λ r. not (has_rowid id r)) rows))
+    (all_weaker (λ r. not (has_rowid id r) ≡ true) (λ r. is_eq (value_cmp (rowid r) (rowid row)) ≡ false) (λ r h. ap (λ v. is_eq (value_cmp (rowid r) v)) key ∙ not-true (has_rowid id r) h) (without_rowid id rows)
+    (all_kept (λ r. not (has_rowid id r)) rows))
 
 -- ---- tables
 

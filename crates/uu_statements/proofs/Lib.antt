@@ -1,4 +1,5 @@
-pub mod Texts
+mod Texts
+pub mod Meanings
 pub mod Holding
 pub mod Keyed
 pub mod Unique

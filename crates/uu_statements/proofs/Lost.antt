@@ -1,6 +1,6 @@
--- Rows that go, for any table: those that a deed takes pass a test, and where none that is left
+-- Rows that are removed, for any table. Those that a step takes pass a test. If none that is left
 -- passes it, they are all that do.
-use Rattle.std.proofs.Common.{◌≡◌, ◌⊎◌, inl, inr, ℕ, ℤ, List, [], ◌∷◌, map, filter, Bool, true, false, not, refl, sym, ap, subst, ◌∙◌, Ordering, Less, Equal, Greater, true≢false}
+use Rattle.std.proofs.Common.{◌≡◌, ◌⊎◌, inl, inr, ℕ, ℤ, List, [], ◌∷◌, map, filter, Bool, true, false, not, refl, sym, ap, subst, ◌∙◌, true≢false}
 use Rattle.std.specs.Prelude.{IsTrue}
 use Rattle.std.specs.List.{list_any}
 use Rattle.std.specs.List.Sorted.{IsPermutation}
@@ -8,6 +8,7 @@ use Rattle.std.specs.Ordering.{is_eq}
 use Rattle.std.proofs.lemmas.Bool.{cases_Bool}
 use Rattle.std.proofs.lemmas.Cmp.{tied_itself}
 use Rattle.std.proofs.lemmas.List.Sorted.{IsPermutation-map, IsPermutation-sym}
+use Rattle.std.specs.Cmp.{Equal-is}
 use Rattle.sqlite.specs.declared.types.Value.TheVariants.{Int}
 use Rattle.sqlite.specs.Order.{Row, column, value_cmp}
 use Rattle.sqlite.specs.Tree.{Trees, rowid, has_rowid}
@@ -54,11 +55,6 @@ exactly q old new l none = l.left ∙ filter_same (λ r. not (l.picks r)) (λ r.
 abbrev pub AreOf : (Row → Bool) → List Row → List ℤ → Type 0
 AreOf p rows ids = (id : ℤ) → Has ids id → (r : Row) × Has rows r × (p r ≡ true) × (rowid r ≡ Int id)
 
-equal_is : (o : Ordering) → is_eq o ≡ true → o ≡ Equal
-equal_is Less h = absurd (cc)
-equal_is Equal h = refl
-equal_is Greater h = absurd (cc)
-
 at_rowid : (rows : List Row) (id : ℤ) (r : Row) → Has rows r → has_rowid id r ≡ true → Has rows (row_at rows id) × (has_rowid id (row_at rows id) ≡ true)
 at_rowid [] id r h k = absurd h
 at_rowid (x ∷ rows) id r h k = elim (cases_Bool (has_rowid id x)) [
@@ -77,7 +73,7 @@ taken_as p rows ids apart are x h =
     let r = are it.0 it.1 in
     let tie : has_rowid it.0 r.0 ≡ true = ap (λ v. is_eq (value_cmp v (Int it.0))) r.3 ∙ ap is_eq (tied_itself value_cmp_total (Int it.0)) in
     let there = at_rowid rows it.0 r.0 r.1 tie in
-    let same : row_at rows it.0 ≡ r.0 = apart.once (row_at rows it.0) r.0 there.0 r.1 (equal_is _ (subst (λ v. is_eq (value_cmp (rowid (row_at rows it.0)) v) ≡ true) (sym r.3) there.1)) in
+    let same : row_at rows it.0 ≡ r.0 = apart.once (row_at rows it.0) r.0 there.0 r.1 ((Equal-is _).0 (subst (λ v. is_eq (value_cmp (rowid (row_at rows it.0)) v) ≡ true) (sym r.3) there.1)) in
     (subst (Has rows) (sym it.2) there.0, ap p (it.2 ∙ same) ∙ r.2)
 
 pub of_taken : (p : Row → Bool) (rows : List Row) (ids : List ℤ) → AreApart rows → AreOf p rows ids → (x : Row) → Has (map (row_at rows) ids) x → p x ≡ true

@@ -1,13 +1,13 @@
 -- What each DELETE makes of the tables: its own rows go, and those that refer to them.
-use Rattle.std.proofs.Common.{◌≡◌, inl, inr, ℕ, ◌+◌, ℤ, pos, List, [], ◌∷◌, map, filter, slice_get, Bool, true, false, not, cond, Some, Ok, refl, sym, ap, subst, ◌∙◌, arith, append-nil, ◌++◌, nat_cmp, true≢false, Ordering, Less, Equal, Greater}
+use Rattle.std.proofs.Common.{◌≡◌, inl, inr, ℕ, ◌+◌, ℤ, pos, List, [], ◌∷◌, map, filter, slice_get, Bool, true, false, not, cond, Some, Ok, refl, sym, ap, subst, ◌∙◌, arith, append-nil, ◌++◌, nat_cmp, true≢false}
 use Rattle.std.specs.Prelude.{◌||◌, ◌&&◌, IsTrue, nat_lt, int_lt}
-use Rattle.std.specs.Cmp.{ranked, int_cmp_is}
+use Rattle.std.specs.Cmp.{ranked, int_cmp_is, Equal-is}
 use Rattle.sqlite_sql.specs.declared.ops.CompareOp.TheVariants.{Eq, Lt}
 use Rattle.sqlite_typed.proofs.TestLemmas.{at_ints, at_texts, then_term, last_term}
 use Rattle.std.specs.List.{AllByRecursion, list_any, list_all}
 use Rattle.std.specs.List.Sorted.{IsPermutation}
 use Rattle.std.specs.Ordering.{is_eq, is_lt}
-use Rattle.std.proofs.lemmas.Bool.{cases_Bool, and_parts, or_cases}
+use Rattle.std.proofs.lemmas.Bool.{cases_Bool, and_parts, or_cases, not-true, false_from_ne_true}
 use Rattle.std.proofs.lemmas.Bool.Decides.{nat_tests}
 use Rattle.std.proofs.lemmas.Int.{ints}
 use Rattle.std.proofs.lemmas.Map.Text.{is_eq-slice_cmp}
@@ -37,7 +37,7 @@ use Rattle.sqlite_trees.proofs.ListLemmas.{filter_same as filter_same_on}
 use Rattle.sqlite_keyed.proofs.ListLemmas.{filter_same, all_weaker}
 use Rattle.sqlite.specs.State.{State, Executes}
 use Rattle.uu_schema.specs.Steps.{Stands}
-use Rattle.uu_schema.specs.Layout.{where_is}
+use Rattle.uu_schema.proofs.Terms.{where_is}
 use Rattle.uu_schema.proofs.Rows.{at_text, at_key}
 use Rattle.uu_schema.proofs.Rowids.{picked_gone}
 use Rattle.uu_tables.specs.declared.rows.TakenColumns.{TakenColumns}
@@ -49,8 +49,8 @@ use Rattle.uu_schema.specs.Made.{Keeps}
 use Rattle.uu_schema.specs.Cells.{system_cells, line_cells, range_cells, job_cells, piece_cells, entry_cells, wait_cells, link_cells, taken_cells}
 use Rattle.uu_schema.specs.Held.{Holds, AreSystems, AreLines, AreRanges, AreJobs, ArePieces, AreEntries, AreWaits, AreLinks, AreTaken, link_key, taken_key, link_places, taken_places, system_key, line_key, range_key, job_key, piece_key, entry_key, wait_key, system_places, line_places, range_places, job_places, piece_places, entry_places, wait_places}
 use Rattle.uu_schema.proofs.Keeps.{keeps_one, keeps_more, keeps_all}
-use Rattle.uu_statements.specs.Texts.{delete_system, delete_lines, delete_job, delete_entry, delete_wait, delete_link, delete_taken}
-use Rattle.uu_statements.proofs.Texts.{delete_system_is, delete_system_plain, delete_lines_is, delete_lines_plain, delete_job_is, delete_job_plain, delete_entry_is, delete_entry_plain, delete_wait_is, delete_wait_plain, delete_link_is, delete_link_plain, delete_taken_is, delete_taken_plain, forgotten_terms}
+use Rattle.uu_statements.proofs.Texts.{delete_system, delete_lines, delete_job, delete_entry, delete_wait, delete_link, delete_taken}
+use Rattle.uu_statements.proofs.Meanings.{delete_system_is, delete_system_plain, delete_lines_is, delete_lines_plain, delete_job_is, delete_job_plain, delete_entry_is, delete_entry_plain, delete_wait_is, delete_wait_plain, delete_link_is, delete_link_plain, delete_taken_is, delete_taken_plain, forgotten_terms}
 use Rattle.uu_statements.proofs.Keyed.{all_cells, fewer}
 use Rattle.uu_statements.proofs.Statements.{took, Took, takes}
 use Rattle.uu_statements.proofs.Altered.{is_text, text_test, is_number, number_test, compared}
@@ -148,14 +148,9 @@ null_text name (Real x) h = absurd (cc)
 null_text name (Text t) h = absurd (cc)
 null_text name (Blob b) h = absurd (cc)
 
-equal_is : (o : Ordering) → is_eq o ≡ true → o ≡ Equal
-equal_is Less h = absurd (cc)
-equal_is Equal h = refl
-equal_is Greater h = absurd (cc)
-
 number_is : (n : ℤ) (v : Value) → is_int v ≡ true → is_eq (value_cmp v (Int n)) ≡ true → v ≡ Int n
 number_is n Null h e = absurd (cc)
-number_is n (Int m) h e = let same = sym (value_cmp-Int m n) ∙ equal_is _ e in ap Int (grind (arith, ints, nat_tests))
+number_is n (Int m) h e = let same = sym (value_cmp-Int m n) ∙ (Equal-is _).0 e in ap Int (grind (arith, ints, nat_tests))
 number_is n (Real x) h e = absurd (cc)
 number_is n (Text t) h e = absurd (cc)
 number_is n (Blob b) h e = absurd (cc)
@@ -174,14 +169,6 @@ null_number n (Int m) h = refl
 null_number n (Real x) h = absurd (cc)
 null_number n (Text t) h = absurd (cc)
 null_number n (Blob b) h = absurd (cc)
-
-not_so : (b : Bool) → not b ≡ true → b ≡ false
-not_so true h = absurd (cc)
-not_so false h = refl
-
-unpassed : (b : Bool) → (b ≡ true → ⊥) → b ≡ false
-unpassed true h = absurd (h refl)
-unpassed false h = refl
 
 -- ---- rows that agree
 
@@ -236,7 +223,7 @@ range_left name db left r some h = elim (or_cases _ _ (and_parts _ true h).0) [
   | inl null ↦ elim (or_cases (is_null (column r 1)) (is_null (column r 2) || false) null) [ inl here ↦ null_text name (column r 1) here | inr more ↦ absurd (let e = rw some at more in cc) ]
   | inr held ↦
       let it = some_has (λ parent. agree plain (1 ∷ 2 ∷ []) parent (1 ∷ 2 ∷ []) r) (db lines.tree) held in
-      unpassed (is_text name 1 r) (λ named. true≢false (sym (named_by name it.0 r (agree_first 1 1 (2 ∷ []) (2 ∷ []) it.0 r it.2) named) ∙ left it.0 it.1))
+      false_from_ne_true (is_text name 1 r) (λ named. true≢false (sym (named_by name it.0 r (agree_first 1 1 (2 ∷ []) (2 ∷ []) it.0 r it.2) named) ∙ left it.0 it.1))
 ]
 
 -- ---- lines go with their systems
@@ -252,12 +239,13 @@ line_left name db left r h = elim (or_cases _ _ (and_parts _ true h).0) [
   | inl null ↦ elim (or_cases (is_null (column r 1)) false null) [ inl here ↦ null_text name (column r 1) here | inr never ↦ absurd (cc) ]
   | inr held ↦
       let it = some_has (λ parent. agree plain (1 ∷ []) parent (1 ∷ []) r) (db systems.tree) held in
-      unpassed (is_text name 1 r) (λ named. true≢false (sym (named_by name it.0 r (agree_first 1 1 [] [] it.0 r it.2) named) ∙ left it.0 it.1))
+      false_from_ne_true (is_text name 1 r) (λ named. true≢false (sym (named_by name it.0 r (agree_first 1 1 [] [] it.0 r it.2) named) ∙ left it.0 it.1))
 ]
 
 -- ---- the rows of one more table go with their systems, before those of others do
 
--- its rows went, and those of the others are still to go, where the systems lost their key
+-- its rows were removed, and those of the others are still to be removed, if the systems lost their
+-- key
 record ChildFalls (name : List ℕ) (child : Table) (below : List Work) (some : Bool) (old new : Trees) : Type 0 where
   mid : Trees
   fall : Falls (is_text name 1) child.tree old mid
@@ -278,7 +266,7 @@ child_falls name child below old new olds apart named none true s = let it = las
           rest = subst (λ stack. Settles site Enforced some.0 stack (Ok new)) (ap (λ more. below ++ more) (none (taken_by old edit)) ∙ append-nil below) some.2;
         }
 
--- what a step lost is what is lost where the steps before and behind it left those rows
+-- what a step lost is what is lost if the steps before and after it left those rows
 lost_between : (q : Row → Bool) (first before after last : List Row) → before ≡ first → last ≡ after → Loses q before after → Loses q first last
 lost_between q first before after last p r h = subst (λ rows. Loses q first rows) (sym r) (subst (λ rows. Loses q rows after) p h)
 
@@ -326,7 +314,7 @@ piece_left n db left r int h = elim (or_cases _ _ (and_parts _ true h).0) [
   | inl null ↦ elim (or_cases (is_null (column r 1)) false null) [ inl here ↦ absurd (true≢false (sym here ∙ null_number n (column r 1) int)) | inr never ↦ absurd (cc) ]
   | inr held ↦
       let it = some_has (λ parent. agree plain (0 ∷ []) parent (1 ∷ []) r) (db jobs.tree) held in
-      unpassed (is_eq (value_cmp (column r 1) (Int n)))
+      false_from_ne_true (is_eq (value_cmp (column r 1) (Int n)))
       (λ tied. true≢false (sym (number_from n (column it.0 0) (subst (λ v. equal Binary (column it.0 0) v ≡ true) (number_is n (column r 1) int tied) (agree_first 0 1 [] [] it.0 r it.2))) ∙ left it.0 it.1))
 ]
 
@@ -366,7 +354,7 @@ gone old new stands sql params count at bare found tests q it apart picks = elim
 ]
 
 none_left : (q : Row → Bool) (old new : List Row) → new ≡ filter (λ r. not (q r)) old → (x : Row) → Has new x → q x ≡ false
-none_left q old new is x h = not_so (q x) (has_filtered (λ r. not (q r)) old x (subst (λ rows. Has rows x) is h)).1
+none_left q old new is x h = not-true (q x) (has_filtered (λ r. not (q r)) old x (subst (λ rows. Has rows x) is h)).1
 
 -- ---- the tables with a name
 
@@ -396,7 +384,7 @@ module _ (name : List ℕ) (t : Tables) (old new : Trees) (held : Holds old t) w
   range_placed : AllByRecursion (λ r. is_null (column r 2) ≡ false) (old ranges.tree)
   range_placed = all_cells range_key range_cells range_places (λ cs. is_null (column cs 1) ≡ false) (λ x. refl) t.ranges (old ranges.tree) held.ranges
 
-  -- ranges of which no line is left are all that go
+  -- the ranges of a system that has no lines left are removed, and no others
   all_ranges : Refers All site new → Loses (is_text name 1) (old ranges.tree) (new ranges.tree) → ((x : Row) → Has (new lines.tree) x → is_text name 1 x ≡ false) → new ranges.tree ≡ filter (λ r. not (is_text name 1 r)) (old ranges.tree)
   all_ranges refers lost none = exactly (is_text name 1) (old ranges.tree) (new ranges.tree) lost
       (λ x h. range_left name new none x (all_has (λ r. is_null (column r 2) ≡ false) (old ranges.tree) x range_placed (has_filtered (λ r. not (lost.picks r)) (old ranges.tree) x (subst (λ rows. Has rows x) lost.left h)).0) (all_has _ (new ranges.tree) x refers.1.1.1.0 h))

@@ -4,7 +4,7 @@ use Rattle.std.specs.Prelude.{not, filter, option_map, IsTrue}
 use Rattle.std.specs.List.{list_all}
 use Rattle.std.specs.List.Sorted.{IsPermutation}
 use Rattle.std.specs.Ordering.{is_eq}
-use Rattle.std.proofs.lemmas.Bool.{and_parts}
+use Rattle.std.proofs.lemmas.Bool.{and_parts, not-true}
 use Rattle.std.proofs.lemmas.Cmp.{tied_itself}
 use Rattle.sqlite.specs.declared.types.Value.{Value}
 use Rattle.sqlite.specs.declared.types.Value.TheVariants.{Null, Int, Text}
@@ -37,17 +37,18 @@ use Rattle.sqlite_keyed.proofs.ListLemmas.{none_from_any}
 use Rattle.sqlite.specs.Listing.{understood}
 use Rattle.sqlite.specs.State.{State, Executes}
 use Rattle.sqlite.proofs.Callers.{IsPlain, command_of, statement_of, runs_as, one_permutation, one_step}
+use Rattle.uu_names.proofs.Basics.{one_mapped}
 use Rattle.uu_schema.specs.Rowids.{AreNumbered}
 use Rattle.uu_schema.specs.Steps.{Stands}
-use Rattle.uu_schema.specs.Layout.{over}
-use Rattle.uu_schema.proofs.Rows.{cast_int, cast_null, not_false, over_rows}
+use Rattle.uu_schema.proofs.Terms.{over}
+use Rattle.uu_schema.proofs.Rows.{cast_int, cast_null, over_rows}
 use Rattle.uu_schema.proofs.Writes.{insert_ran, insert_applies, inserted, update_ran, update_writes, delete_ran, delete_writes}
 use Rattle.uu_tables.specs.Changes.{alter}
 use Rattle.uu_schema.specs.Schema.{site}
 use Rattle.uu_schema.specs.Keyed.{columns, Keyed}
 use Rattle.uu_schema.specs.Made.{Keeps}
 use Rattle.uu_schema.proofs.Keeps.{keeps_one}
-use Rattle.uu_statements.proofs.Keyed.{reordered, one_more, picked, picked_rows, altered, none_change, no_permutation, none_mapped, one_mapped}
+use Rattle.uu_statements.proofs.Keyed.{reordered, one_more, picked, picked_rows, altered, none_change, no_permutation, none_mapped}
 use Rattle.uu_statements.proofs.Unique.{fresh_key}
 
 -- ---- keys that are new
@@ -94,7 +95,7 @@ module _ (old new : State) (stands : Stands site old.now) (sql : List ℕ) (para
         let w = runs_as sql params old new site stands.schema (Insert at (Values terms width)) is plain count h in
         let ran = insert_ran old new site stands.schema at bare found text params count (Values terms width) w in
         let a = subst (λ (e : Edit). Applies site Enforced db e next) edit (insert_applies old new site stands.schema at bare found text params count terms width ran) in
-        let free : is_taken rows row ≡ false = not_false _ (and_parts (not (is_taken rows row)) true a.fresh).0 in (
+        let free : is_taken rows row ≡ false = not-true _ (and_parts (not (is_taken rows row)) true a.fresh).0 in (
           ran.stands,
           (λ xs ys same held. subst (Keyed key cells places ys) (sym a.rows) (reordered key cells places (x ∷ xs) ys (put_row row rows) same (one_more key cells places x xs row rows held shows int free (fresh a.fits a.rows free held.numbered)))),
           keeps_one (adds row) db next a,

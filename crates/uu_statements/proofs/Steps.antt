@@ -1,5 +1,5 @@
--- How a command ends, once for all commands.
-use Rattle.std.proofs.Common.{◌≡◌, ◌⊎◌, refl, inl, inr, Result, Ok, Err, sym, subst, ◌∙◌, arith}
+-- How changes that are planned end, once for all plans.
+use Rattle.std.proofs.Common.{◌≡◌, List, ◌⊎◌, refl, inl, inr, Result, Ok, Err, sym, subst, ◌∙◌, arith}
 use Rattle.std.specs.Prelude.{IsTrue, IsOk, IsErr}
 use Rattle.sqlite.specs.Tree.{Trees}
 use Rattle.sqlite.specs.State as db
@@ -8,13 +8,10 @@ use Rattle.sqlite.proofs.StateLemmas.{survives_then}
 use Rattle.sqlite_catalog.specs.Listing.{IsSound}
 use Rattle.uu_schema.specs.Steps.{Rests, Whole, Ends, Did}
 use Rattle.uu_schema.proofs.Resting.{is_memory}
-use Rattle.uu_core.specs.declared.command.Command.{Command}
-use Rattle.uu_core.specs.declared.command.Reply.{Reply}
 use Rattle.uu_core.specs.State.{State}
-use Rattle.uu_core.specs.After.{after}
-use Rattle.uu_tables.specs.declared.plan.Plan.{Plan}
+use Rattle.uu_tables.specs.declared.change.Change.{Change}
 use Rattle.uu_tables.specs.Tables.{tables_of}
-use Rattle.uu_tables.specs.Plans.{IsPlan}
+use Rattle.uu_tables.specs.Changes.{applied}
 use Rattle.uu_schema.specs.Faults.{kind_of_error}
 use Rattle.uu_schema.specs.Schema.{site}
 use Rattle.uu_schema.specs.Held.{Holds}
@@ -26,32 +23,32 @@ use Rattle.uu_schema.specs.declared.fault.Halt.{Halt}
 use Rattle.uu_schema.specs.declared.fault.Halt.TheVariants.{Before, Commit}
 use Rattle.uu_statements.specs.Step.{HasTables, IsWrittenStep, IsToldStep}
 
-module _ (s : State) (command : Command) (a : db.State) where
-  module _ (b : db.State) (plan : Plan) (planned : IsPlan s command plan) {T E : Type 0} (w : Result T E) (whole : Whole site site (MakesAll plan.changes.items) a b w) where
-    means : (old new : Trees) → Holds old (tables_of s) → MakesAll plan.changes.items old new → Holds new (tables_of (after s command).0)
-    means old new holds made = subst (Holds new) planned.tables (made (tables_of s) holds)
+module _ {R : Type 0} (s t : State) (reply : R) (a : db.State) where
+  module _ (b : db.State) (changes : List Change) (leads : applied changes (tables_of s) ≡ tables_of t) {T E : Type 0} (w : Result T E) (whole : Whole site site (MakesAll changes) a b w) where
+    means : (old new : Trees) → Holds old (tables_of s) → MakesAll changes old new → Holds new (tables_of t)
+    means old new holds made = subst (Holds new) leads (made (tables_of s) holds)
 
-    left : db.HasCleanDisk b → Rests a → HasTables a.now s → (trees : Trees) → b.may_leave trees → a.may_leave trees ⊎ (IsSound site trees × Holds trees (tables_of (after s command).0))
+    left : db.HasCleanDisk b → Rests a → HasTables a.now s → (trees : Trees) → b.may_leave trees → a.may_leave trees ⊎ (IsSound site trees × Holds trees (tables_of t))
     left clean rests enc trees may = elim (whole.survives.crash clean trees may) [
       | inl was ↦ inl was
       | inr made ↦ inr (let m = made enc.stands in (m.1, means a.now.trees trees enc.holds m.0))
     ]
 
-    pub step_written : {F : Type 0} → IsOk w → IsWrittenStep {E = F} s command a b (Ok plan.reply)
+    pub step_written : {F : Type 0} → IsOk w → IsWrittenStep {E = F} s t reply a b (Ok reply)
     step_written done = record {
       ok = λ clean rests enc.
           let did = did_of w (whole.ends clean enc.stands) done in
-          (planned.reply, did.rests, record { stands = did.stands; holds = means a.now.trees b.now.trees enc.holds did.step });
+          (refl, did.rests, record { stands = did.stands; holds = means a.now.trees b.now.trees enc.holds did.step });
       err = λ clean rests enc. tt;
       stop = left;
       clean = whole.survives.clean;
     }
       where
-        did_of : (w : Result T E) → Ends site (MakesAll plan.changes.items) a b w → IsOk w → Did site (MakesAll plan.changes.items) a b
+        did_of : (w : Result T E) → Ends site (MakesAll changes) a b w → IsOk w → Did site (MakesAll changes) a b
         did_of (Ok x) ends done = ends
         did_of (Err e) ends done = absurd (cc)
 
-    pub step_unwritten : {F : Type 0} (r : Result Reply F) → IsErr r → IsErr w → IsWrittenStep s command a b r
+    pub step_unwritten : {F : Type 0} (r : Result R F) → IsErr r → IsErr w → IsWrittenStep s t reply a b r
     step_unwritten (Ok x) fails undone = absurd (cc)
     step_unwritten (Err e) fails undone = record {
       ok = λ clean rests enc. tt;
@@ -60,18 +57,18 @@ module _ (s : State) (command : Command) (a : db.State) where
       clean = whole.survives.clean;
     }
       where
-        back : (w : Result T E) → Ends site (MakesAll plan.changes.items) a b w → IsErr w → Rests a → IsTrue b.is_open → HasTables a.now s → Rests b × HasTables b.now s
+        back : (w : Result T E) → Ends site (MakesAll changes) a b w → IsErr w → Rests a → IsTrue b.is_open → HasTables a.now s → Rests b × HasTables b.now s
         back (Ok x) ends undone rests is_open enc = absurd (cc)
         back (Err e) ends undone rests is_open enc =
             let u = ends.undone is_open in
             (record { is_open = is_open; idle = whole.idle; settled = u.0 ∙ sym u.1 }, subst (λ d. HasTables d s) (sym (u.0 ∙ sym rests.settled)) enc)
 
--- ---- the fault that the caller is told
+-- ---- the caller's fault
 
 store_is_not_memory : (kind : StoreKind) → Store kind ≡ Memory → ⊥
 store_is_not_memory kind h = absurd (cc)
 
--- want of memory is told only of what stopped before its commit
+-- the fault is out of memory only for what stopped before its commit
 pub memory_before : {T : Type 0} (a b d : db.State) (halt : Halt) (fault : StoreFault)
     → ((error : Error) → ◌≡◌ {A = Result T Halt} (Err halt) (Err (Before error)) → db.Survives a b (λ _. ⊥))
     → ((error : Error) → halt ≡ Commit error → fault ≡ Store (kind_of_error error))
@@ -84,12 +81,12 @@ unchanged : (s : State) (b d : db.State) → db.IsUnchanged b d → Rests b → 
 unchanged s b d same rests enc =
     (record { is_open = same.0.is_open; idle = same.0.mode ∙ rests.idle; settled = same.0.now_is ∙ rests.settled ∙ sym same.0.committed_is }, subst (λ now. HasTables now s) (sym same.0.now_is) enc)
 
-module _ (s : State) (command : Command) (a b : db.State) where
-  pub told_written : {E : Type 0} (reply : Reply) → IsWrittenStep {E = E} s command a b (Ok reply) → IsToldStep s command a b (Ok reply)
-  told_written reply step = record { ok = step.ok; memory = λ clean rests enc is. absurd (cc); stop = step.stop; clean = step.clean }
+module _ {R : Type 0} (s t : State) (reply : R) (a b : db.State) where
+  pub told_written : {E : Type 0} (answer : R) → IsWrittenStep {E = E} s t reply a b (Ok answer) → IsToldStep s t reply a b (Ok answer)
+  told_written answer step = record { ok = step.ok; memory = λ clean rests enc is. absurd (cc); stop = step.stop; clean = step.clean }
 
-  pub told_unwritten : {E : Type 0} (d : db.State) (e : E) (fault : StoreFault) → IsWrittenStep s command a b (Err e) → (db.HasCleanDisk d → fault ≡ Memory → IsTrue b.is_open × db.IsUnchanged b d) → db.Survives b d (λ _. ⊥)
-      → IsToldStep s command a d (Err fault)
+  pub told_unwritten : {E : Type 0} (d : db.State) (e : E) (fault : StoreFault) → IsWrittenStep s t reply a b (Err e) → (db.HasCleanDisk d → fault ≡ Memory → IsTrue b.is_open × db.IsUnchanged b d) → db.Survives b d (λ _. ⊥)
+      → IsToldStep s t reply a d (Err fault)
   told_unwritten d e fault step memory over = record {
     ok = λ clean rests enc. tt;
     memory = λ clean rests enc is.

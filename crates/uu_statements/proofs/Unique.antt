@@ -3,7 +3,7 @@
 use Rattle.std.proofs.Common.{◌≡◌, ◌≢◌, inr, ℕ, ℤ, List, [], ◌∷◌, Bool, true, false, refl, sym, ap, subst, ◌∙◌, Ordering, Less, Equal, Greater, true≢false}
 use Rattle.std.specs.Prelude.{IsTrue, ◌&&◌}
 use Rattle.std.specs.Ordering.{is_eq, is_ne, ordering_reverse}
-use Rattle.std.proofs.lemmas.Bool.{and_parts}
+use Rattle.std.proofs.lemmas.Bool.{and_parts, not-true}
 use Rattle.std.proofs.lemmas.Cmp.{tied_itself}
 use Rattle.sqlite.specs.Collation.TheVariants.{Binary}
 use Rattle.sqlite.specs.declared.types.Value.TheVariants.{Int, Text}
@@ -21,7 +21,7 @@ use Rattle.sqlite_rules.proofs.ListLemmas.{all_has}
 use Rattle.sqlite_rules.proofs.TableLemmas.{int_is, has_put}
 use Rattle.sqlite_keyed.proofs.ListLemmas.{none_from_any}
 use Rattle.uu_schema.specs.Rowids.{AreNumbered}
-use Rattle.uu_schema.proofs.Rows.{not_false, put_permutes}
+use Rattle.uu_schema.proofs.Rows.{put_permutes}
 use Rattle.uu_schema.proofs.Rowids.{has_moved}
 use Rattle.uu_schema.specs.Schema.{site, systems, lines, ranges, pieces, entries, success_waits, links, taken}
 
@@ -65,28 +65,28 @@ no_reference : Unique ≢ ForeignKey
 no_reference e = absurd (cc)
 
 pub unique_systems : (db : Trees) → Fits site db → (s : Row) → Has (db systems.tree) s → clashes plain (1 ∷ []) (db systems.tree) s ≡ false
-unique_systems db fits s there = not_false _ (and_parts _ true (all_has _ (db systems.tree) s (fits.rules Unique no_reference).1.0 there)).0
+unique_systems db fits s there = not-true _ (and_parts _ true (all_has _ (db systems.tree) s (fits.rules Unique no_reference).1.0 there)).0
 
 pub unique_lines : (db : Trees) → Fits site db → (s : Row) → Has (db lines.tree) s → clashes plain (1 ∷ 2 ∷ []) (db lines.tree) s ≡ false
-unique_lines db fits s there = not_false _ (and_parts _ true (all_has _ (db lines.tree) s (fits.rules Unique no_reference).1.1.0 there)).0
+unique_lines db fits s there = not-true _ (and_parts _ true (all_has _ (db lines.tree) s (fits.rules Unique no_reference).1.1.0 there)).0
 
 pub unique_ranges : (db : Trees) → Fits site db → (s : Row) → Has (db ranges.tree) s → clashes plain (1 ∷ 2 ∷ 3 ∷ []) (db ranges.tree) s ≡ false
-unique_ranges db fits s there = not_false _ (and_parts _ true (all_has _ (db ranges.tree) s (fits.rules Unique no_reference).1.1.1.0 there)).0
+unique_ranges db fits s there = not-true _ (and_parts _ true (all_has _ (db ranges.tree) s (fits.rules Unique no_reference).1.1.1.0 there)).0
 
 pub unique_pieces : (db : Trees) → Fits site db → (s : Row) → Has (db pieces.tree) s → clashes plain (1 ∷ 2 ∷ []) (db pieces.tree) s ≡ false
-unique_pieces db fits s there = not_false _ (and_parts _ true (all_has _ (db pieces.tree) s (fits.rules Unique no_reference).1.1.1.1.1.0 there)).0
+unique_pieces db fits s there = not-true _ (and_parts _ true (all_has _ (db pieces.tree) s (fits.rules Unique no_reference).1.1.1.1.1.0 there)).0
 
 pub unique_entries : (db : Trees) → Fits site db → (s : Row) → Has (db entries.tree) s → clashes plain (1 ∷ []) (db entries.tree) s ≡ false
-unique_entries db fits s there = not_false _ (and_parts _ true (all_has _ (db entries.tree) s (fits.rules Unique no_reference).1.1.1.1.1.1.0 there)).0
+unique_entries db fits s there = not-true _ (and_parts _ true (all_has _ (db entries.tree) s (fits.rules Unique no_reference).1.1.1.1.1.1.0 there)).0
 
 pub unique_waits : (db : Trees) → Fits site db → (s : Row) → Has (db success_waits.tree) s → clashes plain (1 ∷ []) (db success_waits.tree) s ≡ false
-unique_waits db fits s there = not_false _ (and_parts _ true (all_has _ (db success_waits.tree) s (fits.rules Unique no_reference).1.1.1.1.1.1.1.0 there)).0
+unique_waits db fits s there = not-true _ (and_parts _ true (all_has _ (db success_waits.tree) s (fits.rules Unique no_reference).1.1.1.1.1.1.1.0 there)).0
 
 pub unique_links : (db : Trees) → Fits site db → (s : Row) → Has (db links.tree) s → clashes plain (1 ∷ []) (db links.tree) s ≡ false
-unique_links db fits s there = not_false _ (and_parts _ true (all_has _ (db links.tree) s (fits.rules Unique no_reference).1.1.1.1.1.1.1.1.0 there)).0
+unique_links db fits s there = not-true _ (and_parts _ true (all_has _ (db links.tree) s (fits.rules Unique no_reference).1.1.1.1.1.1.1.1.0 there)).0
 
 pub unique_taken : (db : Trees) → Fits site db → (s : Row) → Has (db taken.tree) s → clashes plain (1 ∷ 2 ∷ []) (db taken.tree) s ≡ false
-unique_taken db fits s there = not_false _ (and_parts _ true (all_has _ (db taken.tree) s (fits.rules Unique no_reference).1.1.1.1.1.1.1.1.1.0 there)).0
+unique_taken db fits s there = not-true _ (and_parts _ true (all_has _ (db taken.tree) s (fits.rules Unique no_reference).1.1.1.1.1.1.1.1.1.0 there)).0
 
 -- ---- rows of one key agree
 

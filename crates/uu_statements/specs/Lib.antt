@@ -1,4 +1,3 @@
-pub mod Texts
 pub mod Makes
 pub mod Words
 pub mod Step

@@ -1,4 +1,4 @@
--- What a change makes of a database.
+-- The database after a change.
 use Rattle.std.specs.Prelude.{List}
 use Rattle.sqlite.specs.Tree.{Trees}
 use Rattle.uu_tables.specs.declared.change.Change.{Change}
@@ -6,7 +6,7 @@ use Rattle.uu_tables.specs.Tables.{Tables}
 use Rattle.uu_tables.specs.Changes.{apply, applied}
 use Rattle.uu_schema.specs.Held.{Holds}
 
--- whatever tables the trees held, they hold them with the change
+-- if the trees had some tables, they have them with the change
 abbrev pub Makes : Change → Trees → Trees → Type 0
 Makes change old new = (t : Tables) → Holds old t → Holds new (apply change t)
 

@@ -1,4 +1,4 @@
--- The columns of a job that tell what it is for.
+-- The columns of a job that say what it is for.
 use Rattle.std.specs.Prelude.{◌≡◌, ℕ, List, ⊤}
 use Rattle.std.specs.List.{join_with_byte}
 use Rattle.uu_names.specs.Text.{space}
@@ -7,7 +7,7 @@ use Rattle.uu_core.specs.declared.job.Kind.TheVariants.{Send, Request, Execute}
 use Rattle.uu_schema.specs.Cells.{kind_number, first_word, second_word}
 use Rattle.uu_statements.specs.declared.words.KindColumns.{KindColumns}
 
--- the text is the arguments of this kind, where it has any
+-- the text is the arguments of this kind, if it has any
 abbrev pub AreArguments : Kind → List ℕ → Type 0
 AreArguments (Send source target) text = ⊤
 AreArguments (Request source target) text = ⊤

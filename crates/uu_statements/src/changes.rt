@@ -1,4 +1,4 @@
-// Changes, one statement each, and some of them all or none.
+// Changes, one statement each, and several changes in one transaction.
 ghost use Rattle.uu_schema.specs.Steps.{IsIdle};
 ghost use Rattle.uu_schema.specs.Statements.{Writes, Transacts};
 ghost use Rattle.uu_schema.specs.Schema.{site};
@@ -75,7 +75,7 @@ fn write_all<S: Alter>(
     Ok(())
 }
 
-/// Makes the changes, one after the other, all of them or none, in one transaction.
+/// Makes the changes, one after the other, in one transaction: all of them or none.
 pub(crate) fn commit<S: Alter>(
     alloc: Global,
     conn: &mut Connection<S>,

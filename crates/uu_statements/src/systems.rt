@@ -34,7 +34,7 @@ pub(crate) fn set_max_retries<S: Alter>(
     )
 }
 
-// Why a call failed, where it did.
+// Why a call failed, if it did.
 fn reason(call: &CallColumns) -> Option<&str>
     ensures { option_map (λ text. text.now) result ≡ call.now.why }
 {

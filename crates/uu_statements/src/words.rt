@@ -9,7 +9,7 @@ use uu_core::Kind;
 use uu_names::Word;
 use uu_tables::{EXECUTE, REQUEST, SEND};
 
-/// The columns of a job that tell what it is for.
+/// The columns of a job that say what it is for.
 #[derive(Drop)]
 pub(crate) struct KindColumns<'a> {
     pub(crate) kind: u32,
@@ -31,7 +31,8 @@ fn joined(alloc: Global, words: &[Word]) -> Result<String, AllocError>
     Ok(text)
 }
 
-/// The arguments of an execution as one text; of another kind, which has none, an empty one.
+/// The arguments of an execution as one text. The other kinds have no arguments, so their text is
+/// empty.
 pub(crate) fn arguments_of(alloc: Global, kind: &Kind) -> Result<String, AllocError>
     ensures arguments { IfOk result (λ text. AreArguments kind.now (string_bytes text)) }
 {
@@ -41,7 +42,7 @@ pub(crate) fn arguments_of(alloc: Global, kind: &Kind) -> Result<String, AllocEr
     }
 }
 
-/// The columns of this kind of job, whose arguments are that text.
+/// The columns of this kind of job, with this text as its arguments.
 pub(crate) fn kind_columns<'a>(kind: &'a Kind, arguments: &'a str) -> KindColumns<'a>
     requires arguments { AreArguments kind.now arguments.now }
     ensures columns { AreKindColumns kind.now result }

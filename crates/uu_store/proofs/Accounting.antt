@@ -17,7 +17,7 @@ pub good_of : IsWellFormed empty → (trees : Trees) (s : State) → Keeps trees
 good_of none trees s (inl it) = it.2.good
 good_of none trees s (inr it) = subst IsWellFormed (sym it.1) none
 
--- what was found stores the state after commands that count, of which this is so
+-- what was found stores the state after commands that count, and this holds of them
 abbrev StoresWith : State → List Exchange → (List Command → Type 0) → db.State → Type 0
 StoresWith s told Claim found = (counted : List Command) × Passes s told counted × Rests found × Stores found.now (state_after s counted) × Claim counted
 

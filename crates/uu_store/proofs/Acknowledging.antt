@@ -1,4 +1,4 @@
--- That a job whose number was told is accounted for.
+-- The commands that count account for an acknowledged job.
 use Rattle.std.proofs.Common.{◌≡◌, ◌⊎◌, ◌≤◌, ◌<◌, inl, inr, ℕ, zero, suc, ◌+◌, Bool, true, false, List, [], ◌∷◌, ◌++◌, length, get_or, find, Option, Some, None, All, Contains, refl, sym, ap, subst, ◌∙◌, append_assoc, arith}
 use Rattle.std.specs.Prelude.{zip}
 use Rattle.std.proofs.lemmas.Bool.{eqb-true}
@@ -6,7 +6,7 @@ use Rattle.std.proofs.lemmas.Bool.Decides.{nat_tests}
 use Rattle.std.proofs.lemmas.List.{length-append}
 use Rattle.std.proofs.lemmas.List.Elements.{All-cons, All-nil, All-contains, Contains-append_right}
 use Rattle.uu_core.specs.declared.command.Command.{Command}
-use Rattle.uu_core.specs.declared.command.Command.TheVariants.{Define, Remove, Queue, QueueOnce, Kill, Regrade, Rejuvenate, Failed, Done, Entry, Forget}
+use Rattle.uu_core.specs.declared.command.Command.TheVariants.{Define, Remove, Queue, QueueOnce, Kill, Regrade, Rejuvenate, Failed, Done, Release, Entry, Forget}
 use Rattle.uu_core.specs.declared.command.Reply.{Reply}
 use Rattle.uu_core.specs.declared.command.Reply.TheVariants.{Number, Refused}
 use Rattle.uu_core.specs.declared.refusal.Refusal.{Refusal}
@@ -18,6 +18,7 @@ use Rattle.uu_core.specs.After.{after, after_verdict, job_of}
 use Rattle.uu_core.specs.Run.{state_after, replies_to}
 use Rattle.uu_core.specs.Laws.{accepted_of, unless_refused, handed_by, is_repeat, lets_go, IsSameJob, IsAmong, IsHandedIn, IsOfRun, IsKept, IsFirstUnder}
 use Rattle.uu_store.specs.Exchanges.{Exchange, Counts, Passes}
+use Rattle.uu_store.proofs.Running.{replies_length}
 use Rattle.uu_store.specs.Acknowledged.{IsThere, WasLetGo, IsAccountedFor, IsAccountedForUnder}
 
 -- ---- lists
@@ -38,7 +39,7 @@ none_in y h = omega (arith, h.1)
 later_of : {X : Type 0} (x y : X) (xs : List X) → Contains xs y → Contains (x ∷ xs) y
 later_of x y xs h = Contains-append_right (x ∷ []) xs y h
 
--- a pair of two lists is one of their fronts, where the second front is no shorter
+-- a pair of two lists is a pair of their first parts, if the second part is no shorter
 of_fronts : {X Y : Type 0} (xs more : List X) (ys others : List Y) (p : X × Y) → length ys ≤ length xs → Contains (zip (xs ++ more) ys) p → Contains (zip xs (ys ++ others)) p
 of_fronts [] [] ys others p le h = absurd (none_in p h)
 of_fronts [] (x ∷ more) [] others p le h = absurd (none_in p h)
@@ -59,7 +60,7 @@ all_or_one {X} p (x ∷ xs) = by-test (p x) refl (all_or_one p xs)
     by-test false is (inl none) = inl (All-cons (λ x. p x ≡ false) x xs is none)
     by-test false is (inr one) = inr (one.0, later_of x one.0 xs one.1, one.2)
 
--- what is found where one passes
+-- what is found if one passes
 found_one : {X : Type 0} (p : X → Bool) (xs : List X) (x : X) → Contains xs x → p x ≡ true → (y : X) × (find p xs ≡ Some y) × Contains xs y × (p y ≡ true)
 found_one p [] x h e = absurd (none_in x h)
 found_one {X} p (y ∷ xs) x h e = by-test (p y) refl (first_or_later y x xs h) (λ later. found_one p xs x later e)
@@ -90,20 +91,16 @@ has_number number job is = grind (arith, nat_tests, is)
 new_of : (one other : NewJob) → Some one ≡ Some other → one ≡ other
 new_of one other same = cc
 
-replies_length : (s : State) (commands : List Command) → length (replies_to s commands) ≡ length commands
-replies_length s [] = refl
-replies_length s (command ∷ commands) = ap suc (replies_length (after s command).0 commands)
-
 -- ---- an acknowledged job is handed in by one of the commands that count
 
--- the command of a pair of commands and their replies, with what was given before and behind it
+-- the command of a pair of commands and their replies, with what was given before and after it
 pub record Placed (s : State) (commands : List Command) (command : Command) (reply : Reply) : Type 0 where
   pub before : List Command
   pub behind : List Command
   pub is : commands ≡ before ++ command ∷ behind
   pub told : (after (state_after s before) command).1 ≡ reply
 
--- a job that a command handed in under this number, with what was given before and behind it
+-- a job that a command handed in under this number, with what was given before and after it
 pub record Entered (s : State) (commands : List Command) (new : NewJob) (number : ℕ) : Type 0 where
   pub before : List Command
   pub command : Command
@@ -121,7 +118,7 @@ placed s (first ∷ commands) command reply h = elim (first_or_later (first, (af
 module _
     (follow : (state : State) (first second : List Command) → state_after state (first ++ second) ≡ state_after (state_after state first) second)
   where
-    -- behind others
+    -- after others
     placed_behind : (s : State) (front commands : List Command) (command : Command) (reply : Reply) → Placed (state_after s front) commands command reply → Placed s (front ++ commands) command reply
     placed_behind s front commands command reply it = record {
       before = front ++ it.before;
@@ -172,7 +169,7 @@ module _
         (handed : (state : State) (command : Command) (job : Job) → IsHandedIn state command job → (job.number ≡ state.next) × ((after state command).0.next ≡ job.number + 1) × ((after state command).1 ≡ Number job.number))
         (queued : (state : State) (job : NewJob) → verdict state (Queue job) ≡ None → Contains (after state (Queue job)).0.jobs (job_of state.next job))
         (queued_once : (state : State) (key : Key) (job : NewJob) → verdict state (QueueOnce key job) ≡ None → is_repeat state (QueueOnce key job) ≡ false → Contains (after state (QueueOnce key job)).0.jobs (job_of state.next job))
-        (stays : (state : State) (commands : List Command) (job : Job) → Contains state.jobs job → All (λ command. lets_go command job.number ≡ false) (accepted_of state commands) → IsAmong (state_after state commands).jobs job)
+        (stays : (state : State) (commands : List Command) (job : Job) → Contains state.jobs job → All (λ command. lets_go command job ≡ false) (accepted_of state commands) → IsAmong (state_after state commands).jobs job)
         (made : (state : State) (command : Command) (later : Job) → Contains (after state command).0.jobs later → IsAmong state.jobs later ⊎ IsHandedIn state command later)
         (made_in : (state : State) (commands : List Command) (later : Job) → Contains (state_after state commands).jobs later → IsAmong state.jobs later ⊎ IsOfRun state commands later)
         (s : State) (good : IsWellFormed s) (number : ℕ)
@@ -215,6 +212,7 @@ module _
             by-command (Rejuvenate job at by) e v f = absurd (cc)
             by-command (Failed system at why) e v f = absurd (cc)
             by-command (Done system at jobs) e v f = absurd (cc)
+            by-command (Release system jobs) e v f = absurd (cc)
             by-command (Entry bytes) e v f = absurd (cc)
             by-command (Forget system below) e v f = absurd (cc)
 
@@ -230,10 +228,10 @@ module _
                 apart q = cc
 
         -- a job that was there first is there, or was let go
-        kept_from : (state : State) (commands : List Command) (job : Job) → Contains state.jobs job → job.number ≡ number → IsAmong (state_after state commands).jobs job ⊎ WasLetGo state commands number
-        kept_from state commands job there is = elim (all_or_one (λ c. lets_go c job.number) (accepted_of state commands)) [
+        kept_from : (state : State) (commands : List Command) (job : Job) → Contains state.jobs job → IsAmong (state_after state commands).jobs job ⊎ WasLetGo state commands job
+        kept_from state commands job there = elim (all_or_one (λ c. lets_go c job) (accepted_of state commands)) [
           | inl none ↦ inl (stays state commands job there none)
-          | inr one ↦ inr (one.0, one.1, ap (lets_go one.0) (sym is) ∙ one.2)
+          | inr one ↦ inr one
         ]
 
         module _ (counted : List Command) (new : NewJob) (it : Entered s counted new number) where
@@ -264,8 +262,8 @@ module _
             | inr ours ↦ absurd (let low = (number_of_run then it.behind job ours).0 in omega (arith, low, is, next.1))
           ]
 
-          kept : IsThere (state_after then it.behind) new number ⊎ WasLetGo s counted number
-          kept = elim (all_or_one (λ c. lets_go c number) (accepted_of then it.behind)) [
+          kept : IsThere (state_after then it.behind) new number ⊎ WasLetGo s counted (job_of number new)
+          kept = elim (all_or_one (λ c. lets_go c (job_of number new)) (accepted_of then it.behind)) [
             | inl none ↦ inl (there none)
             | inr one ↦ inr (one.0, subst (λ l. Contains l one.0) (sym (ap (accepted_of s) it.is ∙ accepted_append s it.before (it.command ∷ it.behind))) (Contains-append_right (accepted_of s it.before) _ one.0 (behind_it one.0 one.1)), one.2)
           ]
@@ -273,7 +271,7 @@ module _
               behind_it : (c : Command) → Contains (accepted_of then it.behind) c → Contains (accepted_of at (it.command ∷ it.behind)) c
               behind_it c h = subst (λ v. Contains (unless_refused v it.command (accepted_of then it.behind)) c) (sym it.made.accepted) (later_of it.command c (accepted_of then it.behind) h)
 
-              there : All (λ c. lets_go c number ≡ false) (accepted_of then it.behind) → IsThere (state_after then it.behind) new number
+              there : All (λ c. lets_go c (job_of number new) ≡ false) (accepted_of then it.behind) → IsThere (state_after then it.behind) new number
               there none =
                   let job = job_of number new in
                   let first : Contains then.jobs job = subst (λ n. Contains then.jobs (job_of n new)) (sym next.0) (enters at it.command new it.made) in
@@ -283,11 +281,11 @@ module _
 
           accounted_in : IsAccountedFor s counted new number
           accounted_in = record {
-            kept = subst (λ t. IsThere t new number ⊎ WasLetGo s counted number) (sym last) kept;
+            kept = subst (λ t. IsThere t new number ⊎ WasLetGo s counted (job_of number new)) (sym last) kept;
             alone = λ job there is. alone job (subst (λ (t : State). Contains t.jobs job) last there) is;
           }
 
-        -- ---- what was told its number
+        -- ---- the job that got the number
 
         -- the reply to what is handed in for the first time is its number
         is_next : (state : State) (command : Command) (new : NewJob) → IsHandedIn state command (job_of state.next new) → (after state command).1 ≡ Number number → number ≡ state.next
@@ -321,7 +319,7 @@ module _
             counted_is = it.is ∙ sym (append_assoc it.before (QueueOnce key new ∷ []) it.behind)
 
             by-origin : IsKept s key number ⊎ ((first : NewJob) × IsFirstUnder s (it.before ++ QueueOnce key new ∷ []) key first number) → IsAccountedForUnder s counted key number
-            by-origin (inl was) = inl (record { kept = was; job = kept_from s counted })
+            by-origin (inl was) = inl (record { kept = was; job = λ job there is. kept_from s counted job there })
             by-origin (inr (first, h)) =
                 let is : counted ≡ h.before ++ QueueOnce key first ∷ (h.behind ++ it.behind) = counted_is ∙ ap (λ l. l ++ it.behind) h.run_is ∙ append_assoc h.before (QueueOnce key first ∷ h.behind) it.behind in
                 inr (

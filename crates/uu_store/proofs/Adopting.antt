@@ -60,7 +60,7 @@ module _ {S : Type 0} (g : Ghosts S) (was now : Held S) where
     | inr made ↦ inl (Third, made.0, made.1.again s enc.holds)
   ]
 
-  -- a stop leaves the state, also where the tables are made
+  -- a stop leaves the state, also if the tables are made
   keeps_as : (s : State) → StopsAs a b → Stores a.now s → KeepsOnly b.may_leave s
   keeps_as s stops (inl (First, enc)) trees may = keeps_earlier First tt s stops enc trees may
   keeps_as s stops (inl (Second, enc)) trees may = keeps_earlier Second tt s stops enc trees may
@@ -84,8 +84,8 @@ rests_leaves s a settles rests (inr none) trees may =
 -- ---- a whole stretch
 
 module _ {S : Type 0} (g : Ghosts S) (opened : Held S) (commands : List Command) (stopped : S) where
-  pub passed_worked : (begun ended : Spool S g) (replies : List Reply) (fault : Option StoreFault) → Adopted opened begun → Ran commands begun ended replies fault → IsLetGo g (connection_of ended).store stopped → IsClean (g.view stopped)
-      → Passed (stretch g opened (exchange_of commands replies fault) stopped)
+  pub passed_worked : (begun ended : Spool S g) (replies : List Reply) (fault : Option StoreFault) → Adopted opened begun → Ran 1 commands begun ended replies fault → IsLetGo g (connection_of ended).store stopped → IsClean (g.view stopped)
+      → Passed (stretch g opened (exchange_of 1 commands replies fault) stopped)
   passed_worked begun ended replies fault adopted ran let_go clean = record { work = inl (record { begun = begun; ended = ended; fault = fault; ending = refl; adopted = adopted; ran = ran; let_go = let_go }); clean = clean }
 
   pub passed_unworked : (fault : StoreFault) → IsNotTaken g opened stopped fault → IsClean (g.view stopped) → Passed (stretch g opened (not_given commands) stopped)

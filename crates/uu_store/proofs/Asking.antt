@@ -18,7 +18,7 @@ use Rattle.uu_store.specs.declared.spool.Spool.{Spool}
 use Rattle.uu_store.specs.Spool.{disk, failure_of, has_failed, Shows, IsFaultBetween, Notes}
 use Rattle.uu_store.specs.Questions.{IsQuestion, IsTold}
 use Rattle.uu_store.proofs.Ending.{noted_memory}
-use Rattle.uu_store.proofs.Running.{memory_of, ran_asked, ran_failed}
+use Rattle.uu_store.proofs.Running.{memory_of, one_ahead, ran_asked, ran_failed}
 
 -- what a database encodes, in the words of the questions
 asked_of : (s : State) (a : db.State) → Encodes a.now s → IsOf s a
@@ -33,7 +33,7 @@ question_failed IsAnswer spool failed = record {
   memory = λ clean s shows is. shows;
   stop = λ clean s shows. never s shows;
   clean = omega arith;
-  ran = ran_failed spool [] failed;
+  ran = ran_failed spool [] 1 (one_ahead []) failed;
   failed = λ had. (refl, refl);
 }
   where
@@ -102,13 +102,13 @@ module _ {S : Type 0} {g : Ghosts S} {T : Type 0} (IsAnswer : State → T → Ty
         | inr none ↦ absurd none
       ]
 
-  -- what was asked over the connection, and then told
+  -- what was asked over the connection, and then the caller's answer
   pub question_told : (mid : Spool S g) → has_failed mid ≡ false → (asked : Result T Error) (r : Result T StoreFault) → IsTold asked mid now r → Answers {T = T} IsAnswer (disk old) (disk mid) asked → IsQuestion IsAnswer old now r
   question_told mid usable asked (Ok answer) told it =
       question_answered answer (ap (λ (spool : Spool S g). has_failed spool) told.same.1 ∙ usable) (subst (λ (spool : Spool S g). Answers {T = T} IsAnswer (disk old) (disk spool) (Ok answer)) (sym told.same.1) (subst (Answers {T = T} IsAnswer (disk old) (disk mid)) told.same.0 it))
   question_told mid usable asked (Err fault) told it = question_unanswered (disk mid) fault told.marked told.noted it.told.asked (λ clean is. told.memory clean (ap Err is)) told.survives
 
--- what holds of each answer holds of what is told
+-- what holds of each answer holds of the caller's
 pub told_holds : {S : Type 0} {g : Ghosts S} {T : Type 0} (P : T → Type 0) (asked : Result T Error) (old now : Spool S g) (r : Result T StoreFault) → IsTold asked old now r → IfOk asked P → IfOk r P
 told_holds P asked old now (Ok answer) told holds = subst (λ it. IfOk it P) told.same.0 holds
 told_holds P asked old now (Err fault) told holds = tt

@@ -66,7 +66,7 @@ module _ {D : Type 0} {g : disk.Ghosts D} (was conn : Held (FileStore D g)) (sam
   of_cause Broken excuse = tt
   of_cause Unstorable excuse = excuse
 
-  -- the kind that is told is that of the port's error, which has a cause
+  -- the kind is that of the port's error, which has a cause
   pub close_cause : (cause : StoreError) (kind : StoreKind) → kind ≡ kind_of_error (store_error cause) → file.ExcusesClose conn last cause → HasCause kind was.store last
   close_cause cause kind is excuse =
       subst (λ (h : Held (FileStore D g)). HasCause kind h.store last) same (subst (λ k. HasCause k conn.store last) (sym is) (of_cause cause excuse))

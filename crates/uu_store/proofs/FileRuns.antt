@@ -1,5 +1,5 @@
 -- Stretches of work over files.
-use Rattle.std.proofs.Common.{◌⊎◌, inl, inr, List, [], ◌∷◌, ◌++◌, Option, refl, sym, ap, subst, ◌∙◌, arith}
+use Rattle.std.proofs.Common.{◌⊎◌, inl, inr, ℕ, List, [], ◌∷◌, ◌++◌, Option, refl, sym, ap, subst, ◌∙◌, arith}
 use Rattle.std.proofs.Math.Logic.{∥∥₁_elim, ∥∥₁_map}
 use Rattle.std.specs.Prelude.{IsTrue}
 use Rattle.sqlite_disk.specs.declared.Disk as disk
@@ -65,7 +65,7 @@ module _ (answers : RepliesFollow) where
   ended before exchange left not_started s keeps (no_reply, ending, kept) = ∥∥₁_map (kept s keeps) (λ still. ([], none, still))
     where
       none : Counts exchange s []
-      none = record { rest = exchange.commands; prefix = refl; unheard = []; at_most_one = omega arith; settled = λ _. refl; answers = ap (λ l. l ++ []) (sym no_reply) }
+      none = record { rest = exchange.commands; prefix = refl; unheard = []; whole = inl refl; settled = λ _. refl; answers = ap (λ l. l ++ []) (sym no_reply) }
   ended before exchange left (let_go D g opened stopped) s keeps is = over_them before exchange opened stopped left s keeps is
   ended before exchange left (closed D g opened files) s keeps is = over_closed before exchange opened files left s keeps is
 
@@ -77,7 +77,7 @@ module _ (answers : RepliesFollow) where
       next : (one : OneCounts it.exchange s it.left) → AllKeep (state_after s one.0) it.left more → AllKeep s before (it ∷ more)
       next (here, counts, kept) (later, then) = (here ++ later, (keeps, here, later, refl, counts, then))
 
--- so behind the last stretch they keep the state after the commands that count
+-- so after the last stretch they keep the state after the commands that count
 kept_last : StatesFollow → (stretches : List FileStretch) (before : Image) (s : State) (counted : List Command) → KeepsThroughout s before stretches counted
     → Passes s (file_exchanges stretches) counted × ImageKeeps (last_left before stretches) (state_after s counted)
 kept_last states [] before s counted (none, keeps) = (none, subst (λ l. ImageKeeps before (state_after s l)) (sym none) keeps)
@@ -88,13 +88,13 @@ kept_last states (it ∷ more) before s counted (was, here, later, is, counts, t
 pub files_pass : StatesFollow → RepliesFollow → (stretches : List FileStretch) (before : Image) (s : State) → ImageKeeps before s → AllFilesPassed before stretches → ∥ KeepsAfter s stretches (last_left before stretches) ∥₁
 files_pass states answers stretches before s keeps all = ∥∥₁_map (all_keep answers stretches before s keeps all) (λ it. (let last = kept_last states stretches before s it.0 it.1 in (it.0, last.0, last.1)))
 
--- ---- the jobs whose numbers were told
+-- ---- acknowledged jobs
 
 good_in : IsWellFormed empty → (image : Image) (s : State) → ImageKeeps image s → IsWellFormed s
 good_in none image s (inl held) = good_of none held.0 s held.2
 good_in none image s (inr nothing) = subst IsWellFormed (sym nothing.1) none
 
--- the files keep the state after commands that count, of which this is so
+-- the files keep the state after commands that count, and this holds of them
 abbrev KeepsWith : State → List Exchange → (List Command → Type 0) → Image → Type 0
 KeepsWith s told Claim left = (counted : List Command) × Passes s told counted × ImageKeeps left (state_after s counted) × Claim counted
 
@@ -107,8 +107,8 @@ claims_pass none stretches before left s Claim keeps account after =
 
 -- ---- a stretch, by what its calls ensure
 
-module _ {D : Type 0} {g : disk.Ghosts D} (image : Image) (commands : List Command) (begun ended : Spool (FileStore D g) over_files) (replies : List Reply) (fault : Option StoreFault) (started : Started image begun) (ran : Ran commands begun ended replies fault) where
-  pub stretch_is : (stopped : FileStore D g) → IsLetGo over_files (connection_of ended).store stopped → (IsClean (view stopped) → IsTrue (view stopped).is_numbered) → IsStretch image (exchange_of commands replies fault) stopped
+module _ {D : Type 0} {g : disk.Ghosts D} (in_hand : ℕ) (image : Image) (commands : List Command) (begun ended : Spool (FileStore D g) over_files) (replies : List Reply) (fault : Option StoreFault) (started : Started image begun) (ran : Ran in_hand commands begun ended replies fault) where
+  pub stretch_is : (stopped : FileStore D g) → IsLetGo over_files (connection_of ended).store stopped → (IsClean (view stopped) → IsTrue (view stopped).is_numbered) → IsStretch image (exchange_of in_hand commands replies fault) stopped
   stretch_is stopped last numbered = record {
     opened = started.opened;
     passed = λ clean left may. (record {
@@ -130,7 +130,7 @@ module _ {D : Type 0} {g : disk.Ghosts D} (image : Image) (commands : List Comma
   at_once : IsLetGo over_files (connection_of ended).store (connection_of ended).store
   at_once = record { left = λ trees may. may; clean = omega arith }
 
-  pub closed_is : (files : Files D) → IsClosed ended files → IsClosedStretch g image (exchange_of commands replies fault) files
+  pub closed_is : (files : Files D) → IsClosed ended files → IsClosedStretch g image (exchange_of in_hand commands replies fault) files
   closed_is files close = record {
     opened = started.opened;
     passed = λ clean left may. (record {

@@ -57,7 +57,7 @@ pub found_bounded : (found : Option (JobHead × Vec ℕ Global)) → is_found_bo
 found_bounded None h = tt
 found_bounded (Some job) h = bounded job.0 h
 
--- an answer is handed on where it is within the limits
+-- an answer is passed on if it is within the limits
 module _ {T : Type 0} (is_fine : T → Bool) where
   abbrev pub HandsOn : Result T Error → Result T Error → Type 0
   HandsOn asked r = MatchResult asked (λ answer. r ≡ within_limits (is_fine answer) answer) (λ error. r ≡ Err error)
@@ -66,7 +66,7 @@ module _ {T : Type 0} (is_fine : T → Bool) where
   within Q answer kept gone true is = kept is
   within Q answer kept gone false is = gone _
 
-  -- whatever becomes of it, it is no other answer
+  -- in any case it isn't another answer
   pub answers_within : (IsAnswer : State → T → Type 0) (a b : db.State) (asked r : Result T Error) → HandsOn asked r → Answers {T = T} IsAnswer a b asked → Answers {T = T} IsAnswer a b r
   answers_within IsAnswer a b (Ok answer) r is it = subst (Answers {T = T} IsAnswer a b) (sym is) (within (Answers {T = T} IsAnswer a b) answer (λ fine. it) refused (is_fine answer) refl)
     where

@@ -36,7 +36,7 @@ use Rattle.sqlite_pool.proofs.ProbeLemmas.{first_byte, size_by_log, size_by_file
 long_enough : (m n : ℕ) (xs : List ℕ) → m ≤ length (take n xs) → (m ≤ n) × (m ≤ length xs)
 long_enough m n xs h = let is = length-take n xs in (omega (arith, h, is), omega (arith, h, is))
 
--- files that hold pages are not nothing, whatever the size of a page
+-- files that hold pages are not nothing, with any size of a page
 pub something : (image : Image) (size : ℕ) (pages : Pages) → Adopts size image pages → IsSoundFile size pages → ¬ IsNothing image
 something image size pages found sound nothing =
     let it = some_value (found.stored 1) found.whole.first in
@@ -97,7 +97,7 @@ module _ (before : Image) (trees : Trees) (held : HoldsDatabase before trees) (s
     ]
   ]
 
-  -- what stands for the same pages at that size holds the same database
+  -- what means the same pages at that size holds the same database
   pub still_holds : size ≡ held.0 → (left : Image) → StandsAs size before left → HoldsDatabase left trees
   still_holds same left stands =
       let it = held.2 in
@@ -108,7 +108,7 @@ pub unfound : (image : Image) → IsNothing image → (trees : Trees) → AreFou
 unfound image nothing trees (inl pages) = absurd (∥∥₁_elim pages.4 (λ a b. absurd a) (λ ours. something image pages.0 pages.1 pages.3 ours.file.sound nothing))
 unfound image nothing trees (inr none) = none.1.1
 
--- ---- files of which something is asked: a database whose trees have it, or nothing yet
+-- ---- files that hold a database whose trees have a property, or nothing yet
 
 abbrev pub Has : (Trees → Type 0) → Type 0 → Image → Type 0
 Has P E image = ((trees : Trees) × HoldsDatabase image trees × P trees) ⊎ (IsNothing image × E)

@@ -1,4 +1,4 @@
--- Where no link has a row, there is none.
+-- If no link has a row, there is none.
 use Rattle.std.proofs.Common.{◌≡◌, ℕ, zero, suc, true, List, [], ◌∷◌, map, flat_map, sym, ◌∙◌, All, refl}
 use Rattle.std.proofs.lemmas.List.Elements.{All-head}
 use Rattle.sqlite.specs.Effect.{Database}

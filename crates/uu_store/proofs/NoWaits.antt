@@ -1,4 +1,4 @@
--- Where no success wait has a row, each is 0.
+-- If no success wait has a row, each is 0.
 use Rattle.std.proofs.Common.{◌≡◌, ℕ, zero, suc, List, [], ◌∷◌, ◌++◌, flat_map, refl}
 use Rattle.std.specs.List.{AllByRecursion}
 use Rattle.uu_core.specs.declared.system.SystemRow.{SystemRow}

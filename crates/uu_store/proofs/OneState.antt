@@ -70,7 +70,7 @@ module _ {X : Type 0} (R : X → X → Type 0) where
         let rest = same_members xs ys up.1 vp.1 (λ a h. tail_has x y a xs ys same up h (to a (inr h))) (λ a h. tail_has y x a ys xs (sym same) vp h (from a (inr h))) in
         λ i. same i ∷ rest i
 
-    -- the typed rows that one table's rows show, where cells tell the typed row
+    -- the typed rows that one table's rows show, if the cells determine the typed row
     module _ (cells : X → Row) (Good : X → Type 0) (told : (x y : X) → Good x → Good y → cells x ≡ cells y → x ≡ y) where
       moved : (xs ys : List X) → AllByRecursion Good xs → AllByRecursion Good ys → IsPermutation (map cells xs) (map cells ys) → (x : X) → Has xs x → Has ys x
       moved xs ys good fine same x there =

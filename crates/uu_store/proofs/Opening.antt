@@ -63,7 +63,7 @@ rests_found image opened found = record { is_open = found.opens.is_open; idle = 
 trees_found : (image : Image) (opened : db.State) → IsFound image opened → (trees : Trees) → HoldsDatabase image trees → opened.now.trees ≡ trees
 trees_found image opened found trees held = ap (λ (d : Database). d.trees) found.opens.clean ∙ found.finds.holds trees held
 
--- what is said of each schema that fits the files' database is so of that of what is opened
+-- what holds of each schema that fits the files' database holds of that of what is opened
 schema_found : (P : Schema → Type 0) (image : Image) (opened : db.State) → IsFound image opened → (trees : Trees) → HoldsDatabase image trees → ((schema : Schema) → IsSound schema trees → P schema) → P opened.now.schema
 schema_found P image opened found trees held each =
     each opened.now.schema (subst (IsSound opened.now.schema) (trees_found image opened found trees held) (found.live found.opens.is_open).0)
@@ -82,7 +82,7 @@ found_stores image s opened found keeps = (rests, stores_of opened s found.live 
     keeps_now (inl held) = subst (λ trees. Keeps trees s) (sym (now_is ∙ found.finds.holds held.0 held.1)) held.2
     keeps_now (inr none) = none_fits s none.1 opened.now.trees (ap (λ (trees : Trees). trees catalog_tree) now_is ∙ unfound image none.0 opened.committed.trees found.finds.reads)
 
--- what is opened has something else under one of the names, where the files' database has
+-- what is opened has something else under one of the names, if the files' database has
 pub other_found : (image : Image) (opened : db.State) → IsFound image opened → ImageHasUnversionedTables image → HasUnversionedTables opened.now.schema
 other_found image opened found it =
     let trees_are = ap (λ (d : Database). d.trees) found.opens.clean ∙ found.finds.holds it.0 it.1 in
@@ -109,7 +109,7 @@ module _ {S : Type 0} (g : Ghosts S) (image : Image) (opened : Held S) (found : 
       let some = schema_found HasSome image (state g opened) it trees has.0 has.1 in
       (stops clean (rests_found image (state g opened) it)).some some.0 some.1 left may ∙ trees_found image (state g opened) it trees has.0
 
--- ---- where the database was not taken
+-- ---- if the database wasn't taken
 
 pub not_taken : {S : Type 0} (g : Ghosts S) (was last : Held S) (stopped : S) (fault : StoreFault) → TurnedAway g was last → IsQuiet g.view g.faults g.recovers g.is_shielded last.store stopped
     → (IsClean (g.view stopped) → IsTrue (g.view stopped).is_numbered) → (db.HasCleanDisk (state g last) → (v : Version) (s : State) → EncodesAs v (state g was).now s → (fault ≢ Foreign) × (fault ≢ Newer))
@@ -199,7 +199,7 @@ pub away_named : {D : Type 0} {g : disk.Ghosts D} (image : Image) (opened : Held
     → IsNotTaken over_files opened stopped fault → IsRightFault image fault (remains.Store stopped)
 away_named image opened found stopped fault away clean = away_rightly image opened found stopped fault away clean
 
--- ---- where nothing was opened
+-- ---- if nothing was opened
 
 of_database : (error : Error) → (error ≡ SqliteFailure CannotOpen) ⊎ ((error ≡ SqliteFailure OutOfMemory) ⊎ (error ≡ SqliteFailure DatabaseBusy)) → kind_of_error error ≡ part.Database
 of_database error (inl is) = ap kind_of_error is

@@ -19,7 +19,7 @@ use Rattle.uu_schema.specs.declared.fault.StoreKind.{StoreKind}
 use Rattle.uu_schema.specs.declared.fault.StoreKind.TheVariants as kind
 use Rattle.uu_store.specs.Openings.{HasOpeningCause, IsOpenable}
 
--- a fault of the disk, by whichever name, is told of the disk
+-- a fault of the disk, under any name, is reported as one of the disk
 of_disk : (caught refused : Bool) → kind_of_error (store_error (cond caught (cond refused Io Full) Corrupt)) ≡ kind.Disk
 of_disk true true = refl
 of_disk true false = refl

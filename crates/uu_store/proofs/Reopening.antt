@@ -1,7 +1,7 @@
 -- What is found after a stop.
 use Rattle.std.proofs.Common.{◌≡◌, ◌⊎◌, ◌≤◌, inl, inr, ℕ, ◌+◌, List, [], ◌∷◌, ◌++◌, length, take, drop, Option, Some, None, refl, sym, ap, subst, ◌∙◌, append-nil, arith}
 use Rattle.std.proofs.Math.Logic.{∥∥₁_elim, ∥∥₁_map}
-use Rattle.std.proofs.lemmas.List.{take_all, length-take, take-append-drop}
+use Rattle.std.proofs.lemmas.List.{take_all, length-append, length-take, take-append-drop}
 use Rattle.sqlite.specs.Schema.{Schema}
 use Rattle.sqlite.specs.Tree.{Trees}
 use Rattle.sqlite.specs.Held.{state}
@@ -12,7 +12,6 @@ use Rattle.uu_schema.specs.Steps.{Stands, Rests}
 use Rattle.uu_schema.proofs.Objects.{one_schema}
 use Rattle.uu_core.specs.declared.command.Command.{Command}
 use Rattle.uu_core.specs.State.{State}
-use Rattle.uu_core.specs.After.{after}
 use Rattle.uu_core.specs.Run.{state_after, replies_to}
 use Rattle.uu_schema.specs.declared.version.Version.{Version}
 use Rattle.uu_schema.specs.declared.version.Version.TheVariants.{First, Second, Third}
@@ -24,7 +23,7 @@ use Rattle.uu_store.specs.Spool.{disk, Shows}
 use Rattle.uu_store.specs.Runs.{GoesOn}
 use Rattle.uu_store.specs.Exchanges.{Exchange, IsSettled, Counts, Passes}
 use Rattle.uu_store.specs.Stretches.{Stretch, opened_as, left_by, Worked, Unworked, Passed, Reopens, LeadTo, exchanges, StoresThroughout, AllStore, StoresAfter}
-use Rattle.uu_store.proofs.Running.{StatesFollow, RepliesFollow, take_next}
+use Rattle.uu_store.proofs.Running.{StatesFollow, RepliesFollow, take_past, replies_length}
 
 pub simple_of : (v : Version) → IsSimple (site_of v)
 simple_of First = record { views = refl; keys = (omega arith, (omega arith, (omega arith, (omega arith, (omega arith, (omega arith, (omega arith, tt))))))) }
@@ -68,37 +67,45 @@ pub record LeavesTwo (it : Stretch) (s : State) : Type 0 where
   pub counts_one : Counts it.exchange s one
   pub counts_other : Counts it.exchange s other
 
-module _ (answers_follow : RepliesFollow) (s : State) (it : Exchange) (k : ℕ) (is : length it.replies ≡ k) (within : k ≤ length it.commands) (answers : it.replies ≡ replies_to s (take k it.commands)) where
+module _ (answers_follow : RepliesFollow) (s : State) (it : Exchange) (k : ℕ) (is : length it.replies ≡ k) (within : (k ≡ length it.commands) ⊎ (k + it.in_hand ≤ length it.commands)) (answers : it.replies ≡ replies_to s (take k it.commands)) where
   counts_first : Counts it s (take k it.commands)
   counts_first = record {
     rest = drop k it.commands;
     prefix = sym (take-append-drop k it.commands);
     unheard = [];
-    at_most_one = omega arith;
+    whole = inl refl;
     settled = λ _. refl;
     answers = sym answers ∙ sym (append-nil it.replies);
   }
 
-  -- the command in hand, where the store failed
-  counts_next : (¬ IsSettled it.ending) → (rest : List Command) → drop k it.commands ≡ rest → Counts it s (take (k + 1) it.commands)
-  counts_next loose [] past = subst (Counts it s) (sym same) counts_first
+  -- the request in hand, if the store failed: all of its commands, unless every command was answered
+  counts_next : (¬ IsSettled it.ending) → Counts it s (take (k + it.in_hand) it.commands)
+  counts_next loose = elim within [ inl every ↦ subst (Counts it s) (sym (same every)) counts_first | inr ahead ↦ whole_request ahead ]
     where
-      long : length it.commands ≤ k
-      long = let all = ap length (take-append-drop k it.commands) in let parts = ap (λ l. length (take k it.commands ++ l)) past in let none = ap length (append-nil (take k it.commands)) in let first = length-take k it.commands in omega (arith, all, parts, none, first)
+      same : k ≡ length it.commands → take (k + it.in_hand) it.commands ≡ take k it.commands
+      same every = take_all (k + it.in_hand) it.commands (omega (arith, every)) ∙ sym (take_all k it.commands (omega (arith, every)))
 
-      same : take (k + 1) it.commands ≡ take k it.commands
-      same = take_all (k + 1) it.commands (omega (arith, long)) ∙ sym (take_all k it.commands long)
-  counts_next loose (command ∷ rest) is_next = record {
-    rest = drop (k + 1) it.commands;
-    prefix = sym (take-append-drop (k + 1) it.commands);
-    unheard = (after (state_after s (take k it.commands)) command).1 ∷ [];
-    at_most_one = omega arith;
-    settled = λ h. absurd (loose h);
-    answers = ap (replies_to s) next ∙ answers_follow s (take k it.commands) (command ∷ []) ∙ ap (λ l. l ++ (after (state_after s (take k it.commands)) command).1 ∷ []) (sym answers);
-  }
-    where
-      next : take (k + 1) it.commands ≡ take k it.commands ++ command ∷ []
-      next = take_next it.commands (take k it.commands) rest command k (sym (take-append-drop k it.commands) ∙ ap (λ l. take k it.commands ++ l) is_next) (let n = length-take k it.commands in omega (arith, n, within))
+      request : List Command
+      request = take it.in_hand (drop k it.commands)
+
+      whole_request : k + it.in_hand ≤ length it.commands → Counts it s (take (k + it.in_hand) it.commands)
+      whole_request ahead = record {
+        rest = drop (k + it.in_hand) it.commands;
+        prefix = sym (take-append-drop (k + it.in_hand) it.commands);
+        unheard = replies_to (state_after s (take k it.commands)) request;
+        whole = inr (replies_length (state_after s (take k it.commands)) request ∙ count);
+        settled = λ h. absurd (loose h);
+        answers = ap (replies_to s) next ∙ answers_follow s (take k it.commands) request ∙ ap (λ l. l ++ replies_to (state_after s (take k it.commands)) request) (sym answers);
+      }
+        where
+          given : k ≡ length (take k it.commands)
+          given = let n = length-take k it.commands in omega (arith, n, ahead)
+
+          next : take (k + it.in_hand) it.commands ≡ take k it.commands ++ request
+          next = ap (take (k + it.in_hand)) (sym (take-append-drop k it.commands)) ∙ take_past (take k it.commands) (drop k it.commands) k it.in_hand given
+
+          count : length request ≡ it.in_hand
+          count = let n = length-take it.in_hand (drop k it.commands) in let all = ap length (take-append-drop k it.commands) in let sum = length-append (take k it.commands) (drop k it.commands) in omega (arith, n, all, sum, given, ahead)
 
 module _ (answers_follow : RepliesFollow) (it : Stretch) (s : State) (passed : Passed it) (rests : Rests (opened_as it)) (stores : Stores (opened_as it).now s) where
   abbrev k : ℕ
@@ -120,10 +127,10 @@ module _ (answers_follow : RepliesFollow) (it : Stretch) (s : State) (passed : P
         })
         | inr loose ↦ (record {
           one = take k it.exchange.commands;
-          other = take (k + 1) it.exchange.commands;
+          other = take (k + it.exchange.in_hand) it.exchange.commands;
           keeps = λ trees may. (let left = from.stop_store trees (w.let_go.left trees may) in elim left.1 [ inl h ↦ inl (inl (Third, left.0, h)) | inr h ↦ inr (inl (Third, left.0, h)) ]);
           counts_one = first;
-          counts_other = counts_next answers_follow s it.exchange k refl w.ran.within from.answers (λ h. loose (subst IsSettled w.ending h)) (drop k it.exchange.commands) refl;
+          counts_other = counts_next answers_follow s it.exchange k refl w.ran.within from.answers (λ h. loose (subst IsSettled w.ending h));
         })
       ]
 
@@ -134,7 +141,7 @@ module _ (answers_follow : RepliesFollow) (it : Stretch) (s : State) (passed : P
       clean = omega (arith, w.let_go.clean, passed.clean)
 
       none : Counts it.exchange s []
-      none = record { rest = it.exchange.commands; prefix = refl; unheard = []; at_most_one = omega arith; settled = λ _. refl; answers = ap (λ l. l ++ []) (sym w.no_reply) }
+      none = record { rest = it.exchange.commands; prefix = refl; unheard = []; whole = inl refl; settled = λ _. refl; answers = ap (λ l. l ++ []) (sym w.no_reply) }
 
   pub leaves_two : LeavesTwo it s
   leaves_two = elim passed.work [ inl w ↦ worked w | inr w ↦ unworked w ]

@@ -1,5 +1,5 @@
 -- Commands over a spool, one after the other.
-use Rattle.std.proofs.Common.{◌≡◌, inl, Bool, ℕ, zero, suc, ◌+◌, true, false, true≢false, List, [], ◌∷◌, ◌++◌, length, take, Option, Some, None, Result, Ok, Err, refl, sym, ap, subst, ◌∙◌, append_assoc, append-nil, arith}
+use Rattle.std.proofs.Common.{◌≡◌, ◌⊎◌, ◌≤◌, inl, inr, Bool, ℕ, zero, suc, ◌+◌, true, false, true≢false, List, [], ◌∷◌, ◌++◌, length, take, Option, Some, None, Result, Ok, Err, refl, sym, ap, subst, ◌∙◌, append_assoc, append-nil, arith}
 use Rattle.std.specs.Prelude.{IfOk, IfErr, IfSome, MatchOption, MatchResult}
 use Rattle.std.proofs.lemmas.List.{length-append, length-take, take_all}
 use Rattle.std.proofs.Math.Seq.{take-append_seam}
@@ -38,7 +38,7 @@ none_left [] none = refl
 none_left (x ∷ xs) none = absurd (omega (arith, none))
 
 -- past the end of the first list
-take_past : {A : Type 0} (one other : List A) (m n : ℕ) → m ≡ length one → take (m + n) (one ++ other) ≡ one ++ take n other
+pub take_past : {A : Type 0} (one other : List A) (m n : ℕ) → m ≡ length one → take (m + n) (one ++ other) ≡ one ++ take n other
 take_past [] other m n is = ap (λ k. take (k + n) other) is ∙ ap (λ k. take k other) (omega arith)
 take_past (x ∷ one) other zero n is = absurd (omega (arith, is))
 take_past (x ∷ one) other (suc m) n is = ap (λ k. take k (x ∷ one ++ other)) (let e : suc m + n ≡ suc (m + n) = omega arith in e) ∙ ap (λ l. x ∷ l) (take_past one other m n (omega (arith, is)))
@@ -51,12 +51,24 @@ StatesFollow = (state : State) (first second : List Command) → state_after sta
 abbrev pub RepliesFollow : Type 0
 RepliesFollow = (state : State) (first second : List Command) → replies_to state (first ++ second) ≡ replies_to state first ++ replies_to (state_after state first) second
 
+pub replies_length : (s : State) (commands : List Command) → length (replies_to s commands) ≡ length commands
+replies_length s [] = refl
+replies_length s (command ∷ commands) = ap suc (replies_length (after s command).0 commands)
+
 pub memory_of : (fault : StoreFault) → GoesOn (Some fault) → fault ≡ Memory
 memory_of Memory on = refl
 memory_of (Store kind) on = absurd on
 memory_of Failed on = absurd on
 memory_of Foreign on = absurd on
 memory_of Newer on = absurd on
+
+-- no command was answered: there is none, or the request in hand is among them
+abbrev pub IsAhead : ℕ → List Command → Type 0
+IsAhead in_hand commands = (0 ≡ length commands) ⊎ (0 + in_hand ≤ length commands)
+
+pub one_ahead : (commands : List Command) → IsAhead 1 commands
+one_ahead [] = inl refl
+one_ahead (command ∷ commands) = inr (omega arith)
 
 -- ---- a run so far
 
@@ -88,8 +100,8 @@ module _ {S : Type 0} {g : Ghosts S} (old : Spool S g) where
   -- ---- how it ends
 
   module _ (commands : List Command) where
-    pub ran_every : (now : Spool S g) (given : List Command) (replies : List Reply) → Settles (disk now) → given ≡ commands → Running old now given replies → Ran commands old now replies None
-    ran_every now given replies settles all r = record { within = omega (arith, count); from = from; clean = r.clean }
+    pub ran_every : (now : Spool S g) (given : List Command) (replies : List Reply) → Settles (disk now) → given ≡ commands → Running old now given replies → Ran 1 commands old now replies None
+    ran_every now given replies settles all r = record { within = inl count; from = from; clean = r.clean }
       where
         count : length replies ≡ length commands
         count = r.count ∙ ap length all
@@ -97,7 +109,7 @@ module _ {S : Type 0} {g : Ghosts S} (old : Spool S g) where
         first : take (length replies) commands ≡ given
         first = take_every commands (length replies) count ∙ sym all
 
-        from : db.HasCleanDisk (disk now) → (s : State) → Shows old s → RanFrom s commands now replies None
+        from : db.HasCleanDisk (disk now) → (s : State) → Shows old s → RanFrom 1 s commands now replies None
         from clean s shows =
             let it = r.shows clean s shows in
             let here : Shows now (state_after s (take (length replies) commands)) = subst (λ l. Shows now (state_after s l)) (sym first) it.1 in
@@ -114,8 +126,8 @@ module _ {S : Type 0} {g : Ghosts S} (old : Spool S g) where
         → (db.HasCleanDisk (disk now) → (s : State) → Shows mid s → result ≡ Err Memory → Shows now s)
         → (db.HasCleanDisk (disk now) → (s : State) → Shows mid s → result ≡ Err Memory → Leaves (disk now) s)
         → (db.HasCleanDisk (disk now) → (s : State) → Shows mid s → LeavesEither (disk now) s (after s command).0)
-        → StaysUnclean (disk mid) (disk now) → Ran commands old now replies (Some fault)
-    ran_stopped states mid now given command rest replies result fault all r is memory stop_memory stop_store stays = record { within = omega (arith, less, r.count); from = from; clean = omega (arith, r.clean, stays) }
+        → StaysUnclean (disk mid) (disk now) → Ran 1 commands old now replies (Some fault)
+    ran_stopped states mid now given command rest replies result fault all r is memory stop_memory stop_store stays = record { within = inr (omega (arith, less, r.count)); from = from; clean = omega (arith, r.clean, stays) }
       where
         first : take (length replies) commands ≡ given
         first = take_front commands given (command ∷ rest) (length replies) all r.count
@@ -126,7 +138,7 @@ module _ {S : Type 0} {g : Ghosts S} (old : Spool S g) where
         less : length commands ≡ length given + length (command ∷ rest)
         less = ap length all ∙ length-append given (command ∷ rest)
 
-        from : db.HasCleanDisk (disk now) → (s : State) → Shows old s → RanFrom s commands now replies (Some fault)
+        from : db.HasCleanDisk (disk now) → (s : State) → Shows old s → RanFrom 1 s commands now replies (Some fault)
         from clean s shows =
             let it = r.shows (omega (arith, stays, clean)) s shows in
             record {
@@ -139,59 +151,85 @@ module _ {S : Type 0} {g : Ghosts S} (old : Spool S g) where
             }
 
     -- nothing was given
-    unstarted : (fault : StoreFault) → ((s : State) → Shows old s → Leaves (disk old) s) → Ran commands old old [] (Some fault)
-    unstarted fault stop = record {
-      within = omega arith;
+    unstarted : (in_hand : ℕ) → IsAhead in_hand commands → (fault : StoreFault) → ((s : State) → Shows old s → Leaves (disk old) s) → Ran in_hand commands old old [] (Some fault)
+    unstarted in_hand ahead fault stop = record {
+      within = ahead;
       from = λ clean s shows. (record { answers = refl; shows = λ on. shows; stop = λ on. stop s shows; stop_store = λ trees may. (let it = stop s shows trees may in (it.0, inl it.1)) });
       clean = omega arith;
     }
 
-    pub ran_failed : has_failed old ≡ true → Ran commands old old [] (Some Failed)
-    ran_failed failed = unstarted Failed (λ s shows. absurd (true≢false (sym failed ∙ shows.usable)))
+    pub ran_failed : (in_hand : ℕ) → IsAhead in_hand commands → has_failed old ≡ true → Ran in_hand commands old old [] (Some Failed)
+    ran_failed in_hand ahead failed = unstarted in_hand ahead Failed (λ s shows. absurd (true≢false (sym failed ∙ shows.usable)))
 
-    pub ran_refused : Settles (disk old) → Ran commands old old [] (Some Memory)
-    ran_refused settles = unstarted Memory (λ s shows. leaves s (disk old) settles shows.rests shows.encodes)
+    pub ran_refused : Settles (disk old) → Ran 1 commands old old [] (Some Memory)
+    ran_refused settles = unstarted 1 (one_ahead commands) Memory (λ s shows. leaves s (disk old) settles shows.rests shows.encodes)
 
 -- ---- one call
 
--- a command alone
-pub ran_one : {S : Type 0} {g : Ghosts S} (old new : Spool S g) (command : Command) (result : Result Reply StoreFault) → Settles (disk new) → (db.HasCleanDisk (disk new) → (s : State) → Shows old s → IfOk result (λ reply. (reply ≡ (after s command).1) × Shows new (after s command).0))
-    → (db.HasCleanDisk (disk new) → (s : State) → Shows old s → result ≡ Err Memory → Shows new s)
-    → (db.HasCleanDisk (disk new) → (s : State) → Shows old s → LeavesEither (disk new) s (after s command).0) → StaysUnclean (disk old) (disk new) → Ran (command ∷ []) old new (reply_in result) (fault_in result)
-ran_one old new command (Ok reply) settles step memory stop stays = record {
-  within = omega arith;
-  from = λ clean s shows.
-      let it = step clean s shows in
-      let left = leaves (after s command).0 (disk new) settles it.1.rests it.1.encodes in
-      record { answers = ap (λ x. x ∷ []) it.0; shows = λ on. it.1; stop = λ on. left; stop_store = λ trees may. (let l = left trees may in (l.0, inl l.1)) };
-  clean = stays;
-}
-ran_one old new command (Err fault) settles step memory stop stays = record {
-  within = omega arith;
-  from = λ clean s shows.
-      let same = λ (on : GoesOn (Some fault)). memory clean s shows (ap Err (memory_of fault on)) in
-      record { answers = refl; shows = same; stop = λ on. (let it = same on in leaves s (disk new) settles it.rests it.encodes); stop_store = stop clean s shows };
-  clean = stays;
-}
+-- what a call lists of its answer
+abbrev pub listed_in : {R : Type 0} → (R → List Reply) → Result R StoreFault → List Reply
+listed_in listed (Ok answer) = listed answer
+listed_in listed (Err fault) = []
+
+-- commands that are done as one: a command alone, or those of a bundle
+module _ {S : Type 0} {g : Ghosts S} {R : Type 0} (old new : Spool S g) (in_hand : ℕ) (commands : List Command) (listed : R → List Reply) (all : in_hand ≡ length commands) (settles : Settles (disk new)) (stays : StaysUnclean (disk old) (disk new)) where
+  pub ran_as_one : (result : Result R StoreFault) → IfOk result (λ answer. length (listed answer) ≡ length commands)
+      → (db.HasCleanDisk (disk new) → (s : State) → Shows old s → IfOk result (λ answer. (listed answer ≡ replies_to s commands) × Shows new (state_after s commands)))
+      → (db.HasCleanDisk (disk new) → (s : State) → Shows old s → result ≡ Err Memory → Shows new s)
+      → (db.HasCleanDisk (disk new) → (s : State) → Shows old s → LeavesEither (disk new) s (state_after s commands)) → Ran in_hand commands old new (listed_in listed result) (fault_in result)
+  ran_as_one (Ok answer) every step memory stop = record { within = inl every; from = from; clean = stays }
+    where
+      whole : take (length (listed answer)) commands ≡ commands
+      whole = take_every commands (length (listed answer)) every
+
+      from : db.HasCleanDisk (disk new) → (s : State) → Shows old s → RanFrom in_hand s commands new (listed answer) None
+      from clean s shows =
+          let it = step clean s shows in
+          let here : Shows new (state_after s (take (length (listed answer)) commands)) = subst (λ l. Shows new (state_after s l)) (sym whole) it.1 in
+          let left = leaves _ (disk new) settles here.rests here.encodes in
+          record { answers = it.0 ∙ ap (replies_to s) (sym whole); shows = λ on. here; stop = λ on. left; stop_store = λ trees may. (let l = left trees may in (l.0, inl l.1)) }
+  ran_as_one (Err fault) every step memory stop = record { within = inr (omega (arith, all)); from = from; clean = stays }
+    where
+      whole : take (0 + in_hand) commands ≡ commands
+      whole = take_every commands (0 + in_hand) (omega (arith, all))
+
+      from : db.HasCleanDisk (disk new) → (s : State) → Shows old s → RanFrom in_hand s commands new [] (Some fault)
+      from clean s shows =
+          let same = λ (on : GoesOn (Some fault)). memory clean s shows (ap Err (memory_of fault on)) in
+          record {
+            answers = refl;
+            shows = same;
+            stop = λ on. (let it = same on in leaves s (disk new) settles it.rests it.encodes);
+            stop_store = subst (λ l. LeavesEither (disk new) s (state_after s l)) (sym whole) (stop clean s shows);
+          }
 
 -- a question
 pub ran_asked : {S : Type 0} {g : Ghosts S} (old now : Spool S g) (stopped : Option StoreFault) → (db.HasCleanDisk (disk now) → (s : State) → Shows old s → GoesOn stopped → Shows now s)
-    → (db.HasCleanDisk (disk now) → (s : State) → Shows old s → Leaves (disk now) s) → StaysUnclean (disk old) (disk now) → Ran [] old now [] stopped
+    → (db.HasCleanDisk (disk now) → (s : State) → Shows old s → Leaves (disk now) s) → StaysUnclean (disk old) (disk now) → Ran 1 [] old now [] stopped
 ran_asked old now stopped shown left stays = record {
-  within = omega arith;
+  within = inl refl;
   from = λ clean s shows.
       record { answers = refl; shows = shown clean s shows; stop = λ on. left clean s shows; stop_store = λ trees may. (let it = left clean s shows trees may in (it.0, inl it.1)) };
   clean = stays;
 }
 
--- ---- one run after another, where the first answered every command
+-- no more replies came than there are commands
+pub no_more_than : (in_hand : ℕ) (commands : List Command) (replies : List Reply) → (length replies ≡ length commands) ⊎ (length replies + in_hand ≤ length commands) → length replies ≤ length commands
+no_more_than in_hand commands replies (inl is) = omega (arith, is)
+no_more_than in_hand commands replies (inr less) = omega (arith, less)
 
-module _ (states : StatesFollow) (answers : RepliesFollow) {S : Type 0} {g : Ghosts S} (old mid new : Spool S g) (one other : List Command) (first second : List Reply) (was stopped : Option StoreFault) where
-  pub ran_then : length first ≡ length one → GoesOn was → Ran one old mid first was → Ran other mid new second stopped → Ran (one ++ other) old new (first ++ second) stopped
-  ran_then every on p q = record { within = omega (arith, lengths, length-append one other, q.within, every); from = from; clean = omega (arith, p.clean, q.clean) }
+-- ---- one run after another, if the first answered every command
+
+module _ (states : StatesFollow) (answers : RepliesFollow) {S : Type 0} {g : Ghosts S} (first_hand in_hand : ℕ) (old mid new : Spool S g) (one other : List Command) (first second : List Reply) (was stopped : Option StoreFault) where
+  pub ran_then : length first ≡ length one → GoesOn was → Ran first_hand one old mid first was → Ran in_hand other mid new second stopped → Ran in_hand (one ++ other) old new (first ++ second) stopped
+  ran_then every on p q = record { within = within q.within; from = from; clean = omega (arith, p.clean, q.clean) }
     where
       lengths : length (first ++ second) ≡ length first + length second
       lengths = length-append first second
+
+      within : (length second ≡ length other) ⊎ (length second + in_hand ≤ length other) → (length (first ++ second) ≡ length (one ++ other)) ⊎ (length (first ++ second) + in_hand ≤ length (one ++ other))
+      within (inl is) = inl (omega (arith, lengths, length-append one other, is, every))
+      within (inr less) = inr (omega (arith, lengths, length-append one other, less, every))
 
       joined : (n m : ℕ) → m ≡ length first + n → take m (one ++ other) ≡ one ++ take n other
       joined n m is = ap (λ k. take k (one ++ other)) is ∙ take_past one other (length first) n every
@@ -202,40 +240,37 @@ module _ (states : StatesFollow) (answers : RepliesFollow) {S : Type 0} {g : Gho
       whole : take (length first) one ≡ one
       whole = take_every one (length first) every
 
-      from : db.HasCleanDisk (disk new) → (s : State) → Shows old s → RanFrom s (one ++ other) new (first ++ second) stopped
+      from : db.HasCleanDisk (disk new) → (s : State) → Shows old s → RanFrom in_hand s (one ++ other) new (first ++ second) stopped
       from clean s shows =
           let early : db.HasCleanDisk (disk mid) = omega (arith, q.clean, clean) in
           let a = p.from early s shows in
           let b = q.from clean (state_after s one) (subst (λ l. Shows mid (state_after s l)) whole (a.shows on)) in
           let here = after_is s (length second) (length (first ++ second)) lengths in
-          let next = after_is s (length second + 1) (length (first ++ second) + 1) (omega (arith, lengths)) in
+          let next = after_is s (length second + in_hand) (length (first ++ second) + in_hand) (omega (arith, lengths)) in
           record {
             answers = ap (λ l. l ++ second) (a.answers ∙ ap (replies_to s) whole) ∙ ap (λ l. replies_to s one ++ l) b.answers ∙ sym (answers s one (take (length second) other)) ∙ ap (replies_to s) (sym (joined (length second) (length (first ++ second)) lengths));
             shows = λ go. subst (Shows new) (sym here) (b.shows go);
             stop = λ go. subst (Leaves (disk new)) (sym here) (b.stop go);
-            stop_store = subst (λ t. LeavesEither (disk new) t (state_after s (take (length (first ++ second) + 1) (one ++ other)))) (sym here)
+            stop_store = subst (λ t. LeavesEither (disk new) t (state_after s (take (length (first ++ second) + in_hand) (one ++ other)))) (sym here)
                 (subst (LeavesEither (disk new) (state_after (state_after s one) (take (length second) other))) (sym next) b.stop_store);
           }
 
--- ---- of a run that ended for want of memory, the commands that were answered
+-- ---- the commands that were answered in a run that ended because memory ran out
 
-module _ {S : Type 0} {g : Ghosts S} (old new : Spool S g) (commands : List Command) (replies : List Reply) (was : Option StoreFault) (on : GoesOn was) (ran : Ran commands old new replies was) where
+module _ {S : Type 0} {g : Ghosts S} (in_hand : ℕ) (old new : Spool S g) (commands : List Command) (replies : List Reply) (was : Option StoreFault) (on : GoesOn was) (ran : Ran in_hand commands old new replies was) where
   abbrev k : ℕ
   k = length replies
 
-  pub ran_answered_alone : Ran (take k commands) old new replies None
-  ran_answered_alone = record { within = omega (arith, many, ran.within); from = from; clean = ran.clean }
+  pub ran_answered_alone : Ran in_hand (take k commands) old new replies None
+  ran_answered_alone = record { within = inl (sym many); from = from; clean = ran.clean }
     where
       many : length (take k commands) ≡ k
-      many = let n = length-take k commands in omega (arith, n, ran.within)
+      many = let n = length-take k commands in let few = no_more_than in_hand commands replies ran.within in omega (arith, n, few)
 
       same : take k (take k commands) ≡ take k commands
       same = take_all k (take k commands) (omega (arith, many))
 
-      no_more : take (k + 1) (take k commands) ≡ take k commands
-      no_more = take_all (k + 1) (take k commands) (omega (arith, many))
-
-      from : db.HasCleanDisk (disk new) → (s : State) → Shows old s → RanFrom s (take k commands) new replies None
+      from : db.HasCleanDisk (disk new) → (s : State) → Shows old s → RanFrom in_hand s (take k commands) new replies None
       from clean s shows =
           let it = ran.from clean s shows in
           let left = it.stop on in
@@ -243,9 +278,21 @@ module _ {S : Type 0} {g : Ghosts S} (old new : Spool S g) (commands : List Comm
             answers = it.answers ∙ ap (replies_to s) (sym same);
             shows = λ _. subst (λ l. Shows new (state_after s l)) (sym same) (it.shows on);
             stop = λ _. subst (λ l. Leaves (disk new) (state_after s l)) (sym same) left;
-            stop_store = subst (λ l. LeavesEither (disk new) (state_after s l) (state_after s (take (k + 1) (take k commands)))) (sym same)
+            stop_store = subst (λ l. LeavesEither (disk new) (state_after s l) (state_after s (take (k + in_hand) (take k commands)))) (sym same)
                 (λ trees may. let there = left trees may in (there.0, inl there.1));
           }
+
+-- ---- in a run that answered every command, any request may be the one in hand
+
+pub ran_any_hand : {S : Type 0} {g : Ghosts S} (in_hand other : ℕ) (old new : Spool S g) (commands : List Command) (replies : List Reply) (stopped : Option StoreFault) → length replies ≡ length commands → GoesOn stopped
+    → Ran in_hand commands old new replies stopped → Ran other commands old new replies stopped
+ran_any_hand in_hand other old new commands replies stopped every on ran = record {
+  within = inl every;
+  from = λ clean s shows.
+      let it = ran.from clean s shows in
+      record { answers = it.answers; shows = it.shows; stop = it.stop; stop_store = λ trees may. (let left = it.stop on trees may in (left.0, inl left.1)) };
+  clean = ran.clean;
+}
 
 -- ---- which fault ends a run of a spool that can be used
 

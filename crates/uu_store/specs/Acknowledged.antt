@@ -1,4 +1,4 @@
--- What becomes of a job whose number was told.
+-- What becomes of an acknowledged job.
 use Rattle.std.specs.Prelude.{◌≡◌, ◌⊎◌, ℕ, true, List, Some, Contains, zip}
 use Rattle.sqlite.specs.State as db
 use Rattle.sqlite.specs.Store.{Ghosts}
@@ -17,58 +17,57 @@ use Rattle.uu_store.specs.Kept.{Stores}
 use Rattle.uu_store.specs.Spool.{Shows}
 use Rattle.uu_store.specs.Exchanges.{Exchange, Passes}
 
--- the job was handed in, and the reply was this number
+-- the job was handed in, and this number was the reply
 abbrev pub IsAcknowledged : List Exchange → NewJob → ℕ → Type 0
 IsAcknowledged exchanges new number = (it : Exchange) × Contains exchanges it × Contains (zip it.commands it.replies) (Queue new, Number number)
 
--- the job is there under its number, with all its bytes; its grade and its time of queueing may
--- have changed
+-- the job is there under its number, with all its bytes, perhaps with another grade or time of
+-- queueing
 abbrev pub IsThere : State → NewJob → ℕ → Type 0
 IsThere state new number = (job : Job) × (job_at state number ≡ Some job) × IsSameJob (job_of number new) job
 
--- an accepted command let it go: it was killed, or a call delivered it
-abbrev pub WasLetGo : State → List Command → ℕ → Type 0
-WasLetGo s counted number = (command : Command) × Contains (accepted_of s counted) command × (lets_go command number ≡ true)
+-- an accepted command removed it: it was killed, or a call delivered it, or its system had it
+abbrev pub WasLetGo : State → List Command → Job → Type 0
+WasLetGo s counted job = (command : Command) × Contains (accepted_of s counted) command × (lets_go command job ≡ true)
 
--- after these commands it is there unless it was let go, and no other job has its number
+-- after these commands it is there unless it was removed, and no other job has its number
 pub record IsAccountedFor (s : State) (counted : List Command) (new : NewJob) (number : ℕ) : Type 0 where
-  pub kept : IsThere (state_after s counted) new number ⊎ WasLetGo s counted number
+  pub kept : IsThere (state_after s counted) new number ⊎ WasLetGo s counted (job_of number new)
   pub alone : (job : Job) → Contains (state_after s counted).jobs job → job.number ≡ number → IsSameJob (job_of number new) job
 
--- what was found stores the state after the commands that count, and the job is accounted for by
--- these
+-- what was found stores the state after the commands that count, and these account for the job
 abbrev pub StoresJob : State → List Exchange → NewJob → ℕ → db.State → Type 0
 StoresJob s told new number found = (counted : List Command) × Passes s told counted × Rests found × Stores found.now (state_after s counted) × IsAccountedFor s counted new number
 
--- the spool shows the state after the commands that count, and the job is accounted for by these
+-- the spool shows the state after the commands that count, and these account for the job
 abbrev pub ShowsJob : {S : Type 0} {g : Ghosts S} → State → List Exchange → NewJob → ℕ → Spool S g → Type 0
 ShowsJob s told new number spool = (counted : List Command) × Passes s told counted × Shows spool (state_after s counted) × IsAccountedFor s counted new number
 
 -- ---- under a key
 
--- a job was handed in under the key, and the reply was this number
+-- a job was handed in under the key, and this number was the reply
 abbrev pub IsAcknowledgedUnder : List Exchange → Key → NewJob → ℕ → Type 0
 IsAcknowledgedUnder exchanges key new number = (it : Exchange) × Contains exchanges it × Contains (zip it.commands it.replies) (QueueOnce key new, Number number)
 
--- The key was kept with the number before the first of the commands. A job that was there under this
--- number is there, or an accepted command let it go.
+-- The key was kept with the number before the first of the commands. If a job was there under this
+-- number, it is there, or an accepted command removed it.
 pub record WasKept (s : State) (counted : List Command) (key : Key) (number : ℕ) : Type 0 where
   pub kept : IsKept s key number
-  pub job : (job : Job) → Contains s.jobs job → job.number ≡ number → IsAmong (state_after s counted).jobs job ⊎ WasLetGo s counted number
+  pub job : (job : Job) → Contains s.jobs job → job.number ≡ number → IsAmong (state_after s counted).jobs job ⊎ WasLetGo s counted job
 
--- The job of the number is the one that was handed in first under the key, mark and all, whichever
--- attempt the number was told to. It is accounted for by the commands that count, of which one
--- handed it in, unless the key was kept before them.
+-- The job of the number is the one that was handed in first under the key, with the same mark, even
+-- if a later attempt got the number. The commands that count account for it. One of them handed it
+-- in, unless the key was kept before them.
 abbrev pub IsAccountedForUnder : State → List Command → Key → ℕ → Type 0
 IsAccountedForUnder s counted key number =
     WasKept s counted key number ⊎ ((first : NewJob) × IsFirstUnder s counted key first number × IsAccountedFor s counted first number)
 
--- what was found stores the state after the commands that count, and the job under the key is
--- accounted for by these
+-- what was found stores the state after the commands that count, and these account for the job
+-- under the key
 abbrev pub StoresUnder : State → List Exchange → Key → ℕ → db.State → Type 0
 StoresUnder s told key number found = (counted : List Command) × Passes s told counted × Rests found × Stores found.now (state_after s counted) × IsAccountedForUnder s counted key number
 
--- the spool shows the state after the commands that count, and the job under the key is accounted
--- for by these
+-- the spool shows the state after the commands that count, and these account for the job under the
+-- key
 abbrev pub ShowsUnder : {S : Type 0} {g : Ghosts S} → State → List Exchange → Key → ℕ → Spool S g → Type 0
 ShowsUnder s told key number spool = (counted : List Command) × Passes s told counted × Shows spool (state_after s counted) × IsAccountedForUnder s counted key number

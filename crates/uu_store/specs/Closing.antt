@@ -1,5 +1,5 @@
 -- What a close of a spool's two files leaves.
-use Rattle.std.specs.Prelude.{◌≡◌, List, [], IsTrue, IfOk, IfErr, Option, Result, ⊤}
+use Rattle.std.specs.Prelude.{◌≡◌, ℕ, List, [], IsTrue, IfOk, IfErr, Option, Result, ⊤}
 use Rattle.sqlite_disk.specs.declared.Disk as disk
 use Rattle.sqlite_disk.specs.declared.Files.{Files}
 use Rattle.sqlite_disk.specs.Disk.{MoreFaults}
@@ -34,8 +34,8 @@ abbrev pub HoldsOneOf : (Trees → Type 0) → Image → Type 0
 HoldsOneOf could_leave image = ∥ ((trees : Trees) × could_leave trees × HoldsDatabase image trees) ∥₁
 
 -- The store that was let go has these files, and on a clean disk it is open, with a log of no
--- frames. While the disk returned what was written, a stop leaves files that hold a database which
--- it could leave before, and they keep the state that the spool showed, as they read now and as a
+-- frames. While the disk returned what was written, a stop leaves files with a database that it
+-- could leave before. The files keep the state that the spool showed, as they read now and as a
 -- stop leaves them.
 pub record IsClosed {D : Type 0} {g : disk.Ghosts D} (spool : Spool (FileStore D g) over_files) (files : Files D) : Type 0 where
   pub last : FileStore D g
@@ -47,29 +47,29 @@ pub record IsClosed {D : Type 0} {g : disk.Ghosts D} (spool : Spool (FileStore D
   pub now : AreClean g files.log files.db → (s : State) → Shows spool s → KeepsAlone (image_of g files) s
   pub stop : AreClean g files.log files.db → (s : State) → Shows spool s → (image : Image) → outcomes g files.log files.db image → KeepsAlone image s
 
--- a spool was given the commands, which ended so, and then its files were closed, or its store was
--- let go where that failed
-pub record IsRunAndClosed {D : Type 0} {g : disk.Ghosts D} (spool : Spool (FileStore D g) over_files) (commands : List Command) (replies : List Reply) (fault : Option StoreFault)
+-- a spool was given the commands, the last request having so many, with this end; then its files
+-- were closed, or its store was let go if that failed
+pub record IsRunAndClosed {D : Type 0} {g : disk.Ghosts D} (in_hand : ℕ) (spool : Spool (FileStore D g) over_files) (commands : List Command) (replies : List Reply) (fault : Option StoreFault)
     (close : Result (Files D) (StoreFault × FileStore D g)) : Type 0 where
   pub ended : Spool (FileStore D g) over_files
-  pub ran : Ran commands spool ended replies fault
+  pub ran : Ran in_hand commands spool ended replies fault
   pub closed : IfOk close (IsClosed ended)
   pub let_go : IfErr close (λ e. IsLetGo over_files (connection_of ended).store e.1)
 
--- Why a close failed: it tells of the disk only where that failed or refused a call meanwhile, and
--- nothing is too big. (Memory that was refused and a store that was shut are told as `Database`.)
+-- Why a close failed: its kind is `Disk` only if the disk failed or refused a call meanwhile, and
+-- never `Size`. (Out of memory and a store that was closed before are `Database`.)
 abbrev pub HasCause : {D : Type 0} {g : disk.Ghosts D} → StoreKind → FileStore D g → FileStore D g → Type 0
 HasCause part.Disk was last = MoreFaults (store.faults was) (store.faults last)
 HasCause part.Size was last = ⊥
 HasCause part.Database was last = ⊤
 
--- it has a cause, whatever the store was before: the disk failed or refused some call, and nothing
--- is too big
+-- it has a cause, for any store before: the disk failed or refused some call, and its kind is never
+-- `Size`
 abbrev pub HasSomeCause : {D : Type 0} {g : disk.Ghosts D} → StoreKind → FileStore D g → Type 0
 HasSomeCause {D} {g} kind last = (was : FileStore D g) × HasCause kind was last
 
--- which fault a close that fails after a run tells, by how the run ended: `Failed` exactly where
--- the store had failed in it, and else `Store`
+-- which fault a failed close gives after a run with this end: `Failed` exactly if the store failed
+-- in the run, and otherwise `Store`
 abbrev pub IsToldAfter : Option StoreFault → StoreFault → Type 0
 IsToldAfter stopped (Store kind) = GoesOn stopped
 IsToldAfter stopped Failed = ¬ GoesOn stopped

@@ -27,9 +27,10 @@ use Rattle.uu_store.specs.Spool.{connection_of}
 pub data End : Type 1 where
   -- no spool was started
   not_started : End
-  -- over what was opened a spool was started, which ran the commands, and its store was let go so
+  -- a spool over what was opened was started and ran the commands, and its store was let go in this
+  -- state
   let_go : (D : Type 0) (g : disk.Ghosts D) → Held (FileStore D g) → FileStore D g → End
-  -- the same, and its files were closed so
+  -- the same, and its files were closed in this state
   closed : (D : Type 0) (g : disk.Ghosts D) → Held (FileStore D g) → Files D → End
 
 -- the commands and the replies, the end, and what the files hold after the stop
@@ -55,7 +56,7 @@ pub record IsOverClosed {D : Type 0} {g : disk.Ghosts D} (before : Image) (excha
   pub clean : AreClean g files.log files.db
   pub may : outcomes g files.log files.db left
 
--- Where no spool was started, no command was given, and the files keep what they kept.
+-- If no spool was started, no command was given, and the files keep what they kept.
 abbrev pub Ended : Image → Exchange → Image → End → Type 0
 Ended before exchange left not_started = (exchange.replies ≡ []) × (exchange.ending ≡ none_given) × ((s : State) → ImageKeeps before s → ∥ ImageKeeps left s ∥₁)
 Ended before exchange left (let_go D g opened stopped) = IsOverFiles before exchange opened stopped left
@@ -80,8 +81,8 @@ file_exchanges stretches = map (λ (it : FileStretch). it.exchange) stretches
 abbrev pub KeepsAfter : State → List FileStretch → Image → Type 0
 KeepsAfter s stretches image = (counted : List Command) × Passes s (file_exchanges stretches) counted × ImageKeeps image (state_after s counted)
 
--- Before each of the stretches, and behind the last, the files keep the state after the commands
--- that count until then: one choice of what counts serves all of them.
+-- Before each of the stretches, and after the last, the files keep the state after the commands
+-- that count until then. One choice of what counts serves all of them.
 abbrev pub KeepsThroughout : State → Image → List FileStretch → List Command → Type 0
 KeepsThroughout s before [] counted = (counted ≡ []) × ImageKeeps before s
 KeepsThroughout s before (it ∷ more) counted =
@@ -90,34 +91,34 @@ KeepsThroughout s before (it ∷ more) counted =
 abbrev pub AllKeep : State → Image → List FileStretch → Type 0
 AllKeep s before stretches = (counted : List Command) × KeepsThroughout s before stretches counted
 
--- the files keep the state after the commands that count, and the job is accounted for by these
+-- the files keep the state after the commands that count, and these account for the job
 abbrev pub KeepsJob : State → List Exchange → NewJob → ℕ → Image → Type 0
 KeepsJob s told new number image = (counted : List Command) × Passes s told counted × ImageKeeps image (state_after s counted) × IsAccountedFor s counted new number
 
--- the same of the job under a key
+-- the same for the job under a key
 abbrev pub KeepsUnder : State → List Exchange → Key → ℕ → Image → Type 0
 KeepsUnder s told key number image = (counted : List Command) × Passes s told counted × ImageKeeps image (state_after s counted) × IsAccountedForUnder s counted key number
 
 -- ---- the stretches that calls make
 
--- A stretch of work over files that held this: this was asked and answered, and the store was let
--- go so.
+-- A stretch of work over files with these contents: this was asked and answered, and the store was
+-- let go in this state.
 pub record IsStretch {D : Type 0} {g : disk.Ghosts D} (before : Image) (exchange : Exchange) (stopped : FileStore D g) : Type 0 where
   pub opened : Held (FileStore D g)
   pub passed : IsClean (view stopped) → (left : Image) → (files_of stopped).may_leave left → IsOverFiles before exchange opened stopped left
 
--- the same, and the files were closed so
+-- the same, and the files were closed in this state
 pub record IsClosedStretch {D : Type 0} (g : disk.Ghosts D) (before : Image) (exchange : Exchange) (files : Files D) : Type 0 where
   pub opened : Held (FileStore D g)
   pub passed : AreClean g files.log files.db → (left : Image) → outcomes g files.log files.db left → IsOverClosed before exchange opened files left
 
--- each of them in a history, where this is left
+-- each of them in a history, if this is left
 abbrev pub let_go_after : {D : Type 0} {g : disk.Ghosts D} {before : Image} {exchange : Exchange} {stopped : FileStore D g} → IsStretch before exchange stopped → Image → FileStretch
 let_go_after {D} {g} {before} {exchange} {stopped} it left = record { exchange = exchange; end = let_go D g it.opened stopped; left = left }
 
 abbrev pub closed_after : {D : Type 0} {g : disk.Ghosts D} {before : Image} {exchange : Exchange} {files : Files D} → IsClosedStretch g before exchange files → Image → FileStretch
 closed_after {D} {g} {before} {exchange} {files} it left = record { exchange = exchange; end = closed D g it.opened files; left = left }
 
--- an opening that failed, and so these commands were not given
+-- an opening that failed, so these commands weren't given
 abbrev pub not_started_for : List Command → Image → FileStretch
 not_started_for commands left = record { exchange = not_given commands; end = not_started; left = left }

@@ -1,4 +1,4 @@
--- What is handed out of a job, and within which limits, whatever the store. (The limits are this
+-- What an answer gives of a job, and within which limits, on any store. (The limits are this
 -- project's choice.)
 use Rattle.std.specs.Prelude.{ℕ, ◌≤◌, Bool, true, false, ◌&&◌, nat_le, List, Vec, Option, Some, None, Result, Ok, Err}
 use Rattle.std.specs.declared.alloc.Global.{Global}
@@ -12,16 +12,16 @@ use Rattle.sqlite.specs.declared.error.Error.TheVariants.{QueryReturnedNoRows}
 abbrev pub job_with : JobHead → List ℕ → Job
 job_with head bytes = record { number = head.number; system = head.system; grade = head.grade; user = head.user; kind = head.kind; queued = head.queued; bytes = bytes }
 
--- a job as it is handed out
+-- a job as an answer gives it
 abbrev pub job_shown : JobHead × Vec ℕ Global → Job
 job_shown job = job_with job.0 job.1.items
 
--- within the limits that a report relies on
+-- within the limits on which a report relies
 pub record IsBounded (head : JobHead) : Type 0 where
   pub queued : head.queued ≤ last_second
   pub size : head.size ≤ most_bytes
 
--- the last call is within the moments
+-- the last call isn't after the last moment
 abbrev pub IsTimed : SystemRow → Type 0
 IsTimed row = row.call.last ≤ last_second
 
@@ -37,8 +37,7 @@ abbrev pub is_found_bounded : Option (JobHead × Vec ℕ Global) → Bool
 is_found_bounded None = true
 is_found_bounded (Some job) = is_bounded job.0
 
--- an answer within the limits is handed out as it is, and any other is a row that the format does
--- not allow
+-- an answer within the limits is given as it is; any other has a row that the format doesn't allow
 abbrev pub within_limits : {T : Type 0} → Bool → T → Result T Error
 within_limits true answer = Ok answer
 within_limits false answer = Err QueryReturnedNoRows

@@ -1,5 +1,5 @@
--- What is kept of a state: its tables, of any version, or no tables at all where the state is
--- that of an empty spool.
+-- How a state is kept: in its tables, of any version, or, if it is that of an empty spool, perhaps
+-- without any tables.
 use Rattle.std.specs.Prelude.{◌≡◌, ◌⊎◌}
 use Rattle.sqlite.specs.Tree.{Trees}
 use Rattle.sqlite.specs.Effect.{Database}
@@ -14,7 +14,7 @@ use Rattle.uu_schema.specs.Encoded.{EncodesAs, HoldsStateAs}
 abbrev pub Stores : Database → State → Type 0
 Stores database s = ((v : Version) × EncodesAs v database s) ⊎ (Stands no_schema database × (s ≡ empty))
 
--- the same of its trees alone, which are all that a stop leaves
+-- the same for its trees alone, which are all that a stop leaves
 abbrev pub Keeps : Trees → State → Type 0
 Keeps trees s = ((v : Version) × IsSound (site_of v) trees × HoldsStateAs v trees s) ⊎ (IsSound no_schema trees × (s ≡ empty))
 
@@ -22,6 +22,6 @@ Keeps trees s = ((v : Version) × IsSound (site_of v) trees × HoldsStateAs v tr
 abbrev pub KeepsOnly : (Trees → Type 0) → State → Type 0
 KeepsOnly could_leave s = (trees : Trees) → could_leave trees → Keeps trees s
 
--- each outcome keeps the one state or the other
+-- each outcome keeps one of the two states
 abbrev pub KeepsEither : (Trees → Type 0) → State → State → Type 0
 KeepsEither could_leave s t = (trees : Trees) → could_leave trees → Keeps trees s ⊎ Keeps trees t

@@ -1,5 +1,5 @@
--- Opening the two files of a spool: what they hold, what an opening finds in them, and what one
--- that failed leaves.
+-- Opening the two files of a spool: what they hold, what an opening finds in them, and what an
+-- opening that failed leaves.
 use Rattle.std.specs.Prelude.{◌≡◌, ◌≢◌, ◌⊎◌, ◌<◌, IsTrue, ⊤, Option, None, Some}
 use Rattle.sqlite_disk.specs.declared.Disk as disk
 use Rattle.sqlite_wal.specs.Recovery.{Image}
@@ -53,18 +53,18 @@ IsOpenable image = ((trees : Trees) × HoldsDatabase image trees) ⊎ IsNothing 
 abbrev pub HasSome : Schema → Type 0
 HasSome schema = (¬ HasNone schema) × (¬ HasEarlier schema)
 
--- the files hold this database, and it has some of the spool's tables, by their names, and not
--- those of an earlier version: so says each schema that fits it
+-- the files hold this database, and by their names it has some of the spool's tables, and not those
+-- of an earlier version, in each schema that fits it
 abbrev pub ImageHasSome : Image → Trees → Type 0
 ImageHasSome image trees = HoldsDatabase image trees × ((schema : Schema) → IsSound schema trees → HasSome schema)
 
--- the files hold a database in which a name of the spool's tables is taken, and no table tells a
--- version: so says each schema that fits it
+-- the files hold a database in which a name of the spool's tables is taken, and no table says a
+-- version, in each schema that fits it
 abbrev pub ImageHasUnversionedTables : Image → Type 0
 ImageHasUnversionedTables image = (trees : Trees) × HoldsDatabase image trees × ((schema : Schema) → IsSound schema trees → HasUnversionedTables schema)
 
--- where the files' database has any of the spool's tables, and not those of an earlier version,
--- whatever stands beside them, only this database may be left
+-- if the files' database has any of the spool's tables, and not those of an earlier version, with
+-- any other tables beside them, then only this database may be left
 abbrev pub LeavesSame : Image → (Trees → Type 0) → Type 0
 LeavesSame before could_leave = (trees : Trees) → ImageHasSome before trees → (left : Trees) → could_leave left → left ≡ trees
 
@@ -79,7 +79,7 @@ abbrev pub IsFoundIfClean : {S : Type 0} → Ghosts S → Image → Held S → T
 IsFoundIfClean g image opened = db.HasCleanDisk (state g opened) → IsFound image (state g opened)
 
 -- A spool over what an opening of these files found: a database with none of the spool's tables or
--- with all of a version, and of one with exactly these, the rows of a state.
+-- with all of a version. If it has exactly these, its rows are those of a state.
 pub record Started {S : Type 0} {g : Ghosts S} (image : Image) (spool : Spool S g) : Type 0 where
   pub opened : Held S
   pub found : IsFoundIfClean g image opened
@@ -91,29 +91,29 @@ pub record Started {S : Type 0} {g : Ghosts S} (image : Image) (spool : Spool S 
 abbrev pub WasStarted : {D : Type 0} → disk.Ghosts D → Image → Type 0
 WasStarted {D} g image = (begun : Spool (FileStore D g) over_files) × db.HasCleanDisk (state over_files (connection_of begun)) × Started image begun
 
--- a fault that says nothing of what the files hold
+-- a fault that says nothing about the contents of the files
 abbrev pub IsOfNoContents : StoreFault → Type 0
 IsOfNoContents fault = (fault ≢ Foreign) × (fault ≢ Newer)
 
--- whatever the files may hold then, they keep what these kept
+-- with any contents that the files may have then, they keep what these kept
 abbrev pub StaysKept : Image → (Image → Type 0) → Type 0
 StaysKept before may_hold = (s : State) → ImageKeeps before s → (image : Image) → may_hold image → ∥ ImageKeeps image s ∥₁
 
--- Of a database with exactly the tables of a version: it is called newer only where a row names a
--- later version, and foreign only where none does and no state has its rows.
+-- About a database with exactly the tables of a version: it is called newer only if a row names a
+-- later version, and foreign only if no row does and no state has its rows.
 abbrev pub IsToldRightly : Version → Trees → StoreFault → Type 0
 IsToldRightly v trees fault = (fault ≡ Newer → IsLater trees) × (fault ≡ Foreign → (¬ IsLater trees) × IsOfNone v trees)
 
--- It has some of the spool's tables, and so an opening that ends with this fault leaves it as it
--- was. (Where the store failed, those of an earlier version may have become those of version 3.)
+-- It has some of the spool's tables, so an opening that ends with this fault leaves it as it was.
+-- (If the store failed, those of an earlier version may have become those of version 3.)
 abbrev pub StaysAfter : StoreFault → Schema → Type 0
 StaysAfter (Store kind) schema = HasSome schema
 StaysAfter fault schema = ¬ HasNone schema
 
--- A database was opened and not taken as a spool, and its store was let go. One that stores a state
--- is not called foreign or newer, and one where a name of the spool's tables is taken and no table
--- tells a version is called foreign. A stop leaves one with any of the tables as it was, unless the
--- store failed as those of an earlier version were to become those of version 3.
+-- A database was opened and not taken as a spool, and its store was let go. If it stores a state,
+-- it isn't called foreign or newer. If a name of the spool's tables is taken and no table says a
+-- version, it is called foreign. A stop leaves a database with any of the tables as it was, unless
+-- the store failed while those of an earlier version were becoming those of version 3.
 pub record IsNotTaken {S : Type 0} (g : Ghosts S) (was : Held S) (stopped : S) (fault : StoreFault) : Type 0 where
   pub last : Held S
   pub turned_away : TurnedAway g was last
@@ -133,9 +133,9 @@ module _ {D : Type 0} {g : disk.Ghosts D} where
   may_be_left (left.Unopened files) = (state_of files).may_leave
   may_be_left (left.Store it) = (store.state it).may_leave
 
-  -- The opening took a database for what it is: pages that it says end in sums as such, and each
-  -- tree by its place in the list of objects. (The port does both, and states neither of an opening
-  -- that failed.)
+  -- The opening took a database for what it is: it knew whether the pages end in sums, and found
+  -- each tree by its place in the list of objects. (The port does both, but says neither for an
+  -- opening that failed.)
   abbrev pub IsTakenAsMade : Image → Leftover D g → Type 0
   IsTakenAsMade before (left.Files files) = ⊤
   IsTakenAsMade before (left.Unopened files) =
@@ -145,40 +145,41 @@ module _ {D : Type 0} {g : disk.Ghosts D} where
   abbrev pub remains_of : OpenFault D g → Remains D g
   remains_of it = it.remains
 
-  -- what an opening of the files left of them, once they were opened
+  -- what an opening of the files left of them, if it opened them
   abbrev pub remains_of_opening : Option (Leftover D g) → Remains D g
   remains_of_opening None = remains.Unopened
   remains_of_opening (Some it) = remains.Files it
 
-  -- While the disk returned what was written, a stop leaves files that keep what these kept; where
-  -- no database was opened in them, if they were taken as they were made. Of files that were not
-  -- opened nothing is said.
+  -- While the disk returned what was written, a stop leaves files that keep what these kept. If no
+  -- database was opened in them, this holds if they were taken as they were made. This says nothing
+  -- about files that weren't opened.
   abbrev pub LeavesAsKept : Image → Remains D g → Type 0
   LeavesAsKept before remains.Unopened = ⊤
   LeavesAsKept before (remains.Files it) = IsCleanLeft it → IsTakenAsMade before it → StaysKept before (may_be_left it)
   LeavesAsKept before (remains.Store it) = IsTrue (store.view it).is_clean → StaysKept before (store.state it).may_leave
 
-  -- A database that was opened and not taken, and has any of the spool's tables, stays what it was:
-  -- so of another program's, or a later version's. (Where the store failed, one that has those of
-  -- an earlier version is left out.)
+  -- A database that was opened and not taken, and has any of the spool's tables, stays what it was.
+  -- So another program's does, or a later version's. (This isn't said of tables of an earlier
+  -- version if the store failed.)
   abbrev pub LeavesAlone : Image → StoreFault → Remains D g → Type 0
   LeavesAlone before fault remains.Unopened = ⊤
   LeavesAlone before fault (remains.Files it) = ⊤
   LeavesAlone before fault (remains.Store it) =
       IsTrue (store.view it).is_clean → (trees : Trees) → HoldsDatabase before trees → ((schema : Schema) → IsSound schema trees → StaysAfter fault schema) → (image : Image) → (store.state it).may_leave image → ∥ HoldsDatabase image trees ∥₁
 
-  -- Why no database was opened in files that hold this: it is none, the disk failed or refused a
-  -- call, or a file is as long as it can be; and nothing is too big.
+  -- Why no database was opened in files with these contents: they aren't a database, the disk
+  -- failed or refused a call, or a file is as long as it can be. The kind is never `Size`.
   abbrev pub HasOpeningCause : Image → StoreKind → Leftover D g → Type 0
   HasOpeningCause before kind.Disk it = (¬ IsOpenable before) ⊎ ((0 < faults_left it) ⊎ IsFullLeft it)
   HasOpeningCause before kind.Size it = ⊥
   HasOpeningCause before kind.Database it = ¬ IsOpenable before
 
-  -- The fault is right for what the files held: only a database that was opened is called foreign
-  -- or newer, and none that keeps a state, nor files that held nothing; one where a name of the
-  -- spool's tables is taken and no table tells a version is called foreign, and one with exactly
-  -- the tables rightly. Where no database was opened, a fault of the store has a cause. Files that
-  -- were not opened were refused by the system, or there was no memory.
+  -- The fault is right for the contents of the files. Only a database that was opened is called
+  -- foreign or newer, and never one that keeps a state, nor files that held nothing. A database is
+  -- called foreign if a name of the spool's tables is taken and no table says a version. If it has
+  -- exactly the tables of a version, the fault is right for their rows. If no database was opened,
+  -- a fault of the store has a cause. If the files weren't opened, the system refused them, or
+  -- memory ran out.
   abbrev pub IsRightFault : Image → StoreFault → Remains D g → Type 0
   IsRightFault before fault remains.Unopened = (fault ≡ Memory) ⊎ (fault ≡ Store Database)
   IsRightFault before fault (remains.Files it) = IsOfNoContents fault × (IsCleanLeft it → (which : StoreKind) → fault ≡ Store which → HasOpeningCause before which it)

@@ -1,4 +1,4 @@
--- What a spool shows of all that it was told before, over any stretches of work.
+-- What a spool shows of everything before it, over any stretches of work.
 use Rattle.std.specs.Prelude.{ℕ, List}
 use Rattle.sqlite.specs.Store.{Ghosts}
 use Rattle.sqlite.specs.Held.{Held}
@@ -11,9 +11,10 @@ use Rattle.uu_store.specs.Spool.{disk}
 use Rattle.uu_store.specs.Stretches.{StretchOver, Led, ShowsAfter, told}
 use Rattle.uu_store.specs.Acknowledged.{IsAcknowledged, IsAcknowledgedUnder, ShowsJob, ShowsUnder}
 
--- Whatever stretches led to the connection that it was made of, it shows the state after every
--- command that was answered, and at most one more of each stretch in which the store failed, and
--- each job whose number was told, also under a key, unless an accepted command let it go.
+-- Any stretches may have led to the connection from which the spool was made. It shows the state
+-- after every command that was answered. For each stretch in which the store failed, at most the
+-- request in hand counts too, whole. It shows each acknowledged job, also under a key, unless an
+-- accepted command removed it.
 pub record Remembers {S : Type 0} {g : Ghosts S} (found : Held S) (spool : Spool S g) : Type 0 where
   pub commands : db.HasCleanDisk (disk spool) → (s : State) (before : Held S) (stretches : List (StretchOver S)) → Led g s before stretches found → ∥ ShowsAfter s (told g stretches) spool ∥₁
   pub jobs : db.HasCleanDisk (disk spool) → (s : State) (before : Held S) (stretches : List (StretchOver S)) → Led g s before stretches found

@@ -1,6 +1,7 @@
--- What a run of commands over a spool did: a list that was given one after the other, until one was
--- not answered.
-use Rattle.std.specs.Prelude.{◌≡◌, ◌≤◌, ◌+◌, List, [], ◌∷◌, length, take, Option, Some, None, Result, Ok, Err, ⊤}
+-- What a run of commands over a spool did: a list that was given request by request, until one
+-- wasn't answered. A request is one command, or the commands of a bundle, which are done as one.
+use Rattle.std.specs.declared.alloc.Global.{Global}
+use Rattle.std.specs.Prelude.{◌≡◌, ◌⊎◌, ◌≤◌, ◌+◌, ℕ, List, [], ◌∷◌, length, take, Option, Some, None, Vec, Result, Ok, Err, ⊤}
 use Rattle.sqlite.specs.Store.{Ghosts}
 use Rattle.sqlite.specs.State as db
 use Rattle.uu_core.specs.declared.command.Command.{Command}
@@ -14,7 +15,7 @@ use Rattle.uu_schema.specs.Steps.{StaysUnclean}
 use Rattle.uu_schema.specs.Encoded.{Leaves, LeavesEither}
 use Rattle.uu_store.specs.Spool.{disk, Shows}
 
--- the run ended by itself or for want of memory, so that the spool can be used
+-- the run ended by itself or because memory ran out, so the spool can be used
 abbrev pub GoesOn : Option StoreFault → Type 0
 GoesOn None = ⊤
 GoesOn (Some Memory) = ⊤
@@ -23,30 +24,36 @@ GoesOn (Some Failed) = ⊥
 GoesOn (Some Foreign) = ⊥
 GoesOn (Some Newer) = ⊥
 
--- the commands that were answered, by these replies: as many of the first
+-- the commands with these replies: as many of the first ones as there are replies
 abbrev pub answered : List Reply → List Command → List Command
 answered replies commands = take (length replies) commands
 
--- What a run did where the spool showed a state: the commands that were answered were steps of the
+-- What a run did if the spool showed a state: the commands that were answered were steps of the
 -- machine, and the replies are its replies. The spool shows the state after them, and a stop leaves
--- that; where the store failed, that or the state after one more command.
-pub record RanFrom {S : Type 0} {g : Ghosts S} (s : State) (commands : List Command) (new : Spool S g) (replies : List Reply) (stopped : Option StoreFault) : Type 0 where
+-- that. If the store failed, a stop leaves that, or the state after the whole request in hand,
+-- which has the next `in_hand` commands.
+pub record RanFrom {S : Type 0} {g : Ghosts S} (in_hand : ℕ) (s : State) (commands : List Command) (new : Spool S g) (replies : List Reply) (stopped : Option StoreFault) : Type 0 where
   pub answers : replies ≡ replies_to s (answered replies commands)
   pub shows : GoesOn stopped → Shows new (state_after s (answered replies commands))
   pub stop : GoesOn stopped → Leaves (disk new) (state_after s (answered replies commands))
-  pub stop_store : LeavesEither (disk new) (state_after s (answered replies commands)) (state_after s (take (length replies + 1) commands))
+  pub stop_store : LeavesEither (disk new) (state_after s (answered replies commands)) (state_after s (take (length replies + in_hand) commands))
 
--- what a run did, for each state that the spool may have shown
-pub record Ran {S : Type 0} {g : Ghosts S} (commands : List Command) (old new : Spool S g) (replies : List Reply) (stopped : Option StoreFault) : Type 0 where
-  pub within : length replies ≤ length commands
-  pub from : db.HasCleanDisk (disk new) → (s : State) → Shows old s → RanFrom s commands new replies stopped
+-- What a run did, for each state that the spool may have shown. Every command was answered, or the
+-- request in hand is among those that weren't.
+pub record Ran {S : Type 0} {g : Ghosts S} (in_hand : ℕ) (commands : List Command) (old new : Spool S g) (replies : List Reply) (stopped : Option StoreFault) : Type 0 where
+  pub within : (length replies ≡ length commands) ⊎ (length replies + in_hand ≤ length commands)
+  pub from : db.HasCleanDisk (disk new) → (s : State) → Shows old s → RanFrom in_hand s commands new replies stopped
   pub clean : StaysUnclean (disk old) (disk new)
 
--- ---- one call as a run: a command alone, or a question, which is a run of no command
+-- ---- one call as a run: one command, a bundle, or a question, which is a run of no command
 
 abbrev pub reply_in : Result Reply StoreFault → List Reply
 reply_in (Ok reply) = reply ∷ []
 reply_in (Err fault) = []
+
+abbrev pub replies_in : Result (Vec Reply Global) StoreFault → List Reply
+replies_in (Ok replies) = replies.items
+replies_in (Err fault) = []
 
 abbrev pub fault_in : {T : Type 0} → Result T StoreFault → Option StoreFault
 fault_in (Ok answer) = None

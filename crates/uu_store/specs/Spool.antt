@@ -19,7 +19,7 @@ connection_of spool = spool.conn
 abbrev pub disk : {S : Type 0} {g : Ghosts S} → Spool S g → db.State
 disk {g} spool = state g (connection_of spool)
 
--- which part of the store failed, once a call answered that it did
+-- which part of the store failed, once a call answered that it failed
 abbrev pub failure_of : {S : Type 0} {g : Ghosts S} → Spool S g → Option StoreKind
 failure_of spool = spool.failure
 
@@ -33,7 +33,8 @@ pub record Shows {S : Type 0} {g : Ghosts S} (spool : Spool S g) (s : State) : T
   pub rests : Rests (disk spool)
   pub encodes : Encodes (disk spool).now s
 
--- which fault a call gives, by whether the spool had failed before and has afterwards
+-- which fault a call gives, depending on whether the spool had failed before and has failed
+-- afterwards
 abbrev pub IsFaultBetween : Bool → Bool → StoreFault → Type 0
 IsFaultBetween before afterwards Memory = (before ≡ false) × (afterwards ≡ false)
 IsFaultBetween before afterwards (Store kind) = (before ≡ false) × (afterwards ≡ true)
@@ -41,7 +42,7 @@ IsFaultBetween before afterwards Failed = (before ≡ true) × (afterwards ≡ t
 IsFaultBetween before afterwards Foreign = ⊥
 IsFaultBetween before afterwards Newer = ⊥
 
--- a fault of the store is kept, of the kind that it was told to be
+-- a fault of the store is noted, with its kind
 abbrev pub Notes : Option StoreKind → StoreFault → Type 0
 Notes failure (Store kind) = failure ≡ Some kind
 Notes failure Memory = ⊤

@@ -1,6 +1,6 @@
 -- Stretches of work over a store: each from an opening to a stop, and the next opening finds what
 -- that stop may have left.
-use Rattle.std.specs.Prelude.{◌≡◌, ◌⊎◌, ◌≤◌, IsTrue, List, [], ◌∷◌, ◌++◌, map, Option}
+use Rattle.std.specs.Prelude.{◌≡◌, ◌⊎◌, ◌≤◌, ℕ, IsTrue, List, [], ◌∷◌, ◌++◌, map, Option}
 use Rattle.sqlite.specs.Tree.{Trees}
 use Rattle.sqlite.specs.Store.{Ghosts}
 use Rattle.sqlite.specs.Held.{Held, state}
@@ -26,7 +26,7 @@ pub record Adopted {S : Type 0} {g : Ghosts S} (was : Held S) (spool : Spool S g
   pub shows : db.HasCleanDisk (disk spool) → (s : State) → Rests (state g was) → Stores (state g was).now s → Shows spool s
   pub clean : StaysUnclean (state g was) (disk spool)
 
--- A database was not taken as a spool, or the store failed meanwhile: a stop leaves what keeps the
+-- A database wasn't taken as a spool, or the store failed meanwhile: a stop leaves what keeps the
 -- state.
 pub record TurnedAway {S : Type 0} (g : Ghosts S) (was now : Held S) : Type 0 where
   pub stop : db.HasCleanDisk (state g now) → (s : State) → Rests (state g was) → Stores (state g was).now s → KeepsOnly (state g now).may_leave s
@@ -39,10 +39,11 @@ pub record IsLetGo {S : Type 0} (g : Ghosts S) (last stopped : S) : Type 0 where
 
 -- ---- a run and what follows it
 
--- a spool was given the commands, which ended so, and then its store was let go
-pub record IsRunAndLetGo {S : Type 0} {g : Ghosts S} (spool : Spool S g) (commands : List Command) (replies : List Reply) (fault : Option StoreFault) (stopped : S) : Type 0 where
+-- a spool was given the commands, the last request having so many, with this end; then its store
+-- was let go
+pub record IsRunAndLetGo {S : Type 0} {g : Ghosts S} (in_hand : ℕ) (spool : Spool S g) (commands : List Command) (replies : List Reply) (fault : Option StoreFault) (stopped : S) : Type 0 where
   pub ended : Spool S g
-  pub ran : Ran commands spool ended replies fault
+  pub ran : Ran in_hand commands spool ended replies fault
   pub let_go : IsLetGo g (connection_of ended).store stopped
   pub numbered : IsClean (g.view stopped) → IsTrue (g.view stopped).is_numbered
 
@@ -66,17 +67,17 @@ left_by it = it.store.recovers it.stopped
 abbrev pub stretch : {S : Type 0} → Ghosts S → Held S → Exchange → S → Stretch
 stretch {S} g opened exchange stopped = record { S = S; store = g; opened = opened; exchange = exchange; stopped = stopped }
 
--- the database was taken as a spool, which ran the commands and ended so
+-- the database was taken as a spool, which ran the commands with this end
 pub record Worked (it : Stretch) : Type 0 where
   pub begun : Spool it.S it.store
   pub ended : Spool it.S it.store
   pub fault : Option StoreFault
   pub ending : it.exchange.ending ≡ given fault
   pub adopted : Adopted it.opened begun
-  pub ran : Ran it.exchange.commands begun ended it.exchange.replies fault
+  pub ran : Ran it.exchange.in_hand it.exchange.commands begun ended it.exchange.replies fault
   pub let_go : IsLetGo it.store (connection_of ended).store it.stopped
 
--- the database was not taken as a spool, and no command was given
+-- the database wasn't taken as a spool, and no command was given
 pub record Unworked (it : Stretch) : Type 0 where
   pub last : Held it.S
   pub turned_away : TurnedAway it.store it.opened last
@@ -84,7 +85,7 @@ pub record Unworked (it : Stretch) : Type 0 where
   pub ending : it.exchange.ending ≡ none_given
   pub let_go : IsLetGo it.store last.store it.stopped
 
--- The database was taken and the commands were run, or it was not taken. Until the stop the disk
+-- The database was taken and the commands were run, or it wasn't taken. Until the stop the disk
 -- returned what was written.
 pub record Passed (it : Stretch) : Type 0 where
   pub work : Worked it ⊎ Unworked it
@@ -98,8 +99,8 @@ pub record Reopens (could_leave : Trees → Type 0) (found : db.State) : Type 0 
   pub live : db.IsLive found
   pub left : ∥ could_leave found.now.trees ∥₁
 
--- From what could be left before them to what an opening after the last one finds. Nobody else
--- writes: each opening finds what the stop before it could leave.
+-- The stretches lead from what could be left before them to what an opening after the last one
+-- finds. Nobody else writes: each opening finds what the stop before it could leave.
 abbrev pub LeadTo : (Trees → Type 0) → List Stretch → db.State → Type 0
 LeadTo could_leave [] found = Reopens could_leave found
 LeadTo could_leave (it ∷ more) found = Reopens could_leave (opened_as it) × Passed it × LeadTo (left_by it) more found
@@ -112,7 +113,7 @@ abbrev pub StoresAfter : State → List Exchange → db.State → Type 0
 StoresAfter s exchanges found = (counted : List Command) × Passes s exchanges counted × Rests found × Stores found.now (state_after s counted)
 
 -- Each opening on the way, and the last one, found the state after the commands that count until
--- then: one choice of what counts serves all of them.
+-- then. One choice of what counts serves all of them.
 abbrev pub StoresThroughout : State → List Stretch → db.State → List Command → Type 0
 StoresThroughout s [] found counted = (counted ≡ []) × Rests found × Stores found.now s
 StoresThroughout s (it ∷ more) found counted =

@@ -1,4 +1,4 @@
--- What taking a database as a spool comes to.
+-- The result of taking a database as a spool.
 use Rattle.std.specs.Prelude.{◌≡◌}
 use Rattle.sqlite.specs.Tree.{Trees}
 use Rattle.sqlite.specs.Store.{Ghosts}
@@ -20,38 +20,39 @@ use Rattle.uu_store.specs.Openings.{IsOfNoContents}
 use Rattle.uu_store.specs.Spool.{disk}
 use Rattle.uu_store.specs.Stretches.{Adopted, TurnedAway}
 
--- what the connection shows that comes back
+-- what the connection that comes back shows
 abbrev pub disk_back : {S : Type 0} {g : Ghosts S} → AdoptFault S g → db.State
 disk_back {S} {g} fault = state g fault.conn
 
 module _ {S : Type 0} {g : Ghosts S} (was : Held S) where
   -- A database was taken as a spool.
   pub record IsTaken (spool : Spool S g) : Type 0 where
-    -- one that encodes a state is taken with it, and an empty one becomes an empty spool; one that
-    -- encodes no state isn't taken
+    -- a database that encodes a state is taken with it, and an empty one becomes an empty spool;
+    -- one that encodes no state isn't taken
     pub adopted : Adopted was spool
     pub encoded_before : (v : Version) → HasCleanDisk (disk spool) → Stands (site_of v) (state g was).now → (s : State) × EncodesAs v (state g was).now s
     -- it had none of the spool's tables, or all of a version
     pub taken_by_tables : HasNoneOrAll (state g was).now.schema
-    -- a stop at its end leaves the state in version 3 alone, and of an empty one an empty spool
+    -- a stop at its end leaves only the state in version 3, or, if the database was empty, an empty
+    -- spool
     pub stop_when_taken : HasCleanDisk (disk spool) → Rests (state g was) → StopsAs (state g was) (disk spool)
     pub stop_when_created : HasCleanDisk (disk spool) → Rests (state g was) → Stands no_schema (state g was).now → Leaves (disk spool) empty
     pub stop_when_migrated : HasCleanDisk (disk spool) → Rests (state g was) → (v : Version) → IsEarlier v → (s : State) → EncodesAs v (state g was).now s → Leaves (disk spool) s
 
-  -- A database was not taken as a spool, and the connection comes back.
+  -- A database wasn't taken as a spool, and the connection comes back.
   pub record IsHandedBack (back : AdoptFault S g) : Type 0 where
-    -- a spool is never refused by name, and neither is a database that has none of the tables
+    -- a spool is never foreign or newer, and neither is a database that has none of the tables
     pub spool_never_refused : HasCleanDisk (disk_back back) → (v : Version) (s : State) → EncodesAs v (state g was).now s → IsOfNoContents back.fault
     pub empty_never_refused : HasNone (state g was).now.schema → IsOfNoContents back.fault
-    -- of a database that has the tables of a version, a refusal by name tells why
+    -- if a database has the tables of a version, `Foreign` and `Newer` say why it was refused
     pub foreign_encodes_no_state : HasCleanDisk (disk_back back) → (v : Version) → Stands (site_of v) (state g was).now → back.fault ≡ Foreign → (¬ IsLater (state g was).now.trees) × ((s : State) → ¬ EncodesAs v (state g was).now s)
     pub newer_names_a_later_version : HasCleanDisk (disk_back back) → (v : Version) → Stands (site_of v) (state g was).now → back.fault ≡ Newer → IsLater (state g was).now.trees
-    -- a refusal leaves it as it was, also where the tables are of another shape or others stand
-    -- beside them
+    -- a refusal leaves it as it was, even if the tables have another shape or others are beside
+    -- them
     pub refusal_changes_nothing : HasCleanDisk (disk_back back) → Rests (state g was) → UnlessFailed back.fault (IsAsBefore (state g was) (disk_back back))
-    -- a stop at its end leaves the state that was encoded, of an earlier version in that or in
-    -- version 3, and of an empty one nothing or an empty spool; after a refusal what was there,
-    -- unless the store failed
+    -- A stop at its end leaves the state that was encoded, one of an earlier version in that
+    -- version or in version 3. An empty database is left empty or as an empty spool. After a
+    -- refusal a stop leaves what was there, unless the store failed.
     pub stop_when_turned_away : HasCleanDisk (disk_back back) → Rests (state g was) → StopsAs (state g was) (disk_back back)
     pub stop_when_refused : HasCleanDisk (disk_back back) → Rests (state g was) → UnlessFailed back.fault ((trees : Trees) → (disk_back back).may_leave trees → trees ≡ (state g was).now.trees)
     pub turned_away : TurnedAway g was back.conn

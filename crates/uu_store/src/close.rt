@@ -14,15 +14,15 @@ use sqlite_disk::Disk;
 use uu_schema::{StoreFault, kind_of};
 
 impl<D: Disk + Drop> Spool<FileStore<D>> {
-    /// Copies the log into the database file, empties the log, and gives the two files back. A stop
-    /// at its end, whatever it answers, leaves nothing that it could not leave before; once the
-    /// files are closed they keep what the spool showed, and so does the database file alone.
+    /// Copies the log into the database file, empties the log, and gives the two files back. With
+    /// any answer, a stop at its end leaves nothing that it could not leave before. Once the files
+    /// are closed they keep what the spool showed, and so does the database file alone.
     ///
     /// # Errors
-    /// With the store as it was let go: `Failed` where the store failed before, and nothing is
-    /// copied then; else `Store`. On a clean disk that is of kind `Disk` only where the disk failed
-    /// or refused a call meanwhile, and never of kind `Size`; want of memory, and a store that was
-    /// shut before, are of kind `Database`.
+    /// With the store as it was let go. `Failed` if the store failed before; then nothing is
+    /// copied. Otherwise `Store`. On a clean disk its kind is `Disk` only if the disk failed or
+    /// refused a call meanwhile, and never `Size`. If memory runs out, or the store was closed
+    /// before, its kind is `Database`.
     pub fn close(self) -> Result<Files<D>, (StoreFault, FileStore<D>)>
         ensures closed { IfOk result (IsClosed self) }
         ensures let_go { IfErr result (λ e. IsLetGo over_files (connection_of self).store e.1) }

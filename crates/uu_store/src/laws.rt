@@ -48,8 +48,8 @@ use uu_core::laws::{
     numbers_are_not_used_again, runs_follow_one_another, states_stay_well_formed,
 };
 
-/// A database encodes at most one state, by the tables of at most one version: whatever a call says
-/// of the state that is shown, it says of one alone.
+/// A database encodes at most one state, by the tables of at most one version. So whatever a call
+/// says about the state that is shown, it says about one state only.
 pub fn one_database_has_one_state()
     ensures { (v w : Version) (trees : Trees) (one other : State) → HoldsStateAs v trees one → HoldsStateAs w trees other → one ≡ other }
 {
@@ -58,30 +58,32 @@ pub fn one_database_has_one_state()
     tables_tell_the_state();
 }
 
-/// A database of version 1 has no success waits: each of the state that it encodes is 0.
+/// A database of version 1 has no success waits: in the state that it encodes, each is 0.
 pub fn version_one_has_no_success_waits()
     ensures { (database : Database) (s : State) → EncodesAs First database s → AllByRecursion (λ (row : SystemRow). row.def.success_wait ≡ 0) s.systems }
 {}
 
-/// A database of an earlier version keeps nothing of links, and neither does the state that it
-/// encodes.
+/// A database of an earlier version keeps no links, and neither does the state that it encodes.
 pub fn earlier_versions_have_no_links()
     ensures { (v : Version) (database : Database) (s : State) → IsEarlier v → EncodesAs v database s → s.links ≡ [] }
 {}
 
-/// Where every command of a run was answered, it and the next run are one run of all the commands.
-/// (A question is a run of none.) A run that ended for want of memory is one of the commands that
-/// were answered.
+/// If every command of a run was answered, it and the next run are one run of all the commands. (A
+/// question is a run of no command.) The request in hand is then that of the next run. A run that
+/// ended by itself, or because memory ran out, is a run of the commands that were answered. If all
+/// were answered, no request is in hand, so its length may be given as any number of commands.
 pub fn runs_are_one_run<S: Alter>()
-    ensures joined { (old mid new : Spool S S.Store) (one other : List Command) (first second : List Reply) (was stopped : Option StoreFault)
-        → length first ≡ length one → GoesOn was → Ran one old mid first was → Ran other mid new second stopped → Ran (one ++ other) old new (first ++ second) stopped }
-    ensures answered { (old new : Spool S S.Store) (commands : List Command) (replies : List Reply) (was : Option StoreFault)
-        → GoesOn was → Ran commands old new replies was → Ran (take (length replies) commands) old new replies None }
+    ensures joined { (first_hand in_hand : ℕ) (old mid new : Spool S S.Store) (one other : List Command) (first second : List Reply) (was stopped : Option StoreFault)
+        → length first ≡ length one → GoesOn was → Ran first_hand one old mid first was → Ran in_hand other mid new second stopped → Ran in_hand (one ++ other) old new (first ++ second) stopped }
+    ensures answered { (in_hand : ℕ) (old new : Spool S S.Store) (commands : List Command) (replies : List Reply) (was : Option StoreFault)
+        → GoesOn was → Ran in_hand commands old new replies was → Ran in_hand (take (length replies) commands) old new replies None }
+    ensures any_hand { (in_hand other : ℕ) (old new : Spool S S.Store) (commands : List Command) (replies : List Reply) (stopped : Option StoreFault)
+        → length replies ≡ length commands → GoesOn stopped → Ran in_hand commands old new replies stopped → Ran other commands old new replies stopped }
 {
     runs_follow_one_another();
 }
 
-/// A connection at rest leaves what it stores, and an opening after a stop may find it as it is.
+/// A connection at rest leaves what it stores, and an opening after a stop may find it unchanged.
 pub fn a_store_at_rest_leaves_what_it_stores<S: Alter>()
     ensures left { (held : Held S) (s : State) → Rests (state S.Store held) → Stores (state S.Store held).now s → KeepsOnly (state S.Store held).may_leave s }
     ensures again { (held : Held S) → Rests (state S.Store held) → IsLive (state S.Store held) → Reopens (state S.Store held).may_leave (state S.Store held) }
@@ -97,12 +99,15 @@ pub trait History {
     ghost found: { db.State };
 }
 
-/// Whatever commands a spool is given, over any stretches, and wherever each of them is stopped:
-/// what is found then stores exactly the state that the machine reaches by the commands that count.
-/// Of each stretch these are a prefix, with every command that was answered, as it was answered,
-/// and where the store failed at most one more; and each opening on the way found what counts until
-/// then (`throughout`). A job whose number was told is there, unless an accepted command let it go;
-/// where it was told to a key, that is so of the job that was handed in first under it (`keys`).
+/// A spool gets any commands and bundles, over any stretches, and each stretch is stopped at any
+/// point. What is found then stores exactly the state that the machine reaches by the commands that
+/// count. In each stretch these are a prefix of its commands, with every command that was answered,
+/// and with the same replies. If the store failed, at most the request in hand counts too, whole:
+/// one command, or all those of a bundle.
+///
+/// Each opening on the way found what counts until then (`throughout`). An acknowledged job is
+/// there, unless an accepted command removed it. If its number was given to a key, this holds of
+/// the job that was handed in first under the key (`keys`).
 pub fn no_answered_command_is_lost<H: History>()
     ensures commands { (s : State) → KeepsOnly H.before s → LeadTo H.before H.stretches H.found → ∥ StoresAfter s (exchanges H.stretches) H.found ∥₁ }
     ensures jobs { (s : State) (new : NewJob) (number : ℕ) → KeepsOnly H.before s → LeadTo H.before H.stretches H.found
@@ -116,8 +121,8 @@ pub fn no_answered_command_is_lost<H: History>()
     acknowledged_jobs_are_accounted_for();
 }
 
-/// What [`no_answered_command_is_lost`] says, of stretches over a store of one kind: they are
-/// values there, and need no trait.
+/// What [`no_answered_command_is_lost`] says, for stretches over a store of one kind. Here they are
+/// values, and need no trait.
 pub fn no_answered_command_is_lost_over<S: Alter>()
     ensures commands { (s : State) (before : Held S) (stretches : List (StretchOver S)) (found : Held S)
         → Led S.Store s before stretches found → ∥ StoresAfter s (told S.Store stretches) (state S.Store found) ∥₁ }
@@ -133,9 +138,9 @@ pub fn no_answered_command_is_lost_over<S: Alter>()
     acknowledged_jobs_are_accounted_for();
 }
 
-/// A job whose number was told is there with all its bytes after the commands that count, until an
-/// accepted one kills it or delivers it, and no other job has its number. Where the number was told
-/// to a key, in the first attempt or a later one, that is so of the job that was handed in first
+/// After the commands that count, an acknowledged job is there with all its bytes, until an
+/// accepted one kills it or delivers it, and no other job has its number. If the number was given
+/// to a key, in the first attempt or a later one, this holds of the job that was handed in first
 /// under the key.
 pub fn acknowledged_jobs_are_accounted_for()
     ensures plain { (s : State) (told : List Exchange) (counted : List Command) (new : NewJob) (number : ℕ)
@@ -150,7 +155,7 @@ pub fn acknowledged_jobs_are_accounted_for()
     keys_are_answered_again();
 }
 
-/// Stretches of work over the two files of a spool that follow one another, and what the files held
+/// Stretches of work over the two files of a spool that follow one another, and what the files had
 /// before the first.
 pub trait FileHistory {
     ghost before: { Image };
@@ -158,14 +163,15 @@ pub trait FileHistory {
     ghost stretches: { List FileStretch };
 }
 
-/// Whatever commands a spool over files is given, over any stretches, and wherever each of them is
-/// stopped, also within its opening: the files keep exactly the state that the machine reaches by
-/// the commands that count. Of each stretch these are a prefix, with every command that was
-/// answered, as it was answered, and where the store failed at most one more.
+/// A spool over files gets any commands and bundles, over any stretches, and each stretch is
+/// stopped at any point, even while it is opened. The files keep exactly the state that the machine
+/// reaches by the commands that count. In each stretch these are a prefix of its commands, with
+/// every command that was answered, and with the same replies. If the store failed, at most the
+/// request in hand counts too, whole: one command, or all those of a bundle.
 pub fn no_answered_command_is_lost_in_files<H: FileHistory>()
     ensures commands { (s : State) → ImageKeeps H.before s → AllFilesPassed H.before H.stretches → ∥ KeepsAfter s H.stretches (last_left H.before H.stretches) ∥₁ }
 
-    // A job whose number was told is accounted for by the commands that count.
+    // The commands that count account for each acknowledged job.
     ensures jobs { (s : State) (new : NewJob) (number : ℕ) → ImageKeeps H.before s → AllFilesPassed H.before H.stretches
         → IsAcknowledged (file_exchanges H.stretches) new number → ∥ KeepsJob s (file_exchanges H.stretches) new number (last_left H.before H.stretches) ∥₁ }
     ensures keys { (s : State) (key : Key) (new : NewJob) (number : ℕ) → ImageKeeps H.before s → AllFilesPassed H.before H.stretches
@@ -179,21 +185,21 @@ pub fn no_answered_command_is_lost_in_files<H: FileHistory>()
     acknowledged_jobs_are_accounted_for();
 }
 
-/// Whatever commands and questions a spool in files that were opened is given, they are a stretch
-/// of work once its store is let go, or its files are closed: what [`crate::work`] says of its
-/// calls holds of any.
+/// A spool over opened files gets any commands, bundles and questions. Once its store is let go, or
+/// its files are closed, they are a stretch of work, and what [`crate::work`] says about its calls
+/// holds of any calls.
 pub fn calls_make_a_stretch<D: Disk>()
-    ensures let_go { (before : Image) (commands : List Command) (begun ended : Spool (FileStore D D.Disk) over_files) (replies : List Reply) (stopped : Option StoreFault) (store : FileStore D D.Disk)
-        → Started before begun → Ran commands begun ended replies stopped → IsLetGo over_files (connection_of ended).store store
-        → (IsClean (view store) → IsTrue (view store).is_numbered) → IsStretch before (exchange_of commands replies stopped) store }
-    ensures closed { (before : Image) (commands : List Command) (begun ended : Spool (FileStore D D.Disk) over_files) (replies : List Reply) (stopped : Option StoreFault) (files : Files D)
-        → Started before begun → Ran commands begun ended replies stopped → IsClosed ended files
-        → IsClosedStretch D.Disk before (exchange_of commands replies stopped) files }
+    ensures let_go { (in_hand : ℕ) (before : Image) (commands : List Command) (begun ended : Spool (FileStore D D.Disk) over_files) (replies : List Reply) (stopped : Option StoreFault) (store : FileStore D D.Disk)
+        → Started before begun → Ran in_hand commands begun ended replies stopped → IsLetGo over_files (connection_of ended).store store
+        → (IsClean (view store) → IsTrue (view store).is_numbered) → IsStretch before (exchange_of in_hand commands replies stopped) store }
+    ensures closed { (in_hand : ℕ) (before : Image) (commands : List Command) (begun ended : Spool (FileStore D D.Disk) over_files) (replies : List Reply) (stopped : Option StoreFault) (files : Files D)
+        → Started before begun → Ran in_hand commands begun ended replies stopped → IsClosed ended files
+        → IsClosedStretch D.Disk before (exchange_of in_hand commands replies stopped) files }
 {}
 
-/// A stretch that calls made, and an opening that failed once it had opened the files, are
-/// stretches of a history, with any contents that a stop may leave then: so calls that follow one
-/// another meet what is supposed of a history.
+/// A stretch that calls made, and an opening that failed after it had opened the files, are
+/// stretches of a history, with any contents that a stop may leave then. So calls that follow one
+/// another meet the premises of a history.
 pub fn stretches_make_a_history<D: Disk>()
     ensures let_go { (before left : Image) (exchange : Exchange) (store : FileStore D D.Disk) (it : IsStretch before exchange store)
         → IsClean (view store) → (files_of store).may_leave left → FilePassed before (let_go_after it left) }
@@ -204,7 +210,7 @@ pub fn stretches_make_a_history<D: Disk>()
     ensures not_stopped { (before : Image) (exchange : Exchange) (files : Files D) (it : IsClosedStretch D.Disk before exchange files)
         → AreClean D.Disk files.log files.db → FilePassed before (closed_after it (image_of D.Disk files)) }
 
-    // No database was opened, or one that was not taken as a spool. No command was given.
+    // No database was opened, or it wasn't taken as a spool. No command was given.
     ensures not_opened { (before left : Image) (commands : List Command) (it : Leftover D D.Disk) → LeavesAsKept before (remains.Files it)
         → IsCleanLeft it → IsTakenAsMade before it → may_be_left it left → FilePassed before (not_started_for commands left) }
     ensures not_taken { (before left : Image) (commands : List Command) (it : FileStore D D.Disk) → LeavesAsKept before (remains.Store it)

@@ -19,6 +19,7 @@ pub use spool::Spool;
 pub use stretch::{CloseEnd, start_again, work, work_and_close};
 pub use uu_core::{
     By, CallState, Command, Due, Filter, JobHead, Kind, NewJob, Outcome, Refusal, Reply, SystemRow,
+    Taken,
 };
 pub use uu_files::SpoolFile;
 pub use uu_names::{Grade, Listed, SiteName, Word};

@@ -1,4 +1,4 @@
-// What is handed out of an answer: nothing past the limits that a report relies on.
+// What an answer may give out: nothing beyond the limits on which a report relies.
 ghost use Rattle.std.specs.Prelude.{◌≡◌};
 ghost use Rattle.std.specs.List.{list_all};
 ghost use Rattle.uu_store.specs.HandedOut.{is_bounded, is_found_bounded, is_timed, within_limits};
@@ -22,7 +22,7 @@ fn are_bounded(heads: &[JobHead]) -> bool
     heads.iter().all(|head| is_bounded(head))
 }
 
-/// The heads, unless one of them is past the limits.
+/// The heads, unless one of them is beyond the limits.
 pub(crate) fn bounded_heads(heads: Vec<JobHead>) -> Result<Vec<JobHead>, Error>
     ensures { result ≡ within_limits (list_all is_bounded heads.items) heads }
 {
@@ -33,7 +33,7 @@ pub(crate) fn bounded_heads(heads: Vec<JobHead>) -> Result<Vec<JobHead>, Error>
     }
 }
 
-/// What was found, unless it is a job past the limits.
+/// What was found, unless it is a job beyond the limits.
 pub(crate) fn bounded_job(
     found: Option<(JobHead, Vec<u8>)>,
 ) -> Result<Option<(JobHead, Vec<u8>)>, Error>
@@ -59,7 +59,7 @@ fn are_timed(systems: &[SystemRow]) -> bool
     systems.iter().all(|system| system.call.last <= LAST_SECOND)
 }
 
-/// The systems, unless the last call of one of them is past the moments.
+/// The systems, unless the last call of one of them is after the last moment.
 pub(crate) fn timed_systems(systems: Vec<SystemRow>) -> Result<Vec<SystemRow>, Error>
     ensures { result ≡ within_limits (list_all is_timed systems.items) systems }
 {

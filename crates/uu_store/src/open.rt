@@ -27,18 +27,19 @@ pub type FileSpool<T> = Spool<FileStore<SpoolFile<T>>>;
 /// Opens the file at the path, or makes it, and adopts the database in it. A new file gets sums on
 /// its pages.
 ///
-/// What is said of the contents is said of those that the files had as they were opened, which `T`
-/// stands for; no clause ties them to the path.
+/// What the clauses say about the contents is about those that the files had when they were opened,
+/// which `T` stands for. No clause ties them to the path.
 ///
 /// # Errors
 /// With what is left of the two files. While the disk returned what was written, a stop then leaves
-/// files that keep what was kept (`left`), and of a database that was opened and has any of the
-/// spool's tables what it was (`left_alone`), unless the store failed as those of an earlier
-/// version were to become those of version 3. Files that keep the state of a spool, or hold nothing
-/// yet, are never answered `Foreign` or `Newer`. Once a database was opened, one that has exactly
-/// the tables of a version is answered `Newer` only where a row names a later version, and
-/// `Foreign` only where none does and no state has its rows; one in which a name of theirs is taken
-/// and no table tells a version is `Foreign` (`named`).
+/// files that keep what was kept (`left`). A database that was opened and has any of the spool's
+/// tables stays what it was (`left_alone`). The exception is a store that failed while tables of an
+/// earlier version were becoming those of version 3. Files that keep the state of a spool, or hold
+/// nothing yet, are never `Foreign` or `Newer`.
+///
+/// Suppose that a database was opened. If it has exactly the tables of a version, it is `Newer`
+/// only if a row names a later version. It is `Foreign` only if no row does and no state has its
+/// rows. If one of the names is taken and no table says a version, it is `Foreign` (`named`).
 pub fn open_spool<T: Start>(
     rt: &HostRuntime,
     path: &str,
@@ -51,22 +52,22 @@ pub fn open_spool<T: Start>(
     // It shows the state that the files kept.
     ensures shows { IfOk result (λ spool. HasCleanDisk (disk spool) → (s : State) → ImageKeeps (image_at T.Start) s → Shows spool s) }
 
-    // A stop at its end then leaves this state alone, in the tables of version 3.
+    // A stop at its end leaves only this state, in the tables of version 3.
     ensures alone { IfOk result (λ spool. HasCleanDisk (disk spool) → (s : State) → ImageKeeps (image_at T.Start) s → Leaves (disk spool) s) }
 
-    // A database in which one of the names is taken and no table tells a version is never taken.
+    // A database in which one of the names is taken and no table says a version is never taken.
     ensures never_other { IfOk result (λ spool. HasCleanDisk (disk spool) → ¬ ImageHasUnversionedTables (image_at T.Start)) }
 
-    // One that has any of the spool's tables, and not those of an earlier version, is left as it
-    // was, whatever stands beside them.
+    // A database with any of the spool's tables, except those of an earlier version, is left as it
+    // was, with any other tables beside them.
     ensures left_same { IfOk result (λ spool. HasCleanDisk (disk spool) → LeavesSame (image_at T.Start) (disk spool).may_leave) }
 
-    // What is left of files that were opened keeps what they kept, and the fault names it rightly.
+    // What is left of files that were opened keeps what they kept, and the fault is right.
     ensures named { IfErr result (λ e. IsRightFault (image_at T.Start) e.fault (remains_of e)) }
     ensures left { IfErr result (λ e. LeavesAsKept (image_at T.Start) (remains_of e)) }
     ensures left_alone { IfErr result (λ e. LeavesAlone (image_at T.Start) e.fault (remains_of e)) }
 
-    // The name of a database in memory is that of no file.
+    // The name of a database in memory isn't that of a file.
     ensures in_memory { path.now ≡ codes ":memory:" → IsErrAnd result (λ e. e.fault ≡ StoreFault.Store Database) }
 {
     match open_files(rt, path, start) {
@@ -75,7 +76,7 @@ pub fn open_spool<T: Start>(
     }
 }
 
-// The spool in a database that was opened in files, whatever they held.
+// The spool in a database that was opened in files with any contents.
 fn adopted_in_files<D: Disk + Drop>(
     alloc: Global,
     conn: Connection<FileStore<D>>,

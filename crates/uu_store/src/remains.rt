@@ -1,4 +1,4 @@
-// What is left of the files of a spool that was not opened.
+// What is left of the files of a spool that wasn't opened.
 ghost use Rattle.std.specs.Prelude.{◌≡◌, ◌≢◌, codes, IfOk, IfErr, IsErrAnd};
 ghost use Rattle.sqlite.specs.Files.{over_files};
 ghost use Rattle.sqlite.specs.declared.error.Error.TheVariants.{SqliteFailure};
@@ -14,19 +14,19 @@ use sqlite_disk::Disk;
 use uu_files::{SpoolFile, open_database};
 use uu_schema::{StoreFault, is_memory, kind_of};
 
-/// What is left of the two files of a spool that was not opened.
+/// What is left of the two files of a spool that wasn't opened.
 #[derive(Drop)]
 pub enum Remains<D: Disk> {
-    /// The files were not opened.
+    /// The files weren't opened.
     Unopened,
-    /// The files, where no database was opened in them.
+    /// The files, if no database was opened in them.
     Files(Leftover<D>),
     /// The store of a database that was opened and not taken as a spool.
     Store(FileStore<D>),
 }
 
 impl<D: Disk> Remains<D> {
-    // What an opening that failed left of them, once they were opened.
+    // What an opening that failed left of the files, if it opened them.
     fn of_opening(left: Option<Leftover<D>>) -> Remains<D>
         ensures { result ≡ remains_of_opening left }
     {
@@ -39,12 +39,12 @@ impl<D: Disk> Remains<D> {
 
 /// Why no spool was opened, and what is left of its files.
 ///
-/// None but the opening of the files can tell that they were not opened: no other code can make
-/// such a fault, and an opening takes what stands for the contents, so that no code opens the same
+/// Only the opening of the files can say that they weren't opened, because no other code can make
+/// such a fault. An opening takes the value that stands for the contents, so no code opens the same
 /// contents twice.
 #[derive(Drop)]
 pub struct OpenFault<D: Disk> {
-    /// Why it was not opened.
+    /// Why it wasn't opened.
     pub fault: StoreFault,
     remains: Remains<D>,
 }
@@ -96,7 +96,7 @@ pub(crate) fn open_files<T: Start>(
     ensures left { IfErr result (λ e. LeavesAsKept (image_at T.Start) (remains_of e)) }
     ensures left_alone { IfErr result (λ e. LeavesAlone (image_at T.Start) e.fault (remains_of e)) }
 
-    // The name of a database in memory is that of no file.
+    // The name of a database in memory isn't that of a file.
     ensures in_memory { path.now ≡ codes ":memory:" → IsErrAnd result (λ e. e.fault ≡ StoreFault.Store Database) }
 {
     match open_database(rt, path, start) {

@@ -16,9 +16,9 @@ use uu_schema::StoreFault;
 /// How a run of commands ended.
 #[derive(Debug, Drop)]
 pub struct RunEnd {
-    /// The replies to the first commands, in turn.
+    /// The replies to the first commands, in order.
     pub replies: Vec<Reply>,
-    /// Why the next command was not answered, unless all were.
+    /// Why the next command wasn't answered, unless all were.
     pub stopped: Option<StoreFault>,
 }
 
@@ -42,27 +42,27 @@ impl<S: Alter> Spool<S> {
     ghost use Rattle.uu_store.specs.Openings.{IsNotTaken};
     ghost use Rattle.uu_store.specs.Stretches.{Passed, stretch};
 
-    /// Carries out the commands, one after the other, until one is not answered. Room for all
-    /// replies is taken first, so that no reply is lost.
+    /// Carries out the commands, one after the other, until one isn't answered. Memory for all
+    /// replies is reserved first, so no reply is lost.
     ///
     /// # Errors
     /// The first fault of a command ends the run, and no further command is given. `Failed` comes
     /// before any command.
     pub fn run(&mut self, alloc: Global, commands: Vec<Command>) -> RunEnd
-        ensures ran { Ran commands.items self.old self.new result.replies.items result.stopped }
+        ensures ran { Ran 1 commands.items self.old self.new result.replies.items result.stopped }
 
-        // Nothing stopped it exactly where all were answered, and the spool had not failed before.
+        // Nothing stopped it exactly if all were answered and the spool hadn't failed before.
         ensures every { (result.stopped ≡ None) ↔ ((has_failed self.old ≡ false) × (length result.replies.items ≡ length commands.items)) }
         ensures marked { MatchOption result.stopped ((has_failed self.old ≡ false) × (has_failed self.new ≡ false)) (IsFaultBetween (has_failed self.old) (has_failed self.new)) }
 
-        // The fault that stopped it is the one that its command gave, of that kind.
+        // The fault that stopped it is the one that its command gave, with its kind.
         ensures noted { IfSome result.stopped (Notes (failure_of self.new)) }
 
         // A spool that failed is left as it was, and gives no reply.
         ensures failed { IsTrue (has_failed self.old) → (result.stopped ≡ Some StoreFault.Failed) × (result.replies.items ≡ []) × (self.new ≡ self.old) }
     {
         runs_follow_one_another();
-        // Asked here too, for a run of no commands, and before there is room for replies.
+        // Asked here too, for a run of no commands, and before memory for replies is reserved.
         if self.is_failed() {
             return RunEnd {
                 replies: Vec::new(alloc),
@@ -93,10 +93,10 @@ impl<S: Alter> Spool<S> {
     }
 
     /// Takes the database as a spool, gives it the commands, and gives back the store: one stretch
-    /// of work, until the spool is let go or a stop comes before.
+    /// of work, until the spool is let go or is stopped before.
     ///
     /// # Errors
-    /// Those of [`Spool::adopt`], with the store. No command was given then.
+    /// Those of [`Spool::adopt`], with the store. Then no command was given.
     pub fn adopt_and_run(
         alloc: Global,
         conn: Connection<S>,
@@ -105,9 +105,9 @@ impl<S: Alter> Spool<S> {
     where
         S: Drop,
         requires { IsIdle conn }
-        ensures passed { IfOk result (λ end. IsClean (S.Store.view end.1) → Passed (stretch S.Store conn (exchange_of commands.items end.0.replies.items end.0.stopped) end.1)) }
+        ensures passed { IfOk result (λ end. IsClean (S.Store.view end.1) → Passed (stretch S.Store conn (exchange_of 1 commands.items end.0.replies.items end.0.stopped) end.1)) }
 
-        // Nothing stopped it exactly where all were answered.
+        // Nothing stopped it exactly if all were answered.
         ensures every { IfOk result (λ end. (end.0.stopped ≡ None) ↔ (length end.0.replies.items ≡ length commands.items)) }
         ensures fresh { IfOk result (λ end. IfSome end.0.stopped IsFaultOfThisCall) }
         ensures never_failed { IfErr result (λ e. e.0 ≢ StoreFault.Failed) }
@@ -127,7 +127,7 @@ pub(crate) fn run_and_let_go<S: Alter + Drop>(
     spool: Spool<S>,
     commands: Vec<Command>,
 ) -> (RunEnd, S)
-    ensures worked { IsRunAndLetGo spool commands.items result.0.replies.items result.0.stopped result.1 }
+    ensures worked { IsRunAndLetGo 1 spool commands.items result.0.replies.items result.0.stopped result.1 }
     ensures every { has_failed spool ≡ false → ((result.0.stopped ≡ None) ↔ (length result.0.replies.items ≡ length commands.items)) }
     ensures fresh { has_failed spool ≡ false → IfSome result.0.stopped IsFaultOfThisCall }
 {

@@ -2,58 +2,63 @@
 ghost use Rattle.std.specs.Prelude.{◌≡◌, false, IfErr};
 ghost use Rattle.sqlite.specs.Held.{state};
 ghost use Rattle.uu_core.specs.State.{State, IsWellFormed};
-ghost use Rattle.uu_tables.specs.Plans.{AreFacts};
+ghost use Rattle.uu_tables.specs.Tables.{tables_of};
+ghost use Rattle.uu_tables.specs.Changes.{applied};
+ghost use Rattle.uu_tables.specs.Plans.{AreFacts, IsFor};
+ghost use Rattle.uu_tables.specs.TakingPlans.{AreTakingFacts};
 ghost use Rattle.uu_schema.specs.Faults.{IsFaultOfThisCall};
 ghost use Rattle.uu_schema.specs.Steps.{IsIdle, StaysUnclean};
-ghost use Rattle.uu_statements.specs.Step.{IsToldStep};
 
 use crate::limits::{bounded_heads, bounded_job, timed_systems};
 use sqlite::{Alter, Connection, Error};
 use std::alloc::Global;
 use std::mem::drop;
-use uu_core::laws::{commands_are_sound, states_stay_well_formed};
-use uu_core::{Command, Due, Filter, JobHead, Reply, SystemRow};
+use uu_core::laws::{commands_are_sound, states_stay_well_formed, take_ins_are_sound};
+use uu_core::{Command, Due, Filter, JobHead, Refusal, Reply, SystemRow, TakeIn, Taken};
 use uu_names::SiteName;
 use uu_questions::{
-    all_systems, entry_of_host, facts_for, job_of_number, list_jobs, next_number, systems_due,
+    all_systems, entry_of_host, facts_for, facts_of_bundle, job_of_number, list_jobs, next_number,
+    refusal_of, systems_due, taken_from,
 };
 use uu_schema::{StoreFault, StoreKind, store_fault};
 use uu_statements::carry_out;
-use uu_tables::{Facts, make_plan};
+use uu_tables::{Change, Facts, TakingFacts, make_plan, plan_take_in};
 use uu_times::Moment;
 
 /// A spool, over a connection that it owns.
 ///
 /// While nobody else writes the file and the disk returns what was written, a spool shows one state
-/// of the plain machine of `uu_core`. A command is one step of the machine, and it is in the file
-/// once it is answered `Done` or `Number`.
+/// of the plain machine of `uu_core`. A command is one step of the machine. It is in the file once
+/// it is answered `Done` or `Number`. A bundle is its commands, one after the other, as one step.
 #[derive(Drop)]
 pub struct Spool<S: Alter> {
     conn: Connection<S>,
-    // Which part of the store failed, once a call answered that it did.
+    // Which part of the store failed, once a call answered that it failed.
     failure: Option<StoreKind>,
     ghost idle: { IsIdle conn },
 }
 
 impl<S: Alter> Spool<S> {
-    ghost use Rattle.std.specs.Prelude.{[], ◌∷◌, IsTrue, IfOk, IfSome, Err, MatchResult, option_map, map, length};
+    ghost use Rattle.std.specs.Prelude.{[], ◌∷◌, ◌+◌, IsTrue, IfOk, IfSome, Err, MatchResult, option_map, map, length};
     ghost use Rattle.std.specs.List.{AllByRecursion};
-    ghost use Rattle.uu_core.specs.State.{head_of, job_at, entry_at};
+    ghost use Rattle.uu_core.specs.State.{head_of, job_at, entry_at, link_of};
     ghost use Rattle.uu_core.specs.Due.{AreDue};
     ghost use Rattle.uu_questions.specs.Listing.{listed};
     ghost use Rattle.uu_questions.specs.Assembly.{holding};
     ghost use Rattle.uu_store.specs.HandedOut.{IsBounded, IsTimed, job_shown};
     ghost use Rattle.sqlite.specs.State.{HasCleanDisk};
     ghost use Rattle.sqlite.specs.View.{IsClean};
+    ghost use Rattle.uu_core.specs.Verdict.{verdict};
     ghost use Rattle.uu_core.specs.After.{after};
+    ghost use Rattle.uu_core.specs.TakeIns.{commands_in, taken_in};
     ghost use Rattle.uu_schema.specs.Encoded.{Leaves, LeavesEither};
     ghost use Rattle.uu_store.specs.Spool.{connection_of, disk, failure_of, has_failed, Shows, IsFaultBetween, Notes};
-    ghost use Rattle.uu_store.specs.Commands.{IsStep};
+    ghost use Rattle.uu_store.specs.Commands.{IsStep, IsCommandStep, IsTakingStep};
     ghost use Rattle.uu_store.specs.Questions.{IsQuestion, IsTold};
-    ghost use Rattle.uu_store.specs.Runs.{Ran, reply_in, fault_in};
+    ghost use Rattle.uu_store.specs.Runs.{Ran, reply_in, replies_in, fault_in};
     ghost use Rattle.uu_store.specs.Stretches.{IsLetGo};
 
-    /// A spool over a connection whose tables are those of one.
+    /// A spool over a connection whose tables are those of a spool.
     pub(crate) fn over(conn: Connection<S>) -> Spool<S>
         requires { IsIdle conn }
         ensures connection { connection_of result ≡ conn }
@@ -65,7 +70,7 @@ impl<S: Alter> Spool<S> {
         }
     }
 
-    /// Gives the connection back, with no transaction open on it. It takes no memory.
+    /// Gives the connection back, with no transaction open on it. It allocates nothing.
     pub fn release(self) -> Connection<S>
         ensures connection { result ≡ connection_of self }
         ensures idle { IsIdle result }
@@ -75,8 +80,8 @@ impl<S: Alter> Spool<S> {
         conn
     }
 
-    /// Gives back the store under the connection, where an open transaction is undone. It takes no
-    /// memory.
+    /// Gives back the store under the connection. An open transaction is undone. It allocates
+    /// nothing.
     pub fn into_store(self) -> S
     where
         S: Drop,
@@ -87,7 +92,7 @@ impl<S: Alter> Spool<S> {
         conn.into_store()
     }
 
-    /// Gives the connection back, or where the store failed before, the store as it is let go.
+    /// Gives the connection back, or, if the store failed before, the store as it is let go.
     pub(crate) fn release_unless_failed(self) -> Result<Connection<S>, (StoreFault, S)>
     where
         S: Drop,
@@ -109,7 +114,7 @@ impl<S: Alter> Spool<S> {
         self.failure.is_some()
     }
 
-    // After a fault of the store no statement is given any more.
+    // After a fault of the store no more statements are given.
     fn noted(&mut self, fault: StoreFault) -> StoreFault
         requires { has_failed self.old ≡ false }
         ensures same { result ≡ fault }
@@ -123,7 +128,7 @@ impl<S: Alter> Spool<S> {
         fault
     }
 
-    // What the caller is told of an answer to a question over the connection.
+    // What the caller gets for an answer to a question over the connection.
     fn told<T: Drop>(&mut self, asked: Result<T, Error>) -> Result<T, StoreFault>
         requires { has_failed self.old ≡ false }
         ensures { IsTold asked self.old self.new result }
@@ -137,13 +142,13 @@ impl<S: Alter> Spool<S> {
         }
     }
 
-    /// Carries out one command. Its last call of the database is the commit; a refused command
-    /// makes no change, and is a reply, no error.
+    /// Carries out one command. Its last call of the database is the commit. A refused command
+    /// changes nothing, and its refusal is a reply, not an error.
     ///
     /// # Errors
     /// `Memory`: nothing changed, and the spool can be used. `Store`: the command is kept whole or
-    /// not at all, which the next opening shows; from then on every command and question answers
-    /// `Failed` and does nothing.
+    /// not at all, and the next opening shows which. From then on every command and question
+    /// answers `Failed` and does nothing.
     pub fn command(&mut self, alloc: Global, command: Command) -> Result<Reply, StoreFault>
         ensures marked { MatchResult result (λ _. (has_failed self.old ≡ false) × (has_failed self.new ≡ false)) (IsFaultBetween (has_failed self.old) (has_failed self.new)) }
         ensures noted { IfErr result (Notes (failure_of self.new)) }
@@ -162,7 +167,7 @@ impl<S: Alter> Spool<S> {
         ensures failed { IsTrue (has_failed self.old) → (result ≡ Err StoreFault.Failed) × (self.new ≡ self.old) }
 
         // So it is a run of one command.
-        ensures ran { Ran (command ∷ []) self.old self.new (reply_in result) (fault_in result) }
+        ensures ran { Ran 1 (command ∷ []) self.old self.new (reply_in result) (fault_in result) }
     {
         if self.is_failed() {
             drop(command);
@@ -178,37 +183,125 @@ impl<S: Alter> Spool<S> {
         }
     }
 
-    // Carries out a command of which these are the facts: its changes are planned, and made in one
-    // transaction.
+    /// Takes in a neighbour's bundle: the neighbour won't ask again for its jobs below a number,
+    /// and hands in its other jobs, one after the other. The bundle is taken in whole or not at
+    /// all, in one transaction whose commit is the last call of the database. A refused job changes
+    /// nothing, and the others are still taken in. The replies are those to [`Command::Forget`] and
+    /// then to each job's [`Command::QueueOnce`].
+    ///
+    /// # Errors
+    /// `Memory`: nothing changed, and the spool can be used. `Store`: the bundle is kept whole or
+    /// not at all, and the next opening shows which. From then on every command and question
+    /// answers `Failed` and does nothing.
+    pub fn take_in(&mut self, alloc: Global, bundle: TakeIn) -> Result<Vec<Reply>, StoreFault>
+        ensures marked { MatchResult result (λ _. (has_failed self.old ≡ false) × (has_failed self.new ≡ false)) (IsFaultBetween (has_failed self.old) (has_failed self.new)) }
+        ensures noted { IfErr result (Notes (failure_of self.new)) }
+
+        // On a clean store a bundle is its commands, one after the other.
+        ensures step { HasCleanDisk (disk self.new) → (s : _) → Shows self.old s → IfOk result (λ replies. (replies.items ≡ (taken_in s bundle).1) × Shows self.new (taken_in s bundle).0) }
+        ensures memory { HasCleanDisk (disk self.new) → (s : _) → Shows self.old s → result ≡ Err StoreFault.Memory → Shows self.new s }
+
+        // What a stop at its end leaves: never a part of the bundle.
+        ensures stop_ok { HasCleanDisk (disk self.new) → (s : _) → Shows self.old s → IfOk result (λ _. Leaves (disk self.new) (taken_in s bundle).0) }
+        ensures stop_memory { HasCleanDisk (disk self.new) → (s : _) → Shows self.old s → result ≡ Err StoreFault.Memory → Leaves (disk self.new) s }
+        ensures stop_store { HasCleanDisk (disk self.new) → (s : _) → Shows self.old s → LeavesEither (disk self.new) s (taken_in s bundle).0 }
+        ensures clean { StaysUnclean (disk self.old) (disk self.new) }
+
+        // There are as many replies as commands, on any store.
+        ensures every { IfOk result (λ replies. length replies.items ≡ length (commands_in bundle)) }
+
+        // A spool that failed is left as it was.
+        ensures failed { IsTrue (has_failed self.old) → (result ≡ Err StoreFault.Failed) × (self.new ≡ self.old) }
+
+        // So it is a run of its commands, all of them in hand at once.
+        ensures ran { Ran (length bundle.jobs + 1) (commands_in bundle) self.old self.new (replies_in result) (fault_in result) }
+    {
+        if self.is_failed() {
+            drop(bundle);
+            return Err(StoreFault::Failed);
+        }
+        let facts = facts_of_bundle(alloc, &mut self.conn, &bundle);
+        match self.told(facts) {
+            Ok(facts) => self.carry_out_bundle(alloc, facts, bundle),
+            Err(fault) => {
+                drop(bundle);
+                Err(fault)
+            }
+        }
+    }
+
+    // Carries out a command with these facts: its changes are planned, and made in one transaction.
     fn carry_out(
         &mut self,
         alloc: Global,
         facts: Facts,
         command: Command,
     ) -> Result<Reply, StoreFault>
-        requires { has_failed self.old ≡ false }
+        requires usable { has_failed self.old ≡ false }
+        requires suits { IsFor facts command }
         ensures marked { MatchResult result (λ _. has_failed self.new ≡ false) (IsFaultBetween false (has_failed self.new)) }
         ensures noted { IfErr result (Notes (failure_of self.new)) }
-        ensures step { (s : State) → AreFacts facts s command → IsStep s command self.old self.new result }
+        ensures step { (s : State) → AreFacts facts s command → IsCommandStep s command self.old self.new result }
         ensures clean { StaysUnclean (disk self.old) (disk self.new) }
     {
         commands_are_sound(&command);
         states_stay_well_formed();
-        let reply = plan_and_carry_out(alloc, &mut self.conn, &facts, &command);
-        drop(facts);
-        drop(command);
-        match reply {
-            Ok(reply) => Ok(reply),
+        match make_plan(alloc, &facts, &command) {
+            Ok(plan) => self.make_changes(alloc, plan.reply, plan.changes.as_slice()),
+            Err(_) => Err(StoreFault::Memory),
+        }
+    }
+
+    // Takes in a bundle with these facts: the changes of all its jobs are planned, and made in one
+    // transaction.
+    fn carry_out_bundle(
+        &mut self,
+        alloc: Global,
+        facts: TakingFacts,
+        bundle: TakeIn,
+    ) -> Result<Vec<Reply>, StoreFault>
+        requires usable { has_failed self.old ≡ false }
+        requires suits { length facts.jobs.items ≡ length bundle.jobs }
+        ensures marked { MatchResult result (λ _. has_failed self.new ≡ false) (IsFaultBetween false (has_failed self.new)) }
+        ensures noted { IfErr result (Notes (failure_of self.new)) }
+        ensures step { (s : State) → AreTakingFacts facts s bundle → IsTakingStep s bundle self.old self.new result }
+        ensures every { IfOk result (λ replies. length replies.items ≡ length (commands_in bundle)) }
+        ensures clean { StaysUnclean (disk self.old) (disk self.new) }
+    {
+        take_ins_are_sound(&bundle);
+        states_stay_well_formed();
+        match plan_take_in(alloc, &facts, &bundle) {
+            Ok(plan) => self.make_changes(alloc, plan.replies, plan.changes.as_slice()),
+            Err(_) => Err(StoreFault::Memory),
+        }
+    }
+
+    // Makes the changes in one transaction, and then answers with the reply.
+    fn make_changes<R: Drop>(
+        &mut self,
+        alloc: Global,
+        reply: R,
+        changes: &[Change<'_>],
+    ) -> Result<R, StoreFault>
+        requires { has_failed self.old ≡ false }
+        ensures marked { MatchResult result (λ _. has_failed self.new ≡ false) (IsFaultBetween false (has_failed self.new)) }
+        ensures noted { IfErr result (Notes (failure_of self.new)) }
+        ensures same { IfOk result (λ answer. answer ≡ reply) }
+        ensures step { (s t : State) → (IsWellFormed s → (applied changes.now (tables_of s) ≡ tables_of t) × IsWellFormed t) → IsStep s t (λ answer. answer ≡ reply) self.old self.new result }
+        ensures clean { StaysUnclean (disk self.old) (disk self.new) }
+    {
+        match carry_out(alloc, &mut self.conn, reply, changes) {
+            Ok(answer) => Ok(answer),
             Err(fault) => Err(self.noted(fault)),
         }
     }
 
-    /// The heads of the jobs that fit, by grade, the highest first, and in one grade by number.
+    /// The heads of the jobs that match, by grade, the highest first, and within a grade by number.
     ///
     /// # Errors
-    /// `Memory`: nothing changed, and the spool can be used. `Store`: the database failed, or holds
-    /// a row that a spool does not allow; nothing that is kept changed. From then on every command
-    /// and question answers `Failed` and does nothing.
+    /// `Memory`: nothing changed, and the spool can be used. `Store`: the database failed, or has a
+    /// row that a spool doesn't allow; nothing that is kept changed. From then on every command and
+    /// question answers `Failed` and does nothing.
     pub fn jobs(&mut self, alloc: Global, filter: &Filter) -> Result<Vec<JobHead>, StoreFault>
         ensures question { IsQuestion (λ s heads. heads.items ≡ listed filter.now s) self.old self.new result }
         ensures bounds { IfOk result (λ heads. AllByRecursion IsBounded heads.items) }
@@ -285,6 +378,39 @@ impl<S: Alter> Spool<S> {
         self.told(found)
     }
 
+    /// What was taken from the neighbour of this name, by its number there; nothing if nothing is
+    /// kept for it.
+    ///
+    /// # Errors
+    /// As [`Spool::jobs`].
+    pub fn taken(&mut self, alloc: Global, system: &SiteName) -> Result<Vec<Taken>, StoreFault>
+        ensures question { IsQuestion (λ s taken. taken.items ≡ (link_of s system.now).taken) self.old self.new result }
+    {
+        if self.is_failed() {
+            return Err(StoreFault::Failed);
+        }
+        let taken = taken_from(alloc, &mut self.conn, system);
+        self.told(taken)
+    }
+
+    /// Why the command would be refused now, if it would be. It isn't carried out.
+    ///
+    /// # Errors
+    /// As [`Spool::jobs`].
+    pub fn refusal(
+        &mut self,
+        alloc: Global,
+        command: &Command,
+    ) -> Result<Option<Refusal>, StoreFault>
+        ensures question { IsQuestion (λ s refusal. refusal ≡ verdict s command.now) self.old self.new result }
+    {
+        if self.is_failed() {
+            return Err(StoreFault::Failed);
+        }
+        let refusal = refusal_of(alloc, &mut self.conn, command);
+        self.told(refusal)
+    }
+
     /// The number that the next job gets.
     ///
     /// # Errors
@@ -297,24 +423,5 @@ impl<S: Alter> Spool<S> {
         }
         let next = next_number(&mut self.conn);
         self.told(next)
-    }
-}
-
-// Plans the changes of a command, where these are the facts, and makes them in one transaction.
-fn plan_and_carry_out<S: Alter>(
-    alloc: Global,
-    conn: &mut Connection<S>,
-    facts: &Facts,
-    command: &Command,
-) -> Result<Reply, StoreFault>
-    requires { IsIdle conn.old }
-    ensures idle { IsIdle conn.new }
-    ensures fresh { IfErr result IsFaultOfThisCall }
-    ensures clean { StaysUnclean (state S.Store conn.old) (state S.Store conn.new) }
-    ensures step { (s : State) → IsWellFormed s → AreFacts facts.now s command.now → IsToldStep s command.now (state S.Store conn.old) (state S.Store conn.new) result }
-{
-    match make_plan(alloc, facts, command) {
-        Ok(plan) => carry_out(alloc, conn, plan),
-        Err(_) => Err(StoreFault::Memory),
     }
 }

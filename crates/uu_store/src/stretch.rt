@@ -31,25 +31,25 @@ use uu_core::Command;
 use uu_files::SpoolFile;
 use uu_schema::StoreFault;
 
-/// A stretch of work: opens the file at the path, gives the spool in it the commands, and lets its
-/// store go.
+/// A stretch of work: opens the file at the path, gives the spool in it the commands, and lets go
+/// of its store.
 ///
 /// # Errors
-/// Those of [`open_spool`]. No command was given then.
+/// Those of [`open_spool`]. Then no command was given.
 pub fn work<T: Start>(
     rt: &HostRuntime,
     path: &str,
     start: T,
     commands: Vec<Command>,
 ) -> Result<(RunEnd, FileStore<SpoolFile<T>>), OpenFault<SpoolFile<T>>>
-    ensures worked { IfOk result (λ end. IsStretch (image_at T.Start) (exchange_of commands.items end.0.replies.items end.0.stopped) end.1) }
+    ensures worked { IfOk result (λ end. IsStretch (image_at T.Start) (exchange_of 1 commands.items end.0.replies.items end.0.stopped) end.1) }
 
-    // Commands are given only to what an opening takes, so never to a database in which one of the
-    // names is taken and no table tells a version.
+    // Commands are given only to a database that was taken, so never to one in which one of the
+    // names is taken and no table says a version.
     ensures started { IfOk result (λ end. IsClean (view end.1) → WasStarted ⟦<SpoolFile<T> as Disk>⟧ (image_at T.Start)) }
     ensures never_other { IfOk result (λ end. IsClean (view end.1) → ¬ ImageHasUnversionedTables (image_at T.Start)) }
 
-    // Nothing stopped it exactly where all were answered.
+    // Nothing stopped it exactly if all were answered.
     ensures every { IfOk result (λ end. (end.0.stopped ≡ None) ↔ (length end.0.replies.items ≡ length commands.items)) }
     ensures fresh { IfOk result (λ end. IfSome end.0.stopped IsFaultOfThisCall) }
     ensures never_failed { IfErr result (λ e. e.fault ≢ StoreFault.Failed) }
@@ -63,28 +63,28 @@ pub fn work<T: Start>(
     }
 }
 
-/// What a close answers: the two files, or why it failed and the store as it was let go.
+/// What a close gives: the two files, or why it failed and the store as it was let go.
 pub type CloseEnd<D> = Result<Files<D>, (StoreFault, FileStore<D>)>;
 
 /// [`work`], and then the files are closed.
 ///
 /// # Errors
-/// Those of [`open_spool`]. No command was given then. A close that fails is no error of the
-/// stretch, which has its replies: it answers `Failed` where the store failed in the run, and else
-/// `Store`; on a clean disk of kind `Disk` only where the disk failed or refused a call, and never
-/// of kind `Size`.
+/// Those of [`open_spool`]. Then no command was given. If the close fails, the stretch succeeds all
+/// the same, with its replies. The close answers `Failed` if the store failed in the run, and
+/// otherwise `Store`. On a clean disk its kind is `Disk` only if the disk failed or refused a call,
+/// and never `Size`.
 pub fn work_and_close<T: Start>(
     rt: &HostRuntime,
     path: &str,
     start: T,
     commands: Vec<Command>,
 ) -> Result<(RunEnd, CloseEnd<SpoolFile<T>>), OpenFault<SpoolFile<T>>>
-    ensures closed { IfOk result (λ end. IfOk end.1 (IsClosedStretch ⟦<SpoolFile<T> as Disk>⟧ (image_at T.Start) (exchange_of commands.items end.0.replies.items end.0.stopped))) }
+    ensures closed { IfOk result (λ end. IfOk end.1 (IsClosedStretch ⟦<SpoolFile<T> as Disk>⟧ (image_at T.Start) (exchange_of 1 commands.items end.0.replies.items end.0.stopped))) }
 
-    // Of a store that a close gave back the port does not say that its trees have their places;
-    // where they have, it was let go as any.
+    // If the close gave back a store, the port doesn't say that its trees have their places. If
+    // they have, it was let go like any store.
     ensures let_go { IfOk result (λ end. IfErr end.1 (λ e. IsTrue (view e.1).is_numbered
-        → IsStretch (image_at T.Start) (exchange_of commands.items end.0.replies.items end.0.stopped) e.1)) }
+        → IsStretch (image_at T.Start) (exchange_of 1 commands.items end.0.replies.items end.0.stopped) e.1)) }
     ensures told { IfOk result (λ end. IfErr end.1 (λ e. IsToldAfter end.0.stopped e.0)) }
     ensures cause { IfOk result (λ end. IfErr end.1 (λ e. IsClean (view e.1) → (kind : StoreKind) → e.0 ≡ StoreFault.Store kind → HasSomeCause kind e.1)) }
     ensures started { IfOk result (λ end. MatchResult end.1
@@ -111,7 +111,7 @@ fn run_and_close<D: Disk + Drop>(
     spool: Spool<FileStore<D>>,
     commands: Vec<Command>,
 ) -> (RunEnd, CloseEnd<D>)
-    ensures worked { IsRunAndClosed spool commands.items result.0.replies.items result.0.stopped result.1 }
+    ensures worked { IsRunAndClosed 1 spool commands.items result.0.replies.items result.0.stopped result.1 }
     ensures told { has_failed spool ≡ false → IfErr result.1 (λ e. IsToldAfter result.0.stopped e.0) }
     ensures cause { IfErr result.1 (λ e. IsClean (view e.1) → (kind : StoreKind) → e.0 ≡ StoreFault.Store kind → HasSomeCause kind e.1) }
     ensures every { has_failed spool ≡ false → ((result.0.stopped ≡ None) ↔ (length result.0.replies.items ≡ length commands.items)) }
@@ -124,9 +124,9 @@ fn run_and_close<D: Disk + Drop>(
 
 /// Opens the file again, after any stretches of work over it. While nobody else wrote the files,
 /// and the disk returned what was written, the spool shows exactly the state that the machine
-/// reaches by the commands that count; so a job whose number was told is there with all its bytes,
-/// until an accepted command kills it or delivers it, and no other job has its number. To a key the
-/// number was told of the job that was handed in first under it.
+/// reaches by the commands that count. So an acknowledged job is there with all its bytes, until an
+/// accepted command kills it or delivers it, and no other job has its number. If the number was
+/// given to a key, this holds of the job that was handed in first under it.
 ///
 /// # Errors
 /// Those of [`open_spool`].
@@ -145,7 +145,7 @@ pub fn start_again<H: FileHistory, T: Start>(
         → (s : State) (key : Key) (new : NewJob) (number : ℕ) → ImageKeeps H.before s → AllFilesPassed H.before H.stretches → image_at T.Start ≡ last_left H.before H.stretches
         → IsAcknowledgedUnder (file_exchanges H.stretches) key new number → ∥ ShowsUnder s (file_exchanges H.stretches) key number spool ∥₁) }
 
-    // Beside that, it is opened as any, so that further stretches go on from it.
+    // Besides, it is opened like any spool, so that further stretches go on from it.
     ensures usable { IfOk result (λ spool. has_failed spool ≡ false) }
     ensures started { IfOk result (Started (image_at T.Start)) }
     ensures alone { IfOk result (λ spool. HasCleanDisk (disk spool) → (s : State) → ImageKeeps (image_at T.Start) s → Leaves (disk spool) s) }

@@ -1,6 +1,6 @@
-// Stops of a disk while questions are asked of a spool that earlier commands left there, and while
-// it is let go: what is opened afterwards is the state shown. Few pages are kept in memory, so that
-// the questions read the files.
+// Stops of a disk while a spool with the jobs of earlier commands is asked questions, and while it
+// is let go. The spool that is opened afterwards shows the same state. Few pages are kept in
+// memory, so that the questions read the files.
 use crate::disk::{
     Contents, FEW_PAGES, LONG_LOG, Place, SHORTEST_LOG, Stop, Use, Visitor, nothing, visit_files,
 };
@@ -13,31 +13,35 @@ use sqlite::Alter;
 use std::alloc::Global;
 use std::mem::drop;
 use std::process::Abort;
-use uu_core::plain::Machine;
+use uu_plain::Machine;
 use uu_store::Reply::{Done, Number, Refused};
 use uu_store::{Refusal, Spool};
 
-/// The commands that are given before the questions: those of `TWO_SYSTEMS` while both have a job.
+/// The commands before the questions: those of `TWO_SYSTEMS` while both have a job, and a job that
+/// unc hands on.
 const TWO_JOBS: &[Step] = &[
     Does(Order::Define("duke", ANY_30, 2), Done),
     Does(Order::Define("unc", ANY, 26), Done),
     Does(Order::Queue("duke", b'N', Work::Send, 40_000), Number(1)),
     Does(Order::Queue("unc", b'A', Work::Send, 0), Number(2)),
+    Does(Order::HandOn("unc", 7, 1, "duke"), Number(3)),
     Does(Order::Kill(9, "root", true), Refused(Refusal::NoJob)),
     Does(Order::Rejuvenate(1), Done),
     Does(Order::Regrade(1, b'9'), Done),
 ];
 
-const QUESTIONS: [Question; 6] = [
+const QUESTIONS: [Question; 8] = [
     Question::Jobs("", ""),
     Question::Job(1),
     Question::Due(MONDAY),
     Question::Systems,
     Question::Entry("unc"),
+    Question::Taken("unc"),
+    Question::Kept("unc"),
     Question::Next,
 ];
 
-/// What the files hold after the commands: nearly all pages in this one.
+/// The contents of the files after the commands, nearly all of them in this file.
 fn prepared(rt: &impl Abort, alloc: Global, place: Place) -> Contents {
     let options = match place {
         Place::Log => LONG_LOG,
@@ -53,7 +57,7 @@ fn prepared(rt: &impl Abort, alloc: Global, place: Place) -> Contents {
     visit.synced
 }
 
-/// Asks until a question is not answered.
+/// Asks until a question isn't answered.
 #[derive(Drop)]
 struct Ask {
     /// The answers to the questions, as the machine gives them.
@@ -68,7 +72,7 @@ impl Visitor for Ask {
     }
 }
 
-/// Asks a question: whether it was answered, which has to be as wanted.
+/// Asks a question, and says whether it was answered. The answer has to be the expected one.
 fn is_answered<S: Alter>(
     rt: &impl Abort,
     alloc: Global,
@@ -89,7 +93,7 @@ fn is_answered<S: Alter>(
     }
 }
 
-/// Asks until a question is not answered, and tells how many were.
+/// Asks until a question isn't answered, and says how many were.
 fn answered<S: Alter>(
     rt: &impl Abort,
     alloc: Global,
@@ -135,7 +139,7 @@ fn is_opened(rt: &impl Abort, alloc: Global, contents: &Contents, stop: Stop) ->
     visit_files(rt, alloc, contents, used, &mut no_command()).is_taken()
 }
 
-/// The fewest calls of a file with which the spool is opened.
+/// The fewest calls of a file that open the spool.
 fn fewest_calls(rt: &impl Abort, alloc: Global, contents: &Contents, place: Place) -> u64 {
     let mut low = 0u64;
     let mut high = 65_536u64;
@@ -150,8 +154,8 @@ fn fewest_calls(rt: &impl Abort, alloc: Global, contents: &Contents, place: Plac
     high
 }
 
-/// A stop while the opened spool is asked and let go: what was synced then. What is left is what
-/// the stop before left, or else it is opened and shown.
+/// A stop while the opened spool is asked and let go. Gives what was synced then. What is left is
+/// what the stop before left, or else it is opened and shown.
 fn stop_at(
     rt: &impl Abort,
     alloc: Global,
@@ -174,7 +178,7 @@ fn stop_at(
 }
 
 /// Stops at each call of one file from the first question on, until all are answered, and at ten
-/// calls more, of which there are none: how many questions were answered before the stops, each
+/// more calls, which never come. Gives how many questions were answered before the stops, each
 /// number once.
 fn stop_at_each_call(rt: &impl Abort, alloc: Global, place: Place) -> Vec<usize> {
     let contents = prepared(rt, alloc, place);
@@ -208,19 +212,21 @@ fn stop_at_each_call(rt: &impl Abort, alloc: Global, place: Place) -> Vec<usize>
     panic!(rt; "the questions do not end")
 }
 
-/// Stops fall where so many questions are answered, and some after the last.
+/// Stops come after so many answered questions, and some after the last.
 fn expect_stops_after(rt: &impl Abort, alloc: Global, place: Place, answered: &[usize]) {
     let reached = stop_at_each_call(rt, alloc, place);
     assert_eq!(rt; reached.as_slice(), answered);
 }
 
+// Why a system would not be removed is answered from pages that are still in memory, so no stop
+// comes there.
 #[test]
 fn questions_and_stops_of_the_log(rt: HostRuntime) {
-    expect_stops_after(&rt, rt.alloc(), Place::Log, &[0, 1, 2, 3, 4, 5, 6]);
+    expect_stops_after(&rt, rt.alloc(), Place::Log, &[0, 1, 2, 3, 4, 5, 7, 8]);
 }
 
-// The first question finds all that it asks for in the log.
+// The first question finds everything that it asks for in the log.
 #[test]
 fn questions_and_stops_of_the_database(rt: HostRuntime) {
-    expect_stops_after(&rt, rt.alloc(), Place::Database, &[1, 2, 3, 4, 5, 6]);
+    expect_stops_after(&rt, rt.alloc(), Place::Database, &[1, 2, 3, 4, 5, 7, 8]);
 }

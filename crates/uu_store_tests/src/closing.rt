@@ -1,6 +1,6 @@
 // A stop at each call of a disk while the files of a spool are closed. The spool that is opened
-// afterwards shows what the plain machine holds. The log is never copied before, so that the close
-// has all of it to copy.
+// afterwards shows what the plain machine holds. The log was never copied before, so the close has
+// to copy all of it.
 use crate::disk::{End, LONG_LOG, Place, Stop, Use, Visit, nothing, visit_files};
 use crate::questions::{Step, told_picture};
 use crate::scripts::{EVERY_KIND, LARGE_JOB, machine_after};
@@ -12,8 +12,8 @@ use uu_store::StoreFault;
 /// The fewest calls of a file that a close makes.
 const FEWEST: u32 = 2;
 
-/// What is shown after a visit whose commands were all answered. The files may have been closed,
-/// and then the database file shows the same with no log beside it.
+/// The picture after a visit whose commands were all answered. If the files were closed, the
+/// database file without a log shows the same.
 fn expect_kept(rt: &impl Abort, alloc: Global, visit: Visit, picture: &str) {
     expect_shown(rt, alloc, &visit.synced, picture);
     expect_shown(rt, alloc, &visit.written, picture);
@@ -23,15 +23,15 @@ fn expect_kept(rt: &impl Abort, alloc: Global, visit: Visit, picture: &str) {
     }
 }
 
-/// A spool that failed is not closed.
+/// A failed spool isn't closed.
 fn expect_unclosed(rt: &impl Abort, end: End) {
     let is_unclosed = matches!(end, End::Untaken | End::Refused(StoreFault::Failed));
     assert!(rt; is_unclosed, "a failed spool is closed");
 }
 
 /// Gives all commands of a script, and stops at each call of one file, counting up until the files
-/// are closed. Where a stop comes within the commands, which other tests have, the spool has
-/// failed, and is not closed.
+/// are closed. If a stop comes within the commands, the spool has failed and isn't closed; other
+/// tests are about these stops.
 fn stop_at_each_call(rt: &impl Abort, alloc: Global, place: Place, script: &'static [Step]) {
     let count = script.len();
     let machine = machine_after(rt, alloc, script, count);

@@ -1,5 +1,5 @@
-// A spool over the two files of a disk, one of which refuses every call from some call on. As those
-// of the program, they are synced only where they are dirty.
+// A spool over the two files of a disk, one of which refuses every call from some call on. Like the
+// program's files, they are synced only if they are dirty.
 ghost use Rattle.std.specs.Prelude.{◌≡◌, false};
 
 use crate::rows::rows_of;
@@ -18,15 +18,15 @@ pub(crate) enum Place {
     Database,
 }
 
-/// A file answers so many calls and refuses every later one.
+/// A file answers so many calls, and refuses every later one.
 #[derive(Clone, Copy)]
 pub(crate) struct Stop {
     pub(crate) place: Place,
     pub(crate) calls: u64,
 }
 
-/// All pages stay in memory, and a log of eight frames is copied into the database file before the
-/// next transaction.
+/// All pages stay in memory. A log of eight frames is copied into the database file before the next
+/// transaction.
 pub(crate) const SHORT_LOG: Options = Options {
     cache_pages: 2_000,
     spill_pages: 4,
@@ -50,7 +50,7 @@ pub(crate) const LONG_LOG: Options = Options {
     seed: 7,
 };
 
-/// Eight pages stay in memory, so that questions read the files.
+/// Eight pages stay in memory, so questions read the files.
 pub(crate) const FEW_PAGES: Options = Options {
     cache_pages: 8,
     spill_pages: 4,
@@ -58,8 +58,8 @@ pub(crate) const FEW_PAGES: Options = Options {
     seed: 7,
 };
 
-/// How the files are used, when one of them stops, and whether they are closed at the end, or else
-/// let go.
+/// How the files are used, when one of them stops, and whether they are closed at the end or let
+/// go.
 #[derive(Clone, Copy)]
 pub(crate) struct Use {
     pub(crate) options: Options,
@@ -103,7 +103,7 @@ impl Contents {
         self.log.as_slice() == other.log.as_slice() && self.has_same_database(other)
     }
 
-    /// The database file, with no log beside it.
+    /// The database file without a log.
     pub(crate) fn database_alone(self, alloc: Global) -> Contents {
         Contents {
             log: Vec::new(alloc),
@@ -112,7 +112,7 @@ impl Contents {
     }
 }
 
-/// Files that are not there yet.
+/// Files that don't exist yet.
 pub(crate) fn nothing(alloc: Global) -> Contents {
     Contents {
         log: Vec::new(alloc),
@@ -123,11 +123,11 @@ pub(crate) fn nothing(alloc: Global) -> Contents {
 /// How a visit ended.
 #[derive(Clone, Copy)]
 pub(crate) enum End {
-    /// The files were not taken as a spool.
+    /// The files weren't taken as a spool.
     Untaken,
     LetGo,
     Closed,
-    /// The files were not closed.
+    /// The files weren't closed.
     Refused(StoreFault),
 }
 
@@ -152,8 +152,8 @@ pub(crate) trait Visitor {
     fn visit<R: Abort, S: Alter>(&mut self, rt: &R, alloc: Global, spool: &mut Spool<S>);
 }
 
-/// Opens files with these contents, takes them as a spool, has it visited, and closes it or lets it
-/// go.
+/// Opens files with these contents, takes them as a spool, lets it be visited, and closes it or
+/// lets it go.
 pub(crate) fn visit_files<R: Abort, V: Visitor>(
     rt: &R,
     alloc: Global,
@@ -166,8 +166,8 @@ pub(crate) fn visit_files<R: Abort, V: Visitor>(
     visit_of(rt, alloc, end, files)
 }
 
-/// What files with these contents hold once these statements have changed their database, and the
-/// rows of the answer to a question behind them. Nothing is taken as a spool.
+/// The contents of files after these statements changed their database, and the rows of the answer
+/// to a question after them. Nothing is taken as a spool.
 pub(crate) fn change_files(
     rt: &impl Abort,
     alloc: Global,
@@ -198,7 +198,7 @@ fn changed<D: Disk + Drop>(
     }
 }
 
-/// The same of a database over any store.
+/// The same for a database over any store.
 fn changed_in<S: Alter + Drop>(
     rt: &impl Abort,
     conn: Connection<S>,
@@ -286,7 +286,7 @@ enum Left<S: Alter> {
     Open(Spool<S>),
 }
 
-/// Has the spool in a database visited, and lets it go where its files are not to be closed.
+/// Lets the spool in a database be visited, and lets it go if its files aren't to be closed.
 fn visited_in<R: Abort, S: Alter + Drop, V: Visitor>(
     rt: &R,
     alloc: Global,
@@ -308,7 +308,7 @@ fn visited_in<R: Abort, S: Alter + Drop, V: Visitor>(
     }
 }
 
-/// A spool that was visited: it stays open where its files are to be closed.
+/// A spool after its visit. It stays open if its files are to be closed.
 fn left_open<S: Alter + Drop>(spool: Spool<S>, closes: bool) -> Left<S> {
     if closes {
         Left::Open(spool)
@@ -317,7 +317,7 @@ fn left_open<S: Alter + Drop>(spool: Spool<S>, closes: bool) -> Left<S> {
     }
 }
 
-/// The files, which are closed where the spool is open.
+/// The files. They are closed if the spool is open.
 fn ended<D: Disk + Drop>(left: Left<FileStore<D>>) -> (Files<D>, End) {
     match left {
         Left::Untaken(store) => (store.close(), End::Untaken),

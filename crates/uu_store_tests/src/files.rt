@@ -24,7 +24,7 @@ const DUKE: Order = Order::Define("duke", ANY, 26);
 
 const JOB: Order = Order::Queue("duke", b'N', Work::Send, 2);
 
-/// Removes a file, which may not be there.
+/// Removes a file, which may not exist.
 fn remove(rt: &(impl Abort + Files), path: &str) {
     if let Err(error) = fs::remove_file(rt, path) {
         assert!(rt;
@@ -34,7 +34,7 @@ fn remove(rt: &(impl Abort + Files), path: &str) {
     }
 }
 
-/// Files that held nothing, with no stretch over them. Only clauses read it.
+/// Files that held nothing, and no stretch over them. Only clauses read it.
 struct NoHistory;
 
 impl FileHistory for NoHistory {
@@ -92,7 +92,7 @@ fn worked_and_closed<T: Start>(
     ended_and_closed(work_and_close(host, FILE, start, commands))
 }
 
-/// A stretch is given these commands, and replies so.
+/// A stretch gets these commands, and gives these replies.
 fn expect_stretch<T: Start>(
     rt: &impl Abort,
     host: &HostRuntime,
@@ -122,7 +122,7 @@ fn expect_next<T: Start>(rt: &impl Abort, host: &HostRuntime, start: T) {
     expect_next_in_files(rt, host.alloc(), opened);
 }
 
-/// The same, of what an opening answered.
+/// The same for the result of an opening.
 fn expect_next_in_files<D: Disk + Drop, F: Drop>(
     rt: &impl Abort,
     alloc: Global,

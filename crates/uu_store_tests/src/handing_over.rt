@@ -1,5 +1,5 @@
-// Databases that are handed to a spool and come back: an adopted one by `release`, a refused one
-// with its fault.
+// Databases that are handed to a spool and come back: one that was taken by `release`, a refused
+// one with its fault.
 use crate::order::{Order, Work};
 use crate::questions::Question::{Jobs, Next};
 use crate::questions::Step::{Does, Says};
@@ -13,7 +13,7 @@ use uu_store::{Spool, StoreFault};
 
 const NO_JOB: &[Step] = &[Says(Next, "1"), Says(Jobs("", ""), "")];
 
-/// A job is handed in where none was.
+/// The first job is handed in.
 const FIRST_JOB: &[Step] = &[
     Says(Next, "1"),
     DUKE,
@@ -38,7 +38,7 @@ fn a_spool_that_is_adopted_again_is_the_same(rt: HostRuntime) {
     play(&rt, alloc, &mut taken(&rt, alloc, conn), ONE_JOB);
 }
 
-/// The connection that is handed back where this database is refused, for that reason.
+/// The connection that comes back if this database is refused, for that reason.
 fn refused(
     rt: &impl Abort,
     alloc: Global,

@@ -1,6 +1,6 @@
 // Jobs that a neighbour hands on under keys, and a stop at each call of a disk meanwhile. The spool
-// that is opened afterwards is asked again for what was not answered: it replies as one that nobody
-// stopped, and holds each job once.
+// that is opened afterwards is asked again for what wasn't answered. It replies as without a stop,
+// and has each job once.
 use crate::disk::{Contents, LONG_LOG, Place, SHORT_LOG, Stop, Use, Visitor, nothing, visit_files};
 use crate::questions::{Step, asked_picture, told_picture};
 use crate::scripts::{HANDED_ON, machine_after};
@@ -10,7 +10,7 @@ use std::alloc::Global;
 use std::process::Abort;
 use uu_store::Spool;
 
-/// Gives a spool the rest of the script, all of which it answers, and keeps what it shows then.
+/// Gives a spool the rest of the script, all of which it answers, and keeps what it then shows.
 #[derive(Drop)]
 struct Rest {
     script: &'static [Step],
@@ -25,7 +25,7 @@ impl Visitor for Rest {
     }
 }
 
-/// The spool in files with these contents answers the rest, and shows this then.
+/// The spool in files with these contents answers the rest, and then shows this.
 fn expect_ended(
     rt: &impl Abort,
     alloc: Global,
@@ -45,7 +45,7 @@ fn expect_ended(
     );
 }
 
-/// A stop at a call of one file: whether every command was answered before it.
+/// A stop at a call of one file. Returns whether every command was answered before it.
 fn stop_at(rt: &impl Abort, alloc: Global, stop: Stop, picture: &str) -> bool {
     let mut give = giving(HANDED_ON, Way::OneByOne);
     let used = Use::stopped(SHORT_LOG, stop);

@@ -1,7 +1,7 @@
-// Which part of the store a fault tells of. A stop of the disk is told as one of the disk: other
-// tests see that at each of its calls (`expect_stopped`). Here the database itself refuses a
-// statement, whose answer has more rows than a limit on its steps allows. No row that a spool
-// writes is too big, so that this kind is seen of the error alone.
+// Which part of the store a fault is about. Other tests see the fault of a stopped disk at each of
+// its calls (`expect_stopped`). Here the database itself refuses a statement, whose answer has more
+// rows than a limit on its steps allows. A spool writes no row that is too big, so that kind is
+// only seen from the error.
 ghost use Rattle.std.specs.Prelude.{◌≡◌, false};
 
 use crate::order::{MONDAY, NIGHT, Order, Work, command};
@@ -64,7 +64,7 @@ fn a_question_tells_of_the_database(rt: HostRuntime) {
     expect_failed_since(&rt, &mut spool);
 }
 
-/// The commands of a run of which the second is refused by the database.
+/// The commands of a run. The database refuses the second.
 fn nightly_commands(rt: &impl Abort, alloc: Global) -> Vec<uu_store::Command> {
     let mut commands = Vec::new(alloc);
     for order in [
@@ -98,7 +98,7 @@ fn an_adoption_tells_of_the_database(rt: HostRuntime) {
     assert_eq!(rt; fault, REFUSED);
 }
 
-/// What errors of the database are told as.
+/// The kinds for errors of the database.
 const KINDS: [(ErrorCode, StoreKind); 8] = [
     (ErrorCode::SystemIoFailure, StoreKind::Disk),
     (ErrorCode::DatabaseCorrupt, StoreKind::Disk),

@@ -1,11 +1,16 @@
-//! Tests of the spool over disks and databases in memory: stops at each call of a disk, worked rows
-//! beside the plain machine, the pieces of jobs, what a listing costs, stretches of work over a
-//! file, jobs that are handed on under keys, databases of an earlier version, databases that are
-//! handed over, and syncs that are left out.
+//! Tests of the spool over disks and databases in memory:
+//!
+//! - stops at each call of a disk, and syncs that are left out
+//! - worked rows compared with the plain machine, the pieces of jobs, and the cost of a listing
+//! - stretches of work over a file
+//! - jobs that are handed on under keys, and bundles that are taken whole
+//! - databases of an earlier version, and databases that are handed over
 #![tactic(auto)]
 
 #[cfg(test)]
 mod asking;
+#[cfg(test)]
+mod bundles;
 #[cfg(test)]
 mod closing;
 #[cfg(test)]

@@ -1,4 +1,4 @@
-// What listing many jobs costs.
+// The cost of listing many jobs.
 ghost use Rattle.std.specs.Prelude.{◌≡◌, false};
 
 use crate::order::Order;
@@ -12,7 +12,7 @@ use std::time::{Clock, Duration, Instant};
 use uu_store::Reply::Number;
 use uu_store::{Filter, Spool};
 
-/// Tells the spool of the system duke and queues so many jobs for it.
+/// Defines the system duke in the spool, and queues so many jobs for it.
 fn fill<S: Alter>(rt: &impl Abort, alloc: Global, spool: &mut Spool<S>, jobs: u32) {
     play(rt, alloc, spool, &[DUKE]);
     for number in 1..=jobs {
@@ -21,7 +21,7 @@ fn fill<S: Alter>(rt: &impl Abort, alloc: Global, spool: &mut Spool<S>, jobs: u3
     }
 }
 
-/// The time of a listing, which has so many jobs.
+/// The time of a listing of so many jobs.
 fn time_of_listing<S: Alter>(
     rt: &(impl Abort + Clock),
     alloc: Global,
@@ -35,7 +35,7 @@ fn time_of_listing<S: Alter>(
     time
 }
 
-/// The time of one listing of so many jobs, in a spool in a database that is fresh.
+/// The time of one listing of so many jobs, in a spool in a new database.
 fn listing_in<S: Alter + Drop>(
     rt: &(impl Abort + Clock),
     alloc: Global,
@@ -55,8 +55,8 @@ fn listing(rt: &(impl Abort + Clock), alloc: Global, jobs: u32) -> Duration {
     listing_in(rt, alloc, conn, jobs)
 }
 
-// Ten times as many jobs take ten times as long, and a little more for the sorting; a loaded
-// machine is given ten times that and a little time beside.
+// Ten times as many jobs take ten times as long, and a little more for the sort. A loaded machine
+// may take ten times that, and a little more.
 fn expect_little_more(rt: &impl Abort, few: Duration, many: Duration) {
     let room = Duration::from_millis(20);
     assert!(rt; many <= few.saturating_mul(150).saturating_add(room));

@@ -1,6 +1,6 @@
 // A stop at each call of a disk while files of an earlier version are taken as a spool, and their
-// tables become those of version 3. Whatever it leaves is one of the two versions, and the spool
-// that is opened afterwards shows what the plain machine holds.
+// tables become those of version 3. Any stop leaves one of the two versions, and the spool that is
+// opened afterwards shows what the plain machine holds.
 use crate::disk::{
     Contents, LONG_LOG, Place, SHORTEST_LOG, Stop, Use, Visit, Visitor, change_files, nothing,
     visit_files,
@@ -14,8 +14,8 @@ use std::alloc::Global;
 use std::process::Abort;
 use uu_store::Spool;
 
-/// So many commands of the script are given: a job of several pieces is there, and a call has
-/// failed.
+/// The commands of the script that are given, so many: a job of several pieces is there, and a call
+/// has failed.
 const COUNT: usize = 8;
 
 /// Gives a spool the commands.
@@ -30,11 +30,11 @@ impl Visitor for Fill {
     }
 }
 
-/// A version that was, and how files get it.
+/// An earlier version, and how files get it.
 #[derive(Clone, Copy)]
 struct Earlier {
     version: u32,
-    /// What it has not, and its number.
+    /// The statements that remove what it lacks, and its number.
     into: &'static [&'static str],
 }
 
@@ -79,15 +79,15 @@ fn version_in(rt: &impl Abort, alloc: Global, contents: &Contents) -> u32 {
 enum Left {
     /// The files as they were.
     Same,
-    /// Other files of the version that was.
+    /// Other files of the earlier version.
     Earlier,
-    /// The version that was in what was synced, and version 3 in all that was written.
+    /// The earlier version in what was synced, and version 3 in all that was written.
     Written,
     /// Version 3: the files were taken.
     Taken,
 }
 
-/// What files hold after a stop that left something else than the files as they were.
+/// The version of files after a stop that changed them.
 fn left_by(rt: &impl Abort, alloc: Global, visit: &Visit, was: u32, picture: &str) -> Left {
     expect_shown(rt, alloc, &visit.synced, picture);
     expect_shown(rt, alloc, &visit.written, picture);
@@ -117,8 +117,9 @@ fn stop_at(
     left_by(rt, alloc, &visit, was, picture)
 }
 
-/// Stops at each call of one file, counting up until the files are taken: how many left other files
-/// of the version that was, and how many left version 3 where all that was written was kept.
+/// Stops at each call of one file, counting up until the files are taken. Returns how many left
+/// other files of the earlier version, and how many left version 3 if all that was written was
+/// kept.
 fn stop_at_each_call(
     rt: &impl Abort,
     alloc: Global,
@@ -145,7 +146,7 @@ fn stop_at_each_call(
     panic!(rt; "no opening ends")
 }
 
-// The last stop falls between the frames of the one commit and their sync.
+// The last stop comes between the frames of the one commit and their sync.
 fn stops_of_the_log(rt: &impl Abort, alloc: Global, was: Earlier) {
     let (earlier, written) = stop_at_each_call(rt, alloc, was, Place::Log, LONG_LOG);
     assert!(rt; earlier > 0, "no stop before the commit");

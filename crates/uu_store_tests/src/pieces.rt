@@ -1,4 +1,4 @@
-// The pieces in which the bytes of a job are kept, seen by a question on their table.
+// The pieces of a job's bytes, read by a question on their table.
 use crate::order::{Order, Work};
 use crate::questions::Step;
 use crate::questions::Step::Does;
@@ -9,7 +9,7 @@ use std::alloc::Global;
 use std::process::Abort;
 use uu_store::Reply::Number;
 
-/// A job, its bytes, how many pieces they are cut into, and how many bytes the last one has. Each
+/// A job, its bytes, the number of their pieces, and the number of bytes of the last one. Each
 /// other piece has 16,384.
 const PIECES: [(&[Step], usize, usize, u32); 5] = [
     (

@@ -1,4 +1,4 @@
-// The ranges of time lines: as rows of their table, and a line that has none.
+// The ranges of time lines: as rows of their table, and a line without ranges.
 use crate::order::{MONDAY, NEVER_OPEN, NIGHT, Order, SUNDAY};
 use crate::questions::Question::{Chosen, Due, Jobs, Systems};
 use crate::questions::Step::{Does, Says};

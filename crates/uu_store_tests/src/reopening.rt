@@ -1,12 +1,13 @@
-// A stop at each call of a disk while the spool is opened that an earlier stop left: what is opened
-// afterwards is what the earlier one left.
+// A stop at each call of a disk while a spool is opened after an earlier stop. What is opened
+// afterwards is what the earlier stop left.
 use crate::disk::{Contents, Place, SHORT_LOG, Stop, Use, nothing, visit_files};
 use crate::scripts::LARGE_JOB;
 use crate::visitors::{Way, expect_shown, giving, no_command, shown};
 use std::alloc::Global;
 use std::process::Abort;
 
-/// A stop while files with these contents are opened: whether they were taken as a spool before it.
+/// A stop while files with these contents are opened. Returns whether they were taken as a spool
+/// before it.
 fn stop_at(rt: &impl Abort, alloc: Global, contents: &Contents, stop: Stop, picture: &str) -> bool {
     let used = Use::stopped(SHORT_LOG, stop);
     let visit = visit_files(rt, alloc, contents, used, &mut no_command());
@@ -28,9 +29,8 @@ fn stop_at_each_call(rt: &impl Abort, alloc: Global, contents: &Contents, place:
     panic!(rt; "no opening ends")
 }
 
-/// A run is stopped at each call of one file, until all commands are answered. Where that leaves
-/// something new on the disk, it is opened with a stop at each call of the same file or of the
-/// other.
+/// Stops a run at each call of one file, until all commands are answered. If that leaves something
+/// new on the disk, it is opened with a stop at each call of the same file or of the other.
 fn stop_twice(rt: &impl Abort, alloc: Global, place: Place, again: Place) {
     let mut before = nothing(alloc);
     for calls in 0..10_000 {

@@ -1,4 +1,4 @@
-// What a table holds, asked of the database under a spool.
+// The rows of a table, read from the database under a spool.
 use sqlite::{Alter, Connection, Row};
 use std::process::Abort;
 

@@ -1,4 +1,4 @@
-// Runs and stretches with ample memory, of the spool and of the plain machine, which answer every
+// Runs and stretches with ample memory, of the spool and of the plain machine. They answer every
 // command.
 ghost use Rattle.std.specs.Prelude.{◌≡◌, false};
 
@@ -8,7 +8,7 @@ use crate::worked::fresh;
 use sqlite::{Alter, Connection};
 use std::alloc::Global;
 use std::process::Abort;
-use uu_core::plain::Machine;
+use uu_plain::Machine;
 use uu_store::{Command, Reply, RunEnd, Spool};
 
 const SCRIPTS: [&[Step]; 4] = [&[], LARGE_JOB, TWO_SYSTEMS, EVERY_KIND];
@@ -18,7 +18,7 @@ fn expect_whole(rt: &impl Abort, end: &RunEnd, wanted: &[Reply]) {
     assert_eq!(rt; end.replies.as_slice(), wanted);
 }
 
-/// The plain machine answers every command of a script in a run, too, and shows then what it does
+/// The plain machine answers every command of a script in a run, too, and then shows what it shows
 /// after as many steps.
 fn expect_machine_run(
     rt: &impl Abort,
@@ -34,7 +34,7 @@ fn expect_machine_run(
     assert_eq!(rt; shown.as_str(), picture);
 }
 
-/// The spool answers every command of a script, and shows then what the machine does.
+/// The spool answers every command of a script, and then shows what the machine shows.
 fn expect_run<S: Alter>(rt: &impl Abort, alloc: Global, spool: &mut Spool<S>, script: &[Step]) {
     let wanted = replies(rt, alloc, script);
     let pictures = pictures(rt, alloc, script);
@@ -53,7 +53,7 @@ fn a_run_answers_every_command(rt: HostRuntime) {
     }
 }
 
-/// How a stretch of work in a database ended, which has to be taken as a spool.
+/// How a stretch of work in a database ended. The database has to be taken as a spool.
 fn stretch_in<S: Alter + Drop>(
     rt: &impl Abort,
     alloc: Global,

@@ -1,12 +1,12 @@
-// Lists of commands with their replies, given to spools that are stopped, and what the plain
-// machine shows after each command.
+// Lists of commands with their replies for spools that are stopped, and what the plain machine
+// shows after each command.
 use crate::order::{ANY, ANY_30, MONDAY, NIGHT, OFFICE, Order, Work, command};
 use crate::questions::Question::{Due, Entry, Jobs, Next, Systems};
 use crate::questions::Step::{Does, Says};
 use crate::questions::{Step, reply, told_picture};
 use std::alloc::Global;
 use std::process::Abort;
-use uu_core::plain::Machine;
+use uu_plain::Machine;
 use uu_store::Reply::{Done, Number, Refused};
 use uu_store::{Command, Refusal, Reply};
 
@@ -30,6 +30,10 @@ pub(crate) const EVERY_KIND: &[Step] = &[
     Does(Order::Queue("duke", b'N', Work::Execute(1), 0), Number(4)),
     Does(Order::Kill(2, "root", true), Done),
     Does(Order::Called("duke", &[3, 1]), Done),
+    // Duke has one of these jobs, which is removed; unc has none.
+    Does(Order::Queue("duke", b'N', Work::Send, 20_000), Number(5)),
+    Does(Order::Release("unc", &[4, 5]), Done),
+    Does(Order::Release("duke", &[9, 5, 3, 5]), Done),
     Does(Order::Remove("unc"), Done),
     Does(Order::Remove("duke"), Refused(Refusal::Busy)),
     Does(Order::Define("duke", ANY, 26), Done),
@@ -42,7 +46,7 @@ pub(crate) const LARGE_JOB: &[Step] = &[
     Does(Order::Regrade(1, b'A'), Done),
 ];
 
-/// Two systems and two jobs until they are done, and who is to be called in between.
+/// Two systems, two jobs until they are done, and which systems are called in between.
 pub(crate) const TWO_SYSTEMS: &[Step] = &[
     Does(Order::Define("duke", ANY_30, 2), Done),
     Does(Order::Define("unc", ANY, 26), Done),
@@ -66,8 +70,8 @@ pub(crate) const TWO_SYSTEMS: &[Step] = &[
     Says(Entry("unc"), "#N unc\nunc duke\n"),
 ];
 
-/// Jobs that a neighbour hands on, and the numbers that it is done with. Each command is answered
-/// the same when it is given again.
+/// Jobs that a neighbour hands on, and the numbers that it won't ask for again. Each command gets
+/// the same answer when it is given again.
 pub(crate) const HANDED_ON: &[Step] = &[
     Does(Order::Define("duke", ANY, 26), Done),
     Does(Order::Define("unc", ANY, 26), Done),
@@ -102,7 +106,7 @@ pub(crate) fn commands(
     commands
 }
 
-/// The replies that a script wants.
+/// The replies that a script expects.
 pub(crate) fn replies(rt: &impl Abort, alloc: Global, script: &[Step]) -> Vec<Reply> {
     let mut replies = Vec::new(alloc);
     for step in script {

@@ -1,6 +1,6 @@
 // A stop at each call of a disk while commands are given: from some call on, one of the two files
 // refuses every call. The spool that is opened afterwards shows what the plain machine holds after
-// the commands that were answered, or after one more. The log is short, so that stops fall within
+// the commands that were answered, or after one more. The log is short, so that stops come within
 // its checkpoints too.
 use crate::disk::{Contents, Place, SHORT_LOG, Stop, Use, Visit, nothing, visit_files};
 use crate::questions::Step;
@@ -9,7 +9,7 @@ use crate::visitors::{Give, Way, giving, shown};
 use std::alloc::Global;
 use std::process::Abort;
 
-/// How many commands were answered, and how many may have been carried out.
+/// How many commands were answered, and how many more may have been carried out.
 #[derive(Clone, Copy)]
 struct Reached {
     least: usize,
@@ -34,12 +34,13 @@ fn expect_reached(
 /// A stop of a list of commands.
 #[derive(Drop)]
 struct Stopped {
-    /// Whether all commands were answered before it.
+    /// Whether all commands were answered before the stop.
     is_whole: bool,
     visit: Visit,
 }
 
-/// A stop at a call of one file. One that comes while the tables are made leaves an empty spool.
+/// A stop at a call of one file. If it comes while the tables are being made, an empty spool is
+/// left.
 fn stop_at(rt: &impl Abort, alloc: Global, give: Give, stop: Stop, pictures: &[String]) -> Stopped {
     let last = pictures.len().saturating_sub(1);
     let used = Use::stopped(SHORT_LOG, stop);
@@ -60,10 +61,10 @@ fn stop_at(rt: &impl Abort, alloc: Global, give: Give, stop: Stop, pictures: &[S
     }
 }
 
-/// Stops at each call of one file, counting up until the last command is answered, and at ten calls
-/// more, of which there are none. Where a stop leaves another database file than the one before, a
-/// checkpoint was finished in between: the stop of the database file before, and that of the log
-/// after, fell within it.
+/// Stops at each call of one file, counting up until the last command is answered, and at ten more
+/// calls, which never come. If a stop leaves another database file than the one before, a
+/// checkpoint was finished in between. The stop of the database file before, and that of the log
+/// after, came within it.
 fn stop_at_each_call(
     rt: &impl Abort,
     alloc: Global,

@@ -1,16 +1,16 @@
-// What the file behind one that is synced only where it is dirty is asked.
+// The calls that the inner file gets when a file is synced only if it is dirty.
 use sqlite_disk::{Disk, Fuse, Memory};
 use std::alloc::Global;
 use std::process::Abort;
 use uu_files::SyncWhenDirty;
 
-/// A file of which the file behind answers so many calls.
+/// A file whose inner file answers so many calls.
 fn file_of(alloc: Global, calls: u64) -> SyncWhenDirty<Fuse<Memory>> {
     SyncWhenDirty::new(Fuse::new(Memory::new(alloc), calls))
 }
 
-/// Three of these seven calls reach the file behind, which answers three: a sync of a file that
-/// nobody called synced, a write, and the sync behind that.
+/// Three of these seven calls reach the inner file, which answers three: a sync of a file that may
+/// not be synced, a write, and the sync after it.
 fn expect_three_calls(rt: &impl Abort, alloc: Global) {
     let mut file = file_of(alloc, 3);
     assert!(rt; file.may_be_used(), "a sync of this file has failed");
@@ -23,7 +23,7 @@ fn expect_three_calls(rt: &impl Abort, alloc: Global) {
     assert!(rt; file.sync().is_err(), "the sync behind a write that failed");
 }
 
-/// The same of a change of the length.
+/// The same for a change of the length.
 fn expect_cut_is_synced(rt: &impl Abort, alloc: Global) {
     let mut file = file_of(alloc, 2);
     assert!(rt; file.may_be_used(), "a sync of this file has failed");

@@ -1,4 +1,4 @@
-// What is done with a spool on a disk that may stop.
+// What visitors do with a spool on a disk that may stop.
 use crate::disk::{Contents, LONG_LOG, Use, Visitor, visit_files};
 use crate::order::{Order, command};
 use crate::questions::Step::Does;
@@ -9,7 +9,7 @@ use std::alloc::Global;
 use std::process::Abort;
 use uu_store::{Reply, RunEnd, Spool, StoreFault, StoreKind};
 
-/// How a spool is given the commands of a script.
+/// How a spool gets the commands of a script.
 #[derive(Clone, Copy)]
 pub(crate) enum Way {
     OneByOne,
@@ -24,7 +24,7 @@ pub(crate) struct Give {
     pub(crate) answered: usize,
 }
 
-/// The commands of a script, of which none is given yet.
+/// The commands of a script, before any of them is given.
 pub(crate) fn giving(script: &'static [Step], way: Way) -> Give {
     Give {
         script,
@@ -47,8 +47,8 @@ impl Visitor for Give {
     }
 }
 
-/// Gives a spool the commands of a script one by one up to the first fault: how many it answered,
-/// each of them as the script wants.
+/// Gives a spool the commands of a script one by one up to the first fault. Returns how many it
+/// answered, each as the script expects.
 pub(crate) fn given_one_by_one<S: Alter>(
     rt: &impl Abort,
     alloc: Global,
@@ -68,7 +68,7 @@ pub(crate) fn given_one_by_one<S: Alter>(
     answered
 }
 
-/// Gives a command: whether it was answered, which has to be as wanted.
+/// Gives a command. Returns whether it was answered; the reply has to be the expected one.
 fn is_answered<S: Alter>(
     rt: &impl Abort,
     alloc: Global,
@@ -107,7 +107,7 @@ fn given_as_a_run<S: Alter>(
     replies.len()
 }
 
-/// The replies are the first of those that are wanted.
+/// The replies are the first of the expected ones.
 fn expect_first(rt: &impl Abort, wanted: &[Reply], replies: &[Reply]) {
     assert!(rt; replies.len() <= wanted.len());
     for (given, want) in replies.iter().zip(wanted.iter()) {
@@ -132,7 +132,7 @@ pub(crate) fn expect_failed<S: Alter>(
     expect_answers_of_failed(rt, end, given, spool.next());
 }
 
-/// What a run, a command and a question are answered after a stop.
+/// The answers of a run, a command and a question after a stop.
 fn expect_answers_of_failed(
     rt: &impl Abort,
     end: RunEnd,

@@ -1,9 +1,9 @@
-// Worked rows: commands with their replies and questions with their answers, given to a spool in
-// memory, and then to another beside the plain machine.
+// Worked rows: commands with their replies and questions with their answers, for a spool in memory,
+// and then for another that is compared with the plain machine.
 ghost use Rattle.std.specs.Prelude.{◌≡◌, false};
 
 use crate::order::{ANY, ANY_30, HIGH, MONDAY, NIGHT, OFFICE, Order, SUNDAY, Work};
-use crate::questions::Question::{Chosen, Due, Entry, Job, Jobs, Next, Systems};
+use crate::questions::Question::{Chosen, Due, Entry, Job, Jobs, Kept, Next, Systems, Taken};
 use crate::questions::Step::{Does, Says};
 use crate::questions::{Step, compare, play};
 use crate::scripts::TWO_SYSTEMS;
@@ -13,7 +13,7 @@ use std::process::Abort;
 use uu_store::Reply::{Done, Number, Refused};
 use uu_store::{Refusal, Spool};
 
-/// The spool that this database has to be taken as.
+/// The spool of this database, which has to be taken.
 pub(crate) fn taken<S: Alter + Drop>(
     rt: &impl Abort,
     alloc: Global,
@@ -33,7 +33,7 @@ pub(crate) fn fresh(rt: &impl Abort, alloc: Global) -> Spool<MemStore> {
     taken(rt, alloc, conn)
 }
 
-/// Takes a database as a spool and through steps, and gives it back.
+/// Takes a database as a spool, gives it the steps, and gives the database back.
 pub(crate) fn played<S: Alter + Drop>(
     rt: &impl Abort,
     alloc: Global,
@@ -53,7 +53,7 @@ pub(crate) fn after(rt: &impl Abort, alloc: Global, steps: &[Step]) -> Connectio
     played(rt, alloc, conn, steps)
 }
 
-/// Takes a fresh spool through steps, and another beside the plain machine.
+/// Gives a new spool the steps, and another one with the plain machine.
 fn play_anew(rt: &impl Abort, alloc: Global, steps: &[Step]) {
     play(rt, alloc, &mut fresh(rt, alloc), steps);
     compare(rt, alloc, &mut fresh(rt, alloc), steps);
@@ -105,7 +105,7 @@ const FIVE_GRADES: &[Step] = &[
     ),
 ];
 
-/// So they do among the systems.
+/// The same order holds among the systems.
 const FIVE_SYSTEMS: &[Step] = &[
     Does(Order::Define("a", ANY, 26), Done),
     Does(Order::Define("b", ANY, 26), Done),
@@ -140,8 +140,8 @@ const REGRADING: &[Step] = &[
     Does(Order::Regrade(3, b'N'), Refused(Refusal::NoJob)),
 ];
 
-/// The wait is that of the lower grade. Monday at 10:00 is minute 2,040 of the week, at which the
-/// lower grade is let through, and its retry number counts.
+/// The wait is that of the lower grade. Monday at 10:00 is minute 2,040 of the week. The lower
+/// grade is allowed then, and its retry number counts.
 const TWO_LINES: &[Step] = &[
     Does(Order::Define("duke", OFFICE, 26), Done),
     Does(Order::File("duke", b'z'), Number(1)),
@@ -157,7 +157,7 @@ const TWO_LINES: &[Step] = &[
 
 const AGAIN: Step = Does(Order::Failed("duke", SUNDAY), Done);
 
-/// Waits grow until a call goes through.
+/// Waits grow until a call succeeds.
 const WAITS: &[Step] = &[
     DUKE,
     Says(Systems, "duke 26 [z 0 0-10079] 0 0 0 never/"),
@@ -186,8 +186,8 @@ const WAITS: &[Step] = &[
     Says(Systems, "duke 26 [C 0 0-10079] 0 0 1000116000 done/"),
 ];
 
-/// A system is left alone after a call that went well, with jobs and without. A new definition
-/// leaves a wait that runs, and counts from the next call on.
+/// A system is left alone after a successful call, with jobs and without. A new definition doesn't
+/// change a running wait, and counts from the next call on.
 const SUCCESS_WAITS: &[Step] = &[
     Does(Order::Rests("duke", ANY, 600), Done),
     Says(Systems, "duke 26 [z 0 0-10079] rests 600 0 0 0 never/"),
@@ -229,7 +229,7 @@ const SUCCESS_WAITS: &[Step] = &[
     Says(Systems, "duke 26 [z 0 0-10079] 0 0 0 never/"),
 ];
 
-/// A day is waited after the most retries.
+/// After the most retries the wait is a day.
 const MOST_RETRIES: &[Step] = &[
     Does(Order::Define("duke", ANY_30, 2), Done),
     Does(Order::File("duke", b'N'), Number(1)),
@@ -248,7 +248,7 @@ const THREE_LEFT: Step = Says(
     "1 duke ann N 0 1000000000 send /tmp/news ~/news/2 duke ann N 0 1000000000 send /tmp/news ~/news/3 unc ann N 0 1000000000 send /tmp/news ~/news/",
 );
 
-/// Refused reports leave the jobs. Job 4 of four is killed, and then reports are refused.
+/// Refused reports change no job. Job 4 of four is killed, and then reports are refused.
 const REPORTS: &[Step] = &[
     UNC,
     DUKE,
@@ -324,7 +324,7 @@ const HELD_AND_LOW: &[Step] = &[
     Says(Chosen(SUNDAY + 600), "unc 9 4/"),
 ];
 
-/// A system is called in its windows. From Monday 23:05 to Tuesday 07:55.
+/// A system is called within its windows, from Monday 23:05 to Tuesday 07:55.
 const NIGHTS: &[Step] = &[
     Does(Order::Define("duke", NIGHT, 26), Done),
     Does(Order::File("duke", b'N'), Number(1)),
@@ -363,6 +363,38 @@ const REJUVENATED: &[Step] = &[
     Says(Jobs("unc", ""), ""),
 ];
 
+/// A system has some jobs. Those of them that wait for it are removed, and no call is noted.
+const RELEASED: &[Step] = &[
+    DUKE,
+    Does(Order::Define("unc", ANY, 26), Done),
+    Does(Order::Queue("duke", b'N', Work::Send, 3), Number(1)),
+    Does(Order::Queue("duke", b'N', Work::Send, 20_000), Number(2)),
+    Does(Order::Queue("unc", b'N', Work::Send, 3), Number(3)),
+    Does(Order::Queue("duke", b'N', Work::Send, 3), Number(4)),
+    Does(Order::Failed("duke", MONDAY), Done),
+    // Job 3 is unc's, job 9 isn't there, and job 2 is named twice.
+    Does(Order::Release("duke", &[2, 3, 9, 1, 2]), Done),
+    Says(
+        Jobs("", ""),
+        "3 unc ann N 3 1000000000 send /tmp/news ~/news/4 duke ann N 3 1000000000 send /tmp/news ~/news/",
+    ),
+    Says(Kept("duke"), "Busy"),
+    // Given again it changes nothing, and nor does one without jobs or for a system that isn't
+    // known.
+    Does(Order::Release("duke", &[2, 3, 9, 1, 2]), Done),
+    Does(Order::Release("duke", &[]), Done),
+    Does(Order::Release("phs", &[3, 4]), Done),
+    Says(Kept("phs"), "NoSystem"),
+    Does(Order::Release("duke", &[4]), Done),
+    Says(Kept("duke"), ""),
+    Says(Jobs("duke", ""), ""),
+    Says(
+        Jobs("", ""),
+        "3 unc ann N 3 1000000000 send /tmp/news ~/news/",
+    ),
+    Does(Order::Queue("duke", b'N', Work::Send, 3), Number(5)),
+];
+
 /// Entries are replaced whole.
 const ENTRIES: &[Step] = &[
     Does(Order::Entry("#N unc\nunc duke(5)\n"), Done),
@@ -373,7 +405,7 @@ const ENTRIES: &[Step] = &[
     Says(Entry("duke"), ""),
 ];
 
-/// A neighbour hands on its jobs 7 and 8, and asks more than once.
+/// A neighbour hands on its jobs 7, 8 and 6, and asks more than once.
 const KEYS: &[Step] = &[
     DUKE,
     Does(
@@ -387,26 +419,33 @@ const KEYS: &[Step] = &[
         Order::HandOn("unc", 7, 2, "duke"),
         Refused(Refusal::Differs),
     ),
-    // The same number of another neighbour is another key.
+    // The same number from another neighbour is another key.
     Does(Order::HandOn("duke", 7, 2, "unc"), Number(2)),
     Does(Order::Called("duke", &[1]), Done),
     Does(Order::HandOn("unc", 7, 1, "duke"), Number(1)),
     Does(Order::HandOn("unc", 8, 1, "duke"), Number(3)),
+    Does(Order::HandOn("unc", 6, 1, "duke"), Number(4)),
+    // What was taken is in order of the numbers there, even if the job is gone since.
+    Says(Taken("unc"), "6 1 4/7 1 1/8 1 3/"),
+    Says(Taken("duke"), "7 2 2/"),
+    Says(Taken("phs"), ""),
     Does(Order::Forget("unc", 8), Done),
+    Says(Taken("unc"), "8 1 3/"),
     Does(Order::HandOn("unc", 7, 1, "duke"), Refused(Refusal::Stale)),
     Does(Order::HandOn("unc", 8, 1, "duke"), Number(3)),
-    // What was said of lower numbers stays.
+    // What the neighbour said about lower numbers stays.
     Does(Order::Forget("unc", 3), Done),
     Does(Order::HandOn("unc", 7, 1, "duke"), Refused(Refusal::Stale)),
     Does(Order::HandOn("duke", 7, 2, "unc"), Number(2)),
     Does(Order::Kill(2, "root", true), Done),
-    // A definition leaves the keys, and a removal takes them.
+    // A definition keeps the keys, and a removal removes them.
     Does(Order::Define("unc", NIGHT, 26), Done),
     Does(Order::HandOn("unc", 8, 1, "duke"), Number(3)),
     Does(Order::Remove("unc"), Done),
+    Says(Taken("unc"), ""),
     Does(Order::Forget("unc", 8), Refused(Refusal::NoSystem)),
     Does(Order::Define("unc", ANY, 26), Done),
-    Does(Order::HandOn("unc", 7, 1, "duke"), Number(4)),
+    Does(Order::HandOn("unc", 7, 1, "duke"), Number(5)),
 ];
 
 #[test]
@@ -416,7 +455,7 @@ fn jobs_with_keys_are_taken_as_worked(rt: HostRuntime) {
 
 #[test]
 fn jobs_are_kept_as_worked(rt: HostRuntime) {
-    for steps in [SIZES, FIVE_GRADES, REGRADING, REJUVENATED] {
+    for steps in [SIZES, FIVE_GRADES, REGRADING, REJUVENATED, RELEASED] {
         play_anew(&rt, rt.alloc(), steps);
     }
 }

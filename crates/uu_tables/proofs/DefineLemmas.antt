@@ -1,9 +1,10 @@
 -- A system that is defined, with its lines and their ranges.
-use Rattle.std.proofs.Common.{◌≡◌, ℕ, List, [], ◌∷◌, ◌++◌, Bool, true, false, filter, map, refl, sym, ap, ◌∙◌}
+use Rattle.std.proofs.Common.{◌≡◌, ℕ, List, ◌∷◌, ◌++◌, Bool, true, false, filter, map, refl, sym, ap, ◌∙◌}
 use Rattle.std.specs.List.{AllByRecursion, flat_map}
 use Rattle.std.specs.Cmp.Lexicographic.{bytes_decides}
 use Rattle.std.proofs.lemmas.List.{map-append}
 use Rattle.std.proofs.lemmas.List.Concat.{flat_map-append}
+use Rattle.uu_names.proofs.Basics.{AllPairsByRecursion, all_weaker, all_mapped, all_flat}
 use Rattle.uu_times.specs.System.{System}
 use Rattle.uu_core.specs.declared.command.Command.TheVariants.{Define}
 use Rattle.uu_core.specs.declared.system.CallState.{CallState}
@@ -16,23 +17,9 @@ use Rattle.uu_tables.specs.Tables.{PlacedLine, tables_of, system_columns, line_c
 use Rattle.uu_tables.specs.Changes.{without, has_name, insert_by}
 use Rattle.uu_tables.specs.Parts.{insert_each, with_lines, with_waits, with_definition}
 use Rattle.uu_tables.proofs.RowLemmas.{altered, each_made, none_go}
-use Rattle.uu_tables.proofs.OrderLemmas.{AllPairsByRecursion, before, weaker, found, none_passes}
+use Rattle.uu_tables.proofs.OrderLemmas.{before, found, none_passes}
 use Rattle.uu_tables.proofs.SystemLemmas.{each_placed, each_wait, lines_without, ranges_without, waits_without}
 use Rattle.uu_tables.proofs.InsertLemmas.{ahead, behind, own, is_behind_key, each_between, inserted_mapped, replaced_is_put, others_are, changed_is, found_none, kept_ahead, kept_behind}
-
--- ---- what is true of each row of several items
-
-all_append : {X : Type 0} (P : X → Type 0) (xs ys : List X) → AllByRecursion P xs → AllByRecursion P ys → AllByRecursion P (xs ++ ys)
-all_append P [] ys h k = k
-all_append P (x ∷ xs) ys h k = (h.0, all_append P xs ys h.1 k)
-
-pub all_flat : {X Y : Type 0} (P : Y → Type 0) (f : X → List Y) (xs : List X) → AllByRecursion (λ x. AllByRecursion P (f x)) xs → AllByRecursion P (flat_map f xs)
-all_flat P f [] h = tt
-all_flat P f (x ∷ xs) h = all_append P (f x) (flat_map f xs) h.0 (all_flat P f xs h.1)
-
-all_mapped : {X Y : Type 0} (P : Y → Type 0) (f : X → Y) (xs : List X) → AllByRecursion (λ x. P (f x)) xs → AllByRecursion P (map f xs)
-all_mapped P f [] h = tt
-all_mapped P f (x ∷ xs) h = (h.0, all_mapped P f xs h.1)
 
 -- ---- the lines and the ranges of some systems
 
@@ -45,16 +32,16 @@ ranges_of_all rows = flat_map ranges_of (flat_map placed rows)
 -- what is true of the name of each system is true of that of each line, and of each range
 module _ (P : List ℕ → Type 0) where
   of_placed : (rows : List SystemRow) → AllByRecursion (λ row. P row.def.name) rows → AllByRecursion (λ p. P p.system) (flat_map placed rows)
-  of_placed rows h = all_flat (λ p. P p.system) placed rows (weaker (λ row. P row.def.name) (λ row. AllByRecursion (λ p. P p.system) (placed row)) (λ row e. each_placed (λ p. P p.system) row.def.name (λ place line. e) 0 row.def.lines) rows h)
+  of_placed rows h = all_flat (λ p. P p.system) placed rows (all_weaker (λ row. P row.def.name) (λ row. AllByRecursion (λ p. P p.system) (placed row)) (λ row e. each_placed (λ p. P p.system) row.def.name (λ place line. e) 0 row.def.lines) rows h)
 
   of_lines : (ps : List PlacedLine) → AllByRecursion (λ p. P p.system) ps → AllByRecursion (λ l. P l.system) (map line_columns ps)
   of_lines ps h = all_mapped (λ l. P l.system) line_columns ps h
 
   of_ranges : (ps : List PlacedLine) → AllByRecursion (λ p. P p.system) ps → AllByRecursion (λ r. P r.system) (flat_map ranges_of ps)
-  of_ranges ps h = all_flat (λ r. P r.system) ranges_of ps (weaker (λ p. P p.system) (λ p. AllByRecursion (λ r. P r.system) (ranges_of p)) (λ p e. each_made (λ r. P r.system) (range_columns p.system p.place) (λ range. e) p.line.windows) ps h)
+  of_ranges ps h = all_flat (λ r. P r.system) ranges_of ps (all_weaker (λ p. P p.system) (λ p. AllByRecursion (λ r. P r.system) (ranges_of p)) (λ p e. each_made (λ r. P r.system) (range_columns p.system p.place) (λ range. e) p.line.windows) ps h)
 
   of_waits : (rows : List SystemRow) → AllByRecursion (λ row. P row.def.name) rows → AllByRecursion (λ w. P w.system) (flat_map waits_of rows)
-  of_waits rows h = all_flat (λ w. P w.system) waits_of rows (weaker (λ row. P row.def.name) (λ row. AllByRecursion (λ w. P w.system) (waits_of row)) (λ row e. each_wait (λ w. P w.system) row.def.name (λ wait. e) row.def.success_wait) rows h)
+  of_waits rows h = all_flat (λ w. P w.system) waits_of rows (all_weaker (λ row. P row.def.name) (λ row. AllByRecursion (λ w. P w.system) (waits_of row)) (λ row e. each_wait (λ w. P w.system) row.def.name (λ wait. e) row.def.success_wait) rows h)
 
 lines_append : (xs ys : List SystemRow) → lines_of_all (xs ++ ys) ≡ lines_of_all xs ++ lines_of_all ys
 lines_append xs ys = ap (map line_columns) (flat_map-append placed xs ys) ∙ map-append line_columns (flat_map placed xs) (flat_map placed ys)
@@ -62,7 +49,7 @@ lines_append xs ys = ap (map line_columns) (flat_map-append placed xs ys) ∙ ma
 ranges_append : (xs ys : List SystemRow) → ranges_of_all (xs ++ ys) ≡ ranges_of_all xs ++ ranges_of_all ys
 ranges_append xs ys = ap (flat_map ranges_of) (flat_map-append placed xs ys) ∙ flat_map-append ranges_of (flat_map placed xs) (flat_map placed ys)
 
--- those of one system are put between those of the systems ahead and those behind
+-- those of one system are put between those of the systems before and after it
 module _ (item : SystemRow) (front back : List SystemRow) (low : AllByRecursion (λ row. is_behind_key item.def.name row.def.name ≡ false) front) (high : AllByRecursion (λ row. is_behind_key item.def.name row.def.name ≡ true) back) where
   abbrev key : List ℕ
   key = item.def.name
@@ -108,7 +95,7 @@ module _ (s : State) (def : System) (ordered : AllPairsByRecursion (before (λ (
   abbrev back : List SystemRow
   back = filter (behind (λ row. row.def.name) (with_calls never_called)) s.systems
 
-  -- the lines are put where the others are, and so is the success wait
+  -- the lines are put in the place of the others, and so is the success wait
   all_put : (call : CallState) → with_lines (placed (with_calls call)) (with_waits (waits_of (with_calls call)) (record (tables_of s) { systems = map system_columns (front ++ with_calls call ∷ back); lines = lines_of_all (front ++ back); ranges = ranges_of_all (front ++ back); success_waits = flat_map waits_of (front ++ back) })) ≡ tables_of (record s { systems = front ++ with_calls call ∷ back })
   all_put call =
       let low = kept_ahead (λ row. row.def.name) (with_calls never_called) s.systems in

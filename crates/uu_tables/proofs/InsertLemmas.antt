@@ -9,11 +9,12 @@ use Rattle.std.proofs.lemmas.Cmp.{nat_list_cmp_total}
 use Rattle.std.proofs.lemmas.List.{map-append}
 use Rattle.std.proofs.lemmas.List.Elements.{filter-append}
 use Rattle.std.proofs.lemmas.Map.Lookups.{exact_bytes}
+use Rattle.uu_names.proofs.Basics.{AllPairsByRecursion, all_weaker, later_other, not_before_itself, all_kept, less_is}
 use Rattle.uu_core.specs.State.{same_text}
 use Rattle.uu_core.specs.After.{is_before, put_by}
 use Rattle.uu_tables.specs.Changes.{alter, without, insert_by}
 use Rattle.uu_tables.specs.Parts.{insert_each}
-use Rattle.uu_tables.proofs.OrderLemmas.{AllPairsByRecursion, before, another, not_before_itself, weaker}
+use Rattle.uu_tables.proofs.OrderLemmas.{before}
 
 -- ---- filters
 
@@ -24,14 +25,6 @@ kept_none p (x ∷ xs) h = rw h.0 (kept_none p xs h.1)
 pub kept_all : {X : Type 0} (p : X → Bool) (xs : List X) → AllByRecursion (λ x. p x ≡ true) xs → filter p xs ≡ xs
 kept_all p [] h = refl
 kept_all p (x ∷ xs) h = rw h.0 (ap (λ l. x ∷ l) (kept_all p xs h.1))
-
-pub kept_pass : {X : Type 0} (p : X → Bool) (xs : List X) → AllByRecursion (λ x. p x ≡ true) (filter p xs)
-kept_pass p [] = tt
-kept_pass p (x ∷ xs) = by_test (p x) refl (kept_pass p xs)
-  where
-    by_test : (b : Bool) → p x ≡ b → AllByRecursion (λ y. p y ≡ true) (filter p xs) → AllByRecursion (λ y. p y ≡ true) (cond b (x ∷ filter p xs) (filter p xs))
-    by_test true own rest = (own, rest)
-    by_test false other rest = rest
 
 kept_twice : {X : Type 0} (p q r : X → Bool) → ((x : X) → r x ≡ p x && q x) → (xs : List X) → filter q (filter p xs) ≡ filter r xs
 kept_twice p q r both [] = refl
@@ -82,7 +75,7 @@ module _ {V : Type 0} (name : V → List ℕ) (item : V) where
   turned other r e = nat_list_cmp_total.antisymm (name other) (name item) ∙ ap ordering_reverse e
 
   own_is : (other : V) (r : Ordering) → slice_cmp nat_cmp (name item) (name other) ≡ r → own other ≡ is_same r
-  own_is other Less e = another (name item) (name other) e
+  own_is other Less e = later_other (name item) (name other) e
   own_is other Equal e = (bytes_decides (name other) (name item)).1 (sym (exact_bytes (name item) (name other) e))
   own_is other Greater e = by_test (own other) refl
     where
@@ -110,12 +103,7 @@ module _ {V : Type 0} (name : V → List ℕ) (item : V) where
   pub replaced_is_put : (xs : List V) → insert_by name item (without own xs) ≡ put_by name item xs
   replaced_is_put xs = λ i. kept_twice (λ x. not (own x)) (λ x. not (behind x)) ahead is_ahead xs i ++ item ∷ kept_twice (λ x. not (own x)) behind behind is_behind xs i
 
-  -- ---- where others stand in order
-
-  less_is : (r : Ordering) → is_lt r ≡ true → r ≡ Less
-  less_is Less e = refl
-  less_is Equal e = absurd (cc)
-  less_is Greater e = absurd (cc)
+  -- ---- if the others are in order
 
   behind_behind : (x y : V) → behind x ≡ true → before name x y → behind y ≡ true
   behind_behind x y e ahead_of = ap is_lt (nat_list_cmp_total.trans (name item) (name x) (name y) (less_is _ e) ahead_of)
@@ -129,44 +117,44 @@ module _ {V : Type 0} (name : V → List ℕ) (item : V) where
   not_own : (y : V) → behind y ≡ true → own y ≡ false
   not_own y e = own_is y Less (less_is _ e)
 
-  -- where all others stand behind
+  -- if all others come after it
   module _ (xs : List V) (h : AllByRecursion (λ y. behind y ≡ true) xs) where
     none_ahead : filter ahead xs ≡ []
-    none_ahead = kept_none ahead xs (weaker (λ y. behind y ≡ true) (λ y. ahead y ≡ false) not_ahead xs h)
+    none_ahead = kept_none ahead xs (all_weaker (λ y. behind y ≡ true) (λ y. ahead y ≡ false) not_ahead xs h)
 
     all_behind : filter behind xs ≡ xs
     all_behind = kept_all behind xs h
 
     none_own : AllByRecursion (λ y. own y ≡ false) xs
-    none_own = weaker (λ y. behind y ≡ true) (λ y. own y ≡ false) not_own xs h
+    none_own = all_weaker (λ y. behind y ≡ true) (λ y. own y ≡ false) not_own xs h
 
-  -- those of other names are those ahead and those behind
+  -- those of other names are those before and those after
   pub others_are : (xs : List V) → AllPairsByRecursion (before name) xs → without own xs ≡ filter ahead xs ++ filter behind xs
   others_are [] h = refl
   others_are (x ∷ xs) h = by_order (slice_cmp nat_cmp (name item) (name x)) refl (others_are xs h.1)
     where
       by_order : (r : Ordering) → slice_cmp nat_cmp (name item) (name x) ≡ r → without own xs ≡ filter ahead xs ++ filter behind xs → without own (x ∷ xs) ≡ filter ahead (x ∷ xs) ++ filter behind (x ∷ xs)
       by_order Less e rest =
-          let all = weaker (before name x) (λ y. behind y ≡ true) (λ y. behind_behind x y (ap is_lt e)) xs h.0 in
+          let all = all_weaker (before name x) (λ y. behind y ≡ true) (λ y. behind_behind x y (ap is_lt e)) xs h.0 in
           rw (own_is x Less e, turned x Less e, e) (ap (λ l. x ∷ l) (rest ∙ ap (λ l. l ++ filter behind xs) (none_ahead xs all)) ∙ ap (λ l. l ++ x ∷ filter behind xs) (sym (none_ahead xs all)))
       by_order Equal e rest = rw (own_is x Equal e, turned x Equal e, e) rest
       by_order Greater e rest = rw (own_is x Greater e, turned x Greater e, e) (ap (λ l. x ∷ l) rest)
 
-  -- the one of its name is changed where it stands, between those ahead and those behind
+  -- the one of its name is changed in its place, between those before and those after
   pub changed_is : (c : V → V) (row : V) (xs : List V) → AllPairsByRecursion (before name) xs → find own xs ≡ Some row → alter own c xs ≡ filter ahead xs ++ c row ∷ filter behind xs
   changed_is c row [] h found = absurd (cc)
   changed_is c row (x ∷ xs) h found = by_order (slice_cmp nat_cmp (name item) (name x)) refl found (changed_is c row xs h.1)
     where
       by_order : (r : Ordering) → slice_cmp nat_cmp (name item) (name x) ≡ r → cond (own x) (Some x) (find own xs) ≡ Some row → (find own xs ≡ Some row → alter own c xs ≡ filter ahead xs ++ c row ∷ filter behind xs) → alter own c (x ∷ xs) ≡ filter ahead (x ∷ xs) ++ c row ∷ filter behind (x ∷ xs)
       by_order Less e is rest =
-          let all = weaker (before name x) (λ y. behind y ≡ true) (λ y. behind_behind x y (ap is_lt e)) xs h.0 in
+          let all = all_weaker (before name x) (λ y. behind y ≡ true) (λ y. behind_behind x y (ap is_lt e)) xs h.0 in
           absurd (apart (sym (found_none own xs (none_own xs all)) ∙ (rw (own_is x Less e) at is)))
         where
           apart : None ≡ Some row → ⊥
           apart q = cc
       by_order Equal e is rest =
           let mine : own x ≡ true = own_is x Equal e in
-          let all = weaker (before name x) (λ y. behind y ≡ true) (λ y. behind_own x y mine) xs h.0 in
+          let all = all_weaker (before name x) (λ y. behind y ≡ true) (λ y. behind_own x y mine) xs h.0 in
           let same : Some x ≡ Some row = ap (λ b. cond b (Some x) (find own xs)) (sym mine) ∙ is in
           let it : x ≡ row = inside same in
           rw (mine, turned x Equal e, e) (ap (λ r. c r ∷ alter own c xs) it ∙ ap (λ l. c row ∷ l) (changed_none own c xs (none_own xs all) ∙ sym (all_behind xs all)) ∙ ap (λ l. l ++ c row ∷ filter behind xs) (sym (none_ahead xs all)))
@@ -175,18 +163,18 @@ module _ {V : Type 0} (name : V → List ℕ) (item : V) where
           inside q = cc
       by_order Greater e is rest = rw (own_is x Greater e, turned x Greater e, e) (ap (λ l. x ∷ l) (rest (rw (own_is x Greater e) at is)))
 
--- whether a name stands behind the key
+-- whether a name comes after the key
 abbrev pub is_behind_key : List ℕ → List ℕ → Bool
 is_behind_key key other = is_lt (slice_cmp nat_cmp key other)
 
 pub kept_ahead : {V : Type 0} (name : V → List ℕ) (item : V) (xs : List V) → AllByRecursion (λ x. is_behind_key (name item) (name x) ≡ false) (filter (ahead name item) xs)
-kept_ahead name item xs = weaker (λ x. ahead name item x ≡ true) (λ x. is_behind_key (name item) (name x) ≡ false) (λ x e. turned_false x e) (filter (ahead name item) xs) (kept_pass (ahead name item) xs)
+kept_ahead name item xs = all_weaker (λ x. ahead name item x ≡ true) (λ x. is_behind_key (name item) (name x) ≡ false) (λ x e. turned_false x e) (filter (ahead name item) xs) (all_kept (ahead name item) xs)
   where
     turned_false : (x : _) → ahead name item x ≡ true → is_behind_key (name item) (name x) ≡ false
     turned_false x e = not_ahead name x item e
 
 pub kept_behind : {V : Type 0} (name : V → List ℕ) (item : V) (xs : List V) → AllByRecursion (λ x. is_behind_key (name item) (name x) ≡ true) (filter (behind name item) xs)
-kept_behind name item xs = kept_pass (behind name item) xs
+kept_behind name item xs = all_kept (behind name item) xs
 
 -- ---- rows that are put between others
 
@@ -223,8 +211,8 @@ module _ {V : Type 0} (name : V → List ℕ) (key : List ℕ) where
 
       first : filter (λ x. not (b x)) (front ++ back) ≡ front
       first = filter-append (λ x. not (b x)) front back
-          ∙ ap (λ l. l ++ filter (λ x. not (b x)) back) (kept_all (λ x. not (b x)) front (weaker (λ x. b x ≡ false) (λ x. not (b x) ≡ true) (λ x e. ap not e) front below))
-          ∙ ap (λ l. front ++ l) (kept_none (λ x. not (b x)) back (weaker (λ x. b x ≡ true) (λ x. not (b x) ≡ false) (λ x e. ap not e) back above))
+          ∙ ap (λ l. l ++ filter (λ x. not (b x)) back) (kept_all (λ x. not (b x)) front (all_weaker (λ x. b x ≡ false) (λ x. not (b x) ≡ true) (λ x e. ap not e) front below))
+          ∙ ap (λ l. front ++ l) (kept_none (λ x. not (b x)) back (all_weaker (λ x. b x ≡ true) (λ x. not (b x) ≡ false) (λ x e. ap not e) back above))
           ∙ append-nil front
 
       second : filter b (front ++ back) ≡ back

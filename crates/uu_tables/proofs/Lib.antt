@@ -7,7 +7,9 @@ pub mod LinkLemmas
 pub mod OrderLemmas
 pub mod PieceLemmas
 pub mod PlanLemmas
+pub mod ReleaseLemmas
 pub mod ReportLemmas
 pub mod RowLemmas
 pub mod SystemLemmas
+pub mod TakingLemmas
 pub mod WaitLemmas

@@ -2,7 +2,6 @@
 use Rattle.std.proofs.Common.{◌≡◌, ◌≤◌, ◌<◌, ℕ, zero, suc, max, List, [], ◌∷◌, ◌++◌, length, Bool, true, false, not, cond, ◌&&◌, ◌==◌, filter, find, map, Option, Some, None, IfSome, All, unwrap_or, nat_cmp, inl, inr, append_assoc, append-nil, refl, sym, ap, ◌∙◌, arith, length-append}
 use Rattle.std.specs.Prelude.{nat_lt, nat_le}
 use Rattle.std.specs.declared.cmp.Ordering.{Ordering}
-use Rattle.std.specs.declared.cmp.Ordering.TheVariants.{Less, Equal, Greater}
 use Rattle.std.specs.Ordering.{is_lt, ordering_then, ordering_reverse}
 use Rattle.std.specs.Cmp.Lexicographic.{slice_cmp, bytes_decides}
 use Rattle.std.specs.List.{AllByRecursion, flat_map, list_any}
@@ -11,7 +10,8 @@ use Rattle.std.proofs.lemmas.Bool.Decides.{nat_tests}
 use Rattle.std.proofs.lemmas.Cmp.{nat_list_cmp_total, tied_itself}
 use Rattle.std.proofs.lemmas.List.{map-append}
 use Rattle.std.proofs.lemmas.List.Concat.{flat_map-append}
-use Rattle.std.proofs.lemmas.List.Elements.{filter-append}
+use Rattle.std.proofs.lemmas.List.Elements.{filter-append, recursion_from_All}
+use Rattle.uu_names.proofs.Basics.{pairs_by_recursion, AllPairsByRecursion, all_weaker, later_other, not_before_itself, find_none, found_has, all_kept, less_is, all_flat}
 use Rattle.uu_core.specs.declared.command.Command.TheVariants.{Forget}
 use Rattle.uu_core.specs.declared.custody.HandIn.TheVariants.{First, Again}
 use Rattle.uu_core.specs.declared.custody.Key.{Key}
@@ -28,11 +28,9 @@ use Rattle.uu_tables.specs.Order.{taken_cmp}
 use Rattle.uu_tables.specs.Changes.{alter, without, insert_by, insert_at, is_link_of, is_forgotten, new_below}
 use Rattle.uu_tables.specs.Parts.{with_new_job, with_new_key}
 use Rattle.uu_tables.proofs.RowLemmas.{none_go, each_made}
-use Rattle.uu_tables.proofs.OrderLemmas.{AllPairsByRecursion, before, another, not_before_itself, weaker, by_recursion, pairs_by_recursion, found, none_passes, is_missing}
-use Rattle.uu_tables.proofs.InsertLemmas.{ahead, behind, is_behind_key, kept_none, kept_all, kept_pass, kept_mapped, kept_ahead, kept_behind, found_none, others_are, changed_is, each_between}
+use Rattle.uu_tables.proofs.OrderLemmas.{before, found, none_passes}
+use Rattle.uu_tables.proofs.InsertLemmas.{ahead, behind, is_behind_key, kept_none, kept_all, kept_mapped, kept_ahead, kept_behind, found_none, others_are, changed_is, each_between}
 use Rattle.uu_tables.proofs.SystemLemmas.{each_link, links_without}
-use Rattle.uu_tables.proofs.DefineLemmas.{all_flat}
-use Rattle.uu_tables.proofs.WaitLemmas.{found_has}
 use Rattle.uu_tables.proofs.PieceLemmas.{queued}
 
 -- ---- lists
@@ -49,11 +47,6 @@ kept_same : {X : Type 0} (p q : X → Bool) (xs : List X) → AllByRecursion (λ
 kept_same p q [] h = refl
 kept_same p q (x ∷ xs) h = λ i. cond (h.0 i) (x ∷ kept_same p q xs h.1 i) (kept_same p q xs h.1 i)
 
-less_is : (o : Ordering) → is_lt o ≡ true → o ≡ Less
-less_is Less e = refl
-less_is Equal e = absurd (cc)
-less_is Greater e = absurd (cc)
-
 -- a text before another is not the same
 other_text : (a b : List ℕ) → is_lt (slice_cmp nat_cmp a b) ≡ true → same_text a b ≡ false
 other_text a b e = by_test (same_text a b) refl
@@ -62,7 +55,7 @@ other_text a b e = by_test (same_text a b) refl
     by_test false q = refl
     by_test true q = absurd (not_before_itself b (ap (λ n. slice_cmp nat_cmp n b) (sym ((bytes_decides a b).0 q)) ∙ less_is _ e))
 
--- one row more, between those before it and those behind it
+-- one more row, between those before it and those after it
 put_between : {V : Type 0} (order : V → V → Ordering) (row : V) (front own low high back : List V) → AllByRecursion (λ r. is_lt (order row r) ≡ false) front → AllByRecursion (λ r. is_lt (order row r) ≡ true) back
     → filter (λ r. not (is_lt (order row r))) own ≡ low → filter (λ r. is_lt (order row r)) own ≡ high → insert_at order row (front ++ (own ++ back)) ≡ front ++ ((low ++ row ∷ high) ++ back)
 put_between {V} order row front own low high back f b l h =
@@ -73,16 +66,16 @@ put_between {V} order row front own low high back f b l h =
 
     first : filter (λ r. not (above r)) (front ++ (own ++ back)) ≡ front ++ low
     first = filter-append (λ r. not (above r)) front (own ++ back)
-        ∙ ap (λ rows. rows ++ filter (λ r. not (above r)) (own ++ back)) (kept_all (λ r. not (above r)) front (weaker (λ r. above r ≡ false) (λ r. not (above r) ≡ true) (λ r e. ap not e) front f))
+        ∙ ap (λ rows. rows ++ filter (λ r. not (above r)) (own ++ back)) (kept_all (λ r. not (above r)) front (all_weaker (λ r. above r ≡ false) (λ r. not (above r) ≡ true) (λ r e. ap not e) front f))
         ∙ ap (λ rows. front ++ rows) (filter-append (λ r. not (above r)) own back
-        ∙ ap (λ rows. filter (λ r. not (above r)) own ++ rows) (kept_none (λ r. not (above r)) back (weaker (λ r. above r ≡ true) (λ r. not (above r) ≡ false) (λ r e. ap not e) back b))
+        ∙ ap (λ rows. filter (λ r. not (above r)) own ++ rows) (kept_none (λ r. not (above r)) back (all_weaker (λ r. above r ≡ true) (λ r. not (above r) ≡ false) (λ r e. ap not e) back b))
         ∙ append-nil (filter (λ r. not (above r)) own) ∙ l)
 
     second : filter above (front ++ (own ++ back)) ≡ high ++ back
     second = filter-append above front (own ++ back) ∙ ap (λ rows. rows ++ filter above (own ++ back)) (kept_none above front f)
         ∙ filter-append above own back ∙ ap (λ rows. rows ++ filter above back) h ∙ ap (λ rows. high ++ rows) (kept_all above back b)
 
--- ---- the rows of links, those of a name between those ahead and those behind
+-- ---- the rows of links, those of a name between those before and those after
 
 module _ (name : List ℕ) (links : List Link) (ordered : AllPairsByRecursion (before (λ (l : Link). l.name)) links) where
   abbrev its : Link
@@ -124,16 +117,16 @@ module _ (name : List ℕ) (links : List Link) (ordered : AllPairsByRecursion (b
 
   -- what is true of each link is true of each row that was taken
   of_taken : (P : List ℕ → Type 0) (ls : List Link) → AllByRecursion (λ l. P l.name) ls → AllByRecursion (λ r. P r.system) (flat_map taken_rows ls)
-  of_taken P ls h = all_flat (λ r. P r.system) taken_rows ls (weaker (λ l. P l.name) (λ l. AllByRecursion (λ r. P r.system) (taken_rows l)) (λ l e. each_made (λ r. P r.system) (taken_columns l.name) (λ taken. e) l.taken) ls h)
+  of_taken P ls h = all_flat (λ r. P r.system) taken_rows ls (all_weaker (λ l. P l.name) (λ l. AllByRecursion (λ r. P r.system) (taken_rows l)) (λ l e. each_made (λ r. P r.system) (taken_columns l.name) (λ taken. e) l.taken) ls h)
 
   of_links : (P : List ℕ → Type 0) (ls : List Link) → AllByRecursion (λ l. P l.name) ls → AllByRecursion (λ r. P r.system) (flat_map links_of ls)
-  of_links P ls h = all_flat (λ r. P r.system) links_of ls (weaker (λ l. P l.name) (λ l. AllByRecursion (λ r. P r.system) (links_of l)) (λ l e. each_link (λ r. P r.system) l.name (λ below. e) l.below) ls h)
+  of_links P ls h = all_flat (λ r. P r.system) links_of ls (all_weaker (λ l. P l.name) (λ l. AllByRecursion (λ r. P r.system) (links_of l)) (λ l e. each_link (λ r. P r.system) l.name (λ below. e) l.below) ls h)
 
   ahead_of : AllByRecursion (λ r. is_lt (slice_cmp nat_cmp r.system name) ≡ true) (flat_map taken_rows front)
-  ahead_of = of_taken (λ n. is_lt (slice_cmp nat_cmp n name) ≡ true) front (kept_pass (ahead (λ (l : Link). l.name) (new_link name)) links)
+  ahead_of = of_taken (λ n. is_lt (slice_cmp nat_cmp n name) ≡ true) front (all_kept (ahead (λ (l : Link). l.name) (new_link name)) links)
 
   behind_of : AllByRecursion (λ r. is_lt (slice_cmp nat_cmp name r.system) ≡ true) (flat_map taken_rows back)
-  behind_of = of_taken (λ n. is_lt (slice_cmp nat_cmp name n) ≡ true) back (kept_pass (behind (λ (l : Link). l.name) (new_link name)) links)
+  behind_of = of_taken (λ n. is_lt (slice_cmp nat_cmp name n) ≡ true) back (all_kept (behind (λ (l : Link). l.name) (new_link name)) links)
 
   its_rows : (ts : List Taken) (item : Link) → item.name ≡ name → item.taken ≡ ts → taken_rows item ≡ map (taken_columns name) ts
   its_rows ts item named is = ap (λ n. map (taken_columns n) item.taken) named ∙ ap (map (taken_columns name)) is
@@ -169,13 +162,13 @@ module _ (name : List ℕ) (links : List Link) (ordered : AllPairsByRecursion (b
         numbers m n e = grind (arith, nat_tests)
 
     others : AllByRecursion (λ t. (t.number == row.number) ≡ false) its.taken
-    others = none_passes (is_taken row.number) its.taken (is_missing (is_taken row.number) its.taken free)
+    others = none_passes (is_taken row.number) its.taken (find_none (is_taken row.number) its.taken free)
 
     low_rows : filter (λ r. not (above r)) (map (taken_columns name) its.taken) ≡ map (taken_columns name) (filter (λ t. nat_lt t.number row.number) its.taken)
-    low_rows = kept_mapped (taken_columns name) (λ r. not (above r)) its.taken ∙ ap (map (taken_columns name)) (kept_same _ _ its.taken (weaker (λ t. (t.number == row.number) ≡ false) (λ t. not (above (taken_columns name t)) ≡ nat_lt t.number row.number) is_low its.taken others))
+    low_rows = kept_mapped (taken_columns name) (λ r. not (above r)) its.taken ∙ ap (map (taken_columns name)) (kept_same _ _ its.taken (all_weaker (λ t. (t.number == row.number) ≡ false) (λ t. not (above (taken_columns name t)) ≡ nat_lt t.number row.number) is_low its.taken others))
 
     high_rows : filter above (map (taken_columns name) its.taken) ≡ map (taken_columns name) (filter (λ t. nat_lt row.number t.number) its.taken)
-    high_rows = kept_mapped (taken_columns name) above its.taken ∙ ap (map (taken_columns name)) (kept_same _ _ its.taken (weaker (λ t. (t.number == row.number) ≡ false) (λ t. above (taken_columns name t) ≡ nat_lt row.number t.number) is_high its.taken others))
+    high_rows = kept_mapped (taken_columns name) above its.taken ∙ ap (map (taken_columns name)) (kept_same _ _ its.taken (all_weaker (λ t. (t.number == row.number) ≡ false) (λ t. above (taken_columns name t) ≡ nat_lt row.number t.number) is_high its.taken others))
 
     abbrev more : Link
     more = with_taken row its
@@ -192,7 +185,7 @@ module _ (name : List ℕ) (links : List Link) (ordered : AllPairsByRecursion (b
         let highs = filter (λ (t : Taken). nat_lt row.number t.number) its.taken in
         ap (insert_at taken_cmp new) (rows_are taken_rows refl ∙ ap (λ rows. flat_map taken_rows front ++ (rows ++ flat_map taken_rows back)) (its_rows its.taken its its_name refl))
         ∙ put_between taken_cmp new (flat_map taken_rows front) (map (taken_columns name) its.taken) (map (taken_columns name) lows) (map (taken_columns name) highs) (flat_map taken_rows back)
-        (weaker _ _ front_below (flat_map taken_rows front) ahead_of) (weaker _ _ back_above (flat_map taken_rows back) behind_of) low_rows high_rows
+        (all_weaker _ _ front_below (flat_map taken_rows front) ahead_of) (all_weaker _ _ back_above (flat_map taken_rows back) behind_of) low_rows high_rows
         ∙ ap (λ rows. flat_map taken_rows front ++ (rows ++ flat_map taken_rows back)) (sym (map-append (taken_columns name) lows (row ∷ highs)) ∙ sym (its_rows (lows ++ row ∷ highs) more its_name refl))
         ∙ sym (put_rows taken_rows more its_name refl (λ q. absurd (loud q)))
 
@@ -217,7 +210,7 @@ module _ (name : List ℕ) (links : List Link) (ordered : AllPairsByRecursion (b
           at_least t h = let k : below ≤ t.number = omega arith in grind (arith, nat_tests)
 
           all : filter (λ (t : Taken). nat_le below t.number) its.taken ≡ its.taken
-          all = kept_all (λ (t : Taken). nat_le below t.number) its.taken (weaker _ _ at_least its.taken least)
+          all = kept_all (λ (t : Taken). nat_le below t.number) its.taken (all_weaker _ _ at_least its.taken least)
 
       rows_stay : {Y : Type 0} (f : Link → List Y) → f (new_link name) ≡ [] → flat_map f links ≡ flat_map f (put_link less links)
       rows_stay f none = rows_are f none ∙ ap (λ l. flat_map f front ++ (f l ++ flat_map f back)) (sym same_link) ∙ sym (put_rows f less its_name none (λ q. ap f (sym same_link)))
@@ -249,9 +242,6 @@ module _ (name : List ℕ) (links : List Link) (ordered : AllPairsByRecursion (b
           ∙ ap (λ rows. flat_map links_of front ++ (rows ++ flat_map links_of back)) (sym its_row)
           ∙ sym (put_rows links_of less its_name refl (λ q. absurd (heard q)))
 
-      keeps : TakenColumns → Bool
-      keeps r = not (is_forgotten name below r)
-
       not_its : (r : TakenColumns) → same_text r.system name ≡ false → not (is_forgotten name below r) ≡ true
       not_its r e = ap (λ b. not (b && nat_lt r.taken.number below)) e
 
@@ -277,8 +267,8 @@ module _ (name : List ℕ) (links : List Link) (ordered : AllPairsByRecursion (b
           let kept = filter (λ (t : Taken). nat_le below t.number) its.taken in
           ap (filter p) (rows_are taken_rows refl ∙ ap (λ rows. fronts ++ (rows ++ backs)) (its_rows its.taken its its_name refl))
           ∙ filter-append p fronts (own ++ backs)
-          ∙ ap (λ rows. rows ++ filter p (own ++ backs)) (kept_all p fronts (weaker _ _ (λ r e. not_its r (other_text r.system name e)) fronts ahead_of))
-          ∙ ap (λ rows. fronts ++ rows) (filter-append p own backs ∙ ap (λ rows. rows ++ filter p backs) own_stay ∙ ap (λ rows. map (taken_columns name) kept ++ rows) (kept_all p backs (weaker _ _ (λ r e. not_its r (another name r.system (less_is _ e))) backs behind_of)))
+          ∙ ap (λ rows. rows ++ filter p (own ++ backs)) (kept_all p fronts (all_weaker _ _ (λ r e. not_its r (other_text r.system name e)) fronts ahead_of))
+          ∙ ap (λ rows. fronts ++ rows) (filter-append p own backs ∙ ap (λ rows. rows ++ filter p backs) own_stay ∙ ap (λ rows. map (taken_columns name) kept ++ rows) (kept_all p backs (all_weaker _ _ (λ r e. not_its r (later_other name r.system (less_is _ e))) backs behind_of)))
           ∙ ap (λ rows. fronts ++ (rows ++ backs)) (sym (its_rows kept less its_name refl))
           ∙ sym (put_rows taken_rows less its_name refl (λ q. absurd (heard q)))
 
@@ -295,7 +285,7 @@ keyed s good key job free =
 
 its_least : (name : List ℕ) (o : Option Link) → IfSome o (λ l. All (λ t. l.below ≤ t.number) l.taken) → AllByRecursion (λ t. (unwrap_or o (new_link name)).below ≤ t.number) (unwrap_or o (new_link name)).taken
 its_least name None h = tt
-its_least name (Some l) h = by_recursion (λ t. l.below ≤ t.number) l.taken h
+its_least name (Some l) h = recursion_from_All (λ t. l.below ≤ t.number) l.taken h
 
 pub forgets_nothing : (s : State) → IsWellFormed s → (name : List ℕ) (below : ℕ) → below ≤ (link_of s name).below → tables_of s ≡ tables_of (accept s (Forget name below))
 forgets_nothing s good name below said =
@@ -308,7 +298,7 @@ forgets s good name below first = λ i. record (tables_of s) { links = links_cha
 
 -- ---- what is decided on a key
 
--- a job that comes for the first time is accepted only where none was taken under its number
+-- a job that comes for the first time is accepted only if none was taken under its number
 pub first_is : (known : Bool) (next below : ℕ) (taken : Option Taken) (key : Key) (job : NewJob) (number : ℕ) → hand_in_of taken key next ≡ First number → first_reason (once_reasons known next below taken key job) ≡ None → (taken ≡ None) × (next ≡ number)
 first_is known next below None key job number e none = (refl, cc)
 first_is known next below (Some taken) key job number e none = by_test (taken.mark == key.mark) e none

@@ -13,7 +13,7 @@ use Rattle.uu_tables.specs.Tables.{Tables, tables_of, piece, piece_bytes, pieces
 use Rattle.uu_tables.specs.Changes.{apply, new_job}
 use Rattle.uu_tables.specs.Parts.{with_pieces, with_new_job}
 
--- a piece ends where the bytes end, or after those of a whole one
+-- a piece ends at the end of the bytes, or after the bytes of a full one
 pub part_at : (all : List ℕ) (start end : ℕ) → end ≡ min (length all) (start + piece_bytes) → take (end - start) (drop start all) ≡ take piece_bytes (drop start all)
 part_at all start end is = go (ltb (length all) (start + 16384)) refl
   where

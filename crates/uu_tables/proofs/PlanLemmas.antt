@@ -41,7 +41,7 @@ module _ (s : State) (command : Command) (plan : Plan) where
   pub refuses : (refusal : Refusal) → verdict s command ≡ Some refusal → plan.reply ≡ Refused refusal → plan.changes.items ≡ [] → IsPlan s command plan
   refuses refusal some reply changes = record { reply = rw some reply; tables = rw (some, changes) refl; refused = λ other same. changes }
 
--- the plan of these changes, where there is memory for it
+-- the plan of these changes, if there is memory for it
 pub accepts_with : {E : Type 0} (s : State) (command : Command) (changes : List Change) (result : Result Plan E) → verdict s command ≡ None → IfOk result (λ plan. plan.reply ≡ reply_to s command) → IfOk result (λ plan. plan.changes.items ≡ changes) → applied changes (tables_of s) ≡ tables_of (accept s command) → IfOk result (IsPlan s command)
 accepts_with s command changes (Ok plan) none reply made tables = accepts s command plan none reply (ap (λ l. applied l (tables_of s)) made ∙ tables)
 accepts_with s command changes (Err fault) none reply made tables = tt

@@ -3,6 +3,7 @@ use Rattle.std.proofs.Common.{◌≡◌, ◌≤◌, ℕ, ◌==◌, ◌||◌, Boo
 use Rattle.std.specs.List.{AllByRecursion, flat_map, list_any}
 use Rattle.std.proofs.lemmas.Bool.Decides.{nat_tests}
 use Rattle.std.proofs.lemmas.List.Folds.{list_any-append}
+use Rattle.uu_names.proofs.Basics.{AllPairsByRecursion, all_weaker, find_any, find_none}
 use Rattle.uu_times.specs.System.{AreWithinLimits}
 use Rattle.uu_times.specs.declared.moment.Moment.{Moment}
 use Rattle.uu_core.specs.declared.command.Command.TheVariants.{Failed, Done}
@@ -22,7 +23,7 @@ use Rattle.uu_tables.specs.Tables.{Tables, tables_of, call_columns, system_colum
 use Rattle.uu_tables.specs.Changes.{alter, apply, without, has_name}
 use Rattle.uu_tables.specs.Parts.{without_jobs, is_one_of}
 use Rattle.uu_tables.proofs.RowLemmas.{altered, dropped, dropped_with, same_rows, each_made, gone_twice, none_gone}
-use Rattle.uu_tables.proofs.OrderLemmas.{AllPairsByRecursion, before, only_one, agree, weaker, is_there, is_missing}
+use Rattle.uu_tables.proofs.OrderLemmas.{before, only_one, agree}
 use Rattle.uu_tables.proofs.WaitLemmas.{wait_within}
 
 -- ---- jobs that go one after the other
@@ -80,7 +81,7 @@ one_called s name change row ordered found =
     call_is_set s name (change row) ∙ ap (λ rows. tables_of (record s { systems = rows })) (agree (is_system name) (λ r. record r { call = change row }) (λ r. record r { call = change r }) s.systems each)
   where
     each : AllByRecursion (λ r. is_system name r ≡ true → record r { call = change row } ≡ record r { call = change r }) s.systems
-    each = weaker (λ r. is_system name r ≡ true → r ≡ row) (λ r. is_system name r ≡ true → record r { call = change row } ≡ record r { call = change r }) (λ r one own. ap (λ x. record r { call = change x }) (sym (one own))) s.systems (only_one (λ r. r.def.name) name s.systems ordered row found)
+    each = all_weaker (λ r. is_system name r ≡ true → r ≡ row) (λ r. is_system name r ≡ true → record r { call = change row } ≡ record r { call = change r }) (λ r one own. ap (λ x. record r { call = change x }) (sym (one own))) s.systems (only_one (λ r. r.def.name) name s.systems ordered row found)
 
 pub done : (s : State) (name : List ℕ) (at : Moment) (numbers : List ℕ) (row : SystemRow) → AllPairsByRecursion (before (λ r. r.def.name)) s.systems → find (is_system name) s.systems ≡ Some row → without_jobs numbers (with_call name (done_call row at) (tables_of s)) ≡ tables_of (accept s (Done name at numbers))
 done s name at numbers row ordered found =
@@ -106,10 +107,10 @@ failure_refused None at why refusal e = (refl, cc)
 failure_refused (Some row) at why refusal e = absurd (cc)
 
 known_system : (s : State) (name : List ℕ) (at : Moment) (why : List ℕ) (row : SystemRow) → system_at s name ≡ Some row → verdict s (Failed name at why) ≡ None
-known_system s name at why row found = ap (λ known. first_reason ((not known, NoSystem) ∷ [])) (is_there (is_system name) s.systems row found)
+known_system s name at why row found = ap (λ known. first_reason ((not known, NoSystem) ∷ [])) (find_any (is_system name) s.systems row found)
 
 unknown_system : (s : State) (name : List ℕ) (at : Moment) (why : List ℕ) → system_at s name ≡ None → verdict s (Failed name at why) ≡ Some NoSystem
-unknown_system s name at why missing = ap (λ known. first_reason ((not known, NoSystem) ∷ [])) (is_missing (is_system name) s.systems missing)
+unknown_system s name at why missing = ap (λ known. first_reason ((not known, NoSystem) ∷ [])) (find_none (is_system name) s.systems missing)
 
 -- a call that failed of a known system is accepted, and its columns are set
 pub failed_is_set : (s : State) (name : List ℕ) (at : Moment) (why : List ℕ) (o : Option SystemRow) (call : CallState) (columns : CallColumns) → AllPairsByRecursion (before (λ r. r.def.name)) s.systems → o ≡ system_at s name → failed_decision o at why ≡ Ok call → columns ≡ call_columns call
@@ -136,7 +137,7 @@ success_wait_is_within o at result reasons is within = by_first o (first_reason 
     by_first (Some row) None is within = rw is within.3
     by_first o (Some refusal) is within = rw is tt
 
--- where it is accepted, the system is known, and its calls are those
+-- if it is accepted, the system is known, and its calls are those
 pub done_is_found : (o : Option SystemRow) (at : Moment) (call : CallState) (name : List ℕ) (numbers : List ℕ) (heads : List JobHead) → first_reason (done_reasons (is_some o) name numbers heads) ≡ None → done_call_of o at ≡ call → (row : SystemRow) × (o ≡ Some row) × (done_call row at ≡ call)
 done_is_found None at call name numbers heads none is = absurd (no_none (nat_lt 256 (length numbers)) none)
   where
@@ -146,5 +147,5 @@ done_is_found None at call name numbers heads none is = absurd (no_none (nat_lt 
 done_is_found (Some row) at call name numbers heads none is = (row, refl, is)
 
 pub is_known : (s : State) (name : List ℕ) (o : Option SystemRow) → o ≡ system_at s name → is_some o ≡ has_system s name
-is_known s name None is = sym (is_missing (is_system name) s.systems (sym is))
-is_known s name (Some row) is = sym (is_there (is_system name) s.systems row (sym is))
+is_known s name None is = sym (find_none (is_system name) s.systems (sym is))
+is_known s name (Some row) is = sym (find_any (is_system name) s.systems row (sym is))

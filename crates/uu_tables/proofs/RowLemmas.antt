@@ -34,7 +34,7 @@ pub none_go : {Y : Type 0} (q : Y → Bool) (ys : List Y) → AllByRecursion (λ
 none_go q [] h = refl
 none_go q (y ∷ ys) h = rw h.0 (ap (λ l. y ∷ l) (none_go q ys h.1))
 
--- where the rows of each item go exactly with the item
+-- if the rows of each item are removed exactly when the item is
 pub dropped_with : {X Y : Type 0} (f : X → List Y) (p : X → Bool) (q : Y → Bool) → ((x : X) → AllByRecursion (λ y. q y ≡ p x) (f x)) → (xs : List X) → without q (flat_map f xs) ≡ flat_map f (without p xs)
 dropped_with f p q test [] = refl
 dropped_with f p q test (x ∷ xs) = filter-append (λ y. not (q y)) (f x) (flat_map f xs) ∙ by_test (p x) (test x) (dropped_with f p q test xs)
@@ -43,7 +43,7 @@ dropped_with f p q test (x ∷ xs) = filter-append (λ y. not (q y)) (f x) (flat
     by_test true h rest = rw (all_go q (f x) h) rest
     by_test false h rest = rw (none_go q (f x) h) (ap (λ l. f x ++ l) rest)
 
--- where a change of an item leaves its rows
+-- if a change of an item leaves its rows
 pub same_rows : {X Y : Type 0} (f : X → List Y) (p : X → Bool) (c : X → X) → ((x : X) → f (c x) ≡ f x) → (xs : List X) → flat_map f xs ≡ flat_map f (alter p c xs)
 same_rows f p c same [] = refl
 same_rows f p c same (x ∷ xs) = λ i. one (p x) i ++ same_rows f p c same xs i

@@ -34,7 +34,7 @@ lines_without name rows = dropped line_columns (is_of name) (is_line_of name) (�
 pub ranges_without : (name : List ℕ) (rows : List SystemRow) → without (is_range_of name) (flat_map ranges_of (flat_map placed rows)) ≡ flat_map ranges_of (flat_map placed (without (is_system name) rows))
 ranges_without name rows = dropped_with ranges_of (is_of name) (is_range_of name) (ranges_go name) (flat_map placed rows) ∙ ap (flat_map ranges_of) (dropped_with placed (is_system name) (is_of name) (lines_go name) rows)
 
--- what the success wait of a system has, where there is one
+-- what the success wait of a system has, if there is one
 pub each_wait : (P : WaitColumns → Type 0) (name : List ℕ) → ((wait : ℕ) → P (record { system = name; wait = wait })) → (n : ℕ) → AllByRecursion P (waits_from name n)
 each_wait P name h zero = tt
 each_wait P name h (suc n) = (h (suc n), tt)
@@ -43,7 +43,7 @@ each_wait P name h (suc n) = (h (suc n), tt)
 pub waits_without : (name : List ℕ) (rows : List SystemRow) → without (is_wait_of name) (flat_map waits_of rows) ≡ flat_map waits_of (without (is_system name) rows)
 waits_without name rows = dropped_with waits_of (is_system name) (is_wait_of name) (λ row. each_wait (λ w. is_wait_of name w ≡ is_system name row) row.def.name (λ wait. refl) row.def.success_wait) rows
 
--- what the row of a link has, where there is one
+-- what the row of a link has, if there is one
 pub each_link : (P : LinkColumns → Type 0) (name : List ℕ) → ((below : ℕ) → P (record { system = name; below = below })) → (n : ℕ) → AllByRecursion P (links_from name n)
 each_link P name h zero = tt
 each_link P name h (suc n) = (h (suc n), tt)

@@ -1,19 +1,12 @@
 -- A wait is a year at most.
-use Rattle.std.proofs.Common.{ℕ, ◌*◌, ◌≤◌, max, leb, Bool, true, false, cond, ◌==◌, List, [], ◌∷◌, find, Option, Some, None, All, IfSome, unwrap_or, option_and_then, arith}
-use Rattle.std.proofs.lemmas.List.Elements.{All-head, All-tail, All-filter}
+use Rattle.std.proofs.Common.{ℕ, ◌*◌, ◌≤◌, max, leb, Bool, true, false, cond, ◌==◌, List, find, Option, Some, None, All, IfSome, unwrap_or, option_and_then, arith}
+use Rattle.std.proofs.lemmas.List.Elements.{All-filter}
+use Rattle.uu_names.proofs.Basics.{found_has}
 use Rattle.uu_times.specs.Days.{day_minutes}
 use Rattle.uu_times.specs.System.{System, AreWithinLimits, HasRetry, IsRetry, most_retry_minutes}
 use Rattle.uu_times.specs.declared.system.Line.{Line}
 use Rattle.uu_core.specs.State.{most_wait}
 use Rattle.uu_core.specs.Waiting.{lines_at, limit_at, line_at, retry_minutes, growing_minutes, wait_after}
-
-pub found_has : {X : Type 0} (P : X → Type 0) (p : X → Bool) (xs : List X) → All P xs → IfSome (find p xs) P
-found_has P p [] h = tt
-found_has P p (x ∷ xs) h = by_test (p x) (found_has P p xs (All-tail P x xs h))
-  where
-    by_test : (b : Bool) → IfSome (find p xs) P → IfSome (cond b (Some x) (find p xs)) P
-    by_test true rest = All-head P x xs h
-    by_test false rest = rest
 
 line_has : (lines : List Line) (week : ℕ) (limit : Option ℕ) → All HasRetry lines → IfSome (option_and_then (λ grade. find (λ line. line.grade == grade) (lines_at lines week)) limit) HasRetry
 line_has lines week None h = tt

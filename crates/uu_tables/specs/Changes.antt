@@ -1,4 +1,4 @@
--- What a change makes of the tables. (This project's choice.)
+-- The tables after a change. (This project's choice.)
 use Rattle.std.specs.declared.cmp.Ordering.{Ordering}
 use Rattle.std.specs.Ordering.{is_lt}
 use Rattle.std.specs.Prelude.{ℕ, Bool, not, ◌==◌, ◌&&◌, nat_lt, List, [], ◌∷◌, ◌++◌, map, filter, if◌then◌else◌}
@@ -22,23 +22,23 @@ use Rattle.uu_tables.specs.Order.{taken_cmp}
 
 -- ---- changes of a list of rows
 
--- one more row, behind those of its own name and of names before it
+-- one more row, after those of its own name and of names before it
 abbrev pub insert_by : {V : Type 0} → (V → List ℕ) → V → List V → List V
 insert_by name row rows = filter (λ other. not (is_before name row other)) rows ++ row ∷ filter (λ other. is_before name row other) rows
 
--- one more row, behind those of its own key and of keys before it
+-- one more row, after those of its own key and of keys before it
 abbrev pub insert_at : {V : Type 0} → (V → V → Ordering) → V → List V → List V
 insert_at order row rows = filter (λ other. not (is_lt (order row other))) rows ++ row ∷ filter (λ other. is_lt (order row other)) rows
 
--- one more row behind all others
+-- one more row, after all others
 abbrev pub append : {V : Type 0} → V → List V → List V
 append row rows = rows ++ row ∷ []
 
--- the rows that pass the test change, the others stay
+-- the rows that pass the test change, and the others stay
 abbrev pub alter : {V : Type 0} → (V → Bool) → (V → V) → List V → List V
 alter test change rows = map (λ row. if test row then change row else row) rows
 
--- the rows that pass the test go
+-- the rows that don't pass the test
 abbrev pub without : {V : Type 0} → (V → Bool) → List V → List V
 without test rows = filter (λ row. not (test row)) rows
 
@@ -107,7 +107,7 @@ new_piece number place part = record { job = number; place = place; bytes = part
 abbrev pub new_entry : List ℕ → List ℕ → EntryColumns
 new_entry host text = record { host = host; bytes = text }
 
--- ---- what one change makes of the tables
+-- ---- the tables after one change
 
 abbrev pub apply : Change → Tables → Tables
 apply (AddSystem def) t = record t { systems = insert_by (λ row. row.name) (new_system def.now) t.systems }

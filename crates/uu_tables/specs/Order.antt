@@ -1,5 +1,5 @@
--- The orders of the tables' keys: names and hosts by their bytes, numbers by size. (SQLite: ORDER
--- BY over BINARY texts and integers.)
+-- The orders of the tables' keys: names and hosts in order of their bytes, numbers in order of
+-- their size. (SQLite: ORDER BY over BINARY texts and integers.)
 use Rattle.std.specs.declared.cmp.Ordering.{Ordering}
 use Rattle.std.specs.Ordering.{nat_cmp, ordering_then}
 use Rattle.std.specs.Cmp.Lexicographic.{slice_cmp}

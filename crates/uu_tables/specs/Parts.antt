@@ -1,4 +1,4 @@
--- What parts of a plan make of the tables: several changes of one kind, one after the other.
+-- The tables after parts of a plan: several changes of one kind, one after the other.
 use Rattle.std.specs.Prelude.{ℕ, ◌+◌, Bool, true, false, ◌==◌, List, [], ◌∷◌, ◌++◌, map}
 use Rattle.std.specs.List.{flat_map, list_any}
 use Rattle.uu_times.specs.System.{System}
@@ -12,7 +12,7 @@ use Rattle.uu_tables.specs.Tables.{Tables, PlacedLine, line_columns, ranges_of, 
 use Rattle.uu_tables.specs.Order.{taken_cmp}
 use Rattle.uu_tables.specs.Changes.{insert_by, insert_at, append, alter, without, has_name, is_line_of, is_range_of, is_wait_of, new_system}
 
--- the tables with the pieces of a job behind all others
+-- the tables with the pieces of a job after all others
 abbrev pub with_pieces : ℕ → List ℕ → Tables → Tables
 with_pieces number all t = record t { pieces = t.pieces ++ cut number all }
 
@@ -52,8 +52,8 @@ with_lines lines t = record t {
 abbrev pub with_waits : List WaitColumns → Tables → Tables
 with_waits waits t = record t { success_waits = insert_each (λ row. row.system) waits t.success_waits }
 
--- The tables with a definition but its lines and its success wait: a known system loses those that
--- it had, and keeps its calls.
+-- The tables with a definition, except its lines and its success wait. A known system loses those
+-- that it had, and keeps its calls.
 abbrev pub with_definition : Bool → System → Tables → Tables
 with_definition true def t = record t {
   systems = alter (has_name def.name) (λ row. record row { max_retries = def.max_retries }) t.systems;

@@ -1,23 +1,32 @@
--- What is known before a command, and what it is to do.
+-- What is known before a command, and what it will do.
 use Rattle.std.specs.declared.alloc.Global.{Global}
-use Rattle.std.specs.Prelude.{◌≡◌, ℕ, List, [], map, option_map, Some, Vec}
+use Rattle.std.specs.Prelude.{◌≡◌, ℕ, Bool, ◌==◌, ◌&&◌, List, [], map, filter, option_map, Some, Vec, ⊤}
+use Rattle.std.specs.List.{list_any}
 use Rattle.uu_core.specs.declared.command.Command.{Command}
-use Rattle.uu_core.specs.declared.command.Command.TheVariants.{Define, Remove, Queue, QueueOnce, Kill, Regrade, Rejuvenate, Failed, Done, Entry, Forget}
+use Rattle.uu_core.specs.declared.command.Command.TheVariants.{Define, Remove, Queue, QueueOnce, Kill, Regrade, Rejuvenate, Failed, Done, Release, Entry, Forget}
 use Rattle.uu_core.specs.declared.job.JobHead.{JobHead}
 use Rattle.uu_core.specs.declared.refusal.Refusal.{Refusal}
-use Rattle.uu_core.specs.State.{State, has_system, system_at, is_waiting, job_at, head_of, link_of}
+use Rattle.uu_core.specs.State.{State, same_text, has_system, system_at, is_waiting, job_at, head_of, link_of}
 use Rattle.uu_core.specs.Verdict.{verdict, are_known, taken_of}
 use Rattle.uu_core.specs.After.{after}
 use Rattle.uu_core.specs.Laws.{AreFound}
 use Rattle.uu_tables.specs.declared.facts.Facts.{Facts}
-use Rattle.uu_tables.specs.declared.facts.Facts.TheVariants.{Definition, Removal, Queueing, KeyedQueueing, Head, Failure, Success, Nothing, Forgetting}
+use Rattle.uu_tables.specs.declared.facts.Facts.TheVariants.{Definition, Removal, Queueing, KeyedQueueing, Head, Failure, Success, Releasing, Nothing, Forgetting}
 use Rattle.uu_tables.specs.declared.plan.Plan.{Plan}
 use Rattle.uu_tables.specs.Tables.{tables_of}
 use Rattle.uu_tables.specs.Changes.{applied}
 
--- the system of a call that went well, and the jobs that are named, in any order
+-- the system of a successful call, and the named jobs in any order
 abbrev pub AreOfSuccess : Facts → State → List ℕ → List ℕ → Type 0
 AreOfSuccess facts s system jobs = (found : Vec JobHead Global) × (facts ≡ Success (system_at s system) found) × AreFound jobs (map head_of s.jobs) found.items
+
+-- a job of this number waits for the system
+abbrev pub waits_under : State → List ℕ → ℕ → Bool
+waits_under s system number = list_any (λ job. job.number == number && same_text job.system system) s.jobs
+
+-- those of the named numbers under which a job waits for the system
+abbrev pub AreOfRelease : Facts → State → List ℕ → List ℕ → Type 0
+AreOfRelease facts s system jobs = (found : Vec ℕ Global) × (facts ≡ Releasing found) × (found.items ≡ filter (waits_under s system) jobs)
 
 -- they are the facts of the state that the command asks for
 abbrev pub AreFacts : Facts → State → Command → Type 0
@@ -30,8 +39,25 @@ AreFacts facts s (Regrade job grade by) = facts ≡ Head (option_map head_of (jo
 AreFacts facts s (Rejuvenate job at by) = facts ≡ Head (option_map head_of (job_at s job))
 AreFacts facts s (Failed system at why) = facts ≡ Failure (system_at s system)
 AreFacts facts s (Done system at jobs) = AreOfSuccess facts s system jobs
+AreFacts facts s (Release system jobs) = AreOfRelease facts s system jobs
 AreFacts facts s (Entry bytes) = facts ≡ Nothing
 AreFacts facts s (Forget system below) = facts ≡ Forgetting (has_system s system) (link_of s system).below
+
+-- the facts are of the kind that the command asks for; what they say doesn't matter
+abbrev pub IsFor : Facts → Command → Type 0
+IsFor (Definition known) (Define def) = ⊤
+IsFor (Removal known waiting) (Remove name) = ⊤
+IsFor (Queueing known next) (Queue job) = ⊤
+IsFor (KeyedQueueing known next below taken) (QueueOnce key job) = ⊤
+IsFor (Head job) (Kill number by) = ⊤
+IsFor (Head job) (Regrade number grade by) = ⊤
+IsFor (Head job) (Rejuvenate number at by) = ⊤
+IsFor (Failure row) (Failed system at why) = ⊤
+IsFor (Success row found) (Done system at jobs) = ⊤
+IsFor (Releasing found) (Release system jobs) = ⊤
+IsFor Nothing (Entry bytes) = ⊤
+IsFor (Forgetting known before) (Forget system below) = ⊤
+IsFor facts command = ⊥
 
 -- the reply is the machine's, the changes make the tables of the state after the command, and a
 -- refused command makes none

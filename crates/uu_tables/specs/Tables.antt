@@ -69,7 +69,7 @@ call_columns call = record {
 abbrev pub system_columns : SystemRow → SystemColumns
 system_columns row = record { name = row.def.name; max_retries = row.def.max_retries; call = call_columns row.call }
 
--- lines of a system, numbered from a place on
+-- the lines of a system, numbered from a place on
 abbrev pub placed_from : List ℕ → ℕ → List Line → List PlacedLine
 placed_from name place [] = []
 placed_from name place (line ∷ lines) = record { system = name; place = place; line = line } ∷ placed_from name (place + 1) lines
@@ -98,7 +98,7 @@ waits_of row = waits_from row.def.name row.def.success_wait
 
 -- ---- links
 
--- the number below which a neighbour asks for none again, unless it is 0
+-- the number below which a neighbour won't ask again, unless it is 0
 abbrev pub links_from : List ℕ → ℕ → List LinkColumns
 links_from name zero = []
 links_from name (suc n) = record { system = name; below = suc n } ∷ []
@@ -115,7 +115,7 @@ taken_rows link = map (taken_columns link.name) link.taken
 
 -- ---- jobs, pieces
 
--- the bytes of a whole piece
+-- the bytes of a full piece
 abbrev pub piece_bytes : ℕ
 piece_bytes = 16384
 
@@ -123,11 +123,11 @@ piece_bytes = 16384
 abbrev pub piece : ℕ → List ℕ → ℕ → Piece
 piece number all place = record { job = number; place = place; bytes = take piece_bytes (drop (place * piece_bytes) all) }
 
--- the most pieces of a job, as many as its most bytes have
+-- the most pieces of a job: those of as many bytes as it may have
 abbrev pub most_pieces : ℕ
 most_pieces = 64
 
--- how many pieces so many bytes have
+-- how many pieces so many bytes make
 abbrev pub piece_count : ℕ → ℕ
 piece_count size = (size + 16383) / piece_bytes
 

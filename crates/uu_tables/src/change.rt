@@ -4,14 +4,14 @@ use uu_core::{Kind, Taken};
 use uu_names::{Grade, SiteName, Word};
 use uu_times::{Line, SystemDef};
 
-/// What the row of a new job holds beside its number.
+/// What the row of a new job has besides its number.
 #[derive(Drop)]
 pub struct JobColumns<'a> {
     /// The system for which it waits.
     pub system: &'a SiteName,
     /// Its grade, kept by its rank.
     pub grade: Grade,
-    /// Whose it is.
+    /// The user that it belongs to.
     pub user: &'a Word,
     /// What it is for.
     pub kind: &'a Kind,
@@ -21,8 +21,8 @@ pub struct JobColumns<'a> {
     pub size: u32,
 }
 
-/// A change of the tables that one statement makes. Where no row is of that name or number, it
-/// changes nothing.
+/// A change of the tables that one statement makes. If no row has the name or number, it changes
+/// nothing.
 #[derive(Drop)]
 pub enum Change<'a> {
     /// One more system, which was never called, without its lines.
@@ -41,37 +41,37 @@ pub enum Change<'a> {
         /// How they went.
         call: CallColumns,
     },
-    /// The system goes, and with it its lines, their ranges, its success wait, and its link: the
-    /// number below which it asks for none again, and what was taken from it.
+    /// The system is removed, with its lines, their ranges, its success wait, and its link: the
+    /// number below which it won't ask again, and what was taken from it.
     RemoveSystem {
         /// The system.
         system: &'a SiteName,
     },
-    /// The lines of a system go, and their ranges with them.
+    /// The lines of a system are removed, with their ranges.
     RemoveLines {
         /// The system.
         system: &'a SiteName,
     },
-    /// The success wait of a system, which has none.
+    /// The success wait of a system that has none.
     AddSuccessWait {
         /// The system.
         system: &'a SiteName,
         /// The seconds.
         wait: u32,
     },
-    /// The success wait of a system goes.
+    /// The success wait of a system is removed.
     RemoveSuccessWait {
         /// The system.
         system: &'a SiteName,
     },
-    /// The number below which a neighbour, which has none, asks for none again.
+    /// The number below which a neighbour won't ask again, if it said none before.
     AddLink {
         /// The neighbour.
         system: &'a SiteName,
         /// The number.
         below: u32,
     },
-    /// The number below which a neighbour asks for none again goes.
+    /// The number below which a neighbour won't ask again is removed.
     RemoveLink {
         /// The neighbour.
         system: &'a SiteName,
@@ -83,7 +83,7 @@ pub enum Change<'a> {
         /// The job.
         taken: Taken,
     },
-    /// What was taken from a neighbour under numbers below this one goes.
+    /// Jobs that were taken from a neighbour under numbers below this one are removed.
     ForgetTaken {
         /// The neighbour.
         system: &'a SiteName,
@@ -131,7 +131,7 @@ pub enum Change<'a> {
         /// The second, in UTC.
         queued: u32,
     },
-    /// The job goes, and its pieces with it.
+    /// The job is removed, with its pieces.
     RemoveJob {
         /// Its number.
         number: u32,
@@ -145,7 +145,7 @@ pub enum Change<'a> {
         /// The bytes.
         bytes: &'a [u8],
     },
-    /// The map entry of a host goes.
+    /// The map entry of a host is removed.
     RemoveEntry {
         /// The host.
         host: SiteName,

@@ -1,8 +1,8 @@
-// What is asked of the tables before a command.
+// The facts from which a command is planned, asked of the tables.
 use uu_core::{JobHead, SystemRow, Taken};
 
-/// What was asked of the tables before a command: what the command names, and nothing else. A fact
-/// that was not asked can't be read.
+/// The answers of the tables before a command: only about what the command names. A fact that the
+/// code didn't ask for can't be read.
 #[derive(Drop)]
 pub enum Facts {
     /// Before `Define`.
@@ -30,7 +30,7 @@ pub enum Facts {
         known: bool,
         /// The number of the next job.
         next: u32,
-        /// The number below which the neighbour asks for none again.
+        /// The number below which the neighbour won't ask again.
         below: u32,
         /// What was taken from it under the key's number.
         taken: Option<Taken>,
@@ -43,8 +43,13 @@ pub enum Facts {
     Success {
         /// The system with its definition and its calls, if it is known.
         row: Option<SystemRow>,
-        /// The jobs whose numbers are named, those that are there.
+        /// The jobs that are there under the named numbers.
         found: Vec<JobHead>,
+    },
+    /// Before `Release`.
+    Releasing {
+        /// Those of the named numbers under which a job waits for the system.
+        found: Vec<u32>,
     },
     /// Before `Entry`: nothing.
     Nothing,
@@ -52,7 +57,29 @@ pub enum Facts {
     Forgetting {
         /// Whether the neighbour is known.
         known: bool,
-        /// The number below which it asks for none again so far.
+        /// The number below which it wouldn't ask again so far.
         before: u32,
     },
+}
+
+/// The answers of the tables before a neighbour's bundle.
+#[derive(Drop)]
+pub struct TakingFacts {
+    /// Whether the neighbour is known.
+    pub known: bool,
+    /// The number of the next job.
+    pub next: u32,
+    /// The number below which the neighbour wouldn't ask again so far.
+    pub before: u32,
+    /// The answers about each job of the bundle, in their order.
+    pub jobs: Vec<OfferedFacts>,
+}
+
+/// The answers about a job before its bundle.
+#[derive(Clone, Copy, Debug)]
+pub struct OfferedFacts {
+    /// Whether the neighbour and the job's system are known.
+    pub known: bool,
+    /// What was taken from the neighbour under the job's number.
+    pub taken: Option<Taken>,
 }

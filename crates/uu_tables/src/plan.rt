@@ -1,7 +1,7 @@
 // The reply to a command, and what it changes in the tables.
 ghost use Rattle.std.specs.Prelude.{◌≡◌, [], ◌∷◌, IfOk};
 ghost use Rattle.uu_core.specs.State.{State, IsWellFormed};
-ghost use Rattle.uu_tables.specs.Plans.{AreFacts, IsPlan};
+ghost use Rattle.uu_tables.specs.Plans.{AreFacts, IsFor, IsPlan};
 
 mod entry;
 mod job;
@@ -9,6 +9,7 @@ mod link;
 mod queue;
 mod report;
 mod system;
+mod taking;
 
 use crate::change::Change;
 use crate::facts::Facts;
@@ -17,9 +18,10 @@ use job::{plan_kill, plan_regrade, plan_rejuvenate};
 use link::{plan_forget, plan_queue_once};
 pub use queue::PIECE_BYTES;
 use queue::plan_queue;
-use report::{plan_done, plan_failed};
+use report::{plan_done, plan_failed, plan_release};
 use std::alloc::{AllocError, Global};
 use system::{plan_define, plan_remove};
+pub use taking::{TakingPlan, plan_take_in};
 use uu_core::{Command, Refusal, Reply};
 
 /// The reply to a command, and what it changes.
@@ -27,11 +29,11 @@ use uu_core::{Command, Refusal, Reply};
 pub struct Plan<'a> {
     /// The reply, once the changes are made.
     pub reply: Reply,
-    /// The changes, one after the other; none, where the command is refused.
+    /// The changes, one after the other; none if the command is refused.
     pub changes: Vec<Change<'a>>,
 }
 
-// Nothing changes.
+// The command is refused: nothing changes.
 fn refused<'a>(alloc: Global, refusal: Refusal) -> Plan<'a>
     ensures reply { result.reply ≡ Reply.Refused refusal }
     ensures none { result.changes.items ≡ [] }
@@ -64,12 +66,14 @@ fn one_change<'a>(alloc: Global, change: Change<'a>) -> Result<Plan<'a>, AllocEr
     })
 }
 
-/// The reply to a command, and its changes, where these facts were asked for it.
+/// The reply to a command, and its changes, if these facts were asked for it. The facts are of the
+/// kind that it asks for.
 pub fn make_plan<'a>(
     alloc: Global,
     facts: &Facts,
     command: &'a Command,
 ) -> Result<Plan<'a>, AllocError>
+    requires suits { IsFor facts.now command.now }
     ensures { (s : State) → IsWellFormed s → AreFacts facts.now s command.now → IfOk result (IsPlan s command.now) }
 {
     match (command, facts) {
@@ -104,12 +108,11 @@ pub fn make_plan<'a>(
         (Command::Done { system, at, jobs }, Facts::Success { row, found }) => {
             plan_done(alloc, row.as_ref(), found, system, at, jobs.as_slice())
         }
+        (Command::Release { .. }, Facts::Releasing { found }) => plan_release(alloc, found),
         (Command::Entry(bytes), Facts::Nothing) => plan_entry(alloc, bytes.as_slice()),
         (Command::Forget { system, below }, Facts::Forgetting { known, before }) => {
             plan_forget(alloc, *known, *before, system, *below)
         }
-        // Facts that were asked for another command. The clause says that none that were asked for
-        // this one come here.
-        _ => Ok(refused(alloc, Refusal::NoSystem)),
+        _ => unreachable!(),
     }
 }

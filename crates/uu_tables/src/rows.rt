@@ -31,7 +31,7 @@ pub struct CallColumns {
     pub wait: u32,
     /// How the last call went: [`NEVER_CALLED`], [`CALL_FAILED`] or [`CALL_MADE`].
     pub outcome: u32,
-    /// Why it failed, where it did.
+    /// Why it failed, if it did.
     pub why: Option<Word>,
 }
 
@@ -72,22 +72,22 @@ pub struct RangeColumns {
     pub high: u32,
 }
 
-/// A row of the table `success_waits`, which has none for a system whose success wait is 0.
+/// A row of the table `success_waits`. A system whose success wait is 0 has no such row.
 #[derive(Drop)]
 pub struct WaitColumns {
     /// The system.
     pub system: SiteName,
-    /// How many seconds it is left alone after a call that went well, 1 to 31,536,000.
+    /// How many seconds it is left alone after a successful call, 1 to 31,536,000.
     pub wait: u32,
 }
 
-/// A row of the table `links`, which has none for a neighbour that never said that it won't ask for
-/// some numbers again.
+/// A row of the table `links`. A neighbour that never said that it won't ask for some numbers again
+/// has no such row.
 #[derive(Drop)]
 pub struct LinkColumns {
     /// The neighbour.
     pub system: SiteName,
-    /// The number below which it asks for none again, at least 1.
+    /// The number below which it won't ask again, at least 1.
     pub below: u32,
 }
 

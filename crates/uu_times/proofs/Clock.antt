@@ -13,7 +13,7 @@ day_time (pos d) (negsuc s) nanos below same = absurd (omega (arith, ints))
 day_time (negsuc d) (pos s) nanos below same = absurd (omega (arith, ints))
 day_time (negsuc d) (negsuc s) nanos below same = (omega (arith, ints), omega (arith, ints))
 
--- the minute of the week, where seconds are counted from two days sooner on
+-- the minute of the week, if seconds are counted from two days earlier on
 pub week_later : (shown : ℤ) (later : ℕ) → shown +ℤ pos 172800 ≡ pos later → pos ((later / 60 + 2880) % 10080) ≡ week_minute shown
 week_later (pos s) later same =
     sym (int_rem_euclid_is (int_div_euclid (pos s) (pos 60) +ℤ pos 5760) (pos 10080) 10080 0 (later / 60 + 2880) (lit< tt) refl (omega (arith, ints)))

@@ -345,7 +345,7 @@ bind_file read more = read >>= more
 abbrev pub bind_said : Result (List Directive) TimeFault → (List Directive → Result SysFile TimeFault) → Result SysFile TimeFault
 bind_said said rest = said >>= rest
 
--- what a line says, taken in and checked, where the rest agrees
+-- what a line says, taken in and checked, if the rest agrees
 with-directive : (reading : Reading) (before : List Directive) (line : ℕ) (directive : Directive) (more : Reading → Result SysFile TimeFault) (rest : List Directive → Result SysFile TimeFault)
     → Outcome reading before line directive → ((next : Reading) (directives : List Directive) → Holds next directives → more next ≡ rest directives)
     → (bind_file (absorbed reading line directive) more) ≡ bind_said (checked_if before line (Some directive)) rest

@@ -1,6 +1,7 @@
 -- The front of a text that begins a list of simple strings, and the minutes of one that is written.
 use Rattle.std.proofs.Common.{◌≡◌, inl, inr, ℕ, zero, suc, ◌+◌, ◌*◌, ◌/◌, ◌%◌, ◌<◌, ◌≤◌, Bool, true, false, ◌&&◌, ◌||◌, cond, Option, None, Some, IfSome, option_map, option_and_then, option_to_list, Result, Ok, Err, List, [], ◌∷◌, ◌++◌, length, map, take, refl, ap, sym, subst, ◌∙◌, arith, nat_eq, lit<}
 use Rattle.std.proofs.lemmas.Bool.{cond_both, eqb-true, or_cases, false≢true}
+use Rattle.std.proofs.Math.Bool.{or-false, or_assoc}
 use Rattle.std.specs.Char.{is_ascii_digit, to_ascii_lowercase}
 use Rattle.std.specs.List.{list_any}
 use Rattle.uu_times.specs.declared.days.Days.{Days}
@@ -33,11 +34,12 @@ Live (Dash days start) = Unit {0}
 Live (To days start counts digits) = IsUnit counts × (is_end digits ≡ true)
 Live (Whole days start end) = Unit {0}
 
--- each byte leads to such a place
-guarded : {X : Type 0} (b : Bool) (x : X) (P : X → Type 0) → (b ≡ true → P x) → IfSome (cond b (Some x) None) P
+-- a test that has to pass for a value
+pub guarded : {X : Type 0} (b : Bool) (x : X) (P : X → Type 0) → (b ≡ true → P x) → IfSome (cond b (Some x) None) P
 guarded true x P h = h refl
 guarded false x P h = tt
 
+-- each byte leads to such a place
 live-first : (days : Days) (letter : ℕ) → IfSome (first_letter days letter) Live
 live-first days letter = guarded (list_any (λ first. nat_eq first letter) (115 ∷ 109 ∷ 116 ∷ 119 ∷ 102 ∷ 97 ∷ [])) (Letter days letter) Live (λ is. is)
 
@@ -291,14 +293,6 @@ unread-longest text at same =
     }
 
 -- the days of words
-or-assoc : (a b c : Bool) → ((a || b) || c) ≡ (a || (b || c))
-or-assoc true b c = refl
-or-assoc false b c = refl
-
-or-false : (b : Bool) → (b || false) ≡ b
-or-false true = refl
-or-false false = refl
-
 has-with : (days : Days) (more : ℕ × ℕ) (day : ℕ) → day < 7 → has_day (with_days days more) day ≡ (has_day days day || spans more day)
 has-with days more zero below = refl
 has-with days more (suc zero) below = refl
@@ -324,7 +318,7 @@ has-words [] days day below = sym (or-false (has_day days day))
 has-words (word ∷ words) days day below =
     has-words words (with_days days (word_days word)) day below
     ∙ ap (λ b. b || list_any (λ w. spans (word_days w) day) words) (has-with days (word_days word) day below)
-    ∙ or-assoc (has_day days day) (spans (word_days word) day) (list_any (λ w. spans (word_days w) day) words)
+    ∙ or_assoc (has_day days day) (spans (word_days word) day) (list_any (λ w. spans (word_days w) day) words)
 
 pub spelled-minutes : (spelling : Spelling) (minute : ℕ) → minute < 10080 → has_minute minute (simple_of spelling) ≡ has_spelled minute spelling
 spelled-minutes spelling minute below =

@@ -67,7 +67,7 @@ run-all (word ∷ words) rest simples some read =
 pub plain-digit : (d : ℕ) → d < 10 → is_separator (48 + d) ≡ false
 plain-digit d below = or_from (nat_eq (48 + d) 124) (nat_eq (48 + d) 44) (ne_eqb (48 + d) 124 (omega arith)) (ne_eqb (48 + d) 44 (omega arith))
 
-is-digit : (d : ℕ) → d < 10 → is_ascii_digit (48 + d) ≡ true
+pub is-digit : (d : ℕ) → d < 10 → is_ascii_digit (48 + d) ≡ true
 is-digit d below = grind (arith, nat_tests)
 
 more-digit : (unit digits d : ℕ) → d < 10 → more_digits unit digits (48 + d) ≡ Some (digits + d * unit)
@@ -96,9 +96,6 @@ end-test digits (inr last) = or_right (is_time digits) (nat_eq digits 2400) (eq-
 -- four digits of a time
 abbrev pub written : ℕ → ℕ → ℕ
 written hour minute = 0 + hour / 10 * 1000 + hour % 10 * 100 + minute / 10 * 10 + minute % 10 * 1
-
-written-is : (hour minute : ℕ) → written hour minute ≡ 100 * hour + minute
-written-is hour minute = omega arith
 
 run-start : (days : Days) (hour minute : ℕ) (rest : List ℕ) (simples : List Simple) → IsTime hour minute → scan (Dash days (written hour minute)) rest ≡ Ok simples
     → scan (Named days) (two_digits hour ++ (two_digits minute ++ rest)) ≡ Ok simples
@@ -156,7 +153,7 @@ run-end days start hour minute rest simples end read =
     (end-digit days start 1 p3 d4 (omega arith) parts.5)
     read)))
 
--- where the reading stands behind a simple string
+-- the place of the reading after a simple string
 abbrev pub place_behind : Days → Option Hours → Place
 place_behind days None = Named days
 place_behind days (Some hours) = Whole days (written hours.from_hour hours.from_minute) (written hours.to_hour hours.to_minute)

@@ -2,6 +2,7 @@
 -- one.
 use Rattle.std.proofs.Common.{◌≡◌, ◌⊎◌, inl, inr, ℕ, ◌+◌, ◌-◌, ◌*◌, ◌/◌, ◌%◌, ◌<◌, ◌≤◌, Bool, true, false, ◌&&◌, cond, Option, None, Some, option_map, option_and_then, Result, Ok, Err, List, [], ◌∷◌, ◌++◌, length, map, refl, ap, sym, subst, ◌∙◌, arith, append_assoc, append-nil, length-append, nat_eq, nat_le, nat_lt}
 use Rattle.std.proofs.lemmas.Bool.{cond-true, cond-false, cases_Bool, eqb-true, ltb-true, leb-true, and_parts, or_cases}
+use Rattle.std.proofs.lemmas.Option.{same_Some}
 use Rattle.std.specs.Char.{is_ascii_digit}
 use Rattle.std.specs.List.{flat_map, list_any}
 use Rattle.uu_times.specs.declared.days.Days.{Days}
@@ -15,10 +16,7 @@ use Rattle.uu_times.specs.Internal.Scan.{is_time, is_end, more_digits, start_dig
 use Rattle.uu_times.proofs.GrammarLemmas.{written, place_behind, simple-behind, made}
 
 -- what an equation of options says
-some-same : {X : Type 0} (x y : X) → Some x ≡ Some y → x ≡ y
-some-same x y same = cc
-
-none-some : {X : Type 0} (y : X) (o : Option X) → o ≡ None → o ≡ Some y → ⊥
+pub none-some : {X : Type 0} (y : X) (o : Option X) → o ≡ None → o ≡ Some y → ⊥
 none-some y o none some = cc
 
 ok-same : {X : Type 0} (x y : X) → let r : Result X ℕ = Ok x in r ≡ Ok y → x ≡ y
@@ -29,16 +27,16 @@ err-ok at y same = cc
 
 -- a guard that passed, and a first choice or a later one
 guard-passed : {X : Type 0} (b : Bool) (x y : X) → cond b (Some x) None ≡ Some y → (b ≡ true) × (x ≡ y)
-guard-passed true x y same = (refl, some-same x y same)
+guard-passed true x y same = (refl, same_Some x y same)
 guard-passed false x y same = absurd (none-some y None refl same)
 
 choice : {X : Type 0} (b : Bool) (x y : X) (o : Option X) → cond b (Some x) o ≡ Some y → ((b ≡ true) × (x ≡ y)) ⊎ (o ≡ Some y)
-choice true x y o same = inl (refl, some-same x y same)
+choice true x y o same = inl (refl, same_Some x y same)
 choice false x y o same = inr same
 
 mapped : {X Y : Type 0} (f : X → Y) (o : Option X) (y : Y) → option_map f o ≡ Some y → (x : X) × (o ≡ Some x) × (f x ≡ y)
 mapped f None y same = absurd (none-some y None refl same)
-mapped f (Some x) y same = (x, refl, some-same (f x) y same)
+mapped f (Some x) y same = (x, refl, same_Some (f x) y same)
 
 -- a day word of two letters
 both : (a b x y : ℕ) → (nat_eq a x && nat_eq b y) ≡ true → let one : List ℕ = x ∷ y ∷ [] in one ≡ a ∷ b ∷ []
@@ -324,7 +322,7 @@ ended-with days hours front text simple are words is same = record {
   spelling = record { words = words.front.words; hours = hours };
   is = (words.some, are);
   text_is = is ∙ ap (λ t. t ++ hours_text hours) words.front.spelled;
-  simple_is = sym (some-same (made days (option_map bounds_of hours)) simple (sym (simple-behind days hours are) ∙ same))
+  simple_is = sym (same_Some (made days (option_map bounds_of hours)) simple (sym (simple-behind days hours are) ∙ same))
       ∙ ap (λ (d : Days). made d (option_map bounds_of hours)) words.front.named;
 }
 

@@ -31,7 +31,7 @@ joined-more number count front line rest on =
     ∙ sym (joined_onto-twice number (number + count) front (without_last line) (joined (number + count + 1) rest))
     ∙ ap (joined_onto number front) (sym (cond-true (is_continued line) (joined_onto (number + count) (without_last line) (joined (number + count + 1) rest)) (record { number = number + count; line = line } ∷ joined (number + count + 1) rest) on))
 
--- and one that doesn't, or has nothing behind it
+-- and one that doesn't, or has nothing after it
 pub joined-last : (number count : ℕ) (front line : List ℕ) (rest : List (List ℕ)) → (is_continued line ≡ true → rest ≡ [])
     → joined_onto number front (joined (number + count) (line ∷ rest)) ≡ record { number = number; line = front ++ kept_part line } ∷ joined (number + (count + 1)) rest
 unfolding joined
@@ -60,7 +60,7 @@ uncommented-ends clean line at all below hash whole =
     ∙ ap (λ rest. clean ++ rest) (sym (ap uncommented (drop-cons line at 0 below ∙ ap (λ x. x ∷ drop (suc at) line) hash) ∙ nothing-after (drop (suc at) line)))
     ∙ whole
 
--- a line that isn't joined, though it goes on, has nothing behind it
+-- a line that isn't joined, though it goes on, has nothing after it
 pub free-last : (line rest : List ℕ) → (is_continued line && nat_lt 0 (length rest)) ≡ false → is_continued line ≡ true → lines rest ≡ []
 free-last line [] free on = refl
 free-last line (letter ∷ letters) free on =

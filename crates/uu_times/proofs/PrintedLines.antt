@@ -7,9 +7,11 @@ use Rattle.std.proofs.lemmas.List.Elements.{All-nil, All-cons, All-append, All-t
 use Rattle.std.proofs.lemmas.List.Splits.{slice_split_at}
 use Rattle.std.specs.Char.{is_ascii_digit}
 use Rattle.std.specs.Fmt.{decimal}
-use Rattle.std.specs.List.{flat_map, list_all, slice_split, onto_first}
-use Rattle.std.specs.Str.Lines.{lines, lines_of_parts, strip_carriage_return}
+use Rattle.std.specs.List.{flat_map, list_all}
+use Rattle.std.specs.Str.Lines.{lines, lines_of_parts}
 use Rattle.uu_names.specs.Text.{is_blank}
+use Rattle.uu_names.proofs.Basics.{lines_of_parts_cons}
+use Rattle.uu_times.proofs.GrammarLemmas.{is-digit}
 use Rattle.uu_times.specs.declared.fault.TimeFault.{TimeFault}
 use Rattle.uu_times.specs.Directives.{◌>>=◌, value_behind, number_of, said, line_says}
 use Rattle.uu_times.specs.Lines.{Numbered, is_continued, without_last, joined_onto, joined, uncommented, words_of}
@@ -78,22 +80,10 @@ last-plain (letter ∷ line) other each zero_other plain =
     (each (get_or (letter ∷ line) (length (letter ∷ line) - 1) 0) (All-get_or IsPlain (letter ∷ line) (length (letter ∷ line) - 1) 0 (omega arith) plain))
 
 -- a line and its line feed
-before_more : (x part : List ℕ) (parts : List (List ℕ)) (z : ℕ) → lines_of_parts (x ∷ onto_first z parts) ≡ strip_carriage_return x ∷ lines_of_parts (onto_first z parts)
-before_more x part [] z = refl
-before_more x part (p ∷ ps) z = refl
-
-parts-cons : (p : ℕ → Bool) (x ys : List ℕ) → lines_of_parts (x ∷ slice_split p ys) ≡ strip_carriage_return x ∷ lines_of_parts (slice_split p ys)
-parts-cons p x [] = refl
-parts-cons p x (z ∷ zs) = go (p z)
-  where
-    go : (t : Bool) → lines_of_parts (x ∷ cond t ([] ∷ slice_split p zs) (onto_first z (slice_split p zs))) ≡ strip_carriage_return x ∷ lines_of_parts (cond t ([] ∷ slice_split p zs) (onto_first z (slice_split p zs)))
-    go true = refl
-    go false = before_more x x (slice_split p zs) z
-
 line-first : (line rest : List ℕ) → All IsPlain line → lines (line ++ 10 ∷ rest) ≡ line ∷ lines rest
 line-first line rest plain =
     ap lines_of_parts (slice_split_at (λ b. nat_eq b 10) line 10 rest (All-weaker IsPlain (λ b. nat_eq b 10 ≡ false) (λ b is. ne_eqb b 10 (λ e. omega arith)) line plain) refl)
-    ∙ parts-cons (λ b. nat_eq b 10) line rest
+    ∙ lines_of_parts_cons (λ b. nat_eq b 10) line rest
     ∙ ap (λ l. l ∷ lines rest) (cond-false (nat_eq (get_or line (length line - 1) 0) 13) (take (length line - 1) line) line (last-plain line 13 (λ b is e. omega arith) (λ e. omega arith) plain))
 
 -- it isn't joined with the next
@@ -175,9 +165,6 @@ record IsNumber (n : ℕ) (digits : List ℕ) : Type 0 where
   value : value_behind 0 digits ≡ n
   sound : list_all is_sound digits ≡ true
 
-digit-is : (d : ℕ) → d < 10 → is_ascii_digit (48 + d) ≡ true
-digit-is d below = grind (arith, nat_tests)
-
 pub digit-sound : (d : ℕ) → d < 10 → is_sound (48 + d) ≡ true
 digit-sound d below =
     and_from (nat_le 33 (48 + d)) (not (nat_eq (48 + d) 35) && not (nat_eq (48 + d) 92)) (le-leb 33 (48 + d) (omega arith))
@@ -189,9 +176,9 @@ one-true b is = ap (λ t. t && true) is
 number-is : (n : ℕ) → n < 2 ^ 64 → IsNumber n (decimal n)
 number-is =
     decimal_by_steps IsNumber
-    (λ n below. record { digit = one-true (is_ascii_digit (48 + n)) (digit-is n below); value = omega arith; sound = one-true (is_sound (48 + n)) (digit-sound n below) })
+    (λ n below. record { digit = one-true (is_ascii_digit (48 + n)) (is-digit n below); value = omega arith; sound = one-true (is_sound (48 + n)) (digit-sound n below) })
     (λ n ds some is. record {
-      digit = all-append is_ascii_digit ds ((48 + n % 10) ∷ []) is.digit (one-true (is_ascii_digit (48 + n % 10)) (digit-is (n % 10) (omega arith)));
+      digit = all-append is_ascii_digit ds ((48 + n % 10) ∷ []) is.digit (one-true (is_ascii_digit (48 + n % 10)) (is-digit (n % 10) (omega arith)));
       value = value-more 0 ds (48 + n % 10) ∙ ap (λ v. v * 10 + (48 + n % 10 - 48)) is.value ∙ omega arith;
       sound = all-append is_sound ds ((48 + n % 10) ∷ []) is.sound (one-true (is_sound (48 + n % 10)) (digit-sound (n % 10) (omega arith)));
     })

@@ -21,7 +21,6 @@ use Rattle.uu_times.specs.Directives.{◌>>=◌, begun, retried, waited, retry_n
 use Rattle.uu_times.specs.Grammar.{DayWord, su, mo, tu, we, th, fr, sa, wk, any, Hours, two_digits, hours_text}
 use Rattle.uu_times.specs.Internal.Reading.{Reading, Seen, has_seen, with_seen, no_reading, absorbed_if, file_of, file_read}
 use Rattle.uu_times.specs.Internal.Section.{Parts, no_part, no_parts, all_systems, defaults_with, begin_part, with_line}
-use Rattle.uu_times.specs.Lines.{one_or_two}
 use Rattle.uu_times.specs.Printed.{behind, Piece, pieces_of, word_name, hours_of, piece_text, pieces_text, time_text, grade_text, time_words, system_words, line_text, system_text, sys_text, IsLine, IsSystem, NamesDiffer}
 use Rattle.uu_times.specs.Ranges.{AreRuns}
 use Rattle.uu_times.specs.SysFile.{Part, lines_or, system_of, sys_file_of}
@@ -192,10 +191,6 @@ timed-read : (number grade : ℕ) (windows : List (ℕ × ℕ)) (retry : Option 
 timed-read number grade windows retry runs is =
     ap (λ r. r >>= λ w. retry_of number (option_map decimal retry) >>= λ m. Ok (Time (record { grade = grade; windows = w; retry = m }))) (time-read number windows runs)
     ∙ ap (λ r. r >>= λ m. Ok (Time (record { grade = grade; windows = windows; retry = m }))) (retry-read number retry is)
-
-arguments-of : (text : List ℕ) (retry : Option ℕ) → one_or_two (text ∷ option_to_list (option_map decimal retry)) ≡ Some (text, option_map decimal retry)
-arguments-of text None = refl
-arguments-of text (Some minutes) = refl
 
 said-lowest : (number : ℕ) (text : List ℕ) (retry : Option ℕ)
     → said predefined_tables number (codes "time" ∷ text ∷ option_to_list (option_map decimal retry)) ≡ (timed predefined_tables number 61 (text, option_map decimal retry) >>= λ d. Ok (Some d))

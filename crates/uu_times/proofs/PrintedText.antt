@@ -72,7 +72,7 @@ unfolding groups_of
 groups-parts runs alike apart =
     cond-true (weekdays_alike runs) (cond (ends_alike runs) ((any, 0) ∷ []) weekdays_and_ends) days_of_week alike ∙ cond-false (ends_alike runs) ((any, 0) ∷ []) weekdays_and_ends apart
 
--- the text of pieces, where these are the groups
+-- the text of pieces, if these are the groups
 pub grouped : (start text : List ℕ) (runs : List (ℕ × ℕ)) (days : List (DayWord × ℕ)) → groups_of runs ≡ days
     → text ≡ start ++ behind 44 (map piece_text (flat_map (pieces_on runs) days)) → text ≡ start ++ behind 44 (map piece_text (pieces_of runs))
 grouped start text runs days are is = is ∙ ap (λ (ds : List (DayWord × ℕ)). start ++ behind 44 (map piece_text (flat_map (pieces_on runs) ds))) (sym are)

@@ -4,6 +4,7 @@ use Rattle.std.proofs.lemmas.Bool.{false_from_ne_true, cond_both, cond-true, con
 use Rattle.std.proofs.lemmas.Bool.Decides.{nat_tests}
 use Rattle.std.proofs.lemmas.List.{map-append}
 use Rattle.std.proofs.lemmas.List.Folds.{list_any-append}
+use Rattle.std.proofs.Math.Bool.{or-false}
 use Rattle.std.specs.Char.{to_ascii_lowercase}
 use Rattle.std.specs.List.{flat_map, filter_map, list_any, cons_option}
 use Rattle.std.specs.Str.{byte, bytes_eq}
@@ -150,10 +151,6 @@ in-hours minutes minute is below =
         ∙ ap (λ e. in_hours (Some (m.0, e)) minute) (end-made m is.1)
         ∙ cond-true (nat_le m.0 m.1) (nat_le m.0 minute && nat_le minute m.1) (nat_le m.0 minute || nat_le minute m.1) (grind (arith, nat_tests))
 
-or-false : (b : Bool) → (b || false) ≡ b
-or-false true = refl
-or-false false = refl
-
 has-spelling : (minute : ℕ) (piece : Piece) → IsPart piece.1 → has_spelled minute (spelling_of piece) ≡ has_piece minute piece
 has-spelling minute piece is =
     ap (λ b. b && in_hours (option_map bounds_of (hours_of piece.1)) (minute % 1440)) (or-false (spans (word_days piece.0) (minute / 1440)))
@@ -205,7 +202,7 @@ has-day word day minute (range ∷ runs) is =
     has-option word minute (on_day day range) (filter_map (on_day day) runs) (holds runs minute) (has-day word day minute runs is)
     ∙ ap (λ b. spans (word_days word) (minute / 1440) && (b || holds runs minute)) (same-day day minute range is)
 
--- on other days there is none of them
+-- other days have none of them
 has-other : (word : DayWord) (day minute : ℕ) (rest : List (ℕ × ℕ)) → spans (word_days word) (minute / 1440) ≡ false
     → list_any (has_piece minute) (map (λ m. (word, m)) rest) ≡ false
 has-other word day minute [] other = refl

@@ -28,7 +28,7 @@ pub reads-end : (reading : Reading) (number : ℕ) (rest : List ℕ) (whole : Re
 unfolding lines_read joined
 reads-end reading number rest whole none answer = ap (λ (r : List ℕ). lines_read reading (joined number (lines r))) (sym none) ∙ answer
 
--- a faulty line, or want of memory at it
+-- a faulty line, or out of memory at it
 pub takes-fault : (fault : TimeFault) (reading next last : Reading) (number : ℕ) (text : List ℕ) (all more : List Numbered) (whole : Result Reading TimeFault)
     → all ≡ record { number = number; line = text } ∷ more → Takes (Err fault) next (line_read reading number text) → lines_read reading all ≡ whole
     → Takes (Err fault) last whole

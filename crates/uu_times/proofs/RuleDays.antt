@@ -2,6 +2,7 @@
 use Rattle.std.proofs.Common.{◌≡◌, ℕ, zero, suc, ◌+◌, ◌-◌, ◌*◌, ◌%◌, ◌<◌, ◌≤◌, Bool, true, false, cond, leb, ltb, ◌&&◌, ◌==◌, ℤ, pos, ◌+ℤ◌, Some, inl, inr, refl, ap, sym, ◌∙◌, subst, arith}
 use Rattle.std.specs.Prelude.{IsTrue}
 use Rattle.std.proofs.lemmas.Bool.Decides.{leb_tells, eqb_tells, nat_tests}
+use Rattle.std.proofs.Math.Bool.{and-false}
 use Rattle.jiff_core.specs.Calendar.{IsCivilDate, days_from_civil, days_in_month, days_in_year, days_of_months, day_of_year, is_leap_year}
 use Rattle.jiff_core.proofs.CalendarLemmas.{days_from_civil-day_count, day_count-day_of_year, day_count-day, days_in_month_bounds, days_of_months-zero, days_of_months_more, days_of_months_mono, days_of_months_table, days_of_months_all, day_of_year_before, weekday_number-add, weekday_number-parts}
 use Rattle.jiff_core.proofs.MarchLemmas.{leap_day}
@@ -14,7 +15,7 @@ use Rattle.uu_times.specs.Rule.{IsSameDate, weekday_of, IsWeekdayOf, IsNamed, Ha
 
 -- ---- `Jn`
 
--- a year's first 59 days are those of January and February, where there is no 29 February
+-- without 29 February, a year's first 59 days are those of January and February
 two_months : days_of_months (pos 1970) 2 ≡ 59
 two_months = days_of_months_table (pos 1970) 2 (omega arith)
 
@@ -33,10 +34,6 @@ in_month year (suc months) n low high = elim (leb_tells n (days_of_months year m
       let month_days : days_of_months year (suc months) ≡ days_of_months year months + days_in_month year (suc months) = rw back at more in
       (suc months, n - days_of_months year months, omega arith, omega arith, omega arith, omega arith, rw back (omega arith))
 ]
-
-and_false : (b : Bool) → (b && false) ≡ false
-and_false true = refl
-and_false false = refl
 
 and_true : (b : Bool) → (b && true) ≡ b
 and_true true = refl
@@ -69,7 +66,7 @@ place_in year month date n there place =
           let after : ltb 1 (month - 1) ≡ false = grind (arith, nat_tests) in
           let table_after = rw after at table in
           let plain_after = rw after at plain in
-          rw (sixty, and_false (is_leap_year year)) (omega arith)
+          rw (sixty, and-false (is_leap_year year)) (omega arith)
     ]
 
 -- the day number of a date is that of the year's first day, and its place

@@ -59,7 +59,7 @@ same_less a b = elim (int_lt a b) as (λ t. int_lt a b ≡ t → int_lt (nanos_o
 
 -- ---- the year
 
--- a year begins where the one before it ends
+-- a year begins at the end of the one before it
 next_year : (year : ℤ) → IsYear year → days_from_civil (year +ℤ pos 1) 1 1 ≡ days_from_civil year 1 1 +ℤ pos (days_in_year year)
 next_year year in_range =
     let next = day_count-next_year year (year +ℤ pos 1) (omega (arith, signed_arith)) refl in
@@ -69,7 +69,7 @@ next_year year in_range =
 
 -- ---- the changes
 
--- a rule's moment lies where the change is
+-- a rule's moment is at the change
 change_found : (year : ℤ) (when : DayTime) (ahead second : ℤ) → IsYear year → IsChange year (day_time_view when) ahead second → IsInside year second
     → rule.rule_nanos year when ahead ≡ nanos_of_seconds second
 unfolding rule.rule_nanos
@@ -81,7 +81,7 @@ change_found year when ahead second in_range change inside =
     let below : nanos_of_seconds second ≤ℤ rule.last_nanosecond year = (let before = inside.1 in omega (arith, signed_arith)) in
     rw (named, moment, not_less (nanos_of_seconds second) (rule.first_nanosecond year) above, not_less (rule.last_nanosecond year) (nanos_of_seconds second) below) refl
 
--- what is asked of the window is asked of the seconds
+-- what the test says about the window it says about the seconds
 window_is : (begin end second : ℤ) → rule.in_window (nanos_of_seconds begin, nanos_of_seconds end) (nanos_of_seconds second) ≡ is_daylight begin end second
 window_is begin end second =
     rw (same_order begin end, same_order begin second, same_less second end, same_order end second, same_less second begin) (elim (int_le begin end) as (λ t. cond t (int_le begin second && int_lt second end) (not (int_le end second && int_lt second begin)) ≡ cond t (int_le begin second && int_lt second end) (int_le begin second || int_lt second end)) [

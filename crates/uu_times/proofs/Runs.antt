@@ -18,7 +18,7 @@ pub runs-sooner : (start sooner : ℕ) (ranges : List (ℕ × ℕ)) → sooner �
 runs-sooner start sooner [] le runs = tt
 runs-sooner start sooner (range ∷ ranges) le runs = (omega arith, runs.1, runs.2, runs.3)
 
--- a minute put before the runs behind it
+-- a minute put before the runs after it
 pub runs-onto : (minute : ℕ) (ranges : List (ℕ × ℕ)) → minute < 10080 → AreRunsFrom (minute + 1) ranges → AreRunsFrom minute (onto_runs minute ranges)
 runs-onto minute [] below runs = (omega arith, omega arith, below, tt)
 runs-onto minute (range ∷ ranges) below runs =
@@ -35,7 +35,7 @@ holds-onto_same minute (range ∷ ranges) runs =
     ∙ ap (λ b. b || holds ranges minute) (le-leb minute range.1 (omega arith)))
     (λ other. ap (λ b. (b && b) || holds (range ∷ ranges) minute) (le-leb minute minute (omega arith)))
 
--- and of the minutes behind it those that were
+-- and of the minutes after it those that were
 pub holds-onto_other : (minute later : ℕ) (ranges : List (ℕ × ℕ)) → minute < later → holds (onto_runs minute ranges) later ≡ holds ranges later
 holds-onto_other minute later [] after =
     or_from (nat_le minute later && nat_le later minute) false
@@ -78,7 +78,7 @@ holds-runs_from set start (suc count) minute le from below =
           (λ outside. later)
     ]
 
--- ranges behind a minute that they begin with, or not
+-- ranges after a minute with which they begin, or not
 pub runs-later : (start : ℕ) (range : ℕ × ℕ) (ranges : List (ℕ × ℕ)) → AreRunsFrom start (range ∷ ranges) → start < range.0 → AreRunsFrom (start + 1) (range ∷ ranges)
 runs-later start range ranges runs after = (omega arith, runs.1, runs.2, runs.3)
 
@@ -87,7 +87,7 @@ pub pair_same : (a b : ℕ) (pair : ℕ × ℕ) → pair.0 ≡ a → pair.1 ≡ 
 pair_same a b pair first second =
     ap (λ (x : ℕ). let made : ℕ × ℕ = (x, b) in made) (sym first) ∙ ap (λ (y : ℕ). let made : ℕ × ℕ = (pair.0, y) in made) (sym second)
 
--- a minute apart from the runs behind it is a run of its own
+-- a minute apart from the runs after it is a run of its own
 pub onto_apart : (minute : ℕ) (ranges : List (ℕ × ℕ)) → AreRunsFrom (minute + 2) ranges → onto_runs minute ranges ≡ (minute, minute) ∷ ranges
 onto_apart minute [] runs = refl
 onto_apart minute (range ∷ ranges) runs =

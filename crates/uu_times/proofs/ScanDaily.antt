@@ -5,6 +5,7 @@ use Rattle.std.proofs.lemmas.Result.{IfOk-at_ok}
 use Rattle.std.proofs.lemmas.List.Elements.{All-nil, All-cons, All-append}
 use Rattle.std.specs.Char.{is_ascii_digit}
 use Rattle.std.specs.Str.{byte}
+use Rattle.uu_times.proofs.GrammarFronts.{guarded}
 use Rattle.uu_times.specs.declared.days.Days.{Days}
 use Rattle.uu_times.specs.declared.days.Simple.{Simple}
 use Rattle.uu_times.specs.declared.scan.Found.{Found}
@@ -25,11 +26,6 @@ HasTimes (From days unit digits) = Unit {0}
 HasTimes (Dash days start) = is_time start ≡ true
 HasTimes (To days start unit digits) = is_time start ≡ true
 HasTimes (Whole days start end) = (is_time start ≡ true) × (is_end end ≡ true)
-
--- a test that has to pass for a value
-guarded : {X : Type 0} (b : Bool) (x : X) (P : X → Type 0) → (b ≡ true → P x) → IfSome (cond b (Some x) None) P
-guarded true x P h = h refl
-guarded false x P h = tt
 
 times-first : (days : Days) (letter : ℕ) → IfSome (first_letter days letter) HasTimes
 times-first days letter = guarded _ (Letter days letter) HasTimes (λ e. tt)

@@ -25,7 +25,7 @@ pub after-after : (front : List Simple) (found : Option Simple) (i : ℕ) (rest 
 after-after front found i (Ok simples) = ap Ok (append_assoc front (option_to_list found) simples)
 after-after front found i (Err at) = ap Err (omega arith)
 
--- where a byte leads nowhere, the reading fails there
+-- if a byte leads nowhere, the reading fails there
 pub stops_at : (front : List Simple) (place : Place) (text : List ℕ) (i letter : ℕ) (all : Result (List Simple) ℕ) → i < length text
     → after front i (scan place (lower (drop i text))) ≡ all → letter ≡ to_ascii_lowercase (get_or text i 0) → None ≡ step place letter → all ≡ Err i
 stops_at front place text i letter all below whole is stop =

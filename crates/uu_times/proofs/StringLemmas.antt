@@ -15,7 +15,7 @@ use Rattle.uu_times.specs.Ranges.{maximal_runs}
 use Rattle.uu_times.specs.Tables.{Tables, table_at, spelled_minutes, IsNever, IsTimeString, never, named, listed, unreadable, windows_in, time_of}
 use Rattle.uu_times.proofs.GrammarFronts.{spelled-minutes}
 use Rattle.uu_times.proofs.GrammarLemmas.{lists-read}
-use Rattle.uu_times.proofs.GrammarReads.{reads-lists}
+use Rattle.uu_times.proofs.GrammarReads.{reads-lists, none-some}
 use Rattle.uu_times.proofs.Runs.{holds-maximal_runs, runs-maximal_runs, maximal_runs-runs}
 
 -- sets with the same minutes have the same runs
@@ -38,9 +38,6 @@ read-minutes simples spellings are =
 -- what an answer says of the text
 abbrev pub Means : Tables → List ℕ → Result (List (ℕ × ℕ)) TimeFault → Type 0
 Means tables text result = MatchResult result (IsTimeString tables text) (λ _. (windows : List (ℕ × ℕ)) → ¬ IsTimeString tables text windows)
-
-none-some : {X : Type 0} (x : X) (o : Option X) → o ≡ None → o ≡ Some x → ⊥
-none-some x o none some = cc
 
 err-ok : {X : Type 0} (at : ℕ) (x : X) (r : Result X ℕ) → r ≡ Err at → r ≡ Ok x → ⊥
 err-ok at x r err ok = cc
@@ -82,7 +79,7 @@ pub refused-string : (tables : Tables) (text : List ℕ) (result : Result (List 
 refused-string tables text (Ok windows) means = tt
 refused-string tables text (Err fault) means = means
 
--- an answer as expected, or want of memory
+-- an answer as expected, or out of memory
 abbrev pub MeansUnlessMemory : Tables → List ℕ → Result (List (ℕ × ℕ)) TimeFault → Type 0
 MeansUnlessMemory tables text result =
     MatchResult result (IsTimeString tables text) (λ fault. UnlessMemory fault ((windows : List (ℕ × ℕ)) → ¬ IsTimeString tables text windows))

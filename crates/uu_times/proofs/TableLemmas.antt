@@ -63,7 +63,7 @@ found-with_by entry tables m windows name Greater is later =
     ∙ swapped (bytes_eq name entry.0) (bytes_eq name m) (Some entry.1) (Some windows) (found tables name) (apart m entry.0 name is)
     ∙ ap (λ (o : Option (List (ℕ × ℕ))). cond (bytes_eq name m) (Some windows) o) (sym (found-first name entry tables))
 
--- what is found of a name where a timetable was added
+-- what is found for a name if a timetable was added
 pub found-with : (tables : Tables) (m : List ℕ) (windows : List (ℕ × ℕ)) (name : List ℕ) → found (adding tables m windows) name ≡ cond (bytes_eq name m) (Some windows) (found tables name)
 found-with [] m windows name = found-first name (m, windows) []
 found-with (entry ∷ tables) m windows name = found-with_by entry tables m windows name (slice_cmp nat_cmp m entry.0) refl (found-with tables m windows name)

@@ -8,6 +8,7 @@ use Rattle.std.proofs.lemmas.Bool.Decides.{nat_tests}
 use Rattle.std.proofs.lemmas.List.Elements.{All-nil, All-cons, All-head, All-tail, All-append, recursion_from_All}
 use Rattle.std.proofs.lemmas.List.Folds.{list_any-append}
 use Rattle.std.proofs.lemmas.List.Sorted.{IsNonDecreasingBy-drop, list_any-IsPermutation, All-permutation}
+use Rattle.std.proofs.Math.Bool.{or_assoc}
 use Rattle.uu_times.specs.declared.days.Simple.{Simple}
 use Rattle.uu_times.specs.Days.{in_hours}
 use Rattle.uu_times.specs.Internal.Simples.{has_day, has_minute, any_has}
@@ -21,7 +22,7 @@ holds-day : (day minute : ℕ) (hours : Option (ℕ × ℕ)) → IfSome hours (�
 holds-day day minute None daily = grind (arith, nat_tests)
 holds-day day minute (Some hours) daily = grind (arith, nat_tests)
 
--- where the day is named, and where it isn't
+-- if the day is named, and if it isn't
 named : (here has hours : Bool) (same : here ≡ true → has ≡ true) → (here && hours) ≡ (here && (has && hours))
 named true has hours same = ap (λ b. b && hours) (sym (same refl))
 named false has hours same = refl
@@ -101,10 +102,6 @@ rises-behind first (range ∷ ranges) sorted =
 rises-sooner : (low sooner : ℕ) (ranges : List (ℕ × ℕ)) → sooner ≤ low → Rises low ranges → Rises sooner ranges
 rises-sooner low sooner [] le rises = tt
 rises-sooner low sooner (range ∷ ranges) le rises = (omega arith, rises.1)
-
-or_assoc : (a b c : Bool) → ((a || b) || c) ≡ (a || (b || c))
-or_assoc true b c = refl
-or_assoc false b c = refl
 
 -- two ranges that touch are one
 touching : (run range : ℕ × ℕ) (minute : ℕ) → run.0 ≤ run.1 → run.0 ≤ range.0 → range.0 ≤ range.1 → range.0 ≤ run.1 + 1

@@ -9,8 +9,8 @@ day_minutes = 1440
 abbrev pub spans : ℕ × ℕ → ℕ → Bool
 spans days day = nat_le days.0 day && nat_le day days.1
 
--- The minute of the day lies in the hours, both ends included. Hours that end before they begin
--- hold the minutes from their beginning on and those up to their end, of one day (this project's
+-- The minute of the day is within the hours, both ends included. Hours that end before they begin
+-- have the minutes of one day from their beginning on, and those up to their end (this project's
 -- choice). Without hours it is the whole day.
 abbrev pub in_hours : Option (ℕ × ℕ) → ℕ → Bool
 in_hours None minute = true

@@ -16,13 +16,13 @@ use Rattle.uu_times.specs.Grammar.{lower}
 use Rattle.uu_times.specs.System.{most_retry_minutes, most_retries, most_success_wait, HasRetry}
 use Rattle.uu_times.specs.Tables.{Tables, is_table_name, time_of}
 
--- what follows where there was no fault
+-- what follows if there was no fault
 infixl 10 ◌>>=◌
 abbrev pub ◌>>=◌ : {A B : Type 0} → Result A TimeFault → (A → Result B TimeFault) → Result B TimeFault
 (Ok value) >>= next = next value
 (Err fault) >>= next = Err fault
 
--- the value of decimal digits behind a number
+-- the value of decimal digits after a number
 abbrev pub value_behind : ℕ → List ℕ → ℕ
 value_behind value [] = value
 value_behind value (digit ∷ digits) = value_behind (value * 10 + (digit - byte "0")) digits
@@ -37,7 +37,7 @@ number_of limit text =
     if nat_le 1 (length text) && nat_le (length text) most_digits && list_all is_ascii_digit text && nat_le (value_behind 0 text) limit
     then Some (value_behind 0 text) else None
 
--- the retry number of a time line; 0 minutes are read as none
+-- the retry number of a time line; 0 minutes count as no number
 abbrev pub retry_number : ℕ → Option ℕ → Result (Option ℕ) TimeFault
 retry_number line None = Err (BadNumber line)
 retry_number line (Some minutes) = Ok (if minutes == 0 then None else Some minutes)
@@ -107,7 +107,7 @@ abbrev pub timetable_directive : Tables → ℕ → List (List ℕ) → Result D
 timetable_directive tables line [] = Err (BadWords line)
 timetable_directive tables line (name ∷ arguments) = tabled tables line name (one_word arguments)
 
--- a line with this keyword, whose case doesn't count; any other keyword is skipped
+-- a line with this keyword, in any case of letters; any other keyword is skipped
 unfoldable pub directive_of : Tables → ℕ → List ℕ → List (List ℕ) → Result Directive TimeFault
 directive_of tables line keyword arguments =
     if bytes_eq (lower keyword) (codes "system") then system_directive line arguments

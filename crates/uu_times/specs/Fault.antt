@@ -17,12 +17,12 @@ code_of (BadWords line) = 10
 code_of Memory = 11
 code_of BadZone = 12
 
--- the answer is the expected one, or want of memory took its place
+-- the answer is the expected one, or out of memory
 abbrev pub AnswersUnlessMemory : {V : Type 0} → Result V TimeFault → Result V TimeFault → Type 0
 AnswersUnlessMemory (Err Memory) expected = ⊤
 AnswersUnlessMemory answer expected = answer ≡ expected
 
--- the fact, unless the fault is want of memory
+-- the fact, unless the fault is out of memory
 abbrev pub UnlessMemory : TimeFault → Type 0 → Type 0
 UnlessMemory Memory fact = ⊤
 UnlessMemory fault fact = fact

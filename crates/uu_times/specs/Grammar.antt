@@ -1,6 +1,6 @@
--- Lists of simple strings as they are written, in lower case, and the minutes that they stand for
--- (Taylor UUCP 1.07 manual, "Time Strings"; that day words may stand in a row, that hours keep to
--- their days and that both end minutes count is this project's choice).
+-- Lists of simple strings as they are written, in lower case, and the minutes that they mean
+-- (Taylor UUCP 1.07 manual, "Time Strings"). This project chose that day words may follow each
+-- other, that hours don't go past their days, and that both end minutes count.
 use Rattle.std.specs.Prelude.{◌≡◌, ◌⊎◌, ℕ, ◌+◌, ◌*◌, ◌/◌, ◌%◌, ◌<◌, ◌≤◌, Bool, true, ◌&&◌, ◌||◌, ◌==◌, if◌then◌else◌, Option, None, Some, IfSome, option_map, List, [], ◌∷◌, ◌++◌, length, take, map, codes}
 use Rattle.std.specs.List.{flat_map, list_any}
 use Rattle.std.specs.Char.{to_ascii_lowercase}
@@ -50,7 +50,7 @@ word_days sa = (6, 6)
 word_days wk = (1, 5)
 word_days any = (0, 6)
 
--- all of them
+-- all day words
 abbrev pub day_words : List DayWord
 day_words = su ∷ mo ∷ tu ∷ we ∷ th ∷ fr ∷ sa ∷ wk ∷ any ∷ []
 
@@ -79,7 +79,7 @@ hours_text (Some hours) =
 abbrev pub spelled : Spelling → List ℕ
 spelled spelling = flat_map word_text spelling.words ++ hours_text spelling.hours
 
--- a time of day; as an end, 24:00 is one too
+-- a time of day; as an end, 24:00 is allowed too
 abbrev pub IsTime : ℕ → ℕ → Type 0
 IsTime hour minute = (hour < 24) × (minute < 60)
 
@@ -106,17 +106,17 @@ abbrev pub bounds_of : Hours → ℕ × ℕ
 bounds_of hours =
     (60 * hours.from_hour + hours.from_minute, if hours.to_hour == 24 then 1439 else 60 * hours.to_hour + hours.to_minute)
 
--- the minute of the week lies on a day that is named, within the hours
+-- the minute of the week is on one of the days, and within the hours
 abbrev pub has_spelled : ℕ → Spelling → Bool
 has_spelled minute spelling =
     list_any (λ word. spans (word_days word) (minute / day_minutes)) spelling.words
     && in_hours (option_map bounds_of spelling.hours) (minute % day_minutes)
 
--- a text begins a list of simple strings, whatever its case
+-- a text begins a list of simple strings, in any case of letters
 abbrev pub BeginsList : List ℕ → Type 0
 BeginsList text = (rest : List ℕ) × (spellings : List Spelling) × Spells (lower text ++ rest) spellings
 
--- the length of the longest front of a text that begins a list of simple strings
+-- the length of the longest prefix of a text that begins a list of simple strings
 pub record IsLongestFront (text : List ℕ) (at : ℕ) : Type 0 where
   pub within : at ≤ length text
   pub begins : BeginsList (take at text)

@@ -18,24 +18,24 @@ is_continued line = slice_index line (length line - 1) == byte "\\"
 abbrev pub without_last : List ℕ → List ℕ
 without_last line = take (length line - 1) line
 
--- what is kept of a line where lines are joined
+-- what is kept of a line that is joined
 abbrev pub kept_part : List ℕ → List ℕ
 kept_part line = if is_continued line then without_last line else line
 
--- a front, and what it is joined with; the whole has the number of its first line
+-- a first part, and what it is joined with; the whole has the number of its first line
 abbrev pub joined_onto : ℕ → List ℕ → List Numbered → List Numbered
 joined_onto number front [] = record { number = number; line = front } ∷ []
 joined_onto number front (next ∷ more) = record { number = number; line = front ++ next.line } ∷ more
 
--- lines joined, the first of them with the number; nothing is joined with a last one
+-- lines joined, the first with this number; a last line has nothing to be joined with
 unfoldable pub joined : ℕ → List (List ℕ) → List Numbered
 joined number [] = []
 joined number (line ∷ more) =
     if is_continued line then joined_onto number (without_last line) (joined (number + 1) more)
     else record { number = number; line = line } ∷ joined (number + 1) more
 
--- Up to a `#` that begins a comment, which has no backslash directly before it; a backslash
--- directly before a `#` goes.
+-- The line up to a `#` that begins a comment. A `#` with a backslash directly before it doesn't
+-- begin one, and the backslash is dropped.
 abbrev pub uncommented : List ℕ → List ℕ
 uncommented [] = []
 uncommented (letter ∷ []) = if letter == byte "#" then [] else letter ∷ []
@@ -53,7 +53,7 @@ one_word [] = None
 one_word (word ∷ []) = Some word
 one_word (word ∷ second ∷ more) = None
 
--- a word, and one that may stand behind it
+-- a word, and perhaps a second one
 abbrev pub one_or_two : List (List ℕ) → Option (List ℕ × Option (List ℕ))
 one_or_two [] = None
 one_or_two (word ∷ []) = Some (word, None)

@@ -1,4 +1,4 @@
--- Local time and the minute of the local week. Division goes towards minus infinity.
+-- Local time and the minute of the local week. Division rounds towards minus infinity.
 use Rattle.std.specs.Prelude.{◌≡◌, ℕ, ◌<◌, ℤ, pos, ◌+ℤ◌, ◌*ℤ◌}
 use Rattle.std.specs.Int.{int_div_euclid, int_rem_euclid}
 use Rattle.jiff_core.specs.Date.{epoch_day}

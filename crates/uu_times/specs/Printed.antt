@@ -13,7 +13,7 @@ use Rattle.uu_times.specs.Grammar.{DayWord, su, mo, tu, we, th, fr, sa, wk, any,
 use Rattle.uu_times.specs.Ranges.{AreRuns}
 use Rattle.uu_times.specs.System.{System, AreWithinLimits}
 
--- each text behind a byte, and texts with the byte between two
+-- each text after a byte; and texts with the byte between them
 abbrev pub behind : ℕ → List (List ℕ) → List ℕ
 behind letter texts = flat_map (λ text. letter ∷ text) texts
 
@@ -59,11 +59,11 @@ weekdays_alike runs = are_alike runs 1 2 && are_alike runs 2 3 && are_alike runs
 abbrev pub ends_alike : List (ℕ × ℕ) → Bool
 ends_alike runs = are_alike runs 0 1 && are_alike runs 5 6
 
--- Monday to Friday by one word, and the ends of the week by theirs
+-- Monday to Friday by one word, and Saturday and Sunday by their own
 abbrev pub weekdays_and_ends : List (DayWord × ℕ)
 weekdays_and_ends = (wk, 1) ∷ (sa, 6) ∷ (su, 0) ∷ []
 
--- the day words, each with a day that has their minutes: `Any` where all days are alike, `Wk` where
+-- the day words, each with a day that has their minutes: `Any` if all days are alike, `Wk` if
 -- Monday to Friday are
 unfoldable pub groups_of : List (ℕ × ℕ) → List (DayWord × ℕ)
 groups_of runs = if weekdays_alike runs then (if ends_alike runs then (any, 0) ∷ [] else weekdays_and_ends) else days_of_week
@@ -84,7 +84,7 @@ word_name sa = codes "Sa"
 word_name wk = codes "Wk"
 word_name any = codes "Any"
 
--- no hours stand where the whole day is meant
+-- for a whole day no hours are printed
 abbrev pub hours_of : ℕ × ℕ → Option Hours
 hours_of minutes =
     if minutes.0 == 0 && minutes.1 == 1439 then None
@@ -93,7 +93,7 @@ hours_of minutes =
 abbrev pub piece_text : Piece → List ℕ
 piece_text piece = word_name piece.0 ++ hours_text (hours_of piece.1)
 
--- a comma and the same of a word, where there are minutes
+-- a comma and the piece of a word, if it has minutes
 abbrev pub part_text : List ℕ → Option (ℕ × ℕ) → List ℕ
 part_text word None = []
 part_text word (Some minutes) = byte "," ∷ (word ++ hours_text (hours_of minutes))
@@ -111,7 +111,7 @@ time_text runs = pieces_text (pieces_of runs)
 abbrev pub grade_text : ℕ → List ℕ
 grade_text grade = option_to_list (slice_get grade_bytes grade)
 
--- the words of a time line: `time`, or `timegrade` and the grade where that isn't the lowest
+-- the words of a time line: `time`, or `timegrade` and the grade if it isn't the lowest
 abbrev pub time_words : Line → List (List ℕ)
 time_words line =
     (if line.grade == lowest_grade then codes "time" ∷ [] else codes "timegrade" ∷ grade_text line.grade ∷ [])
@@ -123,7 +123,7 @@ system_words system =
     (codes "system" ∷ system.name ∷ []) ∷ (codes "max-retries" ∷ decimal system.max_retries ∷ [])
     ∷ (codes "success-wait" ∷ decimal system.success_wait ∷ []) ∷ map time_words system.lines
 
--- what stands before the time string of a line, and what stands behind it
+-- what comes before the time string of a line, and what comes after it
 abbrev pub keyword_text : ℕ → List ℕ
 keyword_text grade = if grade == lowest_grade then codes "time " else codes "timegrade " ++ grade_text grade ++ space ∷ []
 
@@ -143,7 +143,7 @@ system_text system = flat_map line_text (system_words system)
 abbrev pub sys_text : List System → List ℕ
 sys_text systems = flat_map system_text systems
 
--- what a time line and a system always are
+-- what always holds of a time line and of a system
 abbrev pub IsLine : Line → Type 0
 IsLine line = (line.grade < grade_count) × AreRuns line.windows
 

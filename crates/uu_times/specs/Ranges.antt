@@ -14,23 +14,23 @@ within minute range = nat_le range.0 minute && nat_le minute range.1
 abbrev pub holds : List (ℕ × ℕ) → ℕ → Bool
 holds ranges minute = list_any (within minute) ranges
 
--- ranges in order from the minute `start` on, with at least one minute outside between two
+-- ranges in order from the minute `start` on, with at least one minute between two that is in none
 abbrev pub AreRunsFrom : ℕ → List (ℕ × ℕ) → Type 0
 AreRunsFrom start [] = Unit {0}
 AreRunsFrom start (range ∷ ranges) =
     (start ≤ range.0) × (range.0 ≤ range.1) × (range.1 < week_minutes) × AreRunsFrom (range.1 + 2) ranges
 
--- ranges of week minutes in order, with at least one minute outside between two
+-- ranges of week minutes in order, with at least one minute between two that is in none
 abbrev pub AreRuns : List (ℕ × ℕ) → Type 0
 AreRuns ranges = AreRunsFrom 0 ranges
 
--- a minute put before the runs of the minutes behind it
+-- a minute put before the runs of later minutes
 abbrev pub onto_runs : ℕ → List (ℕ × ℕ) → List (ℕ × ℕ)
 onto_runs minute [] = (minute, minute) ∷ []
 onto_runs minute (range ∷ ranges) =
     if range.0 == minute + 1 then (minute, range.1) ∷ ranges else (minute, minute) ∷ range ∷ ranges
 
--- the maximal runs of a set, seen over so many minutes from `start` on
+-- the maximal runs of a set among so many minutes from `start` on
 unfoldable pub runs_from : (ℕ → Bool) → ℕ → ℕ → List (ℕ × ℕ)
 runs_from set start zero = []
 runs_from set start (suc count) =

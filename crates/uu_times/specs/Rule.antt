@@ -21,8 +21,7 @@ pub record IsSameDate (year : ℤ) (n : ℕ) (day : ℤ) : Type 0 where
 abbrev pub weekday_of : ℤ → ℤ
 weekday_of day = int_rem_euclid (day +ℤ pos 4) (pos 7)
 
--- of the days of a month that have one weekday the first is that of week 1, and the last that of
--- week 5
+-- of the days of a month with one weekday, the first is that of week 1, and the last that of week 5
 abbrev pub is_of_week : ℤ → ℕ → ℕ → ℕ → Bool
 is_of_week year month week date =
     if week == 5 then nat_lt (days_in_month year month) (date + 7)
@@ -37,19 +36,20 @@ pub record IsWeekdayOf (year : ℤ) (month week weekday : ℕ) (day : ℤ) : Typ
   pub weekday_is : weekday_of day ≡ pos weekday
   pub week_is : is_of_week year month week date ≡ true
 
--- the day of the year that a rule names; `n` is so many days after 1 January, 29 February counted
+-- the day of the year that a rule names; `n` counts days from 1 January on, from 0, with 29
+-- February
 abbrev pub IsNamed : ℤ → Day → ℤ → Type 0
 IsNamed year (JulianOne n) day = IsSameDate year n day
 IsNamed year (JulianZero n) day = (n < days_in_year year) × (day ≡ days_from_civil year 1 1 +ℤ pos n)
 IsNamed year (WeekdayOfMonth month week weekday) day = IsWeekdayOf year month week weekday day
 
--- the year has the day: `365` is none of a year of 365 days
+-- the year has the day: a year of 365 days has no day `365`
 abbrev pub HasDay : ℤ → Day → Type 0
 HasDay year (JulianOne n) = Unit {0}
 HasDay year (JulianZero n) = n < days_in_year year
 HasDay year (WeekdayOfMonth month week weekday) = Unit {0}
 
--- it is one day
+-- a rule names exactly one day
 pub record IsOneDay (year : ℤ) (named : Day) : Type 0 where
   pub day : ℤ
   pub is : IsNamed year named day
@@ -57,20 +57,20 @@ pub record IsOneDay (year : ℤ) (named : Day) : Type 0 where
 
 -- ---- when the clock changes
 
--- the second of a change: the rule's time of the day that it names, on a clock so many seconds ahead
--- of UTC
+-- the second of a change: the rule's time on the day that it names, on a clock so many seconds
+-- ahead of UTC
 pub record IsChange (year : ℤ) (when : Day × ℤ) (ahead second : ℤ) : Type 0 where
   pub day : ℤ
   pub named : IsNamed year when.0 day
   pub at : second ≡ (pos 86400 *ℤ day +ℤ when.1) -ℤ ahead
 
--- daylight saving time begins on the clock of standard time, and ends on its own
+-- daylight saving time begins by the clock of standard time, and ends by its own clock
 pub record AreChanges (standard : ℤ) (daylight : DstText) (year begin end : ℤ) : Type 0 where
   pub begins : IsChange year daylight.start standard begin
   pub ends : IsChange year daylight.finish daylight.seconds end
 
--- daylight saving time is from its begin to its end; where it ends first in the year, it is up to
--- the end, and from the begin on
+-- daylight saving time lasts from its beginning to its end; if it ends first in the year, it lasts
+-- up to the end, and again from the beginning on
 abbrev pub is_daylight : ℤ → ℤ → ℤ → Bool
 is_daylight begin end second =
     if int_le begin end then int_le begin second && int_lt second end
@@ -84,13 +84,13 @@ new_year year = pos 86400 *ℤ days_from_civil year 1 1
 abbrev pub IsOfYear : ℤ → ℤ → Type 0
 IsOfYear year second = (new_year year ≤ℤ second) × (second <ℤ new_year (year +ℤ pos 1))
 
--- of the year, and not its first second
+-- in the year, and not its first second
 abbrev pub IsInside : ℤ → ℤ → Type 0
 IsInside year second = (new_year year <ℤ second) × (second <ℤ new_year (year +ℤ pos 1))
 
--- The changes of a year lie in that year, also as UTC counts it, and none is its first second. The
--- library moves one that leaves its year to the year's edge: so `EST5EDT,0/0,J365/25`, by which it
--- always is daylight saving time (RFC 9636), has standard time in the first hours of each year.
+-- The changes of a year are in that year, also as UTC counts it, and aren't its first second. The
+-- library moves a change outside its year to the year's edge. So `EST5EDT,0/0,J365/25`, which means
+-- daylight saving time all year (RFC 9636), has standard time in the first hours of each year.
 pub record ChangesInside (standard : ℤ) (daylight : DstText) (year begin end : ℤ) : Type 0 where
   pub changes : AreChanges standard daylight year begin end
   pub begin_in : IsInside year begin

@@ -1,5 +1,5 @@
--- What a sys file says (Taylor UUCP 1.07 manual, "The Sys File"; that a section's own lines take
--- the place of the defaults, and the faults, are as this project chose).
+-- What a sys file says (Taylor UUCP 1.07 manual, "The Sys File"; this project chose the faults, and
+-- that a section's own lines replace the defaults).
 use Rattle.std.specs.Prelude.{ℕ, nat_le, if◌then◌else◌, Option, None, Some, unwrap_or, Result, Ok, Err, List, [], ◌∷◌, ◌++◌, length}
 use Rattle.std.specs.Cmp.Lexicographic.{slice_cmp}
 use Rattle.std.specs.BTreeMap.{insert_entry}
@@ -19,8 +19,8 @@ use Rattle.uu_times.specs.Lines.{Numbered, joined}
 use Rattle.uu_times.specs.System.{System, most_lines, default_retries, default_success_wait}
 use Rattle.uu_times.specs.Tables.{Tables, predefined_tables}
 
--- the time line that a line is, the number of failures, the wait after a call that went well, the
--- name of a system or of a timetable, the number of a skipped line
+-- what a directive has of these: a time line, a number of failures, a wait after a successful call,
+-- the name of a system or of a timetable, the number of a skipped line
 abbrev pub time_in : Directive → Option Line
 time_in (Time line) = Some line
 time_in _ = None
@@ -45,13 +45,13 @@ abbrev pub skip_in : Directive → Option ℕ
 skip_in (Skip line) = Some line
 skip_in _ = None
 
--- the minutes that a line gives the timetable of this name, in lower case
+-- the minutes that a line gives the timetable of this name, which is in lower case
 abbrev pub windows_named : List ℕ → Directive → Option (List (ℕ × ℕ))
 windows_named name (Table other windows) = if bytes_eq name other then Some windows else None
 windows_named name _ = None
 
--- The timetables known behind lines: each definition takes the place of one of its name.
--- `laws::the_last_timetable_counts` says what is found there.
+-- The timetables after these lines: each definition replaces one of the same name.
+-- `laws::the_last_timetable_counts` says which one a name stands for.
 abbrev pub known : Tables → List Directive → Tables
 known tables [] = tables
 known tables (Table name windows ∷ directives) = known (insert_entry (slice_cmp nat_cmp) tables name windows) directives
@@ -63,19 +63,19 @@ section [] = []
 section (Begin name ∷ directives) = []
 section (directive ∷ directives) = directive ∷ section directives
 
--- the lines since the last `system` line, where the first ones come before the others
+-- the lines since the last `system` line, if the first ones come before the others
 abbrev pub present : List Directive → List Directive → List Directive
 present before [] = before
 present before (Begin name ∷ directives) = present [] directives
 present before (directive ∷ directives) = present (before ++ directive ∷ []) directives
 
--- the first list, or another where it is empty
+-- the first list, or another if it is empty
 abbrev pub lines_or : List Line → List Line → List Line
 lines_or [] others = others
 lines_or (line ∷ lines) others = line ∷ lines
 
--- the time lines of a section, its last number of failures, and its last wait after a call that
--- went well
+-- the time lines of a section, its last number of failures, and its last wait after a successful
+-- call
 pub record Part : Type 0 where
   pub lines : List Line
   pub max_retries : Option ℕ
@@ -90,7 +90,7 @@ system_of name part defaults = record {
   success_wait = unwrap_or (option_or part.success_wait defaults.success_wait) default_success_wait;
 }
 
--- what the lines of a section say of a system: its time lines, and the last of its numbers of
+-- what the lines of a section say about a system: its time lines, and the last of its numbers of
 -- failures and of its waits
 abbrev pub part_of : List Directive → Part
 part_of directives = record {
@@ -99,14 +99,14 @@ part_of directives = record {
   success_wait = last_or None (filter_map success_wait_in directives);
 }
 
--- the systems: for each `system` line its section, and the defaults where that says nothing
+-- the systems: for each `system` line its section, and the defaults for what it doesn't say
 abbrev pub systems_of : Part → List Directive → List System
 systems_of defaults [] = []
 systems_of defaults (Begin name ∷ directives) = system_of name (part_of (section directives)) defaults ∷ systems_of defaults directives
 systems_of defaults (directive ∷ directives) = systems_of defaults directives
 
--- what can be wrong with a line, where these come before it: a second section of a system, a 33rd
--- time line of a section, a second definition of a timetable
+-- what can be wrong with a line after these: a second section of a system, a 33rd time line of a
+-- section, a second definition of a timetable
 abbrev pub checked : List Directive → ℕ → Directive → Result Directive TimeFault
 checked before line (Begin name) = if list_any (bytes_eq name) (filter_map name_in before) then Err (SystemTwice line) else Ok (Begin name)
 checked before line (Time time) = if nat_le most_lines (length (filter_map time_in (present [] before))) then Err (TooManyLines line) else Ok (Time time)
@@ -119,11 +119,11 @@ abbrev pub checked_if : List Directive → ℕ → Option Directive → Result (
 checked_if before line None = Ok before
 checked_if before line (Some directive) = checked before line directive >>= λ said. Ok (before ++ said ∷ [])
 
--- a line's own fault, or one that comes of the lines before it, or those and what it says
+-- a line's own fault, or a fault because of the lines before it, or these lines and what it says
 abbrev pub line_taken : List Directive → ℕ → List ℕ → Result (List Directive) TimeFault
 line_taken before line text = line_says (known predefined_tables before) line text >>= λ said. checked_if before line said
 
--- What the lines say, where some come before them: the first faulty line gives the fault.
+-- What the lines say after the first ones. The fault is that of the first faulty line.
 unfoldable pub directives_of : List Directive → List Numbered → Result (List Directive) TimeFault
 directives_of before [] = Ok before
 directives_of before (line ∷ more) = line_taken before line.number line.line >>= λ directives. directives_of directives more

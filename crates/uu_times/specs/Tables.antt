@@ -19,27 +19,27 @@ use Rattle.uu_times.specs.Internal.Simples.{any_has}
 abbrev pub Tables : Type 0
 Tables = List (List ℕ × List (ℕ × ℕ))
 
--- a byte of a timetable's name behind the first
+-- a byte of a timetable's name after the first
 abbrev pub is_table_byte : ℕ → Bool
 is_table_byte letter = is_ascii_alphanumeric letter || letter == byte "-" || letter == byte "_"
 
--- how many bytes may stand behind the first
+-- how many bytes may follow the first
 abbrev pub most_table_rest : ℕ
 most_table_rest = 31
 
 abbrev pub is_table_rest : List ℕ → Bool
 is_table_rest rest = nat_le (length rest) most_table_rest && list_all is_table_byte rest
 
--- a timetable's name is a letter and 0 to 31 letters, digits, `-` or `_` behind it
+-- a timetable's name is a letter, and then 0 to 31 letters, digits, `-` or `_`
 abbrev pub is_table_name : List ℕ → Bool
 is_table_name [] = false
 is_table_name (first ∷ rest) = is_ascii_alphabetic first && is_table_rest rest
 
--- the timetable of a name, whatever its case
+-- the timetable of a name, in any case of letters
 abbrev pub table_at : Tables → List ℕ → Option (List (ℕ × ℕ))
 table_at tables name = if is_table_name name then lookup (is_at (slice_cmp nat_cmp (lower name))) tables else None
 
--- a timetable that takes the place of one of that name
+-- a timetable that replaces one of the same name
 abbrev pub with_table : Tables → List ℕ → List (ℕ × ℕ) → Tables
 with_table tables name windows = insert_entry (slice_cmp nat_cmp) tables (lower name) windows
 
@@ -47,13 +47,13 @@ with_table tables name windows = insert_entry (slice_cmp nat_cmp) tables (lower 
 abbrev pub begins_with_day : List ℕ → Bool
 begins_with_day text = list_any (λ word. starts_with nat_eq text (word_text word)) day_words
 
--- a text that is no time string, of which so many bytes begin a list of simple strings
+-- a text that isn't a time string; so many of its bytes begin a list of simple strings
 abbrev pub unreadable : ℕ → List ℕ → ℕ → TimeFault
 unreadable line text at =
     if is_table_name text && not (begins_with_day (lower text)) then UnknownTable line else BadTime line at
 
--- the place that a fault of a text tells is the length of its longest front that begins a list of
--- simple strings
+-- the place in a text's fault is the length of its longest prefix that begins a list of simple
+-- strings
 abbrev pub TellsFront : List ℕ → TimeFault → Type 0
 TellsFront text (BadTime line at) = IsLongestFront text at
 TellsFront text fault = ⊤
@@ -62,19 +62,19 @@ TellsFront text fault = ⊤
 abbrev pub windows_in : ℕ → List ℕ → Result (List (ℕ × ℕ)) TimeFault
 windows_in line text = elim (list_of text) [ Ok simples ↦ Ok (maximal_runs (any_has simples)) | Err at ↦ Err (unreadable line text at) ]
 
--- The set of a time string on a line: none for `Never`, that of a timetable for its name, and else
--- that of a list of simple strings. The whole text is compared, in this order.
+-- The set of a time string on a line. `Never` is the empty set, a timetable's name is its set, and
+-- otherwise it is the set of a list of simple strings. The whole text is compared, in this order.
 -- `laws::time_strings_are_read` ties it to `IsTimeString`.
 abbrev pub time_of : Tables → ℕ → List ℕ → Result (List (ℕ × ℕ)) TimeFault
 time_of tables line text =
     if bytes_eq (lower text) (codes "never") then Ok []
     else elim (table_at tables text) [ Some windows ↦ Ok windows | None ↦ windows_in line text ]
 
--- the runs of the minutes that simple strings stand for
+-- the runs of the minutes that simple strings mean
 abbrev pub spelled_minutes : List Spelling → List (ℕ × ℕ)
 spelled_minutes spellings = maximal_runs (λ minute. list_any (has_spelled minute) spellings)
 
--- `Never`, whatever its case
+-- `Never`, in any case of letters
 abbrev pub IsNever : List ℕ → Type 0
 IsNever text = lower text ≡ codes "never"
 
@@ -95,11 +95,12 @@ predefined_strings =
     (codes "Evening", codes "Wk1705-0755,Sa,Su") ∷ (codes "Night", codes "Wk2305-0755,Sa,Su2305-1655") ∷ (codes "NonPeak", codes "Wk1805-0655,Sa,Su")
     ∷ []
 
--- the name means in the timetables what the string is written for
+-- the name means, in the timetables, what the string means
 abbrev pub IsReadAs : Tables → List ℕ × List ℕ → Type 0
 IsReadAs tables table = (spellings : List Spelling) × Spells (lower table.1) spellings × (table_at tables table.0 ≡ Some (spelled_minutes spellings))
 
--- These timetables. `laws::predefined_tables_are_read` says that each of their strings is read.
+-- The timetables that are there from the start. `laws::predefined_tables_are_read` says that each
+-- of their strings is read.
 unfoldable pub predefined_tables : Tables
 predefined_tables =
     with_list (with_list (with_list [] (codes "Evening") (codes "Wk1705-0755,Sa,Su"))

@@ -9,7 +9,7 @@ use Rattle.jiff_tz.specs.PosixText.{tz_view}
 pub use Rattle.jiff_tz.specs.PosixText.{TzText}
 use Rattle.uu_times.specs.declared.zone.Zone.{Zone}
 
--- the most minutes between a fixed clock and UTC: a day less a minute (this project's choice)
+-- the most minutes that a fixed clock differs from UTC: a day less a minute (this project's choice)
 abbrev pub most_offset : ℕ
 most_offset = 1439
 

@@ -15,14 +15,14 @@ pub struct Days {
     pub saturday: bool,
 }
 
-/// What a simple string stands for: days, and the first and the last minute of their hours.
+/// What a simple string means: days, and the first and the last minute of their hours.
 #[derive(Clone, Copy)]
 pub struct Simple {
     pub days: Days,
     pub hours: Option<(u16, u16)>,
 }
 
-/// The days of no day word.
+/// No day.
 pub const NO_DAYS: Days = Days {
     sunday: false,
     monday: false,

@@ -19,11 +19,11 @@ use uu_names::{Grade, NameFault, SiteName};
 pub enum Directive {
     /// A system's section begins.
     Begin(SiteName),
-    /// Calls may be made.
+    /// A time line.
     Time(Line),
-    /// So many failures in a row make calls rare.
+    /// After so many failures in a row calls become rare.
     Retries(u32),
-    /// A system is left alone for so many seconds after a call that went well.
+    /// After a successful call, the system is left alone for so many seconds.
     SuccessWait(u32),
     /// A timetable is defined; its name is in lower case.
     Table(SiteName, Windows),
@@ -37,7 +37,7 @@ const LOWEST: u8 = 61;
 /// The most digits of a number.
 const MAX_DIGITS: usize = 9;
 
-// The number of a word, where it is one within the limit.
+// The number that a word is, if it is one within the limit.
 fn number_of(limit: u32, text: &[u8]) -> Option<u32>
     requires { limit ≤ most_success_wait }
     ensures value { result ≡ number_of limit text.now }
@@ -124,14 +124,12 @@ fn time_directive(
     timed(alloc, tables, line, lowest(), string, minutes)
 }
 
-// The lowest grade.
 fn lowest() -> Grade
     ensures { result ≡ lowest_grade }
 {
     Grade::of_rank(LOWEST).unwrap()
 }
 
-// The grade of a word.
 fn grade_of(word: &[u8]) -> Option<Grade>
     ensures { result ≡ grade_of word.now }
 {

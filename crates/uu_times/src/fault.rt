@@ -7,26 +7,26 @@ use thiserror::Error;
 
 /// A fault of a zone, of a moment, of a time string or of a sys file.
 ///
-/// Lines count physical lines from 1, and are 0 where a time string was read by itself. An
-/// offset counts bytes of the time string from 0.
+/// Lines count physical lines from 1, and are 0 if the text was one time string. An offset counts
+/// bytes of the time string from 0.
 #[derive(Clone, Copy, PartialEq, Eq, Debug, Drop, Error)]
 pub enum TimeFault {
-    /// The second lies past the last moment.
+    /// The second is after the last moment.
     #[error("moment out of range")]
     MomentRange,
     /// The offset from UTC is a day or more.
     #[error("offset out of range")]
     OffsetRange,
-    /// A text that is no time string: the line, and how many of its bytes begin one.
+    /// A text that isn't a time string: the line, and how many of its bytes begin one.
     #[error("line {0}: bad time string at {1}")]
     BadTime(u32, usize),
-    /// The name of no timetable.
+    /// The text names a timetable that isn't defined.
     #[error("line {0}: unknown timetable")]
     UnknownTable(u32),
     /// A second definition of a timetable.
     #[error("line {0}: timetable defined twice")]
     TableTwice(u32),
-    /// No number, or one past its limit.
+    /// The word isn't a number, or the number exceeds its limit.
     #[error("line {0}: bad number")]
     BadNumber(u32),
     /// A `system` line without exactly one site name.
@@ -38,13 +38,13 @@ pub enum TimeFault {
     /// A second section of a system.
     #[error("line {0}: system defined twice")]
     SystemTwice(u32),
-    /// The wrong words behind a keyword.
+    /// The wrong words after a keyword.
     #[error("line {0}: bad words")]
     BadWords(u32),
-    /// Memory ran out.
+    /// Out of memory.
     #[error("out of memory")]
     Memory,
-    /// A text that is no POSIX rule of a zone.
+    /// A text that isn't a POSIX rule of a zone.
     #[error("bad zone")]
     BadZone,
 }

@@ -1,4 +1,4 @@
-//! Laws of the definitions that the contracts cite, and what the types see to.
+//! Laws of the definitions that the contracts cite, and what each value of a type keeps.
 ghost use Rattle.std.specs.Prelude.{◌≡◌, ◌<◌, ◌≤◌, [], ◌∷◌, length, ℕ, ℤ, pos, Bool, List, None, Some, Ok, Err, All, IsTrue, IfOk, IfErr, map, if◌then◌else◌};
 ghost use Rattle.std.specs.List.{filter_map, last_or};
 ghost use Rattle.uu_times.specs.Internal.Simples.{has_minute, simple_of};
@@ -22,7 +22,7 @@ ghost use Rattle.uu_times.specs.declared.directive.Directive.{Directive};
 
 use crate::{SystemDef, Windows};
 
-/// A set of week minutes is the union of its maximal runs, which are in order and apart; and a list
+/// A set of week minutes is the union of its maximal runs, which are in order and apart. A list
 /// that [`Windows::from_ranges`](crate::Windows::from_ranges) accepts is the list of the maximal
 /// runs of its union.
 pub fn sets_are_their_runs()
@@ -31,9 +31,9 @@ pub fn sets_are_their_runs()
     ensures accepted { (ranges : List (ℕ × ℕ)) → AreRuns ranges → maximal_runs (holds ranges) ≡ ranges }
 {}
 
-/// The simple strings that are read of a text are those that are written there, whatever its case,
-/// and their minutes are those of what is written. A text that is no list of simple strings is told
-/// by the length of its longest front that begins one.
+/// The code reads from a text the simple strings that are written there, in any case of letters,
+/// and their minutes are what is written. If a text isn't a list of simple strings, the fault gives
+/// the length of its longest prefix that begins one.
 pub fn lists_are_what_is_written()
     ensures written { (text : List ℕ) (spellings : List Spelling) → Spells (lower text) spellings → list_of text ≡ Ok (map simple_of spellings) }
     ensures read { (text : List ℕ) (simples : List Simple) → list_of text ≡ Ok simples
@@ -42,37 +42,37 @@ pub fn lists_are_what_is_written()
     ensures unread { (text : List ℕ) (at : ℕ) → list_of text ≡ Err at → IsLongestFront text at }
 {}
 
-/// What is read of a time string is what the string means by the grammar, and a string that is
-/// refused means nothing.
+/// What the code reads from a time string is what the string means by the grammar. A string that it
+/// refuses means nothing.
 pub fn time_strings_are_read()
     ensures read { (tables : Tables) (line : ℕ) (text : List ℕ) → IfOk (time_of tables line text) (IsTimeString tables text) }
     ensures refused { (tables : Tables) (line : ℕ) (text : List ℕ) → IfErr (time_of tables line text) (λ _. (windows : List (ℕ × ℕ)) → ¬ IsTimeString tables text windows) }
 {}
 
-/// A name stands for the last timetable of that name, whatever its case, behind any lines of a sys
-/// file: one that the lines define, or else one that was there before them.
+/// A name stands for the last timetable of that name before it, in any case of letters. The lines
+/// of a sys file define it, or it was there before them.
 pub fn the_last_timetable_counts()
     ensures { (tables : Tables) (lines : List Directive) (name : List ℕ) → IsTrue (is_table_name name)
         → table_at (known tables lines) name ≡ last_or (table_at tables name) (filter_map (windows_named (lower name)) lines) }
 {}
 
-/// The string of each timetable that is there from the start is a list of simple strings, and its
-/// name stands for their minutes.
+/// Each timetable that is there from the start has a list of simple strings, and its name stands
+/// for their minutes.
 pub fn predefined_tables_are_read()
     ensures { All (IsReadAs predefined_tables) predefined_strings }
 {}
 
-/// What a zone says tells its clock, which is always as far from UTC as its standard time where it
-/// says no daylight saving time; and no clock is 26 hours or more from UTC.
+/// What a zone says determines its clock. If it says no daylight saving time, the clock is always
+/// as far from UTC as its standard time. No clock is 26 hours or more from UTC.
 pub fn zones_are_what_they_say()
     ensures same { (a b : Zone) → said a ≡ said b → (second : ℕ) → offset_at a second ≡ offset_at b second }
     ensures standard { (zone : Zone) → (said zone).dst ≡ None → (second : ℕ) → offset_at zone second ≡ (said zone).std_seconds }
     ensures within { (zone : Zone) (second : ℕ) → IsOffsetSeconds (offset_at zone second) }
 {}
 
-/// A rule with daylight saving time is the clock that POSIX says, in each year of UTC within which
-/// both of its changes lie (`ChangesInside`, which names a rule that isn't followed). Each day that
-/// a rule names is one day of a year that has it.
+/// A rule with daylight saving time is the clock that POSIX says, in each year of UTC that contains
+/// both of its changes. (`ChangesInside` gives a rule for which this fails.) Each day that a rule
+/// names is one day of a year that has it.
 pub fn rules_mean_what_posix_says()
     ensures days { (zone : Zone) (daylight : DstText) → (said zone).dst ≡ Some daylight → (year : ℤ)
         → (HasDay year daylight.start.0 → IsOneDay year daylight.start.0) × (HasDay year daylight.finish.0 → IsOneDay year daylight.finish.0) }
@@ -81,8 +81,8 @@ pub fn rules_mean_what_posix_says()
         → offset_at zone second ≡ (if is_daylight begin end (pos second) then daylight.seconds else (said zone).std_seconds) }
 {}
 
-/// The sys file that is printed of systems is read as these systems, in their order, and nothing is
-/// skipped; and the text of one system may be read.
+/// A sys file printed from systems is read as these systems, in their order, and no line is
+/// skipped. The text of one system is short enough to be read.
 pub fn printed_systems_are_read()
     ensures read { (systems : List System) → All IsSystem systems → NamesDiffer systems → sys_file_of (sys_text systems) ≡ Ok (record { systems = systems; skipped = [] }) }
     ensures short { (system : System) → IsSystem system → length (sys_text (system ∷ [])) ≤ most_text }

@@ -17,7 +17,7 @@ fn is_continued(line: &[u8]) -> bool
     !line.is_empty() && line[line.len() - 1] == b'\\'
 }
 
-/// A joined line, how many lines it takes, and the text behind it.
+/// A joined line, the number of lines joined, and the text after it.
 #[derive(Drop)]
 pub struct Joined<'a> {
     pub line: Vec<u8>,
@@ -25,7 +25,7 @@ pub struct Joined<'a> {
     pub rest: &'a [u8],
 }
 
-// Whether the line is joined with a text behind it.
+// Whether the line is joined with the text after it.
 fn is_joined(line: &[u8], rest: &[u8]) -> bool
     ensures { result ≡ (is_continued line.now && nat_lt 0 (length rest.now)) }
 {
@@ -70,7 +70,7 @@ pub fn joined_line(alloc: Global, text: &[u8]) -> Result<Joined<'_>, AllocError>
     })
 }
 
-// The place of the next byte that is kept: a backslash directly before a `#` goes.
+// The offset of the next byte that is kept: a backslash directly before a `#` is dropped.
 fn kept_at(line: &[u8], at: usize) -> usize
     requires { at < length line.now }
     ensures low { at ≤ result }
@@ -85,7 +85,7 @@ fn kept_at(line: &[u8], at: usize) -> usize
     }
 }
 
-/// The line up to a comment.
+/// The line without its comment.
 pub fn uncommented(alloc: Global, line: &[u8]) -> Result<Vec<u8>, AllocError>
     ensures { IfOk result (λ clean. clean.items ≡ uncommented line.now) }
 {
@@ -102,7 +102,7 @@ pub fn uncommented(alloc: Global, line: &[u8]) -> Result<Vec<u8>, AllocError>
     Ok(clean)
 }
 
-// How many bytes stand before the first blank.
+// How many bytes come before the first blank.
 fn letters_len(text: &[u8]) -> usize
     ensures value { result ≡ position_or_len is_blank text.now }
     ensures bound { result ≤ length text.now }
@@ -110,7 +110,7 @@ fn letters_len(text: &[u8]) -> usize
     text.iter().take_while(|letter| !is_blank(**letter)).count()
 }
 
-/// The first word of a text, and the text behind it.
+/// The first word of a text, and the text after it.
 pub fn next_word(text: &[u8]) -> Option<(&[u8], &[u8])>
     ensures { MatchOption result (words_of text.now ≡ [])
         (λ found. words_of text.now ≡ found.0.now ∷ words_of found.1.now) }

@@ -12,7 +12,7 @@ use jiff_core::civil::DateTime;
 /// second of the year 2100.
 pub const LAST_SECOND: u64 = 4_102_444_800;
 
-/// The seconds of two days, which no clock is behind UTC.
+/// The seconds of two days: no clock is as far behind UTC.
 const TWO_DAYS: i64 = 172_800;
 
 /// The first minute of a Tuesday, counted from Sunday 00:00 on.
@@ -34,7 +34,7 @@ pub struct Moment {
 impl Moment {
     /// The moment of a second on a site's clock.
     ///
-    /// `MomentRange` where the second lies past 4,102,444,800.
+    /// `MomentRange` if the second is over 4,102,444,800.
     pub fn new(second: u64, zone: &Zone) -> Result<Moment, TimeFault>
         ensures second { IfOk result (λ moment. moment.second ≡ second) }
         ensures week { IfOk result (λ moment. pos moment.week ≡ week_minute (local_second zone.now second)) }
@@ -53,14 +53,14 @@ impl Moment {
     }
 }
 
-// The minute of the week at the second, so many seconds from UTC.
+// The minute of the week at a second, on a clock so many seconds ahead of UTC.
 fn week_minute(second: u64, offset: i32) -> u16
     requires in_range { second ≤ last_second }
     requires offset { IsOffsetSeconds offset }
     ensures value { pos result ≡ week_minute (pos second +ℤ offset) }
     ensures in_week { result < week_minutes }
 {
-    // Counted from 1969-12-30 on, since the clock may show that day, a Tuesday.
+    // Counted from 1969-12-30, a Tuesday, because the clock may still show that day.
     let shown = (second as i64 + offset as i64 + TWO_DAYS) as u64;
     ((shown / 60 + TUESDAY) % WEEK as u64) as u16
 }

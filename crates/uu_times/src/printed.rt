@@ -66,7 +66,7 @@ fn push_hours(text: &mut Vec<u8>, minutes: (u16, u16)) -> Result<(), AllocError>
     push_time(text, minutes.1)
 }
 
-// Adds a comma, a day word and hours, where there are some.
+// Adds a comma, a day word and hours, if there are any.
 fn push_part(text: &mut Vec<u8>, word: &[u8], minutes: Option<(u16, u16)>) -> Result<(), AllocError>
     requires { IfSome minutes (λ part. (part.0 < 1440) × (part.1 < 1440)) }
     ensures { OnOk result (text.new.items ≡ text.old.items ++ part_text word.now minutes) }
@@ -81,7 +81,6 @@ fn push_part(text: &mut Vec<u8>, word: &[u8], minutes: Option<(u16, u16)>) -> Re
     }
 }
 
-// Adds what ranges have on a day.
 fn push_day(
     text: &mut Vec<u8>,
     word: &[u8],
@@ -97,7 +96,6 @@ fn push_day(
     Ok(())
 }
 
-// Adds what ranges have on each day.
 fn push_days(text: &mut Vec<u8>, ranges: &[(u16, u16)]) -> Result<(), AllocError>
     ensures { OnOk result (text.new.items ≡ text.old.items ++ behind 44 (map piece_text (flat_map (pieces_on ranges.now) days_of_week))) }
 {
@@ -110,7 +108,7 @@ fn push_days(text: &mut Vec<u8>, ranges: &[(u16, u16)]) -> Result<(), AllocError
     push_day(text, b"Sa", 6, ranges)
 }
 
-// Adds what ranges have on Monday, as on each day to Friday, and at the ends of the week.
+// Adds the minutes of Monday for Monday to Friday, and those of Saturday and Sunday.
 fn push_parts(text: &mut Vec<u8>, ranges: &[(u16, u16)]) -> Result<(), AllocError>
     ensures { OnOk result (text.new.items ≡ text.old.items ++ behind 44 (map piece_text (flat_map (pieces_on ranges.now) weekdays_and_ends))) }
 {
@@ -119,7 +117,7 @@ fn push_parts(text: &mut Vec<u8>, ranges: &[(u16, u16)]) -> Result<(), AllocErro
     push_day(text, b"Su", 0, ranges)
 }
 
-// Adds a range, where there is one.
+// Adds a range, if there is one.
 fn push_some(ranges: &mut Vec<(u16, u16)>, range: Option<(u16, u16)>) -> Result<(), AllocError>
     ensures { OnOk result (ranges.new.items ≡ ranges.old.items ++ option_to_list range) }
 {
@@ -129,7 +127,6 @@ fn push_some(ranges: &mut Vec<(u16, u16)>, range: Option<(u16, u16)>) -> Result<
     Ok(())
 }
 
-// What ranges have on a day.
 fn day_ranges(alloc: Global, ranges: &[(u16, u16)], day: u16) -> Result<Vec<(u16, u16)>, AllocError>
     requires { day < 7 }
     ensures { IfOk result (λ parts. parts.items ≡ filter_map (on_day day) ranges.now) }
@@ -148,7 +145,6 @@ fn same_range(range: (u16, u16), other: (u16, u16)) -> bool
     range.0 == other.0 && range.1 == other.1
 }
 
-// Whether ranges are the same.
 fn same_ranges(ranges: &[(u16, u16)], others: &[(u16, u16)]) -> bool
     ensures { result ≡ same_ranges ranges.now others.now }
 {
@@ -186,7 +182,7 @@ fn weekdays_alike(alloc: Global, ranges: &[(u16, u16)]) -> Result<bool, AllocErr
     Ok(second && third && fourth && fifth)
 }
 
-// Whether they have on Sunday the minutes of Monday, and on Saturday those of Friday.
+// Whether Sunday has the minutes of Monday, and Saturday those of Friday.
 fn ends_alike(alloc: Global, ranges: &[(u16, u16)]) -> Result<bool, AllocError>
     ensures { IfOk result (λ alike. alike ≡ ends_alike ranges.now) }
 {
@@ -195,7 +191,7 @@ fn ends_alike(alloc: Global, ranges: &[(u16, u16)]) -> Result<bool, AllocError>
     Ok(first && last)
 }
 
-// Adds what ranges have in the week.
+// Adds the ranges of the week.
 fn push_week(alloc: Global, text: &mut Vec<u8>, ranges: &[(u16, u16)]) -> Result<(), AllocError>
     ensures { OnOk result (text.new.items ≡ text.old.items ++ behind 44 (map piece_text (pieces_of ranges.now))) }
 {
@@ -220,7 +216,6 @@ fn push_windows(alloc: Global, text: &mut Vec<u8>, ranges: &[(u16, u16)]) -> Res
     }
 }
 
-// Adds a number.
 fn push_number(alloc: Global, text: &mut Vec<u8>, number: u32) -> Result<(), AllocError>
     ensures { OnOk result (text.new.items ≡ text.old.items ++ decimal number) }
 {
@@ -228,7 +223,7 @@ fn push_number(alloc: Global, text: &mut Vec<u8>, number: u32) -> Result<(), All
     text.extend_from_slice(digits.as_bytes())
 }
 
-// Adds the keyword of a time line, with the grade where that isn't the lowest.
+// Adds the keyword of a time line, with the grade if it isn't the lowest.
 fn push_keyword(text: &mut Vec<u8>, grade: Grade) -> Result<(), AllocError>
     ensures grade { OnOk result (grade < 62) }
     ensures text { OnOk result (text.new.items ≡ text.old.items ++ keyword_text grade) }
@@ -314,13 +309,13 @@ fn push_system(alloc: Global, text: &mut Vec<u8>, system: &SystemDef) -> Result<
     push_lines(alloc, text, system.lines())
 }
 
-/// The systems as a sys file, in their order: for each a `system`, a `max-retries` and a
-/// `success-wait` line, and its time lines in their order, as `time` for the lowest grade and else
-/// as `timegrade`.
+/// The systems as a sys file, in their order. Each has a `system`, a `max-retries` and a
+/// `success-wait` line, and then its time lines in their order: `time` for the lowest grade,
+/// `timegrade` for another.
 ///
-/// Where no two systems have the same name, [`read_sys`](crate::read_sys) of the text gives exactly
-/// these systems (`read`). It reads texts of at most 4,194,304 bytes, which that of one system is
-/// ([`printed_systems_are_read`](crate::laws::printed_systems_are_read)), but that of many may not
+/// If no two systems have the same name, [`read_sys`](crate::read_sys) of the text gives exactly
+/// these systems (`read`). It reads at most 4,194,304 bytes. The text of one system is never longer
+/// ([`printed_systems_are_read`](crate::laws::printed_systems_are_read)), but the text of many may
 /// be.
 pub fn write_sys(alloc: Global, systems: &[SystemDef]) -> Result<Vec<u8>, AllocError>
     ensures text { IfOk result (λ text. text.items ≡ sys_text systems.now) }

@@ -13,20 +13,20 @@ use std::alloc::{AllocFailed, Global};
 pub enum Place {
     /// Before its first byte.
     Start,
-    /// Behind the first letter, in lower case, of a day word.
+    /// After the first letter, in lower case, of a day word.
     Letter(Days, u8),
-    /// Behind `an`, of `any`.
+    /// After `an`, of `any`.
     LettersAn(Days),
-    /// Behind a day word.
+    /// After a day word.
     Named(Days),
-    /// Within the time at which the hours begin: what the next digit counts, and the digits so far,
-    /// filled up with zeros.
+    /// Within the time at which the hours begin: the value of the next digit's place, and the
+    /// digits so far, filled up with zeros.
     From(Days, u16, u16),
-    /// Behind that time.
+    /// After that time.
     Dash(Days, u16),
     /// Within the time at which they end.
     To(Days, u16, u16, u16),
-    /// Behind that time.
+    /// After that time.
     Whole(Days, u16, u16),
 }
 
@@ -98,7 +98,7 @@ fn second_letter(days: Days, first: u8, letter: u8) -> Option<Place>
     Some(Place::Named(days.with(more)))
 }
 
-// The digits with one more, which counts so many times its value.
+// The digits with one more, in the place of this value.
 fn more_digits(unit: u16, digits: u16, letter: u8) -> Option<u32>
     ensures { result ≡ more_digits unit digits letter }
 {
@@ -135,7 +135,7 @@ fn end_digit(days: Days, start: u16, unit: u16, digits: u16, letter: u8) -> Opti
     }
 }
 
-// Where a byte in lower case leads, within a simple string.
+// The place after a byte in lower case, within a simple string.
 fn next_place(place: Place, letter: u8) -> Option<Place>
     ensures { result ≡ next_place place letter }
 {
@@ -172,19 +172,19 @@ fn is_separator(letter: u8) -> bool
     letter == b'|' || letter == b','
 }
 
-/// Where the reading goes on behind a byte, with the simple string that ended there.
+/// The place after a byte, and the simple string that ended there.
 #[derive(Clone, Copy)]
 pub struct Found {
     pub simple: Option<Simple>,
     pub next: Place,
 }
 
-/// Why there is no list of simple strings.
+/// Why a text isn't a list of simple strings.
 #[derive(Drop)]
 pub enum Unlisted {
-    /// The text is none: so many of its bytes begin one.
+    /// The text isn't one. The number says how many of its bytes begin one.
     At(usize),
-    /// Memory ran out.
+    /// Out of memory.
     Memory,
 }
 
@@ -224,7 +224,7 @@ pub fn list_of(alloc: Global, text: &[u8]) -> Result<Vec<Simple>, Unlisted>
     }
 }
 
-// Where the reading goes on behind a byte.
+// The place after a byte.
 fn step(place: Place, letter: u8) -> Option<Found>
     ensures { result ≡ step place letter }
 {

@@ -11,8 +11,8 @@ use std::marker::Model;
 use std::mem;
 use uu_names::{Listed, SiteName};
 
-/// The time lines of a section, its last number of failures, and its last wait after a call that
-/// went well.
+/// The time lines of a section, its last number of failures, and its last wait after a successful
+/// call.
 #[derive(Drop)]
 pub struct Section {
     lines: Vec<Line>,
@@ -42,7 +42,7 @@ fn copy_lines(alloc: Global, lines: &[Line]) -> Result<Vec<Line>, AllocError>
     Ok(copies)
 }
 
-// The lines, or copies of others where there are none.
+// The lines, or copies of the others if there are none.
 fn lines_or(alloc: Global, lines: Vec<Line>, others: &[Line]) -> Result<Vec<Line>, AllocError>
     ensures { IfOk result (λ chosen. chosen.items ≡ lines_or lines.items others.now) }
 {
@@ -64,7 +64,7 @@ impl Section {
         }
     }
 
-    // Whether no further time line may stand in the section.
+    // Whether the section has as many time lines as it may have.
     fn is_full(&self) -> bool
         ensures { result ≡ nat_le most_lines (length self.now.lines) }
     {
@@ -94,7 +94,6 @@ impl Section {
         self.success_wait = Some(seconds);
     }
 
-    // The system of the section.
     fn into_system(
         self,
         alloc: Global,
@@ -124,7 +123,6 @@ impl Section {
     }
 }
 
-// Adds the system of a section.
 fn push_system(
     alloc: Global,
     done: &mut Vec<SystemDef>,
@@ -168,7 +166,7 @@ impl Sections {
         }
     }
 
-    /// Whether no further time line may stand in the present section.
+    /// Whether the present section has as many time lines as it may have.
     pub fn is_full(&self) -> bool
         ensures { result ≡ nat_le most_lines (length self.now.part.lines) }
     {
@@ -192,7 +190,7 @@ impl Sections {
         self.section.set_retries(number);
     }
 
-    /// Sets the wait after a call that went well of the present section.
+    /// Sets the present section's wait after a successful call.
     pub fn set_success_wait(&mut self, seconds: u32)
         requires { seconds ≤ most_success_wait }
         ensures { self.new ≡ with_success_wait self.old seconds }

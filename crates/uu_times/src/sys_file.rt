@@ -19,7 +19,7 @@ use std::collections::BTreeSet;
 use std::marker::Model;
 use uu_names::{Listed, SiteName};
 
-// Names that were seen.
+// The names seen so far.
 #[derive(Drop)]
 struct Names {
     names: BTreeSet<SiteName>,
@@ -42,7 +42,7 @@ impl Names {
         }
     }
 
-    // Adds a name; the fault, where it was seen before.
+    // Adds a name, or gives the fault if it was seen before.
     fn add(&mut self, name: &SiteName, twice: TimeFault) -> Result<(), TimeFault>
         ensures new { OnOk result ((has_seen self.old name.now ≡ false) × (self.new ≡ with_seen self.old name.now)) }
         ensures seen { IfErr result (λ fault. UnlessMemory fault ((has_seen self.old name.now ≡ true) × (fault ≡ twice))) }
@@ -147,7 +147,7 @@ impl Reader {
         }
     }
 
-    // Reads the lines of a text, of which the first has the number 1.
+    // Reads the lines of a text, numbered from 1.
     fn read_lines(&mut self, alloc: Global, text: &[u8]) -> Result<(), TimeFault>
         requires { length text.now ≤ most_text }
         ensures { Takes result self.new (lines_read self.old (joined 1 (lines text.now))) }
@@ -200,26 +200,29 @@ fn read_file(alloc: Global, text: &[u8]) -> Result<SysFile, TimeFault>
     }
 }
 
-/// Reads a sys file of at most 4,194,304 bytes: its systems in order, each with the time lines and
-/// the number of failures of its section or else the defaults, and the numbers of the lines that
-/// were skipped, since they begin with another keyword.
+/// Reads a sys file of at most 4,194,304 bytes. It gives the systems in order, each with the time
+/// lines and the numbers of its section, or else the defaults. It also gives the numbers of the
+/// lines that were skipped because they begin with another keyword.
 ///
-/// What a line's time string means by the grammar is
-/// [`time_strings_are_read`](crate::laws::time_strings_are_read), and which timetable a name stands
-/// for [`the_last_timetable_counts`](crate::laws::the_last_timetable_counts). (Taylor UUCP 1.07
-/// manual, "The Sys File"; a timetable may be defined here too.) Time and memory grow as the text
-/// does, but for the search of names and the sort of a line's ranges; tests measure the time alone,
-/// and no clause speaks of either.
+/// [`time_strings_are_read`](crate::laws::time_strings_are_read) says what a line's time string
+/// means by the grammar, and [`the_last_timetable_counts`](crate::laws::the_last_timetable_counts)
+/// which timetable a name stands for. (Taylor UUCP 1.07 manual, "The Sys File"; a timetable may be
+/// defined here too.) Time and memory are linear in the text, except for the search of names and
+/// the sort of a line's ranges. Tests measure the time only, and no clause is about either.
 ///
 /// # Errors
-/// The fault of the first faulty line, with its number, which for a joined line is that of its
-/// first one. First what the line says by itself: [`TimeFault::BadSystem`] where a `system` line
-/// has not exactly one site name; [`TimeFault::BadWords`] where the words behind another keyword
-/// are too few or too many, or no grade or no timetable's name where one is wanted;
-/// [`TimeFault::UnknownTable`] or [`TimeFault::BadTime`] for its time string, as
-/// [`read_time`](crate::read_time) has them; [`TimeFault::BadNumber`]. Then what the lines before
-/// it forbid: [`TimeFault::SystemTwice`], [`TimeFault::TooManyLines`] for the 33rd time line of a
-/// section, [`TimeFault::TableTwice`]. Else [`TimeFault::Memory`].
+/// The fault of the first faulty line, with its number; for a joined line it is the number of its
+/// first line.
+///
+/// What the line says by itself is checked first. [`TimeFault::BadSystem`]: a `system` line hasn't
+/// exactly one site name. [`TimeFault::BadWords`]: too few or too many words after another keyword,
+/// or no grade or timetable's name at its place. [`TimeFault::UnknownTable`] and
+/// [`TimeFault::BadTime`]: its time string, as in [`read_time`](crate::read_time).
+/// [`TimeFault::BadNumber`]: its number.
+///
+/// Then what the lines before it forbid: [`TimeFault::SystemTwice`]; [`TimeFault::TooManyLines`]
+/// for the 33rd time line of a section; [`TimeFault::TableTwice`]. The only other error is
+/// [`TimeFault::Memory`].
 pub fn read_sys(alloc: Global, text: &[u8]) -> Result<SysFile, TimeFault>
     requires { length text.now ≤ most_text }
     ensures { AnswersUnlessMemory result (sys_file_of text.now) }

@@ -16,22 +16,21 @@ pub const RETRY_LIMIT: u32 = 525_600;
 /// The most failures in a row that a system may be given.
 pub const MAX_RETRIES_LIMIT: u32 = 1_000_000;
 
-/// The failures in a row after which calls become rare, where a sys file doesn't say.
+/// The failures in a row after which calls become rare, if a sys file doesn't say.
 pub const DEFAULT_MAX_RETRIES: u32 = 26;
 
-/// The most seconds that a system may be left alone after a call that went well: 365 days.
+/// The most seconds that a system may be left alone after a successful call: 365 days.
 pub const SUCCESS_WAIT_LIMIT: u32 = 31_536_000;
 
-/// The seconds that a system is left alone after a call that went well, where a sys file doesn't
-/// say.
+/// The seconds that a system is left alone after a successful call, if a sys file doesn't say.
 pub const DEFAULT_SUCCESS_WAIT: u32 = 0;
 
-/// When jobs of a grade and above may be sent.
+/// When jobs of a grade and of higher grades may be sent.
 #[derive(Debug, Drop)]
 pub struct Line {
     /// The lowest grade for which a call is made.
     pub grade: Grade,
-    /// The minutes of the week at which it is made.
+    /// The minutes of the week at which it may be made.
     pub windows: Windows,
     /// The minutes to wait after a failure, 1 to 525,600.
     pub retry: Option<u32>,
@@ -57,11 +56,11 @@ impl Clone for Line {
 pub struct SystemDef {
     /// The system's name.
     pub name: SiteName,
-    /// When it may be called, at most 32 lines; never, where there is none.
+    /// When it may be called, at most 32 lines. Without a line it is never called.
     pub lines: Listed<Line>,
     /// After how many failures in a row calls become rare, at most 1,000,000.
     pub max_retries: u32,
-    /// How many seconds it is left alone after a call that went well, at most 31,536,000.
+    /// How many seconds it is left alone after a successful call, at most 31,536,000.
     pub success_wait: u32,
 }
 
@@ -76,8 +75,8 @@ impl Model for SystemDef {
 }
 
 impl SystemDef {
-    /// A system of these parts, and `None` where there are more than 32 lines, a retry number isn't
-    /// 1 to 525,600, `max_retries` is over 1,000,000, or `success_wait` is over 31,536,000.
+    /// A system of these parts. `None` if there are more than 32 lines, a retry number isn't 1 to
+    /// 525,600, `max_retries` is over 1,000,000, or `success_wait` is over 31,536,000.
     pub fn new(
         name: SiteName,
         lines: Listed<Line>,
@@ -136,7 +135,7 @@ fn has_retry(line: &Line) -> bool
 pub struct SysFile {
     /// Its systems, in the order of their sections.
     pub systems: Listed<SystemDef>,
-    /// The numbers of the lines that were skipped, since they begin with another keyword, counted
+    /// The numbers of the lines that were skipped because they begin with another keyword, counted
     /// from 1.
     pub skipped: Listed<u32>,
 }

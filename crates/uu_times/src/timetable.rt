@@ -19,7 +19,7 @@ use std::collections::BTreeMap;
 use std::marker::Model;
 use uu_names::{NameFault, SiteName};
 
-/// The most bytes of a timetable's name behind the first.
+/// The most bytes of a timetable's name after the first.
 const MAX_TABLE_REST: usize = 31;
 
 /// The day words, in lower case.
@@ -45,7 +45,7 @@ impl Model for Timetables {
 impl Timetables {
     /// The timetables that are there from the start: `Evening`, `Night` and `NonPeak`.
     ///
-    /// `Memory` is the only fault.
+    /// `Memory` is the only error.
     #[tactic(auto, unfolding(crate::specs::Tables::predefined_tables))]
     pub fn predefined(alloc: Global) -> Result<Timetables, TimeFault>
         ensures { AnswersUnlessMemory result (Ok predefined_tables) }
@@ -59,7 +59,7 @@ impl Timetables {
         Ok(tables)
     }
 
-    // Sets the timetable of a name to a list of simple strings; another text changes nothing.
+    // Sets the timetable of a name to a list of simple strings. Any other text changes nothing.
     fn insert_list(&mut self, alloc: Global, name: &[u8], text: &[u8]) -> Result<(), AllocError>
         requires { IsTrue (is_table_name name.now) }
         ensures { OnOk result (self.new ≡ with_list self.old name.now text.now) }
@@ -71,7 +71,7 @@ impl Timetables {
         }
     }
 
-    /// The timetable of a name, whatever its case.
+    /// The timetable of a name, in any case of letters.
     pub(crate) fn find(&self, alloc: Global, name: &[u8]) -> Result<Option<Windows>, AllocError>
         ensures { IfOk result (λ found. found ≡ table_at self.now name.now) }
     {
@@ -126,28 +126,28 @@ pub(crate) fn key_of(alloc: Global, name: &[u8]) -> Result<SiteName, AllocError>
     SiteName::from_bytes(alloc, &letters).map_err(|_| AllocError)
 }
 
-/// Whether the bytes are those of the word, whatever their case.
+/// Whether the bytes are those of the word, in any case of letters.
 pub(crate) fn equals_in_any_case(bytes: &[u8], word: &[u8]) -> bool
     ensures { result ≡ bytes_eq (lower bytes.now) (lower word.now) }
 {
     bytes.eq_ignore_ascii_case(word)
 }
 
-// Whether the byte may stand in a timetable's name behind the first.
+// Whether the byte is allowed in a timetable's name after the first byte.
 fn is_table_byte(letter: u8) -> bool
     ensures { result ≡ is_table_byte letter }
 {
     letter.is_ascii_alphanumeric() || letter == b'-' || letter == b'_'
 }
 
-// Whether each byte may.
+// Whether all bytes are allowed there.
 fn are_table_bytes(rest: &[u8]) -> bool
     ensures { result ≡ list_all is_table_byte rest.now }
 {
     rest.iter().all(|letter| is_table_byte(*letter))
 }
 
-// Whether the bytes may stand in a timetable's name behind the first.
+// Whether the bytes may follow the first byte of a timetable's name.
 fn is_table_rest(rest: &[u8]) -> bool
     ensures { result ≡ is_table_rest rest.now }
 {
@@ -164,7 +164,7 @@ pub(crate) fn is_table_name(text: &[u8]) -> bool
     }
 }
 
-// Whether the text begins with the word, whatever their case.
+// Whether the text begins with the word, in any case of letters.
 fn begins_in_any_case(text: &[u8], word: &[u8]) -> bool
     ensures { result ≡ starts_with nat_eq (lower text.now) (lower word.now) }
 {
@@ -174,7 +174,7 @@ fn begins_in_any_case(text: &[u8], word: &[u8]) -> bool
     }
 }
 
-// Whether the text begins with one of the words, whatever their case.
+// Whether the text begins with one of the words, in any case of letters.
 fn begins_with_any(text: &[u8], words: &[&[u8]]) -> bool
     ensures { result ≡ list_any (λ word. starts_with nat_eq (lower text.now) (lower word.now)) words.now }
 {
@@ -188,7 +188,7 @@ fn begins_with_day(text: &[u8]) -> bool
     begins_with_any(text, &DAY_WORDS)
 }
 
-// The fault of a text that is no time string, of which so many bytes begin a list of simple
+// The fault of a text that isn't a time string. So many of its bytes begin a list of simple
 // strings.
 fn unreadable(line: u32, text: &[u8], at: usize) -> TimeFault
     ensures { result ≡ unreadable line text.now at }
@@ -231,14 +231,15 @@ pub(crate) fn time_of(
 
 /// The set of a time string.
 ///
-/// It is empty for `Never`, that of a timetable for its name, and else that of a list of simple
-/// strings; case doesn't count. Minutes are those of the local week; 0 is Sunday 00:00.
+/// `Never` is the empty set. The name of a timetable is its set. Otherwise it is the set of a list
+/// of simple strings. The case of letters doesn't count. Minutes are those of the local week; 0 is
+/// Sunday 00:00.
 ///
 /// # Errors
-/// A text that is none of these is [`TimeFault::UnknownTable`] where it has the form of a
-/// timetable's name and doesn't begin with a day word, and else [`TimeFault::BadTime`] with the
-/// length of the longest front of the text that begins a list of simple strings; the line of both
-/// is 0. Else [`TimeFault::Memory`].
+/// If a text is none of these, has the form of a timetable's name and doesn't begin with a day
+/// word, it is [`TimeFault::UnknownTable`]. Any other such text is [`TimeFault::BadTime`], with the
+/// length of its longest prefix that begins a list of simple strings. The line of both is 0. The
+/// only other error is [`TimeFault::Memory`].
 pub fn read_time(alloc: Global, text: &str, tables: &Timetables) -> Result<Windows, TimeFault>
     ensures string { IfOk result (λ windows. IsTimeString tables.now text.now windows) }
     ensures refused { IfErr result (λ fault. UnlessMemory fault ((windows : List (ℕ × ℕ)) → ¬ IsTimeString tables.now text.now windows)) }

@@ -73,7 +73,7 @@ fn push_hours(
     Ok(())
 }
 
-// Sorted ranges, put together where no minute lies between.
+// Sorted ranges, merged if no minute lies between them.
 fn merged(alloc: Global, sorted: &[(u16, u16)]) -> Result<Vec<(u16, u16)>, AllocError>
     ensures { IfOk result (λ runs. runs.items ≡ merged sorted.now) }
 {

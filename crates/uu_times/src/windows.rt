@@ -9,11 +9,11 @@ use std::rc::Rc;
 /// The minutes in a week. Minute 0 is Sunday 00:00, local.
 pub const WEEK: u16 = 10_080;
 
-/// A set of week minutes, as the minutes at which a time string lets a call be made. Minute 0 is
-/// Sunday 00:00, local.
+/// A set of week minutes: those at which a time string allows a call. Minute 0 is Sunday 00:00,
+/// local.
 ///
-/// It is kept as its maximal runs in order, each with its first and its last minute; two runs
-/// have at least one minute outside between them. Systems share the runs of a timetable.
+/// It is kept as its maximal runs in order, each with its first and its last minute. Between two
+/// runs at least one minute isn't in the set. Systems share the runs of a timetable.
 #[derive(Debug, Drop)]
 pub struct Windows {
     runs: Rc<Vec<(u16, u16)>>,
@@ -50,8 +50,8 @@ impl Windows {
         self.runs.as_ref().as_slice()
     }
 
-    /// The set whose maximal runs these are, and `None` where a list is not of that form or
-    /// passes the minute 10,079.
+    /// The set of these maximal runs, or `None` if the list isn't of that form or exceeds the
+    /// minute 10,079.
     pub fn from_ranges(alloc: Global, ranges: &[(u16, u16)]) -> Result<Option<Windows>, AllocError>
         ensures refused { IfOk result (λ windows. IsNone windows ↔ (¬ AreRuns ranges.now)) }
         ensures value { IfOk result (λ windows. IfSome windows (λ w. w ≡ ranges.now)) }

@@ -10,7 +10,7 @@ use jiff_core::civil::DateTime;
 use jiff_core::{Offset, Timestamp};
 use jiff_tz::{Abbreviation, posix};
 
-/// The most minutes that a fixed zone may lie before or after UTC: a day less a minute.
+/// The most minutes that a fixed zone may be before or after UTC: a day less a minute.
 pub const OFFSET_LIMIT: i32 = 1439;
 
 /// The rule of a site's clock: how far it is ahead of UTC at each second.
@@ -22,7 +22,7 @@ pub struct Zone {
 impl Zone {
     /// The clock that is always so many minutes ahead of UTC.
     ///
-    /// `OffsetRange` where the minutes aren't from -1439 to 1439.
+    /// `OffsetRange` if the minutes aren't from -1439 to 1439.
     pub fn fixed(minutes: i32) -> Result<Zone, TimeFault>
         ensures value { IfOk result (λ zone. said zone ≡ always minutes) }
         ensures offset { IfOk result (λ zone. (second : ℕ) → offset_at zone second ≡ pos 60 *ℤ minutes) }
@@ -44,7 +44,7 @@ impl Zone {
 
     /// The clock of a POSIX rule, as `EST5EDT,M3.2.0,M11.1.0`.
     ///
-    /// `BadZone` where the text is no such rule.
+    /// `BadZone` if the text isn't such a rule.
     pub fn posix(text: &str) -> Result<Zone, TimeFault>
         ensures value { IfOk result (λ zone. zone_of text.now ≡ Some (said zone)) }
         ensures refused { (result ≡ Err TimeFault.BadZone) ↔ IsNone (zone_of text.now) }

@@ -21,7 +21,7 @@ use Rattle.uu_store.specs.declared.spool.Spool.{Spool}
 use Rattle.uu_report.specs.Reports.{links_text}
 use Rattle.uuspool.specs.Answers.{IsEntryShown, no_entry}
 
--- a head of a job with bytes is the head of that job, where it has their number
+-- a head of a job with bytes is the head of that job, if it has their number
 pub shown_head : (head : JobHead) (bytes : List ℕ) → head.size ≡ length bytes → head ≡ head_of (job_with head bytes)
 shown_head head bytes same = ap (λ size. record head { size = size }) same
 
@@ -39,7 +39,7 @@ no_entry_shown (Some kept) output same printed = absurd (cc)
 
 -- a run that is called broken off says less
 pub as_broken_off : {S : Type 0} {g : Ghosts S} (commands : List Command) (old new : Spool S g) (replies : List Reply) (kind : StoreKind)
-    → Ran commands old new replies None → Ran commands old new replies (Some (Store kind))
+    → Ran 1 commands old new replies None → Ran 1 commands old new replies (Some (Store kind))
 as_broken_off commands old new replies kind ran = record {
   within = ran.within;
   from = λ clean s shown. let from = ran.from clean s shown in record {
@@ -52,12 +52,12 @@ as_broken_off commands old new replies kind ran = record {
 }
 
 -- what each element has, the one that is found has
-found_has : {X : Type 0} (P : X → Type 0) (test : X → Bool) (xs : List X) → All P xs → IfSome (find test xs) P
+pub found_has : {X : Type 0} (P : X → Type 0) (test : X → Bool) (xs : List X) → All P xs → IfSome (find test xs) P
 found_has P test [] all = tt
 found_has P test (x ∷ xs) all =
     cond_both (test x) (Some x) (find test xs) (λ found. IfSome found P) (λ _. All-head P x xs all) (λ _. found_has P test xs (All-tail P x xs all))
 
--- a fault that is not want of memory is the text's
+-- a fault that isn't out of memory is the text's
 pub has_fault : (text : List ℕ) (why : MapFault) → (let answer : Result Entry MapFault = Err why in map.IsAnswer text answer) → (why ≡ entry_fault.Memory → ⊥) → host_of text ≡ Err why
 has_fault text entry_fault.Memory answer none = absurd (none refl)
 has_fault text entry_fault.TooLarge answer none = answer

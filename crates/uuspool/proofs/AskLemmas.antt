@@ -1,6 +1,6 @@
 -- How a line ends, and with which fault.
-use Rattle.std.proofs.Common.{◌≡◌, inl, inr, ℕ, List, Result, Ok, Err, IfErr, sym}
-use Rattle.uu_request.specs.Requests.{AnswersUnlessMemory, request_of}
+use Rattle.std.proofs.Common.{inl, inr, ℕ, List, Result, Ok, Err, IfErr}
+use Rattle.uu_request.specs.Requests.{Asks, UnlessMemory}
 use Rattle.uu_request.specs.declared.fault.RequestFault.{RequestFault}
 use Rattle.uu_request.specs.declared.fault.RequestFault.TheVariants as asking
 use Rattle.uu_request.specs.declared.request.Request.{Request}
@@ -13,7 +13,8 @@ use Rattle.uuspool.specs.Served.{Ask, EndsAs, IsEarly, IsFaultOf, IsFaultOfLine,
 use Rattle.uuspool.specs.declared.fault.Fault.{Fault}
 use Rattle.uuspool.specs.declared.fault.Fault.TheVariants as fault
 
--- a request that was served ends a line, and its fault is one that comes once the spool is asked
+-- a request that was served ends a line, and its fault is one that comes with the calls of the
+-- spool
 pub ends_served : (r : Result ℕ Fault) (Served Unchanged : Type 0) → IfErr r IsLate → Served → EndsAs r Served Unchanged
 ends_served (Ok status) Served Unchanged late served = served
 ends_served (Err (fault.Store why)) Served Unchanged late served = served
@@ -26,8 +27,9 @@ ends_served (Err (fault.Time why)) Served Unchanged late served = absurd late
 ends_served (Err fault.TwoSystems) Served Unchanged late served = absurd late
 ends_served (Err fault.Input) Served Unchanged late served = absurd late
 ends_served (Err fault.Read) Served Unchanged late served = absurd late
+ends_served (Err (fault.Bundle why)) Served Unchanged late served = absurd late
 
--- a fault that comes before the spool is asked ends a line of which nothing was done
+-- a fault that comes before any call of the spool ends a line that did nothing
 pub ends_early : (f : Fault) (Served Unchanged : Type 0) → IsEarly f → Unchanged → (let r : Result ℕ Fault = Err f in EndsAs r Served Unchanged)
 ends_early (fault.Store why) Served Unchanged early unchanged = absurd early
 ends_early fault.Write Served Unchanged early unchanged = absurd early
@@ -39,6 +41,7 @@ ends_early (fault.Time why) Served Unchanged early unchanged = unchanged
 ends_early fault.TwoSystems Served Unchanged early unchanged = unchanged
 ends_early fault.Input Served Unchanged early unchanged = unchanged
 ends_early fault.Read Served Unchanged early unchanged = unchanged
+ends_early (fault.Bundle why) Served Unchanged early unchanged = unchanged
 
 -- an end, said in other words
 pub ends_as : (r : Result ℕ Fault) (Served Unchanged Other Still : Type 0) → (Served → Other) → (Unchanged → Still) → EndsAs r Served Unchanged → EndsAs r Other Still
@@ -53,10 +56,11 @@ ends_as (Err (fault.Time why)) Served Unchanged Other Still into over it = over 
 ends_as (Err fault.TwoSystems) Served Unchanged Other Still into over it = over it
 ends_as (Err fault.Input) Served Unchanged Other Still into over it = over it
 ends_as (Err fault.Read) Served Unchanged Other Still into over it = over it
+ends_as (Err (fault.Bundle why)) Served Unchanged Other Still into over it = over it
 
 module _ (settings : Settings) (line : CommandLine) (at : Moment) (input : List ℕ) where
-  -- a fault once the spool is asked
-  pub late_fault : (r : Result ℕ Fault) → IfErr r IsLate → ((request : Request) × (request_of settings at input line ≡ Ok request)) → IfErr r (IsFaultOfLine settings line at input)
+  -- a fault that comes with the calls of the spool
+  pub late_fault : (r : Result ℕ Fault) → IfErr r IsLate → ((request : Request) × Asks settings at input line (Ok request)) → IfErr r (IsFaultOfLine settings line at input)
   late_fault (Ok status) late asked = tt
   late_fault (Err (fault.Store why)) late asked = (late, asked)
   late_fault (Err fault.Write) late asked = asked
@@ -68,17 +72,19 @@ module _ (settings : Settings) (line : CommandLine) (at : Moment) (input : List 
   late_fault (Err fault.TwoSystems) late asked = absurd late
   late_fault (Err fault.Input) late asked = absurd late
   late_fault (Err fault.Read) late asked = absurd late
+  late_fault (Err (fault.Bundle why)) late asked = absurd late
 
   -- a fault of what a line asks
-  pub asked_fault : (why : RequestFault) → (let answer : Result Request RequestFault = Err why in AnswersUnlessMemory answer (request_of settings at input line))
+  pub asked_fault : (why : RequestFault) → (let answer : Result Request RequestFault = Err why in UnlessMemory (Asks settings at input line) answer)
       → IsFaultOfLine settings line at input (fault_of_request why)
-  asked_fault asking.Input is = sym is
-  asked_fault (asking.Time why) is = sym is
+  asked_fault asking.Input is = is
+  asked_fault (asking.Time why) is = is
+  asked_fault (asking.Bundle why) is = is
   asked_fault asking.Memory is = tt
 
   module _ (words : List (List ℕ)) (now : ℕ) (means : MeansLine words line) (moment : IsMomentOf settings (second_of line now) at) where
     -- words ask what their line asks
-    pub words_ask : (asked : Result Request RequestFault) → request_of settings at input line ≡ asked → Ask settings words now input asked
+    pub words_ask : (asked : Result Request RequestFault) → Asks settings at input line asked → Ask settings words now input asked
     words_ask asked is = record { line = line; means = means; at = at; moment = moment; request = is }
 
     -- and a fault of their line is theirs
@@ -93,6 +99,7 @@ module _ (settings : Settings) (line : CommandLine) (at : Moment) (input : List 
     words_fault (fault.Name why) none = absurd none
     words_fault fault.TwoSystems none = absurd none
     words_fault fault.Read none = absurd none
+    words_fault (fault.Bundle why) is = words_ask (Err (asking.Bundle why)) is
 
     pub words_faults : (r : Result ℕ Fault) → IfErr r (IsFaultOfLine settings line at input) → IfErr r (IsFaultOf settings words now input)
     words_faults (Ok status) is = tt
@@ -101,4 +108,5 @@ module _ (settings : Settings) (line : CommandLine) (at : Moment) (input : List 
 pub asked_is_early : (why : RequestFault) → IsEarly (fault_of_request why)
 asked_is_early asking.Input = tt
 asked_is_early (asking.Time why) = tt
+asked_is_early (asking.Bundle why) = tt
 asked_is_early asking.Memory = tt

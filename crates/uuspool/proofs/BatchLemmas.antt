@@ -31,7 +31,7 @@ not_false false is = sym is
 
 -- ---- one line more
 
--- behind some line the next is left
+-- after some line the next is left
 abbrev pub SomeStops : List Line → Type 0
 SomeStops [] = ⊥
 SomeStops (line ∷ lines) = (goes_on line.result ≡ false) ⊎ SomeStops lines
@@ -74,7 +74,7 @@ module _ {S : Type 0} {g : Ghosts S} (settings : Settings) where
     (λ stops. absurd (true≢false (sym goes ∙ stops))),
   )
 
-  -- one of them stops, so that the line is left as those behind that one are
+  -- one of them stops, so the line is left like those after that one
   unserved_more : (lines : List Line) (line : Line) (old mid new : Spool S g) → AreServed settings lines old mid → SomeStops lines
       → line.output ≡ [] → line.result ≡ Err left_fault → new ≡ mid → AreServed settings (lines ++ line ∷ []) old new
   unserved_more [] line old mid new same off nothing is still = absurd off
@@ -96,7 +96,7 @@ began_within (Some bytes) None words input head fits read = absurd read
 began_within (Some bytes) (Some rest) words input head fits read =
     (length input, words, head, fits, input ++ rest, read ∙ append_assoc (head_line (length input) words) (10 ∷ input) rest)
 
--- what was written of an answer, behind those before it
+-- what was written of an answer, after those before it
 untold_behind : (held holds more : Option (List ℕ)) (before answer : List ℕ) (why : Fault) → Appends held holds before → IsUntold answer (Appends holds more) why
     → IsUntold answer (λ last. Appends held more (before ++ last)) why
 untold_behind held holds more before answer fault.Write wrote (begun, rest, is, some) = (begun, rest, is, Appends-trans held holds more before begun wrote some)
@@ -109,10 +109,11 @@ untold_behind held holds more before answer fault.TwoSystems wrote none = none
 untold_behind held holds more before answer fault.Input wrote none = none
 untold_behind held holds more before answer (fault.Store is) wrote none = none
 untold_behind held holds more before answer fault.Read wrote none = none
+untold_behind held holds more before answer (fault.Bundle is) wrote none = none
 
 -- ---- a stream so far
 
--- the requests that were answered so far, and whether behind some line the next is left
+-- the requests that were answered so far, and whether after some line the next is left
 pub record SoFar {S : Type 0} {g : Ghosts S} {C : Type 0} (settings : Settings) (Tells : C → ℕ → C → Type 0) (failed : Bool) (count : ℕ) (clock later : C) (old new : Spool S g) (had left held holds : Option (List ℕ)) : Type 0 where
   pub lines : List Line
   pub counted : length lines ≡ count
@@ -124,7 +125,7 @@ pub record SoFar {S : Type 0} {g : Ghosts S} {C : Type 0} (settings : Settings) 
   pub read : Consumes had left (flat_map frame_of lines)
   pub answered : Appends held holds (flat_map answer_of lines)
 
--- after a line the next is served where those before it and it go on
+-- after a line the next is served if those before it and it go on
 on_then : (failed goes : Bool) (lines : List Line) (line : Line) → (failed ≡ false → AllGoOn lines) → (failed ≡ true → line.result ≡ Err left_fault)
     → goes ≡ goes_on line.result → goes ≡ true → AllGoOn (lines ++ line ∷ [])
 on_then false goes lines line on left is went = all_more (λ (l : Line). goes_on l.result ≡ true) lines line (on refl) (sym is ∙ went)

@@ -22,7 +22,7 @@ use Rattle.uu_report.specs.Outputs.{answers_text, output_text, replies_status, s
 use Rattle.uu_report.specs.Replies.{reply_text}
 use Rattle.uu_request.specs.declared.request.CommandList.{CommandList}
 use Rattle.uu_request.specs.declared.request.Request.TheVariants as request
-use Rattle.uuspool.proofs.ServedLemmas.{IsOfPrinting, broken_of_nothing, end_is_late, marked_is_of_call, printed, printed_as}
+use Rattle.uuspool.proofs.ServedLemmas.{IsOfPrinting, broken_of_nothing, chosen_so, end_is_late, marked_is_of_call, printed, printed_as}
 use Rattle.uuspool.specs.Served.{IsBrokenOff, IsEvery, IsNoted, IsOfCall, IsOutput, IsPrinted, IsPrintedEnd, IsServed, Marks}
 use Rattle.uuspool.specs.declared.fault.Fault.{Fault}
 use Rattle.uuspool.specs.declared.fault.Fault.TheVariants as fault
@@ -111,11 +111,14 @@ marked_stop None Whole before after marked = tt
 marked_stop (Some why) Whole before after marked = marked_is_of_call before after why marked
 
 pub run_served : {S : Type 0} {g : Ghosts S} (settings : Settings) (list : CommandList) (old new : Spool S g) (written : List ℕ → Type 0) (end : RunEnd) (r : Result ℕ Fault)
-    → Ran list.commands old new end.replies.items end.stopped → IsEvery (spool.has_failed old) (request.Commands list) end.replies.items end.stopped
+    → Ran 1 list.commands old new end.replies.items end.stopped → IsEvery (spool.has_failed old) (request.Commands list) list.commands end.replies.items end.stopped
     → Marks (spool.has_failed old) (spool.has_failed new) end.stopped → IsNoted old new end.stopped
     → (IsTrue (spool.has_failed old) → (end.stopped ≡ Some store.Failed) × (end.replies.items ≡ []) × (new ≡ old))
     → IfSome end.stopped IsOfCall → IsPrintedEnd list.subjects list.skipped end written r → IsServed settings (request.Commands list) old new written r
 run_served settings list old new written end r ran every marked noted failed call ends = record {
+  commands = list.commands;
+  are = refl;
+  chosen = λ clean s shown. chosen_so r list.commands list.commands refl;
   replies = end.replies.items;
   stopped = end.stopped;
   ran = ran;

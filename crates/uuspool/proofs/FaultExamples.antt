@@ -6,13 +6,14 @@ use Rattle.uu_names.specs.declared.fault.NameFault.TheVariants as name
 use Rattle.uu_times.specs.declared.fault.TimeFault.TheVariants as time
 use Rattle.uu_schema.specs.declared.fault.StoreFault.TheVariants as store
 use Rattle.uu_schema.specs.declared.fault.StoreKind.TheVariants as kind
+use Rattle.uu_request.specs.declared.fault.WrongBundle.TheVariants as wrong
 use Rattle.uu_settings.specs.declared.fault.Key.TheVariants as key
 use Rattle.uu_settings.specs.declared.fault.SettingsFault.TheVariants as settings
 use Rattle.uuspool.specs.declared.fault.Fault.{Fault}
 use Rattle.uuspool.specs.declared.fault.Fault.TheVariants as fault
 use Rattle.uuspool.specs.Faults.{code_of, line_of_fault, status_of}
 
--- the fault is told by this line, with this status, and has this number
+-- the fault has this line, this status, and this number
 abbrev pub IsTold : Fault → List ℕ → ℕ → ℕ → Type 0
 IsTold why line status number = (line_of_fault why ≡ line ++ 10 ∷ []) × (status_of why ≡ status) × (code_of why ≡ number)
 
@@ -93,3 +94,6 @@ write = (refl, refl, refl)
 
 pub memory : IsTold fault.Memory (codes "uuspool: out of memory") 4 10
 memory = (refl, refl, refl)
+
+pub other_sender : IsTold (fault.Bundle wrong.OtherSender) (codes "uuspool: bundle: OtherSender") 2 11
+other_sender = (refl, refl, refl)

@@ -6,6 +6,7 @@ use Rattle.std.specs.Io.KnownBytes.{Appends}
 use Rattle.sqlite.specs.Store.{Ghosts}
 use Rattle.sqlite.specs.State.{HasCleanDisk}
 use Rattle.uu_core.specs.State.{State}
+use Rattle.uu_core.specs.declared.command.Command.{Command}
 use Rattle.uu_schema.specs.declared.fault.StoreFault.{StoreFault}
 use Rattle.uu_schema.specs.declared.fault.StoreFault.TheVariants as store
 use Rattle.uu_store.specs.Runs.{Ran}
@@ -16,7 +17,7 @@ use Rattle.uu_settings.specs.declared.settings.Settings.{Settings}
 use Rattle.uu_request.specs.declared.request.Question.{Question}
 use Rattle.uu_request.specs.declared.request.Request.TheVariants as request
 use Rattle.uuspool.specs.Answers.{IsAnswer}
-use Rattle.uuspool.specs.Served.{IsBrokenOff, IsLate, IsNoted, IsOfCall, IsPrinted, IsServed, Marks}
+use Rattle.uuspool.specs.Served.{AreChosen, IsBrokenOff, IsLate, IsNoted, IsOfCall, IsPrinted, IsServed, Marks}
 use Rattle.uuspool.specs.declared.fault.Fault.{Fault}
 use Rattle.uuspool.specs.declared.fault.Fault.TheVariants as fault
 
@@ -31,7 +32,7 @@ IsOfPrinting f = (f ≡ fault.Write) ⊎ (f ≡ fault.Memory)
 
 -- ---- how a request ends
 
--- what is printed, and where, said in other words
+-- what is printed, in other words
 pub printed_as : (Is Other : List ℕ → ℕ → Type 0) (written other : List ℕ → Type 0) (r : Result ℕ Fault)
     → ((output : List ℕ) (status : ℕ) → Is output status → Other output status) → ((output : List ℕ) → written output → other output)
     → IsPrinted Is written r → IsPrinted Other other r
@@ -47,6 +48,7 @@ printed_as Is Other written other (Err (fault.Time why)) into over none = none
 printed_as Is Other written other (Err fault.TwoSystems) into over none = none
 printed_as Is Other written other (Err fault.Input) into over none = none
 printed_as Is Other written other (Err fault.Read) into over none = none
+printed_as Is Other written other (Err (fault.Bundle why)) into over none = none
 
 pub broken_as : (why : StoreFault) (output : List ℕ) (written other : List ℕ → Type 0) (r : Result ℕ Fault)
     → ((text : List ℕ) → written text → other text) → IsBrokenOff why output written r → IsBrokenOff why output other r
@@ -61,9 +63,10 @@ broken_as why output written other (Err (fault.Time is)) over none = none
 broken_as why output written other (Err fault.TwoSystems) over none = none
 broken_as why output written other (Err fault.Input) over none = none
 broken_as why output written other (Err fault.Read) over none = none
+broken_as why output written other (Err (fault.Bundle is)) over none = none
 
--- the fault is one that comes once the spool is asked
-printed_is_late : (Is : List ℕ → ℕ → Type 0) (written : List ℕ → Type 0) (r : Result ℕ Fault) → IsPrinted Is written r → IfErr r IsLate
+-- the fault is one that comes with the calls of the spool
+pub printed_is_late : (Is : List ℕ → ℕ → Type 0) (written : List ℕ → Type 0) (r : Result ℕ Fault) → IsPrinted Is written r → IfErr r IsLate
 printed_is_late Is written (Ok status) it = tt
 printed_is_late Is written (Err fault.Write) it = tt
 printed_is_late Is written (Err fault.Memory) it = tt
@@ -75,6 +78,7 @@ printed_is_late Is written (Err (fault.Time why)) none = none
 printed_is_late Is written (Err fault.TwoSystems) none = none
 printed_is_late Is written (Err fault.Input) none = none
 printed_is_late Is written (Err fault.Read) none = none
+printed_is_late Is written (Err (fault.Bundle why)) none = none
 
 broken_is_late : (why : StoreFault) (output : List ℕ) (written : List ℕ → Type 0) (r : Result ℕ Fault) → IsOfCall why → IsBrokenOff why output written r → IfErr r IsLate
 broken_is_late why output written (Ok status) call none = tt
@@ -88,18 +92,19 @@ broken_is_late why output written (Err (fault.Time is)) call none = none
 broken_is_late why output written (Err fault.TwoSystems) call none = none
 broken_is_late why output written (Err fault.Input) call none = none
 broken_is_late why output written (Err fault.Read) call none = none
+broken_is_late why output written (Err (fault.Bundle is)) call none = none
 
 pub end_is_late : (stopped : Option StoreFault) (Is : List ℕ → ℕ → Type 0) (output : List ℕ) (written : List ℕ → Type 0) (r : Result ℕ Fault) → IfSome stopped IsOfCall
     → MatchOption stopped (IsPrinted Is written r) (λ why. IsBrokenOff why output written r) → IfErr r IsLate
 end_is_late None Is output written r call printed = printed_is_late Is written r printed
 end_is_late (Some why) Is output written r call broken = broken_is_late why output written r call broken
 
--- a text that has a front that is cut is none that is empty
+-- an empty text has no rest
 no_rest : (front rest : List ℕ) → front ++ rest ≡ [] → rest ≡ []
 no_rest [] rest is = is
 no_rest (x ∷ front) rest is = absurd (cc)
 
--- where nothing was to be written, the store's fault is told, and nothing was written
+-- if nothing was to be written, the fault is the store's, and nothing was written
 pub broken_of_nothing : (why : StoreFault) (output : List ℕ) (written : List ℕ → Type 0) (r : Result ℕ Fault) → output ≡ [] → IsBrokenOff why output written r
     → (r ≡ Err (fault.Store why)) × written []
 broken_of_nothing why output written (Ok status) empty none = absurd none
@@ -113,6 +118,7 @@ broken_of_nothing why output written (Err (fault.Time is)) empty none = absurd n
 broken_of_nothing why output written (Err fault.TwoSystems) empty none = absurd none
 broken_of_nothing why output written (Err fault.Input) empty none = absurd none
 broken_of_nothing why output written (Err fault.Read) empty none = absurd none
+broken_of_nothing why output written (Err (fault.Bundle is)) empty none = absurd none
 
 -- a fault of a call of a spool
 pub marked_is_of_call : (before after : Bool) (why : StoreFault) → spool.IsFaultBetween before after why → IsOfCall why
@@ -148,8 +154,8 @@ pub noted_of_run : {S : Type 0} {g : Ghosts S} (old new : Spool S g) (stopped : 
 noted_of_run old new None marked = λ clean s shown kind same. absurd (cc)
 noted_of_run old new (Some why) marked = noted_of_call old new why marked
 
--- of a spool that had failed, that alone is told
-failed_alone : (before after : Bool) (why : StoreFault) → Marks before after (Some why) → IsTrue before → why ≡ store.Failed
+-- if a spool had failed, only that is reported
+pub failed_alone : (before after : Bool) (why : StoreFault) → Marks before after (Some why) → IsTrue before → why ≡ store.Failed
 failed_alone before after store.Memory marked had = absurd (cc)
 failed_alone before after (store.Store kind) marked had = absurd (cc)
 failed_alone before after store.Failed marked had = refl
@@ -179,6 +185,13 @@ printed (Err f) made status written P Q into is same (inl write) cut nothing has
 printed (Err f) made status written P Q into is same (inr memory) cut nothing has =
     subst (λ (g : Fault). let r : Result ℕ Fault = Err g in IsPrinted Q written r) (sym memory) (nothing (ap Err memory))
 
+-- ---- commands
+
+-- the commands are those in the state
+pub chosen_so : (r : Result ℕ Fault) (commands chosen : List Command) → commands ≡ chosen → AreChosen commands chosen r
+chosen_so (Ok status) commands chosen same = same
+chosen_so (Err why) commands chosen same = inl same
+
 -- ---- questions
 
 -- what is printed of the answer, and the status, in each state that the spool showed
@@ -187,10 +200,13 @@ Answers settings q old new output status = HasCleanDisk (spool.disk new) → (s 
 
 module _ {S : Type 0} {g : Ghosts S} (settings : Settings) (q : Question) (old new : Spool S g) (written : List ℕ → Type 0) where
   -- the question was answered, and its answer printed
-  pub question_served : (r : Result ℕ Fault) → Ran [] old new [] None → (spool.has_failed old ≡ false) × (spool.has_failed new ≡ false)
+  pub question_served : (r : Result ℕ Fault) → Ran 1 [] old new [] None → (spool.has_failed old ≡ false) × (spool.has_failed new ≡ false)
       → (HasCleanDisk (spool.disk new) → (s : State) → spool.Shows old s → spool.Shows new s) → IsPrinted (Answers settings q old new) written r
       → IsServed settings (request.Question q) old new written r
   question_served r ran marked shows answered = record {
+    commands = [];
+    are = refl;
+    chosen = λ clean s shown. chosen_so r [] [] refl;
     replies = [];
     stopped = None;
     ran = ran;
@@ -205,10 +221,13 @@ module _ {S : Type 0} {g : Ghosts S} (settings : Settings) (q : Question) (old n
   }
 
   -- the store gave a fault, and nothing was printed
-  pub question_unanswered : (why : StoreFault) → Ran [] old new [] (Some why) → Marks (spool.has_failed old) (spool.has_failed new) (Some why)
+  pub question_unanswered : (why : StoreFault) → Ran 1 [] old new [] (Some why) → Marks (spool.has_failed old) (spool.has_failed new) (Some why)
       → IsNoted old new (Some why) → (IsTrue (spool.has_failed old) → new ≡ old) → IsOfCall why → written []
       → (let r : Result ℕ Fault = Err (fault.Store why) in IsServed settings (request.Question q) old new written r)
   question_unanswered why ran marked noted failed call nothing = record {
+    commands = [];
+    are = refl;
+    chosen = λ clean s shown. inl refl;
     replies = [];
     stopped = Some why;
     ran = ran;
@@ -223,7 +242,7 @@ module _ {S : Type 0} {g : Ghosts S} (settings : Settings) (q : Question) (old n
   }
 
   -- and its fault goes on as the program's
-  pub fault_goes_on : (r : Result ℕ Fault) (why : StoreFault) → IsErrAnd r (λ f. f ≡ fault.Store why) → Ran [] old new [] (Some why)
+  pub fault_goes_on : (r : Result ℕ Fault) (why : StoreFault) → IsErrAnd r (λ f. f ≡ fault.Store why) → Ran 1 [] old new [] (Some why)
       → spool.IsFaultBetween (spool.has_failed old) (spool.has_failed new) why → (IsTrue (spool.has_failed old) → new ≡ old) → written []
       → IsServed settings (request.Question q) old new written r
   fault_goes_on r why told ran marked failed nothing =

@@ -1,8 +1,8 @@
 -- Lines that are served one after the other are one run of the commands of their requests.
-use Rattle.std.proofs.Common.{◌≡◌, ◌≤◌, ◌∙◌, ◌++◌, ◌∷◌, inl, inr, ℕ, Bool, true, false, true≢false, List, [], length, drop, take, Option, Some, None, Result, Ok, Err, IfErr, OnErr, ap, append-nil, arith, refl, subst, sym}
+use Rattle.std.proofs.Common.{◌≡◌, ◌⊎◌, ◌≤◌, ◌+◌, ◌∙◌, ◌++◌, ◌∷◌, inl, inr, ℕ, Bool, true, false, true≢false, List, [], length, drop, take, Option, Some, None, Result, Ok, Err, IfErr, OnErr, ap, append-nil, arith, refl, subst, sym}
 use Rattle.std.specs.Prelude.{IsTrue}
 use Rattle.std.proofs.lemmas.List.{drop_all, length-append, take_all}
-use Rattle.std.proofs.Math.Seq.{drop-append_seam}
+use Rattle.std.proofs.Math.Seq.{drop-append_seam, take-nil}
 use Rattle.sqlite.specs.Tree.{Trees}
 use Rattle.sqlite.specs.Effect.{Database}
 use Rattle.sqlite.specs.Store.{Ghosts}
@@ -12,22 +12,22 @@ use Rattle.uu_core.specs.Run.{replies_to, state_after}
 use Rattle.uu_core.specs.declared.command.Command.{Command}
 use Rattle.uu_core.specs.declared.command.Reply.{Reply}
 use Rattle.uu_schema.specs.declared.fault.StoreFault.{StoreFault}
-use Rattle.uu_schema.specs.Encoded.{Leaves}
+use Rattle.uu_schema.specs.Encoded.{Leaves, LeavesEither}
 use Rattle.uu_store.specs.Runs.{Ran, GoesOn}
 use Rattle.uu_store.specs.Spool.{Shows, disk, has_failed}
 use Rattle.uu_store.specs.declared.spool.Spool.{Spool}
 use Rattle.uu_settings.specs.declared.settings.Settings.{Settings}
 use Rattle.uu_request.specs.declared.request.Request.{Request}
-use Rattle.uu_request.specs.declared.request.Request.TheVariants.{Commands, Question}
+use Rattle.uu_request.specs.declared.request.Request.TheVariants.{Commands, Question, Settling, Unpacking}
 use Rattle.uuspool.proofs.ServedLemmas.{printed_as}
-use Rattle.uuspool.specs.Served.{Ask, EndsAs, IsBrokenOff, IsEvery, IsFaultOf, IsOutput, IsPrinted, IsServed, answered_text, commands_of}
-use Rattle.uuspool.specs.ServedLines.{Line, AllGoOn, AreLeft, AreServed, goes_on, IsTold, IsToldAs, IsUnasked, AreTold, IsOneRun, commands_in, left_fault}
+use Rattle.uuspool.specs.Served.{AreCommandsOf, Ask, EndsAs, IsBrokenOff, IsEvery, IsFaultOf, IsOutput, IsPrinted, IsServed, answered_text, in_hand}
+use Rattle.uuspool.specs.ServedLines.{Asked, Line, AllGoOn, AreLeft, AreServed, goes_on, IsTold, IsToldAs, IsUnasked, AreTold, IsOneRun, commands_in, in_hand_of, last_in_hand, left_fault}
 use Rattle.uuspool.specs.declared.fault.Fault.{Fault}
 use Rattle.uuspool.specs.declared.fault.Fault.TheVariants as fault
 
 -- ---- lines that are left
 
-abbrev nones : List Line → List (Option Request)
+abbrev nones : List Line → List (Option Asked)
 nones [] = []
 nones (line ∷ lines) = None ∷ nones lines
 
@@ -40,6 +40,42 @@ left_are_told settings s [] left = refl
 left_are_told settings s (line ∷ lines) (nothing, is, rest) =
     (record { nothing = nothing; why = left_fault; is = is; told = inr refl }, left_are_told settings s lines rest)
 
+-- ---- how many commands may be in hand
+
+-- lines that are left have none
+nones_have_none_in_hand : (n : ℕ) (lines : List Line) → last_in_hand n (nones lines) ≡ n
+nones_have_none_in_hand n [] = refl
+nones_have_none_in_hand n (line ∷ lines) = nones_have_none_in_hand n lines
+
+-- all replies are to commands
+within_commands : (in_hand : ℕ) (replies : List Reply) (commands : List Command) → (length replies ≡ length commands) ⊎ (length replies + in_hand ≤ length commands)
+    → length replies ≤ length commands
+within_commands in_hand replies commands (inl same) = omega (arith, same)
+within_commands in_hand replies commands (inr less) = omega (arith, less)
+
+module _ {S : Type 0} {g : Ghosts S} (one other : ℕ) where
+  -- a run of no command may have any number of commands in hand
+  ran_of_none : (old new : Spool S g) (replies : List Reply) (stopped : Option StoreFault) → Ran one [] old new replies stopped → Ran other [] old new replies stopped
+  ran_of_none old new replies stopped ran = record {
+    within = let none = within_commands one replies [] ran.within in inl (omega (arith, none));
+    from = λ clean s shown. let from = ran.from clean s shown in record {
+      answers = from.answers;
+      shows = from.shows;
+      stop = from.stop;
+      stop_store =
+          subst (λ commands. LeavesEither (disk new) (state_after s (take (length replies) [])) (state_after s commands))
+          (take-nil (length replies + one) ∙ sym (take-nil (length replies + other))) from.stop_store;
+    };
+    clean = ran.clean;
+  }
+
+  -- and so may one of lines that came to no request
+  ran_with : (asked : List (Option Asked)) (old new : Spool S g) (replies : List Reply) (stopped : Option StoreFault)
+      → Ran (last_in_hand one asked) (commands_in asked) old new replies stopped → Ran (last_in_hand other asked) (commands_in asked) old new replies stopped
+  ran_with [] old new replies stopped ran = ran_of_none old new replies stopped ran
+  ran_with (None ∷ asked) old new replies stopped ran = ran_with asked old new replies stopped ran
+  ran_with (Some it ∷ asked) old new replies stopped ran = ran
+
 -- ---- one line
 
 -- nothing stopped a request that ended with a status
@@ -48,14 +84,16 @@ not_stopped : (stopped : Option StoreFault) (output : List ℕ) (written : List 
 not_stopped None output written r status same broken = refl
 not_stopped (Some why) output written r status same broken = absurd (subst (IsBrokenOff why output written) same (broken why refl))
 
--- where nothing stopped it, each of its commands was answered
-all_answered : (failed : Bool) (request : Request) (replies : List Reply) (stopped : Option StoreFault) → IsEvery failed request replies stopped → stopped ≡ None
-    → length replies ≡ length (commands_of request)
-all_answered failed (Commands list) replies stopped every none = (every.0 none).1
-all_answered failed (Question question) replies stopped every none = ap length every
+-- if nothing stopped it, each of its commands was answered
+all_answered : (failed : Bool) (request : Request) (commands : List Command) (replies : List Reply) (stopped : Option StoreFault) → AreCommandsOf request commands
+    → IsEvery failed request commands replies stopped → stopped ≡ None → length replies ≡ length commands
+all_answered failed (Commands list) commands replies stopped are every none = (every.0 none).1
+all_answered failed (Question question) commands replies stopped are every none = ap length every ∙ sym (ap length are)
+all_answered failed (Settling it) commands replies stopped are every none = every none
+all_answered failed (Unpacking it) commands replies stopped are every none = (every.0 none).1
 
 module _ (settings : Settings) (s : State) (request : Request) (replies : List Reply) (output : List ℕ) where
-  -- of a request of which all was answered, and of one that was broken off
+  -- for a request that was answered whole, and for one that was broken off
   told_printed : (r : Result ℕ Fault) → IsPrinted (λ o status. IsOutput settings s request o status) (λ o. output ≡ o) r → IsTold settings s request replies output r
   told_printed (Ok status) (o, is, same) = subst (λ o. IsOutput settings s request o status) (sym same) is
   told_printed (Err fault.Write) (whole, status, is, cut) = inl (whole, status, is, cut)
@@ -68,6 +106,7 @@ module _ (settings : Settings) (s : State) (request : Request) (replies : List R
   told_printed (Err fault.TwoSystems) none = none
   told_printed (Err fault.Input) none = none
   told_printed (Err fault.Read) none = none
+  told_printed (Err (fault.Bundle why)) none = none
 
   told_broken : (why : StoreFault) (r : Result ℕ Fault) → IsBrokenOff why (answered_text request replies) (λ o. output ≡ o) r → IsTold settings s request replies output r
   told_broken why (Ok status) none = absurd none
@@ -81,6 +120,7 @@ module _ (settings : Settings) (s : State) (request : Request) (replies : List R
   told_broken why (Err fault.TwoSystems) none = none
   told_broken why (Err fault.Input) none = none
   told_broken why (Err fault.Read) none = none
+  told_broken why (Err (fault.Bundle is)) none = none
 
   told_by : (stopped : Option StoreFault) (r : Result ℕ Fault)
       → (stopped ≡ None → IsPrinted (λ o status. IsOutput settings s request o status) (λ o. output ≡ o) r)
@@ -103,16 +143,29 @@ module _ {S : Type 0} {g : Ghosts S} (settings : Settings) (s : State) (line : L
       it.broken_off
 
   -- the line was done: its replies come first
-  told_done : (replies : List Reply) (status : ℕ) → line.result ≡ Ok status → IsToldAs settings s replies line request
-  told_done replies status done = record {
+  told_done : (replies : List Reply) (status : ℕ) → line.result ≡ Ok status → length it.commands ≤ length replies
+      → IsToldAs settings s replies line (record { request = request; commands = it.commands })
+  told_done replies status done enough = record {
+    good = shown.encodes.holds.good;
     asks = asks;
+    are = it.are;
+    chosen = it.chosen clean s shown;
+    every = λ on. enough;
     told = subst (IsTold settings s request replies line.output) (sym done) (subst (IsTold settings s request it.replies line.output) done told_so);
-    answers = subst (λ r. OnErr r (replies ≡ replies_to s (take (length replies) (commands_of request)))) (sym done) tt;
+    answers = subst (λ r. OnErr r (replies ≡ replies_to s (take (length replies) it.commands))) (sym done) tt;
   }
 
   -- the line was the last that was served: all replies that are left are its own
-  told_last : IsToldAs settings s it.replies line request
-  told_last = record { asks = asks; told = told_so; answers = on_err line.result _ (it.ran.from clean s shown).answers }
+  told_last : goes_on line.result ≡ false → IsToldAs settings s it.replies line (record { request = request; commands = it.commands })
+  told_last stops = record {
+    good = shown.encodes.holds.good;
+    asks = asks;
+    are = it.are;
+    chosen = it.chosen clean s shown;
+    every = λ on. absurd (true≢false (sym on ∙ stops));
+    told = told_so;
+    answers = on_err line.result _ (it.ran.from clean s shown).answers;
+  }
 
 unasked : (settings : Settings) (line : Line) (why : Fault) → line.result ≡ Err why → line.output ≡ [] → IfErr line.result (IsFaultOf settings line.words line.now line.input)
     → IsUnasked settings line
@@ -123,15 +176,15 @@ unasked settings line why same nothing told = record {
   told = inl (subst (λ r. IfErr r (IsFaultOf settings line.words line.now line.input)) same told);
 }
 
--- the replies behind those to these commands
+-- the replies after those to these commands
 behind : (first second : List Reply) (commands : List Command) → length first ≡ length commands → drop (length commands) (first ++ second) ≡ second
 behind first second commands same = subst (λ n. drop n (first ++ second) ≡ second) same (drop-append_seam first second)
 
 -- ---- many lines
 
 abbrev pub Joins : (S : Type 0) → Ghosts S → Type 0
-Joins S g = (old mid new : Spool S g) (one other : List Command) (first second : List Reply) (was stopped : Option StoreFault)
-    → length first ≡ length one → GoesOn was → Ran one old mid first was → Ran other mid new second stopped → Ran (one ++ other) old new (first ++ second) stopped
+Joins S g = (first_hand in_hand : ℕ) (old mid new : Spool S g) (one other : List Command) (first second : List Reply) (was stopped : Option StoreFault)
+    → length first ≡ length one → GoesOn was → Ran first_hand one old mid first was → Ran in_hand other mid new second stopped → Ran in_hand (one ++ other) old new (first ++ second) stopped
 
 abbrev pub Settles : (S : Type 0) → Ghosts S → Type 0
 Settles S g = (spool : Spool S g) (trees : Trees) → IsTrue (disk spool).is_open → (disk spool).may_leave trees → trees ≡ (disk spool).committed.trees
@@ -142,9 +195,9 @@ module _ {S : Type 0} {g : Ghosts S} (settles : Settles S g) where
       let is : trees ≡ (disk spool).now.trees = settles spool trees shown.rests.is_open may ∙ sym (ap (λ (d : Database). d.trees) shown.rests.settled) in
       rw is (shown.encodes.stands.sound, shown.encodes.holds)
 
-  pub ran_nothing : (spool : Spool S g) → Ran [] spool spool [] None
+  pub ran_nothing : (spool : Spool S g) → Ran 1 [] spool spool [] None
   ran_nothing spool = record {
-    within = omega arith;
+    within = inl refl;
     from = λ clean s shown.
         let stop = leaves_shown spool s shown in
         record { answers = refl; shows = λ on. shown; stop = λ on. stop; stop_store = λ trees may. (let it = stop trees may in (it.0, inl it.1)) };
@@ -153,8 +206,8 @@ module _ {S : Type 0} {g : Ghosts S} (settles : Settles S g) where
 
 module _ {S : Type 0} {g : Ghosts S} (joins : Joins S g) (settles : Settles S g) (settings : Settings) where
   -- the run has its own commands, replies and end, from which the rest follows
-  one_run_of : (lines : List Line) (old new : Spool S g) (asked : List (Option Request)) (replies : List Reply) (stopped : Option StoreFault)
-      → Ran (commands_in asked) old new replies stopped
+  one_run_of : (lines : List Line) (old new : Spool S g) (asked : List (Option Asked)) (replies : List Reply) (stopped : Option StoreFault)
+      → Ran (in_hand_of asked) (commands_in asked) old new replies stopped
       → (db.HasCleanDisk (disk new) → (s : State) → Shows old s → AreTold settings s replies lines asked)
       → (stopped ≡ None → length replies ≡ length (commands_in asked)) → (AllGoOn lines → stopped ≡ None)
       → IsOneRun settings lines old new
@@ -177,33 +230,40 @@ module _ {S : Type 0} {g : Ghosts S} (joins : Joins S g) (settles : Settles S g)
     done_then : (request : Request) (status : ℕ) → line.result ≡ Ok status → Ask settings line.words line.now line.input (Ok request)
         → IsServed settings request old mid (λ output. line.output ≡ output) line.result → IsOneRun settings lines mid new → IsOneRun settings (line ∷ lines) old new
     done_then request status same asks it rest =
-        one_run_of (line ∷ lines) old new (Some request ∷ rest.asked) (it.replies ++ rest.replies) rest.stopped
-        (joins old mid new (commands_of request) (commands_in rest.asked) it.replies rest.replies it.stopped rest.stopped answered (subst GoesOn (sym none) tt) it.ran rest.ran)
+        one_run_of (line ∷ lines) old new (Some here ∷ rest.asked) (it.replies ++ rest.replies) rest.stopped
+        (joins (in_hand request) (last_in_hand (in_hand request) rest.asked) old mid new it.commands (commands_in rest.asked) it.replies rest.replies it.stopped rest.stopped
+        answered (subst GoesOn (sym none) tt) it.ran (ran_with 1 (in_hand request) rest.asked mid new rest.replies rest.stopped rest.ran))
         told every (λ all. rest.went_on all.1)
       where
+        here : Asked
+        here = record { request = request; commands = it.commands }
+
         none : it.stopped ≡ None
         none = not_stopped it.stopped (answered_text request it.replies) (λ output. line.output ≡ output) line.result status same it.broken_off
 
-        answered : length it.replies ≡ length (commands_of request)
-        answered = all_answered (has_failed old) request it.replies it.stopped it.every none
+        answered : length it.replies ≡ length it.commands
+        answered = all_answered (has_failed old) request it.commands it.replies it.stopped it.are it.every none
 
-        told : db.HasCleanDisk (disk new) → (s : State) → Shows old s → AreTold settings s (it.replies ++ rest.replies) (line ∷ lines) (Some request ∷ rest.asked)
+        enough : length it.commands ≤ length (it.replies ++ rest.replies)
+        enough = omega (arith, answered, length-append it.replies rest.replies)
+
+        told : db.HasCleanDisk (disk new) → (s : State) → Shows old s → AreTold settings s (it.replies ++ rest.replies) (line ∷ lines) (Some here ∷ rest.asked)
         told clean s shown =
             let early : db.HasCleanDisk (disk mid) = omega (arith, rest.ran.clean, clean) in (
-              told_done settings s line request old mid asks it early shown (it.replies ++ rest.replies) status same,
-              subst (λ replies. AreTold settings (state_after s (commands_of request)) replies lines rest.asked) (sym (behind it.replies rest.replies (commands_of request) answered))
-                  (rest.told clean (state_after s (commands_of request)) (it.shows none early s shown)),
+              told_done settings s line request old mid asks it early shown (it.replies ++ rest.replies) status same enough,
+              subst (λ replies. AreTold settings (state_after s it.commands) replies lines rest.asked) (sym (behind it.replies rest.replies it.commands answered))
+                  (rest.told clean (state_after s it.commands) (it.shows none early s shown)),
             )
 
-        every : rest.stopped ≡ None → length (it.replies ++ rest.replies) ≡ length (commands_of request ++ commands_in rest.asked)
+        every : rest.stopped ≡ None → length (it.replies ++ rest.replies) ≡ length (it.commands ++ commands_in rest.asked)
         every on =
-            omega (arith, answered, rest.every on, length-append it.replies rest.replies, length-append (commands_of request) (commands_in rest.asked))
+            omega (arith, answered, rest.every on, length-append it.replies rest.replies, length-append it.commands (commands_in rest.asked))
 
     -- the line came to no request, and others were served after it
     unasked_then : IsUnasked settings line → mid ≡ old → IsOneRun settings lines mid new → IsOneRun settings (line ∷ lines) old new
     unasked_then none same rest =
         one_run_of (line ∷ lines) old new (None ∷ rest.asked) rest.replies rest.stopped
-        (subst (λ (m : Spool S g). Ran (commands_in rest.asked) m new rest.replies rest.stopped) same rest.ran)
+        (subst (λ (m : Spool S g). Ran (in_hand_of rest.asked) (commands_in rest.asked) m new rest.replies rest.stopped) same rest.ran)
         (λ clean s shown. (none, rest.told clean s (subst (λ (m : Spool S g). Shows m s) (sym same) shown)))
         rest.every (λ all. rest.went_on all.1)
 
@@ -211,29 +271,35 @@ module _ {S : Type 0} {g : Ghosts S} (joins : Joins S g) (settles : Settles S g)
     done_last : (request : Request) → goes_on line.result ≡ false → Ask settings line.words line.now line.input (Ok request)
         → IsServed settings request old mid (λ output. line.output ≡ output) line.result → AreLeft lines → new ≡ mid → IsOneRun settings (line ∷ lines) old new
     done_last request stops asks it left same =
-        one_run_of (line ∷ lines) old new (Some request ∷ nones lines) it.replies it.stopped
-        (subst (λ commands. Ran commands old new it.replies it.stopped) (sym alone) (subst (λ (n : Spool S g). Ran (commands_of request) old n it.replies it.stopped) (sym same) it.ran))
+        one_run_of (line ∷ lines) old new (Some here ∷ nones lines) it.replies it.stopped
+        (subst (λ hand. Ran hand (commands_in (Some here ∷ nones lines)) old new it.replies it.stopped) (sym (nones_have_none_in_hand (in_hand request) lines))
+        (subst (λ commands. Ran (in_hand request) commands old new it.replies it.stopped) (sym alone)
+        (subst (λ (n : Spool S g). Ran (in_hand request) it.commands old n it.replies it.stopped) (sym same) it.ran)))
         (λ clean s shown. (
-          told_last settings s line request old mid asks it (subst (λ (n : Spool S g). db.HasCleanDisk (disk n)) same clean) shown,
-          subst (λ replies. AreTold settings (state_after s (commands_of request)) replies lines (nones lines)) (sym (drop_all (length (commands_of request)) it.replies it.ran.within))
-              (left_are_told settings (state_after s (commands_of request)) lines left),
+          told_last settings s line request old mid asks it (subst (λ (n : Spool S g). db.HasCleanDisk (disk n)) same clean) shown stops,
+          subst (λ replies. AreTold settings (state_after s it.commands) replies lines (nones lines)) (sym (drop_all (length it.commands) it.replies (within_commands (in_hand request) it.replies it.commands it.ran.within)))
+              (left_are_told settings (state_after s it.commands) lines left),
         ))
-        (λ none. all_answered (has_failed old) request it.replies it.stopped it.every none ∙ ap length (sym alone))
+        (λ none. all_answered (has_failed old) request it.commands it.replies it.stopped it.are it.every none ∙ ap length (sym alone))
         (λ all. absurd (true≢false (sym all.0 ∙ stops)))
       where
-        alone : commands_in (Some request ∷ nones lines) ≡ commands_of request
-        alone = ap (λ rest. commands_of request ++ rest) (nones_ask_nothing lines) ∙ append-nil (commands_of request)
+        here : Asked
+        here = record { request = request; commands = it.commands }
+
+        alone : commands_in (Some here ∷ nones lines) ≡ it.commands
+        alone = ap (λ rest. it.commands ++ rest) (nones_ask_nothing lines) ∙ append-nil it.commands
 
     -- the line came to no request, and the others were left
     unasked_last : IsUnasked settings line → mid ≡ old → AreLeft lines → new ≡ mid → IsOneRun settings (line ∷ lines) old new
     unasked_last none same left still =
         one_run_of (line ∷ lines) old new (None ∷ nones lines) [] None
-        (subst (λ commands. Ran commands old new [] None) (sym (nones_ask_nothing lines))
-        (subst (λ (n : Spool S g). Ran [] old n [] None) (sym (still ∙ same)) (ran_nothing settles old)))
+        (subst (λ hand. Ran hand (commands_in (nones lines)) old new [] None) (sym (nones_have_none_in_hand 1 lines))
+        (subst (λ commands. Ran 1 commands old new [] None) (sym (nones_ask_nothing lines))
+        (subst (λ (n : Spool S g). Ran 1 [] old n [] None) (sym (still ∙ same)) (ran_nothing settles old))))
         (λ clean s shown. (none, left_are_told settings s lines left))
         (λ all. ap length (sym (nones_ask_nothing lines))) (λ on. refl)
 
-    -- the line has a fault that comes before the spool is asked
+    -- the line has a fault that comes before any call of the spool
     early : (why : Fault) → line.result ≡ Err why → mid ≡ old → line.output ≡ [] → IfErr line.result (IsFaultOf settings line.words line.now line.input)
         → IsOneRun settings lines mid new → IsOneRun settings (line ∷ lines) old new
     early why same kept nothing told rest = unasked_then (unasked settings line why same nothing told) kept rest
@@ -257,10 +323,11 @@ module _ {S : Type 0} {g : Ghosts S} (joins : Joins S g) (settles : Settles S g)
     one_more (Err fault.TwoSystems) same (kept, nothing) told on off = early fault.TwoSystems same kept nothing told (on refl)
     one_more (Err fault.Input) same (kept, nothing) told on off = early fault.Input same kept nothing told (on refl)
     one_more (Err fault.Read) same (kept, nothing) told on off = early fault.Read same kept nothing told (on refl)
+    one_more (Err (fault.Bundle why)) same (kept, nothing) told on off = early (fault.Bundle why) same kept nothing told (on refl)
 
   -- lines that are served one after the other are one run
   pub one_run : (lines : List Line) (old new : Spool S g) → AreServed settings lines old new → IsOneRun settings lines old new
   one_run [] old new same =
-      one_run_of [] old new [] [] None (subst (λ (n : Spool S g). Ran [] old n [] None) (sym same) (ran_nothing settles old)) (λ clean s shown. refl) (λ all. refl) (λ on. refl)
+      one_run_of [] old new [] [] None (subst (λ (n : Spool S g). Ran 1 [] old n [] None) (sym same) (ran_nothing settles old)) (λ clean s shown. refl) (λ all. refl) (λ on. refl)
   one_run (line ∷ lines) old new (mid, serves, on, off) =
       one_more line lines old mid new line.result refl serves.ends serves.told (λ goes. one_run lines mid new (on goes)) off

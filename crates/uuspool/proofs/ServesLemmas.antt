@@ -7,7 +7,7 @@ use Rattle.uu_times.specs.declared.moment.Moment.{Moment}
 use Rattle.uu_line.specs.Lines.{MeansLine}
 use Rattle.uu_line.specs.declared.line.CommandLine.{CommandLine}
 use Rattle.uu_settings.specs.declared.settings.Settings.{Settings}
-use Rattle.uu_request.specs.Requests.{request_of}
+use Rattle.uu_request.specs.Requests.{Asks}
 use Rattle.uu_request.specs.declared.request.Request.{Request}
 use Rattle.uu_store.specs.declared.spool.Spool.{Spool}
 use Rattle.uuspool.proofs.AskLemmas.{ends_as, words_ask}
@@ -26,6 +26,9 @@ one_text (Some bytes) (Some more) one other known first second = append_cancel_l
 served_as : {S : Type 0} {g : Ghosts S} (settings : Settings) (request : Request) (old new : Spool S g) (written other : List ℕ → Type 0) (r : Result ℕ Fault)
     → ((output : List ℕ) → written output → other output) → IsServed settings request old new written r → IsServed settings request old new other r
 served_as settings request old new written other r over it = record {
+  commands = it.commands;
+  are = it.are;
+  chosen = it.chosen;
   replies = it.replies;
   stopped = it.stopped;
   ran = it.ran;
@@ -43,10 +46,10 @@ served_as settings request old new written other r over it = record {
 pub words_end : {S : Type 0} {g : Ghosts S} (settings : Settings) (line : CommandLine) (at : Moment) (input : List ℕ) (words : List (List ℕ)) (now : ℕ)
     → MeansLine words line → IsMomentOf settings (second_of line now) at
     → (old new : Spool S g) (written : List ℕ → Type 0) (Unchanged : Type 0) (r : Result ℕ Fault)
-    → EndsAs r ((request : Request) × (request_of settings at input line ≡ Ok request) × IsServed settings request old new written r) Unchanged
+    → EndsAs r ((request : Request) × Asks settings at input line (Ok request) × IsServed settings request old new written r) Unchanged
     → EndsAs r ((request : Request) × Ask settings words now input (Ok request) × IsServed settings request old new written r) Unchanged
 words_end settings line at input words now means moment old new written Unchanged r =
-    ends_as r ((request : Request) × (request_of settings at input line ≡ Ok request) × IsServed settings request old new written r) Unchanged
+    ends_as r ((request : Request) × Asks settings at input line (Ok request) × IsServed settings request old new written r) Unchanged
     ((request : Request) × Ask settings words now input (Ok request) × IsServed settings request old new written r) Unchanged
     (λ served. (served.0, words_ask settings line at input words now means moment (Ok served.0) served.1, served.2)) (λ kept. kept)
 

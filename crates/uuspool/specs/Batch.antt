@@ -17,7 +17,7 @@ use Rattle.uuspool.specs.declared.fault.Fault.TheVariants as fault
 
 -- ---- a request and its answer
 
--- the line of a request, with what came of it
+-- the line of a request, with its result
 abbrev pub line_with : List (List ℕ) → ℕ → List ℕ → List ℕ → Result ℕ Fault → Line
 line_with words now input output result = record { words = words; now = now; input = input; output = output; result = result }
 
@@ -29,12 +29,12 @@ IsRequestLine line = IsHead (length line.input) line.words × (length line.input
 abbrev pub frame_of : Line → List ℕ
 frame_of line = request_frame line.words line.input
 
--- the status of the program at an end
+-- the program's status at an end
 abbrev pub end_status : Result ℕ Fault → ℕ
 end_status (Ok status) = status
 end_status (Err why) = status_of why
 
--- what the program prints at an end on standard output, behind what it printed before
+-- what the program prints at an end on standard output, after what it printed before
 abbrev pub end_output : Result ℕ Fault → List ℕ
 end_output (Ok status) = []
 end_output (Err why) = output_of_fault why
@@ -44,8 +44,8 @@ abbrev pub end_errors : Result ℕ Fault → List ℕ
 end_errors (Ok status) = []
 end_errors (Err why) = errors_of_fault why
 
--- the frame that tells of an output and an end: the program's status, and what it would have
--- printed on standard output and on standard error
+-- the frame for an output and an end: the program's status, and what it would have printed on
+-- standard output and on standard error
 abbrev pub told_frame : List ℕ → Result ℕ Fault → List ℕ
 told_frame output end = answer_frame (end_status end) (output ++ end_output end) (end_errors end)
 
@@ -58,10 +58,10 @@ answer_of line = told_frame line.output line.result
 abbrev pub no_request : List ℕ
 no_request = named (codes "no request")
 
--- The faults of a stream that can't be followed, with their causes in the bytes that were left of
--- it, and that are at last, where these are known: no request is next, or the line of one whose
--- input is too large. Bytes may be unreadable or end, within the next line or behind that of a
--- request within the limit; there the clock may be unreadable, too. Memory may be short.
+-- The faults of a stream that can't be followed. Their causes are in the bytes that were left of it
+-- before and after, if these are known: no request is next, or the input of the next one is too
+-- large. Bytes may be unreadable or end, within the next line or after that of a request within the
+-- limit. There the clock may be unreadable, too. Memory may run out.
 abbrev pub IsOfStream : Option (List ℕ) → Option (List ℕ) → Fault → Type 0
 IsOfStream left rest (fault.Words text help) = (string_bytes text ≡ no_request) × (help ≡ false) × IfSome left BeginsWithNoRequest
 IsOfStream left rest fault.Input = IfSome left (BeginsWithTooMuch most_text)
@@ -69,29 +69,29 @@ IsOfStream left rest fault.Read = IsWithinLine left rest ⊎ IfSome left (Begins
 IsOfStream left rest fault.Memory = ⊤
 IsOfStream left rest _ = ⊥
 
--- the answer that tells of such a fault
+-- the answer for such a fault
 abbrev pub fault_answer : Fault → List ℕ
 fault_answer why = told_frame [] (Err why)
 
 -- ---- one request
 
--- The line was served at the second that the clock told, or it was left, since a line before it
--- does not go on.
+-- The line was served at the second that the clock gave, or it was left, because a line before it
+-- doesn't go on.
 pub record IsNext {S : Type 0} {g : Ghosts S} {C : Type 0} (settings : Settings) (Tells : C → ℕ → C → Type 0) (failed : Bool) (clock later : C) (old new : Spool S g) (line : Line) : Type 0 where
   pub request : IsRequestLine line
   pub told : Tells clock line.now later
   pub served : failed ≡ false → Serves settings line old new
   pub left : failed ≡ true → (line.output ≡ []) × (line.result ≡ Err left_fault) × (new ≡ old)
 
--- how a stream of which these bytes are left ends with a status: they are none, or have a fault,
--- whose answer is written at last
+-- how a stream with these bytes left ends with a status: none are left, or they have a fault, whose
+-- answer is written last
 abbrev pub EndsWith : Option (List ℕ) → Option (List ℕ) → (Writes : List ℕ → Type 0) → ℕ → Type 0
 EndsWith left rest Writes status =
     ((status ≡ 0) × IsAtEnd left × Writes [])
     ⊎ ((why : Fault) × IsOfStream left rest why × (status ≡ status_of why) × Writes (fault_answer why))
 
--- The telling of an answer failed: a beginning of it was written, perhaps all of it, and where
--- memory ran out nothing.
+-- The writing of an answer failed: a beginning of it was written, perhaps all of it, or, if memory
+-- ran out, nothing.
 abbrev pub IsUntold : List ℕ → (Writes : List ℕ → Type 0) → Fault → Type 0
 IsUntold answer Writes fault.Write = IsBegun answer Writes
 IsUntold answer Writes fault.Memory = Writes []
@@ -103,19 +103,19 @@ IsUntold answer Writes _ = ⊥
 abbrev pub most_requests : ℕ
 most_requests = 2 ^ 64 - 1
 
--- How a batch breaks off: all lines but the last were answered, and the telling of that one's
--- answer failed, or all were, and the telling of the answer to a fault of the stream failed. What
--- was written is the answers of lines and then a text.
+-- How a batch breaks off: all lines except the last were answered, and writing its answer failed;
+-- or all were, and writing the answer to a fault of the stream failed. What was written is the
+-- answers of lines and then a text.
 abbrev pub BreaksOff : List Line → Option (List ℕ) → Option (List ℕ) → (Writes : List Line → List ℕ → Type 0) → Fault → Type 0
 BreaksOff lines left rest Writes why =
     ((front : List Line) × (last : Line) × (lines ≡ front ++ last ∷ []) × IsUntold (answer_of last) (Writes front) why)
     ⊎ ((cause : Fault) × IsOfStream left rest cause × IsUntold (fault_answer cause) (Writes lines) why)
 
--- The lines of the requests were served one after the other, the clock asked for each. Where the
--- batch ends with a status, the answers are theirs, in their order, and what is left of the stream
--- is nothing or has a fault, which is answered at last. Where an answer could not be made or
--- written, the batch breaks off there: those before it were written, and a beginning of it. A batch
--- has at most 2^64 - 1 lines, and ends with a fault once these are answered, too.
+-- The lines of the requests were served one after the other, with the clock read for each. If the
+-- batch ends with a status, the answers are theirs, in their order; nothing is left of the stream,
+-- or it has a fault, which is answered last. If an answer could not be made or written, the batch
+-- breaks off there: those before it were written, and a beginning of it. A batch has at most 2^64 -
+-- 1 lines. Once these are answered, it ends with a fault.
 pub record IsBatch {S : Type 0} {g : Ghosts S} {C : Type 0} (settings : Settings) (Tells : C → ℕ → C → Type 0) (clock : C) (old new : Spool S g) (input_before input_after output_before output_after : Option (List ℕ)) (result : Result ℕ Fault) : Type 0 where
   pub lines : List Line
   pub served : AreServed settings lines old new

@@ -4,7 +4,7 @@ use Rattle.std.specs.Prelude.{◌≡◌, ℕ, ◌<◌, ◌≤◌, List, Option, 
 use Rattle.std.specs.Io.KnownBytes.{Consumes}
 use Rattle.uu_names.specs.Text.{most_text}
 
--- `bytes` is all that the reader had left, where that is known, and within the limit
+-- if the bytes that the reader had left are known, `bytes` is all of them, and within the limit
 abbrev pub IsWholeInput : Option (List ℕ) → List ℕ → Type 0
 IsWholeInput left bytes = IfSome left (λ all. bytes ≡ all) × (length bytes ≤ most_text)
 

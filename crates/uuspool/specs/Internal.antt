@@ -1,2 +1,5 @@
--- Mirrors of the code, which the clauses within the crate cite and no public clause does.
+-- Mirrors of the code, which only clauses within the crate cite.
+pub mod Asked
 pub mod BatchSteps
+pub mod Choice
+pub mod Keys

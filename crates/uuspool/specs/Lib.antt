@@ -1,6 +1,7 @@
 pub mod Faults
 pub mod Input
 pub mod Lines
+pub mod Bundles
 pub mod Answers
 pub mod Served
 pub mod ServedLines

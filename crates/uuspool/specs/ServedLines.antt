@@ -1,10 +1,10 @@
--- Lines that are served one after the other over one spool, and what the plain machine tells of
+-- Lines that are served one after the other over one spool, and what the plain machine says about
 -- them. All of it is this project's choice.
-use Rattle.std.specs.Prelude.{◌≡◌, ◌⊎◌, ◌++◌, ◌∷◌, ℕ, Bool, true, false, List, [], length, take, drop, Option, Some, None, Result, Ok, Err, IfErr, OnErr, ⊤}
+use Rattle.std.specs.Prelude.{◌≡◌, ◌⊎◌, ◌≤◌, ◌++◌, ◌∷◌, ℕ, Bool, true, false, List, [], length, take, drop, Option, Some, None, Result, Ok, Err, IfErr, OnErr, ⊤}
 use Rattle.std.specs.List.{AllByRecursion}
 use Rattle.sqlite.specs.Store.{Ghosts}
 use Rattle.sqlite.specs.State.{HasCleanDisk}
-use Rattle.uu_core.specs.State.{State}
+use Rattle.uu_core.specs.State.{State, IsWellFormed}
 use Rattle.uu_core.specs.Run.{state_after, replies_to}
 use Rattle.uu_core.specs.declared.command.Command.{Command}
 use Rattle.uu_core.specs.declared.command.Reply.{Reply}
@@ -16,12 +16,12 @@ use Rattle.uu_store.specs.declared.spool.Spool.{Spool}
 use Rattle.uu_frame.specs.Writing.{IsCut}
 use Rattle.uu_settings.specs.declared.settings.Settings.{Settings}
 use Rattle.uu_request.specs.declared.request.Request.{Request}
-use Rattle.uuspool.specs.Served.{Ask, EndsAs, IsOutput, IsServed, IsFaultOf, answered_text, commands_of}
+use Rattle.uuspool.specs.Served.{AreChosen, AreCommandsOf, Ask, EndsAs, IsOutput, IsServed, IsFaultOf, answered_text, commands_of, in_hand}
 use Rattle.uuspool.specs.declared.fault.Fault.{Fault}
 use Rattle.uuspool.specs.declared.fault.Fault.TheVariants as fault
 
--- a line: its words, the second where they give none, and its input; and what came of it: what was
--- printed, and its status or its fault
+-- a line: its words, the second if they give none, and its input; and its result: what was printed,
+-- and its status or its fault
 pub record Line : Type 0 where
   pub words : List (List ℕ)
   pub now : ℕ
@@ -36,8 +36,8 @@ pub record Serves {S : Type 0} {g : Ghosts S} (settings : Settings) (line : Line
       ((new ≡ old) × (line.output ≡ []))
   pub told : IfErr line.result (IsFaultOf settings line.words line.now line.input)
 
--- The next line is served. It is left where the spool gave a fault, and where memory or the output
--- failed, since the spool may have failed before that.
+-- The next line is served. It is left if the spool gave a fault, and if memory or the output
+-- failed, because the spool may have failed before that.
 abbrev pub goes_on : Result ℕ Fault → Bool
 goes_on (Ok status) = true
 goes_on (Err (fault.Store why)) = false
@@ -49,13 +49,13 @@ goes_on (Err _) = true
 abbrev pub left_fault : Fault
 left_fault = fault.Store store.Failed
 
--- lines that are left: nothing was printed of them but that the spool failed
+-- lines that are left: only that the spool failed was printed for them
 abbrev pub AreLeft : List Line → Type 0
 AreLeft [] = ⊤
 AreLeft (line ∷ lines) = (line.output ≡ []) × (line.result ≡ Err left_fault) × AreLeft lines
 
--- The lines were served one after the other: where a line goes on, those after it were served, and
--- else they are left and touch nothing.
+-- The lines were served one after the other. After a line that goes on the next is served.
+-- Otherwise the rest is left and touches nothing.
 abbrev pub AreServed : {S : Type 0} {g : Ghosts S} → Settings → List Line → Spool S g → Spool S g → Type 0
 AreServed settings [] old new = new ≡ old
 AreServed {S} {g} settings (line ∷ lines) old new =
@@ -63,21 +63,36 @@ AreServed {S} {g} settings (line ∷ lines) old new =
     × (goes_on line.result ≡ true → AreServed settings lines mid new)
     × (goes_on line.result ≡ false → AreLeft lines × (new ≡ mid))
 
--- behind each of the lines the next is served
+-- after each of the lines the next is served
 abbrev pub AllGoOn : List Line → Type 0
 AllGoOn = AllByRecursion (λ line. goes_on line.result ≡ true)
 
--- ---- what the plain machine tells
+-- ---- what the plain machine says
 
--- the commands of the requests that lines came to
-abbrev pub commands_in : List (Option Request) → List Command
+-- what a line asked: its request, and the request's commands
+pub record Asked : Type 0 where
+  pub request : Request
+  pub commands : List Command
+
+-- the commands of the requests of lines
+abbrev pub commands_in : List (Option Asked) → List Command
 commands_in [] = []
 commands_in (None ∷ asked) = commands_in asked
-commands_in (Some request ∷ asked) = commands_of request ++ commands_in asked
+commands_in (Some it ∷ asked) = it.commands ++ commands_in asked
 
--- What is told of a request in a state, by how its line ends: with a status its output; where the
--- store gave a fault, the output of the commands that were answered; where the one or the other
--- could not be written, less of it; and where memory ran out, nothing.
+-- How many commands of the last request of these lines are carried out as one: those may be in hand
+-- if a stop comes. It is this number if they have no request.
+abbrev pub last_in_hand : ℕ → List (Option Asked) → ℕ
+last_in_hand none [] = none
+last_in_hand none (None ∷ asked) = last_in_hand none asked
+last_in_hand none (Some it ∷ asked) = last_in_hand (in_hand it.request) asked
+
+abbrev pub in_hand_of : List (Option Asked) → ℕ
+in_hand_of asked = last_in_hand 1 asked
+
+-- The output of a request in a state, depending on how its line ends. With a status, it is the
+-- request's output. If the store gave a fault, it is that of the commands that were answered. If
+-- either could not be written, it is less of it. If memory ran out, it is empty.
 abbrev pub IsTold : Settings → State → Request → List Reply → List ℕ → Result ℕ Fault → Type 0
 IsTold settings s request replies output (Ok status) = IsOutput settings s request output status
 IsTold settings s request replies output (Err (fault.Store why)) = output ≡ answered_text request replies
@@ -87,41 +102,46 @@ IsTold settings s request replies output (Err fault.Write) =
 IsTold settings s request replies output (Err fault.Memory) = output ≡ []
 IsTold settings s request replies output (Err _) = ⊥
 
--- The line came to this request, and what was told of it is what the machine tells in this state.
--- Where it did not end with a status, it is the last that was served: the replies that are left are
--- those to its commands, and the machine's.
-pub record IsToldAs (settings : Settings) (s : State) (replies : List Reply) (line : Line) (request : Request) : Type 0 where
-  pub asks : Ask settings line.words line.now line.input (Ok request)
-  pub told : IsTold settings s request replies line.output line.result
-  pub answers : OnErr line.result (replies ≡ replies_to s (take (length replies) (commands_of request)))
+-- The line has this request, its commands are those of the request in this state, which is one that
+-- a spool keeps, and its output is what the machine says in this state. If it didn't end with a
+-- status, it is the last line that was served, and the replies that are left are the machine's, to
+-- its commands.
+pub record IsToldAs (settings : Settings) (s : State) (replies : List Reply) (line : Line) (it : Asked) : Type 0 where
+  pub good : IsWellFormed s
+  pub asks : Ask settings line.words line.now line.input (Ok it.request)
+  pub are : AreCommandsOf it.request it.commands
+  pub chosen : AreChosen it.commands (commands_of settings s it.request) line.result
+  pub every : goes_on line.result ≡ true → length it.commands ≤ length replies
+  pub told : IsTold settings s it.request replies line.output line.result
+  pub answers : OnErr line.result (replies ≡ replies_to s (take (length replies) it.commands))
 
--- the line came to no request: nothing was printed, and its fault is that of its words, its moment
--- or its input, or it was left
+-- the line has no request: nothing was printed, and its fault is that of its words, its moment or
+-- its input, or it was left
 pub record IsUnasked (settings : Settings) (line : Line) : Type 0 where
   pub nothing : line.output ≡ []
   pub why : Fault
   pub is : line.result ≡ Err why
   pub told : IsFaultOf settings line.words line.now line.input why ⊎ (why ≡ left_fault)
 
--- What the plain machine tells of the lines from this state on, each in the state that the commands
--- before it left. The replies are those to the lines' commands, one line's after the other's.
-abbrev pub AreTold : Settings → State → List Reply → List Line → List (Option Request) → Type 0
+-- What the plain machine says about the lines from this state on, each in the state that the
+-- commands before it left. The replies are those to the lines' commands, line by line.
+abbrev pub AreTold : Settings → State → List Reply → List Line → List (Option Asked) → Type 0
 AreTold settings s replies [] [] = replies ≡ []
 AreTold settings s replies (line ∷ lines) (None ∷ asked) = IsUnasked settings line × AreTold settings s replies lines asked
-AreTold settings s replies (line ∷ lines) (Some request ∷ asked) =
-    IsToldAs settings s replies line request
-    × AreTold settings (state_after s (commands_of request)) (drop (length (commands_of request)) replies) lines asked
-AreTold settings s replies [] (request ∷ asked) = ⊥
+AreTold settings s replies (line ∷ lines) (Some it ∷ asked) =
+    IsToldAs settings s replies line it
+    × AreTold settings (state_after s it.commands) (drop (length it.commands) replies) lines asked
+AreTold settings s replies [] (it ∷ asked) = ⊥
 AreTold settings s replies (line ∷ lines) [] = ⊥
 
--- The lines are one run of the commands of their requests: what was told of each is what the
--- machine tells, and a stop leaves what the run says. Where the store stopped none of them, every
--- command was answered, and the spool shows the machine's state; so it is where each line goes on.
+-- The lines are one run of the commands of their requests: the output of each is what the machine
+-- says, and a stop leaves what the run says. If the store stopped none of them, every command was
+-- answered, and the spool shows the machine's state. This is so if each line goes on.
 pub record IsOneRun {S : Type 0} {g : Ghosts S} (settings : Settings) (lines : List Line) (old new : Spool S g) : Type 0 where
-  pub asked : List (Option Request)
+  pub asked : List (Option Asked)
   pub replies : List Reply
   pub stopped : Option StoreFault
-  pub ran : Ran (commands_in asked) old new replies stopped
+  pub ran : Ran (in_hand_of asked) (commands_in asked) old new replies stopped
   pub told : HasCleanDisk (spool.disk new) → (s : State) → spool.Shows old s → AreTold settings s replies lines asked
   pub every : stopped ≡ None → length replies ≡ length (commands_in asked)
   pub shows : stopped ≡ None → HasCleanDisk (spool.disk new) → (s : State) → spool.Shows old s → spool.Shows new (state_after s (commands_in asked))

@@ -1,19 +1,20 @@
-//! Questions: what is asked of the spool, and what is printed of its answer.
+//! Questions to the spool, and what is printed for the answer.
 
 ghost use Rattle.std.specs.Prelude.{◌≡◌, ◌≤◌, ◌++◌, ◌∷◌, [], false, IfOk, IsTrue, MatchResult, List, option_copied};
 ghost use Rattle.std.specs.List.{AllByRecursion, flat_map};
 ghost use Rattle.std.specs.Io.KnownBytes.{Appends};
 ghost use Rattle.sqlite.specs.State.{HasCleanDisk};
-ghost use Rattle.uu_core.specs.Definitions.{definitions_of};
+ghost use Rattle.uu_core.specs.Definitions.{definitions_of, picked};
 ghost use Rattle.uu_core.specs.Due.{all_due};
-ghost use Rattle.uu_core.specs.NextCalls.{AreNextCalls};
-ghost use Rattle.uu_core.specs.Plain.{AreByName};
+ghost use Rattle.uu_core.specs.NextCalls.{AreNextCalls, AreNextPolls};
+ghost use Rattle.uu_core.specs.Order.{AreByName};
 ghost use Rattle.uu_core.specs.Queues.{AreQueues};
 ghost use Rattle.uu_core.specs.declared.next_call.NextCall.{NextCall as AnyCall};
+ghost use Rattle.uu_core.specs.declared.next_call.NextPoll.{NextPoll as AnyPoll};
 ghost use Rattle.uu_core.specs.declared.queue.Queue.{Queue as AnyQueue};
 ghost use Rattle.uu_store.specs.HandedOut.{IsBounded};
 ghost use Rattle.uu_questions.specs.Listing.{listed};
-ghost use Rattle.uu_report.specs.Reports.{IsJobLine, IsNextCallsReport, IsQueuesReport, due_text, line_of};
+ghost use Rattle.uu_report.specs.Reports.{IsJobLine, IsNextCallsReport, IsNextPollsReport, IsQueuesReport, due_text, line_of};
 ghost use Rattle.uu_request.specs.declared.request.Question.TheVariants as question;
 ghost use Rattle.uu_request.specs.declared.request.Request.TheVariants as request;
 ghost use Rattle.uu_store.specs.Runs.{Ran, fault_in};
@@ -21,18 +22,21 @@ ghost use Rattle.uu_store.specs.Spool.{IsFaultBetween, Shows, disk, has_failed};
 ghost use Rattle.uu_times.specs.Printed.{sys_text};
 ghost use Rattle.uuspool.specs.Served.{IsServed};
 
+use crate::bundles::{answer, pack};
 use crate::fault::Fault;
 use crate::print::print;
 use sqlite::Alter;
 use std::alloc::{AllocError, Global};
 use std::io::Write;
 use std::mem::drop;
-use uu_core::{Filter, JobHead, SystemRow, all_due, definitions, next_calls, queues};
+use uu_core::{
+    Filter, JobHead, SystemRow, all_due, definitions, next_calls, next_polls, pick_systems, queues,
+};
 use uu_map::{MapFault, read_entry};
 use uu_names::SiteName;
 use uu_report::{
-    due_report, job_line, jobs_report, links_report, next_calls_report, queues_report,
-    status_report,
+    due_report, job_line, jobs_report, links_report, next_calls_report, next_polls_report,
+    queues_report, status_report,
 };
 use uu_request::Question;
 use uu_settings::Settings;
@@ -57,15 +61,18 @@ pub(crate) fn ask<S: Alter, W: Write>(
         Question::Due(at) => due(alloc, at, settings, spool, out),
         Question::AllDue(filter, at) => due_jobs(alloc, filter, at, settings, spool, out),
         Question::NextCalls(filter, at) => when(alloc, filter, at, settings, spool, out),
+        Question::NextPolls(system, at) => polls(alloc, system.as_ref(), at, settings, spool, out),
         Question::Queues(filter) => sum_up(alloc, filter, settings, spool, out),
         Question::Systems => status(alloc, settings, spool, out),
         Question::Definitions(name) => systems(alloc, name.as_ref(), settings, spool, out),
         Question::Entry(host) => neighbours(alloc, host, settings, spool, out),
         Question::Name => name(alloc, settings, spool, out),
+        Question::Pack(packing) => pack(alloc, packing, settings, spool, out),
+        Question::Answer(answering) => answer(alloc, answering, settings, spool, out),
     }
 }
 
-// Prints the report of the jobs that fit.
+// Prints the report of the jobs that match.
 fn list<S: Alter, W: Write>(
     alloc: Global,
     filter: &Filter,
@@ -130,7 +137,7 @@ fn due<S: Alter, W: Write>(
     print(due_report(alloc, &dues), 0, out)
 }
 
-// Prints the report of those of the jobs that fit that may go now.
+// Prints the report of the matching jobs that may go now.
 fn due_jobs<S: Alter, W: Write>(
     alloc: Global,
     filter: &Filter,
@@ -158,7 +165,7 @@ fn due_jobs_text(
     due_report(alloc, &dues)
 }
 
-// Prints when each system can next be called, for the first of those of its jobs that fit.
+// Prints when each system can next be called, for the first of its matching jobs.
 fn when<S: Alter, W: Write>(
     alloc: Global,
     filter: &Filter,
@@ -177,7 +184,7 @@ fn when<S: Alter, W: Write>(
     )
 }
 
-// The systems, and the jobs that fit, both of one state.
+// The systems, and the jobs that match, both of one state.
 fn systems_and_jobs<S: Alter>(
     alloc: Global,
     filter: &Filter,
@@ -186,7 +193,7 @@ fn systems_and_jobs<S: Alter>(
     ensures marked { MatchResult result (λ _. (has_failed spool.old ≡ false) × (has_failed spool.new ≡ false)) (IsFaultBetween (has_failed spool.old) (has_failed spool.new)) }
     ensures answer { HasCleanDisk (disk spool.new) → (s : _) → Shows spool.old s
         → IfOk result (λ answer. (answer.0.items ≡ s.systems) × (answer.1.items ≡ listed filter.now s) × Shows spool.new s) }
-    ensures ran { Ran [] spool.old spool.new [] (fault_in result) }
+    ensures ran { Ran 1 [] spool.old spool.new [] (fault_in result) }
     ensures failed { IsTrue (has_failed spool.old) → spool.new ≡ spool.old }
 {
     runs_are_one_run::<S>();
@@ -211,7 +218,40 @@ fn next_calls_text(
     next_calls_report(alloc, &calls, at.second, &settings.zone)
 }
 
-// Prints what the jobs that fit come to, for each system.
+// Prints when each system, or the one of this name, can next be called, with a job or without one.
+fn polls<S: Alter, W: Write>(
+    alloc: Global,
+    system: Option<&SiteName>,
+    at: &Moment,
+    settings: &Settings,
+    spool: &mut Spool<S>,
+    out: &mut W,
+) -> Result<u8, Fault>
+    ensures { IsServed settings.now (request.Question (question.NextPolls (option_copied system.entry) at.now)) spool.old spool.new (λ output. Appends (W.contents out.old) (W.contents out.new) output) result }
+{
+    let rows = spool.systems(alloc)?;
+    print(next_polls_text(alloc, rows, system, at, settings), 0, out)
+}
+
+// The report of when these systems, or the one of this name, can next be called, with a job or
+// without one.
+fn next_polls_text(
+    alloc: Global,
+    rows: Vec<SystemRow>,
+    system: Option<&SiteName>,
+    at: &Moment,
+    settings: &Settings,
+) -> Result<Vec<u8>, AllocError>
+    ensures { IfOk result (λ text. (polls : List AnyPoll)
+        × (AreByName (λ row. row.def.name) rows.items → AreNextPolls settings.now.zone (picked (option_copied system.entry) rows.items) at.now.second polls)
+        × IsNextPollsReport settings.now.zone at.now.second polls text.items) }
+{
+    let wanted = pick_systems(rows, system);
+    let polls = next_polls(alloc, &wanted, at.second, &settings.zone)?;
+    next_polls_report(alloc, &polls, at.second, &settings.zone)
+}
+
+// Prints the sums of the jobs that match, for each system.
 fn sum_up<S: Alter, W: Write>(
     alloc: Global,
     filter: &Filter,
@@ -225,7 +265,7 @@ fn sum_up<S: Alter, W: Write>(
     print(queues_text(alloc, &jobs, settings), 0, out)
 }
 
-// The report of what these jobs come to, for each system.
+// The report of the sums of these jobs, for each system.
 fn queues_text(alloc: Global, jobs: &[JobHead], settings: &Settings) -> Result<Vec<u8>, AllocError>
     requires { AllByRecursion IsBounded jobs.now }
     ensures { IfOk result (λ text. (queues : List AnyQueue) × AreQueues jobs.now queues × IsQueuesReport settings.now.zone queues text.items) }
@@ -273,7 +313,7 @@ fn systems_text(
     write_sys(alloc, &systems)
 }
 
-// Prints the report of a host's links. A spool that is one keeps no entry that can't be read.
+// Prints the report of a host's links. A spool keeps only entries that can be read.
 fn neighbours<S: Alter, W: Write>(
     alloc: Global,
     host: &SiteName,
@@ -296,8 +336,8 @@ fn neighbours<S: Alter, W: Write>(
     }
 }
 
-// Prints the site's own name. The spool is asked for its next number alone, so that of one that has
-// failed that is told, as by every question.
+// Prints the site's own name. It only asks the spool for its next number, so that a spool that has
+// failed is reported, as with every question.
 fn name<S: Alter, W: Write>(
     alloc: Global,
     settings: &Settings,

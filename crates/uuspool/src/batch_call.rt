@@ -1,10 +1,9 @@
-//! The words that ask for a batch, which `clap` does not see: within a batch they are none of a
-//! line.
+//! The words that ask for a batch. `clap` doesn't see them, so they aren't a line within a batch.
 ghost use Rattle.std.specs.Prelude.{◌≡◌, ◌∷◌, List, MatchOption, map, string_bytes};
 ghost use Rattle.uuspool.specs.BatchCalls.{IsBatchCall};
 
-/// The path of the settings where the words after the program's name are `batch` or
-/// `-c FILE batch`, and else none.
+/// The path of the settings if the words after the program's name are `batch` or `-c FILE batch`,
+/// and otherwise `None`.
 pub fn batch_settings(words: &[String]) -> Option<&str>
     ensures { MatchOption result (¬ ((file : _) × IsBatchCall (map string_bytes words.now) file)) (λ file. IsBatchCall (map string_bytes words.now) file.now) }
 {

@@ -20,25 +20,25 @@ use uu_names::text::MAX_TEXT;
 use uu_settings::Settings;
 use uu_store::{Spool, StoreFault};
 
-/// What tells the second of a request that gives none.
+/// A clock for the requests that give no second.
 pub trait Clock {
-    // The clock told this second, and is the later one since.
+    // The clock gave this second, and is the later one since.
     ghost tells: { Self → ℕ → Self → Type 0 } = { λ _ _ _. ⊤ };
 
-    /// The second, or none where it can't be read.
+    /// The second, or `None` if it can't be read.
     fn second(&mut self) -> Option<u64>
         ensures { IfSome result (λ second. tells self.old second self.new) };
 }
 
 /// Serves each request of the stream over the spool, and writes its answer, which is flushed before
-/// the next one is read. The clock is asked once for each. Answers the program's status: 0 at the
-/// end of the stream, and else that of the last answer, which tells a fault of the stream. After a
-/// fault of the spool, and where memory ran out within a request, no further one is carried out:
-/// each is answered that the spool failed.
+/// the next request is read. The clock is read once for each request. Returns the program's status:
+/// 0 at the end of the stream, or that of the last answer, which reports a fault of the stream.
+/// After a fault of the spool, and if memory ran out within a request, no further request is
+/// carried out: each is answered that the spool failed.
 ///
 /// # Errors
-/// `Write` and `Memory` where an answer could not be written or made; then a beginning of it was
-/// written, with `Memory` nothing of it, and the request in hand may have been carried out. `Read`
+/// `Write` and `Memory` if an answer could not be written or made. Then a beginning of it was
+/// written, and with `Memory` nothing of it. The request in hand may have been carried out. `Read`
 /// after 2^64 - 1 requests, which were answered.
 pub fn batch<S: Alter, C: Clock, R: BufRead, W: Write>(
     alloc: Global,
@@ -64,7 +64,7 @@ pub fn batch<S: Alter, C: Clock, R: BufRead, W: Write>(
 
 // What was done with the next bytes of a stream.
 enum Step {
-    // A request was answered; the next is served, or is left.
+    // A request was answered. `goes_on` says whether the next one is served.
     Answered { goes_on: bool },
     // There is no further request, and this is the program's status.
     Ended(u8),
@@ -98,7 +98,7 @@ fn answer_next<S: Alter, C: Clock, R: BufRead, W: Write>(
     }
 }
 
-// What came of a request: what was printed, and the status or the fault.
+// The result of a request: what was printed, and the status or the fault.
 #[derive(Drop)]
 struct Answer {
     output: Vec<u8>,
@@ -129,15 +129,15 @@ fn answer_to<S: Alter>(
     Answer { output, end }
 }
 
-// Whether the next request is served after this end. The spool may have failed before memory or the
-// output did.
+// Whether the next request is served after this end. After a fault of memory or of the output the
+// spool may have failed too.
 fn goes_on(end: &Result<u8, Fault>) -> bool
     ensures { result ≡ goes_on end.now }
 {
     !matches!(end, Err(Fault::Store(_) | Fault::Write | Fault::Memory))
 }
 
-// Writes the answer: the status, what was printed as output, and what as errors.
+// Writes the answer: the status, the output, and the errors.
 fn tell<W: Write>(alloc: Global, answer: Answer, out: &mut W) -> Result<(), Fault>
     ensures answer { OnOk result (Appends (W.contents out.old) (W.contents out.new) (told_frame answer.output.items answer.end)) }
     ensures untold { IfErr result (IsUntold (told_frame answer.output.items answer.end) (Appends (W.contents out.old) (W.contents out.new))) }
@@ -152,7 +152,7 @@ fn tell<W: Write>(alloc: Global, answer: Answer, out: &mut W) -> Result<(), Faul
     }
 }
 
-// What is told of an answer: the program's status, and what it prints on its two outputs.
+// The contents of an answer: the program's status, and what it prints on its two outputs.
 #[derive(Drop)]
 struct Told {
     status: u8,
@@ -160,7 +160,7 @@ struct Told {
     errors: Vec<u8>,
 }
 
-// What is told of an answer.
+// The contents of an answer.
 fn told_of(alloc: Global, answer: Answer) -> Result<Told, Fault>
     ensures status { IfOk result (λ told. told.status ≡ end_status answer.end) }
     ensures output { IfOk result (λ told. told.output.items ≡ answer.output.items ++ end_output answer.end) }
@@ -177,8 +177,8 @@ fn told_of(alloc: Global, answer: Answer) -> Result<Told, Fault>
     }
 }
 
-// What is told of a fault behind an output: help stands behind the output, and the line of any
-// other fault among the errors.
+// The contents of an answer with a fault after an output: the text of help follows the output, and
+// the line of any other fault is an error.
 fn told_of_fault(alloc: Global, output: Vec<u8>, fault: &Fault) -> Result<Told, Fault>
     ensures status { IfOk result (λ told. told.status ≡ status_of fault.now) }
     ensures output { IfOk result (λ told. told.output.items ≡ output.items ++ output_of_fault fault.now) }
@@ -213,7 +213,7 @@ fn end_with<W: Write>(alloc: Global, fault: Fault, out: &mut W) -> Result<Step, 
     }
 }
 
-// A fault of the stream as the program tells it.
+// A fault of the stream as a fault of the program.
 fn stream_fault(alloc: Global, fault: FrameFault) -> Fault
     ensures { (had left : Option (List ℕ)) → IsCause most_text had left fault → IsOfStream had left result }
 {

@@ -1,36 +1,36 @@
-//! Why a line of the program was not done, with its exit status and its line on standard error.
+//! Why a line of the program failed, with its exit status and its line on standard error.
 
 ghost use Rattle.std.specs.Prelude.{◌≡◌, Some, IfOk};
 ghost use Rattle.std.specs.Fmt.{DisplaysOnOk};
 ghost use Rattle.uu_names.specs.Fault.{fault_code};
-ghost use Rattle.uuspool.specs.Faults.{code_of, is_help, status_of, line_of_fault, text_of_fault, settings_text, name_text, time_text, time_name, fault_place, placed};
+ghost use Rattle.uuspool.specs.Faults.{code_of, is_help, status_of, line_of_fault, text_of_fault, settings_text, name_text, bundle_fault_text, time_text, time_name, fault_place, placed};
 
 use std::alloc::{AllocError, AllocFailed, Global};
 use std::fmt;
 use thiserror::Error;
 use uu_line::LineFault;
 use uu_names::NameFault;
-use uu_request::RequestFault;
+use uu_request::{RequestFault, WrongBundle};
 use uu_settings::SettingsFault;
 use uu_store::StoreFault;
 use uu_times::TimeFault;
 
-/// Why a line was not done. It is shown as what is said of it on its line (see [`FaultLine`]).
+/// Why a line failed. Its text is that of its line on standard error, without the program's name
+/// (see [`FaultLine`]).
 #[derive(Debug, Drop, Error)]
 pub enum Fault {
-    /// The words are no line of the program, or ask for its help. `text` is what is printed, as it
-    /// is.
+    /// The words aren't a line of the program, or ask for its help. `text` is printed as it is.
     Words {
         /// What is printed, with its line ends.
         text: String,
         /// Whether the words ask for help.
         help: bool,
     },
-    /// The file of settings sets nothing.
+    /// The settings file isn't valid.
     Settings(SettingsFault),
-    /// A user, a system, a word, a grade or an address of the line is none.
+    /// A user, system, word, grade or address isn't valid.
     Name(NameFault),
-    /// The moment is past the last one, or the sys file has a fault.
+    /// The moment is after the last one, or the sys file has a fault.
     Time(TimeFault),
     /// The addresses of a message begin with different systems.
     TwoSystems,
@@ -42,8 +42,10 @@ pub enum Fault {
     Read,
     /// The output could not be written.
     Write,
-    /// Memory ran out.
+    /// Out of memory.
     Memory,
+    /// The input isn't a bundle, or is one from another sender or for another site.
+    Bundle(WrongBundle),
 }
 
 impl Fault {
@@ -62,11 +64,12 @@ impl Fault {
             Fault::Read => 8,
             Fault::Write => 9,
             Fault::Memory => 10,
+            Fault::Bundle(_) => 11,
         }
     }
 
-    /// Whether it is help that was asked for: its text is printed on standard output, and the line
-    /// of any other fault on standard error.
+    /// Whether the fault is that the user asked for help. Its text is printed on standard output.
+    /// The line of any other fault is printed on standard error.
     pub fn is_help(&self) -> bool
         ensures { result ≡ is_help self.now }
     {
@@ -122,6 +125,7 @@ impl From<RequestFault> for Fault {
         match fault {
             RequestFault::Input => Fault::Input,
             RequestFault::Time(fault) => Fault::Time(fault),
+            RequestFault::Bundle(fault) => Fault::Bundle(fault),
             RequestFault::Memory => Fault::Memory,
         }
     }
@@ -138,9 +142,9 @@ impl From<StoreFault> for Fault {
     }
 }
 
-/// The exit status of the program at this fault: 0 for help, 2 for words, settings, names, times,
-/// addresses and input, 3 for the spool, 4 for want of memory wherever it was met, 5 for reading
-/// and writing.
+/// The exit status of the program for this fault: 0 for help, 2 for words, settings, names, times,
+/// addresses, input and bundles, 3 for the spool, 4 for out of memory anywhere, 5 for reading and
+/// writing.
 pub fn fault_status(fault: &Fault) -> u8
     ensures { result ≡ status_of fault.now }
 {
@@ -156,7 +160,8 @@ pub fn fault_status(fault: &Fault) -> u8
         | Fault::Name(_)
         | Fault::Time(_)
         | Fault::TwoSystems
-        | Fault::Input => 2,
+        | Fault::Input
+        | Fault::Bundle(_) => 2,
         Fault::Store(_) => 3,
         Fault::Read | Fault::Write => 5,
     }
@@ -180,13 +185,15 @@ impl fmt::Display for Fault {
             Fault::Store(StoreFault::Memory) | Fault::Memory => "out of memory",
             Fault::Read => "cannot read",
             Fault::Write => "cannot write",
+            Fault::Bundle(fault) => bundle_text(*fault),
         };
         f.write_str(text)
     }
 }
 
-/// What the program prints at a fault: the text of the words' fault as it is, and else one line
-/// that begins with the program's name. It is made as it is written, and so takes no memory.
+/// What the program prints for a fault: the text of a fault of words as it is, and otherwise one
+/// line that begins with the program's name. It is made while it is written, so it allocates
+/// nothing.
 #[derive(Clone, Copy)]
 pub struct FaultLine<'a>(pub &'a Fault);
 
@@ -201,7 +208,7 @@ impl fmt::Display for FaultLine<'_> {
     }
 }
 
-/// What the program prints at this fault, as bytes.
+/// What the program prints for this fault, as bytes.
 pub fn fault_line(alloc: Global, fault: &Fault) -> Result<Vec<u8>, AllocError>
     ensures { IfOk result (λ line. line.items ≡ line_of_fault fault.now) }
 {
@@ -209,7 +216,7 @@ pub fn fault_line(alloc: Global, fault: &Fault) -> Result<Vec<u8>, AllocError>
     Ok(format!(in alloc; "{line}")?.into_bytes())
 }
 
-// Writes what is said of a fault of the settings.
+// Writes the text of a fault of the settings.
 fn write_settings<W: fmt::Write>(fault: SettingsFault, f: &mut fmt::Formatter<W>) -> fmt::Result
     ensures { DisplaysOnOk W.write_str_gives f.old result (Some (settings_text fault)) f.new }
 {
@@ -227,7 +234,6 @@ fn write_settings<W: fmt::Write>(fault: SettingsFault, f: &mut fmt::Formatter<W>
     }
 }
 
-// What is said of a fault of a name.
 fn name_text(fault: NameFault) -> &'static str
     ensures { result.now ≡ name_text fault }
 {
@@ -242,7 +248,17 @@ fn name_text(fault: NameFault) -> &'static str
     }
 }
 
-// Writes what is said of a fault of a moment or of a sys file.
+fn bundle_text(fault: WrongBundle) -> &'static str
+    ensures { result.now ≡ bundle_fault_text fault }
+{
+    match fault {
+        WrongBundle::NoBundle => "bundle: NoBundle",
+        WrongBundle::OtherSender => "bundle: OtherSender",
+        WrongBundle::OtherSite => "bundle: OtherSite",
+    }
+}
+
+// Writes the text of a fault of a moment or of a sys file.
 fn write_time<W: fmt::Write>(fault: TimeFault, f: &mut fmt::Formatter<W>) -> fmt::Result
     ensures { DisplaysOnOk W.write_str_gives f.old result (Some (time_text fault)) f.new }
 {
@@ -252,7 +268,7 @@ fn write_time<W: fmt::Write>(fault: TimeFault, f: &mut fmt::Formatter<W>) -> fmt
     }
 }
 
-// Writes what is said of a fault of this name, at a line of a text, or at none.
+// Writes the text of a fault of this name, at a line of a text, or without a line.
 fn write_placed<W: fmt::Write>(place: u32, name: &str, f: &mut fmt::Formatter<W>) -> fmt::Result
     ensures { DisplaysOnOk W.write_str_gives f.old result (Some (placed place name.now)) f.new }
 {
@@ -263,7 +279,7 @@ fn write_placed<W: fmt::Write>(place: u32, name: &str, f: &mut fmt::Formatter<W>
     }
 }
 
-// The line of the text that has the fault, and 0 where it has none.
+// The line of the text that has the fault, or 0 if it has none.
 fn place_of(fault: TimeFault) -> u32
     ensures { result ≡ fault_place fault }
 {

@@ -10,7 +10,7 @@ use std::alloc::Global;
 use std::io::{Error, ErrorKind, Read};
 use uu_names::text::MAX_TEXT;
 
-/// The most reads that are asked of the input.
+/// The most reads of the input.
 pub const READ_LIMIT: u32 = 5_000_000;
 
 const CHUNK: usize = 16_384;
@@ -19,9 +19,8 @@ const CHUNK: usize = 16_384;
 /// counts as one.
 ///
 /// # Errors
-/// `Input` exactly where more than `MAX_TEXT` bytes came, `Read` where a read fails or the reader
-/// has not ended after `READ_LIMIT` reads, and `Memory`, also where it is the reader that found
-/// none.
+/// `Input` exactly if more than `MAX_TEXT` bytes came. `Read` if a read fails or the reader has not
+/// ended after `READ_LIMIT` reads. `Memory` if memory ran out, here or in the reader.
 pub fn read_input<R: Read>(alloc: Global, reader: &mut R) -> Result<Vec<u8>, Fault>
     ensures whole { IfOk result (λ bytes. IsWholeInput (R.remaining reader.old) bytes.items) }
     ensures end { OnOk result (IsAtEnd (R.remaining reader.new)) }
@@ -52,7 +51,7 @@ pub fn read_input<R: Read>(alloc: Global, reader: &mut R) -> Result<Vec<u8>, Fau
     Err(Fault::Read)
 }
 
-// The fault that a read which failed is. An interrupted one is none.
+// The fault for a read that failed. An interrupted read isn't a fault.
 fn fault_of(error: &Error) -> Option<Fault>
     ensures interrupted { error_kind error.now ≡ ErrorKind.Interrupted → result ≡ None }
     ensures memory { error_kind error.now ≡ ErrorKind.OutOfMemory → result ≡ Some Fault.Memory }

@@ -11,10 +11,10 @@ use uu_line::CommandLine;
 /// The line that the words after the program's name mean.
 ///
 /// # Errors
-/// `Words` exactly where `clap` refuses the words, with `help` where they ask for help. `Name` with
-/// the first fault of the user, and then of the arguments and options in the order of the
-/// subcommand's usage. `TwoSystems` where the addresses of a message begin with different systems.
-/// Else `Memory`.
+/// `Words` exactly if `clap` refuses the words, with `help` if they ask for help. `Name` with the
+/// first fault of the user, and then of the arguments and options in the order of the subcommand's
+/// usage. `TwoSystems` if the addresses of a message begin with different systems. The only other
+/// error is `Memory`.
 pub fn line_of(alloc: Global, words: &[String]) -> Result<CommandLine, Fault>
     ensures { IsAnswerTo (map string_bytes words.now) result }
 {

@@ -11,7 +11,7 @@ use uu_times::{Moment, TimeFault};
 /// The moment of this second, on the site's clock.
 ///
 /// # Errors
-/// `Time` exactly past the last second of a moment.
+/// `Time` exactly if the second is after the last one of a moment.
 pub fn moment_of(second: u64, settings: &Settings) -> Result<Moment, Fault>
     ensures moment { IfOk result (IsMomentOf settings.now second) }
     ensures in_range { OnOk result (¬ IsPast second) }

@@ -9,11 +9,11 @@ use std::alloc::AllocError;
 use std::io::Write;
 use uu_frame::{FrameFault, write_whole};
 
-/// Prints an output, where there was memory to make it, and answers this status.
+/// Prints an output, if there was memory to make it, and returns this status.
 ///
 /// # Errors
-/// `Memory` where there was none, or the writer found none for the output, and then nothing is
-/// written; `Write` where less than the output was written.
+/// `Memory` if there was none, or the writer had none for the output; then nothing is written.
+/// `Write` if less than the output was written.
 pub(crate) fn print<W: Write>(
     output: Result<Vec<u8>, AllocError>,
     status: u8,

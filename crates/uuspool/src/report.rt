@@ -1,24 +1,25 @@
-//! Reports: the lines that the program prints of what the spool holds.
+//! Reports: the lines that the program prints of the spool's contents.
 
 ghost use Rattle.std.specs.Prelude.{◌≡◌, ◌≤◌, IfOk, IfErr, All};
 ghost use Rattle.std.specs.List.{flat_map};
-ghost use Rattle.uu_core.specs.NextCalls.{IsAhead};
-ghost use Rattle.uu_report.specs.Reports.{IsJobsReport, IsNextCallsReport, IsQueuesReport, IsStatusReport, due_text, links_text};
+ghost use Rattle.uu_core.specs.NextCalls.{IsAhead, IsPollAhead};
+ghost use Rattle.uu_report.specs.Reports.{IsJobsReport, IsNextCallsReport, IsNextPollsReport, IsQueuesReport, IsStatusReport, due_text, links_text};
 
 use crate::fault::Fault;
 use std::alloc::Global;
-use uu_core::{Due, JobHead, NextCall, Queue, SystemRow};
+use uu_core::{Due, JobHead, NextCall, NextPoll, Queue, SystemRow};
 use uu_map::Entry;
 use uu_report::{
-    due_report, jobs_report, links_report, next_calls_report, queues_report, status_report,
+    due_report, jobs_report, links_report, next_calls_report, next_polls_report, queues_report,
+    status_report,
 };
 use uu_settings::Settings;
 use uu_times::Moment;
 use uu_times::moment::LAST_SECOND;
 
 /// The report of these jobs, in their order, a line for each:
-/// `NUMBER SYSTEM USER GRADE MOMENT SIZE KIND WORDS`, the moment as `yyyy-mm-dd hh:mm:ss` at the
-/// settings' zone. The only error is `Memory`.
+/// `NUMBER SYSTEM USER GRADE MOMENT SIZE KIND WORDS`. The moment is the site's local time, as
+/// `yyyy-mm-dd hh:mm:ss`. The only error is `Memory`.
 pub fn report_jobs(alloc: Global, jobs: &[JobHead], settings: &Settings) -> Result<Vec<u8>, Fault>
     requires { All (λ job. job.queued ≤ LAST_SECOND) jobs.now }
     ensures lines { IfOk result (λ report. IsJobsReport settings.now.zone jobs.now report.items) }
@@ -27,8 +28,8 @@ pub fn report_jobs(alloc: Global, jobs: &[JobHead], settings: &Settings) -> Resu
     Ok(jobs_report(alloc, jobs, &settings.zone)?)
 }
 
-/// The report of what is due, in the order handed in, a line for each system:
-/// `SYSTEM GRADE NUMBER`. The only error is `Memory`.
+/// The report of what is due, in the given order, a line for each system: `SYSTEM GRADE NUMBER`.
+/// The only error is `Memory`.
 pub fn report_due(alloc: Global, dues: &[Due]) -> Result<Vec<u8>, Fault>
     ensures lines { IfOk result (λ report. report.items ≡ flat_map due_text dues.now) }
     ensures memory { IfErr result (λ fault. fault ≡ Fault.Memory) }
@@ -36,9 +37,9 @@ pub fn report_due(alloc: Global, dues: &[Due]) -> Result<Vec<u8>, Fault>
     Ok(due_report(alloc, dues)?)
 }
 
-/// The report of when systems can next be called, in the order handed in, a line for each:
-/// `SYSTEM GRADE NUMBER SECONDS MOMENT WHY`, or `SYSTEM GRADE NUMBER never WHY`, the seconds counted
-/// from this moment on, and the moment as in [`report_jobs`]. The only error is `Memory`.
+/// The report of when systems can next be called, in the given order, a line for each:
+/// `SYSTEM GRADE NUMBER SECONDS MOMENT WHY`, or `SYSTEM GRADE NUMBER never WHY`. The seconds are
+/// counted from this moment on. The moment is as in [`report_jobs`]. The only error is `Memory`.
 pub fn report_next_calls(
     alloc: Global,
     calls: &[NextCall],
@@ -52,8 +53,24 @@ pub fn report_next_calls(
     Ok(next_calls_report(alloc, calls, at.second, &settings.zone)?)
 }
 
-/// The report of what waits for systems, in the order handed in, a line for each:
-/// `SYSTEM JOBS BYTES GRADE MOMENT`, the moment at which the oldest job was queued as in
+/// The report of when systems can next be called, with a job or without one. There is a line for
+/// each, in the given order: `SYSTEM - - SECONDS MOMENT WHY`, or `SYSTEM - - never WHY`, as in
+/// [`report_next_calls`]. The only error is `Memory`.
+pub fn report_next_polls(
+    alloc: Global,
+    polls: &[NextPoll],
+    at: &Moment,
+    settings: &Settings,
+) -> Result<Vec<u8>, Fault>
+    requires { All (IsPollAhead at.now.second) polls.now }
+    ensures lines { IfOk result (λ report. IsNextPollsReport settings.now.zone at.now.second polls.now report.items) }
+    ensures memory { IfErr result (λ fault. fault ≡ Fault.Memory) }
+{
+    Ok(next_polls_report(alloc, polls, at.second, &settings.zone)?)
+}
+
+/// The report of what waits for systems, in the given order, a line for each:
+/// `SYSTEM JOBS BYTES GRADE MOMENT`. The moment is the one when the oldest job was queued, as in
 /// [`report_jobs`]. The only error is `Memory`.
 pub fn report_queues(alloc: Global, queues: &[Queue], settings: &Settings) -> Result<Vec<u8>, Fault>
     requires { All (λ queue. queue.sums.oldest ≤ LAST_SECOND) queues.now }
@@ -63,9 +80,9 @@ pub fn report_queues(alloc: Global, queues: &[Queue], settings: &Settings) -> Re
     Ok(queues_report(alloc, queues, &settings.zone)?)
 }
 
-/// The report of these systems, in their order, a line for each: `SYSTEM FAILURES WAIT STATE`, the
-/// wait in seconds, the state as `never`, `done MOMENT` or `failed MOMENT WHY` with the moment as
-/// in [`report_jobs`]. The only error is `Memory`.
+/// The report of these systems, in their order, a line for each: `SYSTEM FAILURES WAIT STATE`. The
+/// wait is in seconds. The state is `never`, `done MOMENT` or `failed MOMENT WHY`, the moment as in
+/// [`report_jobs`]. The only error is `Memory`.
 pub fn report_status(
     alloc: Global,
     systems: &[SystemRow],

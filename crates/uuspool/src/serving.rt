@@ -1,4 +1,4 @@
-//! One line of the program: what it asks of the spool is asked, and what is answered is printed.
+//! Serving one line of the program: its request goes to the spool, and the answer is printed.
 
 ghost use Rattle.std.specs.Prelude.{◌≡◌, ◌≢◌, ℕ, true, false, List, [], Ok, IfOk, IfErr, IsSome, map};
 ghost use Rattle.std.specs.String.{string_bytes};
@@ -16,6 +16,7 @@ use crate::fault::Fault;
 use crate::line::line_of;
 use crate::moment::moment_of;
 use crate::print::print;
+use crate::settling::settle;
 use sqlite::Alter;
 use std::alloc::Global;
 use std::io::Write;
@@ -23,21 +24,21 @@ use std::mem::drop;
 use uu_core::Subject;
 use uu_line::CommandLine;
 use uu_report::{answer_lines, output_of, status_of};
-use uu_request::{CommandList, Request, request_of};
+use uu_request::{CommandList, Request, Unpacking, request_of};
 use uu_settings::Settings;
 use uu_store::{Reply, RunEnd, Spool};
 use uu_times::Moment;
 
-/// Serves the line that the words after the program's name mean, at the second `now` where the line
-/// gives none, with this input. Writes its output to `out` and answers its status: 0 done, 1 where
-/// a command was refused or what is asked for is not there.
+/// Serves the line that the words after the program's name mean, with this input, at the line's
+/// second or, if it gives none, at the second `now`. Writes its output to `out` and returns its
+/// status: 0 for done, 1 if a command was refused or the job, entry or system isn't there.
 ///
 /// # Errors
-/// `Words`, `Name`, `TwoSystems`, `Time` and `Input` come before the spool is asked, in this order,
-/// but for the `Time` of a sys file, which comes last; then nothing is written and nothing changes.
+/// `Words`, `Name`, `TwoSystems`, `Time` and `Input` come in this order, before any call of the
+/// spool. Only the `Time` of a sys file comes last. Then nothing is written and nothing changes.
 /// `Store` comes after the output of the commands that were answered. After `Write` accepted
-/// commands stay accepted; where the store gave a fault, `Write` and `Memory` come in its place
-/// only where less than that output was written. `Settings` and `Read` never come.
+/// commands stay accepted. If the store gave a fault, `Write` and `Memory` come instead of it only
+/// if less than that output was written. `Settings` and `Read` never come.
 pub fn serve<S: Alter, W: Write>(
     alloc: Global,
     words: &[String],
@@ -53,7 +54,7 @@ pub fn serve<S: Alter, W: Write>(
         × IsServed settings.now request spool.old spool.new (λ output. Appends (W.contents out.old) (W.contents out.new) output) result)
         ((spool.new ≡ spool.old) × (out.new ≡ out.old)) }
     ensures fault { IfErr result (IsFaultOf settings.now (map string_bytes words.now) now input.now) }
-    // With a writer whose bytes are known, it is a line of those that are one run.
+    // With a writer whose bytes are known, it is one of the lines that are one run.
     ensures serves { (output : List ℕ) → IsSome (W.contents out.old) → Appends (W.contents out.old) (W.contents out.new) output
         → Serves settings.now (record { words = map string_bytes words.now; now = now; input = input.now; output = output; result = result }) spool.old spool.new }
 {
@@ -105,11 +106,11 @@ fn line_and_moment(
 }
 
 /// Serves this line at this moment on the site's clock, with this input, which it takes. Writes its
-/// output to `out` and answers its status, as [`serve`] does for words that mean the line. The
-/// moment is the caller's: the line's own second is not looked at.
+/// output to `out` and returns its status, as [`serve`] does for words that mean the line. The
+/// moment is the caller's: the line's own second isn't used.
 ///
 /// # Errors
-/// Those of [`serve`] but for the faults of words and of the moment: `Input`, then the `Time` of a
+/// Those of [`serve`] without the faults of words and of the moment: `Input`, then the `Time` of a
 /// sys file, `Store`, `Write` and `Memory`.
 pub fn serve_line<S: Alter, W: Write>(
     alloc: Global,
@@ -123,7 +124,7 @@ pub fn serve_line<S: Alter, W: Write>(
     requires { Shows at.local (local_second settings.now.zone at.second) }
     // At each end the line's request was served, or nothing changed.
     ensures ends { EndsAs result
-        ((request : _) × (requests.request_of settings.now at input.items line ≡ Ok request)
+        ((request : _) × requests.Asks settings.now at input.items line (Ok request)
         × IsServed settings.now request spool.old spool.new (λ output. Appends (W.contents out.old) (W.contents out.new) output) result)
         ((spool.new ≡ spool.old) × (out.new ≡ out.old)) }
     ensures fault { IfErr result (IsFaultOfLine settings.now line at input.items) }
@@ -131,11 +132,13 @@ pub fn serve_line<S: Alter, W: Write>(
     match request_of(alloc, line, settings, at, input) {
         Ok(Request::Commands(list)) => run(alloc, list, settings, spool, out),
         Ok(Request::Question(question)) => ask(alloc, &question, settings, spool, out),
+        Ok(Request::Settling(settling)) => settle(alloc, &settling, settings, spool, out),
+        Ok(Request::Unpacking(unpacking)) => unpack(alloc, unpacking, settings, spool, out),
         Err(fault) => Err(Fault::from(fault)),
     }
 }
 
-// Gives these commands, and prints what is answered.
+// Gives these commands to the spool, and prints the replies.
 fn run<S: Alter, W: Write>(
     alloc: Global,
     list: CommandList,
@@ -154,8 +157,34 @@ fn run<S: Alter, W: Write>(
     print_end(alloc, subjects.as_slice(), skipped.as_slice(), &end, out)
 }
 
-// Prints the output of a run, or where it was broken off that of the commands that were answered.
-// Where there is none, no fault of memory or of the output hides the store's.
+// Takes this bundle, and prints the replies. If the spool gives a fault, nothing was answered and
+// nothing is printed.
+fn unpack<S: Alter, W: Write>(
+    alloc: Global,
+    unpacking: Unpacking,
+    settings: &Settings,
+    spool: &mut Spool<S>,
+    out: &mut W,
+) -> Result<u8, Fault>
+    ensures { IsServed settings.now (request.Unpacking unpacking) spool.old spool.new (λ output. Appends (W.contents out.old) (W.contents out.new) output) result }
+{
+    let Unpacking {
+        bundle,
+        subjects,
+        skipped,
+    } = unpacking;
+    match spool.take_in(alloc, bundle) {
+        Ok(replies) => print(
+            output_of(alloc, subjects.as_slice(), skipped.as_slice(), &replies),
+            status_of(&replies),
+            out,
+        ),
+        Err(fault) => Err(Fault::Store(fault)),
+    }
+}
+
+// Prints the output of a run, or, if it was broken off, that of the commands that were answered. If
+// there is no output, no fault of memory or of the output hides the store's.
 fn print_end<W: Write>(
     alloc: Global,
     subjects: &[Subject],
@@ -183,7 +212,7 @@ fn print_end<W: Write>(
     }
 }
 
-// Whether something is printed of these replies.
+// Whether something is printed for these replies.
 fn is_answered(subjects: &[Subject], replies: &[Reply]) -> bool
     ensures some { result ≡ true → answers_text subjects.now replies.now ≢ [] }
     ensures none { result ≡ false → answers_text subjects.now replies.now ≡ [] }

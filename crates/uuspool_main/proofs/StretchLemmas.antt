@@ -20,12 +20,12 @@ use Rattle.uu_times.specs.declared.moment.Moment.{Moment}
 use Rattle.uu_line.specs.Lines.{MeansLine}
 use Rattle.uu_line.specs.declared.line.CommandLine.{CommandLine}
 use Rattle.uu_settings.specs.declared.settings.Settings.{Settings}
-use Rattle.uu_request.specs.Requests.{request_of}
+use Rattle.uu_request.specs.Requests.{Asks}
 use Rattle.uu_request.specs.declared.fault.RequestFault.{RequestFault}
 use Rattle.uu_request.specs.declared.fault.RequestFault.TheVariants as asking
 use Rattle.uu_request.specs.declared.request.Request.{Request}
 use Rattle.uuspool.specs.Batch.{BreaksOff, EndsWith, IsOfStream, IsUntold, answer_of, fault_answer, most_requests}
-use Rattle.uuspool.specs.Served.{Ask, EndsAs, IsFaultOf, IsFaultOfLine, IsMomentOf, IsServed, commands_of, second_of}
+use Rattle.uuspool.specs.Served.{Ask, EndsAs, IsFaultOf, IsFaultOfLine, IsMomentOf, IsServed, in_hand, second_of}
 use Rattle.uuspool.specs.ServedLines.{Line}
 use Rattle.uuspool.specs.declared.fault.Fault.{Fault}
 use Rattle.uuspool.specs.declared.fault.Fault.TheVariants as fault
@@ -43,28 +43,28 @@ module _ {S : Type 0} {g : Ghosts S} (settings : Settings) (begun ended : Spool 
   -- and these are its commands and their replies
   abbrev pub AskedSo : (Request → Type 0) → Result ℕ Fault → Exchange → Type 0
   AskedSo Is r exchange = (request : Request) × Is request
-      × (it : IsServed settings request begun ended (λ output. ⊤) r) × (exchange ≡ exchange_of (commands_of request) it.replies it.stopped)
+      × (it : IsServed settings request begun ended (λ output. ⊤) r) × (exchange ≡ exchange_of (in_hand request) it.commands it.replies it.stopped)
 
   -- nothing was done
   abbrev pub NoneSo : Exchange → Type 0
-  NoneSo exchange = (ended ≡ begun) × (exchange ≡ exchange_of [] [] None)
+  NoneSo exchange = (ended ≡ begun) × (exchange ≡ exchange_of 1 [] [] None)
 
   asked_so : (Is : Request → Type 0) (r : Result ℕ Fault) → Asked Is r → WasGiven begun ended (AskedSo Is r)
-  asked_so Is r (request, is, it) = (commands_of request, it.replies, it.stopped, it.ran, (request, is, it, refl))
+  asked_so Is r (request, is, it) = (in_hand request, it.commands, it.replies, it.stopped, it.ran, (request, is, it, refl))
 
-  none_so : Ran [] begun begun [] None → ended ≡ begun → WasGiven begun ended NoneSo
-  none_so none same = ([], [], None, subst (λ (new : Spool S g). Ran [] begun new [] None) (sym same) none, (same, refl))
+  none_so : Ran 1 [] begun begun [] None → ended ≡ begun → WasGiven begun ended NoneSo
+  none_so none same = (1, [], [], None, subst (λ (new : Spool S g). Ran 1 [] begun new [] None) (sym same) none, (same, refl))
 
   -- however it ended
-  pub line_given : (Is : Request → Type 0) (Still : Type 0) → Ran [] begun begun [] None → (r : Result ℕ Fault) → EndsAs r (Asked Is r) ((ended ≡ begun) × Still)
+  pub line_given : (Is : Request → Type 0) (Still : Type 0) → Ran 1 [] begun begun [] None → (r : Result ℕ Fault) → EndsAs r (Asked Is r) ((ended ≡ begun) × Still)
       → WasGiven begun ended (IsOfRequest settings begun ended Is r)
   line_given Is Still none (Ok status) it = asked_so Is (Ok status) it
   line_given Is Still none (Err (fault.Store why)) it = asked_so Is (Err (fault.Store why)) it
   line_given Is Still none (Err fault.Write) it = asked_so Is (Err fault.Write) it
   line_given Is Still none (Err fault.Memory) it =
       elim it [
-        | inl done ↦ let (commands, replies, stopped, ran, is) = asked_so Is (Err fault.Memory) done in (commands, replies, stopped, ran, inl is)
-        | inr not_done ↦ let (commands, replies, stopped, ran, is) = none_so none not_done.0 in (commands, replies, stopped, ran, inr is)
+        | inl done ↦ let (hand, commands, replies, stopped, ran, is) = asked_so Is (Err fault.Memory) done in (hand, commands, replies, stopped, ran, inl is)
+        | inr not_done ↦ let (hand, commands, replies, stopped, ran, is) = none_so none not_done.0 in (hand, commands, replies, stopped, ran, inr is)
       ]
   line_given Is Still none (Err (fault.Words text help)) it = none_so none it.0
   line_given Is Still none (Err (fault.Settings why)) it = none_so none it.0
@@ -73,6 +73,7 @@ module _ {S : Type 0} {g : Ghosts S} (settings : Settings) (begun ended : Spool 
   line_given Is Still none (Err fault.TwoSystems) it = none_so none it.0
   line_given Is Still none (Err fault.Input) it = none_so none it.0
   line_given Is Still none (Err fault.Read) it = none_so none it.0
+  line_given Is Still none (Err (fault.Bundle why)) it = none_so none it.0
 
   -- a request that is of a line is of other words too
   request_as : (Is Other : Request → Type 0) → ((request : Request) → Is request → Other request) → (r : Result ℕ Fault) (exchange : Exchange)
@@ -89,10 +90,11 @@ module _ {S : Type 0} {g : Ghosts S} (settings : Settings) (begun ended : Spool 
   request_as Is Other into (Err fault.TwoSystems) exchange it = it
   request_as Is Other into (Err fault.Input) exchange it = it
   request_as Is Other into (Err fault.Read) exchange it = it
+  request_as Is Other into (Err (fault.Bundle why)) exchange it = it
 
   module _ (line : CommandLine) (at : Moment) (input : List ℕ) where
     module _ (words : List (List ℕ)) (now : ℕ) (means : MeansLine words line) (moment : IsMomentOf settings (second_of line now) at) where
-      words_ask : (asked : Result Request RequestFault) → request_of settings at input line ≡ asked → Ask settings words now input asked
+      words_ask : (asked : Result Request RequestFault) → Asks settings at input line asked → Ask settings words now input asked
       words_ask asked is = record { line = line; means = means; at = at; moment = moment; request = is }
 
       words_fault : (r : Result ℕ Fault) → IfErr r (IsFaultOfLine settings line at input) → IfErr r (IsFaultOf settings words now input)
@@ -107,13 +109,14 @@ module _ {S : Type 0} {g : Ghosts S} (settings : Settings) (begun ended : Spool 
       words_fault (Err (fault.Name why)) none = absurd none
       words_fault (Err fault.TwoSystems) none = absurd none
       words_fault (Err fault.Read) none = absurd none
+      words_fault (Err (fault.Bundle why)) is = words_ask (Err (asking.Bundle why)) is
 
-    -- what is said of a line is said of the words that mean it
+    -- what is said about a line holds of the words that mean it
     pub of_words : (r : Result ℕ Fault) (exchange : Exchange) → IsOfLine settings begun ended line at input r exchange
         → (words : List (List ℕ)) (now : ℕ) → MeansLine words line → IsMomentOf settings (second_of line now) at
         → IsOfWords settings begun ended words now input r exchange
     of_words r exchange (done, told) words now means moment = (
-      request_as (λ request. request_of settings at input line ≡ Ok request) (λ request. Ask settings words now input (Ok request))
+      request_as (λ request. Asks settings at input line (Ok request)) (λ request. Ask settings words now input (Ok request))
           (λ request is. words_ask words now means moment (Ok request) is) r exchange done,
       words_fault words now means moment r told,
     )
@@ -137,6 +140,7 @@ of_stream left rest (fault.Time why) it = absurd it
 of_stream left rest fault.TwoSystems it = absurd it
 of_stream left rest (fault.Store why) it = absurd it
 of_stream left rest fault.Write it = absurd it
+of_stream left rest (fault.Bundle why) it = absurd it
 
 -- an answer could not be written, or there was no memory for it
 untold : (lines : List Line) (answer : List ℕ) (Writes : List ℕ → Type 0) (why : Fault) → IsUntold answer Writes why → EndsBatch lines (Err why)
@@ -150,6 +154,7 @@ untold lines answer Writes (fault.Name why) it = absurd it
 untold lines answer Writes (fault.Time why) it = absurd it
 untold lines answer Writes fault.TwoSystems it = absurd it
 untold lines answer Writes (fault.Store why) it = absurd it
+untold lines answer Writes (fault.Bundle why) it = absurd it
 
 module _ (lines : List Line) (left rest : Option (List ℕ)) (Writes : List Line → List ℕ → Type 0) (All : Type 0) where
   pub batch_ended : (result : Result ℕ Fault) → IfOk result (EndsWith left rest (Writes lines))

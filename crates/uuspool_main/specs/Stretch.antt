@@ -23,11 +23,11 @@ use Rattle.uu_times.specs.declared.moment.Moment.{Moment}
 use Rattle.uu_line.specs.Lines.{MeansLine}
 use Rattle.uu_line.specs.declared.line.CommandLine.{CommandLine}
 use Rattle.uu_settings.specs.declared.settings.Settings.{Settings}
-use Rattle.uu_request.specs.Requests.{request_of}
+use Rattle.uu_request.specs.Requests.{Asks}
 use Rattle.uu_request.specs.declared.request.Request.{Request}
-use Rattle.uuspool.specs.Served.{Ask, EndsAs, IsFaultOf, IsFaultOfLine, IsMomentOf, IsServed, commands_of, second_of}
+use Rattle.uuspool.specs.Served.{Ask, EndsAs, IsFaultOf, IsFaultOfLine, IsMomentOf, IsServed, in_hand, second_of}
 use Rattle.uuspool.specs.Batch.{EndsWith, IsRequestLine, most_requests}
-use Rattle.uuspool.specs.ServedLines.{AreServed, IsOneRun, Line, commands_in}
+use Rattle.uuspool.specs.ServedLines.{AreServed, IsOneRun, Line, commands_in, in_hand_of}
 use Rattle.uuspool.specs.declared.fault.Fault.{Fault}
 use Rattle.uuspool.specs.declared.fault.Fault.TheVariants as fault
 use Rattle.uuspool_main.specs.declared.stretch.Invocation.{Invocation}
@@ -42,8 +42,8 @@ module _ {D : Type 0} {g : disk.Ghosts D} where
   LetsGo spool (rest.Closed files) = IsClosed spool files
   LetsGo spool (rest.Unclosed it) = IsLetGo over_files (connection_of spool).store it
 
-  -- A stretch of work over files that held this ended so. (Of a store whose files could not be
-  -- closed the port does not say that each tree still has its place in the list of objects.)
+  -- A stretch of work over files with these contents ended so. (If a store's files could not be
+  -- closed, the port doesn't say that each tree still has its place in the list of objects.)
   abbrev pub EndsStretch : Image → Exchange → Rest D g → Type 0
   EndsStretch before exchange (rest.Store it) = IsStretch before exchange it
   EndsStretch before exchange (rest.Closed files) = IsClosedStretch g before exchange files
@@ -51,18 +51,20 @@ module _ {D : Type 0} {g : disk.Ghosts D} where
 
 -- ---- what was given and answered
 
--- the moment of a line is that of its second, or where it gives none of another
+-- the moment of a line is that of its second, or, if it gives none, of another
 abbrev pub HasMoment : Settings → Invocation → Type 0
 HasMoment settings (invocation.Line line at input) = (now : ℕ) × IsMomentOf settings (second_of line now) at
 HasMoment settings invocation.Requests = ⊤
 
--- a spool was given commands, and what came of them is such an exchange
+-- A spool was given commands, and this exchange is the result. So many of them may be in hand at
+-- the stop, as one request.
 abbrev pub WasGiven : {S : Type 0} {g : Ghosts S} → Spool S g → Spool S g → (Exchange → Type 0) → Type 0
 WasGiven old new Is =
-    (commands : List Command) × (replies : List Reply) × (stopped : Option StoreFault) × Ran commands old new replies stopped × Is (exchange_of commands replies stopped)
+    (together : ℕ) × (commands : List Command) × (replies : List Reply) × (stopped : Option StoreFault)
+    × Ran together commands old new replies stopped × Is (exchange_of together commands replies stopped)
 
--- How a batch of these lines may end: with status 0 or one that a fault of a stream has, and else
--- because an answer could not be written, for want of memory, or since it has no number for a
+-- How a batch of these lines may end: with status 0 or with that of a fault of the stream.
+-- Otherwise an answer could not be written, memory ran out, or the batch has no number for a
 -- further line.
 abbrev pub EndsBatch : List Line → Result ℕ Fault → Type 0
 EndsBatch lines (Ok status) = EndsWith None None (λ last. ⊤) status
@@ -73,17 +75,17 @@ EndsBatch lines (Err _) = ⊥
 
 module _ {S : Type 0} {g : Ghosts S} (settings : Settings) (begun ended : Spool S g) where
   -- Such a request was served, and these are its commands and their replies, or nothing was done.
-  -- (What a terminal or a pipe was given is not known.)
+  -- (What a terminal or a pipe got is not known.)
   abbrev pub IsOfRequest : (Request → Type 0) → Result ℕ Fault → Exchange → Type 0
   IsOfRequest Is result exchange = EndsAs result
       ((request : Request) × Is request
-      × (it : IsServed settings request begun ended (λ output. ⊤) result) × (exchange ≡ exchange_of (commands_of request) it.replies it.stopped))
-      ((ended ≡ begun) × (exchange ≡ exchange_of [] [] None))
+      × (it : IsServed settings request begun ended (λ output. ⊤) result) × (exchange ≡ exchange_of (in_hand request) it.commands it.replies it.stopped))
+      ((ended ≡ begun) × (exchange ≡ exchange_of 1 [] [] None))
 
   -- the request is the line's at this moment, and a fault is one of the line
   abbrev pub IsOfLine : CommandLine → Moment → List ℕ → Result ℕ Fault → Exchange → Type 0
   IsOfLine line at input result exchange =
-      IsOfRequest (λ request. request_of settings at input line ≡ Ok request) result exchange × IfErr result (IsFaultOfLine settings line at input)
+      IsOfRequest (λ request. Asks settings at input line (Ok request)) result exchange × IfErr result (IsFaultOfLine settings line at input)
 
   -- the request is that of the words at this second, and a fault is one of the words
   abbrev pub IsOfWords : List (List ℕ) → ℕ → List ℕ → Result ℕ Fault → Exchange → Type 0
@@ -91,25 +93,25 @@ module _ {S : Type 0} {g : Ghosts S} (settings : Settings) (begun ended : Spool 
       IsOfRequest (λ request. Ask settings words now input (Ok request)) result exchange × IfErr result (IsFaultOf settings words now input)
 
   -- Lines of requests were served, and these are the commands of their requests and the replies.
-  -- (That they are those of standard input, and that the stream was at its end or had the fault, is
-  -- said of `batch` alone.)
+  -- (Only `batch` says that they are those of standard input, and that the stream was at its end or
+  -- had the fault.)
   abbrev pub IsOfLines : Result ℕ Fault → Exchange → Type 0
   IsOfLines result exchange =
       (lines : List Line) × AllByRecursion IsRequestLine lines × AreServed settings lines begun ended
-      × (it : IsOneRun settings lines begun ended) × (exchange ≡ exchange_of (commands_in it.asked) it.replies it.stopped)
+      × (it : IsOneRun settings lines begun ended) × (exchange ≡ exchange_of (in_hand_of it.asked) (commands_in it.asked) it.replies it.stopped)
       × EndsBatch lines result
 
   -- What the program was invoked for was done, and these are the commands and the replies of its
-  -- line or of its lines. What is said of the line is said of all words that mean it at its moment.
+  -- line or lines. What is said about the line holds of all words that mean it at its moment.
   abbrev pub IsOfInvocation : Invocation → Result ℕ Fault → Exchange → Type 0
   IsOfInvocation (invocation.Line line at input) result exchange =
       IsOfLine line at input.items result exchange
       × ((words : List (List ℕ)) (now : ℕ) → MeansLine words line → IsMomentOf settings (second_of line now) at → IsOfWords words now input.items result exchange)
   IsOfInvocation invocation.Requests result exchange = IsOfLines result exchange
 
--- A run over files that held this: a spool was started over them, what the program was invoked for
--- was done over it, and it was let go; that is a stretch of work, of the commands and the replies of
--- this invocation.
+-- A run over files with these contents: a spool was started over them, what the program was invoked
+-- for was done over it, and it was let go. That is a stretch of work, with the commands and the
+-- replies of this invocation.
 pub record IsRun {D : Type 0} {g : disk.Ghosts D} (settings : Settings) (what : Invocation) (before : Image) (result : Result ℕ Fault) (left : Rest D g) : Type 0 where
   pub begun : Spool (FileStore D g) over_files
   pub ended : Spool (FileStore D g) over_files

@@ -1,5 +1,5 @@
-//! The program `uuspool`: asks the words, the clock, the input and the spool of the system, and has
-//! the library serve the line.
+//! The program `uuspool`: gets the words, the clock, the input and the spool from the system, and
+//! lets the library serve the line.
 #![tactic(auto)]
 
 mod batching;
@@ -23,7 +23,8 @@ use uuspool::{
     read_input,
 };
 
-/// The most bytes of a log that a line leaves beside the spool's file: an opening reads it whole.
+/// The most bytes of a log that a line leaves beside the spool's file. An opening reads the log
+/// whole.
 const LOG_LIMIT: u64 = 262_144;
 
 fn main(rt: HostRuntime) -> ExitCode {
@@ -36,7 +37,7 @@ fn main(rt: HostRuntime) -> ExitCode {
     }
 }
 
-// Does what the process was asked.
+// Does what the words ask for.
 fn run(rt: &HostRuntime) -> Result<u8, Fault> {
     let words = words_of(rt)?;
     match batch_settings(&words) {
@@ -80,7 +81,7 @@ fn words_of(rt: &HostRuntime) -> Result<Vec<String>, Fault> {
     words.map_err(Fault::from)
 }
 
-// What a line is given beside its words.
+// What a line is given besides its words.
 #[derive(Drop)]
 struct Given {
     settings: Settings,
@@ -115,7 +116,7 @@ fn settings_in(rt: &HostRuntime, path: &str) -> Result<Settings, Fault> {
     }
 }
 
-// The moment of the line's second, or of the clock's where the line gives none.
+// The moment of the line's second, or of the clock's if the line gives none.
 fn moment_for(rt: &HostRuntime, second: Option<u64>, settings: &Settings) -> Result<Moment, Fault>
     ensures { IfOk result (λ at. (now : _) × IsMomentOf settings.now (unwrap_or second now) at) }
 {
@@ -138,7 +139,7 @@ fn second_of_clock(rt: &HostRuntime) -> Result<u64, Fault> {
     }
 }
 
-// The input of the line, read whole where it takes one.
+// The input of the line, read whole, if the line takes one.
 fn input_for(rt: &HostRuntime, takes_input: bool) -> Result<Vec<u8>, Fault> {
     if takes_input {
         read_input(rt.alloc(), &mut rt.stdin())
@@ -147,9 +148,8 @@ fn input_for(rt: &HostRuntime, takes_input: bool) -> Result<Vec<u8>, Fault> {
     }
 }
 
-// Does the work over the spool's file that the settings name, by a function whose clauses speak of
-// all contents.
-// What is left of the files is dropped.
+// Does the work over the spool's file that the settings name, by a function whose clauses are about
+// all contents. What is left of the files is dropped.
 fn run_on_file(rt: &HostRuntime, settings: &Settings, invocation: Invocation) -> Result<u8, Fault>
     requires { HasMoment settings.now invocation }
 {
@@ -166,8 +166,8 @@ fn end_of<D: Disk + Drop>(worked: (Result<u8, Fault>, Rest<D>)) -> Result<u8, Fa
     end
 }
 
-// Whether the log of the spool at this path is longer than `LOG_LIMIT`. Where it can't be asked, it
-// is not.
+// Whether the log of the spool at this path is longer than `LOG_LIMIT`. If its length can't be
+// read, it counts as short.
 fn is_log_long(rt: &HostRuntime, path: &str) -> bool {
     match log_length(rt, path) {
         Ok(length) => length > LOG_LIMIT,
@@ -175,7 +175,7 @@ fn is_log_long(rt: &HostRuntime, path: &str) -> bool {
     }
 }
 
-// The bytes of the log, which lies beside the file that a link may lead to.
+// The bytes of the log, which is beside the file to which a link may lead.
 fn log_length(rt: &HostRuntime, path: &str) -> io::Result<u64> {
     let file = fs::canonicalize(rt, path)?;
     let name = file.as_str();
@@ -183,8 +183,8 @@ fn log_length(rt: &HostRuntime, path: &str) -> io::Result<u64> {
     Ok(fs::metadata(rt, log.as_str())?.len())
 }
 
-// Prints a fault: help on standard output, all else on standard error. Its line takes no memory.
-// Where it cannot be written, the status tells the fault alone.
+// Prints a fault: help on standard output, any other on standard error. Its line allocates nothing.
+// If it can't be written, only the status reports the fault.
 fn print_fault(rt: &HostRuntime, fault: &Fault) {
     let line = FaultLine(fault);
     let _ = if fault.is_help() {

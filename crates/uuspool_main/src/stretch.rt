@@ -1,5 +1,5 @@
 //! One stretch of work over the files of the spool, from their opening until the spool is let go.
-ghost use Rattle.std.specs.Prelude.{◌≢◌, IfOk, IfErr};
+ghost use Rattle.std.specs.Prelude.{◌≡◌, ◌≢◌, false, IfOk, IfErr};
 ghost use Rattle.sqlite_wal.specs.Files.{image_at};
 ghost use Rattle.sqlite_wal.specs.Recovery.{Image};
 ghost use Rattle.uu_store.specs.Openings.{IsRightFault, LeavesAlone, LeavesAsKept, Started, remains_of};
@@ -17,7 +17,7 @@ use uu_times::Moment;
 use uuspool::laws::lines_are_one_run;
 use uuspool::{CommandLine, Fault, Settings, serve_line};
 
-/// What the program was invoked for: what it does over the spool.
+/// What the program was invoked for: what it does with the spool.
 #[derive(Drop)]
 pub(crate) enum Invocation {
     /// A line, at this moment, with this input.
@@ -41,8 +41,10 @@ pub(crate) enum Rest<D: Disk> {
     Unclosed(FileStore<D>),
 }
 
-/// Opens the spool's file that the settings name, does the work over the spool in it, and lets it
-/// go: a stretch of work, whatever the files held, with the commands and the replies of this work.
+/// Opens the spool's file that the settings name, does the work over the spool in it, and lets the
+/// spool go. This is a stretch of work, with any contents of the files, and with the commands and
+/// the replies of this work. It doesn't accept a type of first contents that assumes something
+/// about a torn write, as `Unknown` does.
 ///
 /// # Errors
 /// Those of `open_spool`.
@@ -52,7 +54,9 @@ pub(crate) fn work_on_file<T: Start>(
     invocation: Invocation,
     start: T,
 ) -> Result<(Result<u8, Fault>, Rest<SpoolFile<T>>), OpenFault<SpoolFile<T>>>
-    requires { HasMoment settings.now invocation }
+    requires moment { HasMoment settings.now invocation }
+    // Nothing is assumed about a torn write.
+    requires wary { T.Start.is_mixing ≡ false }
     ensures stretch { IfOk result (λ end. IsRun settings.now invocation (image_at T.Start) end.0 end.1) }
     ensures named { IfErr result (λ e. IsRightFault (image_at T.Start) e.fault (remains_of e)) }
     ensures never_failed { IfErr result (λ e. e.fault ≢ StoreFault.Failed) }
@@ -68,8 +72,8 @@ pub(crate) fn work_on_file<T: Start>(
     }
 }
 
-// Does the work over a spool, and lets it go. All is answered by then, so a close that fails
-// changes nothing of it: the log keeps what it has, and the next line tries again.
+// Does the work over a spool, and lets the spool go. Everything is answered by then, so a close
+// that fails changes none of it: the log keeps what it has, and the next line tries again.
 fn work_on<D: Disk + Drop>(
     rt: &HostRuntime,
     settings: &Settings,

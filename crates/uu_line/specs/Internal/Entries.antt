@@ -1,5 +1,5 @@
--- What the entries of a line have that `clap` takes: a subcommand of the program, a text under each
--- entry that has to be given or has a default, and numbers where numbers are asked for.
+-- The entries of a line that `clap` accepts: a subcommand of the program, a text under each entry
+-- that is required or has a default, and numbers under the entries that are numbers.
 use Rattle.std.specs.Prelude.{ℕ, List, [], ◌∷◌, Option, Some, None, IsSome, IsTrue, ⊤, codes, find}
 use Rattle.std.specs.List.{list_all}
 use Rattle.std.specs.Option.{option_map_or}
@@ -15,7 +15,7 @@ most_job = 4_294_967_295
 abbrev pub most_second : ℕ
 most_second = 9_999_999_999
 
--- the subcommands, each with those of its entries that have a text in every line
+-- the subcommands, each with its entries that have a text in every line
 abbrev pub subcommands : List (Text × List Text)
 subcommands =
     (codes "load", [])
@@ -37,6 +37,10 @@ subcommands =
     ∷ (codes "failed", codes "system" ∷ codes "why" ∷ [])
     ∷ (codes "done", codes "system" ∷ [])
     ∷ (codes "forget", codes "system" ∷ codes "job" ∷ [])
+    ∷ (codes "pack", codes "system" ∷ codes "grade" ∷ [])
+    ∷ (codes "unpack", codes "sender" ∷ [])
+    ∷ (codes "settle", codes "system" ∷ [])
+    ∷ (codes "answer", codes "sender" ∷ codes "grade" ∷ [])
     ∷ (codes "map", [])
     ∷ (codes "neighbours", codes "host" ∷ [])
     ∷ (codes "name", [])

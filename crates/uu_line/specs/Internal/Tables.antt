@@ -1,10 +1,9 @@
 -- What the rows of the program's tables mean, in the terms of `clap`.
-use Rattle.std.specs.Prelude.{◌≡◌, Bool, true, false, List, Option, Some, [], ◌∷◌, map}
-use Rattle.std.specs.List.{filter}
+use Rattle.std.specs.Prelude.{List, Some, [], ◌∷◌, map}
 use Rattle.clap.specs.Lexer.{usize_max}
 use Rattle.clap.specs.Words.{App, Rule, Text, new_rule, new_app, with_rule, with_subcommand}
+use Rattle.clap.specs.declared.builder.action.ArgAction.TheVariants.{SetTrue}
 use Rattle.clap.specs.declared.builder.value_parser.ValueParser.TheVariants.{Unsigned}
-use Rattle.uu_line.specs.Internal.Wanted.{is_wanted}
 use Rattle.uu_line.specs.declared.commands.Entry.{Entry}
 use Rattle.uu_line.specs.declared.commands.Form.{Form}
 use Rattle.uu_line.specs.declared.commands.Form.TheVariants as form
@@ -13,8 +12,11 @@ use Rattle.uu_line.specs.declared.commands.Subcommand.{Subcommand}
 -- an option or argument of this form and id
 abbrev pub rule_formed : Form → Text → Rule
 rule_formed (form.Letter letter) id = record (new_rule id) { short = Some letter }
+rule_formed (form.Switch letter) id = record (new_rule id) { short = Some letter; action = Some SetTrue }
 rule_formed (form.Name name) id = record (new_rule id) { long = Some name.now }
 rule_formed (form.Second name) id = record (new_rule id) { long = Some name.now; parser = Some (Unsigned 0 9_999_999_999) }
+rule_formed (form.After name) id = record (new_rule id) { long = Some name.now; parser = Some (Unsigned 0 4_294_967_295) }
+rule_formed (form.Flag name) id = record (new_rule id) { long = Some name.now; action = Some SetTrue }
 rule_formed form.One id = new_rule id
 rule_formed form.Job id = record (new_rule id) { parser = Some (Unsigned 0 4_294_967_295) }
 rule_formed form.Any id = record (new_rule id) { range = Some (record { start_inclusive = 0; end_inclusive = usize_max }) }
@@ -22,12 +24,12 @@ rule_formed form.Jobs id =
     record (new_rule id) { range = Some (record { start_inclusive = 0; end_inclusive = usize_max }); parser = Some (Unsigned 0 4_294_967_295) }
 rule_formed form.Several id = record (new_rule id) { range = Some (record { start_inclusive = 1; end_inclusive = usize_max }) }
 
--- and with what else its entry says
+-- the same with the other fields of its entry
 abbrev pub rule_for : Entry → Rule
 rule_for entry =
     record (rule_formed entry.form entry.id.now) { required = entry.required; defaults = map (λ text. text.now) entry.defaults.now; value_names = 1 }
 
--- a command with the entries, and one with the subcommands, of these rows
+-- a command with the entries of these rows, and one with the subcommands of these rows
 abbrev pub with_rules : App → List Entry → App
 with_rules app [] = app
 with_rules app (entry ∷ entries) = with_rules (with_rule app (rule_for entry)) entries
@@ -38,19 +40,3 @@ app_for subcommand = with_rules (new_app subcommand.name.now) subcommand.entries
 abbrev pub with_apps : App → List Subcommand → App
 with_apps app [] = app
 with_apps app (subcommand ∷ subcommands) = with_apps (with_subcommand app (app_for subcommand).top) subcommands
-
--- the row's subcommand is wanted for the words
-abbrev pub is_row_wanted : Option (List Text) → Subcommand → Bool
-is_row_wanted words subcommand = is_wanted words subcommand.name.now
-
--- the first row is wanted
-abbrev pub IsFirstWanted : Option (List Text) → List Subcommand → Type 0
-IsFirstWanted words [] = ⊥
-IsFirstWanted words (row ∷ rows) = is_row_wanted words row ≡ true
-
--- a command without subcommands, with those of the rows that are wanted
-abbrev pub with_wanted : App → Option (List Text) → List Subcommand → App
-with_wanted app words rows = record {
-  top = record app.top { is_leaf = false };
-  subs = filter (λ s. is_wanted words s.name) (map (λ row. (app_for row).top) rows);
-}

@@ -22,7 +22,7 @@ nothing_said = record { aliases = []; links = []; skipped = [] }
 abbrev pub then_said : Said → Said → Said
 then_said a b = record { aliases = a.aliases ++ b.aliases; links = a.links ++ b.links; skipped = a.skipped ++ b.skipped }
 
--- what one statement said
+-- what one statement says
 abbrev pub of_one : ℕ → Option Meaning → Said
 of_one line None = record { aliases = []; links = []; skipped = line ∷ [] }
 of_one line (Some m) = record { aliases = m.aliases; links = m.links; skipped = [] }
@@ -43,7 +43,7 @@ abbrev pub pending_list : Option Pending → List Numbered
 pending_list None = []
 pending_list (Some o) = numbered_of o ∷ []
 
--- what was said, and what a list of lines goes on to say
+-- what was said so far, and what a list of further lines says
 abbrev pub in_all : List ℕ → Said → List Numbered → Said
 in_all host h lines = then_said h (all_said host (statements lines))
 

@@ -49,11 +49,11 @@ state_of r = record { outer = reverse r.outer.items; level = r.level; stage = r.
 abbrev pub fresh : ℕ → Level
 fresh room = record { sum = None; product = None; negative = false; room = room; base = room }
 
--- a factor of this value was read
+-- after a factor of this value
 abbrev pub with_factor : List Level → Level → Bool → Option ℤ → State
 with_factor outer l dead v = record { outer = outer; level = record l { product = None; negative = false; room = l.base }; stage = Operator (product_with l.product (negated_if l.negative v)); dead = dead }
 
--- a token where a factor is wanted
+-- after a token where an operand is expected
 abbrev pub at_operand : List Level → Level → Bool → Token → Option State
 at_operand outer l dead (tokens.Amount v) = Some (with_factor outer l dead (option_and_then kept v))
 at_operand outer l dead tokens.Dead = Some (with_factor outer l true None)
@@ -61,12 +61,12 @@ at_operand outer l dead tokens.Open = option_map (λ room. record { outer = l �
 at_operand outer l dead (tokens.Additive op) = option_map (λ room. record { outer = outer; level = record l { negative = flipped op l.negative; room = room }; stage = Operand; dead = dead }) (one_less l.room)
 at_operand outer l dead _ = None
 
--- a closing parenthesis after a sum of this value
+-- after the parenthesis that closes a sum of this value
 abbrev pub closed : List Level → Level → Bool → Option ℤ → State
 closed [] l dead v = record { outer = []; level = l; stage = Done v; dead = dead }
 closed (m ∷ outer) l dead v = with_factor outer m dead v
 
--- a token after a product of this value
+-- after a token that follows a product of this value
 abbrev pub at_operator : List Level → Level → Bool → Option ℤ → Token → Option State
 at_operator outer l dead v (tokens.Additive op) = Some (record { outer = outer; level = record l { sum = Some (sum_with l.sum v, op) }; stage = Operand; dead = dead })
 at_operator outer l dead v (tokens.Multiplicative op) = Some (record { outer = outer; level = record l { product = Some (v, op) }; stage = Operand; dead = dead })
@@ -89,6 +89,6 @@ abbrev pub run : State → List Token → Option Cost
 run s [] = finish s.dead s.stage
 run s (t ∷ ts) = option_and_then (λ n. run n ts) (step s t)
 
--- before the first token of an expression that nests at most so deep
+-- before the first token of an expression that nests at most this deep
 abbrev pub start : ℕ → State
 start room = record { outer = []; level = fresh room; stage = Operand; dead = false }

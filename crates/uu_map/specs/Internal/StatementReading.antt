@@ -14,11 +14,11 @@ use Rattle.uu_names.specs.Text.{is_blank}
 use Rattle.uu_map.specs.Internal.Reading.{run, start}
 use Rattle.uu_map.specs.Statement.{usual_cost, most_depth, Meaning, is_mark, all_blank, elements}
 
--- behind the longest front of bytes that pass
+-- the text after its longest prefix of bytes that pass
 abbrev pub skip : (ℕ → Bool) → List ℕ → List ℕ
 skip passes text = drop (prefix_len passes text) text
 
--- behind a mark, where there is one
+-- the text after a mark, if it begins with one
 abbrev pub skip_mark : List ℕ → List ℕ
 skip_mark [] = []
 skip_mark (b ∷ bs) = if is_mark b then bs else b ∷ bs
@@ -31,7 +31,7 @@ cost_behind (t ∷ ts) = None
 abbrev pub site_name : List ℕ → Option (List ℕ)
 site_name text = if is_site_name text then Some text else None
 
--- the name that a text begins with, and the cost behind it
+-- the name that a text begins with, and its cost
 unfoldable pub named_link : List ℕ → Option Link
 named_link text = option_and_then (λ cost. option_map (λ name. record { to = name; cost = cost }) (site_name (take (prefix_len is_site_byte text) text))) (cost_behind (tokens (skip_mark (skip is_site_byte text))))
 
@@ -44,7 +44,7 @@ named_alias text = if all_blank (skip is_site_byte text) then site_name (take (p
 unfoldable pub alias_of : List ℕ → Option (List ℕ)
 alias_of text = named_alias (skip is_blank text)
 
--- one for one, if none is refused
+-- one value for each text, if each text has one
 abbrev pub each_of : {Y : Type 0} → (List ℕ → Option Y) → List (List ℕ) → Option (List Y)
 each_of read [] = Some []
 each_of read (t ∷ ts) = option_and_then (λ y. option_map (λ ys. y ∷ ys) (each_of read ts)) (read t)
@@ -55,7 +55,7 @@ list_of read list = each_of read (elements list)
 abbrev pub is_equals : ℕ → Bool
 is_equals b = b == byte "="
 
--- what stands behind the host
+-- what the text after the host says
 abbrev pub said_by : List ℕ → Option Meaning
 said_by [] = Some (record { aliases = []; links = [] })
 said_by (b ∷ bs) =

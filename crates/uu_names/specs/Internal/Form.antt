@@ -17,11 +17,11 @@ abbrev pub limit_of : Form → ℕ
 limit_of SiteName = most_name
 limit_of Word = most_word
 
--- how a text of another form is refused
+-- why a text of another form is refused
 abbrev pub bad_at : Form → ℕ → NameFault
 bad_at SiteName = BadName
 bad_at Word = BadWord
 
--- what a text is, read in the form
+-- what a text is when it is read in the form
 abbrev pub text_of : Form → List ℕ → Result (List ℕ) NameFault
 text_of form = checked_text (allows form) (limit_of form) (bad_at form)

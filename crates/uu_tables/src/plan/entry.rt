@@ -10,7 +10,7 @@ use std::alloc::{AllocError, Global};
 use uu_core::{Refusal, Reply};
 use uu_map::entry_host;
 
-/// A map entry: that of its host goes, if there is one, and the new one is added whole.
+/// A map entry: that of its host is removed, if there is one, and the new one is added whole.
 pub(crate) fn plan_entry<'a>(alloc: Global, bytes: &'a [u8]) -> Result<Plan<'a>, AllocError>
     ensures { (s : State) → IfOk result (IsPlan s (Entry bytes.now)) }
 {

@@ -11,7 +11,7 @@ use uu_core::{By, JobHead, decide_job};
 use uu_names::Grade;
 use uu_times::Moment;
 
-/// A job that goes, with its pieces.
+/// A job that is removed, with its pieces.
 pub(crate) fn plan_kill<'a>(
     alloc: Global,
     head: Option<&JobHead>,
@@ -26,7 +26,7 @@ pub(crate) fn plan_kill<'a>(
     }
 }
 
-/// Another grade for a job, whose number stays.
+/// Another grade for a job. Its number stays.
 pub(crate) fn plan_regrade<'a>(
     alloc: Global,
     head: Option<&JobHead>,

@@ -3,7 +3,7 @@ ghost use Rattle.std.specs.Prelude.{◌≡◌, ◌<◌, ◌∷◌, [], IfOk, fal
 ghost use Rattle.uu_tables.specs.declared.change.Change.{Change};
 ghost use Rattle.uu_core.specs.declared.command.Command.TheVariants.{QueueOnce, Forget};
 ghost use Rattle.uu_core.specs.State.{State, IsWellFormed, has_system, link_of, numbers_end};
-ghost use Rattle.uu_core.specs.Verdict.{are_known, is_too_large, taken_of};
+ghost use Rattle.uu_core.specs.Verdict.{are_known, is_too_large, key_under, taken_of};
 ghost use Rattle.uu_tables.specs.Tables.{Tables};
 ghost use Rattle.uu_tables.specs.Changes.{applied};
 ghost use Rattle.uu_tables.specs.Parts.{with_new_job, with_new_key};
@@ -13,34 +13,37 @@ use super::queue::add_queued;
 use super::{Plan, refused, unchanged};
 use crate::change::Change;
 use std::alloc::{AllocError, Global};
-use uu_core::{HandIn, Key, NewJob, Reply, Taken, decide_forget, decide_queue_once};
+use uu_core::{HandIn, Key, Mark, NewJob, Reply, Taken, decide_forget, decide_queue_once};
 use uu_names::SiteName;
 
-// The changes that add a job under this number, and its key with it.
-fn take_in<'a>(
+// The changes that add a job under this number, and with it the key of a neighbour's job.
+pub(super) fn take_in<'a>(
     alloc: Global,
     number: u32,
-    key: &'a Key,
+    from: &'a SiteName,
+    there: u32,
+    mark: Mark,
     job: &'a NewJob,
 ) -> Result<Vec<Change<'a>>, AllocError>
     requires small { is_too_large job.now ≡ false }
     requires some_left { number < numbers_end }
-    ensures { IfOk result (λ changes. (t : Tables) → applied changes.items t ≡ with_new_key key.now number (with_new_job number job.now t)) }
+    ensures { IfOk result (λ changes. (t : Tables) → applied changes.items t ≡ with_new_key (key_under from.now there mark) number (with_new_job number job.now t)) }
 {
     let mut changes = add_queued(alloc, number, job)?;
     let taken = Taken {
-        number: key.number,
-        mark: key.mark,
+        number: there,
+        mark,
         job: number,
     };
     changes.push(Change::AddTaken {
-        system: &key.from,
+        system: from,
         taken,
     })?;
     Ok(changes)
 }
 
-/// A job that a neighbour hands on: queued with its key, or nothing where the key is there.
+/// A job that a neighbour hands on. It is queued with its key, or nothing changes if the key is
+/// kept.
 pub(crate) fn plan_queue_once<'a>(
     alloc: Global,
     known: bool,
@@ -54,7 +57,7 @@ pub(crate) fn plan_queue_once<'a>(
 {
     match decide_queue_once(known, next, below, taken, key, job) {
         Ok(HandIn::First(number)) => {
-            let changes = take_in(alloc, number, key, job)?;
+            let changes = take_in(alloc, number, &key.from, key.number, key.mark, job)?;
             Ok(Plan {
                 reply: Reply::Number(number),
                 changes,
@@ -65,8 +68,8 @@ pub(crate) fn plan_queue_once<'a>(
     }
 }
 
-// The changes that forget what was taken from a neighbour below this number, which it said of no
-// number before.
+// The changes that forget what was taken from a neighbour below this number. The neighbour never
+// said such a number before.
 fn forget<'a>(
     alloc: Global,
     system: &'a SiteName,
@@ -81,7 +84,7 @@ fn forget<'a>(
     ]?)
 }
 
-/// A neighbour that won't ask for some numbers again: nothing changes where it said so before.
+/// A neighbour that won't ask for some numbers again. If it said so before, nothing changes.
 pub(crate) fn plan_forget<'a>(
     alloc: Global,
     known: bool,

@@ -17,7 +17,7 @@ use uu_core::{NewJob, Reply, decide_queue};
 /// The bytes of a piece; the last piece of a job may have fewer, but at least one.
 pub const PIECE_BYTES: usize = 16_384;
 
-// The columns of a job that is not too large.
+// The columns of a job that isn't too large.
 fn columns_of(job: &NewJob) -> JobColumns<'_>
     requires { is_too_large job.now ≡ false }
     ensures { (number : ℕ) → new_job number result ≡ head_of (job_of number job.now) }

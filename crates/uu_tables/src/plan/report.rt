@@ -1,6 +1,6 @@
 // Reports of calls.
-ghost use Rattle.std.specs.Prelude.{◌≡◌, ◌≤◌, List, IfOk, IfSome, is_some, map, option_copied};
-ghost use Rattle.uu_core.specs.declared.command.Command.TheVariants.{Failed, Done};
+ghost use Rattle.std.specs.Prelude.{◌≡◌, ℕ, ◌≤◌, List, IfOk, IfSome, is_some, map, filter, option_copied};
+ghost use Rattle.uu_core.specs.declared.command.Command.TheVariants.{Failed, Done, Release};
 ghost use Rattle.uu_times.specs.System.{AreWithinLimits};
 ghost use Rattle.uu_core.specs.State.{State, IsWellFormed, head_of, last_second, most_wait, system_at};
 ghost use Rattle.uu_core.specs.declared.job.JobHead.{JobHead};
@@ -11,7 +11,7 @@ ghost use Rattle.uu_core.specs.After.{failed_decision, done_call_of};
 ghost use Rattle.uu_tables.specs.Tables.{Tables, call_columns, outcome_number, reason_of};
 ghost use Rattle.uu_tables.specs.Changes.{applied};
 ghost use Rattle.uu_tables.specs.Parts.{without_jobs};
-ghost use Rattle.uu_tables.specs.Plans.{IsPlan};
+ghost use Rattle.uu_tables.specs.Plans.{IsPlan, waits_under};
 
 use super::{Plan, one_change, refused};
 use crate::change::Change;
@@ -50,7 +50,7 @@ fn call_columns(call: CallState) -> CallColumns
     }
 }
 
-// A law: retry numbers and success waits of a system are within their limits, if it is known.
+// A law: a known system's retry numbers and success wait are within their limits.
 fn definitions_are_within_limits(row: Option<&SystemRow>)
     ensures { IfSome (option_copied row.entry) (λ row. AreWithinLimits row.def.lines row.def.max_retries row.def.success_wait) }
 {
@@ -59,7 +59,7 @@ fn definitions_are_within_limits(row: Option<&SystemRow>)
     }
 }
 
-// The calls of a system, if it is known, after one that failed: its wait is a year at most, since
+// The calls of a system, if it is known, after one that failed. Its wait is at most a year, because
 // its retry numbers are.
 fn failed_call(row: Option<&SystemRow>, at: &Moment, why: Word) -> Result<CallState, Refusal>
     ensures call { result ≡ failed_decision (option_copied row.entry) at.now why }
@@ -99,8 +99,8 @@ fn remove_jobs<'a>(changes: &mut Vec<Change<'a>>, numbers: &[u32]) -> Result<(),
     Ok(())
 }
 
-// The calls of a system, if it is known, after one in which jobs went through: the jobs that were
-// found decide as all jobs do, and its wait is a year at most.
+// The calls of a system, if it is known, after one that delivered jobs. The jobs that were found
+// decide as all jobs do, and its wait is at most a year.
 fn done_call(
     row: Option<&SystemRow>,
     found: &[JobHead],
@@ -117,7 +117,7 @@ fn done_call(
     decide_done(row, system, jobs, found, at)
 }
 
-/// A call in which jobs went through: the system's calls change, and the jobs go.
+/// A call that delivered jobs: the system's calls change, and the jobs are removed.
 pub(crate) fn plan_done<'a>(
     alloc: Global,
     row: Option<&SystemRow>,
@@ -140,4 +140,16 @@ pub(crate) fn plan_done<'a>(
         }
         Err(refusal) => Ok(refused(alloc, refusal)),
     }
+}
+
+/// Jobs that a system has. `found` has those of the named ones that wait for it; these are removed.
+pub(crate) fn plan_release<'a>(alloc: Global, found: &[u32]) -> Result<Plan<'a>, AllocError>
+    ensures { (s : State) → (system jobs : List ℕ) → IsWellFormed s → found.now ≡ filter (waits_under s system) jobs → IfOk result (IsPlan s (Release system jobs)) }
+{
+    let mut changes = Vec::new(alloc);
+    remove_jobs(&mut changes, found)?;
+    Ok(Plan {
+        reply: Reply::Done,
+        changes,
+    })
 }

@@ -52,7 +52,7 @@ fn add_lines<'a>(changes: &mut Vec<Change<'a>>, def: &'a SystemDef) -> Result<()
     Ok(())
 }
 
-// The changes that define a system, all but its lines and its success wait.
+// The changes that define a system, without its lines and its success wait.
 fn definition<'a>(
     alloc: Global,
     is_known: bool,
@@ -76,7 +76,7 @@ fn definition<'a>(
     }
 }
 
-// Adds the change that adds the success wait of a system, unless that is 0.
+// Adds the change that adds the success wait of a system, unless it is 0.
 fn add_success_wait<'a>(changes: &mut Vec<Change<'a>>, def: &'a SystemDef) -> Result<(), AllocError>
     ensures { IfOk result (λ _. (t : Tables) → applied changes.new.items t ≡ with_waits (waits_from def.now.name def.now.success_wait) (applied changes.old.items t)) }
 {
@@ -89,8 +89,8 @@ fn add_success_wait<'a>(changes: &mut Vec<Change<'a>>, def: &'a SystemDef) -> Re
     Ok(())
 }
 
-/// A system that is defined: a new one was never called, a known one keeps its calls, and its lines
-/// are those of the definition alone.
+/// A system that is defined. A new one was never called, and a known one keeps its calls. Its lines
+/// are those of the definition only.
 pub(crate) fn plan_define<'a>(
     alloc: Global,
     known: bool,
@@ -107,8 +107,8 @@ pub(crate) fn plan_define<'a>(
     })
 }
 
-/// A system that goes, with its calls, its lines, their ranges, its success wait, and its link: the
-/// number below which it asks for none again, and what was taken from it.
+/// A system that is removed, with its calls, its lines, their ranges, its success wait, and its
+/// link: the number below which it won't ask again, and what was taken from it.
 pub(crate) fn plan_remove<'a>(
     alloc: Global,
     known: bool,

@@ -17,7 +17,7 @@ use Rattle.uu_times.specs.Internal.Section.{Parts, no_parts, begin_part, with_li
 use Rattle.uu_times.specs.System.{most_lines}
 use Rattle.uu_times.specs.Tables.{Tables, predefined_tables}
 
--- names that were seen, in order
+-- names seen so far, in order
 abbrev pub Seen : Type 0
 Seen = List (List ℕ)
 
@@ -38,7 +38,7 @@ pub record Reading : Type 0 where
 abbrev pub no_reading : Reading
 no_reading = record { tables = predefined_tables; tabled = []; named = []; parts = no_parts; skipped = [] }
 
--- what a line says is taken in
+-- the lines so far and one more directive
 abbrev pub absorbed : Reading → ℕ → Directive → Result Reading TimeFault
 absorbed reading line (Begin name) =
     if has_seen reading.named name then Err (SystemTwice line)

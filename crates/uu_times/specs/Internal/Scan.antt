@@ -38,7 +38,7 @@ second_letter days first letter =
     if first == byte "a" && letter == byte "n" then Some (LettersAn days)
     else option_map (λ more. Named (with_days days more)) (two_letters first letter)
 
--- the digits of a time with one more, which counts so many times its value
+-- the digits of a time with one more, in the place of this value
 abbrev pub more_digits : ℕ → ℕ → ℕ → Option ℕ
 more_digits unit digits letter = if is_ascii_digit letter then Some (digits + (letter - byte "0") * unit) else None
 
@@ -49,14 +49,14 @@ start_digit days unit digits letter =
     (λ more. if is_time more then Some (if unit == 1 then Dash days more else From days (unit / 10) more) else None)
     (more_digits unit digits letter)
 
--- or at which they end
+-- one more digit of the time at which they end
 abbrev pub end_digit : Days → ℕ → ℕ → ℕ → ℕ → Option Place
 end_digit days start unit digits letter =
     option_and_then
     (λ more. if is_end more then Some (if unit == 1 then Whole days start more else To days start (unit / 10) more) else None)
     (more_digits unit digits letter)
 
--- where a byte of a simple string leads
+-- the place after a byte of a simple string
 abbrev pub next_place : Place → ℕ → Option Place
 next_place Start letter = first_letter no_days letter
 next_place (Letter days first) letter = second_letter days first letter
@@ -78,12 +78,12 @@ simple_at (From days unit digits) = None
 simple_at (Dash days start) = None
 simple_at (To days start unit digits) = None
 
--- simple strings before those that are read, and so many bytes
+-- simple strings before those that were read, and so many bytes
 abbrev pub after : List Simple → ℕ → Result (List Simple) ℕ → Result (List Simple) ℕ
 after front count (Ok simples) = Ok (front ++ simples)
 after front count (Err at) = Err (count + at)
 
--- where the reading goes on behind a byte, with the simple string that ended there
+-- the place after a byte, with the simple string that ended there
 abbrev pub step : Place → ℕ → Option Found
 step place letter =
     if is_separator letter then option_map (λ simple. record { simple = Some simple; next = Start }) (simple_at place)
@@ -94,7 +94,7 @@ abbrev pub ending : Option Simple → Result (List Simple) ℕ
 ending None = Err 0
 ending (Some simple) = Ok (simple ∷ [])
 
--- behind a byte: nothing goes on, or the simple strings of the rest follow
+-- after a byte: the text goes on in no way, or the simple strings of the rest follow
 abbrev pub going_on : Option Found → (Place → Result (List Simple) ℕ) → Result (List Simple) ℕ
 going_on None rest = Err 0
 going_on (Some found) rest = after (option_to_list found.simple) 1 (rest found.next)
@@ -104,7 +104,7 @@ unfoldable pub scan : Place → List ℕ → Result (List Simple) ℕ
 scan place [] = ending (simple_at place)
 scan place (letter ∷ letters) = going_on (step place letter) (λ next. scan next letters)
 
--- the simple strings of a text, or the length of its longest front that begins a list of simple
+-- the simple strings of a text, or the length of its longest prefix that begins a list of simple
 -- strings
 abbrev pub list_of : List ℕ → Result (List Simple) ℕ
 list_of text = scan Start (lower text)

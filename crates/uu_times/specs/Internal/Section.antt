@@ -13,8 +13,8 @@ abbrev pub IsWithin : List Line → Option ℕ → Option ℕ → Type 0
 IsWithin lines max_retries success_wait =
     (length lines ≤ most_lines) × All HasRetry lines × IfSome max_retries (λ n. n ≤ most_retries) × IfSome success_wait (λ n. n ≤ most_success_wait)
 
--- the sections so far: the systems that are complete, the name of the present one, its section, and
--- the defaults
+-- the sections so far: the systems that are complete, the name of the present section, its section,
+-- and the defaults
 pub record Parts : Type 0 where
   pub done : List System
   pub name : Option (List ℕ)
@@ -51,6 +51,6 @@ with_line parts line = record parts { part = record parts.part { lines = parts.p
 abbrev pub with_retries : Parts → ℕ → Parts
 with_retries parts number = record parts { part = record parts.part { max_retries = Some number } }
 
--- a wait after a call that went well
+-- a wait after a successful call
 abbrev pub with_success_wait : Parts → ℕ → Parts
 with_success_wait parts seconds = record parts { part = record parts.part { success_wait = Some seconds } }

@@ -56,7 +56,7 @@ has_minute minute simple = has_day simple.days (minute / day_minutes) && in_hour
 abbrev pub any_has : List Simple → ℕ → Bool
 any_has simples minute = list_any (has_minute minute) simples
 
--- the days of words, behind other days
+-- the days of words, added to other days
 abbrev pub days_of : Days → List DayWord → Days
 days_of days [] = days
 days_of days (word ∷ words) = days_of (with_days days (word_days word)) words

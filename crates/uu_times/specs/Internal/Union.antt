@@ -19,7 +19,7 @@ day_ranges first (Some hours) =
 abbrev pub ranges_on : Simple → ℕ → List (ℕ × ℕ)
 ranges_on simple day = if has_day simple.days day then day_ranges (1440 * day) simple.hours else []
 
--- and on the days below the given one
+-- the ranges of the days below the given one
 unfoldable pub days_ranges : Simple → ℕ → List (ℕ × ℕ)
 days_ranges simple zero = []
 days_ranges simple (suc day) = days_ranges simple day ++ ranges_on simple day
@@ -28,7 +28,7 @@ days_ranges simple (suc day) = days_ranges simple day ++ ranges_on simple day
 abbrev pub week_ranges : List Simple → List (ℕ × ℕ)
 week_ranges simples = flat_map (λ simple. days_ranges simple 7) simples
 
--- ranges in order of their first minutes, put together where none lies between; the first one is
+-- ranges in order of their first minutes, merged if no minute lies between two; the first one is
 -- apart already
 abbrev pub merged_from : ℕ × ℕ → List (ℕ × ℕ) → List (ℕ × ℕ)
 merged_from run [] = run ∷ []

@@ -11,8 +11,7 @@ use Rattle.uuspool.specs.declared.batching.Step.TheVariants as step
 use Rattle.uuspool.specs.declared.fault.Fault.{Fault}
 
 module _ {S : Type 0} {g : Ghosts S} {C : Type 0} (settings : Settings) (Tells : C → ℕ → C → Type 0) (failed : Bool) (clock later : C) (old new : Spool S g) (input_before input_after output_before output_after : Option (List ℕ)) where
-  -- a request was answered, or the stream ended; or the telling of the answer to one of the two
-  -- failed
+  -- a request was answered, or the stream ended; or writing the answer failed
   abbrev pub IsBatchStep : Result Step Fault → Type 0
   IsBatchStep (Ok (step.Answered on)) =
       (line : Line) × IsNext settings Tells failed clock later old new line × Consumes input_before input_after (frame_of line) × Appends output_before output_after (answer_of line)

@@ -1,4 +1,4 @@
--- The greater of the two limits stands under the name, and under no other name anything changes.
+-- The greater of the two limits is under the name, and nothing changes under another name.
 use Rattle.std.proofs.Common.{◌≡◌, List, ℕ, Some, cond, nat_cmp, sym, ap, ◌∙◌}
 use Rattle.std.specs.BTreeMap.{get, is_at}
 use Rattle.std.specs.Cmp.Lexicographic.{slice_cmp, texts_ties}

@@ -1,5 +1,5 @@
-use Rattle.uu_core.proofs.RunLemmas.{refused}
+use Rattle.uu_core.proofs.RunLemmas.{refused, refusal_told}
 use Rattle.uu_core.proofs.laws.refusals_change_nothing.Goals as goal
 
 pub returns : goal.returns
-returns c = refused
+returns c = record { state = refused; reply = refusal_told }

@@ -1,4 +1,4 @@
--- One more system is told of where it has jobs, and the sort puts the calls in order.
+-- One more system is listed if it has jobs, and the sort puts the calls in order.
 use Rattle.std.proofs.Common.{◌≡◌, ◌∙◌, ◌++◌, ◌∷◌, [], ℕ, List, All, Bor, Some, None, is_some, true, false, map, filter, nat_cmp, ap, sym, subst, arith, append-nil, rules}
 use Rattle.std.specs.BTreeMap.{get}
 use Rattle.std.specs.Cmp.Lexicographic.{slice_cmp}

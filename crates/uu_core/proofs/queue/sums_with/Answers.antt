@@ -1,4 +1,4 @@
--- The first of the jobs is the old one, or the one more where that goes before.
+-- The first of the jobs is the old one, or the additional one if that goes before.
 use Rattle.std.proofs.Common.{◌≡◌, ◌∙◌, ◌+◌, ◌||◌, ◌&&◌, ◌==◌, true, false, ltb, ap, sym, refl, arith}
 use Rattle.std.proofs.lemmas.Bool.Decides.{nat_tests}
 use Rattle.uu_core.proofs.QueueLemmas.{one_more_job}

@@ -2,7 +2,7 @@ use Rattle.std.proofs.Common.{All, IsTrue, subst, arith}
 use Rattle.uu_names.specs.Name.{is_site_name}
 use Rattle.uu_times.specs.System.{System}
 use Rattle.uu_core.specs.State.{IsLine}
-use Rattle.uu_core.proofs.PlainLemmas.{all_more, all_of}
+use Rattle.uu_core.proofs.Members.{all_more, all_of}
 use Rattle.uu_core.proofs.sound.definition_is_sound.Goals as goal
 
 pub loop-line-preserved : goal.loop-line-preserved

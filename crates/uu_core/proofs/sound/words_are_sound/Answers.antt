@@ -1,6 +1,6 @@
 use Rattle.std.proofs.Common.{ℕ, List, IsTrue, arith}
 use Rattle.uu_names.specs.Name.{is_word}
-use Rattle.uu_core.proofs.PlainLemmas.{all_more, all_of}
+use Rattle.uu_core.proofs.Members.{all_more, all_of}
 use Rattle.uu_core.proofs.sound.words_are_sound.Goals as goal
 
 pub loop-word-preserved : goal.loop-word-preserved

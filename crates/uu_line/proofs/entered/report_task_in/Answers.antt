@@ -2,7 +2,7 @@ use Rattle.std.proofs.Common.{◌≡◌, drop, inl, inr, refl}
 use Rattle.clap.specs.Words.{first_of, found_of, rows_of}
 use Rattle.std.specs.Prelude.{codes}
 use Rattle.uu_line.specs.Internal.Entries.{subcommands}
-use Rattle.uu_line.specs.Lines.{MeansTask, due_task, queues_task, systems_task, when_task}
+use Rattle.uu_line.specs.Lines.{MeansTask, due_task, has_flag, queues_task, systems_task, when_task}
 use Rattle.uu_line.proofs.LineLemmas.{found_later, task_meant}
 use Rattle.uu_line.proofs.entered.report_task_in.Goals as goal
 
@@ -14,7 +14,7 @@ returns-in-due c =
 pub returns-in-when : goal.returns-in-when
 returns-in-when c =
     let rows = rows_of (found_of c.args.given.now) in
-    task_meant (λ meant. meant ≡ when_task (first_of (codes "system") rows)) (MeansTask c.args.name.now rows) c.when_in.result (λ meant means. inr (inr (inr (inr (inr (inr (inr (inr (inr (inr (inr (inr (inl (c.in-when.is, means)))))))))))))) c.when_in.ensures
+    task_meant (λ meant. meant ≡ when_task (has_flag (codes "all") rows) (first_of (codes "system") rows)) (MeansTask c.args.name.now rows) c.when_in.result (λ meant means. inr (inr (inr (inr (inr (inr (inr (inr (inr (inr (inr (inr (inl (c.in-when.is, means)))))))))))))) c.when_in.ensures
 
 pub returns-in-queues : goal.returns-in-queues
 returns-in-queues c =

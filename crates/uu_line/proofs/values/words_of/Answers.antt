@@ -1,6 +1,6 @@
 use Rattle.std.proofs.Common.{◌≡◌, ◌∙◌, ap, sym, ℕ, ◌<◌, List, [], length, slice_index_or, Ok, map, add-one, arith, Bor}
 use Rattle.uu_line.specs.Lines.{word_of, words_of}
-use Rattle.uu_line.proofs.LineLemmas.{err_weaker, words_next, words_stop}
+use Rattle.uu_line.proofs.LineLemmas.{err_weaker, values_next, values_stop}
 use Rattle.uu_line.proofs.values.words_of.Goals as goal
 
 abbrev nothing : Bor (List ℕ)
@@ -11,11 +11,11 @@ returns-in-Err c =
     let inside : c.loop-text.text-index < length c.args.texts.now = omega arith in
     err_weaker (λ a. a ≡ word_of (slice_index_or c.args.texts.now c.loop-text.text-index nothing).now)
     (λ a. a ≡ words_of (map (λ text. text.now) c.args.texts.now)) c.in-Err.fault
-    (λ is. words_stop (λ text. text.now) c.args.texts.now c.loop-text.text-index nothing c.loop-text.words.items c.in-Err.fault inside c.loop-text.invariant is)
+    (λ is. values_stop word_of (λ text. text.now) c.args.texts.now c.loop-text.text-index nothing c.loop-text.words.items c.in-Err.fault inside c.loop-text.invariant is)
     c.in-Err.ensures
 
 pub loop-text-preserved : goal.loop-text-preserved
 loop-text-preserved c =
     let inside : c.loop-text.text-index < length c.args.texts.now = omega arith in
-    rw add-one (words_next (λ text. text.now) c.args.texts.now c.loop-text.text-index nothing c.loop-text.words.items c.in-Ok.word inside c.loop-text.invariant c.in-Ok.ensures
+    rw add-one (values_next word_of (λ text. text.now) c.args.texts.now c.loop-text.text-index nothing c.loop-text.words.items c.in-Ok.word inside c.loop-text.invariant c.in-Ok.ensures
     ∙ ap Ok (sym c.in_ok-push-in-Ok.ensures.items))

@@ -1,6 +1,6 @@
 use Rattle.std.proofs.Common.{◌≡◌}
 use Rattle.uu_map.specs.Split.{begins_line, line_of}
-use Rattle.uu_map.specs.Internal.Splitting.{FoundUpTo}
+use Rattle.uu_map.proofs.Splits.{FoundUpTo}
 use Rattle.uu_map.proofs.splitter.entries_of.Given as goal
 
 abbrev pub invariant-loop-at : goal.invariant-loop-at

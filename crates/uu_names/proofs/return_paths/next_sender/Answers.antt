@@ -1,4 +1,4 @@
--- Where the first line is no leading line, the run stops.
+-- If the first line isn't a leading line, the run stops.
 use Rattle.std.proofs.Common.{List, ℕ, subst, sym}
 use Rattle.uu_names.specs.ReturnPath.{IsLeadingLine}
 use Rattle.uu_names.proofs.return_paths.next_sender.Goals as goal

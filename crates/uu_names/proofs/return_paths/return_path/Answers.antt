@@ -1,4 +1,4 @@
--- Each line adds its site to the way; where the run stops, the way is whole.
+-- Each line adds its site to the way. When the run stops, the way is whole.
 use Rattle.std.proofs.Common.{◌≡◌, ◌+◌, ◌∷◌, ◌++◌, [], List, ℕ, drop, subst, sym, ap, ◌∙◌, refl, arith, take, length, ◌-◌}
 use Rattle.std.proofs.lemmas.List.{take_rest}
 use Rattle.std.proofs.lemmas.Result.{err_from_is_err_and}
@@ -17,7 +17,7 @@ loop-found-init c =
 rest_of_text : (text : List ℕ) (body : ℕ) → take (length text - body) (drop body text) ≡ drop body text
 rest_of_text text body = take_rest text body
 
--- where the rest of the text stops, the text stops there
+-- if the rest of the text stops, the text stops there
 stopped : (text marker : List ℕ) (body : ℕ) → Stops marker (raw_lines (take (length text - body) (drop body text))) → Stops marker (raw_lines (drop body text))
 stopped text marker body stops = subst (λ (t : List ℕ). Stops marker (raw_lines t)) (rest_of_text text body) stops
 

@@ -1,4 +1,4 @@
--- A text is a site name exactly where reading it as one succeeds.
+-- A text is a site name exactly if reading it as one succeeds.
 use Rattle.std.proofs.Common.{◌∙◌}
 use Rattle.uu_names.proofs.NameLemmas.{name_or_fault}
 use Rattle.uu_names.proofs.site_name.is_site_name.Goals as goal

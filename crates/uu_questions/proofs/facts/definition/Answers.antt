@@ -5,8 +5,8 @@ use Rattle.uu_rows.proofs.Showing.{answered}
 use Rattle.uu_questions.proofs.Asking.{asks_as, asks_refused}
 use Rattle.uu_questions.proofs.facts.definition.Goals as goal
 
-pub returns : goal.returns
-returns g c = asks_as c.is_known.ensures (λ ok. answered _ _ c.in_ok-known.was) (λ s good it. ap Definition (answer_in _ c.is_known.result _ c.in_ok-known.was it))
+pub returns-clause-asks : goal.returns-clause-asks
+returns-clause-asks g c = asks_as c.is_known.ensures (λ ok. answered _ _ c.in_ok-known.was) (λ s good it. ap Definition (answer_in _ c.is_known.result _ c.in_ok-known.was it))
 
-pub returns-in_err-known : goal.returns-in_err-known
-returns-in_err-known g c = asks_refused c.is_known.ensures c.from_residual.ensures.0
+pub returns-in_err-known-clause-asks : goal.returns-in_err-known-clause-asks
+returns-in_err-known-clause-asks g c = asks_refused c.is_known.ensures c.from_residual.ensures.0

@@ -5,8 +5,8 @@ use Rattle.uu_rows.proofs.Showing.{answered}
 use Rattle.uu_questions.proofs.Asking.{asks_as, asks_refused}
 use Rattle.uu_questions.proofs.facts.failure.Goals as goal
 
-pub returns : goal.returns
-returns g c = asks_as c.system_of_name.ensures (λ ok. answered _ _ c.in_ok-row.was) (λ s good it. ap Failure (answer_in _ c.system_of_name.result _ c.in_ok-row.was it))
+pub returns-clause-asks : goal.returns-clause-asks
+returns-clause-asks g c = asks_as c.system_of_name.ensures (λ ok. answered _ _ c.in_ok-row.was) (λ s good it. ap Failure (answer_in _ c.system_of_name.result _ c.in_ok-row.was it))
 
-pub returns-in_err-row : goal.returns-in_err-row
-returns-in_err-row g c = asks_refused c.system_of_name.ensures c.from_residual.ensures.0
+pub returns-in_err-row-clause-asks : goal.returns-in_err-row-clause-asks
+returns-in_err-row-clause-asks g c = asks_refused c.system_of_name.ensures c.from_residual.ensures.0

@@ -1,7 +1,7 @@
 use Rattle.std.proofs.Common.{[], ◌∙◌}
 use Rattle.std.proofs.lemmas.Result.{IfOk-weaker}
 use Rattle.sqlite.specs.Held.{state}
-use Rattle.uu_questions.specs.Texts.{next_text}
+use Rattle.uu_questions.proofs.Texts.{next_text}
 use Rattle.uu_questions.proofs.Answering.{then_read, not_shown}
 use Rattle.uu_questions.proofs.Meanings.{next_ask}
 use Rattle.uu_rows.proofs.Showing.{answered, shows}

@@ -3,11 +3,11 @@ use Rattle.uu_tables.specs.declared.facts.Facts.TheVariants.{Success}
 use Rattle.uu_questions.proofs.Asking.{asks_both, asks_beside, asks_refused}
 use Rattle.uu_questions.proofs.facts.success.Goals as goal
 
-pub returns : goal.returns
-returns g c = asks_both c.system_of_name.ensures c.in_ok-row.was c.heads_of_jobs.ensures c.in_ok-found.was (λ s good row found. (c.in_ok-found.found, ap (λ o. Success o c.in_ok-found.found) row, found))
+pub returns-clause-asks : goal.returns-clause-asks
+returns-clause-asks g c = asks_both c.system_of_name.ensures c.in_ok-row.was c.heads_of_jobs.ensures c.in_ok-found.was (λ s good row found. (c.in_ok-found.found, ap (λ o. Success o c.in_ok-found.found) row, found))
 
-pub returns-in_err-row : goal.returns-in_err-row
-returns-in_err-row g c = asks_refused c.system_of_name.ensures c.from_residual.ensures.0
+pub returns-in_err-row-clause-asks : goal.returns-in_err-row-clause-asks
+returns-in_err-row-clause-asks g c = asks_refused c.system_of_name.ensures c.from_residual.ensures.0
 
-pub returns-in_err-found : goal.returns-in_err-found
-returns-in_err-found g c = asks_refused (asks_beside c.system_of_name.ensures c.in_ok-row.was c.heads_of_jobs.ensures) c.from_residual-in_err-found.ensures.0
+pub returns-in_err-found-clause-asks : goal.returns-in_err-found-clause-asks
+returns-in_err-found-clause-asks g c = asks_refused (asks_beside c.system_of_name.ensures c.in_ok-row.was c.heads_of_jobs.ensures) c.from_residual-in_err-found.ensures.0

@@ -3,11 +3,10 @@ use Rattle.sqlite.specs.Held.{state}
 use Rattle.sqlite.specs.Values.{bound}
 use Rattle.uu_schema.specs.Cells.{job_cells}
 use Rattle.uu_rows.specs.Readable.{IsHead}
-use Rattle.uu_questions.specs.Texts.{jobs_text}
-use Rattle.uu_questions.specs.Listing.{sought}
+use Rattle.uu_questions.proofs.Texts.{jobs_text}
 use Rattle.uu_questions.specs.Reading.{AsksAndReads, AreTyped}
 use Rattle.uu_questions.proofs.Meanings.{jobs_means}
-use Rattle.uu_questions.proofs.Listed.{wanted_bound, jobs_listed}
+use Rattle.uu_questions.proofs.Listed.{sought, wanted_bound, jobs_listed}
 use Rattle.uu_questions.proofs.Asking.{asks_read}
 use Rattle.uu_questions.proofs.jobs.list_fitting_jobs.Goals as goal
 

@@ -9,3 +9,7 @@ returns-in-Site c =
 pub returns-in-Entry : goal.returns-in-Entry
 returns-in-Entry c =
     IfOk-weaker c.format-in-Entry.result _ _ (λ line e. e ∙ simp (c.in_ok-answer.ensures, c.in-Entry.is, append_assoc) refl) c.format-in-Entry.ensures.ok
+
+pub returns-in-Parcel : goal.returns-in-Parcel
+returns-in-Parcel c =
+    IfOk-weaker c.format-in-Parcel.result _ _ (λ line e. e ∙ simp (c.in_ok-answer.ensures, c.in-Parcel.is, append_assoc) refl) c.format-in-Parcel.ensures.ok

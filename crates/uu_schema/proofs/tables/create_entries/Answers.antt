@@ -1,5 +1,5 @@
 use Rattle.uu_schema.proofs.Statements.{executed}
-use Rattle.uu_schema.specs.Schema.{create_entries}
+use Rattle.uu_schema.proofs.Texts.{create_entries}
 use Rattle.uu_schema.proofs.Made.{entries_made}
 use Rattle.uu_schema.proofs.tables.create_entries.Goals as goal
 

@@ -1,5 +1,5 @@
 use Rattle.uu_schema.proofs.Statements.{executed}
-use Rattle.uu_schema.specs.Schema.{create_jobs}
+use Rattle.uu_schema.proofs.Texts.{create_jobs}
 use Rattle.uu_schema.proofs.Made.{jobs_made}
 use Rattle.uu_schema.proofs.tables.create_jobs.Goals as goal
 

@@ -1,5 +1,5 @@
 use Rattle.uu_schema.proofs.Statements.{executed}
-use Rattle.uu_schema.specs.Schema.{create_lines}
+use Rattle.uu_schema.proofs.Texts.{create_lines}
 use Rattle.uu_schema.proofs.Made.{lines_made}
 use Rattle.uu_schema.proofs.tables.create_lines.Goals as goal
 

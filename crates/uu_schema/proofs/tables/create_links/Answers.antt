@@ -1,5 +1,5 @@
 use Rattle.uu_schema.proofs.Statements.{executed}
-use Rattle.uu_schema.specs.Schema.{create_links}
+use Rattle.uu_schema.proofs.Texts.{create_links}
 use Rattle.uu_schema.proofs.Made.{links_made}
 use Rattle.uu_schema.proofs.tables.create_links.Goals as goal
 

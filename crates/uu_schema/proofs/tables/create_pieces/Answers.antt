@@ -1,5 +1,5 @@
 use Rattle.uu_schema.proofs.Statements.{executed}
-use Rattle.uu_schema.specs.Schema.{create_pieces}
+use Rattle.uu_schema.proofs.Texts.{create_pieces}
 use Rattle.uu_schema.proofs.Made.{pieces_made}
 use Rattle.uu_schema.proofs.tables.create_pieces.Goals as goal
 

@@ -1,5 +1,5 @@
 use Rattle.uu_schema.proofs.Statements.{executed}
-use Rattle.uu_schema.specs.Schema.{create_ranges}
+use Rattle.uu_schema.proofs.Texts.{create_ranges}
 use Rattle.uu_schema.proofs.Made.{ranges_made}
 use Rattle.uu_schema.proofs.tables.create_ranges.Goals as goal
 

@@ -1,5 +1,5 @@
 use Rattle.uu_schema.proofs.Statements.{executed}
-use Rattle.uu_schema.specs.Schema.{create_spool}
+use Rattle.uu_schema.proofs.Texts.{create_spool}
 use Rattle.uu_schema.proofs.Made.{spool_made}
 use Rattle.uu_schema.proofs.tables.create_spool.Goals as goal
 

@@ -1,5 +1,5 @@
 use Rattle.uu_schema.proofs.Statements.{executed}
-use Rattle.uu_schema.specs.Schema.{create_success_waits}
+use Rattle.uu_schema.proofs.Texts.{create_success_waits}
 use Rattle.uu_schema.proofs.Made.{success_waits_made}
 use Rattle.uu_schema.proofs.tables.create_success_waits.Goals as goal
 

@@ -1,5 +1,5 @@
 use Rattle.uu_schema.proofs.Statements.{executed}
-use Rattle.uu_schema.specs.Schema.{create_systems}
+use Rattle.uu_schema.proofs.Texts.{create_systems}
 use Rattle.uu_schema.proofs.Made.{systems_made}
 use Rattle.uu_schema.proofs.tables.create_systems.Goals as goal
 

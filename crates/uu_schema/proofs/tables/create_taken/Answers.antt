@@ -1,5 +1,5 @@
 use Rattle.uu_schema.proofs.Statements.{executed}
-use Rattle.uu_schema.specs.Schema.{create_taken}
+use Rattle.uu_schema.proofs.Texts.{create_taken}
 use Rattle.uu_schema.proofs.Made.{taken_made}
 use Rattle.uu_schema.proofs.tables.create_taken.Goals as goal
 

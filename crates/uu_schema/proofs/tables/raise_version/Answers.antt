@@ -1,5 +1,5 @@
 use Rattle.uu_schema.proofs.Statements.{executed}
-use Rattle.uu_schema.specs.Schema.{raise_version}
+use Rattle.uu_schema.proofs.Texts.{raise_version}
 use Rattle.uu_schema.proofs.Made.{version_raised}
 use Rattle.uu_schema.proofs.tables.raise_version.Goals as goal
 

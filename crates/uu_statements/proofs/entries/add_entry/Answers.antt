@@ -1,5 +1,5 @@
 use Rattle.uu_schema.proofs.Statements.{executed}
-use Rattle.uu_statements.specs.Texts.{insert_entry}
+use Rattle.uu_statements.proofs.Texts.{insert_entry}
 use Rattle.uu_statements.proofs.Added.{entry_added}
 use Rattle.uu_tables.specs.Changes.{new_entry}
 use Rattle.uu_statements.proofs.entries.add_entry.Goals as goal

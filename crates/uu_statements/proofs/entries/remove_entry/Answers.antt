@@ -1,5 +1,5 @@
 use Rattle.uu_schema.proofs.Statements.{executed}
-use Rattle.uu_statements.specs.Texts.{delete_entry}
+use Rattle.uu_statements.proofs.Texts.{delete_entry}
 use Rattle.uu_statements.proofs.Removed.{entry_gone}
 use Rattle.uu_statements.proofs.entries.remove_entry.Goals as goal
 

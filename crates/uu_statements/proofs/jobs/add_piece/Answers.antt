@@ -1,5 +1,5 @@
 use Rattle.uu_schema.proofs.Statements.{executed}
-use Rattle.uu_statements.specs.Texts.{insert_piece}
+use Rattle.uu_statements.proofs.Texts.{insert_piece}
 use Rattle.uu_statements.proofs.Added.{piece_added}
 use Rattle.uu_tables.specs.Changes.{new_piece}
 use Rattle.uu_statements.proofs.jobs.add_piece.Goals as goal

@@ -1,5 +1,5 @@
 use Rattle.uu_schema.proofs.Statements.{executed}
-use Rattle.uu_statements.specs.Texts.{insert_job}
+use Rattle.uu_statements.proofs.Texts.{insert_job}
 use Rattle.uu_statements.proofs.Added.{job_added}
 use Rattle.uu_tables.specs.Changes.{new_job}
 use Rattle.uu_statements.proofs.jobs.insert_job.Goals as goal

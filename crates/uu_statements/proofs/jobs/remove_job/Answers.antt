@@ -1,5 +1,5 @@
 use Rattle.uu_schema.proofs.Statements.{executed}
-use Rattle.uu_statements.specs.Texts.{delete_job}
+use Rattle.uu_statements.proofs.Texts.{delete_job}
 use Rattle.uu_statements.proofs.Removed.{job_gone}
 use Rattle.uu_statements.proofs.jobs.remove_job.Goals as goal
 

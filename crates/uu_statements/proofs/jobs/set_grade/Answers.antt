@@ -1,5 +1,5 @@
 use Rattle.uu_schema.proofs.Statements.{executed}
-use Rattle.uu_statements.specs.Texts.{set_rank}
+use Rattle.uu_statements.proofs.Texts.{set_rank}
 use Rattle.uu_statements.proofs.Altered.{grade_set}
 use Rattle.uu_statements.proofs.jobs.set_grade.Goals as goal
 

@@ -1,5 +1,5 @@
 use Rattle.uu_schema.proofs.Statements.{executed}
-use Rattle.uu_statements.specs.Texts.{set_number}
+use Rattle.uu_statements.proofs.Texts.{set_number}
 use Rattle.uu_statements.proofs.Altered.{next_set}
 use Rattle.uu_statements.proofs.jobs.set_next.Goals as goal
 

@@ -1,5 +1,5 @@
 use Rattle.uu_schema.proofs.Statements.{executed}
-use Rattle.uu_statements.specs.Texts.{set_second}
+use Rattle.uu_statements.proofs.Texts.{set_second}
 use Rattle.uu_statements.proofs.Altered.{queued_set}
 use Rattle.uu_statements.proofs.jobs.set_queued.Goals as goal
 

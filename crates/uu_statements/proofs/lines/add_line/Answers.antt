@@ -1,5 +1,5 @@
 use Rattle.uu_schema.proofs.Statements.{executed}
-use Rattle.uu_statements.specs.Texts.{insert_line}
+use Rattle.uu_statements.proofs.Texts.{insert_line}
 use Rattle.uu_statements.proofs.Added.{line_added}
 use Rattle.uu_tables.specs.Changes.{new_line}
 use Rattle.uu_statements.proofs.Statements.{bound_number}

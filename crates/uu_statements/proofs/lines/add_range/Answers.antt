@@ -1,5 +1,5 @@
 use Rattle.uu_schema.proofs.Statements.{executed}
-use Rattle.uu_statements.specs.Texts.{insert_range}
+use Rattle.uu_statements.proofs.Texts.{insert_range}
 use Rattle.uu_statements.proofs.Added.{range_added}
 use Rattle.uu_tables.specs.Tables.{range_columns}
 use Rattle.uu_statements.proofs.lines.add_range.Goals as goal

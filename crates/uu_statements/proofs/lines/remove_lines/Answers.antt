@@ -1,5 +1,5 @@
 use Rattle.uu_schema.proofs.Statements.{executed}
-use Rattle.uu_statements.specs.Texts.{delete_lines}
+use Rattle.uu_statements.proofs.Texts.{delete_lines}
 use Rattle.uu_statements.proofs.Removed.{lines_gone}
 use Rattle.uu_statements.proofs.lines.remove_lines.Goals as goal
 

@@ -1,5 +1,5 @@
 use Rattle.uu_schema.proofs.Statements.{executed}
-use Rattle.uu_statements.specs.Texts.{insert_link}
+use Rattle.uu_statements.proofs.Texts.{insert_link}
 use Rattle.uu_statements.proofs.Added.{link_added}
 use Rattle.uu_tables.specs.Changes.{new_below}
 use Rattle.uu_statements.proofs.links.add_link.Goals as goal

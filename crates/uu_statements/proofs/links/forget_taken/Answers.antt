@@ -1,5 +1,5 @@
 use Rattle.uu_schema.proofs.Statements.{executed}
-use Rattle.uu_statements.specs.Texts.{delete_taken}
+use Rattle.uu_statements.proofs.Texts.{delete_taken}
 use Rattle.uu_statements.proofs.Removed.{taken_gone}
 use Rattle.uu_statements.proofs.links.forget_taken.Goals as goal
 

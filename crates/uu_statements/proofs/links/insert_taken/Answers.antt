@@ -1,5 +1,5 @@
 use Rattle.uu_schema.proofs.Statements.{executed}
-use Rattle.uu_statements.specs.Texts.{insert_taken}
+use Rattle.uu_statements.proofs.Texts.{insert_taken}
 use Rattle.uu_statements.proofs.Added.{taken_added}
 use Rattle.uu_tables.specs.Tables.{taken_columns}
 use Rattle.uu_statements.proofs.links.insert_taken.Goals as goal

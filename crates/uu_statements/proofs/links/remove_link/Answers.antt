@@ -1,5 +1,5 @@
 use Rattle.uu_schema.proofs.Statements.{executed}
-use Rattle.uu_statements.specs.Texts.{delete_link}
+use Rattle.uu_statements.proofs.Texts.{delete_link}
 use Rattle.uu_statements.proofs.Removed.{link_gone}
 use Rattle.uu_statements.proofs.links.remove_link.Goals as goal
 

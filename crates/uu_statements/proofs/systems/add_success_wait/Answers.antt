@@ -1,5 +1,5 @@
 use Rattle.uu_schema.proofs.Statements.{executed}
-use Rattle.uu_statements.specs.Texts.{insert_wait}
+use Rattle.uu_statements.proofs.Texts.{insert_wait}
 use Rattle.uu_statements.proofs.Added.{wait_added}
 use Rattle.uu_tables.specs.Changes.{new_wait}
 use Rattle.uu_statements.proofs.systems.add_success_wait.Goals as goal

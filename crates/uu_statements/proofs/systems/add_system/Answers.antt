@@ -1,7 +1,7 @@
 use Rattle.std.proofs.Common.{◌≡◌, ap}
 use Rattle.uu_schema.proofs.Statements.{executed}
 use Rattle.uu_times.specs.System.{System}
-use Rattle.uu_statements.specs.Texts.{insert_system}
+use Rattle.uu_statements.proofs.Texts.{insert_system}
 use Rattle.uu_statements.proofs.Added.{system_added}
 use Rattle.uu_statements.proofs.systems.add_system.Goals as goal
 

@@ -1,5 +1,5 @@
 use Rattle.uu_schema.proofs.Statements.{executed}
-use Rattle.uu_statements.specs.Texts.{delete_wait}
+use Rattle.uu_statements.proofs.Texts.{delete_wait}
 use Rattle.uu_statements.proofs.Removed.{wait_gone}
 use Rattle.uu_statements.proofs.systems.remove_success_wait.Goals as goal
 

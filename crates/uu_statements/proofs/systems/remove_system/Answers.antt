@@ -1,5 +1,5 @@
 use Rattle.uu_schema.proofs.Statements.{executed}
-use Rattle.uu_statements.specs.Texts.{delete_system}
+use Rattle.uu_statements.proofs.Texts.{delete_system}
 use Rattle.uu_statements.proofs.Removed.{system_gone}
 use Rattle.uu_statements.proofs.systems.remove_system.Goals as goal
 

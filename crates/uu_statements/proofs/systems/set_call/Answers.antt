@@ -1,5 +1,5 @@
 use Rattle.uu_schema.proofs.Statements.{executed}
-use Rattle.uu_statements.specs.Texts.{set_calls}
+use Rattle.uu_statements.proofs.Texts.{set_calls}
 use Rattle.uu_statements.proofs.Altered.{call_set}
 use Rattle.uu_statements.proofs.Statements.{bound_text}
 use Rattle.uu_statements.proofs.systems.set_call.Goals as goal

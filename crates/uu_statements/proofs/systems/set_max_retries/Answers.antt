@@ -1,5 +1,5 @@
 use Rattle.uu_schema.proofs.Statements.{executed}
-use Rattle.uu_statements.specs.Texts.{set_retries}
+use Rattle.uu_statements.proofs.Texts.{set_retries}
 use Rattle.uu_statements.proofs.Altered.{retries_set}
 use Rattle.uu_statements.proofs.systems.set_max_retries.Goals as goal
 

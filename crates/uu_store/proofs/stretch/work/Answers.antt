@@ -6,7 +6,7 @@ pub returns-in-Ok-clause-worked : goal.returns-in-Ok-clause-worked
 returns-in-Ok-clause-worked g c =
     let it = c.run_and_let_go.ensures.worked in
     let end = c.run_and_let_go.result.0 in
-    stretch_is (image_at g.T.Start) c.args.commands.items c.in-Ok.spool it.ended end.replies.items end.stopped c.in-Ok.ensures.started it.ran c.run_and_let_go.result.1 it.let_go it.numbered
+    stretch_is 1 (image_at g.T.Start) c.args.commands.items c.in-Ok.spool it.ended end.replies.items end.stopped c.in-Ok.ensures.started it.ran c.run_and_let_go.result.1 it.let_go it.numbered
 
 pub returns-in-Ok-clause-every : goal.returns-in-Ok-clause-every
 returns-in-Ok-clause-every g c = c.run_and_let_go.ensures.every c.in-Ok.ensures.usable
@@ -19,7 +19,7 @@ returns-in-Ok-clause-started g c clean =
     let it = c.run_and_let_go.ensures.worked in
     let end = c.run_and_let_go.result.0 in (
       c.in-Ok.spool,
-      begun_clean (image_at g.T.Start) c.args.commands.items c.in-Ok.spool it.ended end.replies.items end.stopped c.in-Ok.ensures.started it.ran c.run_and_let_go.result.1 it.let_go clean,
+      begun_clean 1 (image_at g.T.Start) c.args.commands.items c.in-Ok.spool it.ended end.replies.items end.stopped c.in-Ok.ensures.started it.ran c.run_and_let_go.result.1 it.let_go clean,
       c.in-Ok.ensures.started,
     )
 
@@ -27,4 +27,4 @@ pub returns-in-Ok-clause-never_other : goal.returns-in-Ok-clause-never_other
 returns-in-Ok-clause-never_other g c clean =
     let it = c.run_and_let_go.ensures.worked in
     let end = c.run_and_let_go.result.0 in
-    c.in-Ok.ensures.never_other (begun_clean (image_at g.T.Start) c.args.commands.items c.in-Ok.spool it.ended end.replies.items end.stopped c.in-Ok.ensures.started it.ran c.run_and_let_go.result.1 it.let_go clean)
+    c.in-Ok.ensures.never_other (begun_clean 1 (image_at g.T.Start) c.args.commands.items c.in-Ok.spool it.ended end.replies.items end.stopped c.in-Ok.ensures.started it.ran c.run_and_let_go.result.1 it.let_go clean)

@@ -7,14 +7,14 @@ pub returns-in-Ok-clause-closed : goal.returns-in-Ok-clause-closed
 returns-in-Ok-clause-closed g c =
     let it = c.run_and_close.ensures.worked in
     let end = c.run_and_close.result.0 in
-    IfOk-weaker c.run_and_close.result.1 _ _ (closed_is (image_at g.T.Start) c.args.commands.items c.in-Ok.spool it.ended end.replies.items end.stopped c.in-Ok.ensures.started it.ran) it.closed
+    IfOk-weaker c.run_and_close.result.1 _ _ (closed_is 1 (image_at g.T.Start) c.args.commands.items c.in-Ok.spool it.ended end.replies.items end.stopped c.in-Ok.ensures.started it.ran) it.closed
 
 pub returns-in-Ok-clause-let_go : goal.returns-in-Ok-clause-let_go
 returns-in-Ok-clause-let_go g c =
     let it = c.run_and_close.ensures.worked in
     let end = c.run_and_close.result.0 in
     IfErr-weaker c.run_and_close.result.1 _ _ (λ e last numbered.
-    stretch_is (image_at g.T.Start) c.args.commands.items c.in-Ok.spool it.ended end.replies.items end.stopped c.in-Ok.ensures.started it.ran e.1 last (λ _. numbered)) it.let_go
+    stretch_is 1 (image_at g.T.Start) c.args.commands.items c.in-Ok.spool it.ended end.replies.items end.stopped c.in-Ok.ensures.started it.ran e.1 last (λ _. numbered)) it.let_go
 
 pub returns-in-Ok-clause-every : goal.returns-in-Ok-clause-every
 returns-in-Ok-clause-every g c = c.run_and_close.ensures.every c.in-Ok.ensures.usable
@@ -31,12 +31,12 @@ returns-in-Ok-clause-started g c =
     let end = c.run_and_close.result.0 in
     MatchResult-from_both c.run_and_close.result.1 _ _ (IfOk-weaker c.run_and_close.result.1 _ _ (λ files close clean. (
       c.in-Ok.spool,
-      begun_clean_of_closed (image_at g.T.Start) c.args.commands.items c.in-Ok.spool it.ended end.replies.items end.stopped c.in-Ok.ensures.started it.ran files close clean,
+      begun_clean_of_closed 1 (image_at g.T.Start) c.args.commands.items c.in-Ok.spool it.ended end.replies.items end.stopped c.in-Ok.ensures.started it.ran files close clean,
       c.in-Ok.ensures.started,
     )) it.closed)
     (IfErr-weaker c.run_and_close.result.1 _ _ (λ e last clean. (
       c.in-Ok.spool,
-      begun_clean (image_at g.T.Start) c.args.commands.items c.in-Ok.spool it.ended end.replies.items end.stopped c.in-Ok.ensures.started it.ran e.1 last clean,
+      begun_clean 1 (image_at g.T.Start) c.args.commands.items c.in-Ok.spool it.ended end.replies.items end.stopped c.in-Ok.ensures.started it.ran e.1 last clean,
       c.in-Ok.ensures.started,
     )) it.let_go)
 
@@ -45,6 +45,6 @@ returns-in-Ok-clause-never_other g c =
     let it = c.run_and_close.ensures.worked in
     let end = c.run_and_close.result.0 in
     MatchResult-from_both c.run_and_close.result.1 _ _ (IfOk-weaker c.run_and_close.result.1 _ _ (λ files close clean. c.in-Ok.ensures.never_other
-    (begun_clean_of_closed (image_at g.T.Start) c.args.commands.items c.in-Ok.spool it.ended end.replies.items end.stopped c.in-Ok.ensures.started it.ran files close clean)) it.closed)
+    (begun_clean_of_closed 1 (image_at g.T.Start) c.args.commands.items c.in-Ok.spool it.ended end.replies.items end.stopped c.in-Ok.ensures.started it.ran files close clean)) it.closed)
     (IfErr-weaker c.run_and_close.result.1 _ _ (λ e last clean. c.in-Ok.ensures.never_other
-    (begun_clean (image_at g.T.Start) c.args.commands.items c.in-Ok.spool it.ended end.replies.items end.stopped c.in-Ok.ensures.started it.ran e.1 last clean)) it.let_go)
+    (begun_clean 1 (image_at g.T.Start) c.args.commands.items c.in-Ok.spool it.ended end.replies.items end.stopped c.in-Ok.ensures.started it.ran e.1 last clean)) it.let_go)

@@ -26,6 +26,12 @@ returns-in-NextCalls g c =
     let written : List ℕ → Type 0 = λ output. Appends (g.W.Write.contents c.args.out.now) (g.W.Write.contents c.when.new.out) output in
     subst (λ (q : Question). IsServed c.args.settings.now (request.Question q) c.args.spool.now c.when.new.spool written c.when.result) (sym c.in-NextCalls.is) c.when.ensures
 
+pub returns-in-NextPolls : goal.returns-in-NextPolls
+returns-in-NextPolls g c =
+    let written : List ℕ → Type 0 = λ output. Appends (g.W.Write.contents c.args.out.now) (g.W.Write.contents c.polls.new.out) output in
+    let given = ap (λ system. question.NextPolls system c.in-NextPolls.at) c.as_ref.ensures.value ∙ sym c.in-NextPolls.is in
+    subst (λ (q : Question). IsServed c.args.settings.now (request.Question q) c.args.spool.now c.polls.new.spool written c.polls.result) given c.polls.ensures
+
 pub returns-in-Queues : goal.returns-in-Queues
 returns-in-Queues g c =
     let written : List ℕ → Type 0 = λ output. Appends (g.W.Write.contents c.args.out.now) (g.W.Write.contents c.sum_up.new.out) output in
@@ -54,5 +60,15 @@ returns-in-Name g c =
 pub returns-in-Definitions : goal.returns-in-Definitions
 returns-in-Definitions g c =
     let written : List ℕ → Type 0 = λ output. Appends (g.W.Write.contents c.args.out.now) (g.W.Write.contents c.systems.new.out) output in
-    let given = ap (λ name. question.Definitions name) c.as_ref.ensures.value ∙ sym c.in-Definitions.is in
+    let given = ap (λ name. question.Definitions name) c.as_ref-in-Definitions.ensures.value ∙ sym c.in-Definitions.is in
     subst (λ (q : Question). IsServed c.args.settings.now (request.Question q) c.args.spool.now c.systems.new.spool written c.systems.result) given c.systems.ensures
+
+pub returns-in-Pack : goal.returns-in-Pack
+returns-in-Pack g c =
+    let written : List ℕ → Type 0 = λ output. Appends (g.W.Write.contents c.args.out.now) (g.W.Write.contents c.pack.new.out) output in
+    subst (λ (q : Question). IsServed c.args.settings.now (request.Question q) c.args.spool.now c.pack.new.spool written c.pack.result) (sym c.in-Pack.is) c.pack.ensures
+
+pub returns-in-Answer : goal.returns-in-Answer
+returns-in-Answer g c =
+    let written : List ℕ → Type 0 = λ output. Appends (g.W.Write.contents c.args.out.now) (g.W.Write.contents c.answer.new.out) output in
+    subst (λ (q : Question). IsServed c.args.settings.now (request.Question q) c.args.spool.now c.answer.new.spool written c.answer.result) (sym c.in-Answer.is) c.answer.ensures

@@ -1,4 +1,4 @@
--- What holds after both questions, or after the first where that had no answer.
+-- What holds after both questions, or after the first if that had no answer.
 use Rattle.std.proofs.Common.{[], None, Some, refl}
 use Rattle.std.proofs.lemmas.Result.{err_from_is_err_and}
 use Rattle.uuspool.proofs.PairLemmas.{clean_before, marked_later}
@@ -12,7 +12,7 @@ returns g c = record {
       let first = c.in_ok-systems.ensures.question.answer (clean_before c.systems.new.self c.jobs.new.self c.in_ok-fitting.ensures.question.clean clean) s shown in
       let second = c.in_ok-fitting.ensures.question.answer clean s first.1 in
       (first.0, second.0, second.1);
-  ran = c.runs_are_one_run.ensures.joined c.args.spool.now c.systems.new.self c.jobs.new.self [] [] [] [] None None refl tt c.in_ok-systems.ensures.question.ran c.in_ok-fitting.ensures.question.ran;
+  ran = c.runs_are_one_run.ensures.joined 1 1 c.args.spool.now c.systems.new.self c.jobs.new.self [] [] [] [] None None refl tt c.in_ok-systems.ensures.question.ran c.in_ok-fitting.ensures.question.ran;
   failed = never_failed _ c.in_ok-systems.ensures.question.marked.0;
 }
 
@@ -25,6 +25,6 @@ returns-in_err-fitting g c =
     rw (is, same) (record {
       marked = marked_later _ _ _ why before.marked.0 before.marked.1 asked.marked;
       answer = λ clean s shown. tt;
-      ran = c.runs_are_one_run.ensures.joined c.args.spool.now c.systems.new.self c.jobs.new.self [] [] [] [] None (Some why) refl tt before.ran asked.ran;
+      ran = c.runs_are_one_run.ensures.joined 1 1 c.args.spool.now c.systems.new.self c.jobs.new.self [] [] [] [] None (Some why) refl tt before.ran asked.ran;
       failed = never_failed _ before.marked.0;
     })

@@ -1,7 +1,7 @@
 use Rattle.std.proofs.Common.{◌≡◌, ◌∙◌, List, ℕ, refl, subst, sym}
 use Rattle.std.specs.Io.KnownBytes.{Appends}
 use Rattle.uu_core.specs.NextCalls.{AreNextCalls}
-use Rattle.uu_core.specs.Plain.{AreByName}
+use Rattle.uu_core.specs.Order.{AreByName}
 use Rattle.uu_core.specs.declared.job.JobHead.{JobHead}
 use Rattle.uu_core.specs.declared.next_call.NextCall.{NextCall}
 use Rattle.uu_core.specs.declared.system.SystemRow.{SystemRow}

@@ -1,4 +1,4 @@
-use Rattle.std.proofs.Common.{◌≡◌, ◌∙◌, ◌∷◌, List, [], ap, sym}
+use Rattle.std.proofs.Common.{◌≡◌, ◌∙◌, ◌∷◌, [], ap, sym}
 use Rattle.uu_core.specs.State.{State}
 use Rattle.uu_core.specs.After.{after}
 use Rattle.uu_core.specs.Run.{replies_to, state_after}

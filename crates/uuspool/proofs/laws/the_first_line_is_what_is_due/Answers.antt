@@ -7,7 +7,7 @@ use Rattle.uu_core.specs.declared.job.JobHead.{JobHead}
 use Rattle.uu_questions.specs.Listing.{fits, listed}
 use Rattle.uuspool.proofs.laws.the_first_line_is_what_is_due.Goals as goal
 
--- a job of the system fits where no user is wanted
+-- a job of the system matches if no user is given
 with_any_user : (name : List ℕ) (jobs : List JobHead) → filter (fits (record { system = Some name; user = None })) jobs ≡ jobs_for name jobs
 with_any_user name [] = refl
 with_any_user name (job ∷ jobs) = by-test (same_text job.system name) (with_any_user name jobs)

@@ -1,5 +1,5 @@
 use Rattle.std.proofs.Common.{◌≡◌, Ok, subst, sym}
-use Rattle.uu_request.specs.Requests.{request_of}
+use Rattle.uu_request.specs.Requests.{Asks}
 use Rattle.uu_times.specs.Moment.{Shows, local_second}
 use Rattle.uu_store.specs.Exchanges.{exchange_of}
 use Rattle.uuspool_main.specs.Stretch.{HasMoment, IsOfLine, IsOfInvocation, WasGiven}
@@ -22,10 +22,10 @@ returns-in-Line g c =
     let begun = c.args.spool.now in
     let ended = c.serve_line.new.spool in
     subst (λ (what : Invocation). WasGiven begun ended (IsOfInvocation settings begun ended what c.serve_line.result)) (sym c.in-Line.is)
-    (let (commands, replies, stopped, ran, done) =
-    line_given settings begun ended (λ request. request_of settings at input line ≡ Ok request) _ (c.lines_are_one_run.ensures.none begun) c.serve_line.result c.serve_line.ensures.ends
-    in let is : IsOfLine settings begun ended line at input c.serve_line.result (exchange_of commands replies stopped) = (done, c.serve_line.ensures.fault) in
-    (commands, replies, stopped, ran, (is, of_words settings begun ended line at input c.serve_line.result (exchange_of commands replies stopped) is)))
+    (let (hand, commands, replies, stopped, ran, done) =
+    line_given settings begun ended (λ request. Asks settings at input line (Ok request)) _ (c.lines_are_one_run.ensures.none begun) c.serve_line.result c.serve_line.ensures.ends
+    in let is : IsOfLine settings begun ended line at input c.serve_line.result (exchange_of hand commands replies stopped) = (done, c.serve_line.ensures.fault) in
+    (hand, commands, replies, stopped, ran, (is, of_words settings begun ended line at input c.serve_line.result (exchange_of hand commands replies stopped) is)))
 
 pub returns-in-Requests : goal.returns-in-Requests
 returns-in-Requests g c =

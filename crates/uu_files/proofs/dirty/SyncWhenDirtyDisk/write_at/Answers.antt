@@ -2,7 +2,7 @@ use Rattle.std.proofs.Common.{true, refl}
 use Rattle.std.proofs.lemmas.Bool.{and_from, and_parts}
 use Rattle.uu_files.proofs.dirty.SyncWhenDirtyDisk.write_at.Goals as goal
 
--- the file behind has stopped, and this one stays dirty
+-- the inner file has stopped, and this one stays dirty
 pub returns-clause-frozen : goal.returns-clause-frozen
 returns-clause-frozen g c = λ stopped.
     let it = c.write_at.ensures.frozen (and_parts (g.D.Disk.is_frozen c.args.self.now.inner) c.args.self.now.dirty stopped).0 in (

@@ -1,4 +1,4 @@
--- The first byte that does not pass decides, and where there is none the length does.
+-- The first byte that doesn't pass decides, or, if there is none, the length does.
 use Rattle.std.proofs.Common.{◌<◌, ◌≤◌, length, arith}
 use Rattle.std.proofs.lemmas.Bool.Decides.{nat_tests}
 use Rattle.uu_names.specs.Internal.Form.{allows, limit_of, bad_at}

@@ -1,4 +1,4 @@
--- The text may be cut before its first `!`, and what stands there is a site name.
+-- The text may be cut before its first `!`, and what comes before it is a site name.
 use Rattle.std.proofs.Common.{◌≡◌, List, ℕ, subst, sym, ap, ◌∙◌, IsCharBoundary, arith}
 use Rattle.std.proofs.lemmas.Grind.{common_steps}
 use Rattle.uu_names.specs.Name.{is_site_name}

@@ -1,4 +1,4 @@
--- The text may be cut after its first `!`, which is a byte of its own, and what stands there is a
+-- The text may be cut after its first `!`, which is a byte of its own, and what comes after it is a
 -- word.
 use Rattle.std.proofs.Common.{◌≡◌, ◌+◌, List, ℕ, subst, sym, ap, ◌∙◌, IsCharBoundary, IsUtf8, arith}
 use Rattle.std.proofs.lemmas.Grind.{common_steps}

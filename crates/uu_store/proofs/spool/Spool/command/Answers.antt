@@ -1,8 +1,12 @@
-use Rattle.std.proofs.Common.{true≢false, sym, ◌∙◌, arith}
+use Rattle.std.proofs.Common.{[], ◌∷◌, true≢false, sym, ◌∙◌, arith}
 use Rattle.uu_core.specs.State.{State}
 use Rattle.uu_store.proofs.Asking.{question_told}
-use Rattle.uu_store.proofs.Stepping.{asked_before, unasked, is_between, ran_alone, stops_ok, stops_memory}
+use Rattle.uu_store.proofs.Running.{one_ahead, ran_failed}
+use Rattle.uu_store.proofs.Stepping.{asked_before, unasked, is_between, ran_alone, command_stops_ok, command_stops_memory}
 use Rattle.uu_store.proofs.spool.Spool.command.Goals as goal
+
+pub returns-then-is_failed-clause-ran : goal.returns-then-is_failed-clause-ran
+returns-then-is_failed-clause-ran g c = ran_failed c.args.self.now (c.args.command ∷ []) 1 (one_ahead (c.args.command ∷ [])) (sym c.is_failed.ensures ∙ c.if-is_failed.true)
 
 pub returns-in-Ok : goal.returns-in-Ok
 returns-in-Ok g c =
@@ -10,16 +14,16 @@ returns-in-Ok g c =
     let new = c.carry_out.new.self in
     let r = c.carry_out.result in
     let usable = sym c.is_failed.ensures ∙ c.if-is_failed.false in
-    let asked = rw c.in-Ok.is at (question_told _ old c.told.new.self usable (g.met.S.Store.settled old.conn.store) _ usable c.facts_for-facts.result c.told.result c.told.ensures c.facts_for-facts.ensures.answers) in
-    let steps = λ (s : State). asked_before s c.args.command _ c.in-Ok.facts old c.told.new.self new r asked (c.carry_out.ensures.step s) c.carry_out.ensures.clean in
+    let asked = rw c.in-Ok.is at (question_told _ old c.told.new.self usable (g.met.S.Store.settled old.conn.store) _ usable c.facts_for-facts.result c.told.result c.told.ensures c.facts_for-facts.ensures.asks.answers) in
+    let steps = λ (s : State). asked_before s _ _ _ c.in-Ok.facts old c.told.new.self new r asked (c.carry_out.ensures.step s) c.carry_out.ensures.clean in
     let settles = g.met.S.Store.settled new.conn.store in
     record {
       marked = is_between r _ _ usable c.carry_out.ensures.marked;
       noted = c.carry_out.ensures.noted;
       step = λ clean s. (steps s).ok clean;
       memory = λ clean s. (steps s).memory clean;
-      stop_ok = stops_ok c.args.command old new r settles steps;
-      stop_memory = stops_memory c.args.command old new r settles steps;
+      stop_ok = command_stops_ok c.args.command old new r settles steps;
+      stop_memory = command_stops_memory c.args.command old new r settles steps;
       stop_store = λ clean s. (steps s).stop clean;
       clean = omega (arith, asked.clean, c.carry_out.ensures.clean);
       failed = λ had. absurd (true≢false (sym had ∙ usable));
@@ -31,16 +35,16 @@ returns-in-Err g c =
     let old = c.args.self.now in
     let new = c.told.new.self in
     let usable = sym c.is_failed.ensures ∙ c.if-is_failed.false in
-    let asked = rw c.in-Err.is at (question_told _ old c.told.new.self usable (g.met.S.Store.settled old.conn.store) _ usable c.facts_for-facts.result c.told.result c.told.ensures c.facts_for-facts.ensures.answers) in
-    let steps = λ (s : State). unasked s c.args.command _ old new c.in-Err.fault asked in
+    let asked = rw c.in-Err.is at (question_told _ old c.told.new.self usable (g.met.S.Store.settled old.conn.store) _ usable c.facts_for-facts.result c.told.result c.told.ensures c.facts_for-facts.ensures.asks.answers) in
+    let steps = λ (s : State). unasked s _ _ _ old new c.in-Err.fault asked in
     let settles = g.met.S.Store.settled new.conn.store in
     record {
       marked = asked.marked;
       noted = asked.noted;
       step = λ clean s. (steps s).ok clean;
       memory = λ clean s. (steps s).memory clean;
-      stop_ok = stops_ok c.args.command old new _ settles steps;
-      stop_memory = stops_memory c.args.command old new _ settles steps;
+      stop_ok = command_stops_ok c.args.command old new _ settles steps;
+      stop_memory = command_stops_memory c.args.command old new _ settles steps;
       stop_store = λ clean s. (steps s).stop clean;
       clean = asked.clean;
       failed = λ had. absurd (true≢false (sym had ∙ usable));

@@ -1,5 +1,6 @@
 use Rattle.std.proofs.Common.{◌∙◌, map, refl, sym, ap, is_some}
 use Rattle.std.specs.Option.{option_copied}
+use Rattle.uu_names.proofs.Basics.{pairs_by_recursion}
 use Rattle.uu_core.specs.declared.command.Command.TheVariants.{Done}
 use Rattle.uu_core.specs.State.{head_of}
 use Rattle.uu_core.specs.Verdict.{done_reasons}
@@ -8,7 +9,7 @@ use Rattle.uu_tables.specs.Tables.{tables_of}
 use Rattle.uu_tables.specs.Changes.{applied}
 use Rattle.uu_tables.specs.Parts.{without_jobs}
 use Rattle.uu_tables.proofs.PlanLemmas.{when_accepted, when_refused, accepts, refuses}
-use Rattle.uu_tables.proofs.OrderLemmas.{pairs_by_recursion, before}
+use Rattle.uu_tables.proofs.OrderLemmas.{before}
 use Rattle.uu_tables.proofs.ReportLemmas.{call_made, done, done_is_found, is_known}
 use Rattle.uu_tables.proofs.plan.report.plan_done.Goals as goal
 

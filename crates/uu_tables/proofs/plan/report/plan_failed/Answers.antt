@@ -1,9 +1,10 @@
 use Rattle.std.proofs.Common.{◌∙◌, ◌∷◌, [], sym}
 use Rattle.std.specs.Option.{option_copied}
+use Rattle.uu_names.proofs.Basics.{pairs_by_recursion}
 use Rattle.uu_core.specs.declared.command.Command.TheVariants.{Failed}
 use Rattle.uu_tables.specs.declared.change.Change.TheVariants.{SetCall}
 use Rattle.uu_tables.proofs.PlanLemmas.{accepts_with, refuses}
-use Rattle.uu_tables.proofs.OrderLemmas.{pairs_by_recursion, before}
+use Rattle.uu_tables.proofs.OrderLemmas.{before}
 use Rattle.uu_tables.proofs.ReportLemmas.{failed_is_set, failed_is_refused}
 use Rattle.uu_tables.proofs.plan.report.plan_failed.Goals as goal
 

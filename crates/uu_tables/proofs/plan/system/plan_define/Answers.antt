@@ -1,9 +1,10 @@
 use Rattle.std.proofs.Common.{◌∙◌, refl, ap}
+use Rattle.uu_names.proofs.Basics.{pairs_by_recursion}
 use Rattle.uu_core.specs.declared.command.Command.TheVariants.{Define}
 use Rattle.uu_tables.specs.Tables.{tables_of, placed_from, waits_from}
 use Rattle.uu_tables.specs.Parts.{with_lines, with_waits}
 use Rattle.uu_tables.proofs.PlanLemmas.{accepts}
-use Rattle.uu_tables.proofs.OrderLemmas.{pairs_by_recursion, before}
+use Rattle.uu_tables.proofs.OrderLemmas.{before}
 use Rattle.uu_tables.proofs.DefineLemmas.{defined}
 use Rattle.uu_tables.proofs.plan.system.plan_define.Goals as goal
 

@@ -1,0 +1,11 @@
+pub mod Plain
+pub mod Cuts
+pub mod Numbers
+pub mod MarkSizes
+pub mod Records
+pub mod Pieces
+pub mod Progress
+pub mod Uniqueness
+pub mod OneBundle
+pub mod Made
+pub mod Room

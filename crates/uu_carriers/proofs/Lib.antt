@@ -1,0 +1,10 @@
+mod Around
+mod Words
+mod Grades
+mod Printed
+mod Runs
+mod Histories
+mod Going
+mod Opened
+mod Together
+mod Examples

@@ -1,0 +1,4 @@
+//! Anything that moves texts is a carrier: laws only.
+#![tactic(auto)]
+
+pub mod laws;

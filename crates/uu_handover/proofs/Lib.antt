@@ -1,0 +1,15 @@
+mod BundleExamples
+mod BundleLaws
+mod SettledLaws
+mod CustodyExamples
+mod CustodyInvariant
+mod CustodyLaws
+mod CustodyLemmas
+mod CustodyRuns
+mod ExchangeLaws
+mod NetworkArrival
+mod NetworkExamples
+mod NetworkKilled
+mod NetworkLaws
+mod NetworkWays
+mod NetworkWorlds

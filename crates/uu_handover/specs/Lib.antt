@@ -1,0 +1,3 @@
+pub mod Custody
+pub mod Network
+pub mod Bundles

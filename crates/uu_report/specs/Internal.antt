@@ -1,0 +1,2 @@
+-- Mirrors of the code, which only clauses within the crate cite.
+pub mod SettledLines

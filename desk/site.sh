@@ -1,0 +1,98 @@
+# shellcheck shell=sh disable=SC2034 # its users read the names
+# Finding the site: shared by uuspool, uuspool-desk and uulog.
+
+# Finds the site: find_site [FILE], where FILE is that of -c. It sets
+#   settings  the settings file
+#   site      the folder in which the program runs, where relative paths start
+#   file      the spool's file, '' if the settings don't name it
+#   folder    its folder; the folder of the turns is desk, below it
+#   zone      the clock of the site, as TZ has it
+#   odd_keys  lines of the settings that mean nothing
+find_site() {
+    site=$PWD
+    if [ -n "${1-}" ]; then
+        settings=$1
+    elif [ -n "${UUSPOOL_DIR-}" ]; then
+        site=$UUSPOOL_DIR settings=$UUSPOOL_DIR/uuspool.toml
+    elif [ -f uuspool.toml ]; then
+        settings=uuspool.toml
+    else
+        site=/var/spool/uuspool settings=/etc/uuspool/uuspool.toml
+    fi
+    case $site in /*) ;; *) site=$PWD/$site ;; esac
+    case $settings in /*) ;; *) settings=$PWD/$settings ;; esac
+    take_settings
+}
+
+take_settings() {
+    file='' zone=UTC0 odd_keys='' odd_spool=''
+    if [ -f "$settings" ] && [ -r "$settings" ]; then read_settings <"$settings"; fi
+    case $file in '' | /*) ;; *) file=$site/$file ;; esac
+    folder=${file%/*} desk=${file%/*}/desk
+}
+
+# Reads what the commands need. The program reads the settings itself, and judges them.
+read_settings() {
+    at=0 table=''
+    while IFS=' 	' read -r key equals value || [ -n "$key" ]; do
+        at=$((at + 1))
+        case $key in
+        '' | '#'*) continue ;;
+        '['*) table=yes ;;
+        esac
+        # (`key=value` without blanks around the sign)
+        case $key in *=*) value=${key#*=}${equals:+ $equals}${value:+ $value} key=${key%%=*} equals='=' ;; esac
+        case $equals in
+        '=') ;;
+        '='*) value=${equals#=}${value:+ $value} ;;
+        *) continue ;; # within a list
+        esac
+        case $table$key in
+        spool | '"spool"' | "'spool'") read_string && file=$string || odd_spool=$at ;;
+        zone) read_string && zone=$string ;;
+        offset) read_offset ;;
+        name | admins | '"name"' | "'name'") ;;
+        *) odd_keys="$odd_keys$at ${key}
+" ;;
+        esac
+    done
+}
+
+# A text of TOML on one line, without escapes.
+read_string() {
+    case $value in
+    '"""'* | "'''"*) return 1 ;;
+    '"'*'"'*) string=${value#\"} && string=${string%%\"*} && case $string in *\\*) return 1 ;; esac ;;
+    "'"*"'"*) string=${value#\'} && string=${string%%\'*} ;;
+    *) return 1 ;;
+    esac
+}
+
+# Minutes ahead of UTC, as TZ has them, with the opposite sign.
+read_offset() {
+    offset=${value%%[#	 ]*} sign=-
+    case $offset in
+    -*) sign=+ offset=${offset#-} ;;
+    +*) offset=${offset#+} ;;
+    esac
+    case $offset in '' | *[!0-9]* | 0?* | ?????*) return ;; esac
+    zone="<site>$sign$((offset / 60)):$((offset % 60))"
+}
+
+# Appends a line to the log of the site, by its clock: log_line SYSTEM USER JOB HOW WORDS.., with
+# `-` for a missing word. $moment is the time, if it was read before. It makes no log in another
+# user's folder. $unlogged says that a log can't be written, which stops nothing else.
+log_line() {
+    # shellcheck disable=SC3067 # dash and bash have -O
+    [ -O "$folder" ] || return 0
+    [ -n "${moment-}" ] || moment=$(TZ=$zone date '+%F %T')
+    case $4 in
+    *' '*) how=$(printf %s "$4" | tr ' ' -) ;;
+    *) how=$4 ;;
+    esac
+    logged="$moment ${1:--} ${2:--} ${3:--} $how"
+    shift 4
+    logged="$logged $*"
+    case $logged in *[!\ -~]*) logged=$(printf %s "$logged" | tr -c ' -~' '?') ;; esac
+    { printf '%s\n' "$logged" >>"$folder/log"; } 2>/dev/null || unlogged=yes
+}
