@@ -17,7 +17,7 @@ use Rattle.uu_schema.specs.Encoded.{Encodes, HoldsState, HoldsStateAs, Leaves, M
 use Rattle.uu_adopt.specs.FoundTables.{HasNone, HasEarlier, IsEarlier}
 use Rattle.uu_adopt.specs.Becoming.{Becomes, CreatesTables, MigratesState}
 
--- no state has these rows in the tables of this version
+-- these are the rows of no state in the tables of this version
 abbrev pub IsOfNone : Version → Trees → Type 0
 IsOfNone v trees = (s : State) → ¬ HoldsStateAs v trees s
 

@@ -9,7 +9,7 @@ use Rattle.uu_adopt.specs.Reading.{FindsSystems, FindsLines, FindsRanges, FindsJ
 use Rattle.uu_adopt.specs.Adoption.{IsOfNone}
 use Rattle.uu_adopt.specs.declared.all_rows.AllRows.{AllRows}
 
--- each table's rows are found, or that no state has its rows
+-- the rows of each table are found, or else they are the rows of no state
 pub record FindsAllRows (v : Version) (trees : Trees) (all : AllRows) : Type 0 where
   pub next : FindsNext v trees all.next
   pub systems : FindsSystems trees all.systems
@@ -35,6 +35,6 @@ pub record AreRowsOf (all : AllRows) (rows : Rows) : Type 0 where
   pub links : IsSomeAnd all.links (λ found. rows.links.now ≡ found.items)
   pub taken : IsSomeAnd all.taken (λ found. rows.taken.now ≡ found.items)
 
--- yes if a state has these rows in the tables of a version, and no if no state has
+-- yes if these are the rows of a state in the tables of a version, and else no
 abbrev pub TellsState : Version → Trees → Bool → Type 0
 TellsState v trees good = Tells good ((s : State) × HoldsStateAs v trees s) (IsOfNone v trees)

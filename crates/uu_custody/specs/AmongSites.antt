@@ -1,6 +1,6 @@
 -- Several sites between which jobs go in bundles, whatever moves these: each bundle that any site
--- said may be brought to any site, as often, as late and cut off wherever one likes. (The sites and
--- lines are those of `uu_handover/specs/Network.antt`.)
+-- said may be brought to any site, as often and as late as one likes, and cut off at any byte. (The
+-- sites and lines are those of `uu_handover/specs/Network.antt`.)
 use Rattle.std.specs.Prelude.{◌≡◌, ◌<◌, ⊤, ℕ, true, ◌==◌, List, [], ◌∷◌, ◌++◌, map, take, All, Contains, if◌then◌else◌}
 use Rattle.sqlite_wal.specs.Recovery.{Image}
 use Rattle.uu_core.specs.declared.command.Command.{Command}

@@ -89,7 +89,7 @@ pub fn mail_goes_on_by_paths()
 
 /// What a site reads of a bundle that was cut off anywhere after its first line is a front of what
 /// was said: the same sites and number, the first of the jobs that the other site has, and the first
-/// of its own. So a carrier may cut a bundle off wherever it likes.
+/// of its own. So a carrier may cut a bundle off at any byte.
 pub fn fronts_of_bundles_are_read()
     ensures { (whole read : Bundle) (front cut : List ℕ) → IsBundle whole → front ++ cut ≡ bundle_text whole → IsRead front read
         → IsFrontOf (said_of whole) (said_of read) }

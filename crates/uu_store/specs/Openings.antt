@@ -100,7 +100,7 @@ abbrev pub StaysKept : Image → (Image → Type 0) → Type 0
 StaysKept before may_hold = (s : State) → ImageKeeps before s → (image : Image) → may_hold image → ∥ ImageKeeps image s ∥₁
 
 -- About a database with exactly the tables of a version: it is called newer only if a row names a
--- later version, and foreign only if no row does and no state has its rows.
+-- later version. It is called foreign only if no row does and its rows are those of no state.
 abbrev pub IsToldRightly : Version → Trees → StoreFault → Type 0
 IsToldRightly v trees fault = (fault ≡ Newer → IsLater trees) × (fault ≡ Foreign → (¬ IsLater trees) × IsOfNone v trees)
 

@@ -38,8 +38,8 @@ pub type FileSpool<T> = Spool<FileStore<SpoolFile<T>>>;
 /// nothing yet, are never `Foreign` or `Newer`.
 ///
 /// Suppose that a database was opened. If it has exactly the tables of a version, it is `Newer`
-/// only if a row names a later version. It is `Foreign` only if no row does and no state has its
-/// rows. If one of the names is taken and no table says a version, it is `Foreign` (`named`).
+/// only if a row names a later version. It is `Foreign` only if no row does and its rows are those
+/// of no state. If one of the names is taken and no table says a version, it is `Foreign` (`named`).
 pub fn open_spool<T: Start>(
     rt: &HostRuntime,
     path: &str,

@@ -236,10 +236,10 @@ pub(crate) fn time_of(
 /// Sunday 00:00.
 ///
 /// # Errors
-/// If a text is none of these, has the form of a timetable's name and doesn't begin with a day
-/// word, it is [`TimeFault::UnknownTable`]. Any other such text is [`TimeFault::BadTime`], with the
-/// length of its longest prefix that begins a list of simple strings. The line of both is 0. The
-/// only other error is [`TimeFault::Memory`].
+/// Any other text is an error. If it has the form of a timetable's name and doesn't begin with a day
+/// word, it is [`TimeFault::UnknownTable`]. Else it is [`TimeFault::BadTime`], with the length of its
+/// longest prefix that begins a list of simple strings. The line of both is 0. The only other error
+/// is [`TimeFault::Memory`].
 pub fn read_time(alloc: Global, text: &str, tables: &Timetables) -> Result<Windows, TimeFault>
     ensures string { IfOk result (λ windows. IsTimeString tables.now text.now windows) }
     ensures refused { IfErr result (λ fault. UnlessMemory fault ((windows : List (ℕ × ℕ)) → ¬ IsTimeString tables.now text.now windows)) }
