@@ -124,7 +124,7 @@ fn answer_of<T: Debug + Drop>(
 }
 
 /// The same for a run.
-pub(crate) fn run_answered(rt: &impl Abort, alloc: Global, end: RunEnd) -> Answered {
+fn run_answered(rt: &impl Abort, alloc: Global, end: RunEnd) -> Answered {
     Answered {
         refused: was_refused(alloc),
         end: end_of_run(end.stopped),

@@ -580,7 +580,7 @@ fn batches(rt: HostRuntime) {
     in_memory(&rt, rt.alloc(), BATCH);
 }
 
-// ---- databases that are taken, stretches of work, and a close
+// ---- databases that are taken, and a close
 
 /// What makes a database one of version 1.
 const INTO_1: &[&str] = &[
@@ -669,20 +669,6 @@ fn closes(rt: HostRuntime) {
     let deed = Deed::Close(FULL);
     let mut trial = InFiles::new(&rt, alloc, nothing(alloc), FEW_PAGES, deed, stages);
     refuse_each(&rt, alloc, "Spool::close", LATER, &mut trial);
-}
-
-#[test]
-fn stretches_of_work(rt: HostRuntime) {
-    let alloc = rt.alloc();
-    let mut parts = Vec::new(alloc);
-    for count in 0..ORDERS.len() {
-        let part = Act::Run(ORDERS.get(..count).unwrap_or(&[]));
-        parts.push(part).expect(&rt, "memory");
-    }
-    let stages = stages_of(&rt, alloc, &[], &parts, Act::Run(ORDERS));
-    let deed = Deed::AdoptAndRun(ORDERS);
-    let mut trial = InFiles::new(&rt, alloc, nothing(alloc), FEW_PAGES, deed, stages);
-    refuse_each(&rt, alloc, "Spool::adopt_and_run", LATER, &mut trial);
 }
 
 /// A spool is given back, or its store is, without allocating.

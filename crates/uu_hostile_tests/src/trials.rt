@@ -2,15 +2,14 @@
 // is right.
 ghost use Rattle.std.specs.Prelude.{◌≡◌, false};
 
-use crate::acts::{Act, Answered, End, end_of, is_failed, perform, picture, play, run_answered};
+use crate::acts::{Act, Answered, End, end_of, is_failed, perform, picture, play};
 use crate::files::{Contents, Left, MANY_PAGES, files_of, left_of, nothing};
 use crate::refusing::{Call, NONE, Outcome, Refusing, outcome_if, was_refused};
-use crate::values::{Order, commands};
 use sqlite::{Alter, Connection, Options};
 use sqlite_disk::{Disk, Files};
 use std::alloc::Global;
 use std::process::Abort;
-use uu_store::{RunEnd, Spool, StoreFault};
+use uu_store::{Spool, StoreFault};
 
 /// What is done in a database.
 #[derive(Clone, Copy)]
@@ -20,8 +19,6 @@ pub(crate) enum Deed {
     /// The database is taken as a spool. It was one before in which this was done, and then the
     /// statements changed it.
     Adopt(&'static [Act], &'static [&'static str]),
-    /// A whole stretch of work.
-    AdoptAndRun(&'static [Order]),
     /// The files of a spool in which this was done are closed.
     Close(&'static [Act]),
     /// Statements change a database, whether or not it is a spool's.
@@ -250,38 +247,6 @@ fn adopt_in<S: Alter + Drop>(
     (without_answer(alloc, refused, end, shown), store)
 }
 
-fn adopt_and_run_in<S: Alter + Drop>(
-    rt: &impl Abort,
-    alloc: Global,
-    conn: Connection<S>,
-    orders: &[Order],
-    refusing: Refusing,
-) -> (Met, S)
-    requires { conn.in_transaction ≡ false }
-{
-    let commands = commands(rt, alloc, orders);
-    refusing.begin(alloc);
-    let (end, store) = match Spool::adopt_and_run(alloc, conn, commands) {
-        Ok((end, store)) => (end, store),
-        Err((fault, store)) => {
-            let end = RunEnd {
-                replies: Vec::new(alloc),
-                stopped: Some(fault),
-            };
-            (end, store)
-        }
-    };
-    let Answered { refused, end, text } = run_answered(rt, alloc, end);
-    let met = Met {
-        refused,
-        end,
-        text,
-        shown: None,
-        again: None,
-    };
-    (met, store)
-}
-
 fn done_in<S: Alter + Drop>(
     rt: &impl Abort,
     alloc: Global,
@@ -302,7 +267,6 @@ fn done_in<S: Alter + Drop>(
             let met = without_answer(alloc, false, End::Whole, None);
             (met, conn.into_store())
         }
-        Deed::AdoptAndRun(orders) => adopt_and_run_in(rt, alloc, conn, orders, refusing),
         Deed::Close(_) => panic!(rt; "only files are closed"),
     }
 }

@@ -1,15 +1,12 @@
 -- Taking a database as a spool, as the beginning of a stretch.
-use Rattle.std.proofs.Common.{◌≡◌, false, inl, inr, ℕ, List, Option, Result, Ok, refl, sym, ap, subst, ◌∙◌}
+use Rattle.std.proofs.Common.{◌≡◌, false, inl, inr, ℕ, List, Result, Ok, sym, ap, subst, ◌∙◌}
 use Rattle.std.proofs.Math.Logic.{∥∥₁_map}
 use Rattle.sqlite.specs.Effect.{Database}
 use Rattle.sqlite.specs.Store.{Ghosts}
 use Rattle.sqlite.specs.Held.{Held, state}
 use Rattle.sqlite.specs.State as db
-use Rattle.sqlite.specs.View.{IsClean}
 use Rattle.sqlite_catalog.specs.Listing.{IsSound}
 use Rattle.uu_schema.specs.Steps.{Rests}
-use Rattle.uu_core.specs.declared.command.Command.{Command}
-use Rattle.uu_core.specs.declared.command.Reply.{Reply}
 use Rattle.uu_core.specs.declared.custody.Key.{Key}
 use Rattle.uu_core.specs.declared.job.NewJob.{NewJob}
 use Rattle.uu_core.specs.State.{State}
@@ -26,10 +23,7 @@ use Rattle.uu_adopt.specs.Becoming.{CreatesTables, MigratesState}
 use Rattle.uu_schema.specs.Encoded.{Encodes, EncodesAs, HoldsState, HoldsStateAs}
 use Rattle.uu_store.specs.Kept.{Stores, KeepsOnly}
 use Rattle.uu_store.specs.Spool.{connection_of, has_failed, Shows}
-use Rattle.uu_store.specs.Runs.{Ran}
-use Rattle.uu_store.specs.Stretches.{Adopted, TurnedAway, IsLetGo, Passed, StoresAfter, StretchOver, Led, stretch, told}
-use Rattle.uu_store.specs.Exchanges.{exchange_of, not_given}
-use Rattle.uu_store.specs.Openings.{IsNotTaken}
+use Rattle.uu_store.specs.Stretches.{Adopted, TurnedAway, StoresAfter, StretchOver, Led, told}
 use Rattle.uu_store.specs.Acknowledged.{IsAcknowledged, IsAcknowledgedUnder, StoresJob, StoresUnder}
 use Rattle.uu_store.specs.Remembered.{Remembers}
 use Rattle.uu_adopt.proofs.Settling.{Settles}
@@ -80,16 +74,6 @@ rests_leaves s a settles rests (inl (v, enc)) trees may =
     inl (v, subst (IsSound (site_of v)) (sym is) enc.stands.sound, subst (λ t. HoldsStateAs v t s) (sym is) enc.holds)
 rests_leaves s a settles rests (inr none) trees may =
     let is = settles trees rests.is_open may in inr (subst (IsSound no_schema) (sym (is ∙ sym (ap (λ (d : Database). d.trees) rests.settled))) none.0.sound, none.1)
-
--- ---- a whole stretch
-
-module _ {S : Type 0} (g : Ghosts S) (opened : Held S) (commands : List Command) (stopped : S) where
-  pub passed_worked : (begun ended : Spool S g) (replies : List Reply) (fault : Option StoreFault) → Adopted opened begun → Ran 1 commands begun ended replies fault → IsLetGo g (connection_of ended).store stopped → IsClean (g.view stopped)
-      → Passed (stretch g opened (exchange_of 1 commands replies fault) stopped)
-  passed_worked begun ended replies fault adopted ran let_go clean = record { work = inl (record { begun = begun; ended = ended; fault = fault; ending = refl; adopted = adopted; ran = ran; let_go = let_go }); clean = clean }
-
-  pub passed_unworked : (fault : StoreFault) → IsNotTaken g opened stopped fault → IsClean (g.view stopped) → Passed (stretch g opened (not_given commands) stopped)
-  passed_unworked fault away clean = record { work = inr (record { last = away.last; turned_away = away.turned_away; no_reply = refl; ending = refl; let_go = away.let_go }); clean = clean }
 
 -- ---- what is stored is shown
 

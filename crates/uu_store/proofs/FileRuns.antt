@@ -7,9 +7,7 @@ use Rattle.sqlite_disk.specs.declared.Files.{Files}
 use Rattle.sqlite_store.specs.declared.store.FileStore.{FileStore}
 use Rattle.sqlite_store.specs.FileStore.{recovers, view}
 use Rattle.sqlite_wal.specs.Recovery.{Image}
-use Rattle.sqlite.specs.State.{HasCleanDisk}
 use Rattle.sqlite.specs.View.{IsClean}
-use Rattle.sqlite_wal.specs.Reads.{AreClean}
 use Rattle.sqlite.specs.Tree.{Trees}
 use Rattle.sqlite.specs.Held.{Held, AreDatabases}
 use Rattle.sqlite.specs.Files.{HoldsDatabase, file_state, over_files}
@@ -118,13 +116,6 @@ module _ {D : Type 0} {g : disk.Ghosts D} (in_hand : ℕ) (image : Image) (comma
       may = may;
     });
   }
-
-  -- what was clean at the end was so as the spool was started
-  pub begun_clean : (stopped : FileStore D g) → IsLetGo over_files (connection_of ended).store stopped → IsClean (view stopped) → HasCleanDisk (disk begun)
-  begun_clean stopped last clean = omega (arith, ran.clean, last.clean, clean)
-
-  pub begun_clean_of_closed : (files : Files D) → IsClosed ended files → AreClean g files.log files.db → HasCleanDisk (disk begun)
-  begun_clean_of_closed files close clean = let sure = close.clean clean in omega (arith, ran.clean, sure)
 
   -- nothing was done since
   at_once : IsLetGo over_files (connection_of ended).store (connection_of ended).store

@@ -1,6 +1,6 @@
 -- Commands over a spool, one after the other.
-use Rattle.std.proofs.Common.{◌≡◌, ◌⊎◌, ◌≤◌, inl, inr, Bool, ℕ, zero, suc, ◌+◌, true, false, true≢false, List, [], ◌∷◌, ◌++◌, length, take, Option, Some, None, Result, Ok, Err, refl, sym, ap, subst, ◌∙◌, append_assoc, append-nil, arith}
-use Rattle.std.specs.Prelude.{IfOk, IfErr, IfSome, MatchOption, MatchResult}
+use Rattle.std.proofs.Common.{◌≡◌, ◌⊎◌, ◌≤◌, inl, inr, ℕ, zero, suc, ◌+◌, true, false, true≢false, List, [], ◌∷◌, ◌++◌, length, take, Option, Some, None, Result, Ok, Err, refl, sym, ap, subst, ◌∙◌, append_assoc, append-nil, arith}
+use Rattle.std.specs.Prelude.{IfOk}
 use Rattle.std.proofs.lemmas.List.{length-append, length-take, take_all}
 use Rattle.std.proofs.Math.Seq.{take-append_seam}
 use Rattle.sqlite.specs.Store.{Ghosts}
@@ -12,12 +12,10 @@ use Rattle.uu_core.specs.After.{after}
 use Rattle.uu_core.specs.Run.{state_after, replies_to}
 use Rattle.uu_schema.specs.declared.fault.StoreFault.{StoreFault}
 use Rattle.uu_schema.specs.declared.fault.StoreFault.TheVariants.{Memory, Store, Failed, Foreign, Newer}
-use Rattle.uu_schema.specs.Faults.{IsFaultOfThisCall}
 use Rattle.uu_store.specs.declared.spool.Spool.{Spool}
 use Rattle.uu_schema.specs.Steps.{StaysUnclean}
-use Rattle.uu_store.specs.Closing.{IsToldAfter}
 use Rattle.uu_schema.specs.Encoded.{Leaves, LeavesEither}
-use Rattle.uu_store.specs.Spool.{disk, has_failed, Shows, IsFaultBetween}
+use Rattle.uu_store.specs.Spool.{disk, has_failed, Shows}
 use Rattle.uu_store.specs.Runs.{GoesOn, RanFrom, Ran, reply_in, fault_in}
 use Rattle.uu_adopt.proofs.Settling.{Settles, leaves}
 
@@ -293,43 +291,3 @@ ran_any_hand in_hand other old new commands replies stopped every on ran = recor
       record { answers = it.answers; shows = it.shows; stop = it.stop; stop_store = λ trees may. (let left = it.stop on trees may in (left.0, inl left.1)) };
   clean = ran.clean;
 }
-
--- ---- which fault ends a run of a spool that can be used
-
-pub stopped_fresh : (stopped : Option StoreFault) (before later : Bool) → before ≡ false → MatchOption stopped ((before ≡ false) × (later ≡ false)) (IsFaultBetween before later) → IfSome stopped IsFaultOfThisCall
-stopped_fresh None before later usable between = tt
-stopped_fresh (Some Memory) before later usable between = tt
-stopped_fresh (Some (Store kind)) before later usable between = tt
-stopped_fresh (Some Failed) before later usable between = absurd (true≢false (sym between.0 ∙ usable))
-stopped_fresh (Some Foreign) before later usable between = absurd between
-stopped_fresh (Some Newer) before later usable between = absurd between
-
--- ---- which fault a close tells that fails after such a run
-
-goes_on : (stopped : Option StoreFault) (before later : Bool) → before ≡ false → MatchOption stopped ((before ≡ false) × (later ≡ false)) (IsFaultBetween before later) → later ≡ false → GoesOn stopped
-goes_on None before later usable between is = tt
-goes_on (Some Memory) before later usable between is = tt
-goes_on (Some (Store kind)) before later usable between is = absurd (true≢false (sym between.1 ∙ is))
-goes_on (Some Failed) before later usable between is = absurd (true≢false (sym between.0 ∙ usable))
-goes_on (Some Foreign) before later usable between is = absurd between
-goes_on (Some Newer) before later usable between is = absurd between
-
-ends_there : (stopped : Option StoreFault) (before later : Bool) → MatchOption stopped ((before ≡ false) × (later ≡ false)) (IsFaultBetween before later) → later ≡ true → ¬ GoesOn stopped
-ends_there None before later between is on = true≢false (sym is ∙ between.1)
-ends_there (Some Memory) before later between is on = true≢false (sym is ∙ between.1)
-ends_there (Some (Store kind)) before later between is on = on
-ends_there (Some Failed) before later between is on = on
-ends_there (Some Foreign) before later between is on = on
-ends_there (Some Newer) before later between is on = on
-
-told_as : (stopped : Option StoreFault) (before later : Bool) → before ≡ false → MatchOption stopped ((before ≡ false) × (later ≡ false)) (IsFaultBetween before later) → (fault : StoreFault) → IsFaultBetween later true fault → IsToldAfter stopped fault
-told_as stopped before later usable between Memory closes = absurd (true≢false closes.1)
-told_as stopped before later usable between (Store kind) closes = goes_on stopped before later usable between closes.0
-told_as stopped before later usable between Failed closes = ends_there stopped before later between closes.0
-told_as stopped before later usable between Foreign closes = absurd closes
-told_as stopped before later usable between Newer closes = absurd closes
-
-pub told_after : {F L : Type 0} (close : Result F (StoreFault × L)) (stopped : Option StoreFault) (before later : Bool) → before ≡ false → MatchOption stopped ((before ≡ false) × (later ≡ false)) (IsFaultBetween before later)
-    → MatchResult close (λ _. later ≡ false) (λ e. IsFaultBetween later true e.0) → IfErr close (λ e. IsToldAfter stopped e.0)
-told_after (Ok files) stopped before later usable between closes = tt
-told_after (Err e) stopped before later usable between closes = told_as stopped before later usable between e.0 closes

@@ -1,5 +1,5 @@
 -- What a close of a spool's two files leaves.
-use Rattle.std.specs.Prelude.{◌≡◌, ℕ, List, [], IsTrue, IfOk, IfErr, Option, Result, ⊤}
+use Rattle.std.specs.Prelude.{◌≡◌, [], IsTrue, ⊤}
 use Rattle.sqlite_disk.specs.declared.Disk as disk
 use Rattle.sqlite_disk.specs.declared.Files.{Files}
 use Rattle.sqlite_disk.specs.Disk.{MoreFaults}
@@ -12,16 +12,11 @@ use Rattle.sqlite.specs.Tree.{Trees}
 use Rattle.sqlite.specs.State.{HasCleanDisk}
 use Rattle.sqlite.specs.View.{IsClean}
 use Rattle.sqlite.specs.Files.{HoldsDatabase, over_files, image_of}
-use Rattle.uu_core.specs.declared.command.Command.{Command}
-use Rattle.uu_core.specs.declared.command.Reply.{Reply}
 use Rattle.uu_core.specs.State.{State}
-use Rattle.uu_schema.specs.declared.fault.StoreFault.{StoreFault}
-use Rattle.uu_schema.specs.declared.fault.StoreFault.TheVariants.{Memory, Store, Failed, Foreign, Newer}
 use Rattle.uu_schema.specs.declared.fault.StoreKind.{StoreKind}
 use Rattle.uu_schema.specs.declared.fault.StoreKind.TheVariants as part
 use Rattle.uu_store.specs.declared.spool.Spool.{Spool}
 use Rattle.uu_store.specs.Openings.{ImageKeeps}
-use Rattle.uu_store.specs.Runs.{GoesOn, Ran}
 use Rattle.uu_store.specs.Spool.{connection_of, disk, Shows}
 use Rattle.uu_store.specs.Stretches.{IsLetGo}
 
@@ -47,32 +42,9 @@ pub record IsClosed {D : Type 0} {g : disk.Ghosts D} (spool : Spool (FileStore D
   pub now : AreClean g files.log files.db → (s : State) → Shows spool s → KeepsAlone (image_of g files) s
   pub stop : AreClean g files.log files.db → (s : State) → Shows spool s → (image : Image) → outcomes g files.log files.db image → KeepsAlone image s
 
--- a spool was given the commands, the last request having so many, with this end; then its files
--- were closed, or its store was let go if that failed
-pub record IsRunAndClosed {D : Type 0} {g : disk.Ghosts D} (in_hand : ℕ) (spool : Spool (FileStore D g) over_files) (commands : List Command) (replies : List Reply) (fault : Option StoreFault)
-    (close : Result (Files D) (StoreFault × FileStore D g)) : Type 0 where
-  pub ended : Spool (FileStore D g) over_files
-  pub ran : Ran in_hand commands spool ended replies fault
-  pub closed : IfOk close (IsClosed ended)
-  pub let_go : IfErr close (λ e. IsLetGo over_files (connection_of ended).store e.1)
-
 -- Why a close failed: its kind is `Disk` only if the disk failed or refused a call meanwhile, and
 -- never `Size`. (Out of memory and a store that was closed before are `Database`.)
 abbrev pub HasCause : {D : Type 0} {g : disk.Ghosts D} → StoreKind → FileStore D g → FileStore D g → Type 0
 HasCause part.Disk was last = MoreFaults (store.faults was) (store.faults last)
 HasCause part.Size was last = ⊥
 HasCause part.Database was last = ⊤
-
--- it has a cause, for any store before: the disk failed or refused some call, and its kind is never
--- `Size`
-abbrev pub HasSomeCause : {D : Type 0} {g : disk.Ghosts D} → StoreKind → FileStore D g → Type 0
-HasSomeCause {D} {g} kind last = (was : FileStore D g) × HasCause kind was last
-
--- which fault a failed close gives after a run with this end: `Failed` exactly if the store failed
--- in the run, and otherwise `Store`
-abbrev pub IsToldAfter : Option StoreFault → StoreFault → Type 0
-IsToldAfter stopped (Store kind) = GoesOn stopped
-IsToldAfter stopped Failed = ¬ GoesOn stopped
-IsToldAfter stopped Memory = ⊥
-IsToldAfter stopped Foreign = ⊥
-IsToldAfter stopped Newer = ⊥

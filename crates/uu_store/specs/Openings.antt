@@ -5,7 +5,6 @@ use Rattle.sqlite_disk.specs.declared.Disk as disk
 use Rattle.sqlite_wal.specs.Recovery.{Image}
 use Rattle.sqlite_wal.specs.Files.{outcomes}
 use Rattle.sqlite_pool.specs.Stored.{stored_size, is_summed}
-use Rattle.sqlite_store.specs.declared.store.FileStore.{FileStore}
 use Rattle.sqlite_store.specs.FileStore as store
 use Rattle.sqlite_store.specs.Unopened.{state_of}
 use Rattle.sqlite.specs.Tree.{Trees}
@@ -15,7 +14,7 @@ use Rattle.sqlite.specs.Held.{Held, state}
 use Rattle.sqlite.specs.View.{IsClean}
 use Rattle.sqlite.specs.State as db
 use Rattle.sqlite.specs.Start.{FindsIn}
-use Rattle.sqlite.specs.Files.{HoldsDatabase, IsNothing, SaysSums, IsCleanLeft, IsFullLeft, faults_left, over_files}
+use Rattle.sqlite.specs.Files.{HoldsDatabase, IsNothing, SaysSums, IsCleanLeft, IsFullLeft, faults_left}
 use Rattle.sqlite.specs.declared.file.Leftover.{Leftover}
 use Rattle.sqlite.specs.declared.file.Leftover.TheVariants as left
 use Rattle.sqlite_catalog.specs.Listing.{IsSound}
@@ -86,10 +85,6 @@ pub record Started {S : Type 0} {g : Ghosts S} (image : Image) (spool : Spool S 
   pub adopted : Adopted opened spool
   pub taken : HasNoneOrAll (state g opened).now.schema
   pub encoded : (v : Version) → db.HasCleanDisk (state g (connection_of spool)) → Stands (site_of v) (state g opened).now → (s : State) × EncodesAs v (state g opened).now s
-
--- an opening of these files, on a clean disk, took what it found as a spool
-abbrev pub WasStarted : {D : Type 0} → disk.Ghosts D → Image → Type 0
-WasStarted {D} g image = (begun : Spool (FileStore D g) over_files) × db.HasCleanDisk (state over_files (connection_of begun)) × Started image begun
 
 -- a fault that says nothing about the contents of the files
 abbrev pub IsOfNoContents : StoreFault → Type 0

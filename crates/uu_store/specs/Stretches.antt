@@ -1,6 +1,6 @@
 -- Stretches of work over a store: each from an opening to a stop, and the next opening finds what
 -- that stop may have left.
-use Rattle.std.specs.Prelude.{◌≡◌, ◌⊎◌, ◌≤◌, ℕ, IsTrue, List, [], ◌∷◌, ◌++◌, map, Option}
+use Rattle.std.specs.Prelude.{◌≡◌, ◌⊎◌, ◌≤◌, List, [], ◌∷◌, ◌++◌, map, Option}
 use Rattle.sqlite.specs.Tree.{Trees}
 use Rattle.sqlite.specs.Store.{Ghosts}
 use Rattle.sqlite.specs.Held.{Held, state}
@@ -8,7 +8,6 @@ use Rattle.sqlite.specs.View.{doubt, IsClean}
 use Rattle.sqlite.specs.State as db
 use Rattle.uu_schema.specs.Steps.{Rests}
 use Rattle.uu_core.specs.declared.command.Command.{Command}
-use Rattle.uu_core.specs.declared.command.Reply.{Reply}
 use Rattle.uu_core.specs.State.{State}
 use Rattle.uu_core.specs.Run.{state_after}
 use Rattle.uu_schema.specs.declared.fault.StoreFault.{StoreFault}
@@ -36,16 +35,6 @@ pub record TurnedAway {S : Type 0} (g : Ghosts S) (was now : Held S) : Type 0 wh
 pub record IsLetGo {S : Type 0} (g : Ghosts S) (last stopped : S) : Type 0 where
   pub left : (trees : Trees) → g.recovers stopped trees → g.recovers last trees
   pub clean : doubt (g.view last).is_clean ≤ doubt (g.view stopped).is_clean
-
--- ---- a run and what follows it
-
--- a spool was given the commands, the last request having so many, with this end; then its store
--- was let go
-pub record IsRunAndLetGo {S : Type 0} {g : Ghosts S} (in_hand : ℕ) (spool : Spool S g) (commands : List Command) (replies : List Reply) (fault : Option StoreFault) (stopped : S) : Type 0 where
-  pub ended : Spool S g
-  pub ran : Ran in_hand commands spool ended replies fault
-  pub let_go : IsLetGo g (connection_of ended).store stopped
-  pub numbered : IsClean (g.view stopped) → IsTrue (g.view stopped).is_numbered
 
 -- ---- one stretch
 

@@ -32,8 +32,8 @@ ghost use Rattle.uu_store.specs.Closing.{IsClosed};
 ghost use Rattle.uu_store.specs.Spool.{connection_of};
 ghost use Rattle.uu_store.specs.Kept.{Stores, KeepsOnly};
 ghost use Rattle.uu_store.specs.Runs.{GoesOn, Ran};
-ghost use Rattle.uu_store.specs.Exchanges.{Exchange, exchange_of, Passes};
-ghost use Rattle.uu_store.specs.Stretches.{Stretch, StretchOver, IsLetGo, Reopens, LeadTo, AllStore, StoresAfter, Led, exchanges, over, told};
+ghost use Rattle.uu_store.specs.Exchanges.{Exchange, exchange_of, not_given, Passes};
+ghost use Rattle.uu_store.specs.Stretches.{Adopted, Stretch, StretchOver, TurnedAway, IsLetGo, Passed, Reopens, LeadTo, AllStore, StoresAfter, Led, exchanges, over, stretch, told};
 ghost use Rattle.uu_store.specs.Acknowledged.{IsAcknowledged, IsAcknowledgedUnder, IsAccountedFor, IsAccountedForUnder, StoresJob, StoresUnder};
 ghost use Rattle.uu_store.specs.Files.{FileStretch, FilePassed, AllFilesPassed, last_left, file_exchanges, AllKeep, KeepsAfter, KeepsJob, KeepsUnder, IsStretch, IsClosedStretch};
 ghost use Rattle.uu_store.specs.Files.{let_go_after, closed_after, not_started_for};
@@ -185,9 +185,8 @@ pub fn no_answered_command_is_lost_in_files<H: FileHistory>()
     acknowledged_jobs_are_accounted_for();
 }
 
-/// A spool over opened files gets any commands, bundles and questions. Once its store is let go, or
-/// its files are closed, they are a stretch of work, and what [`crate::work`] says about its calls
-/// holds of any calls.
+/// Whatever commands, bundles and questions a spool in files that were opened is given, they are a
+/// stretch of work once its store is let go, or its files are closed.
 pub fn calls_make_a_stretch<D: Disk>()
     ensures let_go { (in_hand : ℕ) (before : Image) (commands : List Command) (begun ended : Spool (FileStore D D.Disk) over_files) (replies : List Reply) (stopped : Option StoreFault) (store : FileStore D D.Disk)
         → Started before begun → Ran in_hand commands begun ended replies stopped → IsLetGo over_files (connection_of ended).store store
@@ -195,6 +194,17 @@ pub fn calls_make_a_stretch<D: Disk>()
     ensures closed { (in_hand : ℕ) (before : Image) (commands : List Command) (begun ended : Spool (FileStore D D.Disk) over_files) (replies : List Reply) (stopped : Option StoreFault) (files : Files D)
         → Started before begun → Ran in_hand commands begun ended replies stopped → IsClosed ended files
         → IsClosedStretch D.Disk before (exchange_of in_hand commands replies stopped) files }
+{}
+
+/// The same over any store: whatever a spool is given after its database was taken, it is a stretch
+/// of work once its store is let go. So is a database that was not taken, of which no command was
+/// given.
+pub fn calls_make_a_stretch_over<S: Alter>()
+    ensures let_go { (in_hand : ℕ) (found : Held S) (commands : List Command) (begun ended : Spool S S.Store) (replies : List Reply) (stopped : Option StoreFault) (store : S)
+        → Adopted found begun → Ran in_hand commands begun ended replies stopped → IsLetGo S.Store (connection_of ended).store store
+        → IsClean (S.Store.view store) → Passed (stretch S.Store found (exchange_of in_hand commands replies stopped) store) }
+    ensures not_taken { (found last : Held S) (commands : List Command) (store : S) → TurnedAway S.Store found last → IsLetGo S.Store last.store store
+        → IsClean (S.Store.view store) → Passed (stretch S.Store found (not_given commands) store) }
 {}
 
 /// A stretch that calls made, and an opening that failed after it had opened the files, are

@@ -9,14 +9,12 @@ mod open;
 mod remains;
 mod run;
 mod spool;
-mod stretch;
 
 pub use adopt::AdoptFault;
 pub use open::{FileSpool, open_spool};
 pub use remains::{OpenFault, Remains};
 pub use run::RunEnd;
 pub use spool::Spool;
-pub use stretch::{CloseEnd, start_again, work, work_and_close};
 pub use uu_core::{
     By, CallState, Command, Due, Filter, JobHead, Kind, NewJob, Outcome, Refusal, Reply, SystemRow,
     Taken,

@@ -100,10 +100,7 @@ fn adopted_in_files<D: Disk + Drop>(
 }
 
 // The spool in a database that was opened, or the store that was let go.
-pub(crate) fn adopted<S: Alter + Drop>(
-    alloc: Global,
-    conn: Connection<S>,
-) -> Result<Spool<S>, (StoreFault, S)>
+fn adopted<S: Alter + Drop>(alloc: Global, conn: Connection<S>) -> Result<Spool<S>, (StoreFault, S)>
     requires { IsIdle conn }
     ensures usable { IfOk result (λ spool. has_failed spool ≡ false) }
     ensures never_failed { IfErr result (λ e. e.0 ≢ StoreFault.Failed) }

@@ -60,13 +60,6 @@ impl<D: Disk> OpenFault<D> {
             remains: Remains::Store(store),
         }
     }
-
-    /// What is left of the files.
-    pub fn into_remains(self) -> Remains<D>
-        ensures { result ≡ remains_of self }
-    {
-        self.remains
-    }
 }
 
 // Why no database was opened.

@@ -1,13 +1,9 @@
 // A list of commands over a spool.
-ghost use Rattle.std.specs.Prelude.{◌≡◌, ◌↔◌, ◌≤◌, ◌<◌, ◌+◌, ◌++◌, ◌∷◌, [], false, None, IfSome, length};
+ghost use Rattle.std.specs.Prelude.{◌≡◌, ◌≤◌, ◌<◌, ◌+◌, ◌++◌, ◌∷◌, []};
 ghost use Rattle.std.specs.Vec.{vec_len, vec_capacity};
-ghost use Rattle.uu_schema.specs.Faults.{IsFaultOfThisCall};
-ghost use Rattle.uu_store.specs.Spool.{has_failed};
-ghost use Rattle.uu_store.specs.Stretches.{IsRunAndLetGo};
 
-use crate::open::adopted;
 use crate::spool::Spool;
-use sqlite::{Alter, Connection};
+use sqlite::Alter;
 use std::alloc::Global;
 use uu_core::laws::runs_follow_one_another;
 use uu_core::{Command, Reply};
@@ -33,14 +29,9 @@ fn keep(replies: &mut Vec<Reply>, reply: Reply)
 }
 
 impl<S: Alter> Spool<S> {
-    ghost use Rattle.std.specs.Prelude.{◌≢◌, IsTrue, IfOk, IfErr, Some, MatchOption};
-    ghost use Rattle.sqlite.specs.View.{IsClean};
-    ghost use Rattle.uu_schema.specs.Steps.{IsIdle};
-    ghost use Rattle.uu_store.specs.Spool.{failure_of, IsFaultBetween, Notes};
+    ghost use Rattle.std.specs.Prelude.{◌↔◌, false, IsTrue, IfSome, MatchOption, None, Some, length};
+    ghost use Rattle.uu_store.specs.Spool.{failure_of, has_failed, IsFaultBetween, Notes};
     ghost use Rattle.uu_store.specs.Runs.{Ran};
-    ghost use Rattle.uu_store.specs.Exchanges.{exchange_of, not_given};
-    ghost use Rattle.uu_store.specs.Openings.{IsNotTaken};
-    ghost use Rattle.uu_store.specs.Stretches.{Passed, stretch};
 
     /// Carries out the commands, one after the other, until one isn't answered. Memory for all
     /// replies is reserved first, so no reply is lost.
@@ -91,47 +82,4 @@ impl<S: Alter> Spool<S> {
             stopped: None,
         }
     }
-
-    /// Takes the database as a spool, gives it the commands, and gives back the store: one stretch
-    /// of work, until the spool is let go or is stopped before.
-    ///
-    /// # Errors
-    /// Those of [`Spool::adopt`], with the store. Then no command was given.
-    pub fn adopt_and_run(
-        alloc: Global,
-        conn: Connection<S>,
-        commands: Vec<Command>,
-    ) -> Result<(RunEnd, S), (StoreFault, S)>
-    where
-        S: Drop,
-        requires { IsIdle conn }
-        ensures passed { IfOk result (λ end. IsClean (S.Store.view end.1) → Passed (stretch S.Store conn (exchange_of 1 commands.items end.0.replies.items end.0.stopped) end.1)) }
-
-        // Nothing stopped it exactly if all were answered.
-        ensures every { IfOk result (λ end. (end.0.stopped ≡ None) ↔ (length end.0.replies.items ≡ length commands.items)) }
-        ensures fresh { IfOk result (λ end. IfSome end.0.stopped IsFaultOfThisCall) }
-        ensures never_failed { IfErr result (λ e. e.0 ≢ StoreFault.Failed) }
-        ensures away { IfErr result (λ e. IsNotTaken S.Store conn e.1 e.0) }
-        ensures not_given { IfErr result (λ e. IsClean (S.Store.view e.1) → Passed (stretch S.Store conn (not_given commands.items) e.1)) }
-    {
-        match adopted(alloc, conn) {
-            Ok(spool) => Ok(run_and_let_go(alloc, spool, commands)),
-            Err((fault, store)) => Err((fault, store)),
-        }
-    }
-}
-
-// Gives a spool the commands, and lets its store go.
-pub(crate) fn run_and_let_go<S: Alter + Drop>(
-    alloc: Global,
-    spool: Spool<S>,
-    commands: Vec<Command>,
-) -> (RunEnd, S)
-    ensures worked { IsRunAndLetGo 1 spool commands.items result.0.replies.items result.0.stopped result.1 }
-    ensures every { has_failed spool ≡ false → ((result.0.stopped ≡ None) ↔ (length result.0.replies.items ≡ length commands.items)) }
-    ensures fresh { has_failed spool ≡ false → IfSome result.0.stopped IsFaultOfThisCall }
-{
-    let mut spool = spool;
-    let end = spool.run(alloc, commands);
-    (end, spool.into_store())
 }

@@ -1,6 +1,4 @@
 // Stretches of work over a file.
-ghost use Rattle.std.specs.Prelude.{[]};
-
 use crate::order::{ANY, Order, Work, command};
 use crate::questions::Question::Next;
 use crate::questions::Step::Says;
@@ -13,8 +11,7 @@ use std::io::ErrorKind;
 use std::process::Abort;
 use std::rt::Files;
 use uu_store::Reply::{Done, Number};
-use uu_store::laws::FileHistory;
-use uu_store::{Command, Reply, RunEnd, Spool, start_again, work, work_and_close};
+use uu_store::{Command, Reply, RunEnd, Spool, open_spool};
 
 const FILE: &str = "stretches.db";
 
@@ -34,15 +31,6 @@ fn remove(rt: &(impl Abort + Files), path: &str) {
     }
 }
 
-/// Files that held nothing, and no stretch over them. Only clauses read it.
-struct NoHistory;
-
-impl FileHistory for NoHistory {
-    ghost before = { record { log = []; db = [] } };
-
-    ghost stretches = { [] };
-}
-
 fn commands_of(rt: &impl Abort, alloc: Global, orders: &[Order]) -> Vec<Command> {
     let mut commands = Vec::new(alloc);
     for order in orders {
@@ -58,29 +46,34 @@ fn expect_end(rt: &impl Abort, end: Option<RunEnd>, want: &[Reply]) {
     assert_eq!(rt; end.replies.as_slice(), want);
 }
 
-/// How a stretch ended, if there was one.
-fn ended<E: Drop, F: Drop>(worked: Result<(RunEnd, E), F>) -> Option<RunEnd> {
-    match worked {
-        Ok((end, _left)) => Some(end),
-        Err(_) => None,
-    }
+/// How the commands ended over a spool, whose store was let go then.
+fn ended_and_let_go<S: Alter + Drop, F: Drop>(
+    alloc: Global,
+    opened: Result<Spool<S>, F>,
+    commands: Vec<Command>,
+) -> Option<RunEnd> {
+    let mut spool = opened.ok()?;
+    let end = spool.run(alloc, commands);
+    let _store = spool.into_store();
+    Some(end)
 }
 
-/// How a stretch ended whose files were closed.
-fn ended_and_closed<E: Drop, F: Drop, G: Drop>(
-    worked: Result<(RunEnd, Result<G, E>), F>,
+/// How the commands ended over a spool, if its files could be closed then.
+fn ended_and_closed<D: Disk + Drop, F: Drop>(
+    alloc: Global,
+    opened: Result<Spool<FileStore<D>>, F>,
+    commands: Vec<Command>,
 ) -> Option<RunEnd> {
-    match worked {
-        Ok((end, closed)) => match closed {
-            Ok(_files) => Some(end),
-            Err(_) => None,
-        },
+    let mut spool = opened.ok()?;
+    let end = spool.run(alloc, commands);
+    match spool.close() {
+        Ok(_files) => Some(end),
         Err(_) => None,
     }
 }
 
 fn worked<T: Start>(host: &HostRuntime, start: T, commands: Vec<Command>) -> Option<RunEnd> {
-    ended(work(host, FILE, start, commands))
+    ended_and_let_go(host.alloc(), open_spool(host, FILE, start), commands)
 }
 
 /// A stretch whose files are closed.
@@ -89,7 +82,7 @@ fn worked_and_closed<T: Start>(
     start: T,
     commands: Vec<Command>,
 ) -> Option<RunEnd> {
-    ended_and_closed(work_and_close(host, FILE, start, commands))
+    ended_and_closed(host.alloc(), open_spool(host, FILE, start), commands)
 }
 
 /// A stretch gets these commands, and gives these replies.
@@ -118,17 +111,7 @@ fn expect_closed_stretch<T: Start>(
 
 /// The next job gets number 4.
 fn expect_next<T: Start>(rt: &impl Abort, host: &HostRuntime, start: T) {
-    let opened = start_again::<NoHistory, T>(host, FILE, start);
-    expect_next_in_files(rt, host.alloc(), opened);
-}
-
-/// The same for the result of an opening.
-fn expect_next_in_files<D: Disk + Drop, F: Drop>(
-    rt: &impl Abort,
-    alloc: Global,
-    opened: Result<Spool<FileStore<D>>, F>,
-) {
-    expect_next_in(rt, alloc, opened);
+    expect_next_in(rt, host.alloc(), open_spool(host, FILE, start));
 }
 
 /// The same over any store.

@@ -1,15 +1,13 @@
-// Runs and stretches with ample memory, of the spool and of the plain machine. They answer every
-// command.
-ghost use Rattle.std.specs.Prelude.{◌≡◌, false};
+// Runs with ample memory, of the spool and of the plain machine, which answer every command.
 
 use crate::questions::{Step, asked_picture, told_picture};
 use crate::scripts::{EVERY_KIND, LARGE_JOB, TWO_SYSTEMS, commands, pictures, replies};
 use crate::worked::fresh;
-use sqlite::{Alter, Connection};
+use sqlite::Alter;
 use std::alloc::Global;
 use std::process::Abort;
-use uu_plain::Machine;
-use uu_store::{Command, Reply, RunEnd, Spool};
+use uu_core::plain::Machine;
+use uu_store::{Reply, RunEnd, Spool};
 
 const SCRIPTS: [&[Step]; 4] = [&[], LARGE_JOB, TWO_SYSTEMS, EVERY_KIND];
 
@@ -50,34 +48,5 @@ fn expect_run<S: Alter>(rt: &impl Abort, alloc: Global, spool: &mut Spool<S>, sc
 fn a_run_answers_every_command(rt: HostRuntime) {
     for script in SCRIPTS {
         expect_run(&rt, rt.alloc(), &mut fresh(&rt, rt.alloc()), script);
-    }
-}
-
-/// How a stretch of work in a database ended. The database has to be taken as a spool.
-fn stretch_in<S: Alter + Drop>(
-    rt: &impl Abort,
-    alloc: Global,
-    conn: Connection<S>,
-    commands: Vec<Command>,
-) -> RunEnd
-    requires { conn.in_transaction ≡ false }
-{
-    match Spool::adopt_and_run(alloc, conn, commands) {
-        Ok((end, _store)) => end,
-        Err(_) => panic!(rt; "it was not taken"),
-    }
-}
-
-fn expect_stretch(rt: &impl Abort, alloc: Global, script: &[Step]) {
-    let wanted = replies(rt, alloc, script);
-    let commands = commands(rt, alloc, script, wanted.len());
-    let conn = Connection::open_in_memory(alloc).expect(rt, "memory");
-    expect_whole(rt, &stretch_in(rt, alloc, conn, commands), &wanted);
-}
-
-#[test]
-fn a_stretch_answers_every_command(rt: HostRuntime) {
-    for script in SCRIPTS {
-        expect_stretch(&rt, rt.alloc(), script);
     }
 }

@@ -1,6 +1,7 @@
 -- Lines that are served one after the other are one run of the commands of their requests.
 use Rattle.std.proofs.Common.{◌≡◌, ◌⊎◌, ◌≤◌, ◌+◌, ◌∙◌, ◌++◌, ◌∷◌, inl, inr, ℕ, Bool, true, false, true≢false, List, [], length, drop, take, Option, Some, None, Result, Ok, Err, IfErr, OnErr, ap, append-nil, arith, refl, subst, sym}
 use Rattle.std.specs.Prelude.{IsTrue}
+use Rattle.std.specs.List.{AllByRecursion}
 use Rattle.std.proofs.lemmas.List.{drop_all, length-append, take_all}
 use Rattle.std.proofs.Math.Seq.{drop-append_seam, take-nil}
 use Rattle.sqlite.specs.Tree.{Trees}
@@ -21,7 +22,7 @@ use Rattle.uu_request.specs.declared.request.Request.{Request}
 use Rattle.uu_request.specs.declared.request.Request.TheVariants.{Commands, Question, Settling, Unpacking}
 use Rattle.uuspool.proofs.ServedLemmas.{printed_as}
 use Rattle.uuspool.specs.Served.{AreCommandsOf, Ask, EndsAs, IsBrokenOff, IsEvery, IsFaultOf, IsOutput, IsPrinted, IsServed, answered_text, in_hand}
-use Rattle.uuspool.specs.ServedLines.{Asked, Line, AllGoOn, AreLeft, AreServed, goes_on, IsTold, IsToldAs, IsUnasked, AreTold, IsOneRun, commands_in, in_hand_of, last_in_hand, left_fault}
+use Rattle.uuspool.specs.ServedLines.{Asked, Line, AllGoOn, AreLeft, AreServed, goes_on, IsTold, IsToldAs, IsUnasked, AreTold, IsOneRun, NoneOnceLeft, commands_in, in_hand_of, last_in_hand, left_fault}
 use Rattle.uuspool.specs.declared.fault.Fault.{Fault}
 use Rattle.uuspool.specs.declared.fault.Fault.TheVariants as fault
 
@@ -39,6 +40,15 @@ left_are_told : (settings : Settings) (s : State) (lines : List Line) → AreLef
 left_are_told settings s [] left = refl
 left_are_told settings s (line ∷ lines) (nothing, is, rest) =
     (record { nothing = nothing; why = left_fault; is = is; told = inr refl }, left_are_told settings s lines rest)
+
+-- they came to no request
+nones_are_none : (lines : List Line) → AllByRecursion (λ (it : Option Asked). it ≡ None) (nones lines)
+nones_are_none [] = tt
+nones_are_none (line ∷ lines) = (refl, nones_are_none lines)
+
+left_once : (lines : List Line) → NoneOnceLeft lines (nones lines)
+left_once [] = tt
+left_once (line ∷ lines) = (λ stops. nones_are_none lines, left_once lines)
 
 -- ---- how many commands may be in hand
 
@@ -207,12 +217,13 @@ module _ {S : Type 0} {g : Ghosts S} (settles : Settles S g) where
 module _ {S : Type 0} {g : Ghosts S} (joins : Joins S g) (settles : Settles S g) (settings : Settings) where
   -- the run has its own commands, replies and end, from which the rest follows
   one_run_of : (lines : List Line) (old new : Spool S g) (asked : List (Option Asked)) (replies : List Reply) (stopped : Option StoreFault)
-      → Ran (in_hand_of asked) (commands_in asked) old new replies stopped
+      → NoneOnceLeft lines asked → Ran (in_hand_of asked) (commands_in asked) old new replies stopped
       → (db.HasCleanDisk (disk new) → (s : State) → Shows old s → AreTold settings s replies lines asked)
       → (stopped ≡ None → length replies ≡ length (commands_in asked)) → (AllGoOn lines → stopped ≡ None)
       → IsOneRun settings lines old new
-  one_run_of lines old new asked replies stopped ran told every went_on = record {
+  one_run_of lines old new asked replies stopped left ran told every went_on = record {
     asked = asked;
+    left = left;
     replies = replies;
     stopped = stopped;
     ran = ran;
@@ -231,6 +242,7 @@ module _ {S : Type 0} {g : Ghosts S} (joins : Joins S g) (settles : Settles S g)
         → IsServed settings request old mid (λ output. line.output ≡ output) line.result → IsOneRun settings lines mid new → IsOneRun settings (line ∷ lines) old new
     done_then request status same asks it rest =
         one_run_of (line ∷ lines) old new (Some here ∷ rest.asked) (it.replies ++ rest.replies) rest.stopped
+        (λ stops. absurd (true≢false (sym (ap goes_on same) ∙ stops)), rest.left)
         (joins (in_hand request) (last_in_hand (in_hand request) rest.asked) old mid new it.commands (commands_in rest.asked) it.replies rest.replies it.stopped rest.stopped
         answered (subst GoesOn (sym none) tt) it.ran (ran_with 1 (in_hand request) rest.asked mid new rest.replies rest.stopped rest.ran))
         told every (λ all. rest.went_on all.1)
@@ -260,9 +272,10 @@ module _ {S : Type 0} {g : Ghosts S} (joins : Joins S g) (settles : Settles S g)
             omega (arith, answered, rest.every on, length-append it.replies rest.replies, length-append it.commands (commands_in rest.asked))
 
     -- the line came to no request, and others were served after it
-    unasked_then : IsUnasked settings line → mid ≡ old → IsOneRun settings lines mid new → IsOneRun settings (line ∷ lines) old new
-    unasked_then none same rest =
+    unasked_then : IsUnasked settings line → goes_on line.result ≡ true → mid ≡ old → IsOneRun settings lines mid new → IsOneRun settings (line ∷ lines) old new
+    unasked_then none goes same rest =
         one_run_of (line ∷ lines) old new (None ∷ rest.asked) rest.replies rest.stopped
+        (λ stops. absurd (true≢false (sym goes ∙ stops)), rest.left)
         (subst (λ (m : Spool S g). Ran (in_hand_of rest.asked) (commands_in rest.asked) m new rest.replies rest.stopped) same rest.ran)
         (λ clean s shown. (none, rest.told clean s (subst (λ (m : Spool S g). Shows m s) (sym same) shown)))
         rest.every (λ all. rest.went_on all.1)
@@ -272,6 +285,7 @@ module _ {S : Type 0} {g : Ghosts S} (joins : Joins S g) (settles : Settles S g)
         → IsServed settings request old mid (λ output. line.output ≡ output) line.result → AreLeft lines → new ≡ mid → IsOneRun settings (line ∷ lines) old new
     done_last request stops asks it left same =
         one_run_of (line ∷ lines) old new (Some here ∷ nones lines) it.replies it.stopped
+        (λ stops. nones_are_none lines, left_once lines)
         (subst (λ hand. Ran hand (commands_in (Some here ∷ nones lines)) old new it.replies it.stopped) (sym (nones_have_none_in_hand (in_hand request) lines))
         (subst (λ commands. Ran (in_hand request) commands old new it.replies it.stopped) (sym alone)
         (subst (λ (n : Spool S g). Ran (in_hand request) it.commands old n it.replies it.stopped) (sym same) it.ran)))
@@ -293,6 +307,7 @@ module _ {S : Type 0} {g : Ghosts S} (joins : Joins S g) (settles : Settles S g)
     unasked_last : IsUnasked settings line → mid ≡ old → AreLeft lines → new ≡ mid → IsOneRun settings (line ∷ lines) old new
     unasked_last none same left still =
         one_run_of (line ∷ lines) old new (None ∷ nones lines) [] None
+        (λ stops. nones_are_none lines, left_once lines)
         (subst (λ hand. Ran hand (commands_in (nones lines)) old new [] None) (sym (nones_have_none_in_hand 1 lines))
         (subst (λ commands. Ran 1 commands old new [] None) (sym (nones_ask_nothing lines))
         (subst (λ (n : Spool S g). Ran 1 [] old n [] None) (sym (still ∙ same)) (ran_nothing settles old))))
@@ -300,9 +315,9 @@ module _ {S : Type 0} {g : Ghosts S} (joins : Joins S g) (settles : Settles S g)
         (λ all. ap length (sym (nones_ask_nothing lines))) (λ on. refl)
 
     -- the line has a fault that comes before any call of the spool
-    early : (why : Fault) → line.result ≡ Err why → mid ≡ old → line.output ≡ [] → IfErr line.result (IsFaultOf settings line.words line.now line.input)
+    early : (why : Fault) → line.result ≡ Err why → goes_on line.result ≡ true → mid ≡ old → line.output ≡ [] → IfErr line.result (IsFaultOf settings line.words line.now line.input)
         → IsOneRun settings lines mid new → IsOneRun settings (line ∷ lines) old new
-    early why same kept nothing told rest = unasked_then (unasked settings line why same nothing told) kept rest
+    early why same goes kept nothing told rest = unasked_then (unasked settings line why same nothing told) goes kept rest
 
     -- by how the line ended
     one_more : (r : Result ℕ Fault) → line.result ≡ r
@@ -316,18 +331,18 @@ module _ {S : Type 0} {g : Ghosts S} (joins : Joins S g) (settles : Settles S g)
     one_more (Err fault.Memory) same (inl (request, asks, it)) told on off = done_last request (ap goes_on same) asks it (off refl).0 (off refl).1
     one_more (Err fault.Memory) same (inr (kept, nothing)) told on off =
         unasked_last (unasked settings line fault.Memory same nothing told) kept (off refl).0 (off refl).1
-    one_more (Err (fault.Words text help)) same (kept, nothing) told on off = early (fault.Words text help) same kept nothing told (on refl)
-    one_more (Err (fault.Settings why)) same (kept, nothing) told on off = early (fault.Settings why) same kept nothing told (on refl)
-    one_more (Err (fault.Name why)) same (kept, nothing) told on off = early (fault.Name why) same kept nothing told (on refl)
-    one_more (Err (fault.Time why)) same (kept, nothing) told on off = early (fault.Time why) same kept nothing told (on refl)
-    one_more (Err fault.TwoSystems) same (kept, nothing) told on off = early fault.TwoSystems same kept nothing told (on refl)
-    one_more (Err fault.Input) same (kept, nothing) told on off = early fault.Input same kept nothing told (on refl)
-    one_more (Err fault.Read) same (kept, nothing) told on off = early fault.Read same kept nothing told (on refl)
-    one_more (Err (fault.Bundle why)) same (kept, nothing) told on off = early (fault.Bundle why) same kept nothing told (on refl)
+    one_more (Err (fault.Words text help)) same (kept, nothing) told on off = early (fault.Words text help) same (ap goes_on same) kept nothing told (on refl)
+    one_more (Err (fault.Settings why)) same (kept, nothing) told on off = early (fault.Settings why) same (ap goes_on same) kept nothing told (on refl)
+    one_more (Err (fault.Name why)) same (kept, nothing) told on off = early (fault.Name why) same (ap goes_on same) kept nothing told (on refl)
+    one_more (Err (fault.Time why)) same (kept, nothing) told on off = early (fault.Time why) same (ap goes_on same) kept nothing told (on refl)
+    one_more (Err fault.TwoSystems) same (kept, nothing) told on off = early fault.TwoSystems same (ap goes_on same) kept nothing told (on refl)
+    one_more (Err fault.Input) same (kept, nothing) told on off = early fault.Input same (ap goes_on same) kept nothing told (on refl)
+    one_more (Err fault.Read) same (kept, nothing) told on off = early fault.Read same (ap goes_on same) kept nothing told (on refl)
+    one_more (Err (fault.Bundle why)) same (kept, nothing) told on off = early (fault.Bundle why) same (ap goes_on same) kept nothing told (on refl)
 
   -- lines that are served one after the other are one run
   pub one_run : (lines : List Line) (old new : Spool S g) → AreServed settings lines old new → IsOneRun settings lines old new
   one_run [] old new same =
-      one_run_of [] old new [] [] None (subst (λ (n : Spool S g). Ran 1 [] old n [] None) (sym same) (ran_nothing settles old)) (λ clean s shown. refl) (λ all. refl) (λ on. refl)
+      one_run_of [] old new [] [] None tt (subst (λ (n : Spool S g). Ran 1 [] old n [] None) (sym same) (ran_nothing settles old)) (λ clean s shown. refl) (λ all. refl) (λ on. refl)
   one_run (line ∷ lines) old new (mid, serves, on, off) =
       one_more line lines old mid new line.result refl serves.ends serves.told (λ goes. one_run lines mid new (on goes)) off

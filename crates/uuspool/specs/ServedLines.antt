@@ -90,6 +90,14 @@ last_in_hand none (Some it ∷ asked) = last_in_hand (in_hand it.request) asked
 abbrev pub in_hand_of : List (Option Asked) → ℕ
 in_hand_of asked = last_in_hand 1 asked
 
+-- There is one for each line, and behind a line that doesn't go on the lines came to no request. So
+-- what is in hand is of the last request that a line came to, and none was served after that.
+abbrev pub NoneOnceLeft : List Line → List (Option Asked) → Type 0
+NoneOnceLeft [] [] = ⊤
+NoneOnceLeft (line ∷ lines) (it ∷ asked) = (goes_on line.result ≡ false → AllByRecursion (λ (later : Option Asked). later ≡ None) asked) × NoneOnceLeft lines asked
+NoneOnceLeft [] (it ∷ asked) = ⊥
+NoneOnceLeft (line ∷ lines) [] = ⊥
+
 -- The output of a request in a state, depending on how its line ends. With a status, it is the
 -- request's output. If the store gave a fault, it is that of the commands that were answered. If
 -- either could not be written, it is less of it. If memory ran out, it is empty.
@@ -139,6 +147,7 @@ AreTold settings s replies (line ∷ lines) [] = ⊥
 -- answered, and the spool shows the machine's state. This is so if each line goes on.
 pub record IsOneRun {S : Type 0} {g : Ghosts S} (settings : Settings) (lines : List Line) (old new : Spool S g) : Type 0 where
   pub asked : List (Option Asked)
+  pub left : NoneOnceLeft lines asked
   pub replies : List Reply
   pub stopped : Option StoreFault
   pub ran : Ran (in_hand_of asked) (commands_in asked) old new replies stopped

@@ -1,24 +1,29 @@
 -- What a run of the program is given and answers, and how it leaves the spool's files.
 use Rattle.std.specs.Prelude.{◌≡◌, ℕ, List, [], length, Option, None, Ok, Err, Result, IfErr, IsTrue, ⊤}
 use Rattle.std.specs.List.{AllByRecursion}
-use Rattle.sqlite_disk.specs.declared.Disk as disk
+use Rattle.sqlite_disk.specs.declared.Disk as device
 use Rattle.sqlite_wal.specs.Recovery.{Image}
 use Rattle.sqlite_store.specs.declared.store.FileStore.{FileStore}
 use Rattle.sqlite_store.specs.FileStore.{view}
 use Rattle.sqlite.specs.Files.{over_files}
+use Rattle.sqlite.specs.State.{HasCleanDisk}
 use Rattle.sqlite.specs.Store.{Ghosts}
 use Rattle.sqlite.specs.View.{IsClean}
 use Rattle.uu_core.specs.declared.command.Command.{Command}
 use Rattle.uu_core.specs.declared.command.Reply.{Reply}
+use Rattle.uu_core.specs.declared.custody.Key.{Key}
+use Rattle.uu_core.specs.declared.job.NewJob.{NewJob}
+use Rattle.uu_core.specs.State.{State}
 use Rattle.uu_schema.specs.declared.fault.StoreFault.{StoreFault}
+use Rattle.uu_store.specs.Acknowledged.{IsAcknowledged, IsAcknowledgedUnder, ShowsJob, ShowsUnder}
 use Rattle.uu_store.specs.Runs.{Ran}
 use Rattle.uu_store.specs.declared.spool.Spool.{Spool}
 use Rattle.uu_store.specs.Closing.{IsClosed}
 use Rattle.uu_store.specs.Exchanges.{Exchange, exchange_of}
 use Rattle.uu_store.specs.Files.{IsStretch, IsClosedStretch}
-use Rattle.uu_store.specs.Spool.{connection_of}
-use Rattle.uu_store.specs.Openings.{Started}
-use Rattle.uu_store.specs.Stretches.{IsLetGo}
+use Rattle.uu_store.specs.Spool.{Shows, connection_of, disk}
+use Rattle.uu_store.specs.Openings.{ImageKeeps, Started}
+use Rattle.uu_store.specs.Stretches.{IsLetGo, ShowsAfter}
 use Rattle.uu_times.specs.declared.moment.Moment.{Moment}
 use Rattle.uu_line.specs.Lines.{MeansLine}
 use Rattle.uu_line.specs.declared.line.CommandLine.{CommandLine}
@@ -35,7 +40,7 @@ use Rattle.uuspool_main.specs.declared.stretch.Invocation.TheVariants as invocat
 use Rattle.uuspool_main.specs.declared.stretch.Rest.{Rest}
 use Rattle.uuspool_main.specs.declared.stretch.Rest.TheVariants as rest
 
-module _ {D : Type 0} {g : disk.Ghosts D} where
+module _ {D : Type 0} {g : device.Ghosts D} where
   -- the spool was let go, or its files were closed
   abbrev pub LetsGo : Spool (FileStore D g) over_files → Rest D g → Type 0
   LetsGo spool (rest.Store it) = IsLetGo over_files (connection_of spool).store it × (IsClean (view it) → IsTrue (view it).is_numbered)
@@ -109,14 +114,28 @@ module _ {S : Type 0} {g : Ghosts S} (settings : Settings) (begun ended : Spool 
       × ((words : List (List ℕ)) (now : ℕ) → MeansLine words line → IsMomentOf settings (second_of line now) at → IsOfWords words now input.items result exchange)
   IsOfInvocation invocation.Requests result exchange = IsOfLines result exchange
 
--- A run over files with these contents: a spool was started over them, what the program was invoked
--- for was done over it, and it was let go. That is a stretch of work, with the commands and the
--- replies of this invocation.
-pub record IsRun {D : Type 0} {g : disk.Ghosts D} (settings : Settings) (what : Invocation) (before : Image) (result : Result ℕ Fault) (left : Rest D g) : Type 0 where
+-- on a clean disk the spool shows the state that the files kept
+abbrev pub ShowsKept : {S : Type 0} {g : Ghosts S} → Image → Spool S g → Type 0
+ShowsKept before spool = HasCleanDisk (disk spool) → (s : State) → ImageKeeps before s → Shows spool s
+
+-- A run over files that held this: a spool was started over them, which showed the state that they
+-- kept, what the program was invoked for was done over it, and it was let go; that is a stretch of
+-- work, of the commands and the replies of this invocation.
+pub record IsRun {D : Type 0} {g : device.Ghosts D} (settings : Settings) (what : Invocation) (before : Image) (result : Result ℕ Fault) (left : Rest D g) : Type 0 where
   pub begun : Spool (FileStore D g) over_files
   pub ended : Spool (FileStore D g) over_files
   pub exchange : Exchange
   pub started : Started before begun
+  pub shows : ShowsKept before begun
   pub done : IsOfInvocation settings begun ended what result exchange
   pub gone : LetsGo ended left
   pub stretch : EndsStretch before exchange left
+
+-- The same run, over files that other stretches left: its spool began with the state after the
+-- commands of their exchanges that count. Each job whose number was answered in one of them is
+-- there, unless it was let go since, and so is each whose number was the answer to a key.
+pub record IsRunAfter {D : Type 0} {g : device.Ghosts D} (s : State) (told : List Exchange) (settings : Settings) (what : Invocation) (before : Image) (result : Result ℕ Fault) (left : Rest D g) : Type 0 where
+  pub run : IsRun settings what before result left
+  pub commands : HasCleanDisk (disk run.begun) → ∥ ShowsAfter s told run.begun ∥₁
+  pub jobs : HasCleanDisk (disk run.begun) → (new : NewJob) (number : ℕ) → IsAcknowledged told new number → ∥ ShowsJob s told new number run.begun ∥₁
+  pub keys : HasCleanDisk (disk run.begun) → (key : Key) (new : NewJob) (number : ℕ) → IsAcknowledgedUnder told key new number → ∥ ShowsUnder s told key number run.begun ∥₁

@@ -5,7 +5,7 @@
 mod batching;
 mod stretch;
 
-ghost use Rattle.std.specs.Prelude.{IfOk, unwrap_or};
+ghost use Rattle.std.specs.Prelude.{[], IfOk, unwrap_or};
 ghost use Rattle.uuspool.specs.Served.{IsMomentOf, second_of};
 ghost use Rattle.uuspool_main.specs.Stretch.{HasMoment};
 
@@ -17,6 +17,7 @@ use std::mem::drop;
 use std::process::ExitCode;
 use std::time::SystemTime;
 use std::{env, fs, io};
+use uu_store::laws::FileHistory;
 use uu_times::Moment;
 use uuspool::{
     CommandLine, Fault, FaultLine, Settings, batch_settings, fault_status, line_of, moment_of,
@@ -148,12 +149,21 @@ fn input_for(rt: &HostRuntime, takes_input: bool) -> Result<Vec<u8>, Fault> {
     }
 }
 
-// Does the work over the spool's file that the settings name, by a function whose clauses are about
-// all contents. What is left of the files is dropped.
+/// What was done to the spool's files before. Only clauses name it, and they hold of whatever it is.
+struct AnyHistory;
+
+impl FileHistory for AnyHistory {
+    ghost before = { record { log = []; db = [] } };
+
+    ghost stretches = { [] };
+}
+
+// Does the work over the spool's file that the settings name, by a function whose clauses speak of
+// all contents and of all that was done before. What is left of the files is dropped.
 fn run_on_file(rt: &HostRuntime, settings: &Settings, invocation: Invocation) -> Result<u8, Fault>
     requires { HasMoment settings.now invocation }
 {
-    match work_on_file(rt, settings, invocation, Wary) {
+    match work_on_file::<AnyHistory, Wary>(rt, settings, invocation, Wary) {
         Ok(worked) => end_of(worked),
         Err(failed) => Err(Fault::Store(failed.fault)),
     }

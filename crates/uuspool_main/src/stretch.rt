@@ -2,8 +2,10 @@
 ghost use Rattle.std.specs.Prelude.{◌≡◌, ◌≢◌, false, IfOk, IfErr};
 ghost use Rattle.sqlite_wal.specs.Files.{image_at};
 ghost use Rattle.sqlite_wal.specs.Recovery.{Image};
-ghost use Rattle.uu_store.specs.Openings.{IsRightFault, LeavesAlone, LeavesAsKept, Started, remains_of};
-ghost use Rattle.uuspool_main.specs.Stretch.{HasMoment, IsOfInvocation, IsRun, LetsGo, WasGiven};
+ghost use Rattle.uu_core.specs.State.{State};
+ghost use Rattle.uu_store.specs.Files.{AllFilesPassed, file_exchanges, last_left};
+ghost use Rattle.uu_store.specs.Openings.{ImageKeeps, IsRightFault, LeavesAlone, LeavesAsKept, Started, remains_of};
+ghost use Rattle.uuspool_main.specs.Stretch.{HasMoment, IsOfInvocation, IsRun, IsRunAfter, LetsGo, ShowsKept, WasGiven};
 
 use crate::batching::batch_on;
 use crate::is_log_long;
@@ -11,7 +13,7 @@ use sqlite::{Alter, FileStore, Files, Start};
 use sqlite_disk::Disk;
 use std::io;
 use std::mem::drop;
-use uu_store::laws::calls_make_a_stretch;
+use uu_store::laws::{FileHistory, calls_make_a_stretch, no_answered_command_is_lost_in_files};
 use uu_store::{OpenFault, Spool, SpoolFile, StoreFault, open_spool};
 use uu_times::Moment;
 use uuspool::laws::lines_are_one_run;
@@ -41,14 +43,20 @@ pub(crate) enum Rest<D: Disk> {
     Unclosed(FileStore<D>),
 }
 
-/// Opens the spool's file that the settings name, does the work over the spool in it, and lets the
-/// spool go. This is a stretch of work, with any contents of the files, and with the commands and
-/// the replies of this work. It doesn't accept a type of first contents that assumes something
-/// about a torn write, as `Unknown` does.
+/// Opens the spool's file that the settings name, does the work over the spool in it, and lets it
+/// go: a stretch of work, whatever the files held, with the commands and the replies of this work.
+///
+/// If other stretches were over the files before, nobody else wrote them, and the disk returned what
+/// was written, then the work begins with exactly the state that the machine reaches by the commands
+/// that count (`shows`). So a job whose number was answered is there with all its bytes, unless an
+/// accepted command killed or delivered it, and no other job has its number. If the number was the
+/// answer to a key, that is so of the job that was first handed in under the key.
+///
+/// A type of first contents that supposes something of a torn write, as `Unknown` does, is refused.
 ///
 /// # Errors
 /// Those of `open_spool`.
-pub(crate) fn work_on_file<T: Start>(
+pub(crate) fn work_on_file<H: FileHistory, T: Start>(
     rt: &HostRuntime,
     settings: &Settings,
     invocation: Invocation,
@@ -58,11 +66,14 @@ pub(crate) fn work_on_file<T: Start>(
     // Nothing is assumed about a torn write.
     requires wary { T.Start.is_mixing ≡ false }
     ensures stretch { IfOk result (λ end. IsRun settings.now invocation (image_at T.Start) end.0 end.1) }
+    ensures shows { IfOk result (λ end. (s : State) → ImageKeeps H.before s → AllFilesPassed H.before H.stretches → image_at T.Start ≡ last_left H.before H.stretches
+        → IsRunAfter s (file_exchanges H.stretches) settings.now invocation (image_at T.Start) end.0 end.1) }
     ensures named { IfErr result (λ e. IsRightFault (image_at T.Start) e.fault (remains_of e)) }
     ensures never_failed { IfErr result (λ e. e.fault ≢ StoreFault.Failed) }
     ensures left { IfErr result (λ e. LeavesAsKept (image_at T.Start) (remains_of e)) }
     ensures left_alone { IfErr result (λ e. LeavesAlone (image_at T.Start) e.fault (remains_of e)) }
 {
+    no_answered_command_is_lost_in_files::<H>();
     match open_spool(rt, settings.spool.as_str(), start) {
         Ok(spool) => Ok(work_on(rt, settings, invocation, spool)),
         Err(failed) => {
@@ -81,7 +92,7 @@ fn work_on<D: Disk + Drop>(
     spool: Spool<FileStore<D>>,
 ) -> (Result<u8, Fault>, Rest<D>)
     requires { HasMoment settings.now invocation }
-    ensures { (before : Image) → Started before spool → IsRun settings.now invocation before result.0 result.1 }
+    ensures { (before : Image) → Started before spool → ShowsKept before spool → IsRun settings.now invocation before result.0 result.1 }
 {
     calls_make_a_stretch::<D>();
     let mut spool = spool;

@@ -3,7 +3,7 @@ use Rattle.uuspool_main.proofs.StretchLemmas.{ends}
 use Rattle.uuspool_main.proofs.stretch.work_on.Goals as goal
 
 pub returns : goal.returns
-returns g c before started =
+returns g c before started shows =
     let (hand, commands, replies, stopped, ran, is) = c.do_work-end.ensures in
     let ended = c.do_work-end.new.spool in
     let make = c.calls_make_a_stretch.ensures in
@@ -12,6 +12,7 @@ returns g c before started =
       ended = ended;
       exchange = exchange_of hand commands replies stopped;
       started = started;
+      shows = shows;
       done = is;
       gone = c.let_go-rest.ensures;
       stretch =
