@@ -185,8 +185,8 @@ pub fn no_answered_command_is_lost_in_files<H: FileHistory>()
     acknowledged_jobs_are_accounted_for();
 }
 
-/// Whatever commands, bundles and questions a spool in files that were opened is given, they are a
-/// stretch of work once its store is let go, or its files are closed.
+/// A spool over opened files gets any commands, bundles and questions. Once its store is let go, or
+/// its files are closed, they are a stretch of work.
 pub fn calls_make_a_stretch<D: Disk>()
     ensures let_go { (in_hand : ℕ) (before : Image) (commands : List Command) (begun ended : Spool (FileStore D D.Disk) over_files) (replies : List Reply) (stopped : Option StoreFault) (store : FileStore D D.Disk)
         → Started before begun → Ran in_hand commands begun ended replies stopped → IsLetGo over_files (connection_of ended).store store
@@ -196,9 +196,8 @@ pub fn calls_make_a_stretch<D: Disk>()
         → IsClosedStretch D.Disk before (exchange_of in_hand commands replies stopped) files }
 {}
 
-/// The same over any store: whatever a spool is given after its database was taken, it is a stretch
-/// of work once its store is let go. So is a database that was not taken, of which no command was
-/// given.
+/// The same over any store. A database that wasn't taken as a spool, and got no command, is a
+/// stretch too, once its store is let go.
 pub fn calls_make_a_stretch_over<S: Alter>()
     ensures let_go { (in_hand : ℕ) (found : Held S) (commands : List Command) (begun ended : Spool S S.Store) (replies : List Reply) (stopped : Option StoreFault) (store : S)
         → Adopted found begun → Ran in_hand commands begun ended replies stopped → IsLetGo S.Store (connection_of ended).store store

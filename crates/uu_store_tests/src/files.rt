@@ -46,7 +46,7 @@ fn expect_end(rt: &impl Abort, end: Option<RunEnd>, want: &[Reply]) {
     assert_eq!(rt; end.replies.as_slice(), want);
 }
 
-/// How the commands ended over a spool, whose store was let go then.
+/// Gives a spool the commands, and lets its store go. How they ended.
 fn ended_and_let_go<S: Alter + Drop, F: Drop>(
     alloc: Global,
     opened: Result<Spool<S>, F>,
@@ -58,7 +58,7 @@ fn ended_and_let_go<S: Alter + Drop, F: Drop>(
     Some(end)
 }
 
-/// How the commands ended over a spool, if its files could be closed then.
+/// Gives a spool the commands, and closes its files. How they ended, if the files were closed.
 fn ended_and_closed<D: Disk + Drop, F: Drop>(
     alloc: Global,
     opened: Result<Spool<FileStore<D>>, F>,

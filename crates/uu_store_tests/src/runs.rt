@@ -6,7 +6,7 @@ use crate::worked::fresh;
 use sqlite::Alter;
 use std::alloc::Global;
 use std::process::Abort;
-use uu_core::plain::Machine;
+use uu_plain::Machine;
 use uu_store::{Reply, RunEnd, Spool};
 
 const SCRIPTS: [&[Step]; 4] = [&[], LARGE_JOB, TWO_SYSTEMS, EVERY_KIND];

@@ -90,8 +90,8 @@ last_in_hand none (Some it ∷ asked) = last_in_hand (in_hand it.request) asked
 abbrev pub in_hand_of : List (Option Asked) → ℕ
 in_hand_of asked = last_in_hand 1 asked
 
--- There is one for each line, and behind a line that doesn't go on the lines came to no request. So
--- what is in hand is of the last request that a line came to, and none was served after that.
+-- Each line has an entry. After a line that doesn't go on, no line came to a request. So the
+-- commands in hand are those of the last request, and none was served after it.
 abbrev pub NoneOnceLeft : List Line → List (Option Asked) → Type 0
 NoneOnceLeft [] [] = ⊤
 NoneOnceLeft (line ∷ lines) (it ∷ asked) = (goes_on line.result ≡ false → AllByRecursion (λ (later : Option Asked). later ≡ None) asked) × NoneOnceLeft lines asked

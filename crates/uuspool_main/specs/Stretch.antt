@@ -56,13 +56,13 @@ module _ {D : Type 0} {g : device.Ghosts D} where
 
 -- ---- what was given and answered
 
--- the moment of a line is that of its second, or, if it gives none, of another
+-- the moment of a line is that of its second or, if it gives none, of any second
 abbrev pub HasMoment : Settings → Invocation → Type 0
 HasMoment settings (invocation.Line line at input) = (now : ℕ) × IsMomentOf settings (second_of line now) at
 HasMoment settings invocation.Requests = ⊤
 
--- A spool was given commands, and this exchange is the result. So many of them may be in hand at
--- the stop, as one request.
+-- A spool was given commands, and the exchange that they make is one of these. The last request has
+-- `together` commands, which may be in hand at the stop.
 abbrev pub WasGiven : {S : Type 0} {g : Ghosts S} → Spool S g → Spool S g → (Exchange → Type 0) → Type 0
 WasGiven old new Is =
     (together : ℕ) × (commands : List Command) × (replies : List Reply) × (stopped : Option StoreFault)
@@ -118,9 +118,9 @@ module _ {S : Type 0} {g : Ghosts S} (settings : Settings) (begun ended : Spool 
 abbrev pub ShowsKept : {S : Type 0} {g : Ghosts S} → Image → Spool S g → Type 0
 ShowsKept before spool = HasCleanDisk (disk spool) → (s : State) → ImageKeeps before s → Shows spool s
 
--- A run over files that held this: a spool was started over them, which showed the state that they
--- kept, what the program was invoked for was done over it, and it was let go; that is a stretch of
--- work, of the commands and the replies of this invocation.
+-- A run over files that held this. A spool was started over them, and showed the state that they
+-- kept. What the program was invoked for was done over it, and it was let go. That is a stretch of
+-- work, with the commands and the replies of this invocation.
 pub record IsRun {D : Type 0} {g : device.Ghosts D} (settings : Settings) (what : Invocation) (before : Image) (result : Result ℕ Fault) (left : Rest D g) : Type 0 where
   pub begun : Spool (FileStore D g) over_files
   pub ended : Spool (FileStore D g) over_files
@@ -131,9 +131,10 @@ pub record IsRun {D : Type 0} {g : device.Ghosts D} (settings : Settings) (what 
   pub gone : LetsGo ended left
   pub stretch : EndsStretch before exchange left
 
--- The same run, over files that other stretches left: its spool began with the state after the
--- commands of their exchanges that count. Each job whose number was answered in one of them is
--- there, unless it was let go since, and so is each whose number was the answer to a key.
+-- The same, over files that other stretches left. On a clean disk its spool began with the state
+-- after the commands of their exchanges that count. Each job whose number was answered is there or
+-- was removed, and no other job has its number. If the number was the answer to a key, this is the
+-- job that was first handed in under the key, or one that was there before them all.
 pub record IsRunAfter {D : Type 0} {g : device.Ghosts D} (s : State) (told : List Exchange) (settings : Settings) (what : Invocation) (before : Image) (result : Result ℕ Fault) (left : Rest D g) : Type 0 where
   pub run : IsRun settings what before result left
   pub commands : HasCleanDisk (disk run.begun) → ∥ ShowsAfter s told run.begun ∥₁

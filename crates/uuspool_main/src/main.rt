@@ -149,10 +149,11 @@ fn input_for(rt: &HostRuntime, takes_input: bool) -> Result<Vec<u8>, Fault> {
     }
 }
 
-/// What was done to the spool's files before. Only clauses name it, and they hold of whatever it is.
-struct AnyHistory;
+/// A history without stretches. Only clauses name it, and `work_on_file` is proved for any other
+/// (docs/trust.md).
+struct NoHistory;
 
-impl FileHistory for AnyHistory {
+impl FileHistory for NoHistory {
     ghost before = { record { log = []; db = [] } };
 
     ghost stretches = { [] };
@@ -163,7 +164,7 @@ impl FileHistory for AnyHistory {
 fn run_on_file(rt: &HostRuntime, settings: &Settings, invocation: Invocation) -> Result<u8, Fault>
     requires { HasMoment settings.now invocation }
 {
-    match work_on_file::<AnyHistory, Wary>(rt, settings, invocation, Wary) {
+    match work_on_file::<NoHistory, Wary>(rt, settings, invocation, Wary) {
         Ok(worked) => end_of(worked),
         Err(failed) => Err(Fault::Store(failed.fault)),
     }

@@ -43,16 +43,20 @@ pub(crate) enum Rest<D: Disk> {
     Unclosed(FileStore<D>),
 }
 
-/// Opens the spool's file that the settings name, does the work over the spool in it, and lets it
-/// go: a stretch of work, whatever the files held, with the commands and the replies of this work.
+/// Opens the spool's file that the settings name, does the work over the spool in it, and lets the
+/// spool go. This is a stretch of work, with any contents of the files, and with the commands and
+/// the replies of this work. No clause names the path.
 ///
-/// If other stretches were over the files before, nobody else wrote them, and the disk returned what
-/// was written, then the work begins with exactly the state that the machine reaches by the commands
-/// that count (`shows`). So a job whose number was answered is there with all its bytes, unless an
+/// Suppose that nobody else wrote the files since some stretches before, and that the disk returned
+/// what was written. Then the work begins with the state that the machine reaches by the commands
+/// that count (`shows`). A job whose number was answered is there with all its bytes, unless an
 /// accepted command killed or delivered it, and no other job has its number. If the number was the
-/// answer to a key, that is so of the job that was first handed in under the key.
+/// answer to a key, this holds of the job that was first handed in under the key. If the key was
+/// kept before those stretches, it holds that the job of this number is there, or was killed or
+/// delivered.
 ///
-/// A type of first contents that supposes something of a torn write, as `Unknown` does, is refused.
+/// It doesn't accept a type of first contents that assumes something about a torn write, as
+/// `Unknown` does.
 ///
 /// # Errors
 /// Those of `open_spool`.
