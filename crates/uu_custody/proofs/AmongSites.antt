@@ -40,9 +40,6 @@ module _ (chart : Chart) (name : ℕ → List ℕ) (named : AreNamed chart name)
   abbrev one : ℕ
   one = chart.begins line
 
-  abbrev end : ℕ
-  end = chart.ends line
-
   abbrev KnowsHere : List Bundle → Bundles → Type 0
   KnowsHere said bundles = Knows said (name (chart.begins line)) (name (chart.ends line)) bundles
 

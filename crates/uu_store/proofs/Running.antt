@@ -16,7 +16,7 @@ use Rattle.uu_store.specs.declared.spool.Spool.{Spool}
 use Rattle.uu_schema.specs.Steps.{StaysUnclean}
 use Rattle.uu_schema.specs.Encoded.{Leaves, LeavesEither}
 use Rattle.uu_store.specs.Spool.{disk, has_failed, Shows}
-use Rattle.uu_store.specs.Runs.{GoesOn, RanFrom, Ran, reply_in, fault_in}
+use Rattle.uu_store.specs.Runs.{GoesOn, RanFrom, Ran, fault_in}
 use Rattle.uu_adopt.proofs.Settling.{Settles, leaves}
 
 -- ---- the first of a list
@@ -79,9 +79,6 @@ pub record Running {S : Type 0} {g : Ghosts S} (old now : Spool S g) (given : Li
   pub clean : StaysUnclean (disk old) (disk now)
 
 module _ {S : Type 0} {g : Ghosts S} (old : Spool S g) where
-  pub running_none : has_failed old ≡ false → Running old old [] []
-  running_none usable = record { was = usable; usable = usable; count = refl; shows = λ clean s shows. (refl, shows); clean = omega arith }
-
   pub running_more : StatesFollow → RepliesFollow → (mid now : Spool S g) (given : List Command) (command : Command) (replies : List Reply) (reply : Reply) → Running old mid given replies → has_failed now ≡ false
       → (db.HasCleanDisk (disk now) → (s : State) → Shows mid s → (reply ≡ (after s command).1) × Shows now (after s command).0) → StaysUnclean (disk mid) (disk now) → Running old now (given ++ command ∷ []) (replies ++ reply ∷ [])
   running_more states answers mid now given command replies reply r usable step stays = record {
@@ -158,9 +155,6 @@ module _ {S : Type 0} {g : Ghosts S} (old : Spool S g) where
 
     pub ran_failed : (in_hand : ℕ) → IsAhead in_hand commands → has_failed old ≡ true → Ran in_hand commands old old [] (Some Failed)
     ran_failed in_hand ahead failed = unstarted in_hand ahead Failed (λ s shows. absurd (true≢false (sym failed ∙ shows.usable)))
-
-    pub ran_refused : Settles (disk old) → Ran 1 commands old old [] (Some Memory)
-    ran_refused settles = unstarted 1 (one_ahead commands) Memory (λ s shows. leaves s (disk old) settles shows.rests shows.encodes)
 
 -- ---- one call
 

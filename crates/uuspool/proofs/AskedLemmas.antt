@@ -144,34 +144,6 @@ module _ {S : Type 0} {g : Ghosts S} where
       failed = asked.failed;
     }
 
-    -- no such state gives this answer
-    pub asked_lost : {B : Type 0} (Other : State → B → Type 0) (a : A) (kind : StoreKind) → ((s : State) → spool.Shows old s → Knows s → Is s a → ⊥)
-        → (let r : Result A StoreFault = Ok a in IsAsked Knows Is old new r) → (let r : Result B StoreFault = Err (store.Store kind) in IsAsked Knows Other old new r)
-    asked_lost Other a kind none asked = record {
-      marked = asked.marked.0;
-      noted = λ clean s shown known told same. absurd (none s shown known (asked.answer clean s shown known).0);
-      answer = λ clean s shown known. tt;
-      clean = asked.clean;
-      ran = record {
-        within = asked.ran.within;
-        from = λ clean s shown. (let from = asked.ran.from clean s shown in record { answers = from.answers; shows = λ on. absurd on; stop = λ on. absurd on; stop_store = from.stop_store });
-        clean = asked.ran.clean;
-      };
-      failed = asked.failed;
-    }
-
-  -- what the caller knows is known of fewer states
-  pub asked_knowing : {A : Type 0} (Knows Knew : State → Type 0) (Is : State → A → Type 0) (old new : Spool S g) (r : Result A StoreFault) → ((s : State) → spool.Shows old s → Knew s → Knows s)
-      → IsAsked Knows Is old new r → IsAsked Knew Is old new r
-  asked_knowing Knows Knew Is old new r into asked = record {
-    marked = asked.marked;
-    noted = λ clean s shown known. asked.noted clean s shown (into s shown known);
-    answer = λ clean s shown known. asked.answer clean s shown (into s shown known);
-    clean = asked.clean;
-    ran = asked.ran;
-    failed = asked.failed;
-  }
-
   -- no question was asked yet
   pub asked_nothing : (Knows Is : State → Type 0) (old : Spool S g) → Ran 1 [] old old [] None → spool.has_failed old ≡ false → ((s : State) → spool.Shows old s → Knows s → Is s) → WasAsked Knows Is old old
   asked_nothing Knows Is old ran usable is = record {

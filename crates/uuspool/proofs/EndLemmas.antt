@@ -1,5 +1,5 @@
 -- How the end of a run, and what is printed of it, make up the service of a line's commands.
-use Rattle.std.proofs.Common.{◌≡◌, ◌≢◌, ◌∙◌, ◌≤◌, ◌++◌, ◌∷◌, inl, inr, ℕ, List, [], length, take, Vec, Option, Some, None, Result, Ok, Err, Bool, MatchOption, IfOk, IfErr, IfSome, OnOk, IsOkAnd, IsTrue, ap, arith, refl, subst, sym}
+use Rattle.std.proofs.Common.{◌≡◌, ◌≢◌, ◌∙◌, ◌≤◌, ◌++◌, ◌∷◌, ℕ, List, [], length, take, Vec, Option, Some, None, Result, Err, Bool, MatchOption, IfOk, IfErr, IfSome, OnOk, IsOkAnd, IsTrue, ap, arith, refl, subst, sym}
 use Rattle.std.proofs.lemmas.List.{take_all}
 use Rattle.std.specs.declared.alloc.AllocError.{AllocError}
 use Rattle.std.specs.declared.alloc.Global.{Global}
@@ -47,36 +47,6 @@ pub whole_printed : (subjects : List Subject) (skipped : List ℕ) (end : RunEnd
 whole_printed subjects skipped end written made status r whole same is wrote answers printing cut nothing =
     subst (Ends subjects skipped end written r) (sym whole)
     (printed r made status written (λ output. output ≡ output_text subjects skipped end.replies.items) (IsWhole subjects skipped end) (λ output text. (text, same)) wrote answers printing cut nothing is)
-
-module _ (subjects : List Subject) (skipped : List ℕ) (end : RunEnd) (written : List ℕ → Type 0) (why : StoreFault) (stops : end.stopped ≡ Some why) where
-  -- a run that was broken off ended so
-  ended : (r : Result ℕ Fault) → IsBrokenOff why (answers_text subjects end.replies.items) written r → IsPrintedEnd subjects skipped end written r
-  ended r broken = subst (Ends subjects skipped end written r) (sym stops) broken
-
-  -- nothing was to be printed
-  pub none_printed : answers_text subjects end.replies.items ≡ [] → written [] → (let r : Result ℕ Fault = Err (fault.Store why) in IsPrintedEnd subjects skipped end written r)
-  none_printed none nothing = ended (Err (fault.Store why)) (refl, subst written (sym none) nothing)
-
-  module _ (made : Result (Vec ℕ Global) AllocError) (is : IfOk made (λ output. output.items ≡ answers_text subjects end.replies.items)) where
-    made_so : (P : List ℕ → Type 0) (made : Result (Vec ℕ Global) AllocError) → IfOk made (λ output. output.items ≡ answers_text subjects end.replies.items)
-        → IsOkAnd made (λ output. P output.items) → P (answers_text subjects end.replies.items)
-    made_so P (Ok output) text holds = subst P text holds
-    made_so P (Err none) text holds = absurd holds
-
-    -- the output of the commands that were answered was printed
-    pub answers_printed : IsOkAnd made (λ output. written output.items) → (let r : Result ℕ Fault = Err (fault.Store why) in IsPrintedEnd subjects skipped end written r)
-    answers_printed wrote = ended (Err (fault.Store why)) (refl, made_so written made is wrote)
-
-    -- it was not, or not all of it
-    pub answers_unprinted : (f : Fault) → answers_text subjects end.replies.items ≢ [] → IsOfPrinting f
-        → (f ≡ fault.Write → IsOkAnd made (λ output. IsCut output.items written)) → (f ≡ fault.Memory → written [])
-        → (let r : Result ℕ Fault = Err f in IsPrintedEnd subjects skipped end written r)
-    answers_unprinted f some (inl write) cut nothing =
-        subst (λ (g : Fault). let r : Result ℕ Fault = Err g in IsPrintedEnd subjects skipped end written r) (sym write)
-        (ended (Err fault.Write) (made_so (λ text. IsCut text written) made is (cut write)))
-    answers_unprinted f some (inr memory) cut nothing =
-        subst (λ (g : Fault). let r : Result ℕ Fault = Err g in IsPrintedEnd subjects skipped end written r) (sym memory)
-        (ended (Err fault.Memory) (some, nothing memory))
 
 -- ---- what is printed of answers
 

@@ -39,16 +39,6 @@ settled_more system mark s told one =
     ∙ ap (map (λ (t : handover.Told). t.number)) (filter-append (is_settled system mark s) (map as_told told) (map as_told (one ∷ [])))
     ∙ map-append (λ (t : handover.Told). t.number) (filter (is_settled system mark s) (map as_told told)) (filter (is_settled system mark s) (map as_told (one ∷ [])))
 
--- one that is settled is added, and no other
-pub settled_one : (system : List ℕ) (mark : custody.Parcel → ℕ) (s : State) (one : Told) (settled : Bool) → settled ≡ is_settled system mark s (as_told one)
-    → settled_of system mark s (map as_told (one ∷ [])) ≡ cond settled (one.number ∷ []) []
-settled_one system mark s one settled is =
-    ap (λ b. map (λ (t : handover.Told). t.number) (cond b (as_told one ∷ []) [])) (sym is) ∙ go settled
-  where
-    go : (b : Bool) → map (λ (t : handover.Told). t.number) (cond b (as_told one ∷ []) []) ≡ cond b (one.number ∷ []) []
-    go true = refl
-    go false = refl
-
 -- one more job, if its number is greater than the last, and if it isn't
 pub rising_more : (last : ℕ) (kept more : List Told) (one : Told) (others : List Told) → last < one.number → more ≡ kept ++ one ∷ [] → more ++ rising one.number others ≡ kept ++ rising last (one ∷ others)
 rising_more last kept more one others less is =
@@ -95,10 +85,6 @@ rising_are_told told =
 pub refused_more : (from to word : List ℕ) (s : State) (refused : List Refused) (one : Refused)
     → refused_still from to word (refused ++ one ∷ []) s ≡ refused_still from to word refused s ++ refused_still from to word (one ∷ []) s
 refused_more from to word s refused one = filter-append (is_refused_still from to word s) refused (one ∷ [])
-
-pub refused_one : (from to word : List ℕ) (s : State) (one : Refused) (waits : Bool) → waits ≡ is_refused_still from to word s one
-    → refused_still from to word (one ∷ []) s ≡ cond waits (one ∷ []) []
-refused_one from to word s one waits is = ap (λ b. cond b (one ∷ []) []) (sym is)
 
 -- ---- the service
 
