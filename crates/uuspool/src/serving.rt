@@ -35,7 +35,8 @@ use uu_times::Moment;
 ///
 /// # Errors
 /// `Words`, `Name`, `TwoSystems`, `Time` and `Input` come in this order, before any call of the
-/// spool. Only the `Time` of a sys file comes last. Then nothing is written and nothing changes.
+/// spool. Only the `Time` of a sys file, and `Bundle`, come last. Then nothing is written and nothing
+/// changes.
 /// `Store` comes after the output of the commands that were answered. After `Write` accepted
 /// commands stay accepted. If the store gave a fault, `Write` and `Memory` come instead of it only
 /// if less than that output was written. `Settings` and `Read` never come.
@@ -111,7 +112,7 @@ fn line_and_moment(
 ///
 /// # Errors
 /// Those of [`serve`] without the faults of words and of the moment: `Input`, then the `Time` of a
-/// sys file, `Store`, `Write` and `Memory`.
+/// sys file or `Bundle`, `Store`, `Write` and `Memory`.
 pub fn serve_line<S: Alter, W: Write>(
     alloc: Global,
     line: CommandLine,
