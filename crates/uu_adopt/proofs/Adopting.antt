@@ -6,15 +6,15 @@ use Rattle.uu_core.specs.State.{empty}
 use Rattle.uu_schema.specs.Steps.{Stands}
 use Rattle.uu_schema.specs.Faults.{IsFaultOfThisCall}
 use Rattle.uu_schema.specs.Encoded.{HoldsAgain, HoldsState}
-use Rattle.uu_schema.specs.Schema.{site, site_of, no_schema}
+use Rattle.uu_schema.specs.Schema.{spool_schema, schema_of, no_schema}
 use Rattle.uu_schema.specs.declared.fault.StoreFault.{StoreFault}
 use Rattle.uu_schema.specs.declared.fault.StoreFault.TheVariants.{Foreign}
 use Rattle.uu_schema.specs.declared.version.Version.{Version}
 use Rattle.uu_schema.specs.declared.version.Version.TheVariants.{Third}
 use Rattle.uu_adopt.specs.declared.tables.Found.TheVariants.{Nothing, Spool, Other}
-use Rattle.uu_adopt.specs.FoundTables.{found_of, IsEarlier}
+use Rattle.uu_adopt.specs.FoundTables.{found_of, IsEarlierVersion}
 use Rattle.uu_adopt.specs.Becoming.{MigratesState}
-use Rattle.uu_adopt.specs.Adoption.{Adopts, AdoptsSpool, Inspects, IsInspected, IsRefused, IsSpared, Makes}
+use Rattle.uu_adopt.specs.Adoption.{Adopts, AdoptsSpool, Inspects, IsInspected, IsRefused, IsSpared, MakesSchema}
 use Rattle.uu_adopt.proofs.Creating.{all_of_version, none_found, not_last, not_nothing, not_other, none_or_other, same_tables, some_or_none}
 use Rattle.uu_adopt.proofs.Becoming.{migrated_then, inspected_then, unmade_then, spared_then, spared_migrates, spared_unmade}
 use Rattle.uu_adopt.proofs.Composing.{same_version, not_some}
@@ -23,7 +23,7 @@ use Rattle.uu_adopt.proofs.Inspecting.{inspected_never, inspected_if, becomes_if
 -- ---- a database with a table `spool`
 
 -- the tables are those of an earlier version, and were migrated
-pub adopts_migrated : (tables : Option Version) (w : Version) (a b d : db.State) (r : Result (Unit {0}) StoreFault) → IsEarlier w → tables ≡ Some w → Inspects tables a b (Ok tt) → IfErr r IsFaultOfThisCall → Makes (site_of w) site (HoldsAgain w) b d r → (IsRefused r → IsSpared b d r) → AdoptsSpool tables a d r
+pub adopts_migrated : (tables : Option Version) (w : Version) (a b d : db.State) (r : Result (Unit {0}) StoreFault) → IsEarlierVersion w → tables ≡ Some w → Inspects tables a b (Ok tt) → IfErr r IsFaultOfThisCall → MakesSchema (schema_of w) spool_schema (HoldsAgain w) b d r → (IsRefused r → IsSpared b d r) → AdoptsSpool tables a d r
 adopts_migrated tables w a b d r early is looked fresh makes spared =
     let first = looked.inspected w is in
     let clean : db.HasCleanDisk d → db.HasCleanDisk b = λ clean. omega (arith, clean, makes.clean) in
@@ -35,14 +35,14 @@ adopts_migrated tables w a b d r early is looked fresh makes spared =
       clean = omega (arith, looked.clean, makes.clean);
     }
 
-pub third_is_current : (tables : Option Version) → tables ≡ Some Third → (v : Version) → IsEarlier v → tables ≡ Some v → ⊥
+pub third_is_current : (tables : Option Version) → tables ≡ Some Third → (v : Version) → IsEarlierVersion v → tables ≡ Some v → ⊥
 third_is_current tables third v early is = not_last v early (same_version tables v Third is third)
 
-pub none_is_current : (tables : Option Version) → tables ≡ None → (v : Version) → IsEarlier v → tables ≡ Some v → ⊥
+pub none_is_current : (tables : Option Version) → tables ≡ None → (v : Version) → IsEarlierVersion v → tables ≡ Some v → ⊥
 none_is_current tables none v early is = not_some tables v none is
 
 -- they are those of this version, and stay
-pub adopts_current : (tables : Option Version) (a b : db.State) → ((v : Version) → IsEarlier v → tables ≡ Some v → ⊥) → Inspects tables a b (Ok tt) → AdoptsSpool tables a b (Ok tt)
+pub adopts_current : (tables : Option Version) (a b : db.State) → ((v : Version) → IsEarlierVersion v → tables ≡ Some v → ⊥) → Inspects tables a b (Ok tt) → AdoptsSpool tables a b (Ok tt)
 adopts_current tables a b current looked = record { inspected = looked.inspected; spared = λ refused. looked.spared; migrates = λ v early is. absurd (current v early is); unmade = tt; clean = looked.clean }
 
 -- it is refused
@@ -58,7 +58,7 @@ adopts_refused tables a b fault looked = record {
 -- ---- any database
 
 module _ (a b : db.State) where
-  pub adopts_none : (r : Result (Unit {0}) StoreFault) → found_of a.now.schema ≡ Nothing → Makes no_schema site (λ old new. HoldsState new empty) a b r → Adopts a b r
+  pub adopts_none : (r : Result (Unit {0}) StoreFault) → found_of a.now.schema ≡ Nothing → MakesSchema no_schema spool_schema (λ old new. HoldsState new empty) a b r → Adopts a b r
   adopts_none r is makes = record {
     inspected = λ v. inspected_never v a b r (never v);
     spared = λ some refused. absurd (some is);
@@ -68,7 +68,7 @@ module _ (a b : db.State) where
     clean = makes.clean;
   }
     where
-      never : (v : Version) → Stands (site_of v) a.now → ⊥
+      never : (v : Version) → Stands (schema_of v) a.now → ⊥
       never v stands = not_nothing v (sym is ∙ all_of_version v a.now stands)
 
   pub adopts_some : (tables : Option Version) (r : Result (Unit {0}) StoreFault) → found_of a.now.schema ≡ Spool tables → AdoptsSpool tables a b r → Adopts a b r
@@ -81,7 +81,7 @@ module _ (a b : db.State) where
     clean = it.clean;
   }
     where
-      same : (v : Version) → Stands (site_of v) a.now → tables ≡ Some v
+      same : (v : Version) → Stands (schema_of v) a.now → tables ≡ Some v
       same v stands = same_tables tables (Some v) (sym is ∙ all_of_version v a.now stands)
 
 pub adopts_other : (a : db.State) → found_of a.now.schema ≡ Other → Adopts a a (Err Foreign)
@@ -94,5 +94,5 @@ adopts_other a is = record {
   clean = omega arith;
 }
   where
-    never : (v : Version) → Stands (site_of v) a.now → ⊥
+    never : (v : Version) → Stands (schema_of v) a.now → ⊥
     never v stands = not_other v (sym is ∙ all_of_version v a.now stands)

@@ -10,7 +10,7 @@ use Rattle.uu_schema.specs.Steps.{Stands, Rests, Whole, Did, Undid, Ends}
 use Rattle.uu_core.specs.State.{State, IsWellFormed, empty}
 use Rattle.uu_tables.specs.Tables.{tables_of}
 use Rattle.uu_schema.specs.Held.{MakesEmpty, Migrates}
-use Rattle.uu_schema.specs.Schema.{site, site_of}
+use Rattle.uu_schema.specs.Schema.{spool_schema, schema_of}
 use Rattle.uu_schema.specs.declared.version.Version.{Version}
 use Rattle.uu_schema.specs.Faults.{IsFaultOfThisCall, kind_of_error}
 use Rattle.sqlite.specs.declared.error.Error.{Error}
@@ -84,18 +84,18 @@ unless_weaker Newer step h = step h
 -- ---- an earlier version: looked at, and then made the one that is written
 
 module _ (v : Version) (a b d : db.State) (first : IsInspected v a b (Ok tt)) (spared : IsSpared a b (Ok tt)) (early : db.HasCleanDisk d → db.HasCleanDisk b) where
-  held : db.HasCleanDisk d → Stands (site_of v) a.now → (s : State) × HoldsStateAs v a.now.trees s
+  held : db.HasCleanDisk d → Stands (schema_of v) a.now → (s : State) × HoldsStateAs v a.now.trees s
   held clean stands = first.ok (early clean) stands
 
-  stands_on : db.HasCleanDisk d → Rests a → Stands (site_of v) a.now → Stands (site_of v) b.now
-  stands_on clean rests stands = subst (Stands (site_of v)) (sym (spared.same (early clean) rests).1) stands
+  stands_on : db.HasCleanDisk d → Rests a → Stands (schema_of v) a.now → Stands (schema_of v) b.now
+  stands_on clean rests stands = subst (Stands (schema_of v)) (sym (spared.same (early clean) rests).1) stands
 
-  migrated : db.HasCleanDisk d → Rests a → Stands (site_of v) a.now → (trees : Trees) → HoldsAgain v b.now.trees trees → Migrated v a.now.trees trees
+  migrated : db.HasCleanDisk d → Rests a → Stands (schema_of v) a.now → (trees : Trees) → HoldsAgain v b.now.trees trees → Migrated v a.now.trees trees
   migrated clean rests stands trees again =
       let it = held clean stands in
       record { state = it.0; held = it.1; again = subst (λ (now : Database). HoldsAgain v now.trees trees) (spared.same (early clean) rests).1 again }
 
-  pub migrated_then : (r : Result (Unit {0}) StoreFault) → Becomes (site_of v) site (HoldsAgain v) b d r → MigratesState v a d r
+  pub migrated_then : (r : Result (Unit {0}) StoreFault) → Becomes (schema_of v) spool_schema (HoldsAgain v) b d r → MigratesState v a d r
   migrated_then r h = record {
     ok = λ clean rests stands. done clean rests stands r (h.ok clean (spared.same (early clean) rests).0 (stands_on clean rests stands));
     memory = λ clean rests stands is. let same = spared.same (early clean) rests in let m = h.memory clean same.0 (stands_on clean rests stands) is in (m.0, m.1 ∙ same.1);
@@ -105,7 +105,7 @@ module _ (v : Version) (a b d : db.State) (first : IsInspected v a b (Ok tt)) (s
     ];
   }
     where
-      done : db.HasCleanDisk d → Rests a → Stands (site_of v) a.now → (r : Result (Unit {0}) StoreFault) → OnOk r (Rests d × Stands site d.now × HoldsAgain v b.now.trees d.now.trees) → OnOk r (Rests d × Stands site d.now × Migrated v a.now.trees d.now.trees)
+      done : db.HasCleanDisk d → Rests a → Stands (schema_of v) a.now → (r : Result (Unit {0}) StoreFault) → OnOk r (Rests d × Stands spool_schema d.now × HoldsAgain v b.now.trees d.now.trees) → OnOk r (Rests d × Stands spool_schema d.now × Migrated v a.now.trees d.now.trees)
       done clean rests stands (Ok x) it = (it.0, it.1, migrated clean rests stands d.now.trees it.2)
       done clean rests stands (Err e) it = tt
 

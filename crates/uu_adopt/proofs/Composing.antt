@@ -9,7 +9,7 @@ use Rattle.sqlite.specs.Store.{Ghosts}
 use Rattle.uu_schema.specs.Steps.{Stands}
 use Rattle.uu_schema.proofs.Questions.{spared_as, spared_then}
 use Rattle.uu_schema.specs.declared.version.Version.{Version}
-use Rattle.uu_schema.specs.Schema.{site_of}
+use Rattle.uu_schema.specs.Schema.{schema_of}
 use Rattle.uu_adopt.specs.Reading.{Reads, ReadsFrom}
 
 from_ok : {T E P : Type 0} (r : Result T E) → IsOk r → OnOk r P → P
@@ -38,8 +38,8 @@ module _ (v : Version) {T V : Type 0} (P : Trees → T → Type 0) (Q : Trees �
   stays : HasCleanDisk c → b.now ≡ a.now
   stays clean = first.same (early clean)
 
-  stands_still : HasCleanDisk c → Stands (site_of v) a.now → Stands (site_of v) b.now
-  stands_still clean stands = subst (Stands (site_of v)) (sym (stays clean)) stands
+  stands_still : HasCleanDisk c → Stands (schema_of v) a.now → Stands (schema_of v) b.now
+  stands_still clean stands = subst (Stands (schema_of v)) (sym (stays clean)) stands
 
   same_after : (r : Result V Error) → b.now ≡ a.now → OnOk r (c.now ≡ b.now) → OnOk r (c.now ≡ a.now)
   same_after (Ok y) same h = h ∙ same
@@ -80,7 +80,7 @@ module _ {S T : Type 0} (g : Ghosts S) (P : Version → Trees → T → Type 0) 
   pub of_version : (r : Result T Error) → ReadsFrom g w (P w) a b r → ReadsFrom g v (λ trees x. v ≡ w → P v trees x) a b r
   of_version r h = record {
     idle = h.idle;
-    reads = record { spares = h.reads.spares; same = h.reads.same; found = λ clean stands. if_same r (λ is. h.reads.found clean (subst (λ u. Stands (site_of u) (state g a).now) is stands)) };
+    reads = record { spares = h.reads.spares; same = h.reads.same; found = λ clean stands. if_same r (λ is. h.reads.found clean (subst (λ u. Stands (schema_of u) (state g a).now) is stands)) };
   }
 
 pub same_version : (tables : Option Version) (v w : Version) → tables ≡ Some v → tables ≡ Some w → v ≡ w

@@ -6,26 +6,26 @@ use Rattle.sqlite.specs.Effect.{Database}
 use Rattle.sqlite.specs.State as db
 use Rattle.sqlite_schema.specs.Names.{same_name}
 use Rattle.uu_schema.specs.Steps.{Stands}
-use Rattle.uu_schema.specs.Schema.{site, first_site, second_site, no_schema, site_of}
+use Rattle.uu_schema.specs.Schema.{spool_schema, first_schema, second_schema, no_schema, schema_of}
 use Rattle.uu_schema.specs.declared.version.Version.{Version}
 use Rattle.uu_schema.specs.declared.version.Version.TheVariants.{First, Second, Third}
 use Rattle.uu_adopt.specs.declared.tables.Found.{Found}
 use Rattle.uu_adopt.specs.declared.tables.Found.TheVariants.{Nothing, Spool, Other}
-use Rattle.uu_adopt.specs.FoundTables.{found_of, HasNone, HasAllOf, HasEarlier, IsEarlier, HasNoneOrAll, HasUnversionedTables}
+use Rattle.uu_adopt.specs.FoundTables.{found_of, HasNone, HasAllOf, HasEarlier, IsEarlierVersion, HasNoneOrAll, HasUnversionedTables}
 
-found_first : found_of first_site ≡ Spool (Some First)
+found_first : found_of first_schema ≡ Spool (Some First)
 unfolding same_name
 found_first = refl
 
-found_second : found_of second_site ≡ Spool (Some Second)
+found_second : found_of second_schema ≡ Spool (Some Second)
 unfolding same_name
 found_second = refl
 
-found_site : found_of site ≡ Spool (Some Third)
+found_site : found_of spool_schema ≡ Spool (Some Third)
 unfolding same_name
 found_site = refl
 
-found_version : (v : Version) → found_of (site_of v) ≡ Spool (Some v)
+found_version : (v : Version) → found_of (schema_of v) ≡ Spool (Some v)
 found_version First = found_first
 found_version Second = found_second
 found_version Third = found_site
@@ -49,20 +49,20 @@ pub none_found : (d : Database) → Stands no_schema d → HasNone d.schema
 none_found d stands = ap found_of stands.schema
 
 -- one that has those of a version has them all
-pub all_of_version : (v : Version) (d : Database) → Stands (site_of v) d → HasAllOf v d.schema
+pub all_of_version : (v : Version) (d : Database) → Stands (schema_of v) d → HasAllOf v d.schema
 all_of_version v d stands = ap found_of stands.schema ∙ found_version v
 
 -- so it doesn't lack all of them
-pub all_found : (v : Version) (d : Database) → Stands (site_of v) d → ¬ HasNone d.schema
+pub all_found : (v : Version) (d : Database) → Stands (schema_of v) d → ¬ HasNone d.schema
 all_found v d stands none = let all = all_of_version v d stands in cc
 
 -- the last version isn't before itself
-pub not_last : (v : Version) → IsEarlier v → v ≡ Third → ⊥
+pub not_last : (v : Version) → IsEarlierVersion v → v ≡ Third → ⊥
 not_last First early is = cc
 not_last Second early is = cc
 not_last Third early is = early
 
-pub last_found : (d : Database) → Stands site d → ¬ HasEarlier d.schema
+pub last_found : (d : Database) → Stands spool_schema d → ¬ HasEarlier d.schema
 last_found d stands earlier =
     let all = all_of_version Third d stands in
     let same : Spool (Some earlier.0) ≡ Spool (Some Third) = sym earlier.2 ∙ all in

@@ -7,13 +7,13 @@ use Rattle.sqlite.specs.Schema.{Schema}
 use Rattle.sqlite.specs.Table.{Table}
 use Rattle.sqlite_rules.proofs.ListLemmas.{some_has, some_from}
 use Rattle.sqlite_schema.specs.Names.{same_name}
-use Rattle.uu_schema.specs.Schema.{first_site, spool, systems, lines, ranges, jobs, pieces, entries, links, taken}
+use Rattle.uu_schema.specs.Schema.{first_schema, spool, systems, lines, ranges, jobs, pieces, entries, links, taken}
 use Rattle.uu_schema.specs.declared.version.Version.{Version}
 use Rattle.uu_schema.specs.declared.version.Version.TheVariants.{First, Second, Third}
 use Rattle.uu_adopt.specs.declared.tables.Found.{Found}
 use Rattle.uu_adopt.specs.declared.tables.Found.TheVariants.{Nothing, Spool, Other}
-use Rattle.uu_adopt.specs.FoundTables.{system_columns, line_columns, range_columns, job_columns, piece_columns, entry_columns, wait_columns, link_columns, taken_columns, table_of, has_column, has_table, has_systems, has_jobs, has_waits, has_links, is_whole, is_taken, is_link_taken, is_any_taken, tables_with, found_beside, found_of, HasNone, HasAllOf, HasUnversionedTables}
-use Rattle.uu_adopt.specs.Format.{IsFree, HasColumn, HasTable, HasTableOf, HasNoName, HasTablesOf, TellsVersion}
+use Rattle.uu_adopt.specs.FoundTables.{system_column_names, line_column_names, range_column_names, job_column_names, piece_column_names, entry_column_names, wait_column_names, link_column_names, taken_column_names, table_of, has_column, has_table, has_systems, has_jobs, has_waits, has_links, is_whole, is_name_used, is_link_name_used, is_any_name_used, tables_with, found_beside, found_of, HasNone, HasAllOf, HasUnversionedTables}
+use Rattle.uu_adopt.specs.Format.{IsNameFree, HasColumn, HasTable, HasTableOf, HasNoName, HasTablesOf, TellsVersion}
 
 -- ---- a name
 
@@ -33,10 +33,10 @@ untaken : (o : Option Table) → is_some o ≡ false → o ≡ None
 untaken None is = refl
 untaken (Some table) is = absurd (cc)
 
-free : (schema : Schema) (name : List ℕ) → is_taken schema name ≡ false → IsFree schema name
+free : (schema : Schema) (name : List ℕ) → is_name_used schema name ≡ false → IsNameFree schema name
 free schema name is = none_free name schema.tables (untaken (table_of schema name) is)
 
-not_taken : (schema : Schema) (name : List ℕ) → IsFree schema name → is_taken schema name ≡ false
+not_taken : (schema : Schema) (name : List ℕ) → IsNameFree schema name → is_name_used schema name ≡ false
 not_taken schema name it = ap is_some (free_none name schema.tables it)
 
 -- ---- a table
@@ -67,7 +67,7 @@ table_there schema name columns has = go (table_of schema name) refl has
 table_found : (schema : Schema) (name : List ℕ) (columns : List (List ℕ)) → HasTable schema name columns → has_table schema name columns ≡ true
 table_found schema name columns it = ap (λ o. option_map_or (λ t. list_all (has_column t) columns) o false) it.is_first ∙ columns_found it.table columns it.has_all
 
-lacks : (schema : Schema) (name : List ℕ) (columns : List (List ℕ)) → IsFree schema name → has_table schema name columns ≡ false
+lacks : (schema : Schema) (name : List ℕ) (columns : List (List ℕ)) → IsNameFree schema name → has_table schema name columns ≡ false
 lacks schema name columns it = ap (λ o. option_map_or (λ t. list_all (has_column t) columns) o false) (free_none name schema.tables it)
 
 -- ---- tests of several tables
@@ -120,20 +120,20 @@ neither false true x y = absurd (cc)
 -- ---- none of the tables
 
 module _ (schema : Schema) where
-  links_free : IsFree schema (codes "links") → IsFree schema (codes "taken") → is_link_taken schema ≡ false
-  links_free a b = neither (is_taken schema (codes "links")) (is_taken schema (codes "taken")) (not_taken schema (codes "links") a) (not_taken schema (codes "taken") b)
+  links_free : IsNameFree schema (codes "links") → IsNameFree schema (codes "taken") → is_link_name_used schema ≡ false
+  links_free a b = neither (is_name_used schema (codes "links")) (is_name_used schema (codes "taken")) (not_taken schema (codes "links") a) (not_taken schema (codes "taken") b)
 
-  free_links : is_link_taken schema ≡ false → IsFree schema (codes "links") × IsFree schema (codes "taken")
-  free_links is = let it = or_parts (is_taken schema (codes "links")) (is_taken schema (codes "taken")) is in (free schema (codes "links") it.0, free schema (codes "taken") it.1)
+  free_links : is_link_name_used schema ≡ false → IsNameFree schema (codes "links") × IsNameFree schema (codes "taken")
+  free_links is = let it = or_parts (is_name_used schema (codes "links")) (is_name_used schema (codes "taken")) is in (free schema (codes "links") it.0, free schema (codes "taken") it.1)
 
-  names_free : table_of schema (codes "spool") ≡ None → is_any_taken schema ≡ false → HasNoName schema
+  names_free : table_of schema (codes "spool") ≡ None → is_any_name_used schema ≡ false → HasNoName schema
   names_free none is =
-      let it = nine (is_taken schema (codes "systems")) (is_taken schema (codes "lines")) (is_taken schema (codes "ranges")) (is_taken schema (codes "jobs")) (is_taken schema (codes "pieces")) (is_taken schema (codes "entries")) (is_taken schema (codes "success_waits")) (is_taken schema (codes "links")) (is_taken schema (codes "taken")) is in
+      let it = nine (is_name_used schema (codes "systems")) (is_name_used schema (codes "lines")) (is_name_used schema (codes "ranges")) (is_name_used schema (codes "jobs")) (is_name_used schema (codes "pieces")) (is_name_used schema (codes "entries")) (is_name_used schema (codes "success_waits")) (is_name_used schema (codes "links")) (is_name_used schema (codes "taken")) is in
       (none_free (codes "spool") schema.tables none, (free schema (codes "systems") it.0, (free schema (codes "lines") it.1, (free schema (codes "ranges") it.2, (free schema (codes "jobs") it.3, (free schema (codes "pieces") it.4, (free schema (codes "entries") it.5, (free schema (codes "success_waits") it.6, (free schema (codes "links") it.7, (free schema (codes "taken") it.8, tt))))))))))
 
-  any_free : HasNoName schema → is_any_taken schema ≡ false
+  any_free : HasNoName schema → is_any_name_used schema ≡ false
   any_free it =
-      neither _ (is_link_taken schema) (none_of_seven (is_taken schema (codes "systems")) (is_taken schema (codes "lines")) (is_taken schema (codes "ranges")) (is_taken schema (codes "jobs")) (is_taken schema (codes "pieces")) (is_taken schema (codes "entries")) (is_taken schema (codes "success_waits"))
+      neither _ (is_link_name_used schema) (none_of_seven (is_name_used schema (codes "systems")) (is_name_used schema (codes "lines")) (is_name_used schema (codes "ranges")) (is_name_used schema (codes "jobs")) (is_name_used schema (codes "pieces")) (is_name_used schema (codes "entries")) (is_name_used schema (codes "success_waits"))
       (not_taken schema (codes "systems") it.1.0) (not_taken schema (codes "lines") it.1.1.0) (not_taken schema (codes "ranges") it.1.1.1.0) (not_taken schema (codes "jobs") it.1.1.1.1.0) (not_taken schema (codes "pieces") it.1.1.1.1.1.0)
       (not_taken schema (codes "entries") it.1.1.1.1.1.1.0) (not_taken schema (codes "success_waits") it.1.1.1.1.1.1.1.0))
       (links_free it.1.1.1.1.1.1.1.1.0 it.1.1.1.1.1.1.1.1.1.0)
@@ -141,7 +141,7 @@ module _ (schema : Schema) where
   pub none_is : HasNone schema → HasNoName schema
   none_is none = go (table_of schema (codes "spool")) refl none
     where
-      empty : (b : Bool) → is_any_taken schema ≡ b → table_of schema (codes "spool") ≡ None → cond b Other Nothing ≡ Nothing → HasNoName schema
+      empty : (b : Bool) → is_any_name_used schema ≡ b → table_of schema (codes "spool") ≡ None → cond b Other Nothing ≡ Nothing → HasNoName schema
       empty false is none none_found = names_free none is
       empty true is none none_found = absurd (cc)
 
@@ -150,7 +150,7 @@ module _ (schema : Schema) where
       some false tables is = cc
 
       go : (o : Option Table) → table_of schema (codes "spool") ≡ o → found_beside schema o ≡ Nothing → HasNoName schema
-      go None is none_found = empty (is_any_taken schema) refl is none_found
+      go None is none_found = empty (is_any_name_used schema) refl is none_found
       go (Some table) is none_found = absurd (some (has_column table (codes "id") && has_column table (codes "version")) (tables_with schema table) none_found)
 
   pub is_none : HasNoName schema → HasNone schema
@@ -194,18 +194,18 @@ module _ (schema : Schema) where
       some table first false b id version found = absurd (cc)
 
       go : (o : Option Table) → table_of schema (codes "spool") ≡ o → found_beside schema o ≡ Spool tables → FoundWith tables
-      go None is found = absurd (none (is_any_taken schema) found)
+      go None is found = absurd (none (is_any_name_used schema) found)
       go (Some table) is found = some table is (has_column table (codes "id")) (has_column table (codes "version")) refl refl found
 
   spool_there : (it : TellsVersion schema) → has_column it.table (codes "next") ≡ true → HasTableOf schema spool
   spool_there it next = record { table = it.table; is_first = it.is_first; has_all = (it.has_all.0, (it.has_all.1.0, (some_has (λ c. same_name c.name (codes "next")) it.table.columns next, tt))) }
 
-  first_there : (it : TellsVersion schema) → is_whole schema it.table ≡ true → AllByRecursion (HasTableOf schema) first_site.tables
+  first_there : (it : TellsVersion schema) → is_whole schema it.table ≡ true → AllByRecursion (HasTableOf schema) first_schema.tables
   first_there it whole =
       let all = three (has_column it.table (codes "next")) (has_systems schema) (has_jobs schema) whole in
-      let a = three (has_table schema (codes "systems") system_columns) (has_table schema (codes "lines") line_columns) (has_table schema (codes "ranges") range_columns) all.1 in
-      let b = three (has_table schema (codes "jobs") job_columns) (has_table schema (codes "pieces") piece_columns) (has_table schema (codes "entries") entry_columns) all.2 in
-      (spool_there it all.0, (table_there schema (codes "systems") system_columns a.0, (table_there schema (codes "lines") line_columns a.1, (table_there schema (codes "ranges") range_columns a.2, (table_there schema (codes "jobs") job_columns b.0, (table_there schema (codes "pieces") piece_columns b.1, (table_there schema (codes "entries") entry_columns b.2, tt)))))))
+      let a = three (has_table schema (codes "systems") system_column_names) (has_table schema (codes "lines") line_column_names) (has_table schema (codes "ranges") range_column_names) all.1 in
+      let b = three (has_table schema (codes "jobs") job_column_names) (has_table schema (codes "pieces") piece_column_names) (has_table schema (codes "entries") entry_column_names) all.2 in
+      (spool_there it all.0, (table_there schema (codes "systems") system_column_names a.0, (table_there schema (codes "lines") line_column_names a.1, (table_there schema (codes "ranges") range_column_names a.2, (table_there schema (codes "jobs") job_column_names b.0, (table_there schema (codes "pieces") piece_column_names b.1, (table_there schema (codes "entries") entry_column_names b.2, tt)))))))
 
   abbrev told_by : HasTableOf schema spool → TellsVersion schema
   told_by it = record { table = it.table; is_first = it.is_first; has_all = (it.has_all.0, (it.has_all.1.0, tt)) }
@@ -215,10 +215,10 @@ module _ (schema : Schema) where
   first_found it a b c d e f =
       let next = it.has_all.1.1.0 in
       all_three (has_column it.table (codes "next")) (has_systems schema) (has_jobs schema) (some_from (λ c. same_name c.name (codes "next")) it.table.columns next.0 next.1 next.2)
-      (all_three (has_table schema (codes "systems") system_columns) (has_table schema (codes "lines") line_columns) (has_table schema (codes "ranges") range_columns)
-      (table_found schema (codes "systems") system_columns a) (table_found schema (codes "lines") line_columns b) (table_found schema (codes "ranges") range_columns c))
-      (all_three (has_table schema (codes "jobs") job_columns) (has_table schema (codes "pieces") piece_columns) (has_table schema (codes "entries") entry_columns)
-      (table_found schema (codes "jobs") job_columns d) (table_found schema (codes "pieces") piece_columns e) (table_found schema (codes "entries") entry_columns f))
+      (all_three (has_table schema (codes "systems") system_column_names) (has_table schema (codes "lines") line_column_names) (has_table schema (codes "ranges") range_column_names)
+      (table_found schema (codes "systems") system_column_names a) (table_found schema (codes "lines") line_column_names b) (table_found schema (codes "ranges") range_column_names c))
+      (all_three (has_table schema (codes "jobs") job_column_names) (has_table schema (codes "pieces") piece_column_names) (has_table schema (codes "entries") entry_column_names)
+      (table_found schema (codes "jobs") job_column_names d) (table_found schema (codes "pieces") piece_column_names e) (table_found schema (codes "entries") entry_column_names f))
 
   abbrev chosen : Bool → Bool → Bool → Bool → Bool → Option Version
   chosen whole waits links finds_waits link_taken = cond whole (cond waits (cond links (Some Third) (cond link_taken None (Some Second))) (cond (finds_waits || link_taken) None (Some First))) None
@@ -260,46 +260,46 @@ module _ (schema : Schema) where
   choose_first w h l t n whole waits taken named = rw (whole, waits, taken, named) refl
 
   links_there : has_links schema ≡ true → HasTableOf schema links × HasTableOf schema taken
-  links_there is = let it = and_parts (has_table schema (codes "links") link_columns) (has_table schema (codes "taken") taken_columns) is in (table_there schema (codes "links") link_columns it.0, table_there schema (codes "taken") taken_columns it.1)
+  links_there is = let it = and_parts (has_table schema (codes "links") link_column_names) (has_table schema (codes "taken") taken_column_names) is in (table_there schema (codes "links") link_column_names it.0, table_there schema (codes "taken") taken_column_names it.1)
 
   links_found : HasTableOf schema links → HasTableOf schema taken → has_links schema ≡ true
-  links_found a b = and_from (has_table schema (codes "links") link_columns) (has_table schema (codes "taken") taken_columns) (table_found schema (codes "links") link_columns a) (table_found schema (codes "taken") taken_columns b)
+  links_found a b = and_from (has_table schema (codes "links") link_column_names) (has_table schema (codes "taken") taken_column_names) (table_found schema (codes "links") link_column_names a) (table_found schema (codes "taken") taken_column_names b)
 
-  no_links : IsFree schema (codes "links") → has_links schema ≡ false
-  no_links it = ap (λ b. b && has_table schema (codes "taken") taken_columns) (lacks schema (codes "links") link_columns it)
+  no_links : IsNameFree schema (codes "links") → has_links schema ≡ false
+  no_links it = ap (λ b. b && has_table schema (codes "taken") taken_column_names) (lacks schema (codes "links") link_column_names it)
 
   pub all_are : (v : Version) → HasAllOf v schema → HasTablesOf v schema
   all_are First all =
       let found = with_spool (Some First) all in
-      let is = first_chosen (is_whole schema found.it.table) (has_waits schema) (has_links schema) (is_taken schema (codes "success_waits")) (is_link_taken schema) found.with_tables in
+      let is = first_chosen (is_whole schema found.it.table) (has_waits schema) (has_links schema) (is_name_used schema (codes "success_waits")) (is_link_name_used schema) found.with_tables in
       let rest = free_links is.2 in
       record { all = first_there found.it is.0; none_later = (free schema (codes "success_waits") is.1, (rest.0, (rest.1, tt))) }
   all_are Second all =
       let found = with_spool (Some Second) all in
-      let is = second_chosen (is_whole schema found.it.table) (has_waits schema) (has_links schema) (is_taken schema (codes "success_waits")) (is_link_taken schema) found.with_tables in
+      let is = second_chosen (is_whole schema found.it.table) (has_waits schema) (has_links schema) (is_name_used schema (codes "success_waits")) (is_link_name_used schema) found.with_tables in
       let first = first_there found.it is.0 in
       let rest = free_links is.2 in
-      record { all = (first.0, (first.1.0, (first.1.1.0, (first.1.1.1.0, (first.1.1.1.1.0, (first.1.1.1.1.1.0, (first.1.1.1.1.1.1.0, (table_there schema (codes "success_waits") wait_columns is.1, tt)))))))); none_later = (rest.0, (rest.1, tt)) }
+      record { all = (first.0, (first.1.0, (first.1.1.0, (first.1.1.1.0, (first.1.1.1.1.0, (first.1.1.1.1.1.0, (first.1.1.1.1.1.1.0, (table_there schema (codes "success_waits") wait_column_names is.1, tt)))))))); none_later = (rest.0, (rest.1, tt)) }
   all_are Third all =
       let found = with_spool (Some Third) all in
-      let is = third_chosen (is_whole schema found.it.table) (has_waits schema) (has_links schema) (is_taken schema (codes "success_waits")) (is_link_taken schema) found.with_tables in
+      let is = third_chosen (is_whole schema found.it.table) (has_waits schema) (has_links schema) (is_name_used schema (codes "success_waits")) (is_link_name_used schema) found.with_tables in
       let first = first_there found.it is.0 in
       let rest = links_there is.2 in
-      record { all = (first.0, (first.1.0, (first.1.1.0, (first.1.1.1.0, (first.1.1.1.1.0, (first.1.1.1.1.1.0, (first.1.1.1.1.1.1.0, (table_there schema (codes "success_waits") wait_columns is.1, (rest.0, (rest.1, tt)))))))))); none_later = tt }
+      record { all = (first.0, (first.1.0, (first.1.1.0, (first.1.1.1.0, (first.1.1.1.1.0, (first.1.1.1.1.1.0, (first.1.1.1.1.1.1.0, (table_there schema (codes "success_waits") wait_column_names is.1, (rest.0, (rest.1, tt)))))))))); none_later = tt }
 
   pub are_all : (v : Version) → HasTablesOf v schema → HasAllOf v schema
   are_all First it =
       tells (told_by it.all.0)
-      ∙ ap Spool (choose_first (is_whole schema it.all.0.table) (has_waits schema) (has_links schema) (is_taken schema (codes "success_waits")) (is_link_taken schema) (first_found it.all.0 it.all.1.0 it.all.1.1.0 it.all.1.1.1.0 it.all.1.1.1.1.0 it.all.1.1.1.1.1.0 it.all.1.1.1.1.1.1.0)
-      (lacks schema (codes "success_waits") wait_columns it.none_later.0) (not_taken schema (codes "success_waits") it.none_later.0) (links_free it.none_later.1.0 it.none_later.1.1.0))
+      ∙ ap Spool (choose_first (is_whole schema it.all.0.table) (has_waits schema) (has_links schema) (is_name_used schema (codes "success_waits")) (is_link_name_used schema) (first_found it.all.0 it.all.1.0 it.all.1.1.0 it.all.1.1.1.0 it.all.1.1.1.1.0 it.all.1.1.1.1.1.0 it.all.1.1.1.1.1.1.0)
+      (lacks schema (codes "success_waits") wait_column_names it.none_later.0) (not_taken schema (codes "success_waits") it.none_later.0) (links_free it.none_later.1.0 it.none_later.1.1.0))
   are_all Second it =
       tells (told_by it.all.0)
-      ∙ ap Spool (choose_second (is_whole schema it.all.0.table) (has_waits schema) (has_links schema) (is_taken schema (codes "success_waits")) (is_link_taken schema) (first_found it.all.0 it.all.1.0 it.all.1.1.0 it.all.1.1.1.0 it.all.1.1.1.1.0 it.all.1.1.1.1.1.0 it.all.1.1.1.1.1.1.0)
-      (table_found schema (codes "success_waits") wait_columns it.all.1.1.1.1.1.1.1.0) (no_links it.none_later.0) (links_free it.none_later.0 it.none_later.1.0))
+      ∙ ap Spool (choose_second (is_whole schema it.all.0.table) (has_waits schema) (has_links schema) (is_name_used schema (codes "success_waits")) (is_link_name_used schema) (first_found it.all.0 it.all.1.0 it.all.1.1.0 it.all.1.1.1.0 it.all.1.1.1.1.0 it.all.1.1.1.1.1.0 it.all.1.1.1.1.1.1.0)
+      (table_found schema (codes "success_waits") wait_column_names it.all.1.1.1.1.1.1.1.0) (no_links it.none_later.0) (links_free it.none_later.0 it.none_later.1.0))
   are_all Third it =
       tells (told_by it.all.0)
-      ∙ ap Spool (choose_third (is_whole schema it.all.0.table) (has_waits schema) (has_links schema) (is_taken schema (codes "success_waits")) (is_link_taken schema) (first_found it.all.0 it.all.1.0 it.all.1.1.0 it.all.1.1.1.0 it.all.1.1.1.1.0 it.all.1.1.1.1.1.0 it.all.1.1.1.1.1.1.0)
-      (table_found schema (codes "success_waits") wait_columns it.all.1.1.1.1.1.1.1.0) (links_found it.all.1.1.1.1.1.1.1.1.0 it.all.1.1.1.1.1.1.1.1.1.0))
+      ∙ ap Spool (choose_third (is_whole schema it.all.0.table) (has_waits schema) (has_links schema) (is_name_used schema (codes "success_waits")) (is_link_name_used schema) (first_found it.all.0 it.all.1.0 it.all.1.1.0 it.all.1.1.1.0 it.all.1.1.1.1.0 it.all.1.1.1.1.1.0 it.all.1.1.1.1.1.1.0)
+      (table_found schema (codes "success_waits") wait_column_names it.all.1.1.1.1.1.1.1.0) (links_found it.all.1.1.1.1.1.1.1.1.0 it.all.1.1.1.1.1.1.1.1.1.0))
 
   -- ---- something else
 

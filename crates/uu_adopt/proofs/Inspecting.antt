@@ -8,7 +8,7 @@ use Rattle.uu_schema.proofs.Questions.{spared_same}
 use Rattle.uu_schema.specs.declared.fault.StoreFault.{StoreFault}
 use Rattle.uu_schema.specs.declared.fault.StoreFault.TheVariants.{Memory, Store, Failed, Newer, Foreign as ForeignFault}
 use Rattle.sqlite.specs.Effect.{Database}
-use Rattle.uu_schema.specs.Schema.{site_of}
+use Rattle.uu_schema.specs.Schema.{schema_of}
 use Rattle.uu_schema.specs.declared.version.Version.{Version}
 use Rattle.uu_schema.specs.declared.version.Version.TheVariants.{First, Second, Third}
 use Rattle.uu_tables.specs.Tables.{tables_of}
@@ -18,7 +18,7 @@ use Rattle.uu_core.specs.State.{State}
 use Rattle.uu_schema.specs.Faults.{IsFaultOfThisCall}
 use Rattle.uu_schema.specs.Encoded.{HoldsStateAs, Encodes, EncodesAs}
 use Rattle.uu_adopt.specs.Becoming.{Becomes, CreatesTables, MigratesState}
-use Rattle.uu_adopt.specs.FoundTables.{HasNone, HasEarlier, IsEarlier}
+use Rattle.uu_adopt.specs.FoundTables.{HasNone, HasEarlier, IsEarlierVersion}
 use Rattle.uu_adopt.specs.Version.{IsLater}
 use Rattle.uu_adopt.specs.Adoption.{IsOfNone, Inspects, IsInspected, IsRefused, IsSpared, LeavesNoMore, UnlessStore, UnlessFailed, IsAsBefore, StopsAs}
 use Rattle.uu_schema.proofs.Resting.{moved}
@@ -44,13 +44,13 @@ unless (Err Newer) P p = p
 -- ---- what is found
 
 module _ (v : Version) (a b : db.State) where
-  pub inspected_spool : (db.HasCleanDisk b → Stands (site_of v) a.now → (s : State) × HoldsStateAs v a.now.trees s) → IsInspected v a b (Ok tt)
+  pub inspected_spool : (db.HasCleanDisk b → Stands (schema_of v) a.now → (s : State) × HoldsStateAs v a.now.trees s) → IsInspected v a b (Ok tt)
   inspected_spool finds = record { ok = finds; newer = λ clean stands is. absurd (cc); foreign = λ clean stands is. absurd (cc) }
 
-  pub inspected_foreign : (db.HasCleanDisk b → Stands (site_of v) a.now → (IsLater a.now.trees → ⊥) × IsOfNone v a.now.trees) → IsInspected v a b (Err ForeignFault)
+  pub inspected_foreign : (db.HasCleanDisk b → Stands (schema_of v) a.now → (IsLater a.now.trees → ⊥) × IsOfNone v a.now.trees) → IsInspected v a b (Err ForeignFault)
   inspected_foreign finds = record { ok = λ clean stands. tt; newer = λ clean stands is. absurd (cc); foreign = λ clean stands is. finds clean stands }
 
-  pub inspected_later : (db.HasCleanDisk b → Stands (site_of v) a.now → IsLater a.now.trees) → IsInspected v a b (Err Newer)
+  pub inspected_later : (db.HasCleanDisk b → Stands (schema_of v) a.now → IsLater a.now.trees) → IsInspected v a b (Err Newer)
   inspected_later finds = record { ok = λ clean stands. tt; newer = λ clean stands is. finds clean stands; foreign = λ clean stands is. absurd (cc) }
 
   pub inspected_err : (fault : StoreFault) → IsFaultOfThisCall fault → IsInspected v a b (Err fault)
@@ -95,7 +95,7 @@ module _ (a b : db.State) where
   inspects_told tables q r ok h inspected = record { inspected = inspected; spared = spared_told q r ok h; clean = h.survives.clean }
 
 -- for a database without the spool's tables the inspection claims nothing
-pub inspected_never : (v : Version) (a b : db.State) (r : Result (Unit {0}) StoreFault) → (Stands (site_of v) a.now → ⊥) → IsInspected v a b r
+pub inspected_never : (v : Version) (a b : db.State) (r : Result (Unit {0}) StoreFault) → (Stands (schema_of v) a.now → ⊥) → IsInspected v a b r
 inspected_never v a b r never = record {
   ok = λ clean stands. absurd (never stands);
   newer = λ clean stands. absurd (never stands);
@@ -103,7 +103,7 @@ inspected_never v a b r never = record {
 }
 
 -- the inspection may assume that the database has the tables of the version
-pub inspected_if : (v : Version) (a b : db.State) (r : Result (Unit {0}) StoreFault) → (Stands (site_of v) a.now → IsInspected v a b r) → IsInspected v a b r
+pub inspected_if : (v : Version) (a b : db.State) (r : Result (Unit {0}) StoreFault) → (Stands (schema_of v) a.now → IsInspected v a b r) → IsInspected v a b r
 inspected_if v a b r h = record { ok = λ clean stands. (h stands).ok clean stands; newer = λ clean stands. (h stands).newer clean stands; foreign = λ clean stands. (h stands).foreign clean stands }
 
 pub becomes_if : (from to : Schema) (Step : Trees → Trees → Type 0) (a b : db.State) (r : Result (Unit {0}) StoreFault) → (Stands from a.now → Becomes from to Step a b r) → Becomes from to Step a b r
@@ -116,20 +116,20 @@ spared_self a r = record { same = λ clean rests. unless r (Rests a × (a.now �
 -- ---- taking a database
 
 module _ (a b : db.State) where
-  pub kept_as : (¬ HasNone a.now.schema → (HasEarlier a.now.schema → IsRefused (Ok tt)) → IsSpared a b (Ok tt)) → ((v : Version) → IsEarlier v → MigratesState v a b (Ok tt)) → db.HasCleanDisk b → (v : Version) (s : State) → Rests a → EncodesAs v a.now s → Rests b × Encodes b.now s
+  pub kept_as : (¬ HasNone a.now.schema → (HasEarlier a.now.schema → IsRefused (Ok tt)) → IsSpared a b (Ok tt)) → ((v : Version) → IsEarlierVersion v → MigratesState v a b (Ok tt)) → db.HasCleanDisk b → (v : Version) (s : State) → Rests a → EncodesAs v a.now s → Rests b × Encodes b.now s
   kept_as spared migrates clean First s rests enc = let it = (migrates First tt).ok clean rests enc.stands in (it.0, record { stands = it.1; holds = it.2.again s enc.holds })
   kept_as spared migrates clean Second s rests enc = let it = (migrates Second tt).ok clean rests enc.stands in (it.0, record { stands = it.1; holds = it.2.again s enc.holds })
   kept_as spared migrates clean Third s rests enc =
       let it = (spared (all_found Third a.now enc.stands) (λ earlier. absurd (last_found a.now enc.stands earlier))).same clean rests in (it.0, moved s a.now b.now it.1 enc)
 
-  pub read_as : (v : Version) → IsInspected v a b (Ok tt) → db.HasCleanDisk b → Stands (site_of v) a.now → (s : State) × EncodesAs v a.now s
+  pub read_as : (v : Version) → IsInspected v a b (Ok tt) → db.HasCleanDisk b → Stands (schema_of v) a.now → (s : State) × EncodesAs v a.now s
   read_as v inspected clean stands = let it = inspected.ok clean stands in (it.0, record { stands = stands; holds = it.1 })
 
   pub taken_as : (v : Version) (fault : StoreFault) → IsInspected v a b (Err fault) → db.HasCleanDisk b → (s : State) → EncodesAs v a.now s → (fault ≢ ForeignFault) × (fault ≢ Newer)
   taken_as v fault inspected clean s enc =
       (λ is. (inspected.foreign clean enc.stands (ap Err is)).1 s enc.holds, λ is. not_later v a.now.trees (tables_of s) enc.holds.tables (inspected.newer clean enc.stands (ap Err is)))
 
-  pub refused_as : (v : Version) (fault : StoreFault) → IsInspected v a b (Err fault) → db.HasCleanDisk b → Stands (site_of v) a.now → fault ≡ ForeignFault → (IsLater a.now.trees → ⊥) × ((s : State) → EncodesAs v a.now s → ⊥)
+  pub refused_as : (v : Version) (fault : StoreFault) → IsInspected v a b (Err fault) → db.HasCleanDisk b → Stands (schema_of v) a.now → fault ≡ ForeignFault → (IsLater a.now.trees → ⊥) × ((s : State) → EncodesAs v a.now s → ⊥)
   refused_as v fault inspected clean stands is = let it = inspected.foreign clean stands (ap Err is) in (it.0, λ s enc. it.1 s enc.holds)
 
   pub same_as : (fault : StoreFault) → (¬ HasNone a.now.schema → (HasEarlier a.now.schema → IsRefused (Err fault)) → IsSpared a b (Err fault)) → CreatesTables a b (Err fault) → (HasNone a.now.schema → (fault ≢ ForeignFault) × (fault ≢ Newer)) → fault ≢ Failed
@@ -140,7 +140,7 @@ module _ (a b : db.State) where
   same_as ForeignFault spared creates welcome not_failed clean rests = record { some = λ some. (spared some (λ first. tt)).same clean rests; none = λ stands. absurd ((welcome (none_found a.now stands)).0 refl) }
   same_as Newer spared creates welcome not_failed clean rests = record { some = λ some. (spared some (λ first. tt)).same clean rests; none = λ stands. absurd ((welcome (none_found a.now stands)).1 refl) }
 
-  pub stops_as : (r : Result (Unit {0}) StoreFault) → Settles a → db.HasCleanDisk b → Rests a → (¬ HasNone a.now.schema → (HasEarlier a.now.schema → IsRefused r) → IsSpared a b r) → ((v : Version) → IsEarlier v → MigratesState v a b r) → CreatesTables a b r → StopsAs a b
+  pub stops_as : (r : Result (Unit {0}) StoreFault) → Settles a → db.HasCleanDisk b → Rests a → (¬ HasNone a.now.schema → (HasEarlier a.now.schema → IsRefused r) → IsSpared a b r) → ((v : Version) → IsEarlierVersion v → MigratesState v a b r) → CreatesTables a b r → StopsAs a b
   stops_as r settles clean rests spared migrates creates = record {
     some = λ some other trees may. stays trees ((spared some (λ first. absurd (other first))).stop clean trees may);
     state = λ s enc trees may. leaves s a settles rests enc trees ((spared (all_found Third a.now enc.stands) (λ earlier. absurd (last_found a.now enc.stands earlier))).stop clean trees may);

@@ -20,7 +20,7 @@ use Rattle.uu_schema.specs.Steps.{Stands}
 use Rattle.uu_schema.proofs.Rowids.{has_moved}
 use Rattle.uu_schema.proofs.Answers.{answer_of, answer_moved}
 use Rattle.uu_schema.specs.declared.version.Version.{Version}
-use Rattle.uu_schema.specs.Schema.{site_of, spool}
+use Rattle.uu_schema.specs.Schema.{schema_of, spool}
 use Rattle.uu_schema.specs.declared.version.Version.TheVariants.{First, Second, Third}
 use Rattle.uu_schema.specs.Made.{version as ours}
 use Rattle.uu_schema.specs.Held.{HoldsAs}
@@ -49,12 +49,12 @@ module _ (v : Version) (old new : db.State) (rows : List Row) where
   abbrev firsts : List Row
   firsts = filter (λ r. list_all (holds ([] ∷ r ∷ [])) (is_first ∷ [])) (old.now.trees spool.tree)
 
-  version_moved : Stands (site_of v) old.now → db.Shown version_text [] old new rows → IsPermutation (map shown firsts) rows
+  version_moved : Stands (schema_of v) old.now → db.Shown version_text [] old new rows → IsPermutation (map shown firsts) rows
   version_moved stands h =
-      let a = answer_of (site_of v) version_text _ _ [] old new (version_means v) stands.schema rows h in
+      let a = answer_of (schema_of v) version_text _ _ [] old new (version_means v) stands.schema rows h in
       answer_moved spool.tree (is_first ∷ []) (at_places (2 ∷ [])) [] old.now.trees [] rows refl a
 
-  pub later_found : Stands (site_of v) old.now → db.Shown version_text [] old new rows → HasLater rows → IsLater old.now.trees
+  pub later_found : Stands (schema_of v) old.now → db.Shown version_text [] old new rows → HasLater rows → IsLater old.now.trees
   later_found stands h later =
       let there = has_moved rows (map shown firsts) later.row (IsPermutation-sym _ _ (version_moved stands h)) later.there in
       let from = has_mapped shown firsts later.row there in
@@ -69,7 +69,7 @@ module _ (v : Version) (old new : db.State) (rows : List Row) where
         later = later.shows.later;
       }
 
-  pub later_not : Stands (site_of v) old.now → db.Shown version_text [] old new rows → (HasLater rows → ⊥) → IsLater old.now.trees → ⊥
+  pub later_not : Stands (schema_of v) old.now → db.Shown version_text [] old new rows → (HasLater rows → ⊥) → IsLater old.now.trees → ⊥
   later_not stands h none it =
       let kept = has_kept (λ r. list_all (holds ([] ∷ r ∷ [])) (is_first ∷ [])) (old.now.trees spool.tree) it.row it.there (ap (λ b. b && true) it.first) in
       none (record { row = shown it.row; there = has_moved (map shown firsts) rows (shown it.row) (version_moved stands h) (mapped_has shown firsts it.row kept); shows = record { version = it.version; is = it.is; later = it.later } })

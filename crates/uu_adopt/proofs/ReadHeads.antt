@@ -18,11 +18,11 @@ use Rattle.uu_schema.proofs.Rows.{all_stay}
 use Rattle.uu_schema.proofs.Answers.{answer_of, answer_moved}
 use Rattle.uu_core.specs.declared.job.JobHead.{JobHead}
 use Rattle.uu_schema.specs.declared.version.Version.{Version}
-use Rattle.uu_schema.specs.Schema.{site_of, jobs}
+use Rattle.uu_schema.specs.Schema.{schema_of, jobs}
 use Rattle.uu_schema.specs.Keyed.{columns}
 use Rattle.uu_schema.specs.Held.{job_key, job_places}
 use Rattle.uu_schema.specs.Cells.{job_cells}
-use Rattle.uu_rows.specs.Readable.{IsHead}
+use Rattle.uu_rows.specs.Readable.{IsTypedHead}
 use Rattle.uu_tables.specs.Order.{head_cmp}
 use Rattle.uu_rows.proofs.Meanings.{at_places, by_places}
 use Rattle.uu_rows.proofs.Back.{same_all, head_back, head_returns}
@@ -73,8 +73,8 @@ pub as_rise : (b : Bool) (heads : List JobHead) → b ≡ rises heads → IsTrue
 as_rise b heads is = (λ yes. risen heads (sym is ∙ yes), λ up. is ∙ does_rise heads up)
 
 -- heads are the only ones of their rows
-pub same_heads : (rows : List Row) (xs ys : List JobHead) → AllByRecursion IsHead xs → rows ≡ map job_cells xs → AreHeads rows ys → ys ≡ xs
-same_heads rows xs ys good is it = same_all job_cells head_back IsHead head_returns ys xs it.readable good (sym it.rows_are ∙ is)
+pub same_heads : (rows : List Row) (xs ys : List JobHead) → AllByRecursion IsTypedHead xs → rows ≡ map job_cells xs → AreHeads rows ys → ys ≡ xs
+same_heads rows xs ys good is it = same_all job_cells head_back IsTypedHead head_returns ys xs it.readable good (sym it.rows_are ∙ is)
 
 -- ---- the table
 
@@ -92,7 +92,7 @@ ids_of rows all it = record {
   rising = ascending-map (λ (a b : Integer). a.value <ℤ b.value) id_of all (ascending_weaker _ (λ (x y : JobHead). pos x.number <ℤ pos y.number) (λ x y h. omega (arith, ints, h)) all it.rising);
 }
 
-module _ (v : Version) (a b : db.State) (rows : List Row) (stands : Stands (site_of v) a.now) (h : db.Shown heads_text [] a b rows) where
+module _ (v : Version) (a b : db.State) (rows : List Row) (stands : Stands (schema_of v) a.now) (h : db.Shown heads_text [] a b rows) where
   abbrev table : List Row
   table = a.now.trees jobs.tree
 
@@ -100,18 +100,18 @@ module _ (v : Version) (a b : db.State) (rows : List Row) (stands : Stands (site
   moved =
       subst (λ l. IsPermutation l rows) (map_same _ (columns job_places) (at_columns job_places []) table)
       (subst (λ l. IsPermutation (map (λ r. eval_all (at_places job_places) ([] ∷ r ∷ [])) l) rows) (sym (all_stay table))
-      (answer_moved jobs.tree [] (at_places job_places) (by_places (0 ∷ [])) a.now.trees [] rows refl (answer_of (site_of v) heads_text _ _ [] a b (heads_means v) stands.schema rows h)))
+      (answer_moved jobs.tree [] (at_places job_places) (by_places (0 ∷ [])) a.now.trees [] rows refl (answer_of (schema_of v) heads_text _ _ [] a b (heads_means v) stands.schema rows h)))
 
   ids_moved : IsPermutation (map id_shown table) (map id_shown rows)
   ids_moved = subst (λ l. IsPermutation l (map id_shown rows)) (map-map id_shown (columns job_places) table) (IsPermutation-map id_shown _ _ moved)
 
   rows_only : (xs : List JobHead) → IsPermutation (map job_cells xs) (map (columns job_places) table) → IsAscending (λ x y. head_cmp x y ≡ Less) xs → rows ≡ map job_cells xs
-  rows_only xs held rise = heads_are (site_of v) a b rows stands.schema heads_text _ [] [] h (heads_means v) (λ r. refl) xs held rise (λ x. true) (λ x. refl) ∙ ap (map job_cells) (all_pass xs)
+  rows_only xs held rise = heads_are (schema_of v) a b rows stands.schema heads_text _ [] [] h (heads_means v) (λ r. refl) xs held rise (λ x. true) (λ x. refl) ∙ ap (map job_cells) (all_pass xs)
 
   number_less : (x y : JobHead) → head_cmp x y ≡ Less → x.number < y.number
   number_less x y h = grind (arith)
 
-  pub finds_heads : (found : Option (Vec JobHead Global)) → MatchOption found ((all : List JobHead) → ¬ AreHeads rows all) (λ all. AreHeads rows all.items) → FindsRows job_key job_cells job_places IsHead head_cmp table found
+  pub finds_heads : (found : Option (Vec JobHead Global)) → MatchOption found ((all : List JobHead) → ¬ AreHeads rows all) (λ all. AreHeads rows all.items) → FindsRows job_key job_cells job_places IsTypedHead head_cmp table found
   finds_heads None none = record {
     all = tt;
     only = λ xs good keyed. none xs (record { rows_are = rows_only xs keyed.same good.rise; readable = good.readable; rising = ascending_weaker _ (λ (x y : JobHead). x.number < y.number) number_less xs good.rise });

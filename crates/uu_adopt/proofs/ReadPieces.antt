@@ -21,7 +21,7 @@ use Rattle.sqlite.specs.State as db
 use Rattle.sqlite_sql.specs.Ops.{unary}
 use Rattle.sqlite_keyed.proofs.ListLemmas.{map-map, map_same, ascending-map, ascending_weaker, all_map, all_weaker}
 use Rattle.sqlite_keyed.proofs.SortLemmas.{sorted_unique}
-use Rattle.sqlite_trees.proofs.ListLemmas.{all-permutation, pull_back}
+use Rattle.sqlite_trees.proofs.ListLemmas.{all_permutation, pull_back}
 use Rattle.uu_schema.specs.Steps.{Stands}
 use Rattle.uu_schema.proofs.Asks.{ordered}
 use Rattle.uu_schema.proofs.Rows.{all_stay}
@@ -29,11 +29,11 @@ use Rattle.uu_schema.proofs.Answers.{answer_of, answer_moved}
 use Rattle.uu_tables.specs.declared.rows.PieceSize.{PieceSize}
 use Rattle.uu_tables.specs.Tables.{Piece, size_of}
 use Rattle.uu_schema.specs.declared.version.Version.{Version}
-use Rattle.uu_schema.specs.Schema.{site_of, pieces}
+use Rattle.uu_schema.specs.Schema.{schema_of, pieces}
 use Rattle.uu_schema.specs.Keyed.{columns}
 use Rattle.uu_schema.specs.Held.{piece_places}
 use Rattle.uu_schema.specs.Cells.{piece_cells}
-use Rattle.uu_rows.specs.Readable.{IsSize, size_cells}
+use Rattle.uu_rows.specs.Readable.{IsTypedSize, size_cells}
 use Rattle.uu_tables.specs.Order.{size_cmp}
 use Rattle.uu_rows.proofs.Meanings.{by_places}
 use Rattle.uu_rows.proofs.Back.{number_back, text_back}
@@ -123,12 +123,12 @@ ids_of rows all it = record {
   rising = ascending-map (λ (a b : Integer). a.value <ℤ b.value) (λ n. n.rowid) it.numbered (ascending_weaker _ (λ (x y : NumberedSize). x.rowid.value <ℤ y.rowid.value) (λ x y h. h.higher) it.numbered it.rising);
 }
 
-module _ (v : Version) (a b : db.State) (rows : List Row) (stands : Stands (site_of v) a.now) (h : db.Shown numbered_sizes_text [] a b rows) where
+module _ (v : Version) (a b : db.State) (rows : List Row) (stands : Stands (schema_of v) a.now) (h : db.Shown numbered_sizes_text [] a b rows) where
   abbrev table : List Row
   table = a.now.trees pieces.tree
 
   answer : IsAnswer (ordered pieces.tree [] numbered_terms (by_places (0 ∷ []))) (overlay a.now.trees []) [] rows
-  answer = answer_of (site_of v) numbered_sizes_text _ _ [] a b (numbered_sizes_means v) stands.schema rows h
+  answer = answer_of (schema_of v) numbered_sizes_text _ _ [] a b (numbered_sizes_means v) stands.schema rows h
 
   moved : IsPermutation (map shown table) rows
   moved =
@@ -151,7 +151,7 @@ module _ (v : Version) (a b : db.State) (rows : List Row) (stands : Stands (site
       let rs = back.0 in
       let shows : map size_shown rs ≡ map size_cells (map (λ n. n.size) ns) =
       sym (map-map rest shown rs) ∙ ap (map rest) (sym back.2) ∙ map-map rest numbered_cells ns ∙ sym (map-map size_cells (λ n. n.size) ns) in
-      let made = built rs (map (λ n. n.size) ns) (all-permutation HasBytes table rs back.1 (piece_rows_are v a.now.trees stands.sound)) shows in
+      let made = built rs (map (λ n. n.size) ns) (all_permutation HasBytes table rs back.1 (piece_rows_are v a.now.trees stands.sound)) shows in
       record {
         ps = map piece_of rs;
         same = subst (λ l. IsPermutation l (map (columns piece_places) table)) (sym made.rows) (IsPermutation-map (columns piece_places) _ _ (IsPermutation-sym table rs back.1));
@@ -171,7 +171,7 @@ module _ (v : Version) (a b : db.State) (rows : List Row) (stands : Stands (site
       let rising : IsAscending (λ x y. size_cmp x y ≡ Less) all.items =
       subst (IsAscending (λ x y. size_cmp x y ≡ Less)) (sym it.sizes_are) (ascending-map (λ x y. size_cmp x y ≡ Less) (λ n. n.size) it.numbered (ascending_weaker _ (λ (x y : NumberedSize). size_cmp x.size y.size ≡ Less) (λ x y k. k.later) it.numbered it.rising)) in
       record {
-        all = (has.ps, record { same = has.same; numbered = apart.0; once = apart.1 }, has.sizes, subst (AllByRecursion IsSize) (sym it.sizes_are) (all_map IsSize (λ n. n.size) it.numbered it.readable));
+        all = (has.ps, record { same = has.same; numbered = apart.0; once = apart.1 }, has.sizes, subst (AllByRecursion IsTypedSize) (sym it.sizes_are) (all_map IsTypedSize (λ n. n.size) it.numbered it.readable));
         only = λ ps good rise keyed.
             sorted_unique size_cmp size_total (map size_of ps) all.items (ascending-map (λ x y. size_cmp x y ≡ Less) size_of ps rise)
             (subst (IsPermutation (map size_of ps)) has.sizes (same_sizes ps has.ps (IsPermutation-trans _ _ _ keyed.same (IsPermutation-sym _ _ has.same))))

@@ -23,7 +23,7 @@ use Rattle.uu_check.proofs.Rising.{in_order}
 use Rattle.uu_check.proofs.Reading.{readable}
 use Rattle.uu_schema.specs.Keyed.{Keyed}
 use Rattle.uu_schema.specs.Held.{system_key, line_key, range_key, job_key, piece_key, entry_key, wait_key, link_key, taken_key}
-use Rattle.uu_rows.specs.Readable.{IsSmall, IsSystem, IsLine, IsRange, IsHead, IsSize, IsEntry, IsWait, IsLink, IsTaken}
+use Rattle.uu_rows.specs.Readable.{IsSmall, IsTypedSystem, IsTypedLine, IsTypedRange, IsTypedHead, IsTypedSize, IsTypedEntry, IsTypedWait, IsTypedLink, IsTypedTaken}
 use Rattle.uu_tables.specs.Order.{system_cmp, line_cmp, range_cmp, head_cmp, piece_cmp, entry_cmp, wait_cmp, link_cmp, taken_cmp}
 use Rattle.uu_adopt.specs.Reading.{AreInOrder, AreRows}
 use Rattle.uu_rows.proofs.Heads.{heads_good}
@@ -31,7 +31,7 @@ use Rattle.uu_rows.proofs.InOrder.{ascending_pairs}
 
 -- ---- what a state has can be read
 
-system_read : (c : SystemColumns) → IsSystemRow c → IsSystem c
+system_read : (c : SystemColumns) → IsSystemRow c → IsTypedSystem c
 system_read c h = record {
   name = h.name;
   max_retries = (let k = h.max_retries in omega (arith, k));
@@ -46,25 +46,25 @@ retry_small : (retry : Option ℕ) → IfSome retry IsRetry → IfSome retry IsS
 retry_small None h = tt
 retry_small (Some minutes) h = let k = h.1 in omega (arith, k)
 
-line_read : (l : LineColumns) → IsLineRow l → IsLine l
+line_read : (l : LineColumns) → IsLineRow l → IsTypedLine l
 line_read l h = record { system = h.system; place = (let k = h.place in omega (arith, k)); grade = h.grade; retry = retry_small l.retry h.retry }
 
-range_read : (r : RangeColumns) → IsRangeRow r → IsRange r
+range_read : (r : RangeColumns) → IsRangeRow r → IsTypedRange r
 range_read r h = record { system = h.system; place = (let k = h.place in omega (arith, k)); low = (let k = h.low in omega (arith, k)); high = (let k = h.high in omega (arith, k)) }
 
-size_read : (p : Piece) → IsPieceRow p → IsSize (size_of p)
+size_read : (p : Piece) → IsPieceRow p → IsTypedSize (size_of p)
 size_read p h = record { job = (let k = h.job in omega (arith, k)); place = (let k = h.place in omega (arith, k)); length = (let k = h.length in omega (arith, k)) }
 
-entry_read : (e : EntryColumns) → IsEntryRow e → IsEntry e
+entry_read : (e : EntryColumns) → IsEntryRow e → IsTypedEntry e
 entry_read e h = record { host = h.host }
 
-wait_read : (w : WaitColumns) → IsWaitRow w → IsWait w
+wait_read : (w : WaitColumns) → IsWaitRow w → IsTypedWait w
 wait_read w h = record { system = h.system; wait = (let k = h.wait in omega (arith, k)) }
 
-link_read : (l : LinkColumns) → IsLinkRow l → IsLink l
+link_read : (l : LinkColumns) → IsLinkRow l → IsTypedLink l
 link_read l h = record { system = h.system; below = (let k = h.below in omega (arith, k)) }
 
-taken_read : (t : TakenColumns) → IsTakenRow t → IsTaken t
+taken_read : (t : TakenColumns) → IsTakenRow t → IsTypedTaken t
 taken_read t h = record { system = h.system; number = (let k = h.number in omega (arith, k)); mark = h.mark; job = (let k = h.job in omega (arith, k)) }
 
 -- ---- keys in strict order differ
@@ -129,35 +129,35 @@ module _ (s : State) (good : IsWellFormed s) where
   pub next_small : IsSmall s.next
   next_small = let k = fits.next in omega (arith, k)
 
-  pub systems_in_order : AreInOrder IsSystem system_cmp (tables_of s).systems
+  pub systems_in_order : AreInOrder IsTypedSystem system_cmp (tables_of s).systems
   systems_in_order = record { readable = all_weaker _ _ system_read _ fits.systems; rise = ascending_pairs _ _ order.systems }
 
-  pub lines_in_order : AreInOrder IsLine line_cmp (tables_of s).lines
+  pub lines_in_order : AreInOrder IsTypedLine line_cmp (tables_of s).lines
   lines_in_order = record { readable = all_weaker _ _ line_read _ fits.lines; rise = ascending_pairs _ _ order.lines }
 
-  pub ranges_in_order : AreInOrder IsRange range_cmp (tables_of s).ranges
+  pub ranges_in_order : AreInOrder IsTypedRange range_cmp (tables_of s).ranges
   ranges_in_order = record { readable = all_weaker _ _ range_read _ fits.ranges; rise = ascending_pairs _ _ order.ranges }
 
   below : (a b : JobHead) → a.number < b.number → head_cmp a b ≡ Less
   below a b h = search (arith, h)
 
-  pub heads_in_order : AreInOrder IsHead head_cmp (tables_of s).jobs
+  pub heads_in_order : AreInOrder IsTypedHead head_cmp (tables_of s).jobs
   heads_in_order = record { readable = heads_good s good; rise = ascending_weaker _ _ below _ (ascending_pairs _ _ order.jobs) }
 
-  pub sizes_good : AllByRecursion (λ p. IsSize (size_of p)) (tables_of s).pieces
+  pub sizes_good : AllByRecursion (λ p. IsTypedSize (size_of p)) (tables_of s).pieces
   sizes_good = all_weaker _ _ size_read _ fits.pieces
 
   pub pieces_in_order : IsAscending (λ a b. piece_cmp a b ≡ Less) (tables_of s).pieces
   pieces_in_order = ascending_pairs _ _ order.pieces
 
-  pub entries_in_order : AreInOrder IsEntry entry_cmp (tables_of s).entries
+  pub entries_in_order : AreInOrder IsTypedEntry entry_cmp (tables_of s).entries
   entries_in_order = record { readable = all_weaker _ _ entry_read _ fits.entries; rise = ascending_pairs _ _ order.entries }
 
-  pub waits_in_order : AreInOrder IsWait wait_cmp (tables_of s).success_waits
+  pub waits_in_order : AreInOrder IsTypedWait wait_cmp (tables_of s).success_waits
   waits_in_order = record { readable = all_weaker _ _ wait_read _ fits.success_waits; rise = ascending_pairs _ _ order.success_waits }
 
-  pub links_in_order : AreInOrder IsLink link_cmp (tables_of s).links
+  pub links_in_order : AreInOrder IsTypedLink link_cmp (tables_of s).links
   links_in_order = record { readable = all_weaker _ _ link_read _ fits.links; rise = ascending_pairs _ _ order.links }
 
-  pub taken_in_order : AreInOrder IsTaken taken_cmp (tables_of s).taken
+  pub taken_in_order : AreInOrder IsTypedTaken taken_cmp (tables_of s).taken
   taken_in_order = record { readable = all_weaker _ _ taken_read _ fits.taken; rise = ascending_pairs _ _ order.taken }

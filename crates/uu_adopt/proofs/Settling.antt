@@ -7,7 +7,7 @@ use Rattle.sqlite.specs.State as db
 use Rattle.sqlite_catalog.specs.Listing.{IsSound}
 use Rattle.uu_schema.specs.Steps.{Rests, Stands}
 use Rattle.uu_core.specs.State.{State, empty}
-use Rattle.uu_schema.specs.Schema.{site, no_schema}
+use Rattle.uu_schema.specs.Schema.{spool_schema, no_schema}
 use Rattle.uu_schema.specs.declared.version.Version.{Version}
 use Rattle.uu_schema.specs.Encoded.{Encodes, EncodesAs, HoldsState, Leaves, LeavesEither}
 use Rattle.uu_adopt.specs.Becoming.{CreatesTables, MigratesState}
@@ -19,10 +19,10 @@ Settles a = (trees : Trees) → IsTrue a.is_open → a.may_leave trees → trees
 pub leaves : (s : State) (a : db.State) → Settles a → Rests a → Encodes a.now s → Leaves a s
 leaves s a settles rests enc trees may =
     let is : trees ≡ a.now.trees = settles trees rests.is_open may ∙ sym (ap (λ (d : Database). d.trees) rests.settled) in
-    (subst (IsSound site) (sym is) enc.stands.sound, subst (λ t. HoldsState t s) (sym is) enc.holds)
+    (subst (IsSound spool_schema) (sym is) enc.stands.sound, subst (λ t. HoldsState t s) (sym is) enc.holds)
 
 pub leaves_either : (s t : State) (a b : db.State) → Settles a → Rests a → Encodes a.now s
-    → ((trees : Trees) → b.may_leave trees → a.may_leave trees ⊎ (IsSound site trees × HoldsState trees t)) → LeavesEither b s t
+    → ((trees : Trees) → b.may_leave trees → a.may_leave trees ⊎ (IsSound spool_schema trees × HoldsState trees t)) → LeavesEither b s t
 leaves_either s t a b settles rests enc stop trees may = elim (stop trees may) [
   | inl was ↦ (let it = leaves s a settles rests enc trees was in (it.0, inl it.1))
   | inr made ↦ (made.0, inr made.1)

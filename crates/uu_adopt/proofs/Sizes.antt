@@ -14,7 +14,7 @@ use Rattle.sqlite.specs.State as db
 use Rattle.sqlite_sql.specs.Ops.{unary}
 use Rattle.sqlite_sql.specs.Text.{length_of}
 use Rattle.sqlite_keyed.proofs.ListLemmas.{map-map, map_same, ascending-map, ascending_weaker, all_map}
-use Rattle.sqlite_trees.proofs.ListLemmas.{all-permutation, ascending_from_map, pull_back}
+use Rattle.sqlite_trees.proofs.ListLemmas.{all_permutation, ascending_from_map, pull_back}
 use Rattle.sqlite_typed.proofs.TestLemmas.{then_key, last_key}
 use Rattle.sqlite_value.proofs.OrderLemmas.{value_cmp-Int}
 use Rattle.uu_schema.specs.Steps.{Stands}
@@ -24,17 +24,17 @@ use Rattle.uu_schema.proofs.Answers.{answer_of, answer_moved}
 use Rattle.uu_tables.specs.declared.rows.PieceSize.{PieceSize}
 use Rattle.uu_tables.specs.Tables.{Piece, size_of}
 use Rattle.uu_schema.specs.declared.version.Version.{Version}
-use Rattle.uu_schema.specs.Schema.{site_of, pieces}
+use Rattle.uu_schema.specs.Schema.{schema_of, pieces}
 use Rattle.uu_schema.specs.Keyed.{Keyed, columns}
 use Rattle.uu_schema.specs.Held.{piece_key, piece_places}
 use Rattle.uu_schema.specs.Cells.{piece_cells}
-use Rattle.uu_rows.specs.Readable.{IsSize, size_cells}
+use Rattle.uu_rows.specs.Readable.{IsTypedSize, size_cells}
 use Rattle.uu_tables.specs.Order.{piece_cmp}
 use Rattle.uu_adopt.proofs.Texts.{sizes_text, piece_rowids_text}
 use Rattle.uu_adopt.specs.Reading.{FindsSizes, IsRead}
 use Rattle.uu_adopt.proofs.Meanings.{size_terms, rowids_of, sizes_means, piece_rowids_means}
 use Rattle.uu_rows.proofs.Meanings.{by_places}
-use Rattle.uu_rows.proofs.Comparing.{beside, int_cmp-nat}
+use Rattle.uu_rows.proofs.Comparing.{beside, int_cmp_nat}
 use Rattle.uu_rows.proofs.Typed.{typed_only}
 use Rattle.uu_rows.proofs.InTables.{all_pass}
 use Rattle.uu_rows.proofs.Back.{same_all, size_back, size_returns, number_back, text_back}
@@ -80,12 +80,12 @@ built (r ∷ rs) (x ∷ all) typed h =
     let more = built rs all typed.1 tail in
     record { rows = λ i. sym one.0 i ∷ more.rows i; sizes = λ i. one.1 i ∷ more.sizes i }
 
-module _ (v : Version) (a b c : db.State) (rows ids : List Row) (stands : Stands (site_of v) a.now) (same : b.now ≡ a.now) (h : db.Shown sizes_text [] a b rows) (k : db.Shown piece_rowids_text [] b c ids) where
+module _ (v : Version) (a b c : db.State) (rows ids : List Row) (stands : Stands (schema_of v) a.now) (same : b.now ≡ a.now) (h : db.Shown sizes_text [] a b rows) (k : db.Shown piece_rowids_text [] b c ids) where
   abbrev table : List Row
   table = a.now.trees pieces.tree
 
   answer : IsAnswer (ordered pieces.tree [] size_terms (by_places (1 ∷ 2 ∷ []))) (overlay a.now.trees []) [] rows
-  answer = answer_of (site_of v) sizes_text _ _ [] a b (sizes_means v) stands.schema rows h
+  answer = answer_of (schema_of v) sizes_text _ _ [] a b (sizes_means v) stands.schema rows h
 
   id_rows : IsAnswer (rowids_of pieces.tree) (overlay a.now.trees []) [] ids
   id_rows = ids_answer v a b c rows ids stands same pieces.tree piece_rowids_text _ (piece_rowids_means v) k
@@ -100,7 +100,7 @@ module _ (v : Version) (a b c : db.State) (rows ids : List Row) (stands : Stands
       let q : Query = ordered pieces.tree [] size_terms (by_places (1 ∷ 2 ∷ [])) in
       let out : Piece → Output = λ x. output q ([] ∷ beside (piece_cells x) ∷ []) in
       let less : (x y : Piece) → piece_cmp x y ≡ Less → output_cmp q (out x) (out y) ≡ Less = λ x y e.
-      then_key (value_cmp-Int (pos x.job) (pos y.job) ∙ int_cmp-nat x.job y.job) (last_key (value_cmp-Int (pos x.place) (pos y.place)) ∙ int_cmp-nat x.place y.place) ∙ e in
+      then_key (value_cmp-Int (pos x.job) (pos y.job) ∙ int_cmp_nat x.job y.job) (last_key (value_cmp-Int (pos x.place) (pos y.place)) ∙ int_cmp_nat x.place y.place) ∙ e in
       let strict = subst (IsAscending (λ x y. output_cmp q (out x) (out y) ≡ Less)) (sym (all_pass ps)) (ascending_weaker _ (λ x y. output_cmp q (out x) (out y) ≡ Less) less ps rise) in
       typed_only pieces.tree [] size_terms (by_places (1 ∷ 2 ∷ [])) a.now.trees [] rows refl answer (columns piece_places) beside (λ r. refl) (λ r. refl) piece_cells ps held (λ x. true) (λ x. refl) strict
       ∙ map_same _ (λ p. size_cells (size_of p)) (λ p. shows_size (beside (piece_cells p))) (filter (λ x. true) ps) ∙ ap (map (λ p. size_cells (size_of p))) (all_pass ps) ∙ sym (map-map size_cells size_of ps)
@@ -114,18 +114,18 @@ module _ (v : Version) (a b c : db.State) (rows ids : List Row) (stands : Stands
       let shown : IsAscending (λ x y. columns piece_places x ≡ columns piece_places y → ⊥) from.0 = ascending_from_map other (columns piece_places) from.0 (subst (IsAscending other) from.2 apart) in
       (from.0, IsPermutation-sym table from.0 from.1, ascending_weaker _ other (λ x y n e. n (ap (columns piece_places) e)) from.0 shown)
 
-  pub finds_sizes : (found : Option (Vec PieceSize Global)) → IsRead size_cells IsSize rows ids found → FindsSizes table found
+  pub finds_sizes : (found : Option (Vec PieceSize Global)) → IsRead size_cells IsTypedSize rows ids found → FindsSizes table found
   finds_sizes None none = record {
     all = tt;
     only = λ ps good rise keyed.
         let rs = distinct ps keyed in
-        none (map size_of ps) (record { rows_are = only ps keyed.same rise; readable = all_map IsSize size_of ps good; rowids = ids_held pieces.tree a.now.trees ids refl id_rows rs.0 rs.1 rs.2 keyed.numbered keyed.once });
+        none (map size_of ps) (record { rows_are = only ps keyed.same rise; readable = all_map IsTypedSize size_of ps good; rowids = ids_held pieces.tree a.now.trees ids refl id_rows rs.0 rs.1 rs.2 keyed.numbered keyed.once });
   }
   finds_sizes (Some all) read = record {
     all = (
         let back = pull_back size_shown _ _ (subst (IsPermutation (map size_shown table)) read.rows_are moved) table refl in
-        let it = built back.0 all.items (all-permutation HasBytes table back.0 back.1 (piece_rows_are v a.now.trees stands.sound)) (sym back.2) in
+        let it = built back.0 all.items (all_permutation HasBytes table back.0 back.1 (piece_rows_are v a.now.trees stands.sound)) (sym back.2) in
         let apart = ids_found pieces.tree a.now.trees ids refl id_rows read.rowids in
         (map piece_of back.0, record { same = subst (λ l. IsPermutation l (map (columns piece_places) table)) (sym it.rows) (IsPermutation-map (columns piece_places) _ _ (IsPermutation-sym table back.0 back.1)); numbered = apart.0; once = apart.1 }, it.sizes, read.readable));
-    only = λ ps good rise keyed. same_all size_cells size_back IsSize (λ x g. size_returns x) all.items (map size_of ps) read.readable (all_map IsSize size_of ps good) (sym read.rows_are ∙ only ps keyed.same rise);
+    only = λ ps good rise keyed. same_all size_cells size_back IsTypedSize (λ x g. size_returns x) all.items (map size_of ps) read.readable (all_map IsTypedSize size_of ps good) (sym read.rows_are ∙ only ps keyed.same rise);
   }

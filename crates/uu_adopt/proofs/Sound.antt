@@ -17,7 +17,7 @@ use Rattle.sqlite.specs.Schema.{Schema}
 use Rattle.uu_names.proofs.Basics.{and_second}
 use Rattle.uu_schema.specs.declared.version.Version.{Version}
 use Rattle.uu_schema.specs.declared.version.Version.TheVariants.{First, Second, Third}
-use Rattle.uu_schema.specs.Schema.{site, first_site, second_site, site_of, spool, pieces}
+use Rattle.uu_schema.specs.Schema.{spool_schema, first_schema, second_schema, schema_of, spool, pieces}
 
 -- ---- rows of so many values
 
@@ -73,10 +73,10 @@ spool_row_is schema r db present typed =
     let it = spool_four schema r db present typed in
     four r it.0 ∙ (λ i. column r 0 ∷ it.1 i ∷ column r 2 ∷ column r 3 ∷ [])
 
-pub spool_rows_are : (v : Version) (db : Trees) → IsSound (site_of v) db → AllByRecursion IsSpoolRow (db spool.tree)
-spool_rows_are First db sound = all_both _ _ IsSpoolRow (λ r. spool_row_is first_site r db) (db spool.tree) (sound.obeys.rules NotNull).0 (sound.obeys.rules Datatype).0
-spool_rows_are Second db sound = all_both _ _ IsSpoolRow (λ r. spool_row_is second_site r db) (db spool.tree) (sound.obeys.rules NotNull).0 (sound.obeys.rules Datatype).0
-spool_rows_are Third db sound = all_both _ _ IsSpoolRow (λ r. spool_row_is site r db) (db spool.tree) (sound.obeys.rules NotNull).0 (sound.obeys.rules Datatype).0
+pub spool_rows_are : (v : Version) (db : Trees) → IsSound (schema_of v) db → AllByRecursion IsSpoolRow (db spool.tree)
+spool_rows_are First db sound = all_both _ _ IsSpoolRow (λ r. spool_row_is first_schema r db) (db spool.tree) (sound.obeys.rules NotNull).0 (sound.obeys.rules Datatype).0
+spool_rows_are Second db sound = all_both _ _ IsSpoolRow (λ r. spool_row_is second_schema r db) (db spool.tree) (sound.obeys.rules NotNull).0 (sound.obeys.rules Datatype).0
+spool_rows_are Third db sound = all_both _ _ IsSpoolRow (λ r. spool_row_is spool_schema r db) (db spool.tree) (sound.obeys.rules NotNull).0 (sound.obeys.rules Datatype).0
 
 -- ---- the table `pieces`
 
@@ -107,7 +107,7 @@ piece_row_is schema r db present typed =
         record { bytes = it.0; is = it.1 }
     go r long some h = absurd (omega (arith, long))
 
-pub piece_rows_are : (v : Version) (db : Trees) → IsSound (site_of v) db → AllByRecursion HasBytes (db pieces.tree)
-piece_rows_are First db sound = all_both _ _ HasBytes (λ r. piece_row_is first_site r db) (db pieces.tree) (sound.obeys.rules NotNull).1.1.1.1.1.0 (sound.obeys.rules Datatype).1.1.1.1.1.0
-piece_rows_are Second db sound = all_both _ _ HasBytes (λ r. piece_row_is second_site r db) (db pieces.tree) (sound.obeys.rules NotNull).1.1.1.1.1.0 (sound.obeys.rules Datatype).1.1.1.1.1.0
-piece_rows_are Third db sound = all_both _ _ HasBytes (λ r. piece_row_is site r db) (db pieces.tree) (sound.obeys.rules NotNull).1.1.1.1.1.0 (sound.obeys.rules Datatype).1.1.1.1.1.0
+pub piece_rows_are : (v : Version) (db : Trees) → IsSound (schema_of v) db → AllByRecursion HasBytes (db pieces.tree)
+piece_rows_are First db sound = all_both _ _ HasBytes (λ r. piece_row_is first_schema r db) (db pieces.tree) (sound.obeys.rules NotNull).1.1.1.1.1.0 (sound.obeys.rules Datatype).1.1.1.1.1.0
+piece_rows_are Second db sound = all_both _ _ HasBytes (λ r. piece_row_is second_schema r db) (db pieces.tree) (sound.obeys.rules NotNull).1.1.1.1.1.0 (sound.obeys.rules Datatype).1.1.1.1.1.0
+piece_rows_are Third db sound = all_both _ _ HasBytes (λ r. piece_row_is spool_schema r db) (db pieces.tree) (sound.obeys.rules NotNull).1.1.1.1.1.0 (sound.obeys.rules Datatype).1.1.1.1.1.0

@@ -13,7 +13,7 @@ use Rattle.uu_schema.specs.Steps.{Stands}
 use Rattle.uu_schema.proofs.Rows.{all_stay}
 use Rattle.uu_schema.proofs.Answers.{answer_of, answer_moved}
 use Rattle.uu_schema.specs.declared.version.Version.{Version}
-use Rattle.uu_schema.specs.Schema.{site_of, spool}
+use Rattle.uu_schema.specs.Schema.{schema_of, spool}
 use Rattle.uu_schema.specs.Made.{spool_row_of}
 use Rattle.uu_rows.specs.Readable.{IsSmall}
 use Rattle.uu_adopt.specs.Texts.{spool_text}
@@ -25,10 +25,10 @@ use Rattle.uu_adopt.proofs.Sound.{IsSpoolRow, spool_rows_are}
 abbrev spool_shown : Row → Row
 spool_shown r = column r 0 ∷ column r 2 ∷ column r 3 ∷ []
 
-module _ (v : Version) (old new : db.State) (rows : List Row) (stands : Stands (site_of v) old.now) (h : db.Shown spool_text [] old new rows) where
+module _ (v : Version) (old new : db.State) (rows : List Row) (stands : Stands (schema_of v) old.now) (h : db.Shown spool_text [] old new rows) where
   spool_moved : IsPermutation (map spool_shown (old.now.trees spool.tree)) rows
   spool_moved =
-      let a = answer_of (site_of v) spool_text _ _ [] old new (spool_means v) stands.schema rows h in
+      let a = answer_of (schema_of v) spool_text _ _ [] old new (spool_means v) stands.schema rows h in
       subst (λ l. IsPermutation (map spool_shown l) rows) (sym (all_stay (old.now.trees spool.tree))) (answer_moved spool.tree [] (at_places (0 ∷ 2 ∷ 3 ∷ [])) [] old.now.trees [] rows refl a)
 
   pub next_found : (next : ℕ) → rows ≡ spool_cells v next ∷ [] → old.now.trees spool.tree ≡ spool_row_of v next ∷ []

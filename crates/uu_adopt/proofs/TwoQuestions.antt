@@ -24,10 +24,10 @@ use Rattle.uu_schema.proofs.Questions.{spared_as, spared_then}
 use Rattle.uu_schema.proofs.Asks.{ordered}
 use Rattle.uu_schema.proofs.Rows.{all_stay}
 use Rattle.uu_schema.proofs.Answers.{answer_moved}
-use Rattle.uu_schema.specs.Schema.{site_of}
+use Rattle.uu_schema.specs.Schema.{schema_of}
 use Rattle.uu_schema.specs.declared.version.Version.{Version}
 use Rattle.uu_schema.specs.Keyed.{Keyed, columns}
-use Rattle.uu_rows.specs.Shows.{Shows}
+use Rattle.uu_rows.specs.Shows.{ShowsRows}
 use Rattle.uu_adopt.specs.Reading.{FindsRows, ReadsFrom, IsRead}
 use Rattle.uu_rows.proofs.Meanings.{at_places}
 use Rattle.uu_adopt.proofs.Meanings.{rowids_of}
@@ -82,8 +82,8 @@ of_ok (Ok x) ok p = p
 of_ok (Err e) ok p = absurd (cc)
 
 module _ {S : Type 0} (g : Ghosts S) (v : Version) {T : Type 0} {P : Trees → T → Type 0} (a b : Held S) where
-  pub one_read : {text : List ℕ} (p : Result (Vec Row Global) Error) (r : Result T Error) → IsOk p → StaysIdle a b → Shows text [] (state g a) (state g b) p → Spares (state g a) (state g b) p
-      → (HasCleanDisk (state g b) → Stands (site_of v) (state g a).now → IfOk r (P (state g a).now.trees)) → ReadsFrom g v P a b r
+  pub one_read : {text : List ℕ} (p : Result (Vec Row Global) Error) (r : Result T Error) → IsOk p → StaysIdle a b → ShowsRows text [] (state g a) (state g b) p → Spares (state g a) (state g b) p
+      → (HasCleanDisk (state g b) → Stands (schema_of v) (state g a).now → IfOk r (P (state g a).now.trees)) → ReadsFrom g v P a b r
   one_read p r ok idle first spared step = record {
     idle = idle;
     reads = record {
@@ -94,8 +94,8 @@ module _ {S : Type 0} (g : Ghosts S) (v : Version) {T : Type 0} {P : Trees → T
   }
 
 module _ {S : Type 0} (g : Ghosts S) (v : Version) {T : Type 0} {P : Trees → T → Type 0} (a b c : Held S) (p : Result (Vec Row Global) Error) (ok : IsOk p) (idle : StaysIdle a b) (spared : Spares (state g a) (state g b) p) where
-  pub both_read : {text more : List ℕ} (q : Result (Vec Row Global) Error) (r : Result T Error) → IsOk q → StaysIdle b c → Shows text [] (state g a) (state g b) p → Shows more [] (state g b) (state g c) q → Spares (state g b) (state g c) q
-      → (HasCleanDisk (state g b) → HasCleanDisk (state g c) → Stands (site_of v) (state g a).now → (state g b).now ≡ (state g a).now → IfOk r (P (state g a).now.trees)) → ReadsFrom g v P a c r
+  pub both_read : {text more : List ℕ} (q : Result (Vec Row Global) Error) (r : Result T Error) → IsOk q → StaysIdle b c → ShowsRows text [] (state g a) (state g b) p → ShowsRows more [] (state g b) (state g c) q → Spares (state g b) (state g c) q
+      → (HasCleanDisk (state g b) → HasCleanDisk (state g c) → Stands (schema_of v) (state g a).now → (state g b).now ≡ (state g a).now → IfOk r (P (state g a).now.trees)) → ReadsFrom g v P a c r
   both_read q r fine also_idle first second also_spared step =
       let early : HasCleanDisk (state g c) → HasCleanDisk (state g b) = λ clean. omega (arith, clean, also_spared.survives.clean) in
       let stays : HasCleanDisk (state g c) → (state g b).now ≡ (state g a).now = λ clean. of_ok p ok (first.same (early clean)) in
@@ -117,7 +117,7 @@ module _ {S : Type 0} (g : Ghosts S) (v : Version) {T : Type 0} {P : Trees → T
   }
 
   -- the same tables, asked after a question
-  pub read_after : {text : List ℕ} (r : Result T Error) → Shows text [] (state g a) (state g b) p → ReadsFrom g v P b c r → ReadsFrom g v P a c r
+  pub read_after : {text : List ℕ} (r : Result T Error) → ShowsRows text [] (state g a) (state g b) p → ReadsFrom g v P b c r → ReadsFrom g v P a c r
   read_after r first h =
       let stays : HasCleanDisk (state g c) → (state g b).now ≡ (state g a).now = λ clean. of_ok p ok (first.same (omega (arith, clean, h.reads.spares.survives.clean))) in
       record {
@@ -125,7 +125,7 @@ module _ {S : Type 0} (g : Ghosts S) (v : Version) {T : Type 0} {P : Trees → T
         reads = record {
           spares = spared_then (state g a) (state g b) p (state g c) r ok spared h.reads.spares;
           same = λ clean. go r (stays clean) (h.reads.same clean);
-          found = λ clean stands. subst (λ (d : Database). IfOk r (P d.trees)) (stays clean) (h.reads.found clean (subst (Stands (site_of v)) (sym (stays clean)) stands));
+          found = λ clean stands. subst (λ (d : Database). IfOk r (P d.trees)) (stays clean) (h.reads.found clean (subst (Stands (schema_of v)) (sym (stays clean)) stands));
         };
       }
     where

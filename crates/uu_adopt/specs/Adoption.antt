@@ -6,7 +6,7 @@ use Rattle.sqlite.specs.Schema.{Schema}
 use Rattle.sqlite_catalog.specs.Listing.{IsSound}
 use Rattle.uu_schema.specs.Steps.{Stands, Rests, StaysUnclean}
 use Rattle.uu_core.specs.State.{State, empty}
-use Rattle.uu_schema.specs.Schema.{site, no_schema, site_of}
+use Rattle.uu_schema.specs.Schema.{spool_schema, no_schema, schema_of}
 use Rattle.uu_schema.specs.declared.version.Version.{Version}
 use Rattle.uu_schema.specs.declared.fault.StoreFault.{StoreFault}
 use Rattle.uu_schema.specs.declared.fault.StoreFault.TheVariants.{Store, Newer, Foreign as ForeignFault}
@@ -14,7 +14,7 @@ use Rattle.uu_adopt.specs.Version.{IsLater}
 use Rattle.uu_adopt.specs.declared.inspection.Finding.{Finding}
 use Rattle.uu_adopt.specs.declared.inspection.Finding.TheVariants.{Spool, Foreign, Later}
 use Rattle.uu_schema.specs.Encoded.{Encodes, HoldsState, HoldsStateAs, Leaves, Migrated}
-use Rattle.uu_adopt.specs.FoundTables.{HasNone, HasEarlier, IsEarlier}
+use Rattle.uu_adopt.specs.FoundTables.{HasNone, HasEarlier, IsEarlierVersion}
 use Rattle.uu_adopt.specs.Becoming.{Becomes, CreatesTables, MigratesState}
 
 -- these are the rows of no state in the tables of this version
@@ -39,9 +39,9 @@ UnlessStore (Err fault) Fact = UnlessFailed fault Fact
 -- A database that has the tables of a version is taken exactly if it encodes a state. It is
 -- reported as newer exactly if a row says a later version, and otherwise as foreign.
 pub record IsInspected (v : Version) (old new : db.State) (r : Result (Unit {0}) StoreFault) : Type 0 where
-  pub ok : db.HasCleanDisk new → Stands (site_of v) old.now → OnOk r ((s : State) × HoldsStateAs v old.now.trees s)
-  pub newer : db.HasCleanDisk new → Stands (site_of v) old.now → r ≡ Err Newer → IsLater old.now.trees
-  pub foreign : db.HasCleanDisk new → Stands (site_of v) old.now → r ≡ Err ForeignFault → (¬ IsLater old.now.trees) × IsOfNone v old.now.trees
+  pub ok : db.HasCleanDisk new → Stands (schema_of v) old.now → OnOk r ((s : State) × HoldsStateAs v old.now.trees s)
+  pub newer : db.HasCleanDisk new → Stands (schema_of v) old.now → r ≡ Err Newer → IsLater old.now.trees
+  pub foreign : db.HasCleanDisk new → Stands (schema_of v) old.now → r ≡ Err ForeignFault → (¬ IsLater old.now.trees) × IsOfNone v old.now.trees
 
 -- a stop leaves nothing that it would not have left before
 abbrev pub LeavesNoMore : db.State → db.State → Type 0
@@ -71,7 +71,7 @@ pub record Inspects (tables : Option Version) (old new : db.State) (r : Result (
   pub clean : StaysUnclean old new
 
 -- a database of one schema becomes one of another by a step of its trees
-pub record Makes (from to : Schema) (Step : Trees → Trees → Type 0) (old new : db.State) (r : Result (Unit {0}) StoreFault) : Type 0 where
+pub record MakesSchema (from to : Schema) (Step : Trees → Trees → Type 0) (old new : db.State) (r : Result (Unit {0}) StoreFault) : Type 0 where
   pub becomes : Becomes from to Step old new r
   pub unmade : IsUnmade old new r
   pub clean : StaysUnclean old new
@@ -80,8 +80,8 @@ pub record Makes (from to : Schema) (Step : Trees → Trees → Type 0) (old new
 -- of the written version
 pub record AdoptsSpool (tables : Option Version) (old new : db.State) (r : Result (Unit {0}) StoreFault) : Type 0 where
   pub inspected : (v : Version) → tables ≡ Some v → IsInspected v old new r
-  pub spared : ((v : Version) → IsEarlier v → tables ≡ Some v → IsRefused r) → IsSpared old new r
-  pub migrates : (v : Version) → IsEarlier v → tables ≡ Some v → MigratesState v old new r
+  pub spared : ((v : Version) → IsEarlierVersion v → tables ≡ Some v → IsRefused r) → IsSpared old new r
+  pub migrates : (v : Version) → IsEarlierVersion v → tables ≡ Some v → MigratesState v old new r
   pub unmade : IsUnmade old new r
   pub clean : StaysUnclean old new
 
@@ -90,7 +90,7 @@ pub record AdoptsSpool (tables : Option Version) (old new : db.State) (r : Resul
 pub record Adopts (old new : db.State) (r : Result (Unit {0}) StoreFault) : Type 0 where
   pub inspected : (v : Version) → IsInspected v old new r
   pub spared : ¬ HasNone old.now.schema → (HasEarlier old.now.schema → IsRefused r) → IsSpared old new r
-  pub migrates : (v : Version) → IsEarlier v → MigratesState v old new r
+  pub migrates : (v : Version) → IsEarlierVersion v → MigratesState v old new r
   pub creates : CreatesTables old new r
   pub unmade : IsUnmade old new r
   pub clean : StaysUnclean old new
@@ -110,5 +110,5 @@ pub record IsAsBefore (old new : db.State) : Type 0 where
 pub record StopsAs (old new : db.State) : Type 0 where
   pub some : ¬ HasNone old.now.schema → ¬ HasEarlier old.now.schema → (trees : Trees) → new.may_leave trees → trees ≡ old.now.trees
   pub state : (s : State) → Encodes old.now s → Leaves new s
-  pub earlier : (v : Version) → IsEarlier v → Stands (site_of v) old.now → (trees : Trees) → new.may_leave trees → (trees ≡ old.now.trees) ⊎ (IsSound site trees × Migrated v old.now.trees trees)
-  pub none : Stands no_schema old.now → (trees : Trees) → new.may_leave trees → (trees ≡ old.now.trees) ⊎ (IsSound site trees × HoldsState trees empty)
+  pub earlier : (v : Version) → IsEarlierVersion v → Stands (schema_of v) old.now → (trees : Trees) → new.may_leave trees → (trees ≡ old.now.trees) ⊎ (IsSound spool_schema trees × Migrated v old.now.trees trees)
+  pub none : Stands no_schema old.now → (trees : Trees) → new.may_leave trees → (trees ≡ old.now.trees) ⊎ (IsSound spool_schema trees × HoldsState trees empty)

@@ -7,7 +7,7 @@ use Rattle.sqlite.specs.State as db
 use Rattle.sqlite_catalog.specs.Listing.{IsSound}
 use Rattle.uu_core.specs.State.{empty}
 use Rattle.uu_schema.specs.Steps.{Stands, Rests}
-use Rattle.uu_schema.specs.Schema.{site, site_of, no_schema}
+use Rattle.uu_schema.specs.Schema.{spool_schema, schema_of, no_schema}
 use Rattle.uu_schema.specs.Encoded.{HoldsState, Migrated}
 use Rattle.uu_schema.specs.declared.fault.StoreFault.{StoreFault}
 use Rattle.uu_schema.specs.declared.fault.StoreFault.TheVariants.{Memory}
@@ -22,8 +22,8 @@ pub record Becomes (from to : Schema) (Step : Trees → Trees → Type 0) (old n
 
 -- the tables of an empty spool are made
 abbrev pub CreatesTables : db.State → db.State → Result (Unit {0}) StoreFault → Type 0
-CreatesTables = Becomes no_schema site (λ old new. HoldsState new empty)
+CreatesTables = Becomes no_schema spool_schema (λ old new. HoldsState new empty)
 
 -- the tables of a version become those of the written version, if they had a state
 abbrev pub MigratesState : Version → db.State → db.State → Result (Unit {0}) StoreFault → Type 0
-MigratesState v = Becomes (site_of v) site (Migrated v)
+MigratesState v = Becomes (schema_of v) spool_schema (Migrated v)

@@ -8,13 +8,13 @@ use Rattle.sqlite.specs.Table.{Table}
 use Rattle.sqlite_rules.specs.Lists.{Has}
 use Rattle.sqlite_schema.specs.Names.{same_name}
 use Rattle.sqlite_schema.specs.declared.schema.Column.{Column}
-use Rattle.uu_schema.specs.Schema.{site, site_of, spool, success_waits, links, taken}
+use Rattle.uu_schema.specs.Schema.{spool_schema, schema_of, spool, success_waits, links, taken}
 use Rattle.uu_schema.specs.declared.version.Version.{Version}
 use Rattle.uu_schema.specs.declared.version.Version.TheVariants.{First, Second, Third}
 
 -- no table has this name
-abbrev pub IsFree : Schema → List ℕ → Type 0
-IsFree schema name = AllByRecursion (λ (table : Table). same_name table.name name ≡ false) schema.tables
+abbrev pub IsNameFree : Schema → List ℕ → Type 0
+IsNameFree schema name = AllByRecursion (λ (table : Table). same_name table.name name ≡ false) schema.tables
 
 -- a column of the table has this name
 abbrev pub HasColumn : Table → List ℕ → Type 0
@@ -32,7 +32,7 @@ HasTableOf schema table = HasTable schema table.name (map (λ (column : Column).
 
 -- none of the names of the spool's tables is taken
 abbrev pub HasNoName : Schema → Type 0
-HasNoName schema = AllByRecursion (λ (table : Table). IsFree schema table.name) site.tables
+HasNoName schema = AllByRecursion (λ (table : Table). IsNameFree schema table.name) spool_schema.tables
 
 -- the tables that were added after a version
 abbrev pub later_tables : Version → List Table
@@ -43,8 +43,8 @@ later_tables Third = []
 -- every table of a version is there with its columns, and no table has the name of one that was
 -- added later
 pub record HasTablesOf (v : Version) (schema : Schema) : Type 0 where
-  pub all : AllByRecursion (HasTableOf schema) (site_of v).tables
-  pub none_later : AllByRecursion (λ (table : Table). IsFree schema table.name) (later_tables v)
+  pub all : AllByRecursion (HasTableOf schema) (schema_of v).tables
+  pub none_later : AllByRecursion (λ (table : Table). IsNameFree schema table.name) (later_tables v)
 
 -- the table `spool` has the columns that say its version
 abbrev pub TellsVersion : Schema → Type 0

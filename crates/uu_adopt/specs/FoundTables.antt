@@ -22,75 +22,75 @@ has_table schema name columns = option_map_or (λ t. list_all (has_column t) col
 
 -- ---- the columns of each table
 
-abbrev pub system_columns : List (List ℕ)
-system_columns = codes "name" ∷ codes "max_retries" ∷ codes "last" ∷ codes "failures" ∷ codes "wait" ∷ codes "outcome" ∷ codes "why" ∷ []
+abbrev pub system_column_names : List (List ℕ)
+system_column_names = codes "name" ∷ codes "max_retries" ∷ codes "last" ∷ codes "failures" ∷ codes "wait" ∷ codes "outcome" ∷ codes "why" ∷ []
 
-abbrev pub line_columns : List (List ℕ)
-line_columns = codes "system" ∷ codes "place" ∷ codes "rank" ∷ codes "retry" ∷ []
+abbrev pub line_column_names : List (List ℕ)
+line_column_names = codes "system" ∷ codes "place" ∷ codes "rank" ∷ codes "retry" ∷ []
 
-abbrev pub range_columns : List (List ℕ)
-range_columns = codes "system" ∷ codes "place" ∷ codes "low" ∷ codes "high" ∷ []
+abbrev pub range_column_names : List (List ℕ)
+range_column_names = codes "system" ∷ codes "place" ∷ codes "low" ∷ codes "high" ∷ []
 
-abbrev pub job_columns : List (List ℕ)
-job_columns =
+abbrev pub job_column_names : List (List ℕ)
+job_column_names =
     codes "number" ∷ codes "system" ∷ codes "rank" ∷ codes "user" ∷ codes "kind" ∷ codes "queued" ∷ codes "first_word" ∷ codes "second_word" ∷ codes "size" ∷ []
 
-abbrev pub piece_columns : List (List ℕ)
-piece_columns = codes "job" ∷ codes "place" ∷ codes "bytes" ∷ []
+abbrev pub piece_column_names : List (List ℕ)
+piece_column_names = codes "job" ∷ codes "place" ∷ codes "bytes" ∷ []
 
-abbrev pub entry_columns : List (List ℕ)
-entry_columns = codes "host" ∷ codes "bytes" ∷ []
+abbrev pub entry_column_names : List (List ℕ)
+entry_column_names = codes "host" ∷ codes "bytes" ∷ []
 
-abbrev pub wait_columns : List (List ℕ)
-wait_columns = codes "system" ∷ codes "wait" ∷ []
+abbrev pub wait_column_names : List (List ℕ)
+wait_column_names = codes "system" ∷ codes "wait" ∷ []
 
-abbrev pub link_columns : List (List ℕ)
-link_columns = codes "system" ∷ codes "below" ∷ []
+abbrev pub link_column_names : List (List ℕ)
+link_column_names = codes "system" ∷ codes "below" ∷ []
 
-abbrev pub taken_columns : List (List ℕ)
-taken_columns = codes "system" ∷ codes "number" ∷ codes "mark" ∷ codes "job" ∷ []
+abbrev pub taken_column_names : List (List ℕ)
+taken_column_names = codes "system" ∷ codes "number" ∷ codes "mark" ∷ codes "job" ∷ []
 
 -- ---- what is there
 
 -- the tables of the systems with all their columns
 abbrev pub has_systems : Schema → Bool
-has_systems schema = has_table schema (codes "systems") system_columns && has_table schema (codes "lines") line_columns && has_table schema (codes "ranges") range_columns
+has_systems schema = has_table schema (codes "systems") system_column_names && has_table schema (codes "lines") line_column_names && has_table schema (codes "ranges") range_column_names
 
 -- the tables of the jobs and of the map entries
 abbrev pub has_jobs : Schema → Bool
-has_jobs schema = has_table schema (codes "jobs") job_columns && has_table schema (codes "pieces") piece_columns && has_table schema (codes "entries") entry_columns
+has_jobs schema = has_table schema (codes "jobs") job_column_names && has_table schema (codes "pieces") piece_column_names && has_table schema (codes "entries") entry_column_names
 
 -- the table of the success waits
 abbrev pub has_waits : Schema → Bool
-has_waits schema = has_table schema (codes "success_waits") wait_columns
+has_waits schema = has_table schema (codes "success_waits") wait_column_names
 
 -- the tables of the links, and of what was taken by them
 abbrev pub has_links : Schema → Bool
-has_links schema = has_table schema (codes "links") link_columns && has_table schema (codes "taken") taken_columns
+has_links schema = has_table schema (codes "links") link_column_names && has_table schema (codes "taken") taken_column_names
 
 -- the other columns and tables of version 1 are there
 abbrev pub is_whole : Schema → Table → Bool
 is_whole schema spool = has_column spool (codes "next") && has_systems schema && has_jobs schema
 
 -- a table has this name
-abbrev pub is_taken : Schema → List ℕ → Bool
-is_taken schema name = is_some (table_of schema name)
+abbrev pub is_name_used : Schema → List ℕ → Bool
+is_name_used schema name = is_some (table_of schema name)
 
 -- a table has one of these two names
-abbrev pub is_link_taken : Schema → Bool
-is_link_taken schema = is_taken schema (codes "links") || is_taken schema (codes "taken")
+abbrev pub is_link_name_used : Schema → Bool
+is_link_name_used schema = is_name_used schema (codes "links") || is_name_used schema (codes "taken")
 
 -- a table has one of the names, other than `spool`
-abbrev pub is_any_taken : Schema → Bool
-is_any_taken schema = is_taken schema (codes "systems") || is_taken schema (codes "lines") || is_taken schema (codes "ranges") || is_taken schema (codes "jobs") || is_taken schema (codes "pieces") || is_taken schema (codes "entries") || is_taken schema (codes "success_waits") || is_link_taken schema
+abbrev pub is_any_name_used : Schema → Bool
+is_any_name_used schema = is_name_used schema (codes "systems") || is_name_used schema (codes "lines") || is_name_used schema (codes "ranges") || is_name_used schema (codes "jobs") || is_name_used schema (codes "pieces") || is_name_used schema (codes "entries") || is_name_used schema (codes "success_waits") || is_link_name_used schema
 
 -- the version that the tables added after version 1 show: it has all of its own, and no name of
 -- those of later versions is taken
 abbrev pub added_with : Schema → Option Version
 added_with schema =
     if has_waits schema
-    then (if has_links schema then Some Third else (if is_link_taken schema then None else Some Second))
-    else (if is_taken schema (codes "success_waits") || is_link_taken schema then None else Some First)
+    then (if has_links schema then Some Third else (if is_link_name_used schema then None else Some Second))
+    else (if is_name_used schema (codes "success_waits") || is_link_name_used schema then None else Some First)
 
 -- the version whose tables are there with all their columns
 abbrev pub tables_with : Schema → Table → Option Version
@@ -98,7 +98,7 @@ tables_with schema spool = if is_whole schema spool then added_with schema else 
 
 -- what is found, given the table `spool`, if there is one
 abbrev pub found_beside : Schema → Option Table → Found
-found_beside schema None = if is_any_taken schema then Other else Nothing
+found_beside schema None = if is_any_name_used schema then Other else Nothing
 found_beside schema (Some spool) =
     if has_column spool (codes "id") && has_column spool (codes "version")
     then Spool (tables_with schema spool)
@@ -118,14 +118,14 @@ abbrev pub HasAllOf : Version → Schema → Type 0
 HasAllOf v schema = found_of schema ≡ Spool (Some v)
 
 -- a version before the written one
-abbrev pub IsEarlier : Version → Type 0
-IsEarlier First = ⊤
-IsEarlier Second = ⊤
-IsEarlier Third = ⊥
+abbrev pub IsEarlierVersion : Version → Type 0
+IsEarlierVersion First = ⊤
+IsEarlierVersion Second = ⊤
+IsEarlierVersion Third = ⊥
 
 -- the tables of an earlier version are there, so the rest has to be made
 abbrev pub HasEarlier : Schema → Type 0
-HasEarlier schema = (v : Version) × IsEarlier v × HasAllOf v schema
+HasEarlier schema = (v : Version) × IsEarlierVersion v × HasAllOf v schema
 
 -- none of the tables is there, or all of a version
 abbrev pub HasNoneOrAll : Schema → Type 0

@@ -17,7 +17,7 @@ use Rattle.uu_schema.specs.Spares.{Spares}
 use Rattle.uu_schema.specs.Rowids.{AreNumbered, OnceEach}
 use Rattle.uu_tables.specs.declared.rows.PieceSize.{PieceSize}
 use Rattle.uu_tables.specs.Tables.{Piece, size_of}
-use Rattle.uu_schema.specs.Schema.{site_of, spool, systems, lines, ranges, jobs, pieces, entries, success_waits, links, taken}
+use Rattle.uu_schema.specs.Schema.{schema_of, spool, systems, lines, ranges, jobs, pieces, entries, success_waits, links, taken}
 use Rattle.uu_schema.specs.declared.version.Version.{Version}
 use Rattle.uu_schema.specs.declared.version.Version.TheVariants.{First, Second, Third}
 use Rattle.uu_tables.specs.declared.rows.SystemColumns.{SystemColumns}
@@ -27,11 +27,11 @@ use Rattle.uu_tables.specs.declared.rows.EntryColumns.{EntryColumns}
 use Rattle.uu_tables.specs.declared.rows.WaitColumns.{WaitColumns}
 use Rattle.uu_tables.specs.declared.rows.LinkColumns.{LinkColumns}
 use Rattle.uu_tables.specs.declared.rows.TakenColumns.{TakenColumns}
-use Rattle.uu_schema.specs.Made.{number_of, spool_row_of}
+use Rattle.uu_schema.specs.Made.{version_number, spool_row_of}
 use Rattle.uu_schema.specs.Held.{system_key, line_key, range_key, job_key, piece_key, entry_key, wait_key, link_key, taken_key, system_places, line_places, range_places, job_places, piece_places, entry_places, wait_places, link_places, taken_places}
 use Rattle.uu_core.specs.declared.job.JobHead.{JobHead}
 use Rattle.uu_schema.specs.Cells.{system_cells, line_cells, range_cells, job_cells, piece_cells, entry_cells, wait_cells, link_cells, taken_cells}
-use Rattle.uu_rows.specs.Readable.{IsSmall, IsSystem, IsLine, IsRange, IsHead, IsSize, IsEntry, IsWait, IsLink, IsTaken, size_cells}
+use Rattle.uu_rows.specs.Readable.{IsSmall, IsTypedSystem, IsTypedLine, IsTypedRange, IsTypedHead, IsTypedSize, IsTypedEntry, IsTypedWait, IsTypedLink, IsTypedTaken, size_cells}
 use Rattle.uu_tables.specs.Order.{system_cmp, line_cmp, range_cmp, head_cmp, piece_cmp, size_cmp, entry_cmp, wait_cmp, link_cmp, taken_cmp}
 use Rattle.uu_schema.specs.Keyed.{Keyed, columns}
 use Rattle.uu_adopt.specs.declared.integer.Integer.{Integer}
@@ -79,7 +79,7 @@ Tells good Yes No = (good ≡ true → Yes) × (good ≡ false → No)
 pub record Reads (v : Version) {T : Type 0} (IsAnswer : Trees → T → Type 0) (old new : db.State) (r : Result T Error) : Type 0 where
   pub spares : Spares old new r
   pub same : db.HasCleanDisk new → OnOk r (new.now ≡ old.now)
-  pub found : db.HasCleanDisk new → Stands (site_of v) old.now → IfOk r (IsAnswer old.now.trees)
+  pub found : db.HasCleanDisk new → Stands (schema_of v) old.now → IfOk r (IsAnswer old.now.trees)
 
 -- the same over a connection, which stays idle if it was
 pub record ReadsFrom {S T : Type 0} (g : Ghosts S) (v : Version) (IsAnswer : Trees → T → Type 0) (old new : Held S) (r : Result T Error) : Type 0 where
@@ -102,12 +102,12 @@ AreNumbersRising = IsAscending (λ (a b : JobHead). a.number < b.number)
 -- the rows are those of these heads, whose numbers rise
 pub record AreHeads (rows : List Row) (all : List JobHead) : Type 0 where
   pub rows_are : rows ≡ map job_cells all
-  pub readable : AllByRecursion IsHead all
+  pub readable : AllByRecursion IsTypedHead all
   pub rising : AreNumbersRising all
 
 -- the answer to the question on the one row of the table `spool`
 abbrev pub spool_cells : Version → ℕ → Row
-spool_cells v next = Int (pos 1) ∷ Int (pos (number_of v)) ∷ Int (pos next) ∷ []
+spool_cells v next = Int (pos 1) ∷ Int (pos (version_number v)) ∷ Int (pos next) ∷ []
 
 -- ---- pieces: the question gives the number of bytes of each, and no byte is read
 
@@ -127,34 +127,34 @@ pub record IsBefore (a b : NumberedSize) : Type 0 where
 pub record AreNumberedSizes (rows : List Row) (all : List PieceSize) : Type 0 where
   pub numbered : List NumberedSize
   pub rows_are : rows ≡ map numbered_cells numbered
-  pub readable : AllByRecursion (λ n. IsSize n.size) numbered
+  pub readable : AllByRecursion (λ n. IsTypedSize n.size) numbered
   pub rising : IsAscending IsBefore numbered
   pub sizes_are : all ≡ map (λ n. n.size) numbered
 
 -- What is found is exactly the sizes of the table's pieces, whatever their bytes are.
 pub record FindsSizes (rows : List Row) (found : Option (Vec PieceSize Global)) : Type 0 where
-  pub all : IfSome found (λ all. (ps : List Piece) × AreRows piece_cells piece_places ps rows × (map size_of ps ≡ all.items) × AllByRecursion IsSize all.items)
-  pub only : (ps : List Piece) → AllByRecursion (λ p. IsSize (size_of p)) ps → IsAscending (λ a b. piece_cmp a b ≡ Less) ps → Keyed piece_key piece_cells piece_places ps rows → MatchOption found ⊥ (λ all. all.items ≡ map size_of ps)
+  pub all : IfSome found (λ all. (ps : List Piece) × AreRows piece_cells piece_places ps rows × (map size_of ps ≡ all.items) × AllByRecursion IsTypedSize all.items)
+  pub only : (ps : List Piece) → AllByRecursion (λ p. IsTypedSize (size_of p)) ps → IsAscending (λ a b. piece_cmp a b ≡ Less) ps → Keyed piece_key piece_cells piece_places ps rows → MatchOption found ⊥ (λ all. all.items ≡ map size_of ps)
 
 -- ---- the tables that every version has
 
 abbrev pub FindsSystems : Trees → Option (Vec SystemColumns Global) → Type 0
-FindsSystems trees found = FindsRows system_key system_cells system_places IsSystem system_cmp (trees systems.tree) found
+FindsSystems trees found = FindsRows system_key system_cells system_places IsTypedSystem system_cmp (trees systems.tree) found
 
 abbrev pub FindsLines : Trees → Option (Vec LineColumns Global) → Type 0
-FindsLines trees found = FindsRows line_key line_cells line_places IsLine line_cmp (trees lines.tree) found
+FindsLines trees found = FindsRows line_key line_cells line_places IsTypedLine line_cmp (trees lines.tree) found
 
 abbrev pub FindsRanges : Trees → Option (Vec RangeColumns Global) → Type 0
-FindsRanges trees found = FindsRows range_key range_cells range_places IsRange range_cmp (trees ranges.tree) found
+FindsRanges trees found = FindsRows range_key range_cells range_places IsTypedRange range_cmp (trees ranges.tree) found
 
 abbrev pub FindsJobs : Trees → Option (Vec JobHead Global) → Type 0
-FindsJobs trees found = FindsRows job_key job_cells job_places IsHead head_cmp (trees jobs.tree) found
+FindsJobs trees found = FindsRows job_key job_cells job_places IsTypedHead head_cmp (trees jobs.tree) found
 
 abbrev pub FindsPieces : Trees → Option (Vec PieceSize Global) → Type 0
 FindsPieces trees found = FindsSizes (trees pieces.tree) found
 
 abbrev pub FindsEntries : Trees → Option (Vec EntryColumns Global) → Type 0
-FindsEntries trees found = FindsRows entry_key entry_cells entry_places IsEntry entry_cmp (trees entries.tree) found
+FindsEntries trees found = FindsRows entry_key entry_cells entry_places IsTypedEntry entry_cmp (trees entries.tree) found
 
 -- the table `spool` has its one row, with this version and this next number; none is found only if
 -- it has no such row with a number of 32 bits
@@ -165,8 +165,8 @@ FindsNext v trees found = MatchOption found ((next : ℕ) → IsSmall next → t
 
 abbrev pub FindsWaits : Version → Trees → Option (Vec WaitColumns Global) → Type 0
 FindsWaits First trees found = MatchOption found ⊥ (λ all. all.items ≡ [])
-FindsWaits Second trees found = FindsRows wait_key wait_cells wait_places IsWait wait_cmp (trees success_waits.tree) found
-FindsWaits Third trees found = FindsRows wait_key wait_cells wait_places IsWait wait_cmp (trees success_waits.tree) found
+FindsWaits Second trees found = FindsRows wait_key wait_cells wait_places IsTypedWait wait_cmp (trees success_waits.tree) found
+FindsWaits Third trees found = FindsRows wait_key wait_cells wait_places IsTypedWait wait_cmp (trees success_waits.tree) found
 
 -- a version that has such a table
 abbrev pub HasWaits : Version → Type 0
@@ -180,9 +180,9 @@ HasWaits Third = ⊤
 abbrev pub FindsLinks : Version → Trees → Option (Vec LinkColumns Global) → Type 0
 FindsLinks First trees found = MatchOption found ⊥ (λ all. all.items ≡ [])
 FindsLinks Second trees found = MatchOption found ⊥ (λ all. all.items ≡ [])
-FindsLinks Third trees found = FindsRows link_key link_cells link_places IsLink link_cmp (trees links.tree) found
+FindsLinks Third trees found = FindsRows link_key link_cells link_places IsTypedLink link_cmp (trees links.tree) found
 
 abbrev pub FindsTaken : Version → Trees → Option (Vec TakenColumns Global) → Type 0
 FindsTaken First trees found = MatchOption found ⊥ (λ all. all.items ≡ [])
 FindsTaken Second trees found = MatchOption found ⊥ (λ all. all.items ≡ [])
-FindsTaken Third trees found = FindsRows taken_key taken_cells taken_places IsTaken taken_cmp (trees taken.tree) found
+FindsTaken Third trees found = FindsRows taken_key taken_cells taken_places IsTypedTaken taken_cmp (trees taken.tree) found

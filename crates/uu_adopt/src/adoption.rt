@@ -4,10 +4,10 @@ ghost use Rattle.std.specs.Prelude.{◌≡◌, ◌≢◌, None, Err, IfErr, IsEr
 ghost use Rattle.sqlite.specs.Held.{state};
 ghost use Rattle.uu_core.specs.State.{empty};
 ghost use Rattle.uu_schema.specs.Faults.{IsFaultOfThisCall};
-ghost use Rattle.uu_schema.specs.Schema.{no_schema, site, site_of};
+ghost use Rattle.uu_schema.specs.Schema.{no_schema, spool_schema, schema_of};
 ghost use Rattle.uu_schema.specs.Encoded.{HoldsAgain, HoldsState};
 ghost use Rattle.uu_schema.specs.Steps.{IsIdle};
-ghost use Rattle.uu_adopt.specs.Adoption.{Adopts, AdoptsSpool, IsRefused, IsSpared, Makes};
+ghost use Rattle.uu_adopt.specs.Adoption.{Adopts, AdoptsSpool, IsRefused, IsSpared, MakesSchema};
 ghost use Rattle.uu_adopt.specs.FoundTables.{HasNone, HasNoneOrAll, HasUnversionedTables};
 
 use crate::inspection::inspect;
@@ -22,7 +22,7 @@ fn create_tables<S: Alter>(conn: &mut Connection<S>) -> Result<(), StoreFault>
     requires { IsIdle conn.old }
     ensures idle { IsIdle conn.new }
     ensures fresh { IfErr result IsFaultOfThisCall }
-    ensures makes { Makes no_schema site (λ old new. HoldsState new empty) (state S.Store conn.old) (state S.Store conn.new) result }
+    ensures makes { MakesSchema no_schema spool_schema (λ old new. HoldsState new empty) (state S.Store conn.old) (state S.Store conn.new) result }
 {
     states_stay_well_formed();
     match create(conn) {
@@ -36,7 +36,7 @@ fn migrate_tables<S: Alter>(conn: &mut Connection<S>, from: Version) -> Result<(
     requires { IsIdle conn.old }
     ensures idle { IsIdle conn.new }
     ensures fresh { IfErr result IsFaultOfThisCall }
-    ensures makes { Makes (site_of from) site (HoldsAgain from) (state S.Store conn.old) (state S.Store conn.new) result }
+    ensures makes { MakesSchema (schema_of from) spool_schema (HoldsAgain from) (state S.Store conn.old) (state S.Store conn.new) result }
     ensures spared { IsRefused result → IsSpared (state S.Store conn.old) (state S.Store conn.new) result }
 {
     match migrate(conn, from) {
@@ -81,7 +81,7 @@ pub fn adopt_database<S: Alter>(alloc: Global, conn: &mut Connection<S>) -> Resu
     requires { IsIdle conn.old }
     ensures idle { IsIdle conn.new }
     ensures never_failed { IfErr result (λ fault. fault ≢ StoreFault.Failed) }
-    ensures taken { OnOk result (HasNoneOrAll conn.old.schema) }
+    ensures adopted { OnOk result (HasNoneOrAll conn.old.schema) }
     ensures other { HasUnversionedTables conn.old.schema → (result ≡ Err StoreFault.Foreign) × (conn.new ≡ conn.old) }
     ensures empty_never_refused { HasNone conn.old.schema → IfErr result (λ fault. (fault ≢ StoreFault.Foreign) × (fault ≢ StoreFault.Newer)) }
     ensures adopts { Adopts (state S.Store conn.old) (state S.Store conn.new) result }

@@ -4,7 +4,7 @@
 ghost use Rattle.std.specs.Prelude.{◌≡◌, true, map, IfOk};
 ghost use Rattle.sqlite.specs.Tree.{IsAscending};
 ghost use Rattle.uu_schema.specs.declared.version.Version.{Version};
-ghost use Rattle.uu_rows.specs.Readable.{IsSize};
+ghost use Rattle.uu_rows.specs.Readable.{IsTypedSize};
 ghost use Rattle.uu_adopt.specs.Reading.{numbered_cells, comes_before, IsBefore, AreNumberedSizes, FindsPieces, ReadsFrom};
 
 use crate::integer::{Integer, integer_in};
@@ -24,7 +24,7 @@ pub(crate) struct NumberedSize {
 impl TypedRow for NumberedSize {
     ghost cells = { numbered_cells };
 
-    ghost IsReadable = { λ numbered. IsSize numbered.size };
+    ghost IsReadable = { λ numbered. IsTypedSize numbered.size };
 
     fn read(_alloc: Global, row: &Row) -> Result<NumberedSize, RowFault> {
         has_width(row, 4)?;

@@ -4,9 +4,9 @@ ghost use Rattle.sqlite.specs.declared.error.Error.TheVariants.{SqliteFailure};
 ghost use Rattle.sqlite.specs.declared.error.ErrorCode.TheVariants.{OutOfMemory};
 ghost use Rattle.sqlite.specs.Held.{state};
 ghost use Rattle.sqlite.specs.State.{HasCleanDisk};
-ghost use Rattle.uu_rows.specs.Shows.{IsRefused};
+ghost use Rattle.uu_rows.specs.Shows.{IsQueryError};
 ghost use Rattle.uu_adopt.specs.Texts.{spool_text};
-ghost use Rattle.uu_schema.specs.Made.{number_of};
+ghost use Rattle.uu_schema.specs.Made.{version_number};
 ghost use Rattle.uu_rows.specs.Values.{NotIf};
 ghost use Rattle.uu_rows.specs.Readable.{IsSmall};
 ghost use Rattle.uu_adopt.specs.Reading.{FindsNext, ReadsFrom, spool_cells};
@@ -17,7 +17,7 @@ use uu_schema::Version;
 
 // The number by which a row names a version.
 fn number_of(version: Version) -> u32
-    ensures { result ≡ number_of version }
+    ensures { result ≡ version_number version }
 {
     match version {
         Version::First => 1,
@@ -60,7 +60,7 @@ pub(crate) fn read_next<S: Alter>(
     version: Version,
 ) -> Result<Option<u32>, Error>
     ensures reads { ReadsFrom S.Store version (FindsNext version) conn.old conn.new result }
-    ensures refused { HasCleanDisk (state S.Store conn.new) → IfErr result (IsRefused spool_text [] (state S.Store conn.old) (state S.Store conn.new)) }
+    ensures refused { HasCleanDisk (state S.Store conn.new) → IfErr result (IsQueryError spool_text [] (state S.Store conn.old) (state S.Store conn.new)) }
 {
     let rows = ask(conn, "SELECT id, version, next FROM spool")?;
     found_next(&rows, version)

@@ -2,7 +2,7 @@
 ghost use Rattle.std.specs.Prelude.{◌≡◌, map};
 ghost use Rattle.std.specs.Option.{option_copied};
 ghost use Rattle.std.specs.List.{list_all};
-ghost use Rattle.uu_adopt.specs.FoundTables.{table_of, has_column, has_table, has_systems, has_jobs, has_waits, has_links, is_whole, is_taken, is_link_taken, is_any_taken, added_with, tables_with, found_of};
+ghost use Rattle.uu_adopt.specs.FoundTables.{table_of, has_column, has_table, has_systems, has_jobs, has_waits, has_links, is_whole, is_name_used, is_link_name_used, is_any_name_used, added_with, tables_with, found_of};
 
 use sqlite_schema::names::same_name;
 use sqlite_schema::schema::{Schema, Table};
@@ -122,31 +122,31 @@ fn is_whole(schema: &Schema, spool: &Table) -> bool
     has_column(spool, "next") && has_systems(schema) && has_jobs(schema)
 }
 
-fn is_taken(schema: &Schema, name: &str) -> bool
-    ensures { result ≡ is_taken schema.now name.now }
+fn is_name_used(schema: &Schema, name: &str) -> bool
+    ensures { result ≡ is_name_used schema.now name.now }
 {
     table_of(schema, name).is_some()
 }
 
 // Whether a table has one of the names of the tables of links.
-fn is_link_taken(schema: &Schema) -> bool
-    ensures { result ≡ is_link_taken schema.now }
+fn is_link_name_used(schema: &Schema) -> bool
+    ensures { result ≡ is_link_name_used schema.now }
 {
-    is_taken(schema, "links") || is_taken(schema, "taken")
+    is_name_used(schema, "links") || is_name_used(schema, "taken")
 }
 
 // Whether a table has one of the names, other than `spool`.
-fn is_any_taken(schema: &Schema) -> bool
-    ensures { result ≡ is_any_taken schema.now }
+fn is_any_name_used(schema: &Schema) -> bool
+    ensures { result ≡ is_any_name_used schema.now }
 {
-    is_taken(schema, "systems")
-        || is_taken(schema, "lines")
-        || is_taken(schema, "ranges")
-        || is_taken(schema, "jobs")
-        || is_taken(schema, "pieces")
-        || is_taken(schema, "entries")
-        || is_taken(schema, "success_waits")
-        || is_link_taken(schema)
+    is_name_used(schema, "systems")
+        || is_name_used(schema, "lines")
+        || is_name_used(schema, "ranges")
+        || is_name_used(schema, "jobs")
+        || is_name_used(schema, "pieces")
+        || is_name_used(schema, "entries")
+        || is_name_used(schema, "success_waits")
+        || is_link_name_used(schema)
 }
 
 // The version that the tables added after version 1 show: it has all of its own, and no name of
@@ -157,12 +157,12 @@ fn added_with(schema: &Schema) -> Option<Version>
     if has_waits(schema) {
         if has_links(schema) {
             Some(Version::Third)
-        } else if is_link_taken(schema) {
+        } else if is_link_name_used(schema) {
             None
         } else {
             Some(Version::Second)
         }
-    } else if is_taken(schema, "success_waits") || is_link_taken(schema) {
+    } else if is_name_used(schema, "success_waits") || is_link_name_used(schema) {
         None
     } else {
         Some(Version::First)
@@ -185,7 +185,7 @@ pub(crate) fn inspect_schema(schema: &Schema) -> Found
     ensures { result ≡ found_of schema.now }
 {
     let Some(spool) = table_of(schema, "spool") else {
-        return if is_any_taken(schema) {
+        return if is_any_name_used(schema) {
             Found::Other
         } else {
             Found::Nothing

@@ -5,7 +5,7 @@ ghost use Rattle.sqlite.specs.declared.error.ErrorCode.TheVariants.{OutOfMemory}
 ghost use Rattle.sqlite.specs.Held.{state};
 ghost use Rattle.uu_schema.specs.declared.version.Version.{Version};
 ghost use Rattle.sqlite.specs.State.{HasCleanDisk};
-ghost use Rattle.uu_rows.specs.Shows.{IsRefused};
+ghost use Rattle.uu_rows.specs.Shows.{IsQueryError};
 ghost use Rattle.uu_adopt.specs.Texts.{version_text};
 ghost use Rattle.uu_adopt.specs.Version.{HasLater, ShowsLater, IsLater};
 ghost use Rattle.uu_adopt.specs.Reading.{ReadsFrom, Tells};
@@ -56,7 +56,7 @@ fn found_later(rows: &[Row]) -> Result<bool, Error>
 /// because the other tables of a later version may differ.
 pub(crate) fn names_later<S: Alter>(conn: &mut Connection<S>) -> Result<bool, Error>
     ensures reads { (v : Version) → ReadsFrom S.Store v (λ trees later. Tells later (IsLater trees) (¬ IsLater trees)) conn.old conn.new result }
-    ensures refused { HasCleanDisk (state S.Store conn.new) → IfErr result (IsRefused version_text [] (state S.Store conn.old) (state S.Store conn.new)) }
+    ensures refused { HasCleanDisk (state S.Store conn.new) → IfErr result (IsQueryError version_text [] (state S.Store conn.old) (state S.Store conn.new)) }
 {
     let rows = ask(conn, "SELECT version FROM spool WHERE id = 1")?;
     found_later(&rows)

@@ -15,7 +15,7 @@ use Rattle.uu_core.specs.WellFormed.{HasWords}
 use Rattle.uu_core.specs.declared.custody.Taken.{Taken}
 use Rattle.uu_core.specs.declared.job.Kind.{Kind}
 use Rattle.uu_core.specs.declared.job.Kind.TheVariants.{Send, Request, Execute}
-use Rattle.uu_bundle.specs.Bundles.{AreTaken, IsBundle, IsGiven, answer_text, answered, bundle_text, front_text, has_room, is_short, is_within_limits, jobs_with_room, most_bundle, most_told, packed, records_text, takes_job, told_of, told_records, told_with_room, with_jobs, with_refused, with_told}
+use Rattle.uu_bundle.specs.Bundles.{AreTaken, IsBundle, IsGiven, answer_front_text, answer_bundle, bundle_text, front_text, has_room, is_short, is_within_limits, jobs_with_room, most_bundle, most_told, packed_bundle, records_text, takes_job, told_of, told_records, told_with_room, text_with_jobs, text_with_refused, text_with_told}
 use Rattle.uu_bundle.specs.Laws.{IsLongestFront}
 use Rattle.uu_bundle.specs.Marks.{mark_of}
 use Rattle.uu_bundle.specs.Texts.{IsHeading, IsParcel, IsRecord, IsRefused, end_text, grade_text, heading_text, heading_words, record_text, spaced_words, summed_text}
@@ -73,14 +73,14 @@ heading_sized heading is =
 record Front (text : List ℕ) (taken shown : List Taken) : Type 0 where
   others : List Taken
   is_front : taken ≡ shown ++ others
-  fits : length text ≤ most_told → length (with_told text shown) ≤ most_told
-  longest : (next : Taken) (more : List Taken) → others ≡ next ∷ more → most_told < length (with_told (with_told text shown) (next ∷ []))
+  fits : length text ≤ most_told → length (text_with_told text shown) ≤ most_told
+  longest : (next : Taken) (more : List Taken) → others ≡ next ∷ more → most_told < length (text_with_told (text_with_told text shown) (next ∷ []))
 
 -- one that it has, and others
-pub told_one : (text : List ℕ) (one : Taken) (taken : List Taken) → with_told text (one ∷ taken) ≡ with_told (text ++ record_text (Has (told_of one))) taken
+pub told_one : (text : List ℕ) (one : Taken) (taken : List Taken) → text_with_told text (one ∷ taken) ≡ text_with_told (text ++ record_text (Has (told_of one))) taken
 told_one text one taken = sym (append_assoc text (record_text (Has (told_of one))) (records_text (told_records taken)))
 
-told_alone : (text : List ℕ) (one : Taken) → with_told (with_told text []) (one ∷ []) ≡ text ++ record_text (Has (told_of one))
+told_alone : (text : List ℕ) (one : Taken) → text_with_told (text_with_told text []) (one ∷ []) ≡ text ++ record_text (Has (told_of one))
 told_alone text one =
     ap (λ t. t ++ (record_text (Has (told_of one)) ++ [])) (append-nil text) ∙ ap (λ r. text ++ r) (append-nil (record_text (Has (told_of one))))
 
@@ -99,7 +99,7 @@ front_told text (one ∷ taken) = by (nat_le (length (text ++ record_text (Has (
           others = rest.others;
           is_front = ap (λ ts. one ∷ ts) rest.is_front;
           fits = λ small. subst (λ t. length t ≤ most_told) regroup (rest.fits (leb-true (length more) most_told is));
-          longest = λ next behind at. subst (λ t. most_told < length (with_told t (next ∷ []))) regroup (rest.longest next behind at);
+          longest = λ next behind at. subst (λ t. most_told < length (text_with_told t (next ∷ []))) regroup (rest.longest next behind at);
         }
     by false is rest =
         record {
@@ -108,7 +108,7 @@ front_told text (one ∷ taken) = by (nat_le (length (text ++ record_text (Has (
           fits = λ small. subst (λ t. length t ≤ most_told) (sym (append-nil text)) small;
           longest = λ next behind at.
               let same : one ≡ next = cc in
-              subst (λ t. most_told < length (with_told (with_told text []) (t ∷ []))) same
+              subst (λ t. most_told < length (text_with_told (text_with_told text []) (t ∷ []))) same
               (subst (λ t. most_told < length t) (sym (told_alone text one)) (leb-false (length (text ++ record_text (Has (told_of one)))) most_told is));
         }
 
@@ -127,12 +127,12 @@ longest_front heading taken is =
 
 -- ---- the text
 
-pub jobs_written : (text : List ℕ) (jobs : List Parcel) → with_jobs text jobs ≡ text ++ records_text (map Job (jobs_with_room text jobs))
+pub jobs_written : (text : List ℕ) (jobs : List Parcel) → text_with_jobs text jobs ≡ text ++ records_text (map Job (jobs_with_room text jobs))
 jobs_written text [] = sym (append-nil text)
 jobs_written text (job ∷ jobs) = by (takes_job text job) (jobs_written (text ++ record_text (Job job)) jobs)
   where
-    by : (b : Bool) → with_jobs (text ++ record_text (Job job)) jobs ≡ (text ++ record_text (Job job)) ++ records_text (map Job (jobs_with_room (text ++ record_text (Job job)) jobs))
-        → cond b (with_jobs (text ++ record_text (Job job)) jobs) text ≡ text ++ records_text (map Job (cond b (job ∷ jobs_with_room (text ++ record_text (Job job)) jobs) []))
+    by : (b : Bool) → text_with_jobs (text ++ record_text (Job job)) jobs ≡ (text ++ record_text (Job job)) ++ records_text (map Job (jobs_with_room (text ++ record_text (Job job)) jobs))
+        → cond b (text_with_jobs (text ++ record_text (Job job)) jobs) text ≡ text ++ records_text (map Job (cond b (job ∷ jobs_with_room (text ++ record_text (Job job)) jobs) []))
     by true rest = rest ∙ append_assoc text (record_text (Job job)) (records_text (map Job (jobs_with_room (text ++ record_text (Job job)) jobs)))
     by false rest = sym (append-nil text)
 
@@ -141,13 +141,13 @@ told_mapped [] = refl
 told_mapped (one ∷ taken) = ap (λ rs. Has (told_of one) ∷ rs) (told_mapped taken)
 
 pub answers_are_text : (heading : Heading) (taken : List Taken) (refused : List Refused) (jobs : List Parcel)
-    → with_jobs (with_refused (answer_text heading taken) refused) jobs ++ end_text ≡ bundle_text (answered heading taken refused jobs)
+    → text_with_jobs (text_with_refused (answer_front_text heading taken) refused) jobs ++ end_text ≡ bundle_text (answer_bundle heading taken refused jobs)
 answers_are_text heading taken refused jobs =
-    let front = with_refused (answer_text heading taken) refused in
+    let front = text_with_refused (answer_front_text heading taken) refused in
     let inside = map Job (jobs_with_room front jobs) in
     ap (λ t. t ++ end_text) (jobs_written front jobs)
     ∙ append_assoc front (records_text inside) end_text
-    ∙ append_assoc (answer_text heading taken) (records_text (map No refused)) (records_text inside ++ end_text)
+    ∙ append_assoc (answer_front_text heading taken) (records_text (map No refused)) (records_text inside ++ end_text)
     ∙ append_assoc (heading_text heading) (records_text (told_records taken)) (records_text (map No refused) ++ (records_text inside ++ end_text))
     ∙ ap (λ t. heading_text heading ++ t)
     (ap (λ rs. records_text rs ++ (records_text (map No refused) ++ (records_text inside ++ end_text))) (told_mapped taken)
@@ -158,7 +158,7 @@ answers_are_text heading taken refused jobs =
         ap (λ t. records_text a ++ t) (sym (append_assoc (records_text b) (records_text d) end_text) ∙ ap (λ t. t ++ end_text) (sym (flat_map-append record_text b d)))
         ∙ sym (append_assoc (records_text a) (records_text (b ++ d)) end_text) ∙ ap (λ t. t ++ end_text) (sym (flat_map-append record_text a (b ++ d)))
 
-pub pieces_are_text : (heading : Heading) (taken : List Taken) (jobs : List Parcel) → with_jobs (front_text heading taken) jobs ++ end_text ≡ bundle_text (packed heading taken jobs)
+pub pieces_are_text : (heading : Heading) (taken : List Taken) (jobs : List Parcel) → text_with_jobs (front_text heading taken) jobs ++ end_text ≡ bundle_text (packed_bundle heading taken jobs)
 pieces_are_text heading taken jobs =
     let front = front_text heading taken in
     let shown = told_with_room (heading_text heading) taken in
@@ -176,26 +176,26 @@ pieces_are_text heading taken jobs =
 within : (text : List ℕ) (job : Parcel) → takes_job text job ≡ true → length text + length (record_text (Job job)) + 4 ≤ most_bundle
 within text job takes = leb-true (length text + length (record_text (Job job)) + 4) most_bundle (and_parts (is_within_limits job) (has_room text job) takes).1
 
-pub jobs_fit : (text : List ℕ) (jobs : List Parcel) → length text + 4 ≤ most_bundle → length (with_jobs text jobs) + 4 ≤ most_bundle
+pub jobs_fit : (text : List ℕ) (jobs : List Parcel) → length text + 4 ≤ most_bundle → length (text_with_jobs text jobs) + 4 ≤ most_bundle
 jobs_fit text [] fits = fits
 jobs_fit text (job ∷ jobs) fits = by (takes_job text job) refl (jobs_fit (text ++ record_text (Job job)) jobs)
   where
-    by : (b : Bool) → takes_job text job ≡ b → (length (text ++ record_text (Job job)) + 4 ≤ most_bundle → length (with_jobs (text ++ record_text (Job job)) jobs) + 4 ≤ most_bundle)
-        → length (cond b (with_jobs (text ++ record_text (Job job)) jobs) text) + 4 ≤ most_bundle
+    by : (b : Bool) → takes_job text job ≡ b → (length (text ++ record_text (Job job)) + 4 ≤ most_bundle → length (text_with_jobs (text ++ record_text (Job job)) jobs) + 4 ≤ most_bundle)
+        → length (cond b (text_with_jobs (text ++ record_text (Job job)) jobs) text) + 4 ≤ most_bundle
     by true is rest = let room = within text job is in rest (omega (arith, length-append text (record_text (Job job))))
     by false is rest = fits
 
-pub answers_fit : (heading : Heading) (taken : List Taken) (refused : List Refused) (jobs : List Parcel) → length (with_refused (answer_text heading taken) refused) + length end_text ≤ most_bundle
-    → length (bundle_text (answered heading taken refused jobs)) ≤ most_bundle
+pub answers_fit : (heading : Heading) (taken : List Taken) (refused : List Refused) (jobs : List Parcel) → length (text_with_refused (answer_front_text heading taken) refused) + length end_text ≤ most_bundle
+    → length (bundle_text (answer_bundle heading taken refused jobs)) ≤ most_bundle
 answers_fit heading taken refused jobs fits =
-    let front = with_refused (answer_text heading taken) refused in
-    let whole = ap length (sym (answers_are_text heading taken refused jobs)) ∙ length-append (with_jobs front jobs) end_text in
+    let front = text_with_refused (answer_front_text heading taken) refused in
+    let whole = ap length (sym (answers_are_text heading taken refused jobs)) ∙ length-append (text_with_jobs front jobs) end_text in
     let room = jobs_fit front jobs fits in omega arith
 
-pub pieces_fit : (heading : Heading) (taken : List Taken) (jobs : List Parcel) → IsHeading heading → length (bundle_text (packed heading taken jobs)) ≤ most_bundle
+pub pieces_fit : (heading : Heading) (taken : List Taken) (jobs : List Parcel) → IsHeading heading → length (bundle_text (packed_bundle heading taken jobs)) ≤ most_bundle
 pieces_fit heading taken jobs is =
     let front = front_text heading taken in
-    let whole = ap length (sym (pieces_are_text heading taken jobs)) ∙ length-append (with_jobs front jobs) end_text in
+    let whole = ap length (sym (pieces_are_text heading taken jobs)) ∙ length-append (text_with_jobs front jobs) end_text in
     let half = (longest_front heading taken is).fits in
     let room = jobs_fit front jobs (omega arith) in omega arith
 
@@ -271,9 +271,9 @@ front_taken front others are = record { numbers = all front others are.numbers; 
         omega arith
 
 pub answered_is_bundle : (heading : Heading) (taken : List Taken) (refused : List Refused) (jobs : List Parcel) → IsHeading heading → AreTaken taken → All IsRefused refused → All (IsGiven heading) jobs
-    → IsBundle (answered heading taken refused jobs)
+    → IsBundle (answer_bundle heading taken refused jobs)
 answered_is_bundle heading taken refused jobs good are all given =
-    let front = with_refused (answer_text heading taken) refused in
+    let front = text_with_refused (answer_front_text heading taken) refused in
     record {
       heading = good;
       records = All-append (IsRecord heading) (map Has (map told_of taken)) (map No refused ++ map Job (jobs_with_room front jobs)) (told_are heading taken are.numbers)
@@ -282,7 +282,7 @@ answered_is_bundle heading taken refused jobs good are all given =
       whole = refl;
     }
 
-pub packed_is_bundle : (heading : Heading) (taken : List Taken) (jobs : List Parcel) → IsHeading heading → AreTaken taken → All (IsGiven heading) jobs → IsBundle (packed heading taken jobs)
+pub packed_is_bundle : (heading : Heading) (taken : List Taken) (jobs : List Parcel) → IsHeading heading → AreTaken taken → All (IsGiven heading) jobs → IsBundle (packed_bundle heading taken jobs)
 packed_is_bundle heading taken jobs good are given =
     let shown = told_with_room (heading_text heading) taken in
     let front = front_told (heading_text heading) taken in

@@ -10,35 +10,35 @@ abbrev AreBytes : List ℕ → Type 0
 AreBytes [] = ⊤
 AreBytes (b ∷ bytes) = (b < 256) × AreBytes bytes
 
-bytes-append : (xs ys : List ℕ) → AreBytes xs → AreBytes ys → AreBytes (xs ++ ys)
-bytes-append [] ys of_xs of_ys = of_ys
-bytes-append (x ∷ xs) ys of_xs of_ys = (of_xs.0, bytes-append xs ys of_xs.1 of_ys)
+bytes_append : (xs ys : List ℕ) → AreBytes xs → AreBytes ys → AreBytes (xs ++ ys)
+bytes_append [] ys of_xs of_ys = of_ys
+bytes_append (x ∷ xs) ys of_xs of_ys = (of_xs.0, bytes_append xs ys of_xs.1 of_ys)
 
 bytes-take : (n : ℕ) (xs : List ℕ) → AreBytes xs → AreBytes (take n xs)
 bytes-take zero xs of_xs = tt
 bytes-take (suc n) [] of_xs = tt
 bytes-take (suc n) (x ∷ xs) of_xs = (of_xs.0, bytes-take n xs of_xs.1)
 
-bytes-at : (xs : List ℕ) (i : ℕ) → AreBytes xs → get_or xs i 0 < 256
-bytes-at [] i of_xs = omega arith
-bytes-at (x ∷ xs) zero of_xs = of_xs.0
-bytes-at (x ∷ xs) (suc i) of_xs = bytes-at xs i of_xs.1
+bytes_at : (xs : List ℕ) (i : ℕ) → AreBytes xs → get_or xs i 0 < 256
+bytes_at [] i of_xs = omega arith
+bytes_at (x ∷ xs) zero of_xs = of_xs.0
+bytes_at (x ∷ xs) (suc i) of_xs = bytes_at xs i of_xs.1
 
 word_bytes : (n : ℕ) → AreBytes (to_be_bytes w32 n)
 word_bytes n = (omega arith, (omega arith, (omega arith, (omega arith, tt))))
 
-digest-AreBytes : (h : List ℕ) (n : ℕ) → AreBytes (digest_bytes h n)
+digest_AreBytes : (h : List ℕ) (n : ℕ) → AreBytes (digest_bytes h n)
 unfolding digest_bytes
-digest-AreBytes h zero = tt
-digest-AreBytes h (suc n) = bytes-append (digest_bytes h n) (to_be_bytes w32 (slice_index h n)) (digest-AreBytes h n) (word_bytes (slice_index h n))
+digest_AreBytes h zero = tt
+digest_AreBytes h (suc n) = bytes_append (digest_bytes h n) (to_be_bytes w32 (slice_index h n)) (digest_AreBytes h n) (word_bytes (slice_index h n))
 
 sha256-AreBytes : (text : List ℕ) → AreBytes (sha256 text)
 unfolding sha256
-sha256-AreBytes text = digest-AreBytes (final_hash initial_hash_256 text) 8
+sha256-AreBytes text = digest_AreBytes (final_hash initial_hash_256 text) 8
 
 halved : (bytes : List ℕ) → AreBytes bytes → from_be_bytes w64 bytes / 2 < marks_end
 halved bytes are =
-    omega (arith, bytes-at bytes 0 are, bytes-at bytes 1 are, bytes-at bytes 2 are, bytes-at bytes 3 are, bytes-at bytes 4 are, bytes-at bytes 5 are, bytes-at bytes 6 are, bytes-at bytes 7 are)
+    omega (arith, bytes_at bytes 0 are, bytes_at bytes 1 are, bytes_at bytes 2 are, bytes_at bytes 3 are, bytes_at bytes 4 are, bytes_at bytes 5 are, bytes_at bytes 6 are, bytes_at bytes 7 are)
 
 pub mark_below : (text : List ℕ) → mark_of text < marks_end
 mark_below text = halved (take 8 (sha256 text)) (bytes-take 8 (sha256 text) (sha256-AreBytes text))

@@ -11,7 +11,7 @@ use Rattle.std.specs.Str.{bytes_eq}
 use Rattle.uu_names.specs.Name.{is_word_byte}
 use Rattle.uu_bundle.specs.Bundles.{IsBundle, bundle_text, heading_of, records_of, records_text}
 use Rattle.uu_bundle.specs.Internal.Forms.{are_plain}
-use Rattle.uu_bundle.specs.Laws.{IsCutOff, IsFrontOf, IsMarked, Marked, text_of}
+use Rattle.uu_bundle.specs.Laws.{IsCutOff, IsFrontOf, IsMarked, Marked, marked_text_of}
 use Rattle.uu_bundle.specs.Reading.{BeginsWithNoRecord, IsNoBundle, IsRead, jobs_in, line_behind, refused_in, stop_of, told_in}
 use Rattle.uu_bundle.specs.Texts.{IsRecord, end_text, heading_text, kind_words, line_text}
 use Rattle.uu_bundle.specs.declared.bundle.Bundle.{Bundle}
@@ -142,7 +142,7 @@ spool_plain job good = and_from (list_all is_word_byte job.spool) true (word_is_
 abbrev behind_spool : Marked → List ℕ
 behind_spool job = line_text (codes "job") (line_words job) ++ 10 ∷ job.bytes
 
-pub told_apart : (one other : Marked) → IsMarked one → IsMarked other → text_of one ≡ text_of other → one ≡ other
+pub told_apart : (one other : Marked) → IsMarked one → IsMarked other → marked_text_of one ≡ marked_text_of other → one ≡ other
 told_apart one other good fine is =
     let first = lines_cut (one.spool ∷ []) (other.spool ∷ []) (behind_spool one) (behind_spool other) (bare_from_plain (one.spool ∷ []) (spool_plain one good)) (bare_from_plain (other.spool ∷ []) (spool_plain other fine))
     (ap (λ t. 32 ∷ (t ++ 10 ∷ behind_spool one)) (append-nil one.spool) ∙ ap (λ t. 32 ∷ t) is ∙ ap (λ t. 32 ∷ (t ++ 10 ∷ behind_spool other)) (sym (append-nil other.spool))) in

@@ -6,7 +6,7 @@ use Rattle.std.specs.Prelude.{nat_le}
 use Rattle.uu_core.specs.State.{most_bytes}
 use Rattle.std.proofs.lemmas.Bool.Decides.{nat_tests}
 use Rattle.std.proofs.lemmas.Bool.{and_from, and_parts, and_right}
-use Rattle.uu_bundle.specs.Bundles.{has_room, is_short, is_within_limits, most_bundle, takes_job, with_job}
+use Rattle.uu_bundle.specs.Bundles.{has_room, is_short, is_within_limits, most_bundle, takes_job, text_with_job}
 use Rattle.uu_bundle.specs.Texts.{job_words, line_text, record_text, spaced_words}
 use Rattle.uu_bundle.specs.declared.bundle.Parcel.{Parcel}
 use Rattle.uu_bundle.specs.declared.bundle.Record.TheVariants.{Job}
@@ -87,10 +87,10 @@ pub some_room : (text : List ℕ) (job : Parcel) (line : List ℕ) → is_within
 some_room text job line within is fits = and_from (is_within_limits job) (has_room text job) within (room_is text job (length line + length job.bytes + 1) (size_of job line is) (omega arith))
 
 -- what is added, and that it is
-pub added_not : (text new : List ℕ) (job : Parcel) → takes_job text job ≡ false → new ≡ text → (false ≡ takes_job text job) × (new ≡ with_job text job)
+pub added_not : (text new : List ℕ) (job : Parcel) → takes_job text job ≡ false → new ≡ text → (false ≡ takes_job text job) × (new ≡ text_with_job text job)
 added_not text new job is same = (sym is, same ∙ ap (λ b. cond b (text ++ record_text (Job job)) text) (sym is))
 
-pub added_there : (text new : List ℕ) (job : Parcel) → takes_job text job ≡ true → new ≡ text ++ record_text (Job job) → (true ≡ takes_job text job) × (new ≡ with_job text job)
+pub added_there : (text new : List ℕ) (job : Parcel) → takes_job text job ≡ true → new ≡ text ++ record_text (Job job) → (true ≡ takes_job text job) × (new ≡ text_with_job text job)
 added_there text new job is same = (sym is, same ∙ ap (λ b. cond b (text ++ record_text (Job job)) text) (sym is))
 
 pub appended : (text line bytes whole : List ℕ) → whole ≡ (line ++ bytes) ++ 10 ∷ [] → ((text ++ line) ++ bytes) ++ 10 ∷ [] ≡ text ++ whole

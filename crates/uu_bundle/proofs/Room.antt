@@ -18,7 +18,7 @@ use Rattle.uu_core.specs.declared.job.Kind.{Kind}
 use Rattle.uu_core.specs.declared.job.Kind.TheVariants.{Send, Request, Execute}
 use Rattle.uu_core.specs.declared.refusal.Refusal.{Refusal}
 use Rattle.uu_core.specs.declared.refusal.Refusal.TheVariants.{NoSystem, NoJob, NotYours, JobTwice, OtherSystem, Busy, TooLarge, NumbersOut, BadEntry, Stale, Differs}
-use Rattle.uu_bundle.specs.Bundles.{answer_text, heading_of, most_bundle, records_text, told_of, told_records, with_refused}
+use Rattle.uu_bundle.specs.Bundles.{answer_front_text, heading_of, most_bundle, records_text, told_of, told_records, text_with_refused}
 use Rattle.uu_bundle.specs.Laws.{AreAnswers, is_row_of, refused_for}
 use Rattle.uu_bundle.specs.Reading.{IsRead, jobs_in}
 use Rattle.uu_bundle.specs.Texts.{IsHeading, IsParcel, IsRecord, end_text, grade_text, heading_text, job_words, kind_words, line_text, marked_text, record_text, refused_words, spaced_words, told_words}
@@ -301,7 +301,7 @@ room_of heading (next ∷ records) all = by next (All-head (IsRecord heading) ne
         }
 
 pub answers_small : (heading : Heading) (text : List ℕ) (asked : Bundle) (taken : List Taken) (refused : List Refused) → IsHeading heading → IsRead text asked → length text ≤ most_bundle → AreAnswers asked.jobs taken refused
-    → length (with_refused (answer_text heading taken) refused) + length end_text ≤ most_bundle
+    → length (text_with_refused (answer_front_text heading taken) refused) + length end_text ≤ most_bundle
 answers_small heading text asked taken refused good is fits answers =
     let room = room_of (heading_of asked) is.records is.each in
     let jobs : asked.jobs ≡ jobs_in is.records = is.jobs in
@@ -310,7 +310,7 @@ answers_small heading text asked taken refused good is fits answers =
     subst (λ js. covered asked.jobs taken + reasons_room answers.reason asked.jobs ≤ total js) jobs (all_answers answers.reason taken asked.jobs answers.others) in
     let said : length (records_text (map No refused)) ≤ reasons_room answers.reason asked.jobs =
     subst (λ rs. length (records_text (map No rs)) ≤ reasons_room answers.reason asked.jobs) (sym answers.refused_are) (refused_text_sized answers.reason asked.jobs) in
-    let whole = length-append (answer_text heading taken) (records_text (map No refused)) in
+    let whole = length-append (answer_front_text heading taken) (records_text (map No refused)) in
     let front = length-append (heading_text heading) (records_text (told_records taken)) in
     let size = ap length is.is_text ∙ length-append (heading_text (heading_of asked)) (records_text is.records ++ is.rest) in
     let behind = length-append (records_text is.records) is.rest in

@@ -65,8 +65,8 @@ abbrev pub told_records : List Taken → List Record
 told_records taken = map (λ one. Has (told_of one)) taken
 
 -- the text and the records of what was taken
-abbrev pub with_told : List ℕ → List Taken → List ℕ
-with_told text taken = text ++ records_text (told_records taken)
+abbrev pub text_with_told : List ℕ → List Taken → List ℕ
+text_with_told text taken = text ++ records_text (told_records taken)
 
 -- as many of the taken jobs, from the first on, as the text has room for in half of a bundle
 abbrev pub told_with_room : List ℕ → List Taken → List Taken
@@ -77,11 +77,11 @@ told_with_room text (one ∷ taken) =
 
 -- the beginning of a bundle that answers none: its first line, and as many of the taken jobs as fit
 abbrev pub front_text : Heading → List Taken → List ℕ
-front_text heading taken = with_told (heading_text heading) (told_with_room (heading_text heading) taken)
+front_text heading taken = text_with_told (heading_text heading) (told_with_room (heading_text heading) taken)
 
 -- the beginning of a bundle that answers another: its first line, and all of these
-abbrev pub answer_text : Heading → List Taken → List ℕ
-answer_text heading taken = with_told (heading_text heading) taken
+abbrev pub answer_front_text : Heading → List Taken → List ℕ
+answer_front_text heading taken = text_with_told (heading_text heading) taken
 
 -- what was taken, as a spool keeps it for one neighbour
 pub record AreTaken (taken : List Taken) : Type 0 where
@@ -91,8 +91,8 @@ pub record AreTaken (taken : List Taken) : Type 0 where
 -- ---- the receiver's jobs that the sender won't take
 
 -- the text and the records of what isn't taken
-abbrev pub with_refused : List ℕ → List Refused → List ℕ
-with_refused text refused = text ++ records_text (map No refused)
+abbrev pub text_with_refused : List ℕ → List Refused → List ℕ
+text_with_refused text refused = text ++ records_text (map No refused)
 
 -- ---- its own jobs
 
@@ -125,8 +125,8 @@ has_room text job = nat_le (length text + length (record_text (Job job)) + lengt
 abbrev pub takes_job : List ℕ → Parcel → Bool
 takes_job text job = is_within_limits job && has_room text job
 
-abbrev pub with_job : List ℕ → Parcel → List ℕ
-with_job text job = if takes_job text job then text ++ record_text (Job job) else text
+abbrev pub text_with_job : List ℕ → Parcel → List ℕ
+text_with_job text job = if takes_job text job then text ++ record_text (Job job) else text
 
 -- as many of these jobs, from the first on, as fit into the text
 abbrev pub jobs_with_room : List ℕ → List Parcel → List Parcel
@@ -135,9 +135,9 @@ jobs_with_room text (job ∷ jobs) =
     if takes_job text job then job ∷ jobs_with_room (text ++ record_text (Job job)) jobs else []
 
 -- the text with them
-abbrev pub with_jobs : List ℕ → List Parcel → List ℕ
-with_jobs text [] = text
-with_jobs text (job ∷ jobs) = if takes_job text job then with_jobs (text ++ record_text (Job job)) jobs else text
+abbrev pub text_with_jobs : List ℕ → List Parcel → List ℕ
+text_with_jobs text [] = text
+text_with_jobs text (job ∷ jobs) = if takes_job text job then text_with_jobs (text ++ record_text (Job job)) jobs else text
 
 -- a job whose fields are within the limits of their types, with its mark
 pub record IsGiven (heading : Heading) (job : Parcel) : Type 0 where
@@ -151,8 +151,8 @@ pub record IsGiven (heading : Heading) (job : Parcel) : Type 0 where
 
 -- an answer: all that it has of the jobs that the other bundle asks about, all that it won't take,
 -- and as many waiting jobs as there is room for
-abbrev pub answered : Heading → List Taken → List Refused → List Parcel → Bundle
-answered heading taken refused jobs =
+abbrev pub answer_bundle : Heading → List Taken → List Refused → List Parcel → Bundle
+answer_bundle heading taken refused jobs =
     record {
       from = heading.from;
       to = heading.to;
@@ -161,13 +161,13 @@ answered heading taken refused jobs =
       grade = heading.grade;
       has = map told_of taken;
       refused = refused;
-      jobs = jobs_with_room (with_refused (answer_text heading taken) refused) jobs;
+      jobs = jobs_with_room (text_with_refused (answer_front_text heading taken) refused) jobs;
       stopped = None;
     }
 
 -- what there is to say to a neighbour that asked nothing
-abbrev pub packed : Heading → List Taken → List Parcel → Bundle
-packed heading taken jobs =
+abbrev pub packed_bundle : Heading → List Taken → List Parcel → Bundle
+packed_bundle heading taken jobs =
     record {
       from = heading.from;
       to = heading.to;

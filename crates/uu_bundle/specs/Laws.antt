@@ -6,7 +6,7 @@ use Rattle.uu_core.specs.State.{IsKind}
 use Rattle.uu_core.specs.declared.job.Kind.{Kind}
 use Rattle.uu_core.specs.declared.refusal.Refusal.{Refusal}
 use Rattle.uu_core.specs.declared.custody.Taken.{Taken}
-use Rattle.uu_bundle.specs.Bundles.{heading_of, most_told, records_of, with_told}
+use Rattle.uu_bundle.specs.Bundles.{heading_of, most_told, records_of, text_with_told}
 use Rattle.uu_bundle.specs.Texts.{heading_text, marked_text}
 use Rattle.uu_bundle.specs.declared.bundle.Bundle.{Bundle}
 use Rattle.uu_bundle.specs.declared.bundle.Heading.{Heading}
@@ -34,9 +34,9 @@ pub record IsLongestFront (heading : Heading) (taken : List Taken) (text : List 
   pub first : List Taken
   pub others : List Taken
   pub is_front : taken ≡ first ++ others
-  pub is_text : text ≡ with_told (heading_text heading) first
+  pub is_text : text ≡ text_with_told (heading_text heading) first
   pub fits : length text ≤ most_told
-  pub longest : (next : Taken) (more : List Taken) → others ≡ next ∷ more → most_told < length (with_told text (next ∷ []))
+  pub longest : (next : Taken) (more : List Taken) → others ≡ next ∷ more → most_told < length (text_with_told text (next ∷ []))
 
 -- the part of a job that its mark covers
 pub record Marked : Type 0 where
@@ -48,8 +48,8 @@ pub record Marked : Type 0 where
   pub kind : Kind
   pub bytes : List ℕ
 
-abbrev pub text_of : Marked → List ℕ
-text_of job = marked_text job.from job.to job.spool job.number job.user job.kind job.bytes
+abbrev pub marked_text_of : Marked → List ℕ
+marked_text_of job = marked_text job.from job.to job.spool job.number job.user job.kind job.bytes
 
 pub record IsMarked (job : Marked) : Type 0 where
   pub from : IsTrue (is_site_name job.from)

@@ -1,7 +1,7 @@
 //! Laws of the definitions that the contracts cite.
 ghost use Rattle.std.specs.Prelude.{◌≡◌, ◌+◌, ◌<◌, ◌≤◌, ◌++◌, ◌↔◌, ℕ, List, All, length};
-ghost use Rattle.uu_bundle.specs.Bundles.{AreTaken, IsBundle, IsGiven, answer_text, answered, bundle_text, front_text, heading_of, most_bundle, packed, with_jobs, with_refused};
-ghost use Rattle.uu_bundle.specs.Laws.{AreAnswers, IsCutOff, IsFrontOf, IsLongestFront, IsMarked, Marked, text_of};
+ghost use Rattle.uu_bundle.specs.Bundles.{AreTaken, IsBundle, IsGiven, answer_front_text, answer_bundle, bundle_text, front_text, heading_of, most_bundle, packed_bundle, text_with_jobs, text_with_refused};
+ghost use Rattle.uu_bundle.specs.Laws.{AreAnswers, IsCutOff, IsFrontOf, IsLongestFront, IsMarked, Marked, marked_text_of};
 ghost use Rattle.uu_bundle.specs.Reading.{IsNoBundle, IsRead};
 ghost use Rattle.uu_bundle.specs.Texts.{IsHeading, IsRefused, end_text, heading_text};
 ghost use Rattle.uu_bundle.specs.declared.bundle.Bundle.{Bundle};
@@ -30,7 +30,7 @@ pub fn cut_bundles_are_fronts()
 /// The text from which a job's mark is made determines all that it says: no two jobs have the same
 /// text. (That no two texts have the same mark rests on the digest, and no law says it.)
 pub fn texts_tell_apart()
-    ensures { (job other : Marked) → IsMarked job → IsMarked other → text_of job ≡ text_of other → job ≡ other }
+    ensures { (job other : Marked) → IsMarked job → IsMarked other → marked_text_of job ≡ marked_text_of other → job ≡ other }
 {}
 
 /// Call `begin_bundle`, `add_job` for one job after the other until one doesn't fit, and
@@ -38,10 +38,10 @@ pub fn texts_tell_apart()
 /// on, as fit in half of a bundle. It has as many of the waiting jobs, from the first on, as there
 /// is room for. It is never longer than a bundle may be.
 pub fn pieces_make_a_bundle()
-    ensures text { (heading : Heading) (taken : List Taken) (jobs : List Parcel) → with_jobs (front_text heading taken) jobs ++ end_text ≡ bundle_text (packed heading taken jobs) }
+    ensures text { (heading : Heading) (taken : List Taken) (jobs : List Parcel) → text_with_jobs (front_text heading taken) jobs ++ end_text ≡ bundle_text (packed_bundle heading taken jobs) }
     ensures longest { (heading : Heading) (taken : List Taken) → IsHeading heading → IsLongestFront heading taken (front_text heading taken) }
-    ensures sound { (heading : Heading) (taken : List Taken) (jobs : List Parcel) → IsHeading heading → AreTaken taken → All (IsGiven heading) jobs → IsBundle (packed heading taken jobs) }
-    ensures room { (heading : Heading) (taken : List Taken) (jobs : List Parcel) → IsHeading heading → length (bundle_text (packed heading taken jobs)) ≤ most_bundle }
+    ensures sound { (heading : Heading) (taken : List Taken) (jobs : List Parcel) → IsHeading heading → AreTaken taken → All (IsGiven heading) jobs → IsBundle (packed_bundle heading taken jobs) }
+    ensures room { (heading : Heading) (taken : List Taken) (jobs : List Parcel) → IsHeading heading → length (bundle_text (packed_bundle heading taken jobs)) ≤ most_bundle }
 {}
 
 /// Call `begin_answer`, `add_refused` for each job that isn't taken, `add_job` for one job after
@@ -49,13 +49,13 @@ pub fn pieces_make_a_bundle()
 /// taken jobs and all refused jobs. It is not longer than a bundle may be, if the part with these
 /// isn't.
 pub fn pieces_make_an_answer()
-    ensures text { (heading : Heading) (taken : List Taken) (refused : List Refused) (jobs : List Parcel) → with_jobs (with_refused (answer_text heading taken) refused) jobs ++ end_text ≡ bundle_text (answered heading taken refused jobs) }
-    ensures sound { (heading : Heading) (taken : List Taken) (refused : List Refused) (jobs : List Parcel) → IsHeading heading → AreTaken taken → All IsRefused refused → All (IsGiven heading) jobs → IsBundle (answered heading taken refused jobs) }
-    ensures room { (heading : Heading) (taken : List Taken) (refused : List Refused) (jobs : List Parcel) → length (with_refused (answer_text heading taken) refused) + length end_text ≤ most_bundle → length (bundle_text (answered heading taken refused jobs)) ≤ most_bundle }
+    ensures text { (heading : Heading) (taken : List Taken) (refused : List Refused) (jobs : List Parcel) → text_with_jobs (text_with_refused (answer_front_text heading taken) refused) jobs ++ end_text ≡ bundle_text (answer_bundle heading taken refused jobs) }
+    ensures sound { (heading : Heading) (taken : List Taken) (refused : List Refused) (jobs : List Parcel) → IsHeading heading → AreTaken taken → All IsRefused refused → All (IsGiven heading) jobs → IsBundle (answer_bundle heading taken refused jobs) }
+    ensures room { (heading : Heading) (taken : List Taken) (refused : List Refused) (jobs : List Parcel) → length (text_with_refused (answer_front_text heading taken) refused) + length end_text ≤ most_bundle → length (bundle_text (answer_bundle heading taken refused jobs)) ≤ most_bundle }
 {}
 
 /// The answer to a bundle of at most 4,194,304 bytes has room for its last line. The reason is that
 /// each line that says that a job is taken, or isn't, is shorter than the job's record.
 pub fn answers_have_room()
-    ensures { (heading : Heading) (text : List ℕ) (asked : Bundle) (taken : List Taken) (refused : List Refused) → IsHeading heading → IsRead text asked → length text ≤ most_bundle → AreAnswers asked.jobs taken refused → length (with_refused (answer_text heading taken) refused) + length end_text ≤ most_bundle }
+    ensures { (heading : Heading) (text : List ℕ) (asked : Bundle) (taken : List Taken) (refused : List Refused) → IsHeading heading → IsRead text asked → length text ≤ most_bundle → AreAnswers asked.jobs taken refused → length (text_with_refused (answer_front_text heading taken) refused) + length end_text ≤ most_bundle }
 {}

@@ -1,6 +1,6 @@
 // Bundles, written piece by piece.
 ghost use Rattle.std.specs.Prelude.{◌≡◌, ◌++◌, ◌∷◌, [], ℕ, List, IfOk, OnOk, codes, length, map};
-ghost use Rattle.uu_bundle.specs.Bundles.{answer_text, front_text, is_within_limits, parcel_of, takes_job, told_of, told_with_room, with_job, with_refused, with_told};
+ghost use Rattle.uu_bundle.specs.Bundles.{answer_front_text, front_text, is_within_limits, parcel_of, takes_job, told_of, told_with_room, text_with_job, text_with_refused, text_with_told};
 ghost use Rattle.uu_bundle.specs.Texts.{end_text, job_words, line_text, record_text};
 ghost use Rattle.uu_bundle.specs.declared.bundle.Record.TheVariants.{Has};
 
@@ -52,7 +52,7 @@ pub fn begin_answer(
     grade: Grade,
     has: &[Taken],
 ) -> Result<Vec<u8>, AllocError>
-    ensures { IfOk result (λ text. text.items ≡ answer_text (record { from = from.now; to = to.now; spool = spool.now; below = below; grade = grade }) has.now) }
+    ensures { IfOk result (λ text. text.items ≡ answer_front_text (record { from = from.now; to = to.now; spool = spool.now; below = below; grade = grade }) has.now) }
 {
     let mut text = heading_text(alloc, from, to, spool, below, grade)?;
     append_all_told(alloc, &mut text, has)?;
@@ -60,7 +60,7 @@ pub fn begin_answer(
 }
 
 fn append_all_told(alloc: Global, text: &mut Vec<u8>, has: &[Taken]) -> Result<(), AllocError>
-    ensures { OnOk result (text.new.items ≡ with_told text.old.items has.now) }
+    ensures { OnOk result (text.new.items ≡ text_with_told text.old.items has.now) }
 {
     for taken in has {
         let line = told_line(alloc, taken)?;
@@ -71,7 +71,7 @@ fn append_all_told(alloc: Global, text: &mut Vec<u8>, has: &[Taken]) -> Result<(
 
 // Appends as many of them, from the first on, as fit in half of a bundle.
 fn append_first_told(alloc: Global, text: &mut Vec<u8>, has: &[Taken]) -> Result<(), AllocError>
-    ensures { OnOk result (text.new.items ≡ with_told text.old.items (told_with_room text.old.items has.now)) }
+    ensures { OnOk result (text.new.items ≡ text_with_told text.old.items (told_with_room text.old.items has.now)) }
 {
     for taken in has {
         let line = told_line(alloc, taken)?;
@@ -105,7 +105,7 @@ pub fn add_refused(
     mark: Mark,
     reason: Refusal,
 ) -> Result<(), AllocError>
-    ensures { OnOk result (text.new.items ≡ with_refused text.old.items (record { number = number; mark = mark; reason = reason } ∷ [])) }
+    ensures { OnOk result (text.new.items ≡ text_with_refused text.old.items (record { number = number; mark = mark; reason = reason } ∷ [])) }
 {
     let number = number_text(alloc, number as u64)?;
     let mark = number_text(alloc, mark.number())?;
@@ -166,7 +166,7 @@ pub fn add_job(
     text: &mut Vec<u8>,
 ) -> Result<bool, AllocError>
     ensures added { IfOk result (λ added. added ≡ takes_job text.old.items (parcel_of from.now to.now spool.now head.now bytes.now)) }
-    ensures text { OnOk result (text.new.items ≡ with_job text.old.items (parcel_of from.now to.now spool.now head.now bytes.now)) }
+    ensures text { OnOk result (text.new.items ≡ text_with_job text.old.items (parcel_of from.now to.now spool.now head.now bytes.now)) }
 {
     if !is_within_limits(head, bytes) {
         return Ok(false);

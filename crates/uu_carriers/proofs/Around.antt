@@ -19,7 +19,7 @@ use Rattle.uu_bundle.specs.declared.bundle.Record.TheVariants.{Has, No, Job}
 use Rattle.uu_bundle.specs.declared.bundle.Told.{Told}
 use Rattle.uu_line.specs.declared.task.Task.TheVariants as task
 use Rattle.uu_settings.specs.declared.settings.Settings.{Settings}
-use Rattle.uu_request.specs.Carried.{AreUnpacked, bundle_crossing, is_unpacked, packed, said_of, told}
+use Rattle.uu_request.specs.Carried.{AreUnpacked, bundle_crossing, is_unpacked, packed_job, said_of, told_job}
 use Rattle.uu_request.specs.Requests.{TaskAsks}
 use Rattle.uu_request.specs.Unpacking.{spool_of}
 use Rattle.uu_request.specs.declared.request.Request.TheVariants.{Settling as Settles_by, Unpacking as Unpacks_by}
@@ -40,7 +40,7 @@ mapped f (y ∷ xs) x h = elim (first_or_later y x xs h) [
 -- ---- what was read
 
 -- the numbers in it
-same_numbers : (has : List Told) → numbers_told has ≡ map (λ one. one.number) (map told has)
+same_numbers : (has : List Told) → numbers_told has ≡ map (λ one. one.number) (map told_job has)
 same_numbers [] = refl
 same_numbers (one ∷ has) = ap (λ l. one.number ∷ l) (same_numbers has)
 
@@ -62,7 +62,7 @@ map_append f (x ∷ xs) ys = ap (λ l. f x ∷ l) (map_append f xs ys)
 
 -- a bundle that tells the first of what another has, and nothing else
 abbrev cut_to : Bundle → List Told → Said
-cut_to whole has = record { from = whole.from; to = whole.to; below = whole.below; grade = whole.grade; has = map told has; refused = []; jobs = [] }
+cut_to whole has = record { from = whole.from; to = whole.to; below = whole.below; grade = whole.grade; has = map told_job has; refused = []; jobs = [] }
 
 is_cut : (whole : Bundle) (has : List Told) → IsFront has whole.has → IsFrontOf (said_of whole) (cut_to whole has)
 is_cut whole has front = record {
@@ -70,9 +70,9 @@ is_cut whole has front = record {
   to = refl;
   below = refl;
   grade = refl;
-  has = record { rest = map told front.rest; is = ap (map told) front.is ∙ map_append told has front.rest };
+  has = record { rest = map told_job front.rest; is = ap (map told_job) front.is ∙ map_append told_job has front.rest };
   refused = record { rest = (said_of whole).refused; is = refl };
-  jobs = record { rest = map packed whole.jobs; is = refl };
+  jobs = record { rest = map packed_job whole.jobs; is = refl };
 }
 
 -- it removes jobs by one command, or there is none
@@ -88,11 +88,11 @@ record Knows (packs_so_far : List Bundle) (said : List Said) : Type 0 where
 module _ (places : Places) (unpacked : Unpacks) (settles : Settles) where
   module _ (so_far : List Bundle) (said : List Said) (knows : Knows so_far said) where
     of-line : (site : ℕ) (command : Command) → IsOfLine places so_far site command → IsOfLineAt (chart_of places) places.name said site command
-    of-line site command (unpack settings at input user from onward it, (own, (whole, inside, cut, is), asks), there) = by-bundle (unpacked whole input cut settings at user from onward it (knows.good whole inside) is asks)
+    of-line site command (unpack settings at input user from onward it, (own, (whole, inside, cut, is), asks), there) = by_bundle (unpacked whole input cut settings at user from onward it (knows.good whole inside) is asks)
       where
-        by-bundle : (whole.from ≡ from) × (whole.to ≡ settings.name) × ((bundle : Said) × IsFrontOf (said_of whole) bundle × AreUnpacked (bundle_crossing whole.from whole.to whole.spool) bundle (commands_in it.bundle))
+        by_bundle : (whole.from ≡ from) × (whole.to ≡ settings.name) × ((bundle : Said) × IsFrontOf (said_of whole) bundle × AreUnpacked (bundle_crossing whole.from whole.to whole.spool) bundle (commands_in it.bundle))
             → IsOfLineAt (chart_of places) places.name said site command
-        by-bundle (from_is, to_is, (bundle, front, are)) = (
+        by_bundle (from_is, to_is, (bundle, front, are)) = (
           unpacks bundle are.make,
           ((said_of whole, knows.there whole inside, front), front.to ∙ to_is ∙ own, makes),
           subst (λ l. Contains l command) are.commands_are there,
@@ -103,11 +103,11 @@ module _ (places : Places) (unpacked : Unpacks) (settles : Settles) where
                 subst (λ f. All (λ (one : Packed). is_unpacked f (places.name (places.ends line)) one.parcel (are.make one) ≡ true) bundle.jobs) (sym front.from ∙ sym named)
                 (subst (λ t. All (λ (one : Packed). is_unpacked whole.from t one.parcel (are.make one) ≡ true) bundle.jobs) (to_is ∙ own ∙ ap places.name (sym here)) are.made)
     of-line site command (settle settings at input user from spool it commands, (own, (whole, inside, cut, is), asks, (numbers, are, all)), there) =
-        by-told (settles whole input cut settings at user from spool it (knows.good whole inside) is asks)
+        by_told (settles whole input cut settings at user from spool it (knows.good whole inside) is asks)
       where
-        by-told : (whole.from ≡ from) × (whole.to ≡ settings.name) × (it.system ≡ from) × (it.spool ≡ spool_of spool) × IsFront it.has whole.has × IsFront it.refused whole.refused
+        by_told : (whole.from ≡ from) × (whole.to ≡ settings.name) × (it.system ≡ from) × (it.spool ≡ spool_of spool) × IsFront it.has whole.has × IsFront it.refused whole.refused
             → IsOfLineAt (chart_of places) places.name said site command
-        by-told (from_is, to_is, system_is, spool_is, front, refused) = (
+        by_told (from_is, to_is, system_is, spool_is, front, refused) = (
           settles_with (cut_to whole it.has) numbers,
           (
             (said_of whole, knows.there whole inside, is_cut whole it.has front),
@@ -120,16 +120,16 @@ module _ (places : Places) (unpacked : Unpacks) (settles : Settles) where
 
   -- the marks of what a site packs are those of each line that begins there
   marked : (site : ℕ) (bundle : Bundle) → IsBundle bundle → bundle.from ≡ places.name site → bundle.spool ≡ places.word site → (line : ℕ) → places.begins line ≡ site → IsMarked ((chart_of places).crossing line) (said_of bundle)
-  marked site bundle good from word line here to = all_from (λ (one : Packed). one.mark ≡ ((chart_of places).crossing line).mark one.parcel) (map packed bundle.jobs) each
+  marked site bundle good from word line here to = all_from (λ (one : Packed). one.mark ≡ ((chart_of places).crossing line).mark one.parcel) (map packed_job bundle.jobs) each
     where
-      each : (one : Packed) → Contains (map packed bundle.jobs) one → one.mark ≡ ((chart_of places).crossing line).mark one.parcel
+      each : (one : Packed) → Contains (map packed_job bundle.jobs) one → one.mark ≡ ((chart_of places).crossing line).mark one.parcel
       each one there =
-          let job = from_map packed bundle.jobs one there in
+          let job = from_map packed_job bundle.jobs one there in
           let is : IsParcel (heading_of bundle) job.0 = All-contains (IsRecord (heading_of bundle)) (records_of bundle) (Job job.0) good.records (Contains-append_right (map Has bundle.has) (map No bundle.refused ++ map Job bundle.jobs) (Job job.0) (Contains-append_right (map No bundle.refused) (map Job bundle.jobs) (Job job.0) (mapped Job bundle.jobs job.0 job.1))) in
-          let own : (bundle_crossing bundle.from bundle.to bundle.spool).mark (packed job.0).parcel ≡ ((chart_of places).crossing line).mark (packed job.0).parcel =
-          ap (λ f. (bundle_crossing f bundle.to bundle.spool).mark (packed job.0).parcel) (from ∙ ap places.name (sym here))
-          ∙ ap (λ t. (bundle_crossing (places.name (places.begins line)) t bundle.spool).mark (packed job.0).parcel) to
-          ∙ ap (λ w. (bundle_crossing (places.name (places.begins line)) (places.name (places.ends line)) w).mark (packed job.0).parcel) (word ∙ ap places.word (sym here)) in
+          let own : (bundle_crossing bundle.from bundle.to bundle.spool).mark (packed_job job.0).parcel ≡ ((chart_of places).crossing line).mark (packed_job job.0).parcel =
+          ap (λ f. (bundle_crossing f bundle.to bundle.spool).mark (packed_job job.0).parcel) (from ∙ ap places.name (sym here))
+          ∙ ap (λ t. (bundle_crossing (places.name (places.begins line)) t bundle.spool).mark (packed_job job.0).parcel) to
+          ∙ ap (λ w. (bundle_crossing (places.name (places.begins line)) (places.name (places.ends line)) w).mark (packed_job job.0).parcel) (word ∙ ap places.word (sym here)) in
           subst (λ (p : Packed). p.mark ≡ ((chart_of places).crossing line).mark p.parcel) job.2 (is.mark ∙ own)
 
   unmoved : (so_far : List Bundle) (said : List Said) → Knows so_far said → Knows (so_far ++ []) (said ++ [])

@@ -11,7 +11,7 @@ use Rattle.uu_line.specs.Lines.{MeansLine}
 use Rattle.uu_line.specs.declared.line.CommandLine.{CommandLine}
 use Rattle.uu_line.specs.declared.task.Task.{Task}
 use Rattle.uu_line.specs.declared.task.Task.TheVariants as task
-use Rattle.uuspool.specs.ServedLines.{Line}
+use Rattle.uuspool.specs.ServedLines.{ServedLine}
 use Rattle.uu_carriers.specs.Texts.{Places}
 use Rattle.uu_carriers.specs.Lines.{Step, serves, ends, runs_at, AreSites, AreWithin, AskForBundle, IsFrontOfOne, MayBeTyped, MayBeServed, GoInLines, asks_for_bundle, HaveSameJobs, HaveSameTold, IsReadAsOne}
 use Rattle.uu_carriers.proofs.Words.{none_at}
@@ -49,7 +49,7 @@ are_sites = record { apart = no_two; names = names; words = λ site l. refl; lin
     ends_apart false same = omega (arith, same)
 
 -- a front is read as it is
-as_it_is : (HaveSame : Bundle → Bundle → Type 0) → ((bundle : Bundle) → HaveSame bundle bundle) → (lines : List Line) (text : List ℕ) → IsFrontOfOne lines text → IsReadAsOne HaveSame lines text
+as_it_is : (HaveSame : Bundle → Bundle → Type 0) → ((bundle : Bundle) → HaveSame bundle bundle) → (lines : List ServedLine) (text : List ℕ) → IsFrontOfOne lines text → IsReadAsOne HaveSame lines text
 as_it_is HaveSame itself lines text one bundle read = (text, one, bundle, read, itself bundle)
 
 same_jobs : (bundle : Bundle) → HaveSameJobs bundle bundle
@@ -59,16 +59,16 @@ same_told : (bundle : Bundle) → HaveSameTold bundle bundle
 same_told bundle = record { from = refl; to = refl; has = refl }
 
 -- any task that the words mean is this one
-abbrev Mean : Line → Task → Type 0
+abbrev Mean : ServedLine → Task → Type 0
 Mean line what = (it : CommandLine) → MeansLine line.words it → it.task ≡ what
 
-served : (line : Line) (what : Task) (lines : List Line) (site : ℕ) → Mean line what → MayBeTyped places lines site line.input what → MayBeServed places lines site line
+served : (line : ServedLine) (what : Task) (lines : List ServedLine) (site : ℕ) → Mean line what → MayBeTyped places lines site line.input what → MayBeServed places lines site line
 served line what lines site mean may it means = subst (MayBeTyped places lines site line.input) (sym (mean it means)) may
 
-asks : (line : Line) (what : Task) → Mean line what → asks_for_bundle what ≡ true → AskForBundle line
+asks : (line : ServedLine) (what : Task) → Mean line what → asks_for_bundle what ≡ true → AskForBundle line
 asks line what mean asked it means = subst (λ t. asks_for_bundle t ≡ true) (sym (mean it means)) asked
 
-module _ (pack unpack_part unpack_all unpack_again answer settle : Line)
+module _ (pack unpack_part unpack_all unpack_again answer settle : ServedLine)
     (packs : Mean pack (task.Pack (codes "duke") 61 None None false)) (unpacks_part : Mean unpack_part (task.Unpack (codes "mysite") [])) (unpacks_all : Mean unpack_all (task.Unpack (codes "mysite") []))
     (unpacks_again : Mean unpack_again (task.Unpack (codes "mysite") [])) (answers : Mean answer (task.Answer (codes "mysite") [] 61 None None false)) (settles : Mean settle (task.Settle (codes "duke") None))
     (cut : List ℕ) (part : unpack_part.input ++ cut ≡ pack.output) (all : unpack_all.input ≡ pack.output) (again : unpack_again.input ≡ pack.output) (back : settle.input ≡ answer.output)
@@ -85,10 +85,10 @@ module _ (pack unpack_part unpack_all unpack_again answer settle : Line)
     duke_runs : runs_at 1 steps ≡ (unpack_part ∷ []) ∷ (unpack_all ∷ answer ∷ []) ∷ (unpack_again ∷ []) ∷ []
     duke_runs = refl
 
-    is_whole : (line : Line) (input : List ℕ) → input ≡ line.output → input ++ [] ≡ line.output
+    is_whole : (line : ServedLine) (input : List ℕ) → input ≡ line.output → input ++ [] ≡ line.output
     is_whole line input same = append-nil input ∙ same
 
-    packed : (lines : List Line) (input rest : List ℕ) → Contains lines pack → input ++ rest ≡ pack.output → IsReadAsOne HaveSameJobs lines input
+    packed : (lines : List ServedLine) (input rest : List ℕ) → Contains lines pack → input ++ rest ≡ pack.output → IsReadAsOne HaveSameJobs lines input
     packed lines input rest there is = as_it_is HaveSameJobs same_jobs lines input (pack, there, asks pack (task.Pack (codes "duke") 61 None None false) packs refl, rest, is)
 
     answered : IsReadAsOne HaveSameTold (pack ∷ unpack_part ∷ unpack_all ∷ answer ∷ []) settle.input

@@ -10,7 +10,7 @@ use Rattle.uu_custody.specs.AmongSites.{GoOn}
 use Rattle.uu_custody.proofs.Lists.{all_from}
 use Rattle.uu_bundle.specs.declared.bundle.Bundle.{Bundle}
 use Rattle.uu_settings.specs.declared.settings.Settings.{Settings}
-use Rattle.uuspool.specs.ServedLines.{AreTold, Asked, Line, commands_in}
+use Rattle.uuspool.specs.ServedLines.{AreTold, ServedRequest, ServedLine, commands_asked}
 use Rattle.uu_carriers.specs.Texts.{Places, Act, stops, deed_of, IsOfLine, GoInTexts}
 use Rattle.uu_carriers.specs.Lines.{Step, serves, ends, with_first, runs_at, AreWithin, AskForBundle, GoInLines, AreSites}
 use Rattle.uu_carriers.proofs.Words.{StandsFor, Covers}
@@ -18,42 +18,42 @@ use Rattle.uu_carriers.proofs.Printed.{MayPack, MayAnswer}
 use Rattle.uu_carriers.proofs.Runs.{RunData, answer_acts, pack_acts, same_site, exchanges_of, exchanges_packs, exchanges_here, exchanges_there, sayings_of, sayings_there, AreSaid, AreSaidFrom, begin_said, go_said, said_answers, said_packs, texts_line, on_line}
 use Rattle.uu_carriers.proofs.Histories.{stands_later, exchange_of_run, Goes, AllGo, all_go_later, Next, next}
 
-eq-of : (a b : ℕ) → a == b ≡ true → a ≡ b
-eq-of a b e = grind (arith, nat_tests)
+eq_of : (a b : ℕ) → a == b ≡ true → a ≡ b
+eq_of a b e = grind (arith, nat_tests)
 
 none_go : (places : Places) (packed : List Bundle) (site : ℕ) (runs : List RunData) → AllGo places packed site [] runs → runs ≡ []
 none_go places packed site [] all = refl
 none_go places packed site (run ∷ runs) all = absurd all
 
 -- the run that goes on, and those after it
-record First (places : Places) (packed : List Bundle) (site : ℕ) (lines : List Line) (later : List (List Line)) (runs : List RunData) : Type 0 where
+record First (places : Places) (packed : List Bundle) (site : ℕ) (lines : List ServedLine) (later : List (List ServedLine)) (runs : List RunData) : Type 0 where
   run : RunData
   more : List RunData
   runs_are : runs ≡ run ∷ more
   goes : Goes places packed site lines run
   rest : AllGo places packed site later more
 
-first_go : (places : Places) (packed : List Bundle) (site : ℕ) (lines : List Line) (later : List (List Line)) (runs : List RunData) → AllGo places packed site (lines ∷ later) runs → First places packed site lines later runs
+first_go : (places : Places) (packed : List Bundle) (site : ℕ) (lines : List ServedLine) (later : List (List ServedLine)) (runs : List RunData) → AllGo places packed site (lines ∷ later) runs → First places packed site lines later runs
 first_go places packed site lines later [] all = absurd all
 first_go places packed site lines later (run ∷ more) all = record { run = run; more = more; runs_are = refl; goes = all.0; rest = all.1 }
 
 -- the lines after the first one of a run
-record Behind (line : Line) (before : List (List Line)) : Type 0 where
-  lines : List Line
-  later : List (List Line)
+record Behind (line : ServedLine) (before : List (List ServedLine)) : Type 0 where
+  lines : List ServedLine
+  later : List (List ServedLine)
   are : before ≡ lines ∷ later
   first : with_first line before ≡ (line ∷ lines) ∷ later
 
-behind_first : (line : Line) (before : List (List Line)) → (before ≡ [] → ⊥) → Behind line before
+behind_first : (line : ServedLine) (before : List (List ServedLine)) → (before ≡ [] → ⊥) → Behind line before
 behind_first line [] some = absurd (some refl)
 behind_first line (lines ∷ later) some = record { lines = lines; later = later; are = refl; first = refl }
 
 -- after the last line there is no premise
-record IsOver (asked : List (Option Asked)) (replies : List Reply) : Type 0 where
+record IsOver (asked : List (Option ServedRequest)) (replies : List Reply) : Type 0 where
   none_asked : asked ≡ []
   none_left : replies ≡ []
 
-is_over : (settings : Settings) (s : State) (asked : List (Option Asked)) (replies : List Reply) → AreTold settings s replies [] asked → IsOver asked replies
+is_over : (settings : Settings) (s : State) (asked : List (Option ServedRequest)) (replies : List Reply) → AreTold settings s replies [] asked → IsOver asked replies
 is_over settings s [] replies told = record { none_asked = refl; none_left = told }
 is_over settings s (it ∷ asked) replies told = absurd told
 
@@ -86,7 +86,7 @@ module _ (places : Places) (count : ℕ) (sites : AreSites places count) (may_pa
 
   -- ---- a line
 
-  module _ (there : ℕ) (line : Line) (steps : List Step) (packed : List Bundle) (lines : List Line) (covers : Covers packed lines) (runs : ℕ → List RunData) (l : there < count)
+  module _ (there : ℕ) (line : ServedLine) (steps : List Step) (packed : List Bundle) (lines : List ServedLine) (covers : Covers packed lines) (runs : ℕ → List RunData) (l : there < count)
       (b : Behind line (runs_at there steps)) (f : First places packed there (line ∷ b.lines) b.later (runs there)) (n : Next places may_pack may_answer there (sites.names there l) (sites.words there l) packed lines covers line b.lines f.run) where
     abbrev then_runs : ℕ → List RunData
     then_runs = put runs there (n.then ∷ f.more)
@@ -96,7 +96,7 @@ module _ (places : Places) (count : ℕ) (sites : AreSites places count) (may_pa
       where
         by-test : (t : Bool) → site == there ≡ t → AllGo places (packed ++ n.new) site (runs_at site steps) (cond t (n.then ∷ f.more) (runs site))
         by-test true e =
-            subst (λ k. AllGo places (packed ++ n.new) k (runs_at k steps) (n.then ∷ f.more)) (sym (eq-of site there e))
+            subst (λ k. AllGo places (packed ++ n.new) k (runs_at k steps) (n.then ∷ f.more)) (sym (eq_of site there e))
             (subst (λ r. AllGo places (packed ++ n.new) there r (n.then ∷ f.more)) (sym b.are) (n.goes, all_go_later places packed n.new there b.later f.more f.rest))
         by-test false e = all_go_later places packed n.new site (runs_at site steps) (runs site)
             (subst (λ t. AllGo places packed site (cond t (with_first line (runs_at site steps)) (runs_at site steps)) (runs site)) e (all site m))
@@ -137,16 +137,16 @@ module _ (places : Places) (count : ℕ) (sites : AreSites places count) (may_pa
         acts = line_acts;
         around = texts_line places packed there n.commands f.run.replies n.new rest.acts n.each n.good rest.around;
         on = on_line there n.commands f.run.replies n.new rest.acts (λ none. let some = sym told_then ∙ none in cc) rest.on;
-        told = λ site m. by-told site m (site == there) refl;
+        told = λ site m. by_told site m (site == there) refl;
         said = λ site m. by-said site m (site == there) refl;
       }
         where
-          by-told : (site : ℕ) → site < count → (t : Bool) → site == there ≡ t → exchanges_of site line_acts ≡ map exchange_of_run (runs site)
-          by-told site m true e = subst (λ k. exchanges_of k line_acts ≡ map exchange_of_run (runs k)) (sym (eq-of site there e)) told_here
-          by-told site m false e = told_there site m e
+          by_told : (site : ℕ) → site < count → (t : Bool) → site == there ≡ t → exchanges_of site line_acts ≡ map exchange_of_run (runs site)
+          by_told site m true e = subst (λ k. exchanges_of k line_acts ≡ map exchange_of_run (runs k)) (sym (eq_of site there e)) told_here
+          by_told site m false e = told_there site m e
 
           by-said : (site : ℕ) → site < count → (t : Bool) → site == there ≡ t → AreSaid (places.name site) (runs site) (sayings_of site line_acts)
-          by-said site m true e = subst (λ k. AreSaid (places.name k) (runs k) (sayings_of k line_acts)) (sym (eq-of site there e)) (said_here started)
+          by-said site m true e = subst (λ k. AreSaid (places.name k) (runs k) (sayings_of k line_acts)) (sym (eq_of site there e)) (said_here started)
           by-said site m false e = said_there site m e
 
   -- ---- the end of a run
@@ -159,7 +159,7 @@ module _ (places : Places) (count : ℕ) (sites : AreSites places count) (may_pa
     later_go all site m = by-test (site == there) refl
       where
         by-test : (t : Bool) → site == there ≡ t → AllGo places packed site (runs_at site steps) (cond t f.more (runs site))
-        by-test true e = subst (λ k. AllGo places packed k (runs_at k steps) f.more) (sym (eq-of site there e)) f.rest
+        by-test true e = subst (λ k. AllGo places packed k (runs_at k steps) f.more) (sym (eq_of site there e)) f.rest
         by-test false e = subst (λ t. AllGo places packed site (cond t ([] ∷ runs_at site steps) (runs_at site steps)) (runs site)) e (all site m)
 
     module _ (rest : History packed later_runs) where
@@ -171,7 +171,7 @@ module _ (places : Places) (count : ℕ) (sites : AreSites places count) (may_pa
 
       end_is : exchange_of_run f.run ≡ record { commands = f.run.pending; replies = []; in_hand = f.run.in_hand; ending = f.run.ending }
       end_is =
-          ap (λ a. record { commands = f.run.pending ++ commands_in a; replies = f.run.replies; in_hand = f.run.in_hand; ending = f.run.ending }) over.none_asked
+          ap (λ a. record { commands = f.run.pending ++ commands_asked a; replies = f.run.replies; in_hand = f.run.in_hand; ending = f.run.ending }) over.none_asked
           ∙ ap (λ c. record { commands = c; replies = f.run.replies; in_hand = f.run.in_hand; ending = f.run.ending }) (append-nil f.run.pending)
           ∙ ap (λ r. record { commands = f.run.pending; replies = r; in_hand = f.run.in_hand; ending = f.run.ending }) over.none_left
 
@@ -203,27 +203,27 @@ module _ (places : Places) (count : ℕ) (sites : AreSites places count) (may_pa
         acts = end_acts;
         around = (first_of_lines places packed there f.run.in_hand f.run.pending f.goes.pending, subst (λ p. GoInTexts places p rest.acts) (sym (append-nil packed)) rest.around);
         on = rest.on;
-        told = λ site m. by-told site m (site == there) refl;
+        told = λ site m. by_told site m (site == there) refl;
         said = λ site m. by-said site m (site == there) refl;
       }
         where
-          by-told : (site : ℕ) → site < count → (t : Bool) → site == there ≡ t → exchanges_of site end_acts ≡ map exchange_of_run (runs site)
-          by-told site m true e = subst (λ k. exchanges_of k end_acts ≡ map exchange_of_run (runs k)) (sym (eq-of site there e)) ended_here
-          by-told site m false e = ended_there site m e
+          by_told : (site : ℕ) → site < count → (t : Bool) → site == there ≡ t → exchanges_of site end_acts ≡ map exchange_of_run (runs site)
+          by_told site m true e = subst (λ k. exchanges_of k end_acts ≡ map exchange_of_run (runs k)) (sym (eq_of site there e)) ended_here
+          by_told site m false e = ended_there site m e
 
           by-said : (site : ℕ) → site < count → (t : Bool) → site == there ≡ t → AreSaid (places.name site) (runs site) (sayings_of site end_acts)
-          by-said site m true e = subst (λ k. AreSaid (places.name k) (runs k) (sayings_of k end_acts)) (sym (eq-of site there e)) silent_here
+          by-said site m true e = subst (λ k. AreSaid (places.name k) (runs k) (sayings_of k end_acts)) (sym (eq_of site there e)) silent_here
           by-said site m false e = silent_there site m e
 
   -- ---- all of it
 
-  covers_more : (packed new : List Bundle) (lines : List Line) (line : Line) → Covers packed lines → (AskForBundle line → StandsFor (packed ++ new) line.output) → Covers (packed ++ new) (lines ++ line ∷ [])
+  covers_more : (packed new : List Bundle) (lines : List ServedLine) (line : ServedLine) → Covers packed lines → (AskForBundle line → StandsFor (packed ++ new) line.output) → Covers (packed ++ new) (lines ++ line ∷ [])
   covers_more packed new lines line covers stands one there asks = elim (Contains-push_cases lines line one there) [
     | inl was ↦ stands_later packed new one.output (covers one was asks)
-    | inr same ↦ subst (λ (o : Line). StandsFor (packed ++ new) o.output) same (stands (subst AskForBundle (sym same) asks))
+    | inr same ↦ subst (λ (o : ServedLine). StandsFor (packed ++ new) o.output) same (stands (subst AskForBundle (sym same) asks))
   ]
 
-  started_run : (t : Bool) (lines : List Line) (line : Line) → (t ≡ false → line ∷ lines ≡ []) → t ≡ true
+  started_run : (t : Bool) (lines : List ServedLine) (line : ServedLine) → (t ≡ false → line ∷ lines ≡ []) → t ≡ true
   started_run true lines line idle = refl
   started_run false lines line idle = absurd (let never = idle refl in cc)
 
@@ -236,7 +236,7 @@ module _ (places : Places) (count : ℕ) (sites : AreSites places count) (may_pa
     said = λ site m. subst (λ r. AreSaid (places.name site) r []) (sym (none_go places packed site (runs site) (all site m))) tt;
   }
 
-  pub go_all : (steps : List Step) (lines : List Line) (packed : List Bundle) (runs : ℕ → List RunData) → Covers packed lines → GoInLines places lines steps → AreWithin count steps → Go packed steps runs → History packed runs
+  pub go_all : (steps : List Step) (lines : List ServedLine) (packed : List Bundle) (runs : ℕ → List RunData) → Covers packed lines → GoInLines places lines steps → AreWithin count steps → Go packed steps runs → History packed runs
   go_all [] lines packed runs covers typed within all = none_at_all packed runs all
   go_all (serves there line ∷ steps) lines packed runs covers typed within all =
       let b = behind_first line (runs_at there steps) within.1 in

@@ -8,7 +8,7 @@ use Rattle.uu_names.specs.Grade.{grade_bytes, grade_count, rank_of}
 use Rattle.uu_names.specs.Path.{first_hop}
 use Rattle.uu_names.specs.declared.fault.NameFault.TheVariants.{BadGrade}
 use Rattle.uu_line.specs.Commands.{program}
-use Rattle.uu_line.specs.Lines.{Line as SaidLine, MeansEntered, MeansLine, MeansLineOf, MeansMailOn, MeansTask, and_then, asked_when, grade_of, has_flag, named, optional, said, same_text, site_of, sites_of, terms_of, texts_at, word_of, words_of}
+use Rattle.uu_line.specs.Lines.{LineView as SaidLine, MeansEntered, MeansLine, MeansLineOf, MeansMailOn, MeansTask, and_then, asked_when, grade_of, has_flag, named, optional, line_view, same_text, site_of, sites_of, terms_of, texts_at, word_of, words_of}
 use Rattle.uu_line.specs.declared.fault.LineFault.{LineFault}
 use Rattle.uu_line.specs.declared.fault.LineFault.TheVariants.{TwoSystems}
 use Rattle.uu_line.specs.declared.line.CommandLine.{CommandLine}
@@ -88,11 +88,11 @@ entered_sound : (entered : Option (Text × List Row)) (meant : Result Task LineF
 entered_sound None meant none = absurd none
 entered_sound (Some subcommand) meant means = sound_task subcommand.0 subcommand.1 meant means
 
-line_sound : (config : Text) (at : Option ℕ) (user : Result (List ℕ) LineFault) (entered : Option (Text × List Row)) (it : CommandLine) → MeansLineOf config at user entered (Ok (said it)) → HasGrade it.task
+line_sound : (config : Text) (at : Option ℕ) (user : Result (List ℕ) LineFault) (entered : Option (Text × List Row)) (it : CommandLine) → MeansLineOf config at user entered (Ok (line_view it)) → HasGrade it.task
 line_sound config at (Err why) entered it e = absurd (cc)
 line_sound config at (Ok user) entered it (Err why, means, e) = absurd (cc)
 line_sound config at (Ok user) entered it (Ok what, means, e) =
-    let same : said it ≡ record { config = config; at = at; user = user; task = what } = cc in
+    let same : line_view it ≡ record { config = config; at = at; user = user; task = what } = cc in
     subst HasGrade (sym (ap (λ (line : SaidLine). line.task) same)) (entered_sound entered (Ok what) means)
 
 pub has_grade : (words : List Text) (it : CommandLine) → MeansLine words it → HasGrade it.task

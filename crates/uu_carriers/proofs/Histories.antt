@@ -16,9 +16,9 @@ use Rattle.uu_bundle.specs.declared.bundle.Bundle.{Bundle}
 use Rattle.uu_line.specs.declared.task.Task.{Task}
 use Rattle.uu_line.specs.declared.task.Task.TheVariants as task
 use Rattle.uu_settings.specs.declared.settings.Settings.{Settings}
-use Rattle.uu_request.specs.Carried.{packed as as_packed, said_of}
+use Rattle.uu_request.specs.Carried.{packed_job as as_packed, said_of}
 use Rattle.uu_request.specs.Requests.{TaskAsks}
-use Rattle.uu_request.specs.Unpacking.{IsSaid, answer, made_of, packing, take_in}
+use Rattle.uu_request.specs.Unpacking.{IsBundleBetween, answer, made_of, packing, queue_once_command}
 use Rattle.uu_request.specs.declared.fault.RequestFault.{RequestFault}
 use Rattle.uu_request.specs.declared.request.Answering.{Answering}
 use Rattle.uu_request.specs.declared.request.Request.{Request}
@@ -27,9 +27,9 @@ use Rattle.uu_request.specs.declared.request.Question.{Question}
 use Rattle.uu_request.specs.declared.request.Question.TheVariants as question
 use Rattle.uu_request.specs.declared.request.Packing.{Packing}
 use Rattle.uuspool.specs.Answers.{IsAnswer}
-use Rattle.uuspool.specs.Served.{AreCommandsOf, Ask}
-use Rattle.uuspool.specs.ServedLines.{AreLeft, AreTold, Asked, IsTold, Line, commands_in, goes_on}
-use Rattle.uu_carriers.specs.Texts.{Places, MayBeLine, IsBrought, Line as TextLine, unpack, settle, other, IsOfLine}
+use Rattle.uuspool.specs.Served.{AreCommandsOf, WordsAsk}
+use Rattle.uuspool.specs.ServedLines.{AreLeft, AreTold, ServedRequest, IsTold, ServedLine, commands_asked, goes_on}
+use Rattle.uu_carriers.specs.Texts.{Places, MayBeLine, IsBrought, TextLine, unpack, settle, other, IsOfLine}
 use Rattle.uu_carriers.specs.Lines.{AskForBundle, MayBeServed, MayBeTyped, asks_for_bundle}
 use Rattle.uu_carriers.proofs.Words.{granted, HasNoBundle, StandsFor, Covers, none_of_nothing, of_task}
 use Rattle.uu_carriers.proofs.Printed.{MayPack, MayAnswer, IsSpoken, IsSpokenOrNone, packed_spoken, answered_spoken, told_spoken, make_of, of_jobs, of_texts}
@@ -56,16 +56,16 @@ stands_later packed new text (inr none) = inr none
 -- ---- a run from a line on
 
 -- if a line doesn't go on, those after it are left
-abbrev pub LeaveTheRest : List Line → Type 0
+abbrev pub LeaveTheRest : List ServedLine → Type 0
 LeaveTheRest [] = ⊤
 LeaveTheRest (line ∷ lines) = (goes_on line.result ≡ false → AreLeft lines) × LeaveTheRest lines
 
 abbrev pub exchange_of_run : RunData → Exchange
-exchange_of_run run = record { commands = run.pending ++ commands_in run.asked; replies = run.replies; in_hand = run.in_hand; ending = run.ending }
+exchange_of_run run = record { commands = run.pending ++ commands_asked run.asked; replies = run.replies; in_hand = run.in_hand; ending = run.ending }
 
 -- The run of these lines goes on so: their outputs are what the machine says from this state on,
 -- which is the one that its spool shows; or they are left.
-pub record Goes (places : Places) (packed : List Bundle) (site : ℕ) (lines : List Line) (run : RunData) : Type 0 where
+pub record Goes (places : Places) (packed : List Bundle) (site : ℕ) (lines : List ServedLine) (run : RunData) : Type 0 where
   pub own : run.settings.name ≡ places.name site
   pub idle : run.is_started ≡ false → lines ≡ []
   pub pending : (command : Command) → Contains run.pending command → IsOfLine places packed site command
@@ -74,13 +74,13 @@ pub record Goes (places : Places) (packed : List Bundle) (site : ℕ) (lines : L
   pub rest : LeaveTheRest lines
   pub now : ((from ≡ run.state) × (run.pending ≡ [])) ⊎ ((run.replies ≡ []) × AreLeft lines)
 
-abbrev pub AllGo : Places → List Bundle → ℕ → List (List Line) → List RunData → Type 0
+abbrev pub AllGo : Places → List Bundle → ℕ → List (List ServedLine) → List RunData → Type 0
 AllGo places packed site [] [] = ⊤
 AllGo places packed site (lines ∷ more) (run ∷ runs) = Goes places packed site lines run × AllGo places packed site more runs
 AllGo places packed site [] (run ∷ runs) = ⊥
 AllGo places packed site (lines ∷ more) [] = ⊥
 
-goes_later : (places : Places) (packed new : List Bundle) (site : ℕ) (lines : List Line) (run : RunData) → Goes places packed site lines run → Goes places (packed ++ new) site lines run
+goes_later : (places : Places) (packed new : List Bundle) (site : ℕ) (lines : List ServedLine) (run : RunData) → Goes places packed site lines run → Goes places (packed ++ new) site lines run
 goes_later places packed new site lines run it = record {
   own = it.own;
   idle = it.idle;
@@ -91,7 +91,7 @@ goes_later places packed new site lines run it = record {
   now = it.now;
 }
 
-pub all_go_later : (places : Places) (packed new : List Bundle) (site : ℕ) (lines : List (List Line)) (runs : List RunData) → AllGo places packed site lines runs → AllGo places (packed ++ new) site lines runs
+pub all_go_later : (places : Places) (packed new : List Bundle) (site : ℕ) (lines : List (List ServedLine)) (runs : List RunData) → AllGo places packed site lines runs → AllGo places (packed ++ new) site lines runs
 all_go_later places packed new site [] [] all = tt
 all_go_later places packed new site (first ∷ lines) (run ∷ runs) all = (goes_later places packed new site first run all.0, all_go_later places packed new site lines runs all.1)
 all_go_later places packed new site [] (run ∷ runs) all = all
@@ -101,11 +101,11 @@ all_go_later places packed new site (first ∷ lines) [] all = all
 
 -- What was printed is spoken, and the line has no commands; or no bundle is read of it if the words
 -- ask for one.
-abbrev IsPrintedBy : List ℕ → List ℕ → State → Line → List Command → Type 0
+abbrev IsPrintedBy : List ℕ → List ℕ → State → ServedLine → List Command → Type 0
 IsPrintedBy own word s line commands = (IsSpoken own word s line.output × (commands ≡ [])) ⊎ (AskForBundle line → HasNoBundle line.output)
 
 module _ (places : Places) (may_pack : MayPack) (may_answer : MayAnswer) (site : ℕ) (is_own : IsTrue (is_site_name (places.name site))) (is_spool : IsTrue (is_word (places.word site))) where
-  module _ (settings : Settings) (own : settings.name ≡ places.name site) (s : State) (good : IsWellFormed s) (line : Line) where
+  module _ (settings : Settings) (own : settings.name ≡ places.name site) (s : State) (good : IsWellFormed s) (line : ServedLine) where
     abbrev Prints : List Command → Type 0
     Prints commands = IsPrintedBy (places.name site) (places.word site) s line commands
 
@@ -123,34 +123,34 @@ module _ (places : Places) (may_pack : MayPack) (may_answer : MayAnswer) (site :
         spoken (inl it) none = inl (it, none)
         spoken (inr nothing) none = inr (λ asks. nothing)
 
-    printed : (lines : List Line) (asked : Request) (commands : List Command) (replies : List Reply) → MayBeServed places lines site line → Ask settings line.words line.now line.input (Ok asked) → AreCommandsOf asked commands
+    printed : (lines : List ServedLine) (asked : Request) (commands : List Command) (replies : List Reply) → MayBeServed places lines site line → WordsAsk settings line.words line.now line.input (Ok asked) → AreCommandsOf asked commands
         → IsTold settings s asked replies line.output line.result → Prints commands
     printed lines asked commands replies may asks are told = elim asks.request [
       | inl too ↦ absurd (let never = too.1 in cc)
-      | inr it ↦ by-task asks.line.task refl (may asks.line asks.means) it.1
+      | inr it ↦ by_task asks.line.task refl (may asks.line asks.means) it.1
     ]
       where
-        not-asked : (what : Task) → asks.line.task ≡ what → asks_for_bundle what ≡ false → Prints commands
-        not-asked what e apart = inr (λ asked_for. absurd (true≢false (sym (asked_for asks.line asks.means) ∙ (ap asks_for_bundle e ∙ apart))))
+        not_asked : (what : Task) → asks.line.task ≡ what → asks_for_bundle what ≡ false → Prints commands
+        not_asked what e apart = inr (λ asked_for. absurd (true≢false (sym (asked_for asks.line asks.means) ∙ (ap asks_for_bundle e ∙ apart))))
 
-        by-answer : (onward : List (List ℕ)) (p : Packing) (said : Result Bundle RequestFault) → p.spool ≡ places.word site → p.grade < grade_count → IsSaid p.system settings.name line.input said → granted asked ≡ made_of (answer settings asks.at onward p) said → Prints commands
+        by-answer : (onward : List (List ℕ)) (p : Packing) (said : Result Bundle RequestFault) → p.spool ≡ places.word site → p.grade < grade_count → IsBundleBetween p.system settings.name line.input said → granted asked ≡ made_of (answer settings asks.at onward p) said → Prints commands
         by-answer onward p (Err why) may graded is same = absurd (cc)
         by-answer onward p (Ok bundle) may graded is same =
-            let it : Answering = record { packing = p; asked = bundle.grade; commands = map (take_in settings asks.at p.system onward) bundle.jobs } in
+            let it : Answering = record { packing = p; asked = bundle.grade; commands = map (queue_once_command settings asks.at p.system onward) bundle.jobs } in
             of_question asked commands replies (question.Answer it) same are (λ whole status answers. answered_spoken may_pack may_answer settings (places.name site) (places.word site) own is_own is_spool s good it (make_of settings asks.at p.system onward) (map as_packed bundle.jobs) whole status may graded
             (of_jobs settings asks.at p.system onward bundle.jobs) (of_texts line.input bundle is.0) answers) told
 
-        by-task : (what : Task) → asks.line.task ≡ what → MayBeTyped places lines site line.input what → TaskAsks settings asks.at line.input asks.line.user what (Ok asked) → Prints commands
-        by-task (task.Pack system grade spool after no_jobs) e may is =
+        by_task : (what : Task) → asks.line.task ≡ what → MayBeTyped places lines site line.input what → TaskAsks settings asks.at line.input asks.line.user what (Ok asked) → Prints commands
+        by_task (task.Pack system grade spool after no_jobs) e may is =
             of_question asked commands replies (question.Pack (packing system grade spool after no_jobs)) is are
             (λ whole status answers. packed_spoken may_pack may_answer settings (places.name site) (places.word site) own is_own is_spool s good (packing system grade spool after no_jobs) whole status may (subst HasGrade e (has_grade line.words asks.line asks.means)) answers) told
-        by-task (task.Answer sender onward grade spool after no_jobs) e may (said, is, same) = by-answer onward (packing sender grade spool after no_jobs) said may (subst HasGrade e (has_grade line.words asks.line asks.means)) is same
-        by-task what e may is = not-asked what e refl
+        by_task (task.Answer sender onward grade spool after no_jobs) e may (said, is, same) = by-answer onward (packing sender grade spool after no_jobs) said may (subst HasGrade e (has_grade line.words asks.line asks.means)) is same
+        by_task what e may is = not_asked what e refl
 
   -- ---- the next line
 
-  module _ (packed : List Bundle) (lines : List Line) (covers : Covers packed lines) where
-    pub record Next (line : Line) (behind : List Line) (run : RunData) : Type 0 where
+  module _ (packed : List Bundle) (lines : List ServedLine) (covers : Covers packed lines) where
+    pub record Next (line : ServedLine) (behind : List ServedLine) (run : RunData) : Type 0 where
       pub commands : List Command
       pub new : List Bundle
       pub then : RunData
@@ -163,11 +163,11 @@ module _ (places : Places) (may_pack : MayPack) (may_answer : MayAnswer) (site :
       pub state_is : then.state ≡ state_after run.state (heard commands run.replies)
       pub started : then.is_started ≡ run.is_started
 
-    module _ (line : Line) (behind : List Line) (may : MayBeServed places lines site line) (settings : Settings) (is_started : Bool) (pending : List Command) (replies : List Reply) (in_hand : ℕ) (ending : Ending) (state : State) where
-      abbrev run_of : List (Option Asked) → RunData
+    module _ (line : ServedLine) (behind : List ServedLine) (may : MayBeServed places lines site line) (settings : Settings) (is_started : Bool) (pending : List Command) (replies : List Reply) (in_hand : ℕ) (ending : Ending) (state : State) where
+      abbrev run_of : List (Option ServedRequest) → RunData
       run_of asked = record { settings = settings; is_started = is_started; pending = pending; asked = asked; replies = replies; in_hand = in_hand; ending = ending; state = state }
 
-      unasked : (asked : List (Option Asked)) → Goes places packed site (line ∷ behind) (run_of (None ∷ asked)) → Next line behind (run_of (None ∷ asked))
+      unasked : (asked : List (Option ServedRequest)) → Goes places packed site (line ∷ behind) (run_of (None ∷ asked)) → Next line behind (run_of (None ∷ asked))
       unasked asked it = record {
         commands = [];
         new = [];
@@ -190,7 +190,7 @@ module _ (places : Places) (may_pack : MayPack) (may_answer : MayAnswer) (site :
         started = refl;
       }
 
-      module _ (given : Asked) (asked : List (Option Asked)) (it : Goes places packed site (line ∷ behind) (run_of (Some given ∷ asked))) where
+      module _ (given : ServedRequest) (asked : List (Option ServedRequest)) (it : Goes places packed site (line ∷ behind) (run_of (Some given ∷ asked))) where
         abbrev then_of : RunData
         then_of = record {
           settings = settings;
@@ -210,8 +210,8 @@ module _ (places : Places) (may_pack : MayPack) (may_answer : MayAnswer) (site :
               (may it.told.0.asks.line it.told.0.asks.means) asks.1
         ]
 
-        still-now : ((state_after it.from given.commands ≡ then_of.state) × (then_of.pending ≡ [])) ⊎ ((then_of.replies ≡ []) × AreLeft behind)
-        still-now = elim it.now [
+        still_now : ((state_after it.from given.commands ≡ then_of.state) × (then_of.pending ≡ [])) ⊎ ((then_of.replies ≡ []) × AreLeft behind)
+        still_now = elim it.now [
           | inl going ↦ (elim (heard_or_none given.commands replies) [
             | inl all ↦ on going all
             | inr none ↦ by-test going none (goes_on line.result) refl
@@ -242,7 +242,7 @@ module _ (places : Places) (may_pack : MayPack) (may_answer : MayAnswer) (site :
           from = state_after it.from given.commands;
           told = subst (λ r. AreTold settings (state_after it.from given.commands) r behind asked) (beyond_is given.commands replies) it.told.1;
           rest = it.rest.1;
-          now = still-now;
+          now = still_now;
         }
 
         with_new : (new : List Bundle) → ((bundle : Bundle) → Contains new bundle → IsBundle bundle × (bundle.from ≡ places.name site) × (bundle.spool ≡ places.word site))
@@ -256,7 +256,7 @@ module _ (places : Places) (may_pack : MayPack) (may_answer : MayAnswer) (site :
           said = said;
           stands = stands;
           goes = goes_later places packed new site behind then_of goes-on;
-          exchange_is = sym (exchange_then pending given.commands (commands_in asked) replies in_hand ending (elim it.now [ inl going ↦ inl going.1 | inr left ↦ inr left.0 ]));
+          exchange_is = sym (exchange_then pending given.commands (commands_asked asked) replies in_hand ending (elim it.now [ inl going ↦ inl going.1 | inr left ↦ inr left.0 ]));
           state_is = refl;
           started = refl;
         }
@@ -283,10 +283,10 @@ module _ (places : Places) (may_pack : MayPack) (may_answer : MayAnswer) (site :
           | inr left ↦ with_none (λ asks. none_of_nothing line.output left.1.0)
         ]
 
-      next_of : (asked : List (Option Asked)) → Goes places packed site (line ∷ behind) (run_of asked) → Next line behind (run_of asked)
+      next_of : (asked : List (Option ServedRequest)) → Goes places packed site (line ∷ behind) (run_of asked) → Next line behind (run_of asked)
       next_of [] it = absurd it.told
       next_of (None ∷ asked) it = unasked asked it
       next_of (Some given ∷ asked) it = asked_next given asked it
 
-    pub next : (line : Line) (behind : List Line) (run : RunData) → MayBeServed places lines site line → Goes places packed site (line ∷ behind) run → Next line behind run
+    pub next : (line : ServedLine) (behind : List ServedLine) (run : RunData) → MayBeServed places lines site line → Goes places packed site (line ∷ behind) run → Next line behind run
     next line behind run may it = next_of line behind may run.settings run.is_started run.pending run.replies run.in_hand run.ending run.state run.asked it

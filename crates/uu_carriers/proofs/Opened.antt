@@ -22,7 +22,7 @@ use Rattle.uu_store.specs.Spool.{disk as disk_of, Shows}
 use Rattle.uu_store.proofs.Opening.{started_shows}
 use Rattle.uu_custody.specs.Carried.{Saying, IsSaidBy, WereSaidInFiles}
 use Rattle.uu_settings.specs.declared.settings.Settings.{Settings}
-use Rattle.uuspool.specs.ServedLines.{AreLeft, AreServed, AreTold, Line, goes_on, in_hand_of}
+use Rattle.uuspool.specs.ServedLines.{AreLeft, AreServed, AreTold, ServedLine, goes_on, in_hand_of}
 use Rattle.uu_carriers.specs.Texts.{Places}
 use Rattle.uu_carriers.specs.Lines.{AreRuns, EndsSo, IsServedOver}
 use Rattle.uu_carriers.proofs.Runs.{RunData, AreSaid}
@@ -30,15 +30,15 @@ use Rattle.uu_carriers.proofs.Histories.{AllGo, Goes, LeaveTheRest, exchange_of_
 
 -- ---- lines after one that doesn't go on are left
 
-left_rest : (lines : List Line) → AreLeft lines → LeaveTheRest lines
+left_rest : (lines : List ServedLine) → AreLeft lines → LeaveTheRest lines
 left_rest [] left = tt
 left_rest (line ∷ lines) left = (λ off. left.2, left_rest lines left.2)
 
-rest_by_test : {X : Type 0} (line : Line) (lines : List Line) (t : Bool) → goes_on line.result ≡ t → (goes_on line.result ≡ true → LeaveTheRest lines) → (goes_on line.result ≡ false → AreLeft lines × X) → LeaveTheRest (line ∷ lines)
+rest_by_test : {X : Type 0} (line : ServedLine) (lines : List ServedLine) (t : Bool) → goes_on line.result ≡ t → (goes_on line.result ≡ true → LeaveTheRest lines) → (goes_on line.result ≡ false → AreLeft lines × X) → LeaveTheRest (line ∷ lines)
 rest_by_test line lines true e rest off = (λ goes. (off goes).0, rest e)
 rest_by_test line lines false e rest off = (λ goes. (off goes).0, left_rest lines (off e).0)
 
-leave_rest : {D : Type 0} {g : disk.Ghosts D} (settings : Settings) (lines : List Line) (old new : Spool (FileStore D g) over_files) → AreServed settings lines old new → LeaveTheRest lines
+leave_rest : {D : Type 0} {g : disk.Ghosts D} (settings : Settings) (lines : List ServedLine) (old new : Spool (FileStore D g) over_files) → AreServed settings lines old new → LeaveTheRest lines
 leave_rest settings [] old new served = tt
 leave_rest settings (line ∷ lines) old new served = rest_by_test line lines (goes_on line.result) refl (λ goes. leave_rest settings lines served.0 new (served.2 goes)) served.3
 
@@ -52,13 +52,13 @@ abbrev WereSaidFrom : List ℕ → State → List Saying → Type 0
 WereSaidFrom own s sayings = All (λ (saying : Saying). IsSaidBy own (state_after s saying.answered) saying.bundle) sayings
 
 -- a stretch as a run that goes on from its first line
-pub record Opened (places : Places) (site : ℕ) (before : Image) (lines : List Line) (exchange : Exchange) : Type 0 where
+pub record Opened (places : Places) (site : ℕ) (before : Image) (lines : List ServedLine) (exchange : Exchange) : Type 0 where
   run : RunData
   goes : Goes places [] site lines run
   exchange_is : exchange ≡ exchange_of_run run
   said : (sayings : List Saying) → (run.is_started ≡ false → sayings ≡ []) → WereSaidFrom (places.name site) run.state sayings → (s : State) → ImageKeeps before s → WereSaidFrom (places.name site) s sayings
 
-module _ (one_state : OneState) (places : Places) (site : ℕ) (settings : Settings) (own : settings.name ≡ places.name site) (before : Image) (s : State) (keeps : ImageKeeps before s) (lines : List Line) where
+module _ (one_state : OneState) (places : Places) (site : ℕ) (settings : Settings) (own : settings.name ≡ places.name site) (before : Image) (s : State) (keeps : ImageKeeps before s) (lines : List ServedLine) where
   opened_run : {D : Type 0} {g : disk.Ghosts D} (exchange : Exchange) (Went : Spool (FileStore D g) over_files → Type 0) (it : IsServedOver settings before lines exchange Went) → HasCleanDisk (disk_of it.ended) → Opened places site before lines exchange
   opened_run {D} {g} exchange Went it clean = record {
     run = record { settings = settings; is_started = true; pending = []; asked = it.run.asked; replies = it.run.replies; in_hand = in_hand_of it.run.asked; ending = given it.run.stopped; state = s };
@@ -106,7 +106,7 @@ module _ (one_state : OneState) (places : Places) (site : ℕ) (settings : Setti
 
 -- ---- all runs of a site
 
-pub record AllOpened (places : Places) (site : ℕ) (before : Image) (stretches : List FileStretch) (lines : List (List Line)) : Type 0 where
+pub record AllOpened (places : Places) (site : ℕ) (before : Image) (stretches : List FileStretch) (lines : List (List ServedLine)) : Type 0 where
   pub runs : List RunData
   pub go : AllGo places [] site lines runs
   pub told : file_exchanges stretches ≡ map exchange_of_run runs
@@ -120,7 +120,7 @@ module _ (one_state : OneState) (places : Places) (site : ℕ) where
       no_more [] are = tt
       no_more (sayings ∷ said) are = tt
 
-  one_opened : (before : Image) (it : FileStretch) (stretches : List FileStretch) (first : List Line) (lines : List (List Line)) → Opened places site before first it.exchange → AllOpened places site it.left stretches lines
+  one_opened : (before : Image) (it : FileStretch) (stretches : List FileStretch) (first : List ServedLine) (lines : List (List ServedLine)) → Opened places site before first it.exchange → AllOpened places site it.left stretches lines
       → AllOpened places site before (it ∷ stretches) (first ∷ lines)
   one_opened before it stretches first lines one rest = record {
     runs = one.run ∷ rest.runs;
@@ -133,7 +133,7 @@ module _ (one_state : OneState) (places : Places) (site : ℕ) where
       one_more [] are = tt
       one_more (sayings ∷ said) are = (λ s keeps. one.said sayings are.0.0 are.0.1 s keeps, rest.said said are.1)
 
-  pub all_opened : (stretches : List FileStretch) (lines : List (List Line)) (before : Image) (s : State) (counted : List Command) → KeepsThroughout s before stretches counted → AllFilesPassed before stretches
+  pub all_opened : (stretches : List FileStretch) (lines : List (List ServedLine)) (before : Image) (s : State) (counted : List Command) → KeepsThroughout s before stretches counted → AllFilesPassed before stretches
       → AreRuns (places.name site) before stretches lines → AllOpened places site before stretches lines
   all_opened [] [] before s counted keeps passed are = none_opened before
   all_opened (it ∷ stretches) (first ∷ lines) before s counted (keeps, here, later, is, counts, then) passed are =
@@ -145,13 +145,13 @@ module _ (one_state : OneState) (places : Places) (site : ℕ) where
 -- ---- the runs of each site
 
 -- of the sites below the count
-pub record Sited (places : Places) (count site : ℕ) (before : Image) (stretches : List FileStretch) (lines : List (List Line)) : Type 0 where
+pub record Sited (places : Places) (count site : ℕ) (before : Image) (stretches : List FileStretch) (lines : List (List ServedLine)) : Type 0 where
   pub runs : List RunData
   pub go : site < count → AllGo places [] site lines runs
   pub told : site < count → file_exchanges stretches ≡ map exchange_of_run runs
   pub said : site < count → (said : List (List Saying)) → AreSaid (places.name site) runs said → WereSaidInFiles (places.name site) before said stretches
 
-pub sited : (places : Places) (count site : ℕ) (before : Image) (stretches : List FileStretch) (lines : List (List Line)) → (site < count → AllOpened places site before stretches lines) → Sited places count site before stretches lines
+pub sited : (places : Places) (count site : ℕ) (before : Image) (stretches : List FileStretch) (lines : List (List ServedLine)) → (site < count → AllOpened places site before stretches lines) → Sited places count site before stretches lines
 sited places count site before stretches lines each = by-test (nat_lt site count) refl
   where
     below : nat_lt site count ≡ true → site < count

@@ -26,8 +26,8 @@ use Rattle.uu_bundle.specs.declared.bundle.Record.{Record}
 use Rattle.uu_bundle.specs.declared.bundle.Record.TheVariants.{Has, No, Job}
 use Rattle.uu_bundle.proofs.MarkSizes.{mark_below}
 use Rattle.uu_settings.specs.declared.settings.Settings.{Settings}
-use Rattle.uu_request.specs.Carried.{bundle_crossing, packed as as_packed, said_of}
-use Rattle.uu_request.specs.Unpacking.{job_made, take_in}
+use Rattle.uu_request.specs.Carried.{bundle_crossing, packed_job as as_packed, said_of}
+use Rattle.uu_request.specs.Unpacking.{job_made, queue_once_command}
 use Rattle.uu_request.specs.declared.request.Answering.{Answering}
 use Rattle.uu_request.specs.declared.request.Packing.{Packing}
 use Rattle.uu_request.specs.declared.request.Question.{Question}
@@ -112,20 +112,20 @@ module _ (may_pack : MayPack) (may_answer : MayAnswer) (settings : Settings) (ow
   is_name = subst (λ n. IsTrue (is_site_name n)) (sym named) is_own
 
   pub packed_spoken : (it : Packing) (output : List ℕ) (status : ℕ) → it.spool ≡ word → it.grade < grade_count → IsAnswer settings s (question.Pack it) output status → IsSpokenOrNone own word s output
-  packed_spoken it output status worded graded is = by-system (has_system s it.system) refl is
+  packed_spoken it output status worded graded is = by_system (has_system s it.system) refl is
     where
-      by-system : (t : Bool) → has_system s it.system ≡ t → IsPacked t (IsBundleText settings.name it s) output status → IsSpokenOrNone own word s output
-      by-system true e (text, zero) = inl (sayable_is_spoken settings own word s it.system it.spool output named worded
+      by_system : (t : Bool) → has_system s it.system ≡ t → IsPacked t (IsBundleText settings.name it s) output status → IsSpokenOrNone own word s output
+      by_system true e (text, zero) = inl (sayable_is_spoken settings own word s it.system it.spool output named worded
           (may_pack settings s it output good is_name (known_named s it.system good e) (subst (λ w. IsTrue (is_word w)) (sym worded) is_spool) graded (subst (λ t. IsPacked t (IsBundleText settings.name it s) output 0) (sym e) (text, refl))))
-      by-system false e (same, one) = inr (none_of_no_system output same)
+      by_system false e (same, one) = inr (none_of_no_system output same)
 
   pub answered_spoken : (it : Answering) (make : Packed → NewJob) (asked : List Packed) (output : List ℕ) (status : ℕ) → it.packing.spool ≡ word → it.packing.grade < grade_count → IsOfJobs it.packing.system make asked it.commands → All IsOfText asked → IsAnswer settings s (question.Answer it) output status → IsSpokenOrNone own word s output
-  answered_spoken it make asked output status worded graded of texts is = by-system (has_system s it.packing.system) refl is
+  answered_spoken it make asked output status worded graded of texts is = by_system (has_system s it.packing.system) refl is
     where
-      by-system : (t : Bool) → has_system s it.packing.system ≡ t → IsPacked t (IsAnswerText settings.name it s) output status → IsSpokenOrNone own word s output
-      by-system true e (text, zero) = inl (sayable_is_spoken settings own word s it.packing.system it.packing.spool output named worded
+      by_system : (t : Bool) → has_system s it.packing.system ≡ t → IsPacked t (IsAnswerText settings.name it s) output status → IsSpokenOrNone own word s output
+      by_system true e (text, zero) = inl (sayable_is_spoken settings own word s it.packing.system it.packing.spool output named worded
           (may_answer settings s it make asked output good is_name (known_named s it.packing.system good e) (subst (λ w. IsTrue (is_word w)) (sym worded) is_spool) graded of texts (subst (λ t. IsPacked t (IsAnswerText settings.name it s) output 0) (sym e) (text, refl))))
-      by-system false e (same, one) = inr (none_of_no_system output same)
+      by_system false e (same, one) = inr (none_of_no_system output same)
 
   -- what was printed of the answer to a question, by how its line ended
   pub told_spoken : (it : Question) (replies : List Reply) (output : List ℕ) → ((whole : List ℕ) (status : ℕ) → IsAnswer settings s it whole status → IsSpokenOrNone own word s whole)
@@ -158,9 +158,9 @@ job_in packed = record { number = packed.parcel.number; mark = packed.mark; grad
 abbrev pub make_of : Settings → Moment → List ℕ → List (List ℕ) → Packed → NewJob
 make_of settings at from onward packed = job_made settings at from onward (job_in packed)
 
-pub of_jobs : (settings : Settings) (at : Moment) (from : List ℕ) (onward : List (List ℕ)) (jobs : List Parcel) → IsOfJobs from (make_of settings at from onward) (map as_packed jobs) (map (take_in settings at from onward) jobs)
+pub of_jobs : (settings : Settings) (at : Moment) (from : List ℕ) (onward : List (List ℕ)) (jobs : List Parcel) → IsOfJobs from (make_of settings at from onward) (map as_packed jobs) (map (queue_once_command settings at from onward) jobs)
 of_jobs settings at from onward [] = refl
-of_jobs settings at from onward (job ∷ jobs) = ap (λ l. take_in settings at from onward job ∷ l) (of_jobs settings at from onward jobs)
+of_jobs settings at from onward (job ∷ jobs) = ap (λ l. queue_once_command settings at from onward job ∷ l) (of_jobs settings at from onward jobs)
 
 in_records : (records : List Record) (job : Parcel) → Contains (jobs_in records) job → Contains records (Job job)
 in_records [] job there = absurd (none_in job there)

@@ -19,7 +19,7 @@ use Rattle.uu_bundle.specs.Bundles.{IsBundle}
 use Rattle.uu_bundle.specs.declared.bundle.Bundle.{Bundle}
 use Rattle.uu_settings.specs.declared.settings.Settings.{Settings}
 use Rattle.uu_request.specs.Carried.{said_of}
-use Rattle.uuspool.specs.ServedLines.{Asked}
+use Rattle.uuspool.specs.ServedLines.{ServedRequest}
 use Rattle.uu_carriers.specs.Texts.{Places, Act, runs, packs, deed_of, IsOfLine, GoInTexts}
 
 -- ---- commands and the replies that came
@@ -76,7 +76,7 @@ pub record RunData : Type 0 where
   pub settings : Settings
   pub is_started : Bool
   pub pending : List Command
-  pub asked : List (Option Asked)
+  pub asked : List (Option ServedRequest)
   pub replies : List Reply
   pub in_hand : ℕ
   pub ending : Ending

@@ -21,8 +21,8 @@ use Rattle.uu_line.specs.declared.task.Task.{Task}
 use Rattle.uu_line.specs.declared.task.Task.TheVariants as task
 use Rattle.uu_settings.specs.declared.settings.Settings.{Settings}
 use Rattle.uu_request.specs.Marks.{key_of}
-use Rattle.uu_request.specs.Requests.{TaskAsks, bytes_at, entries, hand_in, load_request, one}
-use Rattle.uu_request.specs.Unpacking.{AsksOf, IsSaid, answer, offered, packing, spool_of, wrong_sites}
+use Rattle.uu_request.specs.Requests.{TaskAsks, bytes_at, entries, queue_command, load_request, one}
+use Rattle.uu_request.specs.Unpacking.{AsksOf, IsBundleBetween, answer, offered, packing, spool_of, wrong_sites}
 use Rattle.uu_request.specs.declared.fault.WrongBundle.TheVariants.{OtherSender, OtherSite}
 use Rattle.uu_core.specs.declared.subject.Subject.TheVariants as subject
 use Rattle.uu_bundle.specs.declared.bundle.Parcel.{Parcel}
@@ -37,7 +37,7 @@ use Rattle.uu_request.specs.declared.request.Question.{Question}
 use Rattle.uu_request.specs.declared.request.Request.{Request}
 use Rattle.uu_request.specs.declared.request.Request.TheVariants as request
 use Rattle.uuspool.specs.Served.{AreCommandsOf}
-use Rattle.uuspool.specs.ServedLines.{Line}
+use Rattle.uuspool.specs.ServedLines.{ServedLine}
 use Rattle.uu_carriers.specs.Texts.{Places, chart_of, IsBrought, unpack, settle, other, IsOfLine}
 use Rattle.uu_carriers.specs.Lines.{AskForBundle, HaveSameJobs, HaveSameTold, IsFrontOfOne, IsOfNoNeighbour, IsReadAsOne, MayBeTyped}
 
@@ -72,10 +72,10 @@ none_of_front front cut whole same none first rest is bundle read =
 abbrev pub StandsFor : List Bundle → List ℕ → Type 0
 StandsFor packed text = IsBrought packed text ⊎ HasNoBundle text
 
-abbrev pub Covers : List Bundle → List Line → Type 0
-Covers packed lines = (line : Line) → Contains lines line → AskForBundle line → StandsFor packed line.output
+abbrev pub Covers : List Bundle → List ServedLine → Type 0
+Covers packed lines = (line : ServedLine) → Contains lines line → AskForBundle line → StandsFor packed line.output
 
-brought : (packed : List Bundle) (lines : List Line) (text : List ℕ) → Covers packed lines → IsFrontOfOne lines text → StandsFor packed text
+brought : (packed : List Bundle) (lines : List ServedLine) (text : List ℕ) → Covers packed lines → IsFrontOfOne lines text → StandsFor packed text
 brought packed lines text covers (line, inside, asks, cut, is) = elim (covers line inside asks) [
   | inl it ↦ inl (it.0, it.1, cut ++ it.2, sym (append_assoc text cut it.2) ∙ ap (λ l. l ++ it.2) is ∙ it.3)
   | inr none ↦ inr (none_of_front text cut line.output is none)
@@ -107,7 +107,7 @@ by_list asked list command commands same are there =
     let is : asked ≡ request.Commands list = cc in
     subst (λ l. Contains l command) (subst (λ r. AreCommandsOf r commands) is are) there
 
-module _ (places : Places) (packed : List Bundle) (lines : List Line) (covers : Covers packed lines) (site : ℕ) (settings : Settings) (own : settings.name ≡ places.name site) (at : Moment) (input user : List ℕ) where
+module _ (places : Places) (packed : List Bundle) (lines : List ServedLine) (covers : Covers packed lines) (site : ℕ) (settings : Settings) (own : settings.name ≡ places.name site) (at : Moment) (input user : List ℕ) where
   abbrev Of : Command → Type 0
   Of given = IsOfLine places packed site given
 
@@ -115,16 +115,16 @@ module _ (places : Places) (packed : List Bundle) (lines : List Line) (covers : 
   beside : (given : Command) → ((line : ℕ) → (places.begins line ≡ site → IsBeside ((chart_of places).crossing line) sender given) × (places.ends line ≡ site → IsBeside ((chart_of places).crossing line) receiver given)) → Of given
   beside given may = (other given, may, first_of given [])
 
-  of_hand_in : (once : Option Origin) (text : List ℕ) (job : NewJob) → IsOfNoNeighbour places site once → Of (hand_in (key_of once text) job)
+  of_hand_in : (once : Option Origin) (text : List ℕ) (job : NewJob) → IsOfNoNeighbour places site once → Of (queue_command (key_of once text) job)
   of_hand_in None text job may = beside (command.Queue job) (λ line. (λ b. tt, λ e. tt))
-  of_hand_in (Some origin) text job may = beside (hand_in (key_of (Some origin) text) job) (λ line. (λ b. tt, λ e same. may (line, e, sym same)))
+  of_hand_in (Some origin) text job may = beside (queue_command (key_of (Some origin) text) job) (λ line. (λ b. tt, λ e same. may (line, e, sym same)))
 
   -- what a request is made of is read of a text that was brought
   record Read (from : List ℕ) (HaveSame : Bundle → Bundle → Type 0) (bundle : Bundle) : Type 0 where
     front : List ℕ
     there : IsBrought packed front
     whole : Bundle
-    said : IsSaid from settings.name front (Ok whole)
+    said : IsBundleBetween from settings.name front (Ok whole)
     same : HaveSame bundle whole
 
   -- both are of the same sites
@@ -134,7 +134,7 @@ module _ (places : Places) (packed : List Bundle) (lines : List Line) (covers : 
       ∙ ap (λ n. cond (same_text whole.from from) (cond (same_text n settings.name) None (Some OtherSite)) (Some OtherSender)) second
 
   read_of_brought : (from : List ℕ) (HaveSame : Bundle → Bundle → Type 0) (bundle : Bundle) → ((whole : Bundle) → HaveSame bundle whole → (bundle.from ≡ whole.from) × (bundle.to ≡ whole.to)) → IsReadAsOne HaveSame lines input
-      → IsSaid from settings.name input (Ok bundle) → Read from HaveSame bundle
+      → IsBundleBetween from settings.name input (Ok bundle) → Read from HaveSame bundle
   read_of_brought from HaveSame bundle sites may is =
       let one = may bundle is.0 in
       elim (brought packed lines one.0 covers one.1) [

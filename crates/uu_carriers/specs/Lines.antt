@@ -29,23 +29,23 @@ use Rattle.uu_line.specs.declared.task.Task.{Task}
 use Rattle.uu_line.specs.declared.task.Task.TheVariants as task
 use Rattle.uu_settings.specs.declared.settings.Settings.{Settings}
 use Rattle.uu_request.specs.Unpacking.{spool_of}
-use Rattle.uuspool.specs.ServedLines.{AreServed, IsOneRun, Line, commands_in, in_hand_of}
+use Rattle.uuspool.specs.ServedLines.{AreServed, IsOneRun, ServedLine, commands_asked, in_hand_of}
 use Rattle.uu_carriers.specs.Texts.{Places}
 
 -- ---- what happens
 
 pub data Step : Type 0 where
   -- at a site a line was served, with its input and its result
-  serves : (site : ℕ) (line : Line) → Step
+  serves : (site : ℕ) (line : ServedLine) → Step
   -- at a site a run of the program ended, or was stopped
   ends : (site : ℕ) → Step
 
-abbrev pub with_first : Line → List (List Line) → List (List Line)
+abbrev pub with_first : ServedLine → List (List ServedLine) → List (List ServedLine)
 with_first line [] = (line ∷ []) ∷ []
 with_first line (lines ∷ runs) = (line ∷ lines) ∷ runs
 
 -- the lines of each run of a site
-abbrev pub runs_at : ℕ → List Step → List (List Line)
+abbrev pub runs_at : ℕ → List Step → List (List ServedLine)
 runs_at site [] = []
 runs_at site (serves there line ∷ steps) = if site == there then with_first line (runs_at site steps) else runs_at site steps
 runs_at site (ends there ∷ steps) = if site == there then [] ∷ runs_at site steps else runs_at site steps
@@ -64,12 +64,12 @@ asks_for_bundle (task.Pack system grade spool after no_jobs) = true
 asks_for_bundle (task.Answer sender onward grade spool after no_jobs) = true
 asks_for_bundle other = false
 
-abbrev pub AskForBundle : Line → Type 0
+abbrev pub AskForBundle : ServedLine → Type 0
 AskForBundle line = (it : CommandLine) → MeansLine line.words it → asks_for_bundle it.task ≡ true
 
 -- the text is a beginning of what `pack` or `answer` printed in one of these lines, or all of it
-abbrev pub IsFrontOfOne : List Line → List ℕ → Type 0
-IsFrontOfOne lines text = (line : Line) × Contains lines line × AskForBundle line × (cut : List ℕ) × (text ++ cut ≡ line.output)
+abbrev pub IsFrontOfOne : List ServedLine → List ℕ → Type 0
+IsFrontOfOne lines text = (line : ServedLine) × Contains lines line × AskForBundle line × (cut : List ℕ) × (text ++ cut ≡ line.output)
 
 -- `unpack` makes the same of both bundles, and so does `settle`
 pub record HaveSameJobs (bundle other : Bundle) : Type 0 where
@@ -86,7 +86,7 @@ pub record HaveSameTold (bundle other : Bundle) : Type 0 where
 -- Suppose that a bundle is read from the text. What is made of it is also made of a bundle that is
 -- read from such a beginning. So a text may be damaged after that, and there is no premise about a
 -- text that isn't a bundle.
-abbrev pub IsReadAsOne : (Bundle → Bundle → Type 0) → List Line → List ℕ → Type 0
+abbrev pub IsReadAsOne : (Bundle → Bundle → Type 0) → List ServedLine → List ℕ → Type 0
 IsReadAsOne HaveSame lines text = (bundle : Bundle) → IsRead text bundle → (front : List ℕ) × IsFrontOfOne lines front × (other : Bundle) × IsRead front other × HaveSame bundle other
 
 -- a neighbour of this name hands its jobs on to the site; and the site hands its own on to one
@@ -106,7 +106,7 @@ IsOfNoNeighbour places site (Some origin) = ¬ HandsOnTo places site origin.from
 -- the site's word for its spool. Only `settle` removes a neighbour's jobs: `done` names no job for
 -- a neighbour that takes the site's jobs. Only `unpack` takes what a neighbour hands on: no
 -- `--once`, `forget` or `drop` names a neighbour that hands its jobs on to the site.
-abbrev pub MayBeTyped : Places → List Line → ℕ → List ℕ → Task → Type 0
+abbrev pub MayBeTyped : Places → List ServedLine → ℕ → List ℕ → Task → Type 0
 MayBeTyped places before site input (task.Unpack sender onward) = IsReadAsOne HaveSameJobs before input
 MayBeTyped places before site input (task.Settle system spool) = IsReadAsOne HaveSameTold before input
 MayBeTyped places before site input (task.Pack system grade spool after no_jobs) = spool_of spool ≡ places.word site
@@ -120,11 +120,11 @@ MayBeTyped places before site input (task.Execute grade once system command argu
 MayBeTyped places before site input (task.Mail grade once system rests) = IsOfNoNeighbour places site once
 MayBeTyped places before site input other = ⊤
 
-abbrev pub MayBeServed : Places → List Line → ℕ → Line → Type 0
+abbrev pub MayBeServed : Places → List ServedLine → ℕ → ServedLine → Type 0
 MayBeServed places before site line = (it : CommandLine) → MeansLine line.words it → MayBeTyped places before site line.input it.task
 
 -- the premise holds for each line, with those that were served before it
-abbrev pub GoInLines : Places → List Line → List Step → Type 0
+abbrev pub GoInLines : Places → List ServedLine → List Step → Type 0
 GoInLines places before [] = ⊤
 GoInLines places before (serves site line ∷ steps) = MayBeServed places before site line × GoInLines places (before ++ line ∷ []) steps
 GoInLines places before (ends site ∷ steps) = GoInLines places before steps
@@ -141,24 +141,24 @@ pub record AreSites (places : Places) (count : ℕ) : Type 0 where
 
 -- A run of the program over files with these contents, as `IsRun` of `uuspool_main` has it: a spool
 -- was started over them, served the lines, was given their commands, and then `Goes` holds.
-pub record IsServedOver {D : Type 0} {g : disk.Ghosts D} (settings : Settings) (before : Image) (lines : List Line) (exchange : Exchange) (Goes : Spool (FileStore D g) over_files → Type 0) : Type 0 where
+pub record IsServedOver {D : Type 0} {g : disk.Ghosts D} (settings : Settings) (before : Image) (lines : List ServedLine) (exchange : Exchange) (Goes : Spool (FileStore D g) over_files → Type 0) : Type 0 where
   pub begun : Spool (FileStore D g) over_files
   pub ended : Spool (FileStore D g) over_files
   pub started : Started before begun
   pub served : AreServed settings lines begun ended
   pub run : IsOneRun settings lines begun ended
-  pub exchange_is : exchange ≡ exchange_of (in_hand_of run.asked) (commands_in run.asked) run.replies run.stopped
+  pub exchange_is : exchange ≡ exchange_of (in_hand_of run.asked) (commands_asked run.asked) run.replies run.stopped
   pub goes : Goes ended
 
 -- what is left of it is a stretch with this end: its store was let go, or its files were closed; or
 -- no spool was started, and no line served
-abbrev pub EndsSo : Settings → Image → List Line → Exchange → End → Type 0
+abbrev pub EndsSo : Settings → Image → List ServedLine → Exchange → End → Type 0
 EndsSo settings before lines exchange not_started = (lines ≡ []) × (exchange.commands ≡ [])
 EndsSo settings before lines exchange (let_go D g opened stopped) = IsServedOver {D = D} {g = g} settings before lines exchange (λ ended. IsLetGo over_files (connection_of ended).store stopped)
 EndsSo settings before lines exchange (closed D g opened files) = IsServedOver {D = D} {g = g} settings before lines exchange (λ ended. IsClosed ended files)
 
 -- the stretches are runs of these lines, one after the other, in any settings with the site's name
-abbrev pub AreRuns : List ℕ → Image → List FileStretch → List (List Line) → Type 0
+abbrev pub AreRuns : List ℕ → Image → List FileStretch → List (List ServedLine) → Type 0
 AreRuns name before [] [] = ⊤
 AreRuns name before (it ∷ stretches) (lines ∷ runs) =
     ((settings : Settings) × (settings.name ≡ name) × EndsSo settings before lines it.exchange it.end) × AreRuns name it.left stretches runs
@@ -167,7 +167,7 @@ AreRuns name before (it ∷ stretches) [] = ⊥
 
 -- What happened at a site happened over its files: these kept the first state, and each stretch
 -- over them is a run of its lines.
-pub record HappenedOver (name : List ℕ) (first : State) (before : Image) (stretches : List FileStretch) (runs : List (List Line)) : Type 0 where
+pub record HappenedOver (name : List ℕ) (first : State) (before : Image) (stretches : List FileStretch) (runs : List (List ServedLine)) : Type 0 where
   pub keeps : ImageKeeps before first
   pub passed : AllFilesPassed before stretches
   pub are : AreRuns name before stretches runs

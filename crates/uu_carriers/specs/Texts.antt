@@ -68,12 +68,12 @@ IsBrought packed text = (whole : Bundle) × Contains packed whole × (cut : List
 
 -- The lines: `unpack`, which asks for the commands of a bundle, done as one; `settle`, which asks
 -- for commands that remove jobs that the bundle has; and any other line, with its command.
-pub data Line : Type 0 where
-  unpack : (settings : Settings) (at : Moment) (input user from : List ℕ) (onward : List (List ℕ)) (it : Unpacking) → Line
-  settle : (settings : Settings) (at : Moment) (input user from : List ℕ) (spool : Option (List ℕ)) (it : Settling) (commands : List Command) → Line
-  other : (command : Command) → Line
+pub data TextLine : Type 0 where
+  unpack : (settings : Settings) (at : Moment) (input user from : List ℕ) (onward : List (List ℕ)) (it : Unpacking) → TextLine
+  settle : (settings : Settings) (at : Moment) (input user from : List ℕ) (spool : Option (List ℕ)) (it : Settling) (commands : List Command) → TextLine
+  other : (command : Command) → TextLine
 
-abbrev pub commands_of : Line → List Command
+abbrev pub commands_of : TextLine → List Command
 commands_of (unpack settings at input user from onward it) = commands_in it.bundle
 commands_of (settle settings at input user from spool it commands) = commands
 commands_of (other command) = command ∷ []
@@ -81,7 +81,7 @@ commands_of (other command) = command ∷ []
 -- The input is a text that was brought, with any settings that have the site's name. By other lines
 -- a site doesn't report a job to a neighbour as gone, release one, hand in or forget one under a
 -- neighbour's name, or remove a neighbour.
-abbrev pub MayBeLine : Places → List Bundle → ℕ → Line → Type 0
+abbrev pub MayBeLine : Places → List Bundle → ℕ → TextLine → Type 0
 MayBeLine places packed site (unpack settings at input user from onward it) =
     (settings.name ≡ places.name site) × IsBrought packed input × TaskAsks settings at input user (task.Unpack from onward) (Ok (request.Unpacking it))
 MayBeLine places packed site (settle settings at input user from spool it commands) =
@@ -91,7 +91,7 @@ MayBeLine places packed site (other command) =
     (line : ℕ) → (places.begins line ≡ site → IsBeside ((chart_of places).crossing line) sender command) × (places.ends line ≡ site → IsBeside ((chart_of places).crossing line) receiver command)
 
 abbrev pub IsOfLine : Places → List Bundle → ℕ → Command → Type 0
-IsOfLine places packed site command = (line : Line) × MayBeLine places packed site line × Contains (commands_of line) command
+IsOfLine places packed site command = (line : TextLine) × MayBeLine places packed site line × Contains (commands_of line) command
 
 -- a site packs bundles under its own name and its word
 abbrev pub IsByLines : Places → List Bundle → Act → Type 0

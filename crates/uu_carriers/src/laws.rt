@@ -27,7 +27,7 @@ ghost use Rattle.uu_store.specs.Exchanges.{Exchange};
 ghost use Rattle.uu_store.specs.Files.{last_left, FilePassed, IsStretch, IsClosedStretch, let_go_after, closed_after};
 ghost use Rattle.uu_store.specs.Stretches.{IsLetGo};
 ghost use Rattle.uu_store.specs.Openings.{ImageKeeps, Started};
-ghost use Rattle.uu_store.specs.Runs.{GoesOn, Ran, answered};
+ghost use Rattle.uu_store.specs.Runs.{GoesOn, Ran, answered_commands};
 ghost use Rattle.uu_store.specs.Spool.{connection_of, disk, Shows};
 ghost use Rattle.uu_custody.specs.Carried.{IsSaidBy};
 ghost use Rattle.uu_bundle.specs.Bundles.{IsBundle, bundle_text};
@@ -38,7 +38,7 @@ ghost use Rattle.uu_request.specs.declared.request.Answering.{Answering};
 ghost use Rattle.uu_request.specs.declared.request.Packing.{Packing};
 ghost use Rattle.uu_request.specs.declared.request.Question.TheVariants as question;
 ghost use Rattle.uuspool.specs.Answers.{IsAnswer};
-ghost use Rattle.uuspool.specs.ServedLines.{AreServed, Line};
+ghost use Rattle.uuspool.specs.ServedLines.{AreServed, ServedLine};
 ghost use Rattle.uu_custody.specs.AmongSites.{AreAmong, GoAround, GoOn, IsInFiles, AllCameInBundles};
 ghost use Rattle.uu_carriers.specs.Texts.{Places, chart_of, AreApart, Act, deed_of, GoInTexts};
 ghost use Rattle.uu_carriers.specs.Lines.{Step, runs_at, AreWithin, GoInLines, AreSites, EndsSo, HappenedOver, ComeOnceInFiles};
@@ -101,11 +101,11 @@ pub fn messages_come_once_in_lines<H: Sites>()
 /// closed. They are a run of the program as [`messages_come_once_in_lines`] has it
 /// (`HappenedOver`): a stretch of work, with any contents of the files that a stop may leave then.
 pub fn served_lines_are_a_run<D: Disk>()
-    ensures let_go { (settings : Settings) (before left : Image) (lines : List Line) (begun ended : Spool (FileStore D D.Disk) over_files) (store : FileStore D D.Disk)
+    ensures let_go { (settings : Settings) (before left : Image) (lines : List ServedLine) (begun ended : Spool (FileStore D D.Disk) over_files) (store : FileStore D D.Disk)
         → Started before begun → AreServed settings lines begun ended → IsLetGo over_files (connection_of ended).store store
         → (IsClean (view store) → IsTrue (view store).is_numbered) → IsClean (view store) → (files_of store).may_leave left
         → (exchange : Exchange) × (it : IsStretch before exchange store) × FilePassed before (let_go_after it left) × EndsSo settings before lines exchange (let_go_after it left).end }
-    ensures closed { (settings : Settings) (before left : Image) (lines : List Line) (begun ended : Spool (FileStore D D.Disk) over_files) (files : Files D)
+    ensures closed { (settings : Settings) (before left : Image) (lines : List ServedLine) (begun ended : Spool (FileStore D D.Disk) over_files) (files : Files D)
         → Started before begun → AreServed settings lines begun ended → IsClosed ended files → AreClean D.Disk files.log files.db → outcomes D.Disk files.log files.db left
         → (exchange : Exchange) × (it : IsClosedStretch D.Disk before exchange files) × FilePassed before (closed_after it left) × EndsSo settings before lines exchange (closed_after it left).end }
 {
@@ -133,13 +133,13 @@ pub fn what_is_packed_was_said<D: Disk>()
         → Started before begun → Ran in_hand commands begun now replies was → GoesOn was → HasCleanDisk (disk now)
         → IsTrue (is_site_name settings.name) → IsTrue (is_site_name it.system) → IsTrue (is_word it.spool) → it.grade < grade_count → IsBundle whole
         → ((u : State) → Shows now u → IsAnswer settings u (question.Pack it) (bundle_text whole) 0)
-        → (s : State) → ImageKeeps before s → IsSaidBy settings.name (state_after s (answered replies commands)) (said_of whole) × (whole.from ≡ settings.name) × (whole.spool ≡ it.spool) }
+        → (s : State) → ImageKeeps before s → IsSaidBy settings.name (state_after s (answered_commands replies commands)) (said_of whole) × (whole.from ≡ settings.name) × (whole.spool ≡ it.spool) }
     ensures answered { (before : Image) (begun now : Spool (FileStore D D.Disk) over_files) (in_hand : ℕ) (commands : List Command) (replies : List Reply) (was : Option StoreFault) (settings : Settings) (it : Answering) (make : Packed → NewJob) (asked : List Packed) (whole : Bundle)
         → Started before begun → Ran in_hand commands begun now replies was → GoesOn was → HasCleanDisk (disk now)
         → IsTrue (is_site_name settings.name) → IsTrue (is_site_name it.packing.system) → IsTrue (is_word it.packing.spool) → it.packing.grade < grade_count
         → it.commands ≡ map (λ packed. QueueOnce (key_for it.packing.system packed) (make packed)) asked → All (λ packed. (packed.parcel.number < 2 ^ 32) × (packed.mark < marks_end)) asked → IsBundle whole
         → ((u : State) → Shows now u → IsAnswer settings u (question.Answer it) (bundle_text whole) 0)
-        → (s : State) → ImageKeeps before s → IsSaidBy settings.name (state_after s (answered replies commands)) (said_of whole) × (whole.from ≡ settings.name) × (whole.spool ≡ it.packing.spool) }
+        → (s : State) → ImageKeeps before s → IsSaidBy settings.name (state_after s (answered_commands replies commands)) (said_of whole) × (whole.from ≡ settings.name) × (whole.spool ≡ it.packing.spool) }
 {
     what_is_packed_may_be_said();
     what_is_answered_may_be_said();

@@ -21,18 +21,18 @@ pub turned_down : (state : State) (command : Command) (refusal : Refusal) → ve
 turned_down state command refusal e = ap (λ v. after_verdict v state command) e
 
 pub none_decided : {V : Type 0} (reasons : List (Bool × Refusal)) (value x : V) → decided reasons value ≡ Ok x → (first_reason reasons ≡ None) × (value ≡ x)
-none_decided {V} reasons value x e = by-first (first_reason reasons) e
+none_decided {V} reasons value x e = by_first (first_reason reasons) e
   where
-    by-first : (v : Option Refusal) → value_unless v value ≡ Ok x → (v ≡ None) × (value ≡ x)
-    by-first None e = (refl, cc)
-    by-first (Some refusal) e = absurd (cc)
+    by_first : (v : Option Refusal) → value_unless v value ≡ Ok x → (v ≡ None) × (value ≡ x)
+    by_first None e = (refl, cc)
+    by_first (Some refusal) e = absurd (cc)
 
 pub some_decided : {V : Type 0} (reasons : List (Bool × Refusal)) (value : V) (refusal : Refusal) → decided reasons value ≡ Err refusal → first_reason reasons ≡ Some refusal
-some_decided {V} reasons value refusal e = by-first (first_reason reasons) e
+some_decided {V} reasons value refusal e = by_first (first_reason reasons) e
   where
-    by-first : (v : Option Refusal) → value_unless v value ≡ Err refusal → v ≡ Some refusal
-    by-first None e = absurd (cc)
-    by-first (Some other) e = cc
+    by_first : (v : Option Refusal) → value_unless v value ≡ Err refusal → v ≡ Some refusal
+    by_first None e = absurd (cc)
+    by_first (Some other) e = cc
 
 -- why a job that comes for the first time is accepted: it is small enough, and a number is left
 pub first_room : (known : Bool) (next below : ℕ) (taken : Option Taken) (key : Key) (job : NewJob) (number : ℕ) → Ok (First number) ≡ decided (once_reasons known next below taken key job) (hand_in_of taken key next) → (is_too_large job ≡ false) × ((next == numbers_end) ≡ false) × (next ≡ number)

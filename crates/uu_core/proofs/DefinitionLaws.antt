@@ -16,7 +16,7 @@ use Rattle.uu_core.specs.declared.command.Command.TheVariants.{Define}
 use Rattle.uu_core.specs.State.{State, empty, IsDefinition, IsWellFormed, ComesBefore, is_system, system_at}
 use Rattle.uu_core.specs.declared.system.SystemRow.{SystemRow}
 use Rattle.uu_core.proofs.NextCallLemmas.{not_same}
-use Rattle.uu_core.proofs.WellFormedLemmas.{pairs-first, pairs-rest}
+use Rattle.uu_core.proofs.WellFormedLemmas.{pairs_first, pairs_rest}
 
 abbrev by_name : SystemRow → SystemRow → Type 0
 by_name a b = ComesBefore a.def.name b.def.name
@@ -36,8 +36,8 @@ names_differ : (rows : List SystemRow) → AllPairs by_name rows → NamesDiffer
 names_differ [] ordered = tt
 names_differ (row ∷ rows) ordered = (
   All-map (λ (other : System). ¬ (row.def.name ≡ other.name)) (λ (other : SystemRow). other.def) rows
-      (All-weaker (by_name row) (λ (other : SystemRow). ¬ (row.def.name ≡ other.def.name)) (λ other before. differ row.def.name other.def.name before) rows (pairs-first by_name row rows ordered)),
-  names_differ rows (pairs-rest by_name row rows ordered),
+      (All-weaker (by_name row) (λ (other : SystemRow). ¬ (row.def.name ≡ other.def.name)) (λ other before. differ row.def.name other.def.name before) rows (pairs_first by_name row rows ordered)),
+  names_differ rows (pairs_rest by_name row rows ordered),
 )
 
 module _ (state : State) (good : IsWellFormed state) where
@@ -60,7 +60,7 @@ one_short name (row ∷ other ∷ rows) short named ordered systems =
     let passes = λ (r : SystemRow). is_system name r ≡ true in
     let first : row.def.name ≡ name = (bytes_decides row.def.name name).0 (All-head passes row (other ∷ rows) named) in
     let second : other.def.name ≡ name = (bytes_decides other.def.name name).0 (All-head passes other rows (All-tail passes row (other ∷ rows) named)) in
-    absurd (differ row.def.name other.def.name (All-head (by_name row) other rows (pairs-first by_name row (other ∷ rows) ordered)) (first ∙ sym second))
+    absurd (differ row.def.name other.def.name (All-head (by_name row) other rows (pairs_first by_name row (other ∷ rows) ordered)) (first ∙ sym second))
 
 pub short_text : (state : State) (name : List ℕ) → ((system : System) → IsSystem system → length (sys_text (system ∷ [])) ≤ most_text) → IsWellFormed state
     → length (sys_text (definitions_of (Some name) state.systems)) ≤ most_text
@@ -108,8 +108,8 @@ defined state (row ∷ rows) before ordered =
     let later = All-weaker (λ (old : SystemRow). All (by_name old) (row ∷ rows)) (λ (old : SystemRow). All (by_name old) rows) (λ old all. All-tail (by_name old) row rows all) state.systems before in
     defined (record state { systems = put_system item state.systems }) rows
     (subst (λ (systems : List SystemRow). All (λ old. All (by_name old) rows) systems) (sym placed)
-    (All-push (λ (old : SystemRow). All (by_name old) rows) state.systems item later (pairs-first by_name row rows ordered)))
-    (pairs-rest by_name row rows ordered)
+    (All-push (λ (old : SystemRow). All (by_name old) rows) state.systems item later (pairs_first by_name row rows ordered)))
+    (pairs_rest by_name row rows ordered)
     ∙ ap (λ (systems : List SystemRow). map def systems ++ map def rows) placed
     ∙ ap (λ l. l ++ map def rows) (map-append def state.systems (item ∷ []))
     ∙ append_assoc (map def state.systems) (row.def ∷ []) (map def rows)

@@ -49,28 +49,28 @@ repeats_is (number ∷ numbers) =
 turned : (a b : ℕ) → (a == b) ≡ true → (b == a) ≡ true
 turned a b e = grind (arith, nat_tests)
 
-and-first : (a b : Bool) → a && b ≡ true → a ≡ true
-and-first true b e = refl
-and-first false b e = e
+and_first : (a b : Bool) → a && b ≡ true → a ≡ true
+and_first true b e = refl
+and_first false b e = e
 
 module _ (numbers : List ℕ) (jobs found : List JobHead) (h : AreFound numbers jobs found) where
   -- a test that passes only if a job is named finds one among those found if it finds one at all
-  found-any : (p : JobHead → Bool) → ((job : JobHead) → p job ≡ true → is_named numbers job ≡ true) → list_any p found ≡ list_any p jobs
-  found-any p named =
+  found_any : (p : JobHead → Bool) → ((job : JobHead) → p job ≡ true → is_named numbers job ≡ true) → list_any p found ≡ list_any p jobs
+  found_any p named =
       both_ways (list_any p found) (list_any p jobs)
       (λ e. let r = passing_one p found e in some_passes p jobs r.0 (h.there r.0 r.1) r.2)
       (λ e. let r = passing_one p jobs e in some_passes p found r.0 (h.all r.0 r.1 (named r.0 r.2)) r.2)
 
-  missing-same : is_missing_one numbers found ≡ is_missing_one numbers jobs
-  missing-same =
+  missing_same : is_missing_one numbers found ≡ is_missing_one numbers jobs
+  missing_same =
       any_agrees (λ number. not (has_number found number)) (λ number. not (has_number jobs number)) numbers
-      (λ number there. ap not (found-any (λ (job : JobHead). job.number == number) (λ job e. some_passes (λ n. n == job.number) numbers number there (turned job.number number e))))
+      (λ number there. ap not (found_any (λ (job : JobHead). job.number == number) (λ job e. some_passes (λ n. n == job.number) numbers number there (turned job.number number e))))
 
-  other-same : (system : List ℕ) → has_other system numbers found ≡ has_other system numbers jobs
-  other-same system =
-      found-any (λ (job : JobHead). is_named numbers job && not (same_text job.system system)) (λ job e. and-first (is_named numbers job) (not (same_text job.system system)) e)
+  other_same : (system : List ℕ) → has_other system numbers found ≡ has_other system numbers jobs
+  other_same system =
+      found_any (λ (job : JobHead). is_named numbers job && not (same_text job.system system)) (λ job e. and_first (is_named numbers job) (not (same_text job.system system)) e)
 
   pub named_decide : (known : Bool) (system : List ℕ) → done_reasons known system numbers found ≡ done_reasons known system numbers jobs
   named_decide known system =
-      ap (λ missing. (ltb 256 (length numbers), TooLarge) ∷ (not known, NoSystem) ∷ (missing, NoJob) ∷ (has_repeat numbers, JobTwice) ∷ (has_other system numbers found, OtherSystem) ∷ []) missing-same
-      ∙ ap (λ other. (ltb 256 (length numbers), TooLarge) ∷ (not known, NoSystem) ∷ (is_missing_one numbers jobs, NoJob) ∷ (has_repeat numbers, JobTwice) ∷ (other, OtherSystem) ∷ []) (other-same system)
+      ap (λ missing. (ltb 256 (length numbers), TooLarge) ∷ (not known, NoSystem) ∷ (missing, NoJob) ∷ (has_repeat numbers, JobTwice) ∷ (has_other system numbers found, OtherSystem) ∷ []) missing_same
+      ∙ ap (λ other. (ltb 256 (length numbers), TooLarge) ∷ (not known, NoSystem) ∷ (is_missing_one numbers jobs, NoJob) ∷ (has_repeat numbers, JobTwice) ∷ (other, OtherSystem) ∷ []) (other_same system)

@@ -15,7 +15,7 @@ use Rattle.uu_core.specs.State.{same_text}
 use Rattle.uu_core.specs.Queues.{jobs_for}
 use Rattle.uu_core.specs.Due.{may_go, goes_before, is_due, due_of, all_due, dues_of, ComesFirst, AreDue, AreInOrder}
 use Rattle.uu_core.proofs.Members.{first_of, later_of, first_or_later, kept, from_filter, none_in}
-use Rattle.uu_core.proofs.WellFormedLemmas.{pairs-first, pairs-rest, pairs-nil}
+use Rattle.uu_core.proofs.WellFormedLemmas.{pairs_first, pairs_rest, pairs_nil}
 use Rattle.uu_core.proofs.DueLemmas.{walk, with_next, walk_step, walk_is_due, due_same}
 
 -- ---- lists
@@ -38,13 +38,13 @@ one_kept : {X : Type 0} (R : X → X → Type 0) (p : X → Bool) (x : X) (xs : 
 one_kept R p x [] apart pairs there passes alone = absurd (none_in x there)
 one_kept {X} R p x (y ∷ ys) apart pairs there passes alone =
     by-test (p y) refl (first_or_later y x ys there)
-    (λ later. one_kept R p x ys apart (pairs-rest R y ys pairs) later passes (λ z in_ys. alone z (later_of y z ys in_ys)))
+    (λ later. one_kept R p x ys apart (pairs_rest R y ys pairs) later passes (λ z in_ys. alone z (later_of y z ys in_ys)))
   where
     gone : p y ≡ true → (z : X) → Contains ys z → p z ≡ true → ⊥
     gone e z in_ys f =
         let first : y ≡ x = alone y (first_of y ys) e in
         let second : z ≡ x = alone z (later_of y z ys in_ys) f in
-        let related : R y z = All-contains (R y) ys z (pairs-first R y ys pairs) in_ys in
+        let related : R y z = All-contains (R y) ys z (pairs_first R y ys pairs) in_ys in
         apart (subst (λ (a : X). R a x) first (subst (R y) second related))
 
     by-test : (t : Bool) → p y ≡ t → (y ≡ x) ⊎ Contains ys x → (Contains ys x → filter p ys ≡ x ∷ []) → cond t (y ∷ filter p ys) (filter p ys) ≡ x ∷ []
@@ -159,7 +159,7 @@ module _ (rows : List SystemRow) (at : Moment) (jobs own : List JobHead) (name :
 
       -- each of the others goes after it
       behind : (other : JobHead) → Contains later other → goes_before first other ≡ true
-      behind other there = All-contains (λ o. goes_before first o ≡ true) later other (pairs-first (λ a b. goes_before a b ≡ true) first later in_order) there
+      behind other there = All-contains (λ o. goes_before first o ≡ true) later other (pairs_first (λ a b. goes_before a b ≡ true) first later in_order) there
 
       none_before : (other : JobHead) → Contains jobs other → not (same_text other.system first.system && may_go rows at other && goes_before other first) ≡ true
       none_before other there = by-test (same_text other.system first.system) (may_go rows at other) refl refl
@@ -203,13 +203,13 @@ one_list R apart [] [] pairs others there back = refl
 one_list R apart [] (y ∷ ys) pairs others there back = absurd (none_in y (back y (first_of y ys)))
 one_list R apart (x ∷ xs) [] pairs others there back = absurd (none_in x (there x (first_of x xs)))
 one_list {X} R apart (x ∷ xs) (y ∷ ys) pairs others there back =
-    by-first (one_list R apart xs ys (pairs-rest R x xs pairs) (pairs-rest R y ys others)) (first_or_later y x ys (there x (first_of x xs))) (first_or_later x y xs (back y (first_of y ys)))
+    by_first (one_list R apart xs ys (pairs_rest R x xs pairs) (pairs_rest R y ys others)) (first_or_later y x ys (there x (first_of x xs))) (first_or_later x y xs (back y (first_of y ys)))
   where
     behind : (z : X) → Contains xs z → R x z
-    behind z in_xs = All-contains (R x) xs z (pairs-first R x xs pairs) in_xs
+    behind z in_xs = All-contains (R x) xs z (pairs_first R x xs pairs) in_xs
 
     behind_other : (z : X) → Contains ys z → R y z
-    behind_other z in_ys = All-contains (R y) ys z (pairs-first R y ys others) in_ys
+    behind_other z in_ys = All-contains (R y) ys z (pairs_first R y ys others) in_ys
 
     -- what comes after an element isn't that element
     later_than : (a z : X) → R a z → (a ≡ z) → ⊥
@@ -224,10 +224,10 @@ one_list {X} R apart (x ∷ xs) (y ∷ ys) pairs others there back =
         (λ z in_xs. elim (first_or_later y z ys (there z (later_of x z xs in_xs))) [ inl first ↦ absurd (later_than x z (behind z in_xs) (same ∙ first)) | inr later ↦ later ])
         (λ z in_ys. elim (first_or_later x z xs (back z (later_of y z ys in_ys))) [ inl first ↦ absurd (later_than y z (behind_other z in_ys) (sym same ∙ first)) | inr later ↦ later ])
 
-    by-first : Rest → (y ≡ x) ⊎ Contains ys x → (x ≡ y) ⊎ Contains xs y → x ∷ xs ≡ y ∷ ys
-    by-first again (inl same) other = (λ i. sym same i ∷ rest again (sym same) i)
-    by-first again (inr later) (inl same) = (λ i. same i ∷ rest again same i)
-    by-first again (inr later) (inr behind_x) = absurd (apart x y (behind y behind_x) (behind_other x later))
+    by_first : Rest → (y ≡ x) ⊎ Contains ys x → (x ≡ y) ⊎ Contains xs y → x ∷ xs ≡ y ∷ ys
+    by_first again (inl same) other = (λ i. sym same i ∷ rest again (sym same) i)
+    by_first again (inr later) (inl same) = (λ i. same i ∷ rest again same i)
+    by_first again (inr later) (inr behind_x) = absurd (apart x y (behind y behind_x) (behind_other x later))
 
 -- the first of some in an order
 in_front : {X : Type 0} (R : X → X → Type 0) (xs ys : List X) → AllPairs R (xs ++ ys) → AllPairs R xs
@@ -246,7 +246,7 @@ due_is_walked rows at jobs dues order due =
     one_list ComesFirst one_first (walk rows jobs at) dues walked.in_order due.in_order (λ d there. due.complete d (walked.sound d there)) (λ d there. walked.complete d (due.sound d there))
 
 pub none_due : (rows : List SystemRow) (at : Moment) → AreDue rows [] at []
-none_due rows at = walk_is_due rows at [] [] (IsPermutation-refl []) (pairs-nil (λ a b. goes_before a b ≡ true))
+none_due rows at = walk_is_due rows at [] [] (IsPermutation-refl []) (pairs_nil (λ a b. goes_before a b ≡ true))
 
 pub one_more_due : (rows : List SystemRow) (at : Moment) (jobs : List JobHead) (job : JobHead) (dues : List Due) → AreInOrder (jobs ++ job ∷ []) → AreDue rows jobs at dues
     → AreDue rows (jobs ++ job ∷ []) at (with_next rows at dues job)

@@ -46,13 +46,13 @@ with_limit (Some other) lowest = max lowest other
 abbrev pub is_called_before : List SystemRow → Moment → List JobHead → List ℕ → Bool
 is_called_before rows at seen name = list_any (λ other. same_text other.system name && may_go rows at other) seen
 
-pub any-push : {X : Type 0} (p : X → Bool) (xs : List X) (x : X) → list_any p (xs ++ x ∷ []) ≡ list_any p xs || p x
-any-push p [] x = or-false (p x)
+pub any_push : {X : Type 0} (p : X → Bool) (xs : List X) (x : X) → list_any p (xs ++ x ∷ []) ≡ list_any p xs || p x
+any_push p [] x = or-false (p x)
   where
     or-false : (b : Bool) → b || false ≡ b
     or-false true = refl
     or-false false = refl
-any-push p (y ∷ xs) x = ap (λ b. p y || b) (any-push p xs x) ∙ or-assoc (p y) _ _
+any_push p (y ∷ xs) x = ap (λ b. p y || b) (any_push p xs x) ∙ or-assoc (p y) _ _
   where
     or-assoc : (a b c : Bool) → a || (b || c) ≡ (a || b) || c
     or-assoc true b c = refl
@@ -62,7 +62,7 @@ any-push p (y ∷ xs) x = ap (λ b. p y || b) (any-push p xs x) ∙ or-assoc (p 
 
 pub limits_more : (rows : List SystemRow) (i : ℕ) (d : SystemRow) (at : Moment) (name : List ℕ) (grade : ℕ) → i < length rows → may_be_called (take (i + 1) rows) at name grade ≡ may_be_called (take i rows) at name grade || (is_system name (get_or rows i d) && is_within (limit_now (get_or rows i d) at) grade)
 limits_more rows i d at name grade h =
-    ap (λ t. may_be_called t at name grade) (take_more rows i d h) ∙ any-push (λ row. is_system name row && is_within (limit_now row at) grade) (take i rows) (get_or rows i d)
+    ap (λ t. may_be_called t at name grade) (take_more rows i d h) ∙ any_push (λ row. is_system name row && is_within (limit_now row at) grade) (take i rows) (get_or rows i d)
 
 -- ---- one more job
 
@@ -72,23 +72,23 @@ same_is a b = (bytes_decides a b).0
 -- the system of a job that is listed is free no more
 pub free_listed : (rows : List SystemRow) (at : Moment) (seen : List JobHead) (job : JobHead) (name : List ℕ) (grade : ℕ) (old new : Option ℕ) → is_within old grade ≡ (may_be_called rows at name grade && not (is_called_before rows at seen name)) → new ≡ cond (same_text job.system name) None old → may_go rows at job ≡ true → is_within new grade ≡ (may_be_called rows at name grade && not (is_called_before rows at (seen ++ job ∷ []) name))
 free_listed rows at seen job name grade old new h e may =
-    ap (λ o. is_within o grade) e ∙ by-same (same_text job.system name) ∙ ap (λ b. may_be_called rows at name grade && not b) (sym pushed)
+    ap (λ o. is_within o grade) e ∙ by_same (same_text job.system name) ∙ ap (λ b. may_be_called rows at name grade && not b) (sym pushed)
   where
     pushed : is_called_before rows at (seen ++ job ∷ []) name ≡ is_called_before rows at seen name || same_text job.system name
-    pushed = any-push (λ other. same_text other.system name && may_go rows at other) seen job ∙ ap (λ b. is_called_before rows at seen name || (same_text job.system name && b)) may ∙ ap (λ b. is_called_before rows at seen name || b) (and-true (same_text job.system name))
+    pushed = any_push (λ other. same_text other.system name && may_go rows at other) seen job ∙ ap (λ b. is_called_before rows at seen name || (same_text job.system name && b)) may ∙ ap (λ b. is_called_before rows at seen name || b) (and-true (same_text job.system name))
       where
         and-true : (b : Bool) → b && true ≡ b
         and-true true = refl
         and-true false = refl
 
-    by-same : (t : Bool) → is_within (cond t None old) grade ≡ (may_be_called rows at name grade && not (is_called_before rows at seen name || t))
-    by-same true = sym (never (may_be_called rows at name grade) (is_called_before rows at seen name))
+    by_same : (t : Bool) → is_within (cond t None old) grade ≡ (may_be_called rows at name grade && not (is_called_before rows at seen name || t))
+    by_same true = sym (never (may_be_called rows at name grade) (is_called_before rows at seen name))
       where
         never : (a b : Bool) → a && not (b || true) ≡ false
         never true true = refl
         never true false = refl
         never false b = refl
-    by-same false = h ∙ ap (λ b. may_be_called rows at name grade && not b) (or-false (is_called_before rows at seen name))
+    by_same false = h ∙ ap (λ b. may_be_called rows at name grade && not b) (or-false (is_called_before rows at seen name))
       where
         or-false : (b : Bool) → b ≡ b || false
         or-false true = refl
@@ -97,15 +97,15 @@ free_listed rows at seen job name grade old new h e may =
 -- a job that isn't listed leaves the systems as they are
 pub free_passed : (rows : List SystemRow) (at : Moment) (seen : List JobHead) (job : JobHead) (name : List ℕ) (grade : ℕ) → (may_go rows at job && not (is_called_before rows at seen job.system)) ≡ false → is_called_before rows at (seen ++ job ∷ []) name ≡ is_called_before rows at seen name
 free_passed rows at seen job name grade passed =
-    any-push (λ other. same_text other.system name && may_go rows at other) seen job ∙ by-same (same_text job.system name) refl
+    any_push (λ other. same_text other.system name && may_go rows at other) seen job ∙ by_same (same_text job.system name) refl
   where
-    by-same : (t : Bool) → same_text job.system name ≡ t → is_called_before rows at seen name || (t && may_go rows at job) ≡ is_called_before rows at seen name
-    by-same false e = or-false (is_called_before rows at seen name)
+    by_same : (t : Bool) → same_text job.system name ≡ t → is_called_before rows at seen name || (t && may_go rows at job) ≡ is_called_before rows at seen name
+    by_same false e = or-false (is_called_before rows at seen name)
       where
         or-false : (b : Bool) → b || false ≡ b
         or-false true = refl
         or-false false = refl
-    by-same true e = absorbed (may_go rows at job) (is_called_before rows at seen name) (subst (λ (n : List ℕ). (may_go rows at job && not (is_called_before rows at seen n)) ≡ false) (same_is job.system name e) passed)
+    by_same true e = absorbed (may_go rows at job) (is_called_before rows at seen name) (subst (λ (n : List ℕ). (may_go rows at job && not (is_called_before rows at seen n)) ≡ false) (same_is job.system name e) passed)
       where
         absorbed : (may before : Bool) → (may && not before) ≡ false → before || may ≡ before
         absorbed true true h = refl
@@ -133,10 +133,10 @@ pub and-left : (a b : Bool) → a && b ≡ true → a ≡ true
 and-left true b e = refl
 and-left false b e = e
 
-walk-append : (rows : List SystemRow) (at : Moment) (seen jobs more : List JobHead) → walk_after rows at seen (jobs ++ more) ≡ walk_after rows at seen jobs ++ walk_after rows at (seen ++ jobs) more
-walk-append rows at seen [] more = ap (λ (s : List JobHead). walk_after rows at s more) (sym (append-nil seen))
-walk-append rows at seen (job ∷ jobs) more =
-    by-next (is_next rows at seen job) (walk-append rows at (seen ++ job ∷ []) jobs more ∙ ap (λ (s : List JobHead). walk_after rows at (seen ++ job ∷ []) jobs ++ walk_after rows at s more) (append_assoc seen (job ∷ []) jobs))
+walk_append : (rows : List SystemRow) (at : Moment) (seen jobs more : List JobHead) → walk_after rows at seen (jobs ++ more) ≡ walk_after rows at seen jobs ++ walk_after rows at (seen ++ jobs) more
+walk_append rows at seen [] more = ap (λ (s : List JobHead). walk_after rows at s more) (sym (append-nil seen))
+walk_append rows at seen (job ∷ jobs) more =
+    by_next (is_next rows at seen job) (walk_append rows at (seen ++ job ∷ []) jobs more ∙ ap (λ (s : List JobHead). walk_after rows at (seen ++ job ∷ []) jobs ++ walk_after rows at s more) (append_assoc seen (job ∷ []) jobs))
   where
     whole : List Due
     whole = walk_after rows at (seen ++ job ∷ []) (jobs ++ more)
@@ -144,9 +144,9 @@ walk-append rows at seen (job ∷ jobs) more =
     first : List Due
     first = walk_after rows at (seen ++ job ∷ []) jobs
 
-    by-next : (t : Bool) → whole ≡ first ++ walk_after rows at (seen ++ job ∷ jobs) more → cond t (due_of job ∷ whole) whole ≡ cond t (due_of job ∷ first) first ++ walk_after rows at (seen ++ job ∷ jobs) more
-    by-next true e = ap (λ l. due_of job ∷ l) e
-    by-next false e = e
+    by_next : (t : Bool) → whole ≡ first ++ walk_after rows at (seen ++ job ∷ jobs) more → cond t (due_of job ∷ whole) whole ≡ cond t (due_of job ∷ first) first ++ walk_after rows at (seen ++ job ∷ jobs) more
+    by_next true e = ap (λ l. due_of job ∷ l) e
+    by_next false e = e
 
 -- the systems of the jobs that may go are those that are listed
 listed : (rows : List SystemRow) (at : Moment) (seen jobs : List JobHead) (name : List ℕ) → is_called_before rows at (seen ++ jobs) name ≡ is_called_before rows at seen name || is_listed (walk_after rows at seen jobs) name
@@ -158,7 +158,7 @@ listed rows at seen [] name = ap (λ (s : List JobHead). is_called_before rows a
 listed rows at seen (job ∷ jobs) name =
     ap (λ (s : List JobHead). is_called_before rows at s name) (sym (append_assoc seen (job ∷ []) jobs))
     ∙ listed rows at (seen ++ job ∷ []) jobs name
-    ∙ by-next (is_next rows at seen job) refl
+    ∙ by_next (is_next rows at seen job) refl
   where
     rest : List Due
     rest = walk_after rows at (seen ++ job ∷ []) jobs
@@ -171,24 +171,24 @@ listed rows at seen (job ∷ jobs) name =
     and-true true = refl
     and-true false = refl
 
-    by-next : (t : Bool) → is_next rows at seen job ≡ t → is_called_before rows at (seen ++ job ∷ []) name || is_listed rest name ≡ is_called_before rows at seen name || is_listed (cond t (due_of job ∷ rest) rest) name
-    by-next true e =
+    by_next : (t : Bool) → is_next rows at seen job ≡ t → is_called_before rows at (seen ++ job ∷ []) name || is_listed rest name ≡ is_called_before rows at seen name || is_listed (cond t (due_of job ∷ rest) rest) name
+    by_next true e =
         let may : may_go rows at job ≡ true = and-left (may_go rows at job) _ e in
-        ap (λ b. b || is_listed rest name) (any-push (λ other. same_text other.system name && may_go rows at other) seen job)
+        ap (λ b. b || is_listed rest name) (any_push (λ other. same_text other.system name && may_go rows at other) seen job)
         ∙ ap (λ b. (is_called_before rows at seen name || (same_text job.system name && b)) || is_listed rest name) may
         ∙ ap (λ b. (is_called_before rows at seen name || b) || is_listed rest name) (and-true (same_text job.system name))
         ∙ or-assoc (is_called_before rows at seen name) (same_text job.system name) (is_listed rest name)
-    by-next false e = ap (λ b. b || is_listed rest name) (free_passed rows at seen job name job.grade e)
+    by_next false e = ap (λ b. b || is_listed rest name) (free_passed rows at seen job name job.grade e)
 
 pub walk_step : (rows : List SystemRow) (at : Moment) (jobs : List JobHead) (job : JobHead) → walk rows (jobs ++ job ∷ []) at ≡ with_next rows at (walk rows jobs at) job
 walk_step rows at jobs job =
-    walk-append rows at [] jobs (job ∷ [])
+    walk_append rows at [] jobs (job ∷ [])
     ∙ ap (λ t. walk rows jobs at ++ cond t (due_of job ∷ []) []) (ap (λ b. may_go rows at job && not b) (listed rows at [] jobs job.system))
-    ∙ by-next (may_go rows at job && not (is_listed (walk rows jobs at) job.system))
+    ∙ by_next (may_go rows at job && not (is_listed (walk rows jobs at) job.system))
   where
-    by-next : (t : Bool) → walk rows jobs at ++ cond t (due_of job ∷ []) [] ≡ cond t (walk rows jobs at ++ due_of job ∷ []) (walk rows jobs at)
-    by-next true = refl
-    by-next false = append-nil (walk rows jobs at)
+    by_next : (t : Bool) → walk rows jobs at ++ cond t (due_of job ∷ []) [] ≡ cond t (walk rows jobs at ++ due_of job ∷ []) (walk rows jobs at)
+    by_next true = refl
+    by_next false = append-nil (walk rows jobs at)
 
 -- ---- what the walk lists
 
@@ -239,7 +239,7 @@ is_last rows at (other ∷ seen) later job order =
 walk_lists : (rows : List SystemRow) (at : Moment) (seen rest : List JobHead) → AreInOrder (seen ++ rest) → walk_after rows at seen rest ≡ map due_of (filter (is_due rows (seen ++ rest) at) rest)
 walk_lists rows at seen [] order = refl
 walk_lists rows at seen (job ∷ rest) order =
-    by-next (is_next rows at seen job) (walk_lists rows at (seen ++ job ∷ []) rest (subst AreInOrder (sym (append_assoc seen (job ∷ []) rest)) order) ∙ ap (λ (all : List JobHead). map due_of (filter (is_due rows all at) rest)) (append_assoc seen (job ∷ []) rest)) ∙ ap (λ t. map due_of (cond t (job ∷ filter p rest) (filter p rest))) next_is
+    by_next (is_next rows at seen job) (walk_lists rows at (seen ++ job ∷ []) rest (subst AreInOrder (sym (append_assoc seen (job ∷ []) rest)) order) ∙ ap (λ (all : List JobHead). map due_of (filter (is_due rows all at) rest)) (append_assoc seen (job ∷ []) rest)) ∙ ap (λ t. map due_of (cond t (job ∷ filter p rest) (filter p rest))) next_is
   where
     p : JobHead → Bool
     p = is_due rows (seen ++ job ∷ rest) at
@@ -247,33 +247,33 @@ walk_lists rows at seen (job ∷ rest) order =
     next_is : is_next rows at seen job ≡ p job
     next_is = ap (λ b. may_go rows at job && b) (sym (is_last rows at seen rest job order))
 
-    by-next : (t : Bool) → walk_after rows at (seen ++ job ∷ []) rest ≡ map due_of (filter p rest) → cond t (due_of job ∷ walk_after rows at (seen ++ job ∷ []) rest) (walk_after rows at (seen ++ job ∷ []) rest) ≡ map due_of (cond t (job ∷ filter p rest) (filter p rest))
-    by-next true again = ap (λ t. due_of job ∷ t) again
-    by-next false again = again
+    by_next : (t : Bool) → walk_after rows at (seen ++ job ∷ []) rest ≡ map due_of (filter p rest) → cond t (due_of job ∷ walk_after rows at (seen ++ job ∷ []) rest) (walk_after rows at (seen ++ job ∷ []) rest) ≡ map due_of (cond t (job ∷ filter p rest) (filter p rest))
+    by_next true again = ap (λ t. due_of job ∷ t) again
+    by_next false again = again
 
 -- a test of all elements is the same in another order
-not-any : {X : Type 0} (p : X → Bool) (zs : List X) → list_all p zs ≡ not (list_any (λ x. not (p x)) zs)
-not-any p [] = refl
-not-any p (z ∷ zs) = by-test (p z) (not-any p zs)
+not_any : {X : Type 0} (p : X → Bool) (zs : List X) → list_all p zs ≡ not (list_any (λ x. not (p x)) zs)
+not_any p [] = refl
+not_any p (z ∷ zs) = by-test (p z) (not_any p zs)
   where
     by-test : (t : Bool) → list_all p zs ≡ not (list_any (λ x. not (p x)) zs) → t && list_all p zs ≡ not (not t || list_any (λ x. not (p x)) zs)
     by-test true e = e
     by-test false e = refl
 
-all-permutation : {X : Type 0} (p : X → Bool) (xs ys : List X) → IsPermutation xs ys → list_all p xs ≡ list_all p ys
-all-permutation p xs ys same = not-any p xs ∙ ap not (list_any-IsPermutation (λ x. not (p x)) xs ys same) ∙ sym (not-any p ys)
+all_permutation : {X : Type 0} (p : X → Bool) (xs ys : List X) → IsPermutation xs ys → list_all p xs ≡ list_all p ys
+all_permutation p xs ys same = not_any p xs ∙ ap not (list_any-IsPermutation (λ x. not (p x)) xs ys same) ∙ sym (not_any p ys)
 
 pub due_same : (rows : List SystemRow) (at : Moment) (jobs ordered : List JobHead) (job : JobHead) → IsPermutation jobs ordered → is_due rows jobs at job ≡ is_due rows ordered at job
-due_same rows at jobs ordered job same = ap (λ b. may_go rows at job && b) (all-permutation (not_after rows at job) jobs ordered same)
+due_same rows at jobs ordered job same = ap (λ b. may_go rows at job && b) (all_permutation (not_after rows at job) jobs ordered same)
 
 pub map_at : {X Y : Type 0} (f : X → Y) (xs : List X) (k : ℕ) (d : Y) (e : X) → k < length xs → get_or (map f xs) k d ≡ f (get_or xs k e)
 map_at f [] k d e h = absurd (omega arith)
 map_at f (x ∷ xs) zero d e h = refl
 map_at f (x ∷ xs) (suc k) d e h = map_at f xs k d e (omega arith)
 
-pairs-map : (jobs : List JobHead) → AreInOrder jobs → AllPairs ComesFirst (map due_of jobs)
-pairs-map [] order i j d below within = absurd (omega arith)
-pairs-map (job ∷ jobs) order i j d below within =
+pairs_map : (jobs : List JobHead) → AreInOrder jobs → AllPairs ComesFirst (map due_of jobs)
+pairs_map [] order i j d below within = absurd (omega arith)
+pairs_map (job ∷ jobs) order i j d below within =
     let count : length (map due_of (job ∷ jobs)) ≡ length (job ∷ jobs) = length-map (job ∷ jobs) due_of in
     let a = map_at due_of (job ∷ jobs) i d job (omega arith) in
     let b = map_at due_of (job ∷ jobs) j d job (omega arith) in
@@ -285,7 +285,7 @@ walk_is_due rows at jobs ordered same order = subst (AreDue rows jobs at) (sym (
       record { job = m.0; there = Contains-permutation ordered jobs m.0 (IsPermutation-sym jobs ordered same) f.0; first = due_same rows at jobs ordered m.0 same ∙ f.1; is = sym m.2 };
   complete = λ due h. subst (Contains (map due_of (filter p ordered))) (sym h.is)
       (mapped due_of (filter p ordered) h.job (kept p ordered h.job (Contains-permutation jobs ordered h.job same h.there) (sym (due_same rows at jobs ordered h.job same) ∙ h.first)));
-  in_order = pairs-map (filter p ordered) (AllPairs-filter (λ a b. goes_before a b ≡ true) p ordered order);
+  in_order = pairs_map (filter p ordered) (AllPairs-filter (λ a b. goes_before a b ≡ true) p ordered order);
 })
   where
     p : JobHead → Bool
@@ -348,11 +348,11 @@ lowered old new lowest now false grade found e f g = ap (λ o. is_within o grade
     or-false true = refl
     or-false false = refl
 lowered old new lowest now true grade found e f g =
-    ap (λ o. is_within o grade) e ∙ ap (λ n. leb grade n) (g ∙ ap (λ o. with_limit o lowest) (f refl)) ∙ by-old old
+    ap (λ o. is_within o grade) e ∙ ap (λ n. leb grade n) (g ∙ ap (λ o. with_limit o lowest) (f refl)) ∙ by_old old
   where
-    by-old : (o : Option ℕ) → leb grade (with_limit o lowest) ≡ (is_within o grade || leb grade lowest)
-    by-old None = refl
-    by-old (Some other) = grind (arith, nat_tests)
+    by_old : (o : Option ℕ) → leb grade (with_limit o lowest) ≡ (is_within o grade || leb grade lowest)
+    by_old None = refl
+    by_old (Some other) = grind (arith, nat_tests)
 
 -- a system that may not be called adds nothing
 pub not_more : (a b : Bool) (limit : Option ℕ) (grade : ℕ) → limit ≡ None → (a || (b && is_within limit grade)) ≡ a

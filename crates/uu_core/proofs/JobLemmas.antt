@@ -10,7 +10,7 @@ use Rattle.uu_core.specs.declared.custody.Key.{Key}
 use Rattle.uu_core.specs.declared.job.NewJob.{NewJob}
 use Rattle.uu_core.specs.State.{State, Job, same_text, is_job}
 use Rattle.uu_core.specs.Verdict.{verdict, taken_of}
-use Rattle.uu_core.specs.After.{after, after_verdict, accept, hand_in, take_in, with_job, change_job, job_of, is_among, is_released}
+use Rattle.uu_core.specs.After.{after, after_verdict, accept, hand_in, with_job_once, with_job, change_job, job_of, is_among, is_released}
 use Rattle.uu_core.specs.Run.{state_after}
 use Rattle.uu_core.specs.Laws.{accepted_of, unless_refused, lets_go, IsSameJob, IsAmong, IsHandedIn, IsOfRun, handed_by, is_repeat}
 use Rattle.uu_core.proofs.KeyLemmas.{by_hand_in, first_where}
@@ -29,42 +29,42 @@ stays_changed jobs number change job little h = by-test (is_job number job) refl
     f other = cond (is_job number other) (change other) other
 
     by-test : (t : Bool) → is_job number job ≡ t → IsAmong (change_job number change jobs) job
-    by-test true e = record { later = change job; there = ap-there (rw e) (mapped f jobs job h); same = little job }
+    by-test true e = record { later = change job; there = ap_there (rw e) (mapped f jobs job h); same = little job }
       where
-        ap-there : f job ≡ change job → Contains (map f jobs) (f job) → Contains (map f jobs) (change job)
-        ap-there q c = rw (← q) c
-    by-test false e = record { later = job; there = ap-there (rw e) (mapped f jobs job h); same = same_job job }
+        ap_there : f job ≡ change job → Contains (map f jobs) (f job) → Contains (map f jobs) (change job)
+        ap_there q c = rw (← q) c
+    by-test false e = record { later = job; there = ap_there (rw e) (mapped f jobs job h); same = same_job job }
       where
-        ap-there : f job ≡ job → Contains (map f jobs) (f job) → Contains (map f jobs) job
-        ap-there q c = rw q at c
+        ap_there : f job ≡ job → Contains (map f jobs) (f job) → Contains (map f jobs) job
+        ap_there q c = rw q at c
 
-stays_added : (state : State) (key : Key) (new : NewJob) (job : Job) (comes : HandIn) → Contains state.jobs job → IsAmong (take_in comes key new state).jobs job
+stays_added : (state : State) (key : Key) (new : NewJob) (job : Job) (comes : HandIn) → Contains state.jobs job → IsAmong (with_job_once comes key new state).jobs job
 stays_added state key new job (First number) h = itself _ job (Contains-append_left state.jobs (job_of state.next new ∷ []) job h)
 stays_added state key new job (Again number) h = itself state.jobs job h
 
 not-true : (t : Bool) → t ≡ false → not t ≡ true
 not-true t e = rw e
 
-pub stays-accept : (state : State) (command : Command) (job : Job) → Contains state.jobs job → lets_go command job ≡ false → IsAmong (accept state command).jobs job
-stays-accept state (Define def) job h e = itself state.jobs job h
-stays-accept state (Remove name) job h e = itself state.jobs job h
-stays-accept state (Queue new) job h e = itself _ job (Contains-append_left state.jobs (job_of state.next new ∷ []) job h)
-stays-accept state (QueueOnce key new) job h e = stays_added state key new job (hand_in state key) h
-stays-accept state (Kill number by) job h e = itself _ job (kept (λ other. not (is_job number other)) state.jobs job h (not-true (is_job number job) e))
-stays-accept state (Regrade number grade by) job h e = stays_changed state.jobs number (λ other. record other { grade = grade }) job (λ j. record { number = refl; system = refl; user = refl; kind = refl; bytes = refl }) h
-stays-accept state (Rejuvenate number at by) job h e = stays_changed state.jobs number (λ other. record other { queued = at.second }) job (λ j. record { number = refl; system = refl; user = refl; kind = refl; bytes = refl }) h
-stays-accept state (Failed system at why) job h e = itself state.jobs job h
-stays-accept state (Done system at jobs) job h e = itself _ job (kept (λ j. not (is_among jobs j)) state.jobs job h (not-true (is_among jobs job) e))
-stays-accept state (Release system jobs) job h e = itself _ job (kept (λ j. not (is_released system jobs j)) state.jobs job h (not-true (is_released system jobs job) e))
-stays-accept state (Entry bytes) job h e = itself state.jobs job h
-stays-accept state (Forget system below) job h e = itself state.jobs job h
+pub stays_accept : (state : State) (command : Command) (job : Job) → Contains state.jobs job → lets_go command job ≡ false → IsAmong (accept state command).jobs job
+stays_accept state (Define def) job h e = itself state.jobs job h
+stays_accept state (Remove name) job h e = itself state.jobs job h
+stays_accept state (Queue new) job h e = itself _ job (Contains-append_left state.jobs (job_of state.next new ∷ []) job h)
+stays_accept state (QueueOnce key new) job h e = stays_added state key new job (hand_in state key) h
+stays_accept state (Kill number by) job h e = itself _ job (kept (λ other. not (is_job number other)) state.jobs job h (not-true (is_job number job) e))
+stays_accept state (Regrade number grade by) job h e = stays_changed state.jobs number (λ other. record other { grade = grade }) job (λ j. record { number = refl; system = refl; user = refl; kind = refl; bytes = refl }) h
+stays_accept state (Rejuvenate number at by) job h e = stays_changed state.jobs number (λ other. record other { queued = at.second }) job (λ j. record { number = refl; system = refl; user = refl; kind = refl; bytes = refl }) h
+stays_accept state (Failed system at why) job h e = itself state.jobs job h
+stays_accept state (Done system at jobs) job h e = itself _ job (kept (λ j. not (is_among jobs j)) state.jobs job h (not-true (is_among jobs job) e))
+stays_accept state (Release system jobs) job h e = itself _ job (kept (λ j. not (is_released system jobs j)) state.jobs job h (not-true (is_released system jobs job) e))
+stays_accept state (Entry bytes) job h e = itself state.jobs job h
+stays_accept state (Forget system below) job h e = itself state.jobs job h
 
 pub stays : (state : State) (command : Command) (job : Job) → Contains state.jobs job → lets_go command job ≡ false → IsAmong (after state command).0.jobs job
-stays state command job h e = by-verdict (verdict state command)
+stays state command job h e = by_verdict (verdict state command)
   where
-    by-verdict : (v : Option Refusal) → IsAmong (after_verdict v state command).0.jobs job
-    by-verdict None = stays-accept state command job h e
-    by-verdict (Some refusal) = itself state.jobs job h
+    by_verdict : (v : Option Refusal) → IsAmong (after_verdict v state command).0.jobs job
+    by_verdict None = stays_accept state command job h e
+    by_verdict (Some refusal) = itself state.jobs job h
 
 -- ---- nothing is made
 
@@ -87,29 +87,29 @@ was_added state new command later is first e h = elim (Contains-push_cases state
   | inr same ↦ inr (record { new = new; command_is = is; accepted = e; first = first; job_is = sym same })
 ]
 
-pub handed_in-accept : (state : State) (command : Command) (later : Job) → verdict state command ≡ None → Contains (accept state command).jobs later → IsAmong state.jobs later ⊎ IsHandedIn state command later
-handed_in-accept state (Define def) later e h = inl (itself state.jobs later h)
-handed_in-accept state (Remove name) later e h = inl (itself state.jobs later h)
-handed_in-accept state (Queue new) later e h = was_added state new (Queue new) later refl refl e h
-handed_in-accept state (QueueOnce key new) later e h = by_hand_in P (taken_of state key) key state.next (λ first h. was_added state new (QueueOnce key new) later refl first e h) (λ row is same repeat h. inl (itself state.jobs later h)) refl h
+pub handed_in_accept : (state : State) (command : Command) (later : Job) → verdict state command ≡ None → Contains (accept state command).jobs later → IsAmong state.jobs later ⊎ IsHandedIn state command later
+handed_in_accept state (Define def) later e h = inl (itself state.jobs later h)
+handed_in_accept state (Remove name) later e h = inl (itself state.jobs later h)
+handed_in_accept state (Queue new) later e h = was_added state new (Queue new) later refl refl e h
+handed_in_accept state (QueueOnce key new) later e h = by_hand_in P (taken_of state key) key state.next (λ first h. was_added state new (QueueOnce key new) later refl first e h) (λ row is same repeat h. inl (itself state.jobs later h)) refl h
   where
     P : Bool → HandIn → Type 0
-    P again comes = is_repeat state (QueueOnce key new) ≡ again → Contains (take_in comes key new state).jobs later → IsAmong state.jobs later ⊎ IsHandedIn state (QueueOnce key new) later
-handed_in-accept state (Kill number by) later e h = inl (itself state.jobs later (from_filter (λ other. not (is_job number other)) state.jobs later h).0)
-handed_in-accept state (Regrade number grade by) later e h = inl (was_changed state.jobs number (λ other. record other { grade = grade }) later (λ j. record { number = refl; system = refl; user = refl; kind = refl; bytes = refl }) h)
-handed_in-accept state (Rejuvenate number at by) later e h = inl (was_changed state.jobs number (λ other. record other { queued = at.second }) later (λ j. record { number = refl; system = refl; user = refl; kind = refl; bytes = refl }) h)
-handed_in-accept state (Failed system at why) later e h = inl (itself state.jobs later h)
-handed_in-accept state (Done system at jobs) later e h = inl (itself state.jobs later (from_filter (λ j. not (is_among jobs j)) state.jobs later h).0)
-handed_in-accept state (Release system jobs) later e h = inl (itself state.jobs later (from_filter (λ j. not (is_released system jobs j)) state.jobs later h).0)
-handed_in-accept state (Entry bytes) later e h = inl (itself state.jobs later h)
-handed_in-accept state (Forget system below) later e h = inl (itself state.jobs later h)
+    P again comes = is_repeat state (QueueOnce key new) ≡ again → Contains (with_job_once comes key new state).jobs later → IsAmong state.jobs later ⊎ IsHandedIn state (QueueOnce key new) later
+handed_in_accept state (Kill number by) later e h = inl (itself state.jobs later (from_filter (λ other. not (is_job number other)) state.jobs later h).0)
+handed_in_accept state (Regrade number grade by) later e h = inl (was_changed state.jobs number (λ other. record other { grade = grade }) later (λ j. record { number = refl; system = refl; user = refl; kind = refl; bytes = refl }) h)
+handed_in_accept state (Rejuvenate number at by) later e h = inl (was_changed state.jobs number (λ other. record other { queued = at.second }) later (λ j. record { number = refl; system = refl; user = refl; kind = refl; bytes = refl }) h)
+handed_in_accept state (Failed system at why) later e h = inl (itself state.jobs later h)
+handed_in_accept state (Done system at jobs) later e h = inl (itself state.jobs later (from_filter (λ j. not (is_among jobs j)) state.jobs later h).0)
+handed_in_accept state (Release system jobs) later e h = inl (itself state.jobs later (from_filter (λ j. not (is_released system jobs j)) state.jobs later h).0)
+handed_in_accept state (Entry bytes) later e h = inl (itself state.jobs later h)
+handed_in_accept state (Forget system below) later e h = inl (itself state.jobs later h)
 
 pub handed_in : (state : State) (command : Command) (later : Job) → Contains (after state command).0.jobs later → IsAmong state.jobs later ⊎ IsHandedIn state command later
-handed_in state command later h = by-verdict (verdict state command) refl h
+handed_in state command later h = by_verdict (verdict state command) refl h
   where
-    by-verdict : (v : Option Refusal) → verdict state command ≡ v → Contains (after_verdict v state command).0.jobs later → IsAmong state.jobs later ⊎ IsHandedIn state command later
-    by-verdict None e h = handed_in-accept state command later e h
-    by-verdict (Some refusal) e h = inl (itself state.jobs later h)
+    by_verdict : (v : Option Refusal) → verdict state command ≡ v → Contains (after_verdict v state command).0.jobs later → IsAmong state.jobs later ⊎ IsHandedIn state command later
+    by_verdict None e h = handed_in_accept state command later e h
+    by_verdict (Some refusal) e h = inl (itself state.jobs later h)
 
 -- ---- runs
 
@@ -132,19 +132,19 @@ same_gone (Failed system at why) job later same = refl
 same_gone (Entry bytes) job later same = refl
 same_gone (Forget system below) job later same = refl
 
-pub stays-run : (state : State) (commands : List Command) (job : Job) → Contains state.jobs job → All (λ (command : Command). lets_go command job ≡ false) (accepted_of state commands) → IsAmong (state_after state commands).jobs job
-stays-run state [] job there h = itself state.jobs job there
-stays-run state (command ∷ commands) job there h = by-verdict (verdict state command) refl h (λ later inside kept. stays-run (after state command).0 commands later inside kept)
+pub stays_run : (state : State) (commands : List Command) (job : Job) → Contains state.jobs job → All (λ (command : Command). lets_go command job ≡ false) (accepted_of state commands) → IsAmong (state_after state commands).jobs job
+stays_run state [] job there h = itself state.jobs job there
+stays_run state (command ∷ commands) job there h = by_verdict (verdict state command) refl h (λ later inside kept. stays_run (after state command).0 commands later inside kept)
   where
-    by-verdict : (v : Option Refusal) → verdict state command ≡ v → All (λ (c : Command). lets_go c job ≡ false) (unless_refused v command (accepted_of (after state command).0 commands))
+    by_verdict : (v : Option Refusal) → verdict state command ≡ v → All (λ (c : Command). lets_go c job ≡ false) (unless_refused v command (accepted_of (after state command).0 commands))
         → ((later : Job) → Contains (after state command).0.jobs later → All (λ (c : Command). lets_go c later ≡ false) (accepted_of (after state command).0 commands) → IsAmong (state_after (after state command).0 commands).jobs later)
         → IsAmong (state_after (after state command).0 commands).jobs job
-    by-verdict None e h again =
+    by_verdict None e h again =
         let rest : All (λ (c : Command). lets_go c job ≡ false) (accepted_of (after state command).0 commands) = All-tail (λ (c : Command). lets_go c job ≡ false) command (accepted_of (after state command).0 commands) h in
         let a : IsAmong (after state command).0.jobs job = stays state command job there (All-head (λ (c : Command). lets_go c job ≡ false) command (accepted_of (after state command).0 commands) h) in
         let b : IsAmong (state_after (after state command).0 commands).jobs a.later = again a.later a.there (All-weaker (λ (c : Command). lets_go c job ≡ false) (λ (c : Command). lets_go c a.later ≡ false) (λ c gone. sym (same_gone c job a.later a.same) ∙ gone) (accepted_of (after state command).0 commands) rest) in
         record { later = b.later; there = b.there; same = same_later job a.later b.later a.same b.same }
-    by-verdict (Some refusal) e h again = again job (subst (λ (s : State). Contains s.jobs job) (sym (ap (λ v. (after_verdict v state command).0) e)) there) h
+    by_verdict (Some refusal) e h again = again job (subst (λ (s : State). Contains s.jobs job) (sym (ap (λ v. (after_verdict v state command).0) e)) there) h
 
 -- a job that is among those after the first command of a run
 earlier : (state : State) (command : Command) (commands : List Command) (last : Job) → IsAmong (after state command).0.jobs last → IsAmong state.jobs last ⊎ IsOfRun state (command ∷ commands) last
@@ -161,9 +161,9 @@ earlier state command commands last among = elim (handed_in state command among.
   })
 ]
 
-pub handed_in-run : (state : State) (commands : List Command) (last : Job) → Contains (state_after state commands).jobs last → IsAmong state.jobs last ⊎ IsOfRun state commands last
-handed_in-run state [] last h = inl (itself state.jobs last h)
-handed_in-run state (command ∷ commands) last h = elim (handed_in-run (after state command).0 commands last h) [
+pub handed_in_run : (state : State) (commands : List Command) (last : Job) → Contains (state_after state commands).jobs last → IsAmong state.jobs last ⊎ IsOfRun state commands last
+handed_in_run state [] last h = inl (itself state.jobs last h)
+handed_in_run state (command ∷ commands) last h = elim (handed_in_run (after state command).0 commands last h) [
   | inl among ↦ earlier state command commands last among
   | inr made ↦ inr (record {
     before = command ∷ made.before;
@@ -181,5 +181,5 @@ queued state job e = subst (λ (s : State). Contains s.jobs (job_of state.next j
 
 pub queued_once : (state : State) (key : Key) (job : NewJob) → verdict state (QueueOnce key job) ≡ None → is_repeat state (QueueOnce key job) ≡ false → Contains (after state (QueueOnce key job)).0.jobs (job_of state.next job)
 queued_once state key job e first =
-    subst (λ (s : State). Contains s.jobs (job_of state.next job)) (sym (ap (λ v. (after_verdict v state (QueueOnce key job)).0) e ∙ ap (λ comes. take_in comes key job state) (first_where (taken_of state key) key state.next first)))
+    subst (λ (s : State). Contains s.jobs (job_of state.next job)) (sym (ap (λ v. (after_verdict v state (QueueOnce key job)).0) e ∙ ap (λ comes. with_job_once comes key job state) (first_where (taken_of state key) key state.next first)))
     (Contains-append_right state.jobs (job_of state.next job ∷ []) (job_of state.next job) (first_of (job_of state.next job) []))

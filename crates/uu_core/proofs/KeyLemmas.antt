@@ -35,9 +35,9 @@ by_hand_in P (Some row) key next first again = by-test (row.mark == key.mark) re
     by-test false e = first
 
 -- what was taken under no number of the key's
-nothing-taken : (taken : Option Taken) (key : Key) → is_again taken key ≡ false → is_other taken key ≡ false → taken ≡ None
-nothing-taken None key e f = refl
-nothing-taken (Some row) key e f = absurd (by-test (row.mark == key.mark) e f)
+nothing_taken : (taken : Option Taken) (key : Key) → is_again taken key ≡ false → is_other taken key ≡ false → taken ≡ None
+nothing_taken None key e f = refl
+nothing_taken (Some row) key e f = absurd (by-test (row.mark == key.mark) e f)
   where
     by-test : (t : Bool) → t ≡ false → not t ≡ false → ⊥
     by-test true e f = cc
@@ -48,4 +48,4 @@ pub first_why : (state : State) (key : Key) (job : NewJob) → verdict state (Qu
 first_why state key job e first =
     let why = once_accepted (are_known state key job) state.next (link_of state key.from).below (is_other (taken_of state key) key) key job
     (ap (λ again. first_reason (cond again [] (fresh_reasons (are_known state key job) state.next (link_of state key.from).below (is_other (taken_of state key) key) key job))) (sym first) ∙ e) in
-    (why.3, nothing-taken (taken_of state key) key first why.4)
+    (why.3, nothing_taken (taken_of state key) key first why.4)

@@ -13,7 +13,7 @@ use Rattle.std.proofs.lemmas.List.Folds.{find-append}
 use Rattle.uu_core.specs.declared.custody.Taken.{Taken}
 use Rattle.uu_core.specs.State.{State, Link, same_text, is_link, link_of, new_link, says_nothing}
 use Rattle.uu_core.specs.After.{is_before, put_by, put_link, with_taken, forgotten}
-use Rattle.uu_core.proofs.WellFormedLemmas.{link-named}
+use Rattle.uu_core.proofs.WellFormedLemmas.{link_named}
 
 -- ---- names
 
@@ -39,9 +39,9 @@ not_less_itself name e = apart (sym e ∙ nat_list_cmp_total.antisymm name name 
 -- ---- what is found
 
 -- a filter that keeps all that the search finds
-pub find-keeps : {X : Type 0} (p q : X → Bool) (xs : List X) → ((x : X) → p x ≡ true → q x ≡ true) → find p (filter q xs) ≡ find p xs
-find-keeps p q [] h = refl
-find-keeps p q (x ∷ xs) h = by-test (q x) (p x) refl refl (find-keeps p q xs h)
+pub find_keeps : {X : Type 0} (p q : X → Bool) (xs : List X) → ((x : X) → p x ≡ true → q x ≡ true) → find p (filter q xs) ≡ find p xs
+find_keeps p q [] h = refl
+find_keeps p q (x ∷ xs) h = by-test (q x) (p x) refl refl (find_keeps p q xs h)
   where
     by-test : (s t : Bool) → q x ≡ s → p x ≡ t → find p (filter q xs) ≡ find p xs → find p (cond s (x ∷ filter q xs) (filter q xs)) ≡ cond t (Some x) (find p xs)
     by-test true t e f again = rw f (ap (λ o. cond t (Some x) o) again)
@@ -49,9 +49,9 @@ find-keeps p q (x ∷ xs) h = by-test (q x) (p x) refl refl (find-keeps p q xs h
     by-test false false e f again = again
 
 -- one that drops all that it finds
-pub find-drops : {X : Type 0} (p q : X → Bool) (xs : List X) → ((x : X) → p x ≡ true → q x ≡ false) → find p (filter q xs) ≡ None
-find-drops p q [] h = refl
-find-drops p q (x ∷ xs) h = by-test (q x) (p x) refl refl (find-drops p q xs h)
+pub find_drops : {X : Type 0} (p q : X → Bool) (xs : List X) → ((x : X) → p x ≡ true → q x ≡ false) → find p (filter q xs) ≡ None
+find_drops p q [] h = refl
+find_drops p q (x ∷ xs) h = by-test (q x) (p x) refl refl (find_drops p q xs h)
   where
     by-test : (s t : Bool) → q x ≡ s → p x ≡ t → find p (filter q xs) ≡ None → find p (cond s (x ∷ filter q xs) (filter q xs)) ≡ None
     by-test false t e f again = again
@@ -70,14 +70,14 @@ module _ (item : Link) (links : List Link) where
   abbrev later : Link → Bool
   later link = is_before name item link
 
-  find-split : (p : Link → Bool) → find p (put_by name item links) ≡ option_or (find p (filter earlier links)) (cond (p item) (Some item) (find p (filter later links)))
-  find-split p = find-append p (filter earlier links) (item ∷ filter later links)
+  find_split : (p : Link → Bool) → find p (put_by name item links) ≡ option_or (find p (filter earlier links)) (cond (p item) (Some item) (find p (filter later links)))
+  find_split p = find-append p (filter earlier links) (item ∷ filter later links)
 
   -- the item is found under its name
-  find-own : (other : List ℕ) → item.name ≡ other → find (is_link other) (put_by name item links) ≡ Some item
-  find-own other own =
-      find-split (is_link other)
-      ∙ ap (λ o. option_or o (cond (is_link other item) (Some item) (find (is_link other) (filter later links)))) (find-drops (is_link other) earlier links none)
+  find_own : (other : List ℕ) → item.name ≡ other → find (is_link other) (put_by name item links) ≡ Some item
+  find_own other own =
+      find_split (is_link other)
+      ∙ ap (λ o. option_or o (cond (is_link other item) (Some item) (find (is_link other) (filter later links)))) (find_drops (is_link other) earlier links none)
       ∙ ap (λ t. cond t (Some item) (find (is_link other) (filter later links))) (ap (λ n. same_text n other) own ∙ same_itself other)
     where
       none : (link : Link) → is_link other link ≡ true → earlier link ≡ false
@@ -101,7 +101,7 @@ module _ (item : Link) (links : List Link) where
       rest = find (is_link other) (filter later links)
 
       passed : find (is_link other) (put_by name item links) ≡ option_or (find (is_link other) (filter earlier links)) (find (is_link other) (filter later links))
-      passed = find-split (is_link other) ∙ ap (λ t. option_or (find (is_link other) (filter earlier links)) (cond t (Some item) (find (is_link other) (filter later links)))) differs
+      passed = find_split (is_link other) ∙ ap (λ t. option_or (find (is_link other) (filter earlier links)) (cond t (Some item) (find (is_link other) (filter later links)))) differs
 
       named : (link : Link) → is_link other link ≡ true → link.name ≡ other
       named link e = (bytes_decides link.name other).0 e
@@ -119,13 +119,13 @@ module _ (item : Link) (links : List Link) where
       by-order : (o : Ordering) → slice_cmp nat_cmp item.name other ≡ o → find (is_link other) (put_by name item links) ≡ find (is_link other) links
       by-order Less q =
           passed
-          ∙ ap (λ o. option_or o (find (is_link other) (filter later links))) (find-drops (is_link other) earlier links (before Less q))
-          ∙ find-keeps (is_link other) later links (after Less q)
+          ∙ ap (λ o. option_or o (find (is_link other) (filter later links))) (find_drops (is_link other) earlier links (before Less q))
+          ∙ find_keeps (is_link other) later links (after Less q)
       by-order Greater q =
           passed
-          ∙ ap (λ o. option_or (find (is_link other) (filter earlier links)) o) (find-drops (is_link other) later links (after Greater q))
+          ∙ ap (λ o. option_or (find (is_link other) (filter earlier links)) o) (find_drops (is_link other) later links (after Greater q))
           ∙ or-none (find (is_link other) (filter earlier links))
-          ∙ find-keeps (is_link other) earlier links (before Greater q)
+          ∙ find_keeps (is_link other) earlier links (before Greater q)
       by-order Equal q = absurd (let t : same_text item.name other ≡ true = (bytes_decides item.name other).1 (exact_bytes item.name other q) in cc)
 
 -- ---- the link of a name after one was put in its place
@@ -135,7 +135,7 @@ link_own state name link own silent = by-test (says_nothing link) refl
   where
     by-test : (t : Bool) → says_nothing link ≡ t → unwrap_or (find (is_link name) (cond t state.links (put_by (λ (other : Link). other.name) link state.links))) (new_link name) ≡ link
     by-test true e = sym (silent e)
-    by-test false e = ap (λ o. unwrap_or o (new_link name)) (find-own link state.links name own)
+    by-test false e = ap (λ o. unwrap_or o (new_link name)) (find_own link state.links name own)
 
 pub link_other : (state : State) (name : List ℕ) (link : Link) → same_text link.name name ≡ false → link_of (record state { links = put_link link state.links }) name ≡ link_of state name
 link_other state name link differs = by-test (says_nothing link)
@@ -145,7 +145,7 @@ link_other state name link differs = by-test (says_nothing link)
     by-test false = ap (λ o. unwrap_or o (new_link name)) (find-other link state.links name differs)
 
 pub link_kept : (state : State) (name gone : List ℕ) → same_text gone name ≡ false → unwrap_or (find (is_link name) (filter (λ (link : Link). not (is_link gone link)) state.links)) (new_link name) ≡ link_of state name
-link_kept state name gone differs = ap (λ o. unwrap_or o (new_link name)) (find-keeps (is_link name) (λ (link : Link). not (is_link gone link)) state.links stays)
+link_kept state name gone differs = ap (λ o. unwrap_or o (new_link name)) (find_keeps (is_link name) (λ (link : Link). not (is_link gone link)) state.links stays)
   where
     stays : (link : Link) → is_link name link ≡ true → not (is_link gone link) ≡ true
     stays link e = ap (λ n. not (same_text n gone)) ((bytes_decides link.name name).0 e) ∙ ap not (differ_turned gone name differs)
@@ -154,11 +154,11 @@ link_kept state name gone differs = ap (λ o. unwrap_or o (new_link name)) (find
 
 -- a link with something taken says something
 pub taken_says : (taken : Taken) (link : Link) → says_nothing (with_taken taken link) ≡ true → ⊥
-taken_says taken link e = apart (filter (λ (other : Taken). ltb other.number taken.number) link.taken) (filter (λ (other : Taken). ltb taken.number other.number) link.taken) (and-second (link.below == 0) _ e)
+taken_says taken link e = apart (filter (λ (other : Taken). ltb other.number taken.number) link.taken) (filter (λ (other : Taken). ltb taken.number other.number) link.taken) (and_second (link.below == 0) _ e)
   where
-    and-second : (a b : Bool) → a && b ≡ true → b ≡ true
-    and-second true b e = e
-    and-second false b e = absurd (cc)
+    and_second : (a b : Bool) → a && b ≡ true → b ≡ true
+    and_second true b e = e
+    and_second false b e = absurd (cc)
 
     apart : (first rest : List Taken) → length (first ++ taken ∷ rest) == 0 ≡ true → ⊥
     apart [] rest e = let h : suc (length rest) ≡ 0 = eqb-true _ 0 e in omega arith
@@ -173,11 +173,11 @@ keeps_all (row ∷ rows) = ap (λ t. cond t (row ∷ filter (λ (r : Taken). leb
 
 -- if a link says nothing after the neighbour said what it won't ask for, this changed nothing
 pub forgotten_says : (below : ℕ) (link : Link) → says_nothing (forgotten below link) ≡ true → forgotten below link ≡ link
-forgotten_says below link e = by-zero below (zeros link.below below (and-first (max link.below below == 0) _ e)).1 (zeros link.below below (and-first (max link.below below == 0) _ e)).0
+forgotten_says below link e = by-zero below (zeros link.below below (and_first (max link.below below == 0) _ e)).1 (zeros link.below below (and_first (max link.below below == 0) _ e)).0
   where
-    and-first : (a b : Bool) → a && b ≡ true → a ≡ true
-    and-first true b e = refl
-    and-first false b e = absurd (cc)
+    and_first : (a b : Bool) → a && b ≡ true → a ≡ true
+    and_first true b e = refl
+    and_first false b e = absurd (cc)
 
     zeros : (a b : ℕ) → max a b == 0 ≡ true → (a ≡ 0) × (b ≡ 0)
     zeros a b e = let h : max a b ≡ 0 = eqb-true _ 0 e in (omega arith, omega arith)
@@ -190,4 +190,4 @@ forgotten_says below link e = by-zero below (zeros link.below below (and-first (
         ∙ ap (λ rows. record link { taken = rows }) (keeps_all link.taken)
 
 pub name_is : (state : State) (name : List ℕ) → (link_of state name).name ≡ name
-name_is state name = link-named state.links name
+name_is state name = link_named state.links name

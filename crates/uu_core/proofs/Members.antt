@@ -59,9 +59,9 @@ from_map f (x ∷ xs) y h = elim (first_or_later (f x) y (map f xs) h) [
 ]
 
 -- what is found is there, and passes
-pub find-there : {X : Type 0} (p : X → Bool) (xs : List X) (x : X) → find p xs ≡ Some x → Contains xs x × (p x ≡ true)
-find-there p [] x e = absurd (cc)
-find-there {X} p (y ∷ xs) x e = by-test (p y) refl e (find-there p xs x)
+pub find_there : {X : Type 0} (p : X → Bool) (xs : List X) (x : X) → find p xs ≡ Some x → Contains xs x × (p x ≡ true)
+find_there p [] x e = absurd (cc)
+find_there {X} p (y ∷ xs) x e = by-test (p y) refl e (find_there p xs x)
   where
     by-test : (t : Bool) → p y ≡ t → cond t (Some y) (find p xs) ≡ Some x → (find p xs ≡ Some x → Contains xs x × (p x ≡ true)) → Contains (y ∷ xs) x × (p x ≡ true)
     by-test true f e again = let same : y ≡ x = cc in (subst (Contains (y ∷ xs)) same (first_of y xs), ap p (sym same) ∙ f)
@@ -91,12 +91,12 @@ passing_one p (y ∷ xs) e = by-test (p y) refl e (passing_one p xs)
     by-test true f e again = (y, first_of y xs, f)
     by-test false f e again = let r = again e in (r.0, later_of y r.0 xs r.1, r.2)
 
-pub find-any : {X : Type 0} (p : X → Bool) (xs : List X) (x : X) → find p xs ≡ Some x → list_any p xs ≡ true
-find-any p [] x e = absurd apart
+pub find_any : {X : Type 0} (p : X → Bool) (xs : List X) (x : X) → find p xs ≡ Some x → list_any p xs ≡ true
+find_any p [] x e = absurd apart
   where
     apart : ⊥
     apart = cc
-find-any p (y ∷ xs) x e = by-test (p y) e (find-any p xs x)
+find_any p (y ∷ xs) x e = by-test (p y) e (find_any p xs x)
   where
     by-test : (t : Bool) → cond t (Some y) (find p xs) ≡ Some x → (find p xs ≡ Some x → list_any p xs ≡ true) → t || list_any p xs ≡ true
     by-test true e again = refl

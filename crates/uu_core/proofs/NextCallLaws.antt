@@ -23,7 +23,7 @@ use Rattle.uu_core.specs.Queues.{jobs_for}
 use Rattle.uu_core.specs.Due.{limit_now, is_within, may_go, goes_before, is_due, due_of, is_listed, AreDue}
 use Rattle.uu_core.specs.NextCalls.{natural, week_at, limit_in, is_looked_at, is_looked_at_before, is_callable, IsLeast, IsGreatest, why_limited, why_at, IsNextCall, IsMomentAt, due_by, IsEarlier}
 use Rattle.uu_core.proofs.Members.{from_filter, kept, some_passes, passing_one, first_of, later_of}
-use Rattle.uu_core.proofs.NextCallLemmas.{ahead_of, false-true, left-true, right-true}
+use Rattle.uu_core.proofs.NextCallLemmas.{ahead_of, false-true, left_true, right_true}
 
 -- at the moment of a second the limit is that of the second
 limit_same : (zone : Zone) (row : SystemRow) (second : ℕ) (at : Moment) → IsMomentAt zone second at → limit_now row at ≡ limit_in zone row second
@@ -81,7 +81,7 @@ module _ (zone : Zone) (rows : List SystemRow) (jobs : List JobHead) (now : ℕ)
   pub listed_then : (second : ℕ) (at : Moment) (dues : List Due) → call.second ≡ Some second → IsMomentAt zone second at → AreDue rows jobs at dues → Contains dues (due_by call)
   listed_then second at dues same is due =
       let least : IsLeast (is_callable zone next.row call.grade now) (Some second) = subst (IsLeast (is_callable zone next.row call.grade now)) same next.second in
-      let within = right-true (is_looked_at next.row.call now second) (is_within (limit_in zone next.row second) call.grade) least.0 in
+      let within = right_true (is_looked_at next.row.call now second) (is_within (limit_in zone next.row second) call.grade) least.0 in
       let may = may_at second at is within in
       let there = (from_filter (λ (other : JobHead). same_text other.system next.row.def.name) jobs job among).0 in
       let first : is_due rows jobs at job ≡ true =
@@ -139,10 +139,10 @@ module _ (zone : Zone) (rows : List SystemRow) (jobs : List JobHead) (now : ℕ)
       listed e =
           let there = passing_one (λ (d : Due). same_text d.system call.system) dues e in
           let sound = due.sound there.0 there.1 in
-          let goes : may_go rows at sound.job ≡ true = left-true (may_go rows at sound.job) _ sound.first in
+          let goes : may_go rows at sound.job ≡ true = left_true (may_go rows at sound.job) _ sound.first in
           let free = passing_one (λ (row : SystemRow). is_system sound.job.system row && is_within (limit_now row at) sound.job.grade) rows goes in
-          let named : free.0.def.name ≡ sound.job.system = same_is free.0.def.name sound.job.system (left-true (is_system sound.job.system free.0) (is_within (limit_now free.0 at) sound.job.grade) free.2) in
-          let within : is_within (limit_now free.0 at) sound.job.grade ≡ true = right-true (is_system sound.job.system free.0) (is_within (limit_now free.0 at) sound.job.grade) free.2 in
+          let named : free.0.def.name ≡ sound.job.system = same_is free.0.def.name sound.job.system (left_true (is_system sound.job.system free.0) (is_within (limit_now free.0 at) sound.job.grade) free.2) in
+          let within : is_within (limit_now free.0 at) sound.job.grade ≡ true = right_true (is_system sound.job.system free.0) (is_within (limit_now free.0 at) sound.job.grade) free.2 in
           let called : sound.job.system ≡ next.row.def.name = ap (λ (d : Due). d.system) (sym sound.is) ∙ same_is there.0.system call.system there.2 ∙ next.system in
           let row : free.0 ≡ next.row = one_of_name by_name free.0 next.row free.1 next.there (named ∙ called) in
           let reaches : is_within (limit_in zone next.row earlier) sound.job.grade ≡ true =
@@ -189,8 +189,8 @@ module _ (zone : Zone) (rows : List SystemRow) (jobs : List JobHead) (now : ℕ)
   called_now None last least greatest within =
       absurd (false-true (least last) (both_true (is_looked_at next.row.call now last) (is_within (limit_in zone next.row last) call.grade) greatest.0 within))
   called_now (Some second) last least greatest within =
-      let looked = left-true (is_looked_at next.row.call now last) (last == now || ltb last second) greatest.0 in
-      let place = right-true (is_looked_at next.row.call now last) (last == now || ltb last second) greatest.0 in
+      let looked = left_true (is_looked_at next.row.call now last) (last == now || ltb last second) greatest.0 in
+      let place = right_true (is_looked_at next.row.call now last) (last == now || ltb last second) greatest.0 in
       let no_later : second ≤ last = least.1 last (both_true (is_looked_at next.row.call now last) (is_within (limit_in zone next.row last) call.grade) looked within) in
       let ahead = ahead_at (Some second) least in
       let same : second ≡ now = grind (arith, nat_tests) in
@@ -198,7 +198,7 @@ module _ (zone : Zone) (rows : List SystemRow) (jobs : List JobHead) (now : ℕ)
 
   -- at once the last second before the call is the present one
   last_now : (last : ℕ) → is_looked_at_before next.row.call now (Some now) last ≡ true → last ≡ now
-  last_now last e = by-test (last == now) refl (right-true (is_looked_at next.row.call now last) (last == now || ltb last now) e) (left-true (is_looked_at next.row.call now last) (last == now || ltb last now) e)
+  last_now last e = by-test (last == now) refl (right_true (is_looked_at next.row.call now last) (last == now || ltb last now) e) (left_true (is_looked_at next.row.call now last) (last == now || ltb last now) e)
     where
       by-test : (t : Bool) → last == now ≡ t → last == now || ltb last now ≡ true → is_looked_at next.row.call now last ≡ true → last ≡ now
       by-test true q place looked = eqb-true last now q
@@ -213,5 +213,5 @@ module _ (zone : Zone) (rows : List SystemRow) (jobs : List JobHead) (now : ℕ)
         let least : IsLeast (is_callable zone next.row call.grade now) (Some now) = subst (IsLeast (is_callable zone next.row call.grade now)) e next.second in
         let last : next.why.last ≡ now = last_now next.why.last (subst (λ (second : Option ℕ). is_looked_at_before next.row.call now second next.why.last ≡ true) e next.why.is_last.0) in
         next.why.reason_is ∙ ap (why_at zone next.row call.grade) last
-        ∙ within_due (is_held next.row.call now) (limit_at next.row.def.lines (week_at zone now)) (right-true (is_looked_at next.row.call now now) (is_within (limit_in zone next.row now) call.grade) least.0),
+        ∙ within_due (is_held next.row.call now) (limit_at next.row.def.lines (week_at zone now)) (right_true (is_looked_at next.row.call now now) (is_within (limit_in zone next.row now) call.grade) least.0),
   )

@@ -82,13 +82,13 @@ reached_by_one lines week grade = sym (within_most grade (map (λ (line : Line).
 pub false-true : {b : Bool} → b ≡ false → b ≡ true → ⊥
 false-true e f = cc
 
-pub left-true : (a b : Bool) → a && b ≡ true → a ≡ true
-left-true true b e = refl
-left-true false b e = e
+pub left_true : (a b : Bool) → a && b ≡ true → a ≡ true
+left_true true b e = refl
+left_true false b e = e
 
-pub right-true : (a b : Bool) → a && b ≡ true → b ≡ true
-right-true true b e = e
-right-true false b e = absurd (cc)
+pub right_true : (a b : Bool) → a && b ≡ true → b ≡ true
+right_true true b e = e
+right_true false b e = absurd (cc)
 
 or_cases : (a b : Bool) → a || b ≡ true → (a ≡ true) ⊎ (b ≡ true)
 or_cases true b e = inl refl
@@ -113,17 +113,17 @@ module _ (zone : Zone) (row : SystemRow) (grade now free last from : ℕ) where
       → from ≡ first_looked_at (is_held row.call now) → (other : ℕ) → is_callable zone row grade now other ≡ true
       → (k : ℕ) × (other ≡ 60 * k) × (from ≤ k) × (k < last / 60 + 1) × (test k ≡ true)
   later_minute not_now free_is last_is from_is other callable =
-      let looked = left-true (is_looked_at row.call now other) (is_within (limit_in zone row other) grade) callable in
-      let may = right-true (is_looked_at row.call now other) (is_within (limit_in zone row other) grade) callable in
-      let near = left-true ((other == now || (ltb now other && other % 60 == 0)) && leb other (free_from row.call now + looked_ahead)) (leb other last_second) looked in
-      let past = right-true ((other == now || (ltb now other && other % 60 == 0)) && leb other (free_from row.call now + looked_ahead)) (leb other last_second) looked in
-      let place = left-true (other == now || (ltb now other && other % 60 == 0)) (leb other (free_from row.call now + looked_ahead)) near in
-      let ahead = right-true (other == now || (ltb now other && other % 60 == 0)) (leb other (free_from row.call now + looked_ahead)) near in
+      let looked = left_true (is_looked_at row.call now other) (is_within (limit_in zone row other) grade) callable in
+      let may = right_true (is_looked_at row.call now other) (is_within (limit_in zone row other) grade) callable in
+      let near = left_true ((other == now || (ltb now other && other % 60 == 0)) && leb other (free_from row.call now + looked_ahead)) (leb other last_second) looked in
+      let past = right_true ((other == now || (ltb now other && other % 60 == 0)) && leb other (free_from row.call now + looked_ahead)) (leb other last_second) looked in
+      let place = left_true (other == now || (ltb now other && other % 60 == 0)) (leb other (free_from row.call now + looked_ahead)) near in
+      let ahead = right_true (other == now || (ltb now other && other % 60 == 0)) (leb other (free_from row.call now + looked_ahead)) near in
       by-place may (leb-true other (free_from row.call now + looked_ahead) ahead) (leb-true other last_second past) (or_cases (other == now) (ltb now other && other % 60 == 0) place)
     where
-      by-held : (held : Bool) → is_held row.call now ≡ held → from ≡ first_looked_at held → now < other → other ≡ 60 * (other / 60) → other / 60 < from → is_held row.call other ≡ true
-      by-held false e first later whole before = absurd (omega arith)
-      by-held true e first later whole before =
+      by_held : (held : Bool) → is_held row.call now ≡ held → from ≡ first_looked_at held → now < other → other ≡ 60 * (other / 60) → other / 60 < from → is_held row.call other ≡ true
+      by_held false e first later whole before = absurd (omega arith)
+      by_held true e first later whole before =
           let within : other < row.call.last + row.call.wait = omega arith in
           grind (arith, nat_tests)
 
@@ -131,16 +131,16 @@ module _ (zone : Zone) (row : SystemRow) (grade now free last from : ℕ) where
           → (other == now ≡ true) ⊎ (ltb now other && other % 60 == 0 ≡ true) → (k : ℕ) × (other ≡ 60 * k) × (from ≤ k) × (k < last / 60 + 1) × (test k ≡ true)
       by-place may ahead past (inl same) = absurd (false-true not_now (ap (λ s. is_within (limit_in zone row s) grade) (sym (eqb-true other now same)) ∙ may))
       by-place may ahead past (inr later) =
-          let after : now < other = ltb-true now other (left-true (ltb now other) (other % 60 == 0) later) in
-          let whole : other % 60 ≡ 0 = eqb-true (other % 60) 0 (right-true (ltb now other) (other % 60 == 0) later) in
+          let after : now < other = ltb-true now other (left_true (ltb now other) (other % 60 == 0) later) in
+          let whole : other % 60 ≡ 0 = eqb-true (other % 60) 0 (right_true (ltb now other) (other % 60 == 0) later) in
           let is : other ≡ 60 * (other / 60) = omega arith in
-          by-from after is (leb from (other / 60)) refl
+          by_from after is (leb from (other / 60)) refl
         where
-          by-from : now < other → other ≡ 60 * (other / 60) → (t : Bool) → leb from (other / 60) ≡ t → (k : ℕ) × (other ≡ 60 * k) × (from ≤ k) × (k < last / 60 + 1) × (test k ≡ true)
-          by-from after is true e = (other / 60, is, leb-true from (other / 60) e, omega arith, ap (λ s. is_within (limit_in zone row s) grade) (sym is) ∙ may)
-          by-from after is false e =
+          by_from : now < other → other ≡ 60 * (other / 60) → (t : Bool) → leb from (other / 60) ≡ t → (k : ℕ) × (other ≡ 60 * k) × (from ≤ k) × (k < last / 60 + 1) × (test k ≡ true)
+          by_from after is true e = (other / 60, is, leb-true from (other / 60) e, omega arith, ap (λ s. is_within (limit_in zone row s) grade) (sym is) ∙ may)
+          by_from after is false e =
               let before : other / 60 < from = grind (arith, nat_tests) in
-              let held = by-held (is_held row.call now) refl from_is after is before in
+              let held = by_held (is_held row.call now) refl from_is after is before in
               absurd (false-true (ap (λ h. is_within (cond h None (limit_at row.def.lines (week_at zone other))) grade) held) may)
 
   pub first_second : is_within (limit_in zone row now) grade ≡ false → free ≡ min (free_from row.call now) last_second → last ≡ min (free + looked_ahead) last_second
@@ -189,7 +189,7 @@ none_open : (lines : List Line) (week grade : ℕ) → list_any (λ line. leb gr
     → list_any (λ line. leb grade line.grade && holds line.windows week) lines ≡ false
 none_open [] week grade e = refl
 none_open (line ∷ lines) week grade e =
-    by-windows line.windows refl (none_open lines week grade (right-false (leb grade line.grade && not (length line.windows == 0)) _ e))
+    by_windows line.windows refl (none_open lines week grade (right-false (leb grade line.grade && not (length line.windows == 0)) _ e))
   where
     right-false : (a b : Bool) → a || b ≡ false → b ≡ false
     right-false true b f = absurd (cc)
@@ -202,37 +202,37 @@ none_open (line ∷ lines) week grade e =
         left-false true b f = f
         left-false false b f = refl
 
-    by-windows : (windows : List (ℕ × ℕ)) → line.windows ≡ windows → list_any (λ (l : Line). leb grade l.grade && holds l.windows week) lines ≡ false
+    by_windows : (windows : List (ℕ × ℕ)) → line.windows ≡ windows → list_any (λ (l : Line). leb grade l.grade && holds l.windows week) lines ≡ false
         → (leb grade line.grade && holds line.windows week) || list_any (λ (l : Line). leb grade l.grade && holds l.windows week) lines ≡ false
-    by-windows [] is others = rw (is, others) (by-grade (leb grade line.grade))
+    by_windows [] is others = rw (is, others) (by_grade (leb grade line.grade))
       where
-        by-grade : (b : Bool) → (b && false) || false ≡ false
-        by-grade true = refl
-        by-grade false = refl
-    by-windows (range ∷ ranges) is others =
+        by_grade : (b : Bool) → (b && false) || false ≡ false
+        by_grade true = refl
+        by_grade false = refl
+    by_windows (range ∷ ranges) is others =
         let some : (length (range ∷ ranges) == 0) ≡ false = grind (arith, nat_tests) in
-        let higher : leb grade line.grade ≡ false = by-grade (leb grade line.grade) (ap (λ (b : Bool). leb grade line.grade && not b) (sym some) ∙ ap (λ (w : List (ℕ × ℕ)). leb grade line.grade && not (length w == 0)) (sym is) ∙ closed) in
+        let higher : leb grade line.grade ≡ false = by_grade (leb grade line.grade) (ap (λ (b : Bool). leb grade line.grade && not b) (sym some) ∙ ap (λ (w : List (ℕ × ℕ)). leb grade line.grade && not (length w == 0)) (sym is) ∙ closed) in
         rw (higher, others) refl
       where
-        by-grade : (b : Bool) → b && true ≡ false → b ≡ false
-        by-grade true f = f
-        by-grade false f = refl
+        by_grade : (b : Bool) → b && true ≡ false → b ≡ false
+        by_grade true f = f
+        by_grade false f = refl
 
 -- and the system can never be called for it
 pub never_open : (zone : Zone) (row : SystemRow) (grade now : ℕ) → list_any (λ line. leb grade line.grade && not (length line.windows == 0)) row.def.lines ≡ false
     → IsLeast (is_callable zone row grade now) None
-never_open zone row grade now none other = by-looked (is_looked_at row.call now other)
+never_open zone row grade now none other = by_looked (is_looked_at row.call now other)
   where
     closed : is_within (limit_at row.def.lines (week_at zone other)) grade ≡ false
     closed = sym (reached_by_one row.def.lines (week_at zone other) grade) ∙ none_open row.def.lines (week_at zone other) grade none
 
-    by-held : (held : Bool) → is_within (cond held None (limit_at row.def.lines (week_at zone other))) grade ≡ false
-    by-held true = refl
-    by-held false = closed
+    by_held : (held : Bool) → is_within (cond held None (limit_at row.def.lines (week_at zone other))) grade ≡ false
+    by_held true = refl
+    by_held false = closed
 
-    by-looked : (looked : Bool) → looked && is_within (limit_in zone row other) grade ≡ false
-    by-looked true = by-held (is_held row.call other)
-    by-looked false = refl
+    by_looked : (looked : Bool) → looked && is_within (limit_in zone row other) grade ≡ false
+    by_looked true = by_held (is_held row.call other)
+    by_looked false = refl
 
 -- ---- the order
 
@@ -306,14 +306,14 @@ calls_in_order before after names sorted stable ahead i j d below within =
     b : NextCall
     b = get_or after j d
 
-pairs-of_map : {X Y : Type 0} (f : X → Y) (R : Y → Y → Type 0) (xs : List X) → AllPairs (λ a b. R (f a) (f b)) xs → AllPairs R (map f xs)
-pairs-of_map f R [] h = λ i j d below within. absurd (omega arith)
-pairs-of_map f R (x ∷ xs) h =
+pairs_of_map : {X Y : Type 0} (f : X → Y) (R : Y → Y → Type 0) (xs : List X) → AllPairs (λ a b. R (f a) (f b)) xs → AllPairs R (map f xs)
+pairs_of_map f R [] h = λ i j d below within. absurd (omega arith)
+pairs_of_map f R (x ∷ xs) h =
     AllPairs-cons R (f x) (map f xs) (All-map (R (f x)) f xs (λ k e l. h 0 (suc k) e (omega arith) (omega arith)))
-    (pairs-of_map f R xs (λ i j e below within. h (suc i) (suc j) e (omega arith) (omega arith)))
+    (pairs_of_map f R xs (λ i j e below within. h (suc i) (suc j) e (omega arith) (omega arith)))
 
-pairs-from_map : {X Y : Type 0} (f : X → Y) (R : Y → Y → Type 0) (xs : List X) → AllPairs R (map f xs) → AllPairs (λ a b. R (f a) (f b)) xs
-pairs-from_map f R xs h i j d below within =
+pairs_from_map : {X Y : Type 0} (f : X → Y) (R : Y → Y → Type 0) (xs : List X) → AllPairs R (map f xs) → AllPairs (λ a b. R (f a) (f b)) xs
+pairs_from_map f R xs h i j d below within =
     let count : length (map f xs) ≡ length xs = length-map xs f in
     let pair = h i j (f d) below (omega arith) in
     rw (map_at f xs i (f d) d (omega arith), map_at f xs j (f d) d within) at pair
@@ -341,10 +341,10 @@ calls_are zone rows jobs now has before after by_name names has_jobs sound same 
 }
   where
     named : AllPairs ComesBefore (map called before)
-    named = subst (AllPairs ComesBefore) (sym names) (pairs-of_map row_name ComesBefore (filter has rows) (AllPairs-filter (λ (a b : SystemRow). ComesBefore a.def.name b.def.name) has rows by_name))
+    named = subst (AllPairs ComesBefore) (sym names) (pairs_of_map row_name ComesBefore (filter has rows) (AllPairs-filter (λ (a b : SystemRow). ComesBefore a.def.name b.def.name) has rows by_name))
 
     ordered : AllPairs ByName before
-    ordered = pairs-from_map called ComesBefore before named
+    ordered = pairs_from_map called ComesBefore before named
 
     distinct : IsDistinct same_text (map called after)
     distinct = IsDistinct-IsPermutation same_text nat_list_eq_equiv.symm (map called before) (map called after) (IsPermutation-map called before after same)
@@ -372,15 +372,15 @@ names_more rows i row has names t within is same passes =
 pub ahead_of : (zone : Zone) (row : SystemRow) (grade now : ℕ) (second : Option ℕ) → IsLeast (is_callable zone row grade now) second → IfSome second (λ s. (now ≤ s) × (s ≤ last_second))
 ahead_of zone row grade now None least = tt
 ahead_of zone row grade now (Some second) (callable, least) =
-    let looked = left-true (is_looked_at row.call now second) (is_within (limit_in zone row second) grade) callable in
-    let near = left-true ((second == now || (ltb now second && second % 60 == 0)) && leb second (free_from row.call now + looked_ahead)) (leb second last_second) looked in
-    let past = right-true ((second == now || (ltb now second && second % 60 == 0)) && leb second (free_from row.call now + looked_ahead)) (leb second last_second) looked in
-    let place = left-true (second == now || (ltb now second && second % 60 == 0)) (leb second (free_from row.call now + looked_ahead)) near in
+    let looked = left_true (is_looked_at row.call now second) (is_within (limit_in zone row second) grade) callable in
+    let near = left_true ((second == now || (ltb now second && second % 60 == 0)) && leb second (free_from row.call now + looked_ahead)) (leb second last_second) looked in
+    let past = right_true ((second == now || (ltb now second && second % 60 == 0)) && leb second (free_from row.call now + looked_ahead)) (leb second last_second) looked in
+    let place = left_true (second == now || (ltb now second && second % 60 == 0)) (leb second (free_from row.call now + looked_ahead)) near in
     (by-place (or_cases (second == now) (ltb now second && second % 60 == 0) place), leb-true second last_second past)
   where
     by-place : (second == now ≡ true) ⊎ (ltb now second && second % 60 == 0 ≡ true) → now ≤ second
     by-place (inl same) = let e = eqb-true second now same in omega (arith, e)
-    by-place (inr later) = let l = ltb-true now second (left-true (ltb now second) (second % 60 == 0) later) in omega (arith, l)
+    by-place (inr later) = let l = ltb-true now second (left_true (ltb now second) (second % 60 == 0) later) in omega (arith, l)
 
 -- ---- polls
 
@@ -441,10 +441,10 @@ polls_are zone rows now before after by_name names sound same sorted stable ahea
 }
   where
     named : AllPairs ComesBefore (map polled before)
-    named = subst (AllPairs ComesBefore) (sym names) (pairs-of_map row_name ComesBefore rows by_name)
+    named = subst (AllPairs ComesBefore) (sym names) (pairs_of_map row_name ComesBefore rows by_name)
 
     ordered : AllPairs PollsByName before
-    ordered = pairs-from_map polled ComesBefore before named
+    ordered = pairs_from_map polled ComesBefore before named
 
     distinct : IsDistinct same_text (map polled after)
     distinct = IsDistinct-IsPermutation same_text nat_list_eq_equiv.symm (map polled before) (map polled after) (IsPermutation-map polled before after same)

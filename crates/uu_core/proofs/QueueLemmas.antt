@@ -25,9 +25,9 @@ use Rattle.uu_core.proofs.Members.{kept, none_in}
 
 -- ---- one job, and one more
 
-reduce-push : (f : ℕ → ℕ → ℕ) (xs : List ℕ) (x least : ℕ) → Some least ≡ reduce f xs → Some (f least x) ≡ reduce f (xs ++ x ∷ [])
-reduce-push f [] x least e = absurd (cc)
-reduce-push f (y ∷ ys) x least e = ap Some (ap (λ m. f m x) same ∙ sym (fold_push f y ys x))
+reduce_push : (f : ℕ → ℕ → ℕ) (xs : List ℕ) (x least : ℕ) → Some least ≡ reduce f xs → Some (f least x) ≡ reduce f (xs ++ x ∷ [])
+reduce_push f [] x least e = absurd (cc)
+reduce_push f (y ∷ ys) x least e = ap Some (ap (λ m. f m x) same ∙ sym (fold_push f y ys x))
   where
     same : least ≡ fold f y ys
     same = cc
@@ -74,7 +74,7 @@ one_more_job jobs job old new before h is count bytes grade number oldest = reco
   count = count ∙ ap (λ n. n + 1) h.count ∙ sym (length-append jobs (job ∷ []));
   bytes = bytes ∙ ap (λ n. n + job.size) h.bytes ∙ sym (sum_by_push (λ (j : JobHead). j.size) jobs job);
   first = first_more jobs job old new before h.first is grade number;
-  oldest = ap Some oldest ∙ reduce-push min (map (λ (j : JobHead). j.queued) jobs) job.queued old.oldest h.oldest
+  oldest = ap Some oldest ∙ reduce_push min (map (λ (j : JobHead). j.queued) jobs) job.queued old.oldest h.oldest
       ∙ ap (reduce min) (sym (map-append (λ (j : JobHead). j.queued) jobs (job ∷ [])));
 }
 

@@ -15,8 +15,8 @@ find-filter p q (x ∷ xs) = by-test (p x) (find-filter p q xs)
     by-test false e = e
 
 -- from nine failures on it is a day
-pub growing-day : (failures : ℕ) → 9 ≤ failures → growing_minutes failures ≡ 1440
-growing-day failures h =
+pub growing_day : (failures : ℕ) → 9 ≤ failures → growing_minutes failures ≡ 1440
+growing_day failures h =
     let more : 2 ^ 8 ≤ 2 ^ (failures - 1) = pow-le-pow_right {n = 2} (omega arith) {i = 8} {j = failures - 1} (omega arith) in
     omega arith
 

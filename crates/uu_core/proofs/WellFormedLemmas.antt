@@ -32,7 +32,7 @@ use Rattle.uu_core.specs.Refusal.{first_reason}
 use Rattle.uu_core.specs.State.{State, Job, MapEntry, Link, IsLink, is_link, link_of, new_link, says_nothing, IsWellFormed, IsJob, IsKind, IsCall, IsDefinition, ComesBefore, same_text, has_system, is_waiting, is_system, system_at, is_job, numbers_end, most_bytes, empty}
 use Rattle.uu_core.specs.Waiting.{one_more, lines_at, limit_at, line_at, retry_minutes, growing_minutes, wait_after}
 use Rattle.uu_core.specs.Verdict.{verdict, is_too_large, has_many_arguments, are_known, taken_of, once_reasons, fresh_reasons}
-use Rattle.uu_core.specs.After.{after, after_verdict, accept, take_in, hand_in_of, with_job, with_taken, forgotten, put_link, is_before, put_by, put_system, call_of, change_job, change_call, job_of, failed_call, done_call, keep_entry, is_among, is_released}
+use Rattle.uu_core.specs.After.{after, after_verdict, accept, with_job_once, hand_in_of, with_job, with_taken, forgotten, put_link, is_before, put_by, put_system, call_of, change_job, change_call, job_of, failed_call, done_call, keep_entry, is_among, is_released}
 use Rattle.uu_core.specs.Run.{state_after}
 use Rattle.uu_core.specs.WellFormed.{IsCommand, IsKey, IsNewJob, HasWords}
 use Rattle.uu_core.proofs.Members.{first_of, later_of, kept, mapped, some_passes, passing_one}
@@ -40,30 +40,30 @@ use Rattle.uu_core.proofs.Members.{first_of, later_of, kept, mapped, some_passes
 -- ---- pairs of a list
 
 module _ {X : Type 0} (R : X → X → Type 0) where
-  pub pairs-first : (x : X) (xs : List X) → AllPairs R (x ∷ xs) → All (R x) xs
-  pairs-first x xs h k d within = h 0 (suc k) d (omega arith) (omega arith)
+  pub pairs_first : (x : X) (xs : List X) → AllPairs R (x ∷ xs) → All (R x) xs
+  pairs_first x xs h k d within = h 0 (suc k) d (omega arith) (omega arith)
 
-  pub pairs-rest : (x : X) (xs : List X) → AllPairs R (x ∷ xs) → AllPairs R xs
-  pairs-rest x xs h i j d below within = h (suc i) (suc j) d (omega arith) (omega arith)
+  pub pairs_rest : (x : X) (xs : List X) → AllPairs R (x ∷ xs) → AllPairs R xs
+  pairs_rest x xs h i j d below within = h (suc i) (suc j) d (omega arith) (omega arith)
 
-  pub pairs-nil : AllPairs R []
-  pairs-nil i j d below within = absurd (omega (arith, within))
+  pub pairs_nil : AllPairs R []
+  pairs_nil i j d below within = absurd (omega (arith, within))
 
-  pairs-map : (f : X → X) → ((a b : X) → R a b → R (f a) (f b)) → (xs : List X) → AllPairs R xs → AllPairs R (map f xs)
-  pairs-map f keeps [] h = pairs-nil
-  pairs-map f keeps (x ∷ xs) h =
-      AllPairs-cons R (f x) (map f xs) (All-map (R (f x)) f xs (All-weaker (R x) (λ y. R (f x) (f y)) (λ y. keeps x y) xs (pairs-first x xs h))) (pairs-map f keeps xs (pairs-rest x xs h))
+  pairs_map : (f : X → X) → ((a b : X) → R a b → R (f a) (f b)) → (xs : List X) → AllPairs R xs → AllPairs R (map f xs)
+  pairs_map f keeps [] h = pairs_nil
+  pairs_map f keeps (x ∷ xs) h =
+      AllPairs-cons R (f x) (map f xs) (All-map (R (f x)) f xs (All-weaker (R x) (λ y. R (f x) (f y)) (λ y. keeps x y) xs (pairs_first x xs h))) (pairs_map f keeps xs (pairs_rest x xs h))
 
-  pub pairs-push : (xs : List X) (y : X) → All (λ x. R x y) xs → AllPairs R xs → AllPairs R (xs ++ y ∷ [])
-  pairs-push [] y below h = AllPairs-cons R y [] (All-nil (R y)) pairs-nil
-  pairs-push (x ∷ xs) y below h =
-      AllPairs-cons R x (xs ++ y ∷ []) (All-push (R x) xs y (pairs-first x xs h) (All-head (λ z. R z y) x xs below)) (pairs-push xs y (All-tail (λ z. R z y) x xs below) (pairs-rest x xs h))
+  pub pairs_push : (xs : List X) (y : X) → All (λ x. R x y) xs → AllPairs R xs → AllPairs R (xs ++ y ∷ [])
+  pairs_push [] y below h = AllPairs-cons R y [] (All-nil (R y)) pairs_nil
+  pairs_push (x ∷ xs) y below h =
+      AllPairs-cons R x (xs ++ y ∷ []) (All-push (R x) xs y (pairs_first x xs h) (All-head (λ z. R z y) x xs below)) (pairs_push xs y (All-tail (λ z. R z y) x xs below) (pairs_rest x xs h))
 
-  pub pairs-append : (xs ys : List X) → AllPairs R xs → AllPairs R ys → All (λ x. All (R x) ys) xs → AllPairs R (xs ++ ys)
-  pairs-append [] ys h k across = k
-  pairs-append (x ∷ xs) ys h k across =
-      AllPairs-cons R x (xs ++ ys) (All-append (R x) xs ys (pairs-first x xs h) (All-head (λ z. All (R z) ys) x xs across))
-      (pairs-append xs ys (pairs-rest x xs h) k (All-tail (λ z. All (R z) ys) x xs across))
+  pub pairs_append : (xs ys : List X) → AllPairs R xs → AllPairs R ys → All (λ x. All (R x) ys) xs → AllPairs R (xs ++ ys)
+  pairs_append [] ys h k across = k
+  pairs_append (x ∷ xs) ys h k across =
+      AllPairs-cons R x (xs ++ ys) (All-append (R x) xs ys (pairs_first x xs h) (All-head (λ z. All (R z) ys) x xs across))
+      (pairs_append xs ys (pairs_rest x xs h) k (All-tail (λ z. All (R z) ys) x xs across))
 
 -- ---- an item put in its place
 
@@ -85,14 +85,14 @@ module _ {V : Type 0} (name : V → List ℕ) (item : V) where
   abbrev later : List V → List V
   later xs = filter (λ x. is_before name item x) xs
 
-  put-all : (P : V → Type 0) (xs : List V) → P item → All P xs → All P (put_by name item xs)
-  put-all P xs p h =
+  put_all : (P : V → Type 0) (xs : List V) → P item → All P xs → All P (put_by name item xs)
+  put_all P xs p h =
       All-append P (earlier xs) (item ∷ later xs) (All-filter (λ x. is_before name x item) P xs h)
       (All-cons P item (later xs) p (All-filter (λ x. is_before name item x) P xs h))
 
-  pub put-in_order : (xs : List V) → AllPairs (λ a b. ComesBefore (name a) (name b)) xs → AllPairs (λ a b. ComesBefore (name a) (name b)) (put_by name item xs)
-  put-in_order xs h =
-      pairs-append R (earlier xs) (item ∷ later xs)
+  pub put_in_order : (xs : List V) → AllPairs (λ a b. ComesBefore (name a) (name b)) xs → AllPairs (λ a b. ComesBefore (name a) (name b)) (put_by name item xs)
+  put_in_order xs h =
+      pairs_append R (earlier xs) (item ∷ later xs)
       (AllPairs-filter R (λ x. is_before name x item) xs h)
       (AllPairs-cons R item (later xs) after (AllPairs-filter R (λ x. is_before name item x) xs h))
       (All-weaker (λ x. is_before name x item ≡ true) (λ x. All (R x) (item ∷ later xs)) before (earlier xs) (filter_passes (λ x. is_before name x item) xs))
@@ -109,8 +109,8 @@ module _ {V : Type 0} (name : V → List ℕ) (item : V) where
           (All-weaker (R item) (R x) (λ y l. nat_list_cmp_total.trans (name x) (name item) (name y) (less_is _ e) l) (later xs) after)
 
   -- a test that looks at the name alone still passes for one of them
-  put-any : (p : List ℕ → Bool) (xs : List V) → list_any (λ v. p (name v)) xs ≡ true → list_any (λ v. p (name v)) (put_by name item xs) ≡ true
-  put-any p xs h =
+  put_any : (p : List ℕ → Bool) (xs : List V) → list_any (λ v. p (name v)) xs ≡ true → list_any (λ v. p (name v)) (put_by name item xs) ≡ true
+  put_any p xs h =
       let r = passing_one q xs h in
       by-place r.0 r.1 r.2 (slice_cmp nat_cmp (name item) (name r.0)) refl
     where
@@ -128,13 +128,13 @@ module _ {V : Type 0} (name : V → List ℕ) (item : V) where
 -- ---- jobs and systems that change
 
 module _ (P : Job → Type 0) where
-  pub jobs-changed : (number : ℕ) (change : Job → Job) (jobs : List Job) → ((j : Job) → P j → P (change j)) → All P jobs → All P (change_job number change jobs)
-  jobs-changed number change jobs keeps h =
+  pub jobs_changed : (number : ℕ) (change : Job → Job) (jobs : List Job) → ((j : Job) → P j → P (change j)) → All P jobs → All P (change_job number change jobs)
+  jobs_changed number change jobs keeps h =
       All-map P (λ j. cond (is_job number j) (change j) j) jobs (All-weaker P (λ j. P (cond (is_job number j) (change j) j)) (λ j p. cond_both (is_job number j) (change j) j P (λ _. keeps j p) (λ _. p)) jobs h)
 
-pub jobs-rise : (number : ℕ) (change : Job → Job) (jobs : List Job) → ((j : Job) → (change j).number ≡ j.number) → AllPairs (λ (a b : Job). a.number < b.number) jobs → AllPairs (λ (a b : Job). a.number < b.number) (change_job number change jobs)
-jobs-rise number change jobs same h =
-    pairs-map (λ (a b : Job). a.number < b.number) f (λ a b l. omega (arith, still a, still b, l)) jobs h
+pub jobs_rise : (number : ℕ) (change : Job → Job) (jobs : List Job) → ((j : Job) → (change j).number ≡ j.number) → AllPairs (λ (a b : Job). a.number < b.number) jobs → AllPairs (λ (a b : Job). a.number < b.number) (change_job number change jobs)
+jobs_rise number change jobs same h =
+    pairs_map (λ (a b : Job). a.number < b.number) f (λ a b l. omega (arith, still a, still b, l)) jobs h
   where
     f : Job → Job
     f j = cond (is_job number j) (change j) j
@@ -149,23 +149,23 @@ module _ (name : List ℕ) (change : SystemRow → CallState) where
   still_defined : (row : SystemRow) → (called row).def ≡ row.def
   still_defined row = cond_both (is_system name row) (record row { call = change row }) row (λ (r : SystemRow). r.def ≡ row.def) (λ _. refl) (λ _. refl)
 
-  calls-definitions : (rows : List SystemRow) → All (λ (row : SystemRow). IsDefinition row.def) rows → All (λ (row : SystemRow). IsDefinition row.def) (change_call name change rows)
-  calls-definitions rows h =
+  calls_definitions : (rows : List SystemRow) → All (λ (row : SystemRow). IsDefinition row.def) rows → All (λ (row : SystemRow). IsDefinition row.def) (change_call name change rows)
+  calls_definitions rows h =
       All-map (λ (row : SystemRow). IsDefinition row.def) called rows (All-weaker (λ (row : SystemRow). IsDefinition row.def) (λ row. IsDefinition (called row).def) (λ row p. subst IsDefinition (sym (still_defined row)) p) rows h)
 
-  one-call : ((row : SystemRow) → IsDefinition row.def → IsCall row.call → IsCall (change row)) → (row : SystemRow) → IsDefinition row.def → IsCall row.call → IsCall (called row).call
-  one-call good row def call = cond_both (is_system name row) (record row { call = change row }) row (λ (r : SystemRow). IsCall r.call) (λ _. good row def call) (λ _. call)
+  one_call : ((row : SystemRow) → IsDefinition row.def → IsCall row.call → IsCall (change row)) → (row : SystemRow) → IsDefinition row.def → IsCall row.call → IsCall (called row).call
+  one_call good row def call = cond_both (is_system name row) (record row { call = change row }) row (λ (r : SystemRow). IsCall r.call) (λ _. good row def call) (λ _. call)
 
-  calls-calls : (rows : List SystemRow) → ((row : SystemRow) → IsDefinition row.def → IsCall row.call → IsCall (change row)) → All (λ (row : SystemRow). IsDefinition row.def) rows → All (λ (row : SystemRow). IsCall row.call) rows → All (λ (row : SystemRow). IsCall row.call) (change_call name change rows)
-  calls-calls rows good defs h =
-      All-map (λ (row : SystemRow). IsCall row.call) called rows (λ k d inside. one-call good (get_or rows k d) (defs k d inside) (h k d inside))
+  calls_calls : (rows : List SystemRow) → ((row : SystemRow) → IsDefinition row.def → IsCall row.call → IsCall (change row)) → All (λ (row : SystemRow). IsDefinition row.def) rows → All (λ (row : SystemRow). IsCall row.call) rows → All (λ (row : SystemRow). IsCall row.call) (change_call name change rows)
+  calls_calls rows good defs h =
+      All-map (λ (row : SystemRow). IsCall row.call) called rows (λ k d inside. one_call good (get_or rows k d) (defs k d inside) (h k d inside))
 
-  pub calls-in_order : (rows : List SystemRow) → AllPairs (λ (a b : SystemRow). ComesBefore a.def.name b.def.name) rows → AllPairs (λ (a b : SystemRow). ComesBefore a.def.name b.def.name) (change_call name change rows)
-  calls-in_order rows h =
-      pairs-map (λ (a b : SystemRow). ComesBefore a.def.name b.def.name) called (λ a b l. ap (λ (d : System). slice_cmp nat_cmp d.name (called b).def.name) (still_defined a) ∙ ap (λ (d : System). slice_cmp nat_cmp a.def.name d.name) (still_defined b) ∙ l) rows h
+  pub calls_in_order : (rows : List SystemRow) → AllPairs (λ (a b : SystemRow). ComesBefore a.def.name b.def.name) rows → AllPairs (λ (a b : SystemRow). ComesBefore a.def.name b.def.name) (change_call name change rows)
+  calls_in_order rows h =
+      pairs_map (λ (a b : SystemRow). ComesBefore a.def.name b.def.name) called (λ a b l. ap (λ (d : System). slice_cmp nat_cmp d.name (called b).def.name) (still_defined a) ∙ ap (λ (d : System). slice_cmp nat_cmp a.def.name d.name) (still_defined b) ∙ l) rows h
 
-  calls-any : (rows : List SystemRow) (other : List ℕ) → list_any (is_system other) rows ≡ true → list_any (is_system other) (change_call name change rows) ≡ true
-  calls-any rows other h =
+  calls_any : (rows : List SystemRow) (other : List ℕ) → list_any (is_system other) rows ≡ true → list_any (is_system other) (change_call name change rows) ≡ true
+  calls_any rows other h =
       let r = passing_one (is_system other) rows h in
       some_passes (is_system other) (map called rows) (called r.0) (mapped called rows r.0 r.1) (ap (λ (d : System). same_text d.name other) (still_defined r.0) ∙ r.2)
 
@@ -212,45 +212,45 @@ kind_within (Execute command arguments) h e = (h.0, h.1, within 64 (length argum
 
 -- ---- waits
 
-find-has : {X : Type 0} (P : X → Type 0) (p : X → Bool) (xs : List X) → All P xs → IfSome (find p xs) P
-find-has P p [] h = tt
-find-has P p (x ∷ xs) h = cond_both (p x) (Some x) (find p xs) (λ o. IfSome o P) (λ _. All-head P x xs h) (λ _. find-has P p xs (All-tail P x xs h))
+find_has : {X : Type 0} (P : X → Type 0) (p : X → Bool) (xs : List X) → All P xs → IfSome (find p xs) P
+find_has P p [] h = tt
+find_has P p (x ∷ xs) h = cond_both (p x) (Some x) (find p xs) (λ o. IfSome o P) (λ _. All-head P x xs h) (λ _. find_has P p xs (All-tail P x xs h))
 
-line-has : (lines : List Line) (week : ℕ) (limit : Option ℕ) → All HasRetry lines → IfSome (option_and_then (λ grade. find (λ line. line.grade == grade) (lines_at lines week)) limit) HasRetry
-line-has lines week None h = tt
-line-has lines week (Some grade) h = find-has HasRetry (λ line. line.grade == grade) (lines_at lines week) (All-filter _ HasRetry lines h)
+line_has : (lines : List Line) (week : ℕ) (limit : Option ℕ) → All HasRetry lines → IfSome (option_and_then (λ grade. find (λ line. line.grade == grade) (lines_at lines week)) limit) HasRetry
+line_has lines week None h = tt
+line_has lines week (Some grade) h = find_has HasRetry (λ line. line.grade == grade) (lines_at lines week) (All-filter _ HasRetry lines h)
 
-retry-within : (line : Option Line) (growing : ℕ) → IfSome line HasRetry → growing ≤ 1440 → unwrap_or (option_and_then (λ l. l.retry) line) growing ≤ 525600
-retry-within None growing h g = omega (arith, g)
-retry-within (Some line) growing h g = by-retry line.retry h
+retry_within : (line : Option Line) (growing : ℕ) → IfSome line HasRetry → growing ≤ 1440 → unwrap_or (option_and_then (λ l. l.retry) line) growing ≤ 525600
+retry_within None growing h g = omega (arith, g)
+retry_within (Some line) growing h g = by_retry line.retry h
   where
-    by-retry : (retry : Option ℕ) → IfSome retry IsRetry → unwrap_or retry growing ≤ 525600
-    by-retry None h = omega (arith, g)
-    by-retry (Some minutes) h = h.1
+    by_retry : (retry : Option ℕ) → IfSome retry IsRetry → unwrap_or retry growing ≤ 525600
+    by_retry None h = omega (arith, g)
+    by_retry (Some minutes) h = h.1
 
-growing-within : (failures : ℕ) → growing_minutes failures ≤ 1440
-growing-within failures = omega arith
+growing_within : (failures : ℕ) → growing_minutes failures ≤ 1440
+growing_within failures = omega arith
 
-minutes-within : (test : Bool) (minutes : ℕ) → minutes ≤ 525600 → 60 * cond test (max minutes 1440) minutes ≤ 31536000
-minutes-within true minutes h = omega (arith, h)
-minutes-within false minutes h = omega (arith, h)
+minutes_within : (test : Bool) (minutes : ℕ) → minutes ≤ 525600 → 60 * cond test (max minutes 1440) minutes ≤ 31536000
+minutes_within true minutes h = omega (arith, h)
+minutes_within false minutes h = omega (arith, h)
 
-wait-within : (def : System) (week failures : ℕ) → IsDefinition def → wait_after def week failures ≤ 31536000
-wait-within def week failures h =
-    minutes-within (leb def.max_retries failures) (retry_minutes def.lines week failures)
-    (retry-within (line_at def.lines week) (growing_minutes failures) (line-has def.lines week (limit_at def.lines week) h.limits.1) (growing-within failures))
+wait_within : (def : System) (week failures : ℕ) → IsDefinition def → wait_after def week failures ≤ 31536000
+wait_within def week failures h =
+    minutes_within (leb def.max_retries failures) (retry_minutes def.lines week failures)
+    (retry_within (line_at def.lines week) (growing_minutes failures) (line_has def.lines week (limit_at def.lines week) h.limits.1) (growing_within failures))
 
-call-known : (row : Option SystemRow) → IfSome row (λ (row : SystemRow). IsCall row.call) → IsCall (call_of row)
-call-known None h = record { last = omega arith; failures = omega arith; wait = omega arith; outcome = (refl, refl, refl) }
-call-known (Some row) h = h
+call_known : (row : Option SystemRow) → IfSome row (λ (row : SystemRow). IsCall row.call) → IsCall (call_of row)
+call_known None h = record { last = omega arith; failures = omega arith; wait = omega arith; outcome = (refl, refl, refl) }
+call_known (Some row) h = h
 
 entry-kept : (answer : Result (List ℕ) MapFault) (bytes : List ℕ) (entries : List MapEntry) → host_of bytes ≡ answer → All (λ (entry : MapEntry). host_of entry.bytes ≡ Ok entry.host) entries → All (λ (entry : MapEntry). host_of entry.bytes ≡ Ok entry.host) (keep_entry answer bytes entries)
-entry-kept (Ok host) bytes entries e h = put-all (λ (entry : MapEntry). entry.host) (record { host = host; bytes = bytes }) (λ (entry : MapEntry). host_of entry.bytes ≡ Ok entry.host) entries e h
+entry-kept (Ok host) bytes entries e h = put_all (λ (entry : MapEntry). entry.host) (record { host = host; bytes = bytes }) (λ (entry : MapEntry). host_of entry.bytes ≡ Ok entry.host) entries e h
 entry-kept (Err fault) bytes entries e h = h
 
-pub entries-in_order : (answer : Result (List ℕ) MapFault) (bytes : List ℕ) (entries : List MapEntry) → AllPairs (λ (a b : MapEntry). ComesBefore a.host b.host) entries → AllPairs (λ (a b : MapEntry). ComesBefore a.host b.host) (keep_entry answer bytes entries)
-entries-in_order (Ok host) bytes entries h = put-in_order (λ (entry : MapEntry). entry.host) (record { host = host; bytes = bytes }) entries h
-entries-in_order (Err fault) bytes entries h = h
+pub entries_in_order : (answer : Result (List ℕ) MapFault) (bytes : List ℕ) (entries : List MapEntry) → AllPairs (λ (a b : MapEntry). ComesBefore a.host b.host) entries → AllPairs (λ (a b : MapEntry). ComesBefore a.host b.host) (keep_entry answer bytes entries)
+entries_in_order (Ok host) bytes entries h = put_in_order (λ (entry : MapEntry). entry.host) (record { host = host; bytes = bytes }) entries h
+entries_in_order (Err fault) bytes entries h = h
 
 -- ---- links
 
@@ -262,36 +262,36 @@ record Holds (next : ℕ) (link : Link) : Type 0 where
   at_least : All (λ (row : Taken). link.below ≤ row.number) link.taken
   jobs : All (λ (row : Taken). row.job < next) link.taken
 
-unwrap-has : {X : Type 0} (P : X → Type 0) (o : Option X) (d : X) → IfSome o P → P d → P (unwrap_or o d)
-unwrap-has P None d h p = p
-unwrap-has P (Some x) d h p = h
+unwrap_has : {X : Type 0} (P : X → Type 0) (o : Option X) (d : X) → IfSome o P → P d → P (unwrap_or o d)
+unwrap_has P None d h p = p
+unwrap_has P (Some x) d h p = h
 
-new-holds : (next : ℕ) (name : List ℕ) → Holds next (new_link name)
-new-holds next name = record {
+new_holds : (next : ℕ) (name : List ℕ) → Holds next (new_link name)
+new_holds next name = record {
   below = omega arith;
   numbers = All-nil (λ (row : Taken). (row.number ≤ numbers_end) × (row.mark < marks_end) × (1 ≤ row.job));
-  rising = pairs-nil (λ (a b : Taken). a.number < b.number);
+  rising = pairs_nil (λ (a b : Taken). a.number < b.number);
   at_least = All-nil (λ (row : Taken). 0 ≤ row.number);
   jobs = All-nil (λ (row : Taken). row.job < next);
 }
 
-find-named : (name : List ℕ) (links : List Link) → IfSome (find (is_link name) links) (λ (link : Link). link.name ≡ name)
-find-named name [] = tt
-find-named name (link ∷ links) = by-test (is_link name link) refl (find-named name links)
+find_named : (name : List ℕ) (links : List Link) → IfSome (find (is_link name) links) (λ (link : Link). link.name ≡ name)
+find_named name [] = tt
+find_named name (link ∷ links) = by-test (is_link name link) refl (find_named name links)
   where
     by-test : (t : Bool) → is_link name link ≡ t → IfSome (find (is_link name) links) (λ (l : Link). l.name ≡ name) → IfSome (cond t (Some link) (find (is_link name) links)) (λ (l : Link). l.name ≡ name)
     by-test true e again = (bytes_decides link.name name).0 e
     by-test false e again = again
 
 -- the link of a name has it
-pub link-named : (links : List Link) (name : List ℕ) → (unwrap_or (find (is_link name) links) (new_link name)).name ≡ name
-link-named links name = unwrap-has (λ (link : Link). link.name ≡ name) (find (is_link name) links) (new_link name) (find-named name links) refl
+pub link_named : (links : List Link) (name : List ℕ) → (unwrap_or (find (is_link name) links) (new_link name)).name ≡ name
+link_named links name = unwrap_has (λ (link : Link). link.name ≡ name) (find (is_link name) links) (new_link name) (find_named name links) refl
 
 holds-more : (next later : ℕ) (link : Link) (row : Taken) → next ≤ later → Holds next link → row.number ≤ numbers_end → row.mark < marks_end → 1 ≤ row.job → link.below ≤ row.number → row.job < later → Holds later (with_taken row link)
 holds-more next later link row up h number mark given least job = record {
   below = h.below;
   numbers = among (λ (other : Taken). (other.number ≤ numbers_end) × (other.mark < marks_end) × (1 ≤ other.job)) (number, mark, given) h.numbers;
-  rising = pairs-append R first (row ∷ rest) (AllPairs-filter R (λ (other : Taken). ltb other.number row.number) link.taken h.rising)
+  rising = pairs_append R first (row ∷ rest) (AllPairs-filter R (λ (other : Taken). ltb other.number row.number) link.taken h.rising)
       (AllPairs-cons R row rest after (AllPairs-filter R (λ (other : Taken). ltb row.number other.number) link.taken h.rising))
       (All-weaker (λ (other : Taken). ltb other.number row.number ≡ true) (λ other. All (R other) (row ∷ rest)) before first (filter_passes (λ (other : Taken). ltb other.number row.number) link.taken));
   at_least = among (λ (other : Taken). link.below ≤ other.number) least h.at_least;
@@ -318,8 +318,8 @@ holds-more next later link row up h number mark given least job = record {
         let less : other.number < row.number = ltb-true other.number row.number e in
         All-cons (R other) row rest less (All-weaker (R row) (R other) (λ third l. omega (arith, less, l)) rest after)
 
-holds-fewer : (next below : ℕ) (link : Link) → Holds next link → below ≤ numbers_end → Holds next (forgotten below link)
-holds-fewer next below link h within = record {
+holds_fewer : (next below : ℕ) (link : Link) → Holds next link → below ≤ numbers_end → Holds next (forgotten below link)
+holds_fewer next below link h within = record {
   below = omega (arith, h.below, within);
   numbers = All-filter p (λ (row : Taken). (row.number ≤ numbers_end) × (row.mark < marks_end) × (1 ≤ row.job)) link.taken h.numbers;
   rising = AllPairs-filter (λ (a b : Taken). a.number < b.number) p link.taken h.rising;
@@ -336,8 +336,8 @@ holds-fewer next below link h within = record {
 -- ---- the commands
 
 module _ (state : State) (h : IsWellFormed state) where
-  still-define : (def : System) → IsDefinition def → IsWellFormed (accept state (Define def))
-  still-define def good =
+  still_define : (def : System) → IsDefinition def → IsWellFormed (accept state (Define def))
+  still_define def good =
       let item : SystemRow = record { def = def; call = call_of (system_at state def.name) } in
       record {
         some_next = h.some_next;
@@ -345,20 +345,20 @@ module _ (state : State) (h : IsWellFormed state) where
         jobs = h.jobs;
         rising = h.rising;
         below_next = h.below_next;
-        placed = All-weaker (λ (job : Job). IsTrue (has_system state job.system)) (λ (job : Job). IsTrue (list_any (is_system job.system) (put_system item state.systems))) (λ job p. put-any (λ (row : SystemRow). row.def.name) item (λ n. same_text n job.system) state.systems p) state.jobs h.placed;
-        definitions = put-all (λ (row : SystemRow). row.def.name) item (λ (row : SystemRow). IsDefinition row.def) state.systems good h.definitions;
-        calls = put-all (λ (row : SystemRow). row.def.name) item (λ (row : SystemRow). IsCall row.call) state.systems (call-known (system_at state def.name) (find-has (λ (row : SystemRow). IsCall row.call) (is_system def.name) state.systems h.calls)) h.calls;
-        by_name = put-in_order (λ (row : SystemRow). row.def.name) item state.systems h.by_name;
+        placed = All-weaker (λ (job : Job). IsTrue (has_system state job.system)) (λ (job : Job). IsTrue (list_any (is_system job.system) (put_system item state.systems))) (λ job p. put_any (λ (row : SystemRow). row.def.name) item (λ n. same_text n job.system) state.systems p) state.jobs h.placed;
+        definitions = put_all (λ (row : SystemRow). row.def.name) item (λ (row : SystemRow). IsDefinition row.def) state.systems good h.definitions;
+        calls = put_all (λ (row : SystemRow). row.def.name) item (λ (row : SystemRow). IsCall row.call) state.systems (call_known (system_at state def.name) (find_has (λ (row : SystemRow). IsCall row.call) (is_system def.name) state.systems h.calls)) h.calls;
+        by_name = put_in_order (λ (row : SystemRow). row.def.name) item state.systems h.by_name;
         hosts = h.hosts;
         by_host = h.by_host;
         links = h.links;
-        linked = All-weaker (λ (link : Link). IsTrue (has_system state link.name)) (λ (link : Link). IsTrue (list_any (is_system link.name) (put_system item state.systems))) (λ link p. put-any (λ (row : SystemRow). row.def.name) item (λ n. same_text n link.name) state.systems p) state.links h.linked;
+        linked = All-weaker (λ (link : Link). IsTrue (has_system state link.name)) (λ (link : Link). IsTrue (list_any (is_system link.name) (put_system item state.systems))) (λ link p. put_any (λ (row : SystemRow). row.def.name) item (λ n. same_text n link.name) state.systems p) state.links h.linked;
         taken = h.taken;
         by_link = h.by_link;
       }
 
-  still-remove : (name : List ℕ) → is_waiting state name ≡ false → IsWellFormed (accept state (Remove name))
-  still-remove name none = record {
+  still_remove : (name : List ℕ) → is_waiting state name ≡ false → IsWellFormed (accept state (Remove name))
+  still_remove name none = record {
     some_next = h.some_next;
     next = h.next;
     jobs = h.jobs;
@@ -407,8 +407,8 @@ module _ (state : State) (h : IsWellFormed state) where
               let named : row.def.name ≡ link.name = (bytes_decides row.def.name link.name).0 own in
               absurd (turned (is_link name link) (ap (λ n. same_text n name) (sym named) ∙ e) other_name)
 
-  still-queue : (job : NewJob) → IsNewJob job → is_too_large job ≡ false → has_system state job.system ≡ true → (state.next == numbers_end) ≡ false → IsWellFormed (accept state (Queue job))
-  still-queue job good small known free =
+  still_queue : (job : NewJob) → IsNewJob job → is_too_large job ≡ false → has_system state job.system ≡ true → (state.next == numbers_end) ≡ false → IsWellFormed (accept state (Queue job))
+  still_queue job good small known free =
       let new = job_of state.next job in
       let sizes = or_false (ltb most_bytes (length job.bytes)) (has_many_arguments job.kind) small in
       let fits : IsJob new = record {
@@ -424,7 +424,7 @@ module _ (state : State) (h : IsWellFormed state) where
         some_next = omega arith;
         next = below state.next h.next free;
         jobs = All-push IsJob state.jobs new h.jobs fits;
-        rising = pairs-push (λ (a b : Job). a.number < b.number) state.jobs new h.below_next h.rising;
+        rising = pairs_push (λ (a b : Job). a.number < b.number) state.jobs new h.below_next h.rising;
         below_next = All-push (λ (j : Job). j.number < state.next + 1) state.jobs new (All-weaker (λ (j : Job). j.number < state.next) (λ (j : Job). j.number < state.next + 1) (λ j l. omega (arith, l)) state.jobs h.below_next) (omega arith);
         placed = All-push (λ (j : Job). IsTrue (has_system state j.system)) state.jobs new h.placed known;
         definitions = h.definitions;
@@ -441,8 +441,8 @@ module _ (state : State) (h : IsWellFormed state) where
       below : (n : ℕ) → n ≤ numbers_end → (n == numbers_end) ≡ false → n + 1 ≤ numbers_end
       below n l e = grind (arith, nat_tests)
 
-  still-filtered : (p : Job → Bool) → IsWellFormed (record state { jobs = filter p state.jobs })
-  still-filtered p = record {
+  still_filtered : (p : Job → Bool) → IsWellFormed (record state { jobs = filter p state.jobs })
+  still_filtered p = record {
     some_next = h.some_next;
     next = h.next;
     jobs = All-filter p IsJob state.jobs h.jobs;
@@ -460,14 +460,14 @@ module _ (state : State) (h : IsWellFormed state) where
     by_link = h.by_link;
   }
 
-  still-changed : (number : ℕ) (change : Job → Job) → ((j : Job) → IsJob j → IsJob (change j)) → ((j : Job) → (change j).number ≡ j.number) → ((j : Job) → (change j).system ≡ j.system) → IsWellFormed (record state { jobs = change_job number change state.jobs })
-  still-changed number change good same place = record {
+  still_changed : (number : ℕ) (change : Job → Job) → ((j : Job) → IsJob j → IsJob (change j)) → ((j : Job) → (change j).number ≡ j.number) → ((j : Job) → (change j).system ≡ j.system) → IsWellFormed (record state { jobs = change_job number change state.jobs })
+  still_changed number change good same place = record {
     some_next = h.some_next;
     next = h.next;
-    jobs = jobs-changed IsJob number change state.jobs good h.jobs;
-    rising = jobs-rise number change state.jobs same h.rising;
-    below_next = jobs-changed (λ (j : Job). j.number < state.next) number change state.jobs (λ j l. omega (arith, same j, l)) h.below_next;
-    placed = jobs-changed (λ (j : Job). IsTrue (has_system state j.system)) number change state.jobs (λ j p. ap (λ n. has_system state n) (place j) ∙ p) h.placed;
+    jobs = jobs_changed IsJob number change state.jobs good h.jobs;
+    rising = jobs_rise number change state.jobs same h.rising;
+    below_next = jobs_changed (λ (j : Job). j.number < state.next) number change state.jobs (λ j l. omega (arith, same j, l)) h.below_next;
+    placed = jobs_changed (λ (j : Job). IsTrue (has_system state j.system)) number change state.jobs (λ j p. ap (λ n. has_system state n) (place j) ∙ p) h.placed;
     definitions = h.definitions;
     calls = h.calls;
     by_name = h.by_name;
@@ -479,27 +479,27 @@ module _ (state : State) (h : IsWellFormed state) where
     by_link = h.by_link;
   }
 
-  still-called : (name : List ℕ) (change : SystemRow → CallState) → ((row : SystemRow) → IsDefinition row.def → IsCall row.call → IsCall (change row)) → IsWellFormed (record state { systems = change_call name change state.systems })
-  still-called name change good = record {
+  still_called : (name : List ℕ) (change : SystemRow → CallState) → ((row : SystemRow) → IsDefinition row.def → IsCall row.call → IsCall (change row)) → IsWellFormed (record state { systems = change_call name change state.systems })
+  still_called name change good = record {
     some_next = h.some_next;
     next = h.next;
     jobs = h.jobs;
     rising = h.rising;
     below_next = h.below_next;
-    placed = All-weaker (λ (job : Job). IsTrue (has_system state job.system)) (λ (job : Job). IsTrue (list_any (is_system job.system) (change_call name change state.systems))) (λ job p. calls-any name change state.systems job.system p) state.jobs h.placed;
-    definitions = calls-definitions name change state.systems h.definitions;
-    calls = calls-calls name change state.systems good h.definitions h.calls;
-    by_name = calls-in_order name change state.systems h.by_name;
+    placed = All-weaker (λ (job : Job). IsTrue (has_system state job.system)) (λ (job : Job). IsTrue (list_any (is_system job.system) (change_call name change state.systems))) (λ job p. calls_any name change state.systems job.system p) state.jobs h.placed;
+    definitions = calls_definitions name change state.systems h.definitions;
+    calls = calls_calls name change state.systems good h.definitions h.calls;
+    by_name = calls_in_order name change state.systems h.by_name;
     hosts = h.hosts;
     by_host = h.by_host;
     links = h.links;
-    linked = All-weaker (λ (link : Link). IsTrue (has_system state link.name)) (λ (link : Link). IsTrue (list_any (is_system link.name) (change_call name change state.systems))) (λ link p. calls-any name change state.systems link.name p) state.links h.linked;
+    linked = All-weaker (λ (link : Link). IsTrue (has_system state link.name)) (λ (link : Link). IsTrue (list_any (is_system link.name) (change_call name change state.systems))) (λ link p. calls_any name change state.systems link.name p) state.links h.linked;
     taken = h.taken;
     by_link = h.by_link;
   }
 
-  still-entry : (bytes : List ℕ) → IsWellFormed (accept state (Entry bytes))
-  still-entry bytes = record {
+  still_entry : (bytes : List ℕ) → IsWellFormed (accept state (Entry bytes))
+  still_entry bytes = record {
     some_next = h.some_next;
     next = h.next;
     jobs = h.jobs;
@@ -510,7 +510,7 @@ module _ (state : State) (h : IsWellFormed state) where
     calls = h.calls;
     by_name = h.by_name;
     hosts = entry-kept (host_of bytes) bytes state.entries refl h.hosts;
-    by_host = entries-in_order (host_of bytes) bytes state.entries h.by_host;
+    by_host = entries_in_order (host_of bytes) bytes state.entries h.by_host;
     links = h.links;
     linked = h.linked;
     taken = h.taken;
@@ -525,10 +525,10 @@ module _ (state : State) (h : IsWellFormed state) where
       record { below = good.below; numbers = good.numbers; rising = good.rising; at_least = good.at_least; jobs = h.taken k d inside }
 
   holds : (name : List ℕ) → Holds state.next (link_of state name)
-  holds name = unwrap-has (Holds state.next) (find (is_link name) state.links) (new_link name) (find-has (Holds state.next) (is_link name) state.links holds-all) (new-holds state.next name)
+  holds name = unwrap_has (Holds state.next) (find (is_link name) state.links) (new_link name) (find_has (Holds state.next) (is_link name) state.links holds-all) (new_holds state.next name)
 
-  still-link : (link : Link) → Holds state.next link → IsTrue (has_system state link.name) → IsWellFormed (record state { links = put_link link state.links })
-  still-link link good known = by-test (says_nothing link) refl
+  still_link : (link : Link) → Holds state.next link → IsTrue (has_system state link.name) → IsWellFormed (record state { links = put_link link state.links })
+  still_link link good known = by-test (says_nothing link) refl
     where
       name : Link → List ℕ
       name other = other.name
@@ -547,89 +547,89 @@ module _ (state : State) (h : IsWellFormed state) where
         by_name = h.by_name;
         hosts = h.hosts;
         by_host = h.by_host;
-        links = put-all (λ (other : Link). other.name) link IsLink state.links (record { below = good.below; says = e; numbers = good.numbers; rising = good.rising; at_least = good.at_least }) h.links;
-        linked = put-all (λ (other : Link). other.name) link (λ (other : Link). IsTrue (has_system state other.name)) state.links known h.linked;
-        taken = put-all (λ (other : Link). other.name) link (λ (other : Link). All (λ (row : Taken). row.job < state.next) other.taken) state.links good.jobs h.taken;
-        by_link = put-in_order (λ (other : Link). other.name) link state.links h.by_link;
+        links = put_all (λ (other : Link). other.name) link IsLink state.links (record { below = good.below; says = e; numbers = good.numbers; rising = good.rising; at_least = good.at_least }) h.links;
+        linked = put_all (λ (other : Link). other.name) link (λ (other : Link). IsTrue (has_system state other.name)) state.links known h.linked;
+        taken = put_all (λ (other : Link). other.name) link (λ (other : Link). All (λ (row : Taken). row.job < state.next) other.taken) state.links good.jobs h.taken;
+        by_link = put_in_order (λ (other : Link). other.name) link state.links h.by_link;
       }
 
   link-known : (name : List ℕ) → has_system state name ≡ true → IsTrue (has_system state (link_of state name).name)
-  link-known name e = ap (λ n. has_system state n) (link-named state.links name) ∙ e
+  link-known name e = ap (λ n. has_system state n) (link_named state.links name) ∙ e
 
-still-once : (state : State) (key : Key) (job : NewJob) (other : Bool) → IsWellFormed state → IsKey key → IsNewJob job → first_reason (fresh_reasons (are_known state key job) state.next (link_of state key.from).below other key job) ≡ None → IsWellFormed (take_in (First state.next) key job state)
-still-once state key job other h good fine e =
+still_once : (state : State) (key : Key) (job : NewJob) (other : Bool) → IsWellFormed state → IsKey key → IsNewJob job → first_reason (fresh_reasons (are_known state key job) state.next (link_of state key.from).below other key job) ≡ None → IsWellFormed (with_job_once (First state.next) key job state)
+still_once state key job other h good fine e =
     let why = once_accepted (are_known state key job) state.next (link_of state key.from).below other key job e in
     let both = and_true (has_system state key.from) (has_system state job.system) why.1 in
-    let then = still-queue state h job fine why.0 both.1 why.2 in
+    let then = still_queue state h job fine why.0 both.1 why.2 in
     let old = holds state h key.from in
     let row : Taken = record { number = key.number; mark = key.mark; job = state.next } in
     let more = holds-more state.next (state.next + 1) (link_of state key.from) row (omega arith) old good.number good.mark h.some_next why.3 (omega arith) in
-    still-link (with_job job state) then (with_taken row (link_of state key.from)) more (link-known state h key.from both.0)
+    still_link (with_job job state) then (with_taken row (link_of state key.from)) more (link-known state h key.from both.0)
 
 failed-call : (row : SystemRow) (at : Moment) (why : List ℕ) → IsCommand (Failed row.def.name at why) → IsDefinition row.def → IsCall row.call → IsCall (failed_call row at why)
 failed-call row at why good def call =
-    record { last = good.0; failures = omega arith; wait = wait-within row.def at.week (one_more row.call.failures) def; outcome = good.1 }
+    record { last = good.0; failures = omega arith; wait = wait_within row.def at.week (one_more row.call.failures) def; outcome = good.1 }
 
 done-call : (row : SystemRow) (at : Moment) → at.second ≤ 4102444800 → IsDefinition row.def → IsCall (done_call row at)
 done-call row at good def = record { last = good; failures = omega arith; wait = def.limits.3; outcome = tt }
 
-still-accepted : (state : State) (command : Command) → IsWellFormed state → IsCommand command → verdict state command ≡ None → IsWellFormed (accept state command)
-still-accepted state (Define def) h good e = still-define state h def good
-still-accepted state (Remove name) h good e = still-remove state h name (none_first (is_waiting state name) _ _ (none_first (not (has_system state name)) _ _ e).1).0
-still-accepted state (Queue job) h good e =
+still_accepted : (state : State) (command : Command) → IsWellFormed state → IsCommand command → verdict state command ≡ None → IsWellFormed (accept state command)
+still_accepted state (Define def) h good e = still_define state h def good
+still_accepted state (Remove name) h good e = still_remove state h name (none_first (is_waiting state name) _ _ (none_first (not (has_system state name)) _ _ e).1).0
+still_accepted state (Queue job) h good e =
     let first = none_first (is_too_large job) _ _ e in
     let second = none_first (not (has_system state job.system)) _ _ first.1 in
-    still-queue state h job good first.0 (not_false (has_system state job.system) second.0) (none_first (state.next == numbers_end) _ _ second.1).0
-still-accepted state (QueueOnce key job) h good e = by-taken (taken_of state key) e
+    still_queue state h job good first.0 (not_false (has_system state job.system) second.0) (none_first (state.next == numbers_end) _ _ second.1).0
+still_accepted state (QueueOnce key job) h good e = by_taken (taken_of state key) e
   where
-    by-taken : (taken : Option Taken) → first_reason (once_reasons (are_known state key job) state.next (link_of state key.from).below taken key job) ≡ None → IsWellFormed (take_in (hand_in_of taken key state.next) key job state)
-    by-taken None e = still-once state key job false h good.0 good.1 e
-    by-taken (Some row) e = by-test (row.mark == key.mark) e
+    by_taken : (taken : Option Taken) → first_reason (once_reasons (are_known state key job) state.next (link_of state key.from).below taken key job) ≡ None → IsWellFormed (with_job_once (hand_in_of taken key state.next) key job state)
+    by_taken None e = still_once state key job false h good.0 good.1 e
+    by_taken (Some row) e = by-test (row.mark == key.mark) e
       where
-        by-test : (t : Bool) → first_reason (cond t [] (fresh_reasons (are_known state key job) state.next (link_of state key.from).below (not t) key job)) ≡ None → IsWellFormed (take_in (cond t (Again row.job) (First state.next)) key job state)
+        by-test : (t : Bool) → first_reason (cond t [] (fresh_reasons (are_known state key job) state.next (link_of state key.from).below (not t) key job)) ≡ None → IsWellFormed (with_job_once (cond t (Again row.job) (First state.next)) key job state)
         by-test true e = h
-        by-test false e = still-once state key job true h good.0 good.1 e
-still-accepted state (Kill job by) h good e = still-filtered state h (λ (other : Job). not (is_job job other))
-still-accepted state (Regrade job grade by) h good e =
-    still-changed state h job (λ other. record other { grade = grade }) (λ j p. record { number = p.number; system = p.system; grade = good; user = p.user; kind = p.kind; queued = p.queued; bytes = p.bytes }) (λ j. refl) (λ j. refl)
-still-accepted state (Rejuvenate job at by) h good e =
-    still-changed state h job (λ other. record other { queued = at.second }) (λ j p. record { number = p.number; system = p.system; grade = p.grade; user = p.user; kind = p.kind; queued = good; bytes = p.bytes }) (λ j. refl) (λ j. refl)
-still-accepted state (Failed system at why) h good e = still-called state h system (λ row. failed_call row at why) (λ row def call. failed-call row at why good def call)
-still-accepted state (Done system at jobs) h good e =
-    still-called (record state { jobs = filter (λ (job : Job). not (is_among jobs job)) state.jobs }) (still-filtered state h (λ (job : Job). not (is_among jobs job))) system (λ row. done_call row at) (λ row def call. done-call row at good def)
-still-accepted state (Release system jobs) h good e = still-filtered state h (λ (job : Job). not (is_released system jobs job))
-still-accepted state (Entry bytes) h good e = still-entry state h bytes
-still-accepted state (Forget system below) h good e =
+        by-test false e = still_once state key job true h good.0 good.1 e
+still_accepted state (Kill job by) h good e = still_filtered state h (λ (other : Job). not (is_job job other))
+still_accepted state (Regrade job grade by) h good e =
+    still_changed state h job (λ other. record other { grade = grade }) (λ j p. record { number = p.number; system = p.system; grade = good; user = p.user; kind = p.kind; queued = p.queued; bytes = p.bytes }) (λ j. refl) (λ j. refl)
+still_accepted state (Rejuvenate job at by) h good e =
+    still_changed state h job (λ other. record other { queued = at.second }) (λ j p. record { number = p.number; system = p.system; grade = p.grade; user = p.user; kind = p.kind; queued = good; bytes = p.bytes }) (λ j. refl) (λ j. refl)
+still_accepted state (Failed system at why) h good e = still_called state h system (λ row. failed_call row at why) (λ row def call. failed-call row at why good def call)
+still_accepted state (Done system at jobs) h good e =
+    still_called (record state { jobs = filter (λ (job : Job). not (is_among jobs job)) state.jobs }) (still_filtered state h (λ (job : Job). not (is_among jobs job))) system (λ row. done_call row at) (λ row def call. done-call row at good def)
+still_accepted state (Release system jobs) h good e = still_filtered state h (λ (job : Job). not (is_released system jobs job))
+still_accepted state (Entry bytes) h good e = still_entry state h bytes
+still_accepted state (Forget system below) h good e =
     let known = not_false (has_system state system) (none_first (not (has_system state system)) _ _ e).0 in
-    still-link state h (forgotten below (link_of state system)) (holds-fewer state.next below (link_of state system) (holds state h system) good) (link-known state h system known)
+    still_link state h (forgotten below (link_of state system)) (holds_fewer state.next below (link_of state system) (holds state h system) good) (link-known state h system known)
 
 pub still : (state : State) (command : Command) → IsCommand command → IsWellFormed state → IsWellFormed (after state command).0
-still state command good h = by-verdict (verdict state command) refl
+still state command good h = by_verdict (verdict state command) refl
   where
-    by-verdict : (v : Option Refusal) → verdict state command ≡ v → IsWellFormed (after_verdict v state command).0
-    by-verdict None e = still-accepted state command h good e
-    by-verdict (Some refusal) e = h
+    by_verdict : (v : Option Refusal) → verdict state command ≡ v → IsWellFormed (after_verdict v state command).0
+    by_verdict None e = still_accepted state command h good e
+    by_verdict (Some refusal) e = h
 
-pub still-run : (state : State) (commands : List Command) → All IsCommand commands → IsWellFormed state → IsWellFormed (state_after state commands)
-still-run state [] good h = h
-still-run state (command ∷ commands) good h =
-    still-run (after state command).0 commands (All-tail IsCommand command commands good) (still state command (All-head IsCommand command commands good) h)
+pub still_run : (state : State) (commands : List Command) → All IsCommand commands → IsWellFormed state → IsWellFormed (state_after state commands)
+still_run state [] good h = h
+still_run state (command ∷ commands) good h =
+    still_run (after state command).0 commands (All-tail IsCommand command commands good) (still state command (All-head IsCommand command commands good) h)
 
-pub still-empty : IsWellFormed empty
-still-empty = record {
+pub still_empty : IsWellFormed empty
+still_empty = record {
   some_next = omega arith;
   next = omega arith;
   jobs = All-nil IsJob;
-  rising = pairs-nil (λ (a b : Job). a.number < b.number);
+  rising = pairs_nil (λ (a b : Job). a.number < b.number);
   below_next = All-nil (λ (job : Job). job.number < 1);
   placed = All-nil (λ (job : Job). IsTrue (has_system empty job.system));
   definitions = All-nil (λ (row : SystemRow). IsDefinition row.def);
   calls = All-nil (λ (row : SystemRow). IsCall row.call);
-  by_name = pairs-nil (λ (a b : SystemRow). ComesBefore a.def.name b.def.name);
+  by_name = pairs_nil (λ (a b : SystemRow). ComesBefore a.def.name b.def.name);
   hosts = All-nil (λ (entry : MapEntry). host_of entry.bytes ≡ Ok entry.host);
-  by_host = pairs-nil (λ (a b : MapEntry). ComesBefore a.host b.host);
+  by_host = pairs_nil (λ (a b : MapEntry). ComesBefore a.host b.host);
   links = All-nil IsLink;
   linked = All-nil (λ (link : Link). IsTrue (has_system empty link.name));
   taken = All-nil (λ (link : Link). All (λ (row : Taken). row.job < 1) link.taken);
-  by_link = pairs-nil (λ (a b : Link). ComesBefore a.name b.name);
+  by_link = pairs_nil (λ (a b : Link). ComesBefore a.name b.name);
 }

@@ -97,9 +97,9 @@ hand_in_of (Some taken) key next = if taken.mark == key.mark then Again taken.jo
 abbrev pub hand_in : State → Key → HandIn
 hand_in state key = hand_in_of (taken_of state key) key state.next
 
-abbrev pub number_of : HandIn → ℕ
-number_of (First number) = number
-number_of (Again number) = number
+abbrev pub hand_in_number : HandIn → ℕ
+hand_in_number (First number) = number
+hand_in_number (Again number) = number
 
 -- the link with one more taken job, in place of any other of its number
 abbrev pub with_taken : Taken → Link → Link
@@ -116,9 +116,9 @@ with_key key number state =
     record state { links = put_link (with_taken (record { number = key.number; mark = key.mark; job = number }) (link_of state key.from)) state.links }
 
 -- a job that comes for the first time is queued, and its key is kept
-abbrev pub take_in : HandIn → Key → NewJob → State → State
-take_in (First number) key job state = with_key key number (with_job job state)
-take_in (Again number) key job state = state
+abbrev pub with_job_once : HandIn → Key → NewJob → State → State
+with_job_once (First number) key job state = with_key key number (with_job job state)
+with_job_once (Again number) key job state = state
 
 -- ---- one of several
 
@@ -148,7 +148,7 @@ accept state (Define def) =
 accept state (Remove name) =
     record state { systems = filter (λ row. not (is_system name row)) state.systems; links = filter (λ link. not (is_link name link)) state.links }
 accept state (Queue job) = with_job job state
-accept state (QueueOnce key job) = take_in (hand_in state key) key job state
+accept state (QueueOnce key job) = with_job_once (hand_in state key) key job state
 accept state (Kill job by) = record state { jobs = filter (λ other. not (is_job job other)) state.jobs }
 accept state (Regrade job grade by) = record state { jobs = change_job job (λ other. record other { grade = grade }) state.jobs }
 accept state (Rejuvenate job at by) = record state { jobs = change_job job (λ other. record other { queued = at.second }) state.jobs }
@@ -163,7 +163,7 @@ accept state (Forget system below) = record state { links = put_link (forgotten 
 -- key
 abbrev pub reply_to : State → Command → Reply
 reply_to state (Queue job) = Number state.next
-reply_to state (QueueOnce key job) = Number (number_of (hand_in state key))
+reply_to state (QueueOnce key job) = Number (hand_in_number (hand_in state key))
 reply_to state (Define def) = Carried
 reply_to state (Remove name) = Carried
 reply_to state (Kill job by) = Carried

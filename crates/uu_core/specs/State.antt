@@ -8,7 +8,7 @@ use Rattle.uu_names.specs.Grade.{grade_count}
 use Rattle.uu_names.specs.Name.{is_site_name, is_word}
 use Rattle.uu_times.specs.Moment as moments
 use Rattle.uu_times.specs.System.{System, AreWithinLimits}
-use Rattle.uu_times.specs.Ranges.{AreRuns}
+use Rattle.uu_times.specs.Ranges.{AreSeparateRanges}
 use Rattle.uu_times.specs.declared.system.Line.{Line}
 use Rattle.uu_map.specs.Text.{host_of}
 use Rattle.uu_core.specs.declared.custody.Taken.{Taken}
@@ -171,7 +171,7 @@ pub record IsCall (call : CallState) : Type 0 where
   pub outcome : IsOutcome call.outcome call
 
 abbrev pub IsLine : Line → Type 0
-IsLine line = (line.grade < grade_count) × AreRuns line.windows
+IsLine line = (line.grade < grade_count) × AreSeparateRanges line.windows
 
 pub record IsDefinition (def : System) : Type 0 where
   pub name : IsTrue (is_site_name def.name)

@@ -27,8 +27,8 @@ abbrev pub commands_in : TakeIn → List Command
 commands_in it = Forget it.from it.below ∷ map (offering it.from) it.jobs
 
 -- the state after a bundle, and the replies: to what the neighbour won't ask for, and to each job
-abbrev pub taken_in : State → TakeIn → State × List Reply
-taken_in state it = run state (commands_in it)
+abbrev pub after_take_in : State → TakeIn → State × List Reply
+after_take_in state it = run state (commands_in it)
 
 -- ---- deciding a bundle from what was known before it
 

@@ -22,8 +22,8 @@ use Rattle.uu_core.specs.State.{State, same_text, has_system, is_waiting, job_at
 -- ---- the reasons against a command, each with whether it applies
 
 -- a system may be removed if it is known and no job waits for it
-abbrev pub drop_reasons : Bool → Bool → List (Bool × Refusal)
-drop_reasons known waiting = (not known, NoSystem) ∷ (waiting, Busy) ∷ []
+abbrev pub remove_reasons : Bool → Bool → List (Bool × Refusal)
+remove_reasons known waiting = (not known, NoSystem) ∷ (waiting, Busy) ∷ []
 
 abbrev pub has_many_arguments : Kind → Bool
 has_many_arguments (Send source target) = false
@@ -116,7 +116,7 @@ done_reasons known system numbers jobs =
 -- each reason for which a command may be refused, with whether it applies in a state
 abbrev pub reasons : State → Command → List (Bool × Refusal)
 reasons state (Define def) = []
-reasons state (Remove name) = drop_reasons (has_system state name) (is_waiting state name)
+reasons state (Remove name) = remove_reasons (has_system state name) (is_waiting state name)
 reasons state (Queue job) = queue_reasons (has_system state job.system) state.next job
 reasons state (QueueOnce key job) = once_reasons_in state key job
 reasons state (Kill job by) = job_reasons (option_map head_of (job_at state job)) by

@@ -2,7 +2,7 @@
 ghost use Rattle.std.specs.Prelude.{◌≡◌, ◌==◌, [], is_some, option_copied};
 ghost use Rattle.std.specs.List.{list_any};
 ghost use Rattle.uu_core.specs.Refusal.{decided};
-ghost use Rattle.uu_core.specs.Verdict.{drop_reasons, queue_reasons, once_reasons, fresh_reasons, key_under, known_reasons, job_reasons, has_many_arguments, is_too_large, may_touch, has_repeat, has_number, is_missing_one, has_other, done_reasons};
+ghost use Rattle.uu_core.specs.Verdict.{remove_reasons, queue_reasons, once_reasons, fresh_reasons, key_under, known_reasons, job_reasons, has_many_arguments, is_too_large, may_touch, has_repeat, has_number, is_missing_one, has_other, done_reasons};
 ghost use Rattle.uu_core.specs.After.{failed_decision, done_call_of, hand_in_of};
 
 use crate::custody::{HandIn, Key, Mark, Taken};
@@ -20,7 +20,7 @@ use uu_times::Moment;
 /// # Errors
 /// [`Refusal::NoSystem`] if it isn't known. Otherwise [`Refusal::Busy`] if a job waits for it.
 pub fn decide_drop(known: bool, waiting: bool) -> Result<(), Refusal>
-    ensures { result ≡ decided (drop_reasons known waiting) tt }
+    ensures { result ≡ decided (remove_reasons known waiting) tt }
 {
     if !known {
         Err(Refusal::NoSystem)

@@ -10,7 +10,7 @@ use Rattle.uu_core.specs.declared.job.NewJob.{NewJob}
 use Rattle.uu_core.specs.State.{same_text}
 use Rattle.uu_handover.specs.Bundles.{Bundle, Told, Packed, IsFront}
 use Rattle.uu_handover.specs.Custody.{Parcel, Crossing, key_of}
-use Rattle.uu_custody.specs.Events.{Site, sender, receiver, Notice, waits, no_more, has, Event, answered, stopped, noticed, Wire, nothing_sent, answers_in, after_event, IsFromWire, MayBeGiven, KeepsToWire, MayForget, ForgetsWhatWasSaid}
+use Rattle.uu_custody.specs.Events.{Side, sender, receiver, Notice, waits, no_more, has, Event, answered, stopped, noticed, Wire, nothing_sent, answers_in, after_event, IsFromWire, MayBeGiven, KeepsToWire, MayForget, ForgetsWhatWasSaid}
 use Rattle.uu_custody.specs.Carried.{Deed, runs, stops, says, notices_of, events_of, key_in, unpack, settle, other, commands_of, Bundles, nothing_said, IsBeside, IsOfLine, IsMarked, GoesByBundles}
 use Rattle.uu_custody.proofs.Lists.{first_of, later_of, first_or_later, none_in, from_map}
 
@@ -21,23 +21,23 @@ record Grows (wire later : Wire) : Type 0 where
   answers : (number : ℕ) → Contains wire.answers number → Contains later.answers number
   said : (number : ℕ) → Contains wire.said number → Contains later.said number
 
-grows-event : (crossing : Crossing) (wire : Wire) (event : Event) → Grows wire (after_event crossing wire event)
-grows-event crossing wire (answered sender command reply) = record { parcels = λ parcel there. there; answers = λ number there. there; said = λ number there. there }
-grows-event crossing wire (answered receiver command reply) = record { parcels = λ parcel there. there; answers = λ number there. Contains-append_left wire.answers (answers_in crossing command reply) number there; said = λ number there. there }
-grows-event crossing wire (stopped site in_hand unanswered ending) = record { parcels = λ parcel there. there; answers = λ number there. there; said = λ number there. there }
-grows-event crossing wire (noticed (waits parcel)) = record { parcels = λ other there. Contains-append_left wire.parcels (parcel ∷ []) other there; answers = λ number there. there; said = λ number there. there }
-grows-event crossing wire (noticed (no_more below)) = record { parcels = λ parcel there. there; answers = λ number there. there; said = λ number there. Contains-append_left wire.said (below ∷ []) number there }
-grows-event crossing wire (noticed (has told)) = record { parcels = λ parcel there. there; answers = λ number there. Contains-append_left wire.answers (told ∷ []) number there; said = λ number there. there }
+grows_event : (crossing : Crossing) (wire : Wire) (event : Event) → Grows wire (after_event crossing wire event)
+grows_event crossing wire (answered sender command reply) = record { parcels = λ parcel there. there; answers = λ number there. there; said = λ number there. there }
+grows_event crossing wire (answered receiver command reply) = record { parcels = λ parcel there. there; answers = λ number there. Contains-append_left wire.answers (answers_in crossing command reply) number there; said = λ number there. there }
+grows_event crossing wire (stopped site in_hand unanswered ending) = record { parcels = λ parcel there. there; answers = λ number there. there; said = λ number there. there }
+grows_event crossing wire (noticed (waits parcel)) = record { parcels = λ other there. Contains-append_left wire.parcels (parcel ∷ []) other there; answers = λ number there. there; said = λ number there. there }
+grows_event crossing wire (noticed (no_more below)) = record { parcels = λ parcel there. there; answers = λ number there. there; said = λ number there. Contains-append_left wire.said (below ∷ []) number there }
+grows_event crossing wire (noticed (has told)) = record { parcels = λ parcel there. there; answers = λ number there. Contains-append_left wire.answers (told ∷ []) number there; said = λ number there. there }
 
 abbrev after_notices : Crossing → Wire → List Notice → Wire
 after_notices crossing wire [] = wire
 after_notices crossing wire (notice ∷ notices) = after_notices crossing (after_event crossing wire (noticed notice)) notices
 
-grows-notices : (crossing : Crossing) (wire : Wire) (notices : List Notice) → Grows wire (after_notices crossing wire notices)
-grows-notices crossing wire [] = record { parcels = λ parcel there. there; answers = λ number there. there; said = λ number there. there }
-grows-notices crossing wire (notice ∷ notices) =
-    let one = grows-event crossing wire (noticed notice) in
-    let more = grows-notices crossing (after_event crossing wire (noticed notice)) notices in
+grows_notices : (crossing : Crossing) (wire : Wire) (notices : List Notice) → Grows wire (after_notices crossing wire notices)
+grows_notices crossing wire [] = record { parcels = λ parcel there. there; answers = λ number there. there; said = λ number there. there }
+grows_notices crossing wire (notice ∷ notices) =
+    let one = grows_event crossing wire (noticed notice) in
+    let more = grows_notices crossing (after_event crossing wire (noticed notice)) notices in
     record { parcels = λ parcel there. more.parcels parcel (one.parcels parcel there); answers = λ number there. more.answers number (one.answers number there); said = λ number there. more.said number (one.said number there) }
 
 -- ---- and gets what is noticed
@@ -53,18 +53,18 @@ still-on wire later (waits parcel) grows on = grows.parcels parcel on
 still-on wire later (no_more below) grows on = grows.said below on
 still-on wire later (has number) grows on = grows.answers number on
 
-now-on : (crossing : Crossing) (wire : Wire) (notice : Notice) → IsOn (after_event crossing wire (noticed notice)) notice
+now_on : (crossing : Crossing) (wire : Wire) (notice : Notice) → IsOn (after_event crossing wire (noticed notice)) notice
 unfolding IsOn
-now-on crossing wire (waits parcel) = Contains-append_right wire.parcels (parcel ∷ []) parcel (first_of parcel [])
-now-on crossing wire (no_more below) = Contains-append_right wire.said (below ∷ []) below (first_of below [])
-now-on crossing wire (has number) = Contains-append_right wire.answers (number ∷ []) number (first_of number [])
+now_on crossing wire (waits parcel) = Contains-append_right wire.parcels (parcel ∷ []) parcel (first_of parcel [])
+now_on crossing wire (no_more below) = Contains-append_right wire.said (below ∷ []) below (first_of below [])
+now_on crossing wire (has number) = Contains-append_right wire.answers (number ∷ []) number (first_of number [])
 
-are-on : (crossing : Crossing) (wire : Wire) (notices : List Notice) (notice : Notice) → Contains notices notice → IsOn (after_notices crossing wire notices) notice
-are-on crossing wire [] notice there = absurd (none_in notice there)
-are-on crossing wire (one ∷ notices) notice there = elim (first_or_later one notice notices there) [
+are_on : (crossing : Crossing) (wire : Wire) (notices : List Notice) (notice : Notice) → Contains notices notice → IsOn (after_notices crossing wire notices) notice
+are_on crossing wire [] notice there = absurd (none_in notice there)
+are_on crossing wire (one ∷ notices) notice there = elim (first_or_later one notice notices there) [
   | inl same ↦ subst (IsOn (after_notices crossing (after_event crossing wire (noticed one)) notices)) same
-      (still-on (after_event crossing wire (noticed one)) (after_notices crossing (after_event crossing wire (noticed one)) notices) one (grows-notices crossing (after_event crossing wire (noticed one)) notices) (now-on crossing wire one))
-  | inr later ↦ are-on crossing (after_event crossing wire (noticed one)) notices notice later
+      (still-on (after_event crossing wire (noticed one)) (after_notices crossing (after_event crossing wire (noticed one)) notices) one (grows_notices crossing (after_event crossing wire (noticed one)) notices) (now_on crossing wire one))
+  | inr later ↦ are_on crossing (after_event crossing wire (noticed one)) notices notice later
 ]
 
 -- ---- what was said is on the wire
@@ -74,8 +74,8 @@ record Covers (crossing : Crossing) (bundles : Bundles) (wire : Wire) : Type 0 w
   below : (bundle : Bundle) → Contains bundles.out bundle → bundle.to ≡ crossing.to → Contains wire.said bundle.below
   told : (bundle : Bundle) → Contains bundles.back bundle → bundle.to ≡ crossing.from → (told : Told) → Contains bundle.has told → Contains wire.answers told.number
 
-still-covers : (crossing : Crossing) (bundles : Bundles) (wire later : Wire) → Grows wire later → Covers crossing bundles wire → Covers crossing bundles later
-still-covers crossing bundles wire later grows c = record {
+still_covers : (crossing : Crossing) (bundles : Bundles) (wire later : Wire) → Grows wire later → Covers crossing bundles wire → Covers crossing bundles later
+still_covers crossing bundles wire later grows c = record {
   jobs = λ bundle there to packed inside. let was = c.jobs bundle there to packed inside in (grows.parcels packed.parcel was.0, was.1);
   below = λ bundle there to. grows.said bundle.below (c.below bundle there to);
   told = λ bundle there to told inside. grows.answers told.number (c.told bundle there to told inside);
@@ -95,50 +95,50 @@ module _ (crossing : Crossing) (wire : Wire) (bundle : Bundle) where
   abbrev back : List Notice
   back = map (λ (told : Told). has told.number) bundle.has
 
-  sent-on : bundle.to ≡ crossing.to → (notice : Notice) → Contains sent notice → IsOn (after_notices crossing wire (notices_of crossing sender bundle)) notice
-  sent-on to notice there = are-on crossing wire (notices_of crossing sender bundle) notice (by-test (same_text bundle.to crossing.to) ((bytes_decides bundle.to crossing.to).1 to))
+  sent_on : bundle.to ≡ crossing.to → (notice : Notice) → Contains sent notice → IsOn (after_notices crossing wire (notices_of crossing sender bundle)) notice
+  sent_on to notice there = are_on crossing wire (notices_of crossing sender bundle) notice (by-test (same_text bundle.to crossing.to) ((bytes_decides bundle.to crossing.to).1 to))
     where
       by-test : (t : Bool) → t ≡ true → Contains (cond t (no_more bundle.below ∷ map (λ (packed : Packed). waits packed.parcel) bundle.jobs) []) notice
       by-test true e = there
       by-test false e = absurd (cc)
 
-  back-on : bundle.to ≡ crossing.from → (notice : Notice) → Contains back notice → IsOn (after_notices crossing wire (notices_of crossing receiver bundle)) notice
-  back-on to notice there = are-on crossing wire (notices_of crossing receiver bundle) notice (by-test (same_text bundle.to crossing.from) ((bytes_decides bundle.to crossing.from).1 to))
+  back_on : bundle.to ≡ crossing.from → (notice : Notice) → Contains back notice → IsOn (after_notices crossing wire (notices_of crossing receiver bundle)) notice
+  back_on to notice there = are_on crossing wire (notices_of crossing receiver bundle) notice (by-test (same_text bundle.to crossing.from) ((bytes_decides bundle.to crossing.from).1 to))
     where
       by-test : (t : Bool) → t ≡ true → Contains (cond t (map (λ (told : Told). has told.number) bundle.has) []) notice
       by-test true e = there
       by-test false e = absurd (cc)
 
-  covers-sent : (bundles : Bundles) → Covers crossing bundles wire → IsMarked crossing bundle → Covers crossing (record bundles { out = bundles.out ++ bundle ∷ [] }) (after_notices crossing wire (notices_of crossing sender bundle))
+  covers_sent : (bundles : Bundles) → Covers crossing bundles wire → IsMarked crossing bundle → Covers crossing (record bundles { out = bundles.out ++ bundle ∷ [] }) (after_notices crossing wire (notices_of crossing sender bundle))
   unfolding IsOn
-  covers-sent bundles c marked =
-      let grown = still-covers crossing bundles wire (after_notices crossing wire (notices_of crossing sender bundle)) (grows-notices crossing wire (notices_of crossing sender bundle)) c in
+  covers_sent bundles c marked =
+      let grown = still_covers crossing bundles wire (after_notices crossing wire (notices_of crossing sender bundle)) (grows_notices crossing wire (notices_of crossing sender bundle)) c in
       record {
         jobs = λ other there to packed inside. elim (Contains-push_cases bundles.out bundle other there) [
           | inl was ↦ grown.jobs other was to packed inside
           | inr same ↦
               (let own = subst (λ (b : Bundle). Contains b.jobs packed) (sym same) inside in
               let for = ap (λ (b : Bundle). b.to) same ∙ to in
-              (sent-on for (waits packed.parcel) (later_of (no_more bundle.below) (waits packed.parcel) (map (λ (p : Packed). waits p.parcel) bundle.jobs) (mapped (λ (p : Packed). waits p.parcel) bundle.jobs packed own)), All-contains (λ (p : Packed). p.mark ≡ crossing.mark p.parcel) bundle.jobs packed (marked for) own))
+              (sent_on for (waits packed.parcel) (later_of (no_more bundle.below) (waits packed.parcel) (map (λ (p : Packed). waits p.parcel) bundle.jobs) (mapped (λ (p : Packed). waits p.parcel) bundle.jobs packed own)), All-contains (λ (p : Packed). p.mark ≡ crossing.mark p.parcel) bundle.jobs packed (marked for) own))
         ];
         below = λ other there to. elim (Contains-push_cases bundles.out bundle other there) [
           | inl was ↦ grown.below other was to
           | inr same ↦ subst (λ (b : Bundle). Contains (after_notices crossing wire (notices_of crossing sender bundle)).said b.below) same
-              (sent-on (ap (λ (b : Bundle). b.to) same ∙ to) (no_more bundle.below) (first_of (no_more bundle.below) (map (λ (p : Packed). waits p.parcel) bundle.jobs)))
+              (sent_on (ap (λ (b : Bundle). b.to) same ∙ to) (no_more bundle.below) (first_of (no_more bundle.below) (map (λ (p : Packed). waits p.parcel) bundle.jobs)))
         ];
         told = grown.told;
       }
 
-  covers-back : (bundles : Bundles) → Covers crossing bundles wire → Covers crossing (record bundles { back = bundles.back ++ bundle ∷ [] }) (after_notices crossing wire (notices_of crossing receiver bundle))
+  covers_back : (bundles : Bundles) → Covers crossing bundles wire → Covers crossing (record bundles { back = bundles.back ++ bundle ∷ [] }) (after_notices crossing wire (notices_of crossing receiver bundle))
   unfolding IsOn
-  covers-back bundles c =
-      let grown = still-covers crossing bundles wire (after_notices crossing wire (notices_of crossing receiver bundle)) (grows-notices crossing wire (notices_of crossing receiver bundle)) c in
+  covers_back bundles c =
+      let grown = still_covers crossing bundles wire (after_notices crossing wire (notices_of crossing receiver bundle)) (grows_notices crossing wire (notices_of crossing receiver bundle)) c in
       record {
         jobs = grown.jobs;
         below = grown.below;
         told = λ other there to told inside. elim (Contains-push_cases bundles.back bundle other there) [
           | inl was ↦ grown.told other was to told inside
-          | inr same ↦ back-on (ap (λ (b : Bundle). b.to) same ∙ to) (has told.number) (mapped (λ (t : Told). has t.number) bundle.has told (subst (λ (b : Bundle). Contains b.has told) (sym same) inside))
+          | inr same ↦ back_on (ap (λ (b : Bundle). b.to) same ∙ to) (has told.number) (mapped (λ (t : Told). has t.number) bundle.has told (subst (λ (b : Bundle). Contains b.has told) (sym same) inside))
         ];
       }
 
@@ -154,8 +154,8 @@ of-one one command there = elim (first_or_later one command [] there) [
 abbrev IsUnpacked : Bundle → (Packed → NewJob) → Command → Type 0
 IsUnpacked bundle make command = (Forget bundle.from bundle.below ≡ command) ⊎ ((packed : Packed) × Contains bundle.jobs packed × (QueueOnce (key_in bundle packed) (make packed) ≡ command))
 
-of-unpack : (bundle : Bundle) (make : Packed → NewJob) (command : Command) → Contains (commands_of (unpack bundle make)) command → IsUnpacked bundle make command
-of-unpack bundle make command there = elim (first_or_later (Forget bundle.from bundle.below) command (map (λ (packed : Packed). QueueOnce (key_in bundle packed) (make packed)) bundle.jobs) there) [
+of_unpack : (bundle : Bundle) (make : Packed → NewJob) (command : Command) → Contains (commands_of (unpack bundle make)) command → IsUnpacked bundle make command
+of_unpack bundle make command there = elim (first_or_later (Forget bundle.from bundle.below) command (map (λ (packed : Packed). QueueOnce (key_in bundle packed) (make packed)) bundle.jobs) there) [
   | inl same ↦ inl same
   | inr later ↦ inr (from_map (λ (packed : Packed). QueueOnce (key_in bundle packed) (make packed)) bundle.jobs command later)
 ]
@@ -167,7 +167,7 @@ module _ (crossing : Crossing) (bundles : Bundles) (wire : Wire) (c : Covers cro
   -- ---- the sender's
 
   reports : (system : List ℕ) (at : Moment) (jobs : List ℕ) → IsOfLine crossing bundles sender (Done system at jobs) → system ≡ crossing.to → All (Contains wire.answers) jobs
-  reports system at jobs (unpack bundle make, may, there) own = absurd (by-case (of-unpack bundle make (Done system at jobs) there))
+  reports system at jobs (unpack bundle make, may, there) own = absurd (by-case (of_unpack bundle make (Done system at jobs) there))
     where
       by-case : IsUnpacked bundle make (Done system at jobs) → ⊥
       by-case (inl e) = cc
@@ -178,7 +178,7 @@ module _ (crossing : Crossing) (bundles : Bundles) (wire : Wire) (c : Covers cro
       subst (All (Contains wire.answers)) (sym none) (All-nil (Contains wire.answers))
 
   releases : (system jobs : List ℕ) → IsOfLine crossing bundles sender (Release system jobs) → system ≡ crossing.to → All (Contains wire.answers) jobs
-  releases system jobs (unpack bundle make, may, there) own = absurd (by-case (of-unpack bundle make (Release system jobs) there))
+  releases system jobs (unpack bundle make, may, there) own = absurd (by-case (of_unpack bundle make (Release system jobs) there))
     where
       by-case : IsUnpacked bundle make (Release system jobs) → ⊥
       by-case (inl e) = cc
@@ -202,20 +202,20 @@ module _ (crossing : Crossing) (bundles : Bundles) (wire : Wire) (c : Covers cro
 
   -- ---- the receiver's
 
-  keeps-name : (name : List ℕ) → IsOfLine crossing bundles receiver (Remove name) → ¬ (name ≡ crossing.from)
-  keeps-name name (unpack bundle make, may, there) own = by-case (of-unpack bundle make (Remove name) there)
+  keeps_name : (name : List ℕ) → IsOfLine crossing bundles receiver (Remove name) → ¬ (name ≡ crossing.from)
+  keeps_name name (unpack bundle make, may, there) own = by-case (of_unpack bundle make (Remove name) there)
     where
       by-case : IsUnpacked bundle make (Remove name) → ⊥
       by-case (inl e) = cc
       by-case (inr (packed, inside, e)) = cc
-  keeps-name name (settle bundle numbers, may, there) own = let same = of-one (Release bundle.from numbers) (Remove name) there in cc
-  keeps-name name (other command, may, there) own = subst (IsBeside crossing receiver) (of-one command (Remove name) there) may own
+  keeps_name name (settle bundle numbers, may, there) own = let same = of-one (Release bundle.from numbers) (Remove name) there in cc
+  keeps_name name (other command, may, there) own = subst (IsBeside crossing receiver) (of-one command (Remove name) there) may own
 
   agreed : (bundle : Bundle) (key : Key) (packed : Packed) → key_in bundle packed ≡ key → bundle.from ≡ crossing.from → packed.mark ≡ crossing.mark packed.parcel → key ≡ key_of crossing packed.parcel
   agreed bundle key packed same name mark = subst (λ k. k ≡ key_of crossing packed.parcel) same (ap₂ (λ n m. record { from = n; number = packed.parcel.number; mark = m }) name mark)
 
-  from-bundle : (key : Key) (new : NewJob) → IsOfLine crossing bundles receiver (QueueOnce key new) → key.from ≡ crossing.from → IsFromWire crossing wire key new
-  from-bundle key new (unpack bundle make, may, there) own = by-case (of-unpack bundle make (QueueOnce key new) there)
+  from_bundle : (key : Key) (new : NewJob) → IsOfLine crossing bundles receiver (QueueOnce key new) → key.from ≡ crossing.from → IsFromWire crossing wire key new
+  from_bundle key new (unpack bundle make, may, there) own = by-case (of_unpack bundle make (QueueOnce key new) there)
     where
       by-case : IsUnpacked bundle make (QueueOnce key new) → IsFromWire crossing wire key new
       by-case (inl e) = absurd (cc)
@@ -233,11 +233,11 @@ module _ (crossing : Crossing) (bundles : Bundles) (wire : Wire) (c : Covers cro
             key_is = agreed bundle key packed same name on.1;
             made = subst (λ j. crossing.makes packed.parcel j ≡ true) job (All-contains (λ (p : Packed). crossing.makes p.parcel (make p) ≡ true) bundle.jobs packed it.2 inside);
           }
-  from-bundle key new (settle bundle numbers, may, there) own = absurd (let same = of-one (Release bundle.from numbers) (QueueOnce key new) there in cc)
-  from-bundle key new (other command, may, there) own = absurd (subst (IsBeside crossing receiver) (of-one command (QueueOnce key new) there) may own)
+  from_bundle key new (settle bundle numbers, may, there) own = absurd (let same = of-one (Release bundle.from numbers) (QueueOnce key new) there in cc)
+  from_bundle key new (other command, may, there) own = absurd (subst (IsBeside crossing receiver) (of-one command (QueueOnce key new) there) may own)
 
-  as-said : (system : List ℕ) (below : ℕ) → IsOfLine crossing bundles receiver (Forget system below) → system ≡ crossing.from → (said : ℕ) × Contains wire.said said × (below ≤ said)
-  as-said system below (unpack bundle make, may, there) own = by-case (of-unpack bundle make (Forget system below) there)
+  as_said : (system : List ℕ) (below : ℕ) → IsOfLine crossing bundles receiver (Forget system below) → system ≡ crossing.from → (said : ℕ) × Contains wire.said said × (below ≤ said)
+  as_said system below (unpack bundle make, may, there) own = by-case (of_unpack bundle make (Forget system below) there)
     where
       by-case : IsUnpacked bundle make (Forget system below) → (said : ℕ) × Contains wire.said said × (below ≤ said)
       by-case (inl e) =
@@ -249,92 +249,92 @@ module _ (crossing : Crossing) (bundles : Bundles) (wire : Wire) (c : Covers cro
           let same = front.below in
           (whole.below, c.below whole it.0.1 (sym front.to ∙ it.1), omega (arith, low, same))
       by-case (inr (packed, inside, e)) = absurd (cc)
-  as-said system below (settle bundle numbers, may, there) own = absurd (let same = of-one (Release bundle.from numbers) (Forget system below) there in cc)
-  as-said system below (other command, may, there) own = absurd (subst (IsBeside crossing receiver) (of-one command (Forget system below) there) may own)
+  as_said system below (settle bundle numbers, may, there) own = absurd (let same = of-one (Release bundle.from numbers) (Forget system below) there in cc)
+  as_said system below (other command, may, there) own = absurd (subst (IsBeside crossing receiver) (of-one command (Forget system below) there) may own)
 
-  may-be-given : (site : Site) (command : Command) → IsOfLine crossing bundles site command → MayBeGiven crossing wire site command
-  may-be-given sender (Done system at jobs) of = reports system at jobs of
-  may-be-given sender (Release system jobs) of = releases system jobs of
-  may-be-given sender (Define def) of = tt
-  may-be-given sender (Remove name) of = tt
-  may-be-given sender (Queue new) of = tt
-  may-be-given sender (QueueOnce key new) of = tt
-  may-be-given sender (Kill job by) of = tt
-  may-be-given sender (Regrade job grade by) of = tt
-  may-be-given sender (Rejuvenate job at by) of = tt
-  may-be-given sender (Failed system at why) of = tt
-  may-be-given sender (Entry bytes) of = tt
-  may-be-given sender (Forget system below) of = tt
-  may-be-given receiver (Remove name) of = keeps-name name of
-  may-be-given receiver (QueueOnce key new) of = from-bundle key new of
-  may-be-given receiver (Define def) of = tt
-  may-be-given receiver (Queue new) of = tt
-  may-be-given receiver (Kill job by) of = tt
-  may-be-given receiver (Regrade job grade by) of = tt
-  may-be-given receiver (Rejuvenate job at by) of = tt
-  may-be-given receiver (Failed system at why) of = tt
-  may-be-given receiver (Done system at jobs) of = tt
-  may-be-given receiver (Release system jobs) of = tt
-  may-be-given receiver (Entry bytes) of = tt
-  may-be-given receiver (Forget system below) of = tt
+  may_be_given : (site : Side) (command : Command) → IsOfLine crossing bundles site command → MayBeGiven crossing wire site command
+  may_be_given sender (Done system at jobs) of = reports system at jobs of
+  may_be_given sender (Release system jobs) of = releases system jobs of
+  may_be_given sender (Define def) of = tt
+  may_be_given sender (Remove name) of = tt
+  may_be_given sender (Queue new) of = tt
+  may_be_given sender (QueueOnce key new) of = tt
+  may_be_given sender (Kill job by) of = tt
+  may_be_given sender (Regrade job grade by) of = tt
+  may_be_given sender (Rejuvenate job at by) of = tt
+  may_be_given sender (Failed system at why) of = tt
+  may_be_given sender (Entry bytes) of = tt
+  may_be_given sender (Forget system below) of = tt
+  may_be_given receiver (Remove name) of = keeps_name name of
+  may_be_given receiver (QueueOnce key new) of = from_bundle key new of
+  may_be_given receiver (Define def) of = tt
+  may_be_given receiver (Queue new) of = tt
+  may_be_given receiver (Kill job by) of = tt
+  may_be_given receiver (Regrade job grade by) of = tt
+  may_be_given receiver (Rejuvenate job at by) of = tt
+  may_be_given receiver (Failed system at why) of = tt
+  may_be_given receiver (Done system at jobs) of = tt
+  may_be_given receiver (Release system jobs) of = tt
+  may_be_given receiver (Entry bytes) of = tt
+  may_be_given receiver (Forget system below) of = tt
 
-  may-forget : (site : Site) (command : Command) → IsOfLine crossing bundles site command → MayForget crossing wire site command
-  may-forget receiver (Forget system below) of = as-said system below of
-  may-forget receiver (Define def) of = tt
-  may-forget receiver (Remove name) of = tt
-  may-forget receiver (Queue new) of = tt
-  may-forget receiver (QueueOnce key new) of = tt
-  may-forget receiver (Kill job by) of = tt
-  may-forget receiver (Regrade job grade by) of = tt
-  may-forget receiver (Rejuvenate job at by) of = tt
-  may-forget receiver (Failed system at why) of = tt
-  may-forget receiver (Done system at jobs) of = tt
-  may-forget receiver (Release system jobs) of = tt
-  may-forget receiver (Entry bytes) of = tt
-  may-forget sender (Define def) of = tt
-  may-forget sender (Remove name) of = tt
-  may-forget sender (Queue new) of = tt
-  may-forget sender (QueueOnce key new) of = tt
-  may-forget sender (Kill job by) of = tt
-  may-forget sender (Regrade job grade by) of = tt
-  may-forget sender (Rejuvenate job at by) of = tt
-  may-forget sender (Failed system at why) of = tt
-  may-forget sender (Done system at jobs) of = tt
-  may-forget sender (Release system jobs) of = tt
-  may-forget sender (Entry bytes) of = tt
-  may-forget sender (Forget system below) of = tt
+  may_forget : (site : Side) (command : Command) → IsOfLine crossing bundles site command → MayForget crossing wire site command
+  may_forget receiver (Forget system below) of = as_said system below of
+  may_forget receiver (Define def) of = tt
+  may_forget receiver (Remove name) of = tt
+  may_forget receiver (Queue new) of = tt
+  may_forget receiver (QueueOnce key new) of = tt
+  may_forget receiver (Kill job by) of = tt
+  may_forget receiver (Regrade job grade by) of = tt
+  may_forget receiver (Rejuvenate job at by) of = tt
+  may_forget receiver (Failed system at why) of = tt
+  may_forget receiver (Done system at jobs) of = tt
+  may_forget receiver (Release system jobs) of = tt
+  may_forget receiver (Entry bytes) of = tt
+  may_forget sender (Define def) of = tt
+  may_forget sender (Remove name) of = tt
+  may_forget sender (Queue new) of = tt
+  may_forget sender (QueueOnce key new) of = tt
+  may_forget sender (Kill job by) of = tt
+  may_forget sender (Regrade job grade by) of = tt
+  may_forget sender (Rejuvenate job at by) of = tt
+  may_forget sender (Failed system at why) of = tt
+  may_forget sender (Done system at jobs) of = tt
+  may_forget sender (Release system jobs) of = tt
+  may_forget sender (Entry bytes) of = tt
+  may_forget sender (Forget system below) of = tt
 
 -- ---- all of a history
 
 -- there is no premise about notices
-keeps-behind : (crossing : Crossing) (wire : Wire) (notices : List Notice) (events : List Event) → KeepsToWire crossing (after_notices crossing wire notices) events → KeepsToWire crossing wire (map noticed notices ++ events)
-keeps-behind crossing wire [] events keeps = keeps
-keeps-behind crossing wire (notice ∷ notices) events keeps = (tt, keeps-behind crossing (after_event crossing wire (noticed notice)) notices events keeps)
+keeps_behind : (crossing : Crossing) (wire : Wire) (notices : List Notice) (events : List Event) → KeepsToWire crossing (after_notices crossing wire notices) events → KeepsToWire crossing wire (map noticed notices ++ events)
+keeps_behind crossing wire [] events keeps = keeps
+keeps_behind crossing wire (notice ∷ notices) events keeps = (tt, keeps_behind crossing (after_event crossing wire (noticed notice)) notices events keeps)
 
-forgets-behind : (crossing : Crossing) (wire : Wire) (notices : List Notice) (events : List Event) → ForgetsWhatWasSaid crossing (after_notices crossing wire notices) events → ForgetsWhatWasSaid crossing wire (map noticed notices ++ events)
-forgets-behind crossing wire [] events keeps = keeps
-forgets-behind crossing wire (notice ∷ notices) events keeps = (tt, forgets-behind crossing (after_event crossing wire (noticed notice)) notices events keeps)
+forgets_behind : (crossing : Crossing) (wire : Wire) (notices : List Notice) (events : List Event) → ForgetsWhatWasSaid crossing (after_notices crossing wire notices) events → ForgetsWhatWasSaid crossing wire (map noticed notices ++ events)
+forgets_behind crossing wire [] events keeps = keeps
+forgets_behind crossing wire (notice ∷ notices) events keeps = (tt, forgets_behind crossing (after_event crossing wire (noticed notice)) notices events keeps)
 
-keeps-on : (crossing : Crossing) (bundles : Bundles) (wire : Wire) (deeds : List (Deed Site)) → Covers crossing bundles wire → GoesByBundles crossing bundles deeds → KeepsToWire crossing wire (events_of crossing deeds) × ForgetsWhatWasSaid crossing wire (events_of crossing deeds)
-keeps-on crossing bundles wire [] c goes = (tt, tt)
-keeps-on crossing bundles wire (runs site command reply ∷ deeds) c goes =
+keeps_on : (crossing : Crossing) (bundles : Bundles) (wire : Wire) (deeds : List (Deed Side)) → Covers crossing bundles wire → GoesByBundles crossing bundles deeds → KeepsToWire crossing wire (events_of crossing deeds) × ForgetsWhatWasSaid crossing wire (events_of crossing deeds)
+keeps_on crossing bundles wire [] c goes = (tt, tt)
+keeps_on crossing bundles wire (runs site command reply ∷ deeds) c goes =
     let then = after_event crossing wire (answered site command reply) in
-    let rest = keeps-on crossing bundles then deeds (still-covers crossing bundles wire then (grows-event crossing wire (answered site command reply)) c) goes.1 in
-    ((may-be-given crossing bundles wire c site command goes.0, rest.0), (may-forget crossing bundles wire c site command goes.0, rest.1))
-keeps-on crossing bundles wire (stops site in_hand unanswered ending ∷ deeds) c goes =
-    let rest = keeps-on crossing bundles wire deeds c goes.1 in (
-      (All-weaker (IsOfLine crossing bundles site) (MayBeGiven crossing wire site) (λ command of. may-be-given crossing bundles wire c site command of) (take in_hand unanswered) goes.0, rest.0),
-      (All-weaker (IsOfLine crossing bundles site) (MayForget crossing wire site) (λ command of. may-forget crossing bundles wire c site command of) (take in_hand unanswered) goes.0, rest.1),
+    let rest = keeps_on crossing bundles then deeds (still_covers crossing bundles wire then (grows_event crossing wire (answered site command reply)) c) goes.1 in
+    ((may_be_given crossing bundles wire c site command goes.0, rest.0), (may_forget crossing bundles wire c site command goes.0, rest.1))
+keeps_on crossing bundles wire (stops site in_hand unanswered ending ∷ deeds) c goes =
+    let rest = keeps_on crossing bundles wire deeds c goes.1 in (
+      (All-weaker (IsOfLine crossing bundles site) (MayBeGiven crossing wire site) (λ command of. may_be_given crossing bundles wire c site command of) (take in_hand unanswered) goes.0, rest.0),
+      (All-weaker (IsOfLine crossing bundles site) (MayForget crossing wire site) (λ command of. may_forget crossing bundles wire c site command of) (take in_hand unanswered) goes.0, rest.1),
     )
-keeps-on crossing bundles wire (says sender bundle ∷ deeds) c goes =
+keeps_on crossing bundles wire (says sender bundle ∷ deeds) c goes =
     let notices = notices_of crossing sender bundle in
-    let rest = keeps-on crossing (record bundles { out = bundles.out ++ bundle ∷ [] }) (after_notices crossing wire notices) deeds (covers-sent crossing wire bundle bundles c goes.0) goes.1 in
-    (keeps-behind crossing wire notices (events_of crossing deeds) rest.0, forgets-behind crossing wire notices (events_of crossing deeds) rest.1)
-keeps-on crossing bundles wire (says receiver bundle ∷ deeds) c goes =
+    let rest = keeps_on crossing (record bundles { out = bundles.out ++ bundle ∷ [] }) (after_notices crossing wire notices) deeds (covers_sent crossing wire bundle bundles c goes.0) goes.1 in
+    (keeps_behind crossing wire notices (events_of crossing deeds) rest.0, forgets_behind crossing wire notices (events_of crossing deeds) rest.1)
+keeps_on crossing bundles wire (says receiver bundle ∷ deeds) c goes =
     let notices = notices_of crossing receiver bundle in
-    let rest = keeps-on crossing (record bundles { back = bundles.back ++ bundle ∷ [] }) (after_notices crossing wire notices) deeds (covers-back crossing wire bundle bundles c) goes.1 in
-    (keeps-behind crossing wire notices (events_of crossing deeds) rest.0, forgets-behind crossing wire notices (events_of crossing deeds) rest.1)
+    let rest = keeps_on crossing (record bundles { back = bundles.back ++ bundle ∷ [] }) (after_notices crossing wire notices) deeds (covers_back crossing wire bundle bundles c) goes.1 in
+    (keeps_behind crossing wire notices (events_of crossing deeds) rest.0, forgets_behind crossing wire notices (events_of crossing deeds) rest.1)
 
-pub keeps_to_wire : (crossing : Crossing) (deeds : List (Deed Site)) → GoesByBundles crossing nothing_said deeds → KeepsToWire crossing nothing_sent (events_of crossing deeds) × ForgetsWhatWasSaid crossing nothing_sent (events_of crossing deeds)
+pub keeps_to_wire : (crossing : Crossing) (deeds : List (Deed Side)) → GoesByBundles crossing nothing_said deeds → KeepsToWire crossing nothing_sent (events_of crossing deeds) × ForgetsWhatWasSaid crossing nothing_sent (events_of crossing deeds)
 keeps_to_wire crossing deeds goes =
-    keeps-on crossing nothing_said nothing_sent deeds (record { jobs = λ bundle there. absurd (none_in bundle there); below = λ bundle there. absurd (none_in bundle there); told = λ bundle there. absurd (none_in bundle there) }) goes
+    keeps_on crossing nothing_said nothing_sent deeds (record { jobs = λ bundle there. absurd (none_in bundle there); below = λ bundle there. absurd (none_in bundle there); told = λ bundle there. absurd (none_in bundle there) }) goes

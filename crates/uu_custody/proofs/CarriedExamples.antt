@@ -21,7 +21,7 @@ use Rattle.uu_handover.specs.Network.{Chart}
 use Rattle.uu_schema.specs.declared.fault.StoreFault.TheVariants.{Store}
 use Rattle.uu_schema.specs.declared.fault.StoreKind.TheVariants.{Disk}
 use Rattle.uu_store.specs.Exchanges.{given, Exchange, Counts}
-use Rattle.uu_custody.specs.Events.{Site, sender, receiver, waits, no_more, has, Event, Noted, IsTrueOf, sessions_at, exchanges_at, PassesTruly, KeepsToWire, nothing_sent, ForgetsWhatWasSaid}
+use Rattle.uu_custody.specs.Events.{Side, sender, receiver, waits, no_more, has, Event, Noted, IsTrueOf, sessions_at, exchanges_at, PassesTruly, KeepsToWire, nothing_sent, ForgetsWhatWasSaid}
 use Rattle.uu_custody.specs.Carried.{Deed, runs, stops, says, events_of, IsSaidBy, unpack, settle, Bundles, nothing_said, IsOfLine, GoesByBundles}
 use Rattle.uu_custody.specs.AmongSites.{AreNamed, GoAround, GoOn, seen_by}
 use Rattle.uu_custody.proofs.Carried.{keeps_to_wire}
@@ -54,7 +54,7 @@ module _ (monday tuesday : Moment) where
   abbrev settling : Command
   settling = Release (codes "duke") (1 ∷ [])
 
-  abbrev deeds : List (Deed Site)
+  abbrev deeds : List (Deed Side)
   deeds =
       says sender out ∷ runs receiver forgetting Carried ∷ stops receiver 2 (forgetting ∷ hand_in ∷ []) (given (Some (Store Disk))) ∷ says receiver back
       ∷ runs sender settling Carried ∷ runs receiver forgetting Carried ∷ runs receiver hand_in (Number 1) ∷ stops sender 1 [] (given None) ∷ stops receiver 2 [] (given None) ∷ []
@@ -178,7 +178,7 @@ module _ (monday tuesday : Moment) where
 
   -- ---- histories that break the rules
 
-  abbrev unsaid : List (Deed Site)
+  abbrev unsaid : List (Deed Side)
   unsaid = runs receiver hand_in (Number 1) ∷ []
 
   nobody_said_it : GoesByBundles (crossing monday tuesday) nothing_said unsaid → ⊥
@@ -188,7 +188,7 @@ module _ (monday tuesday : Moment) where
   abbrev another : Command
   another = QueueOnce (record { from = codes "mysite"; number = 2; mark = 5 }) (forwarded monday tuesday monday)
 
-  abbrev not_in_it : List (Deed Site)
+  abbrev not_in_it : List (Deed Side)
   not_in_it = says sender out ∷ runs receiver another (Number 1) ∷ []
 
   it_was_not_in_it : GoesByBundles (crossing monday tuesday) nothing_said not_in_it → ⊥
@@ -204,7 +204,7 @@ module _ (monday tuesday : Moment) where
   abbrev empty_back : Bundle
   empty_back = record { from = codes "duke"; to = codes "mysite"; below = 2; grade = 61; has = []; refused = []; jobs = [] }
 
-  abbrev not_told : List (Deed Site)
+  abbrev not_told : List (Deed Side)
   not_told = says sender out ∷ says receiver empty_back ∷ runs sender settling Carried ∷ []
 
   nobody_told_it : GoesByBundles (crossing monday tuesday) nothing_said not_told → ⊥

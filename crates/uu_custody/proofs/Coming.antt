@@ -12,7 +12,7 @@ use Rattle.uu_core.specs.Verdict.{verdict}
 use Rattle.uu_core.specs.After.{after, after_verdict, job_of}
 use Rattle.uu_core.specs.Run.{state_after}
 use Rattle.uu_core.specs.Laws.{accepted_of, unless_refused, lets_go, IsAmong, is_repeat, IsFirstUnder}
-use Rattle.uu_handover.specs.Custody.{Parcel, Crossing, Handed, World, Step, MayGoOn, world_after, start, IsReached, IsOf, IsNotLost, IsFree, added}
+use Rattle.uu_handover.specs.Custody.{Parcel, Crossing, Handed, World, Step, MayGoOn, world_after, start, IsReached, IsHandedFor, IsNotLost, IsFree, added}
 use Rattle.uu_custody.specs.Events.{Event, sender, receiver, sessions_at, PassesTruly, KeepsToWire, nothing_sent, ForgetsWhatWasSaid}
 use Rattle.uu_store.specs.Acknowledged.{WasLetGo}
 use Rattle.uu_custody.specs.Handovers.{handed_of, handed_in, Waited, IsKeptOrGone, IsInCustody, IsOfWaiting, AreOfWorld, ComeOnce, NothingIsInTheWay}
@@ -24,11 +24,11 @@ use Rattle.uu_custody.proofs.Proceeding.{proceeds}
 -- ---- a job that was queued is kept
 
 accepted_behind : (s : State) (command : Command) (commands : List Command) (c : Command) → Contains (accepted_of (after s command).0 commands) c → Contains (accepted_of s (command ∷ commands)) c
-accepted_behind s command commands c there = by-verdict (verdict s command)
+accepted_behind s command commands c there = by_verdict (verdict s command)
   where
-    by-verdict : (v : Option Refusal) → Contains (unless_refused v command (accepted_of (after s command).0 commands)) c
-    by-verdict None = later_of command c (accepted_of (after s command).0 commands) there
-    by-verdict (Some refusal) = there
+    by_verdict : (v : Option Refusal) → Contains (unless_refused v command (accepted_of (after s command).0 commands)) c
+    by_verdict None = later_of command c (accepted_of (after s command).0 commands) there
+    by_verdict (Some refusal) = there
 
 gone_behind : (s : State) (command : Command) (commands : List Command) (job : Job) → WasLetGo (after s command).0 commands job → WasLetGo s (command ∷ commands) job
 gone_behind s command commands job went = (went.0, accepted_behind s command commands went.0 went.1, went.2)
@@ -75,7 +75,7 @@ module _
     (once : (crossing : Crossing) (world : World) → IsReached crossing world → AllPairs (λ one other. ¬ (one.number ≡ other.number)) world.handed)
     (rising : (crossing : Crossing) (world : World) → IsReached crossing world → AllPairs (λ one other. one.job.number < other.job.number) world.handed)
     (not_lost : (crossing : Crossing) (world : World) (steps : List Step) (job : Job) → IsReached crossing world → MayGoOn crossing world steps → Contains world.sender.jobs job → job.system ≡ crossing.to → IsNotLost crossing (world_after crossing world steps) job)
-    (made : (crossing : Crossing) (world : World) (handed : Handed) → IsReached crossing world → Contains world.handed handed → (parcel : Parcel) × Contains world.shown parcel × IsOf crossing parcel handed)
+    (made : (crossing : Crossing) (world : World) (handed : Handed) → IsReached crossing world → Contains world.handed handed → (parcel : Parcel) × Contains world.shown parcel × IsHandedFor crossing parcel handed)
     (stay : Stay)
     (crossing : Crossing) (a b : State) (sent received : List Command) (good : IsWellFormed a) (well : IsWellFormed b) (nothing : link_of b crossing.from ≡ new_link crossing.from)
     (events : List Event) (run : Proceeds (ForgetsWhatWasSaid crossing nothing_sent events) crossing (start a b) sent received)
@@ -97,7 +97,7 @@ module _
         let it = made crossing last handed reached (inside handed there) in
         elim (run.shown_are it.0 it.1) [
           | inl before ↦ absurd (none_in it.0 before)
-          | inr one ↦ (record { job = one.job; waited = one.waited; of = subst (λ p. IsOf crossing p handed) one.is it.2 })
+          | inr one ↦ (record { job = one.job; waited = one.waited; of = subst (λ p. IsHandedFor crossing p handed) one.is it.2 })
         ]
 
     accounted : (job : Job) → IsNotLost crossing last job → IsInCustody crossing a sent b received job

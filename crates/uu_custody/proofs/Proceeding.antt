@@ -98,8 +98,8 @@ GoesOnFrom H crossing world wire command sent received =
     (then : World) → then.sender ≡ world.sender → then.receiver ≡ (after world.receiver command).0 → Carries then (with_answers wire (answers_in crossing command (after world.receiver command).1)) → (H → then.is_heard ≡ true) → Proceeds H crossing then sent received
 
 module _ (H : Type 0) (crossing : Crossing) (world : World) (wire : Wire) (sent received : List Command) (carries : Carries world wire) (heard : H → world.is_heard ≡ true) where
-  runs-other : (command : Command) → is_of_others crossing command ≡ true → answers_in crossing command (after world.receiver command).1 ≡ [] → (H → was_said crossing world command ≡ true) → GoesOnFrom H crossing world wire command sent received → Proceeds H crossing world sent (command ∷ received)
-  runs-other command others silent said on =
+  runs_other : (command : Command) → is_of_others crossing command ≡ true → answers_in crossing command (after world.receiver command).1 ≡ [] → (H → was_said crossing world command ≡ true) → GoesOnFrom H crossing world wire command sent received → Proceeds H crossing world sent (command ∷ received)
+  runs_other command others silent said on =
       receiver_runs crossing world command sent received others (on (go crossing world (ReceiverRuns command)) refl refl (record {
         parcels = carries.parcels;
         answers = λ number there. elim (Contains-append_cases wire.answers (answers_in crossing command (after world.receiver command).1) number there) [
@@ -117,30 +117,30 @@ module _ (H : Type 0) (crossing : Crossing) (world : World) (wire : Wire) (sent 
         said = carries.said;
       }) heard)
 
-  takes-or-runs : (key : Key) (new : NewJob) → MayBeGiven crossing wire receiver (QueueOnce key new) → GoesOnFrom H crossing world wire (QueueOnce key new) sent received → (t : Bool) → same_text key.from crossing.from ≡ t → Proceeds H crossing world sent (QueueOnce key new ∷ received)
-  takes-or-runs key new may on true e =
+  takes_or_runs : (key : Key) (new : NewJob) → MayBeGiven crossing wire receiver (QueueOnce key new) → GoesOnFrom H crossing world wire (QueueOnce key new) sent received → (t : Bool) → same_text key.from crossing.from ≡ t → Proceeds H crossing world sent (QueueOnce key new ∷ received)
+  takes_or_runs key new may on true e =
       let it = may ((bytes_decides key.from crossing.from).0 e) in
       subst (λ k. GoesOnFrom H crossing world wire (QueueOnce k new) sent received → Proceeds H crossing world sent (QueueOnce k new ∷ received)) (sym it.key_is) (takes it.parcel new it.there it.made) on
-  takes-or-runs key new may on false e =
-      runs-other (QueueOnce key new) (ap not e) (ap (λ t. cond t (map (λ number. key.number) (numbers_in ((after world.receiver (QueueOnce key new)).1 ∷ []))) []) e) (λ h. refl) on
+  takes_or_runs key new may on false e =
+      runs_other (QueueOnce key new) (ap not e) (ap (λ t. cond t (map (λ number. key.number) (numbers_in ((after world.receiver (QueueOnce key new)).1 ∷ []))) []) e) (λ h. refl) on
 
   receives : (command : Command) → MayBeGiven crossing wire receiver command → (H → MayForget crossing wire receiver command) → GoesOnFrom H crossing world wire command sent received → Proceeds H crossing world sent (command ∷ received)
-  receives (QueueOnce key new) may forget on = takes-or-runs key new may on (same_text key.from crossing.from) refl
-  receives (Remove name) may forget on = runs-other (Remove name) (other (same_text name crossing.from) refl) refl (λ h. refl) on
+  receives (QueueOnce key new) may forget on = takes_or_runs key new may on (same_text key.from crossing.from) refl
+  receives (Remove name) may forget on = runs_other (Remove name) (other (same_text name crossing.from) refl) refl (λ h. refl) on
     where
       other : (t : Bool) → same_text name crossing.from ≡ t → not t ≡ true
       other true e = absurd (may ((bytes_decides name crossing.from).0 e))
       other false e = refl
-  receives (Define def) may forget on = runs-other (Define def) refl refl (λ h. refl) on
-  receives (Queue new) may forget on = runs-other (Queue new) refl refl (λ h. refl) on
-  receives (Kill job by) may forget on = runs-other (Kill job by) refl refl (λ h. refl) on
-  receives (Regrade job grade by) may forget on = runs-other (Regrade job grade by) refl refl (λ h. refl) on
-  receives (Rejuvenate job at by) may forget on = runs-other (Rejuvenate job at by) refl refl (λ h. refl) on
-  receives (Failed system at why) may forget on = runs-other (Failed system at why) refl refl (λ h. refl) on
-  receives (Done system at jobs) may forget on = runs-other (Done system at jobs) refl refl (λ h. refl) on
-  receives (Release system jobs) may forget on = runs-other (Release system jobs) refl refl (λ h. refl) on
-  receives (Entry bytes) may forget on = runs-other (Entry bytes) refl refl (λ h. refl) on
-  receives (Forget system below) may forget on = runs-other (Forget system below) refl refl (λ h. forgets crossing world wire system below carries (forget h)) on
+  receives (Define def) may forget on = runs_other (Define def) refl refl (λ h. refl) on
+  receives (Queue new) may forget on = runs_other (Queue new) refl refl (λ h. refl) on
+  receives (Kill job by) may forget on = runs_other (Kill job by) refl refl (λ h. refl) on
+  receives (Regrade job grade by) may forget on = runs_other (Regrade job grade by) refl refl (λ h. refl) on
+  receives (Rejuvenate job at by) may forget on = runs_other (Rejuvenate job at by) refl refl (λ h. refl) on
+  receives (Failed system at why) may forget on = runs_other (Failed system at why) refl refl (λ h. refl) on
+  receives (Done system at jobs) may forget on = runs_other (Done system at jobs) refl refl (λ h. refl) on
+  receives (Release system jobs) may forget on = runs_other (Release system jobs) refl refl (λ h. refl) on
+  receives (Entry bytes) may forget on = runs_other (Entry bytes) refl refl (λ h. refl) on
+  receives (Forget system below) may forget on = runs_other (Forget system below) refl refl (λ h. forgets crossing world wire system below carries (forget h)) on
 
 -- ---- a stop
 

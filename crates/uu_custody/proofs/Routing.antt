@@ -5,7 +5,7 @@ use Rattle.uu_core.specs.declared.command.Command.{Command}
 use Rattle.uu_core.specs.State.{State, Job}
 use Rattle.uu_core.specs.After.{after}
 use Rattle.uu_core.specs.Run.{state_after}
-use Rattle.uu_handover.specs.Custody.{Crossing, Handed, IsOf, parcel_of}
+use Rattle.uu_handover.specs.Custody.{Crossing, Handed, IsHandedFor, parcel_of}
 use Rattle.uu_handover.specs.Network.{Chart, IsRoute, GoesBy}
 use Rattle.uu_custody.specs.Handovers.{handed_of, handed_in, Waited, HasCome, IsInCustody}
 use Rattle.uu_custody.specs.Routes.{Course, ComeOnceOverAll, handed_over, IsOnItsWay, CameTo}
@@ -29,7 +29,7 @@ was_there crossing s (command ∷ commands) handed inside = elim (Contains-appen
 ]
 
 -- it goes by the rest of the route
-goes_on : (chart : Chart) (line : ℕ) (lines : List ℕ) (job : Job) (handed : Handed) → GoesBy chart (line ∷ lines) job → IsOf (chart.crossing line) (parcel_of job) handed → GoesBy chart lines handed.job
+goes_on : (chart : Chart) (line : ℕ) (lines : List ℕ) (job : Job) (handed : Handed) → GoesBy chart (line ∷ lines) job → IsHandedFor (chart.crossing line) (parcel_of job) handed → GoesBy chart lines handed.job
 goes_on chart line lines job handed goes of = subst (GoesBy chart lines) (sym of.job_is) (goes.1 handed.job.number of.new of.made)
 
 over_one : (chart : Chart) (course : Course) (line : ℕ) (lines : List ℕ) (job : Job)
@@ -61,29 +61,29 @@ on_its_way chart course (next ∷ more) line site job route once goes waited =
 
 only_one : (handed : List Handed) (one other : Handed) → AllPairs (λ (a b : Handed). ¬ (a.number ≡ b.number)) handed → Contains handed one → Contains handed other → one.number ≡ other.number → one ≡ other
 only_one [] one other apart there here same = absurd (none_in one there)
-only_one (it ∷ handed) one other apart there here same = by-places (first_or_later it one handed there) (first_or_later it other handed here) (only_one handed one other (pairs_rest R it handed apart))
+only_one (it ∷ handed) one other apart there here same = by_places (first_or_later it one handed there) (first_or_later it other handed here) (only_one handed one other (pairs_rest R it handed apart))
   where
     R : Handed → Handed → Type 0
     R a b = ¬ (a.number ≡ b.number)
 
-    by-places : (it ≡ one) ⊎ Contains handed one → (it ≡ other) ⊎ Contains handed other → (Contains handed one → Contains handed other → one.number ≡ other.number → one ≡ other) → one ≡ other
-    by-places (inl a) (inl b) again = sym a ∙ b
-    by-places (inl a) (inr b) again = absurd (All-contains (R it) handed other (pairs_first R it handed apart) b (ap (λ (h : Handed). h.number) a ∙ same))
-    by-places (inr a) (inl b) again = absurd (All-contains (R it) handed one (pairs_first R it handed apart) a (ap (λ (h : Handed). h.number) b ∙ sym same))
-    by-places (inr a) (inr b) again = again a b same
+    by_places : (it ≡ one) ⊎ Contains handed one → (it ≡ other) ⊎ Contains handed other → (Contains handed one → Contains handed other → one.number ≡ other.number → one ≡ other) → one ≡ other
+    by_places (inl a) (inl b) again = sym a ∙ b
+    by_places (inl a) (inr b) again = absurd (All-contains (R it) handed other (pairs_first R it handed apart) b (ap (λ (h : Handed). h.number) a ∙ same))
+    by_places (inr a) (inl b) again = absurd (All-contains (R it) handed one (pairs_first R it handed apart) a (ap (λ (h : Handed). h.number) b ∙ sym same))
+    by_places (inr a) (inr b) again = again a b same
 
 only_job : (handed : List Handed) (one other : Handed) → AllPairs (λ (a b : Handed). a.job.number < b.job.number) handed → Contains handed one → Contains handed other → one.job.number ≡ other.job.number → one ≡ other
 only_job [] one other rising there here same = absurd (none_in one there)
-only_job (it ∷ handed) one other rising there here same = by-places (first_or_later it one handed there) (first_or_later it other handed here) (only_job handed one other (pairs_rest R it handed rising))
+only_job (it ∷ handed) one other rising there here same = by_places (first_or_later it one handed there) (first_or_later it other handed here) (only_job handed one other (pairs_rest R it handed rising))
   where
     R : Handed → Handed → Type 0
     R a b = a.job.number < b.job.number
 
-    by-places : (it ≡ one) ⊎ Contains handed one → (it ≡ other) ⊎ Contains handed other → (Contains handed one → Contains handed other → one.job.number ≡ other.job.number → one ≡ other) → one ≡ other
-    by-places (inl a) (inl b) again = sym a ∙ b
-    by-places (inl a) (inr b) again = absurd (let l = All-contains (R it) handed other (pairs_first R it handed rising) b in let e = ap (λ (h : Handed). h.job.number) a in omega (arith, l, e, same))
-    by-places (inr a) (inl b) again = absurd (let l = All-contains (R it) handed one (pairs_first R it handed rising) a in let e = ap (λ (h : Handed). h.job.number) b in omega (arith, l, e, same))
-    by-places (inr a) (inr b) again = again a b same
+    by_places : (it ≡ one) ⊎ Contains handed one → (it ≡ other) ⊎ Contains handed other → (Contains handed one → Contains handed other → one.job.number ≡ other.job.number → one ≡ other) → one ≡ other
+    by_places (inl a) (inl b) again = sym a ∙ b
+    by_places (inl a) (inr b) again = absurd (let l = All-contains (R it) handed other (pairs_first R it handed rising) b in let e = ap (λ (h : Handed). h.job.number) a in omega (arith, l, e, same))
+    by_places (inr a) (inl b) again = absurd (let l = All-contains (R it) handed one (pairs_first R it handed rising) a in let e = ap (λ (h : Handed). h.job.number) b in omega (arith, l, e, same))
+    by_places (inr a) (inr b) again = again a b same
 
 pub never_twice : (chart : Chart) (course : Course) (lines : List ℕ) (job one other : Job) → ComeOnceOverAll chart course lines → CameTo chart course lines job one → CameTo chart course lines job other → one ≡ other
 never_twice chart course [] job one other once first second = sym first ∙ second

@@ -14,7 +14,7 @@ use Rattle.uu_handover.specs.Custody.{Crossing}
 use Rattle.uu_store.specs.Kept.{Stores}
 use Rattle.uu_store.specs.Openings.{ImageKeeps}
 use Rattle.uu_store.specs.Exchanges.{Counts}
-use Rattle.uu_store.specs.Stretches.{StretchOver, over, exchanges, StoresThroughout, AllStore}
+use Rattle.uu_store.specs.Stretches.{StretchOver, as_stretch, exchanges, StoresThroughout, AllStore}
 use Rattle.uu_store.specs.Files.{FileStretch, file_exchanges, last_left, KeepsThroughout, AllKeep}
 use Rattle.uu_custody.specs.Events.{Event, Session, sender, receiver, sessions_at, exchanges_at, PassesTruly, nothing_sent, ForgetsWhatWasSaid}
 use Rattle.uu_custody.specs.Handovers.{ComeOnce, ToldAreInCustody, ToldUnderKeysAreInCustody, NothingIsInTheWay}
@@ -37,7 +37,7 @@ none_less e = cc
 
 -- what counts of the stretches counts of the sessions, whose notices were true
 pub truly_stored : {S : Type 0} (g : Ghosts S) (crossing : Crossing) (stretches : List (StretchOver S)) (sessions : List Session) (found : db.State) (s : State) (counted : List Command)
-    → StoresThroughout s (map (over g) stretches) found counted → exchanges (map (over g) stretches) ≡ exchanges_of sessions → WereShown g crossing sessions stretches → PassesTruly crossing s sessions counted
+    → StoresThroughout s (map (as_stretch g) stretches) found counted → exchanges (map (as_stretch g) stretches) ≡ exchanges_of sessions → WereShown g crossing sessions stretches → PassesTruly crossing s sessions counted
 truly_stored g crossing [] [] found s counted (none, rests, stores) same shown = none
 truly_stored g crossing [] (session ∷ sessions) found s counted through same shown = absurd (none_more same)
 truly_stored g crossing (it ∷ more) [] found s counted through same shown = absurd (none_less same)
@@ -45,7 +45,7 @@ truly_stored g crossing (it ∷ more) (session ∷ sessions) found s counted (re
     (here, later, is, subst (λ e. Counts e s here) (heads same) counts, shown.0 s rests stores, truly_stored g crossing more sessions found (state_after s here) later then (tails same) shown.1)
 
 last_stores : ((state : State) (first second : List Command) → state_after state (first ++ second) ≡ state_after (state_after state first) second)
-    → {S : Type 0} (g : Ghosts S) (stretches : List (StretchOver S)) (found : db.State) (s : State) (counted : List Command) → StoresThroughout s (map (over g) stretches) found counted → Rests found × Stores found.now (state_after s counted)
+    → {S : Type 0} (g : Ghosts S) (stretches : List (StretchOver S)) (found : db.State) (s : State) (counted : List Command) → StoresThroughout s (map (as_stretch g) stretches) found counted → Rests found × Stores found.now (state_after s counted)
 last_stores states g [] found s counted (none, rests, stores) = (rests, subst (λ l. Stores found.now (state_after s l)) (sym none) stores)
 last_stores states g (it ∷ more) found s counted (was, stored, here, later, is, counts, then) =
     let rest = last_stores states g more found (state_after s here) later then in
@@ -107,18 +107,18 @@ pub good_stored : IsWellFormed empty → (database : Database) (s : State) → S
 good_stored none database s (inl (v, encodes)) = encodes.holds.good
 good_stored none database s (inr it) = subst IsWellFormed (sym it.1) none
 
-good_through : IsWellFormed empty → {S : Type 0} (g : Ghosts S) (stretches : List (StretchOver S)) (found : db.State) (s : State) (counted : List Command) → StoresThroughout s (map (over g) stretches) found counted → IsWellFormed s
+good_through : IsWellFormed empty → {S : Type 0} (g : Ghosts S) (stretches : List (StretchOver S)) (found : db.State) (s : State) (counted : List Command) → StoresThroughout s (map (as_stretch g) stretches) found counted → IsWellFormed s
 good_through none g [] found s counted (nothing, rests, stores) = good_stored none found.now s stores
 good_through none g (it ∷ more) found s counted (rests, stores, here, later, is, counts, then) = good_stored none (state g it.opened).now s stores
 
 pub store_once : Follow → IsWellFormed empty → {S R : Type 0} (g : Ghosts S) (h : Ghosts R) (crossing : Crossing) (a b : State) (events : List Event) (stretches : List (StretchOver S)) (others : List (StretchOver R)) (one other : db.State)
     → (IsWellFormed a → IsWellFormed b → Comes crossing a b events)
-    → exchanges (map (over g) stretches) ≡ exchanges_at sender events → exchanges (map (over h) others) ≡ exchanges_at receiver events → WereShown g crossing (sessions_at sender events) stretches → WereShown h crossing (sessions_at receiver events) others
-    → ∥ AllStore a (map (over g) stretches) one ∥₁ → ∥ AllStore b (map (over h) others) other ∥₁ → ∥ StoreOnce crossing a b events one other ∥₁
+    → exchanges (map (as_stretch g) stretches) ≡ exchanges_at sender events → exchanges (map (as_stretch h) others) ≡ exchanges_at receiver events → WereShown g crossing (sessions_at sender events) stretches → WereShown h crossing (sessions_at receiver events) others
+    → ∥ AllStore a (map (as_stretch g) stretches) one ∥₁ → ∥ AllStore b (map (as_stretch h) others) other ∥₁ → ∥ StoreOnce crossing a b events one other ∥₁
 store_once states empty_good {S} {R} g h crossing a b events stretches others one other comes same_sent same_received shown told all after =
     ∥∥₁_elim all squash₁ (λ it. ∥∥₁_map after (both it))
   where
-    both : AllStore a (map (over g) stretches) one → AllStore b (map (over h) others) other → StoreOnce crossing a b events one other
+    both : AllStore a (map (as_stretch g) stretches) one → AllStore b (map (as_stretch h) others) other → StoreOnce crossing a b events one other
     both (sent, through) (received, thence) =
         let last = last_stores states g stretches one a sent through in
         let end = last_stores states h others other b received thence in

@@ -98,11 +98,11 @@ kills_append (Entry bytes ∷ one) other = kills_append one other
 kills_append (Forget system below ∷ one) other = kills_append one other
 
 kills_first : (s : State) (command : Command) (commands : List Command) → kills_in (accepted_of s (command ∷ [])) ++ kills_in (accepted_of (after s command).0 commands) ≡ kills_in (accepted_of s (command ∷ commands))
-kills_first s command commands = by-verdict (verdict s command)
+kills_first s command commands = by_verdict (verdict s command)
   where
-    by-verdict : (v : Option Refusal) → kills_in (unless_refused v command []) ++ kills_in (accepted_of (after s command).0 commands) ≡ kills_in (unless_refused v command (accepted_of (after s command).0 commands))
-    by-verdict None = sym (kills_append (command ∷ []) (accepted_of (after s command).0 commands))
-    by-verdict (Some refusal) = refl
+    by_verdict : (v : Option Refusal) → kills_in (unless_refused v command []) ++ kills_in (accepted_of (after s command).0 commands) ≡ kills_in (unless_refused v command (accepted_of (after s command).0 commands))
+    by_verdict None = sym (kills_append (command ∷ []) (accepted_of (after s command).0 commands))
+    by_verdict (Some refusal) = refl
 
 waited_behind : (crossing : Crossing) (s : State) (command : Command) (commands : List Command) (job : Job) → Waited crossing (after s command).0 commands job → Waited crossing s (command ∷ commands) job
 waited_behind crossing s command commands job waited = record { before = command ∷ waited.before; behind = waited.behind; commands_are = ap (λ l. command ∷ l) waited.commands_are; there = waited.there; system = waited.system }

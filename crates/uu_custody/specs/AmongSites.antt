@@ -10,10 +10,10 @@ use Rattle.uu_handover.specs.Network.{Chart}
 use Rattle.uu_store.specs.Exchanges.{Exchange}
 use Rattle.uu_store.specs.Files.{FileStretch, AllFilesPassed, file_exchanges}
 use Rattle.uu_store.specs.Openings.{ImageKeeps}
-use Rattle.uu_custody.specs.Events.{Site, sender, receiver, just_opened, after_answer}
+use Rattle.uu_custody.specs.Events.{Side, sender, receiver, just_opened, after_answer}
 use Rattle.uu_custody.specs.Routes.{Course, IsFreeOver}
 use Rattle.uu_custody.specs.Sites.{AllComeOnce}
-use Rattle.uu_custody.specs.Carried.{Deed, runs, stops, says, events_of, sayings_at, WereSaidInFiles, Line, unpack, settle, other, commands_of, IsOneOf, IsBeside, IsMarked}
+use Rattle.uu_custody.specs.Carried.{Deed, runs, stops, says, events_of, sayings_at, WereSaidInFiles, BundleLine, unpack, settle, other, commands_of, IsOneOf, IsBeside, IsMarked}
 
 -- Each site has a name of its own, by which its neighbours know it, and no line leads from a site to
 -- itself.
@@ -28,7 +28,7 @@ pub record AreNamed (chart : Chart) (name : ℕ → List ℕ) : Type 0 where
 -- A bundle that is read at a site was said by some site, and is for this one: otherwise its names
 -- show that it isn't. What is made of its jobs is what was agreed on with the site that said it.
 -- Other lines are beside each line that begins or ends there.
-abbrev pub MayBeLineAt : Chart → (ℕ → List ℕ) → List Bundle → ℕ → Line → Type 0
+abbrev pub MayBeLineAt : Chart → (ℕ → List ℕ) → List Bundle → ℕ → BundleLine → Type 0
 MayBeLineAt chart name said site (unpack bundle make) =
     IsOneOf said bundle × (bundle.to ≡ name site)
     × ((line : ℕ) → chart.ends line ≡ site → (chart.crossing line).from ≡ bundle.from → All (λ packed. (chart.crossing line).makes packed.parcel (make packed) ≡ true) bundle.jobs)
@@ -37,7 +37,7 @@ MayBeLineAt chart name said site (other command) =
     (line : ℕ) → (chart.begins line ≡ site → IsBeside (chart.crossing line) sender command) × (chart.ends line ≡ site → IsBeside (chart.crossing line) receiver command)
 
 abbrev pub IsOfLineAt : Chart → (ℕ → List ℕ) → List Bundle → ℕ → Command → Type 0
-IsOfLineAt chart name said site command = (line : Line) × MayBeLineAt chart name said site line × Contains (commands_of line) command
+IsOfLineAt chart name said site command = (line : BundleLine) × MayBeLineAt chart name said site line × Contains (commands_of line) command
 
 -- a site says a bundle under its own name, with the marks of each line that begins there
 abbrev pub IsByLinesAt : Chart → (ℕ → List ℕ) → List Bundle → Deed ℕ → Type 0
@@ -58,16 +58,16 @@ GoAround chart name said (deed ∷ deeds) = IsByLinesAt chart name said deed × 
 -- ---- what a line sees of it
 
 -- on which side of the line the site is, if it is on one
-abbrev pub sides_of : Chart → ℕ → ℕ → List Site
+abbrev pub sides_of : Chart → ℕ → ℕ → List Side
 sides_of chart line site = if chart.begins line == site then sender ∷ [] else (if chart.ends line == site then receiver ∷ [] else [])
 
-abbrev pub seen_of : Chart → ℕ → Deed ℕ → List (Deed Site)
+abbrev pub seen_of : Chart → ℕ → Deed ℕ → List (Deed Side)
 seen_of chart line (runs site command reply) = map (λ side. runs side command reply) (sides_of chart line site)
 seen_of chart line (stops site in_hand unanswered ending) = map (λ side. stops side in_hand unanswered ending) (sides_of chart line site)
 seen_of chart line (says site bundle) = map (λ side. says side bundle) (sides_of chart line site)
 
 -- the history of the line's two sites
-abbrev pub seen_by : Chart → ℕ → List (Deed ℕ) → List (Deed Site)
+abbrev pub seen_by : Chart → ℕ → List (Deed ℕ) → List (Deed Side)
 seen_by chart line [] = []
 seen_by chart line (deed ∷ deeds) = seen_of chart line deed ++ seen_by chart line deeds
 

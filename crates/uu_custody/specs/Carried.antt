@@ -21,7 +21,7 @@ use Rattle.uu_store.specs.Openings.{ImageKeeps}
 use Rattle.uu_store.specs.Stretches.{StretchOver}
 use Rattle.uu_store.specs.Kept.{Stores}
 use Rattle.uu_schema.specs.Steps.{Rests}
-use Rattle.uu_custody.specs.Events.{Site, sender, receiver, Notice, waits, no_more, has, Event, answered, stopped, noticed}
+use Rattle.uu_custody.specs.Events.{Side, sender, receiver, Notice, waits, no_more, has, Event, answered, stopped, noticed}
 use Rattle.uu_custody.specs.Handovers.{NothingIsInTheWay}
 use Rattle.uu_custody.specs.Spools.{StoreOnce, KeepOnce}
 
@@ -39,12 +39,12 @@ pub data Deed (S : Type 0) : Type 0 where
 -- What a bundle says about the jobs that the sender hands on to the receiver: a bundle of the
 -- sender's says which wait, and one of the receiver's which it has. (For the receiver's own jobs it
 -- is the other way round.)
-abbrev pub notices_of : Crossing → Site → Bundle → List Notice
+abbrev pub notices_of : Crossing → Side → Bundle → List Notice
 notices_of crossing sender bundle = if same_text bundle.to crossing.to then no_more bundle.below ∷ map (λ packed. waits packed.parcel) bundle.jobs else []
 notices_of crossing receiver bundle = if same_text bundle.to crossing.from then map (λ told. has told.number) bundle.has else []
 
 -- the same history as events
-abbrev pub events_of : Crossing → List (Deed Site) → List Event
+abbrev pub events_of : Crossing → List (Deed Side) → List Event
 events_of crossing [] = []
 events_of crossing (runs site command reply ∷ deeds) = answered site command reply ∷ events_of crossing deeds
 events_of crossing (stops site in_hand unanswered ending ∷ deeds) = stopped site in_hand unanswered ending ∷ events_of crossing deeds
@@ -99,12 +99,12 @@ key_in bundle packed = record { from = bundle.from; number = packed.parcel.numbe
 
 -- The lines: `unpack` with a bundle that was read, if this is made of each job; `settle` with such
 -- a bundle, which removes jobs that the bundle has; and any other line, with its command.
-pub data Line : Type 0 where
-  unpack : (bundle : Bundle) (make : Packed → NewJob) → Line
-  settle : (bundle : Bundle) (numbers : List ℕ) → Line
-  other : (command : Command) → Line
+pub data BundleLine : Type 0 where
+  unpack : (bundle : Bundle) (make : Packed → NewJob) → BundleLine
+  settle : (bundle : Bundle) (numbers : List ℕ) → BundleLine
+  other : (command : Command) → BundleLine
 
-abbrev pub commands_of : Line → List Command
+abbrev pub commands_of : BundleLine → List Command
 commands_of (unpack bundle make) = Forget bundle.from bundle.below ∷ map (λ packed. QueueOnce (key_in bundle packed) (make packed)) bundle.jobs
 commands_of (settle bundle numbers) = Release bundle.from numbers ∷ []
 commands_of (other command) = command ∷ []
@@ -117,7 +117,7 @@ pub record Bundles : Type 0 where
 abbrev pub nothing_said : Bundles
 nothing_said = record { out = []; back = [] }
 
-abbrev pub after_deed : Bundles → Deed Site → Bundles
+abbrev pub after_deed : Bundles → Deed Side → Bundles
 after_deed bundles (runs site command reply) = bundles
 after_deed bundles (stops site in_hand unanswered ending) = bundles
 after_deed bundles (says sender bundle) = record bundles { out = bundles.out ++ bundle ∷ [] }
@@ -130,7 +130,7 @@ IsOneOf bundles bundle = (whole : Bundle) × Contains bundles whole × IsFrontOf
 -- By other lines the sender doesn't report a job as gone to the receiver, and doesn't release one.
 -- The receiver doesn't hand in or forget any job under the sender's name, and doesn't remove the
 -- sender.
-abbrev pub IsBeside : Crossing → Site → Command → Type 0
+abbrev pub IsBeside : Crossing → Side → Command → Type 0
 IsBeside crossing sender (Done system at jobs) = system ≡ crossing.to → jobs ≡ []
 IsBeside crossing sender (Release system jobs) = system ≡ crossing.to → jobs ≡ []
 IsBeside crossing sender command = ⊤
@@ -143,7 +143,7 @@ IsBeside crossing receiver command = ⊤
 -- refused by the names in its first line. What is made of a job is what was agreed on, and `settle`
 -- removes jobs that the bundle has. (There is no premise about bundles of other sites, and about
 -- what the sender takes.)
-abbrev pub MayBeLine : Crossing → Bundles → Site → Line → Type 0
+abbrev pub MayBeLine : Crossing → Bundles → Side → BundleLine → Type 0
 MayBeLine crossing bundles sender (unpack bundle make) = ⊤
 MayBeLine crossing bundles sender (settle bundle numbers) =
     bundle.from ≡ crossing.to → IsOneOf bundles.back bundle × (bundle.to ≡ crossing.from) × All (Contains (map (λ told. told.number) bundle.has)) numbers
@@ -153,14 +153,14 @@ MayBeLine crossing bundles receiver (settle bundle numbers) = ⊤
 MayBeLine crossing bundles site (other command) = IsBeside crossing site command
 
 -- the command is one of such a line
-abbrev pub IsOfLine : Crossing → Bundles → Site → Command → Type 0
-IsOfLine crossing bundles site command = (line : Line) × MayBeLine crossing bundles site line × Contains (commands_of line) command
+abbrev pub IsOfLine : Crossing → Bundles → Side → Command → Type 0
+IsOfLine crossing bundles site command = (line : BundleLine) × MayBeLine crossing bundles site line × Contains (commands_of line) command
 
 -- The jobs have the marks that were agreed on, so the same mark of a job is said each time.
 abbrev pub IsMarked : Crossing → Bundle → Type 0
 IsMarked crossing bundle = bundle.to ≡ crossing.to → All (λ packed. packed.mark ≡ crossing.mark packed.parcel) bundle.jobs
 
-abbrev pub IsByLines : Crossing → Bundles → Deed Site → Type 0
+abbrev pub IsByLines : Crossing → Bundles → Deed Side → Type 0
 IsByLines crossing bundles (runs site command reply) = IsOfLine crossing bundles site command
 IsByLines crossing bundles (stops site in_hand unanswered ending) = All (IsOfLine crossing bundles site) (take in_hand unanswered)
 IsByLines crossing bundles (says sender bundle) = IsMarked crossing bundle
@@ -168,18 +168,18 @@ IsByLines crossing bundles (says receiver bundle) = ⊤
 
 -- Each command that a site was given, including those in hand at a stop, is of a line whose bundle
 -- was said before it.
-abbrev pub GoesByBundles : Crossing → Bundles → List (Deed Site) → Type 0
+abbrev pub GoesByBundles : Crossing → Bundles → List (Deed Side) → Type 0
 GoesByBundles crossing bundles [] = ⊤
 GoesByBundles crossing bundles (deed ∷ deeds) = IsByLines crossing bundles deed × GoesByBundles crossing (after_deed bundles deed) deeds
 
 -- ---- what follows
 
 -- both databases store states by which jobs have come once, and nothing hinders a job that waits
-pub record CameInBundlesOver (crossing : Crossing) (a b : State) (deeds : List (Deed Site)) (one other : db.State) : Type 0 where
+pub record CameInBundlesOver (crossing : Crossing) (a b : State) (deeds : List (Deed Side)) (one other : db.State) : Type 0 where
   pub store : StoreOnce crossing a b (events_of crossing deeds) one other
   pub free : NothingIsInTheWay crossing a store.sent b store.received
 
 -- The files of both keep states by which jobs have come once, and nothing hinders a job that waits.
-pub record CameInBundles (crossing : Crossing) (a b : State) (deeds : List (Deed Site)) (one other : Image) : Type 0 where
+pub record CameInBundles (crossing : Crossing) (a b : State) (deeds : List (Deed Side)) (one other : Image) : Type 0 where
   pub keep : KeepOnce crossing a b (events_of crossing deeds) one other
   pub free : NothingIsInTheWay crossing a keep.sent b keep.received

@@ -15,9 +15,9 @@ use Rattle.uu_store.specs.Exchanges.{Ending, Exchange, exchange_of, Counts}
 
 -- ---- a history of two sites
 
-pub data Site : Type 0 where
-  sender : Site
-  receiver : Site
+pub data Side : Type 0 where
+  sender : Side
+  receiver : Side
 
 -- What the spool of a site showed and what went to the other site. The sender showed what doesn't
 -- change of a job that waits for the receiver, or a number below which it won't ask again. The
@@ -27,18 +27,18 @@ pub data Notice : Type 0 where
   no_more : (below : ℕ) → Notice
   has : (number : ℕ) → Notice
 
-abbrev pub side_of : Notice → Site
+abbrev pub side_of : Notice → Side
 side_of (waits parcel) = sender
 side_of (no_more below) = sender
 side_of (has number) = receiver
 
 pub data Event : Type 0 where
   -- the spool of a site was given a command, and this reply came
-  answered : (site : Site) (command : Command) (reply : Reply) → Event
+  answered : (site : Side) (command : Command) (reply : Reply) → Event
   -- The spool of a site stopped: how the run of commands ended, and the commands without a reply.
   -- The first `in_hand` of them may have been in hand then, as one request. If that was carried
   -- out, nobody knows.
-  stopped : (site : Site) (in_hand : ℕ) (unanswered : List Command) (ending : Ending) → Event
+  stopped : (site : Side) (in_hand : ℕ) (unanswered : List Command) (ending : Ending) → Event
   -- the spool of the notice's site showed this, and it went to the other site
   noticed : (notice : Notice) → Event
 
@@ -54,7 +54,7 @@ pub record Session : Type 0 where
   pub exchange : Exchange
   pub noted : List Noted
 
-abbrev pub is_at : Site → Site → Bool
+abbrev pub is_at : Side → Side → Bool
 is_at sender sender = true
 is_at sender receiver = false
 is_at receiver sender = false
@@ -88,7 +88,7 @@ begin_noticed notice session = record session { noted = record { answered = []; 
 abbrev pub ended : ℕ → List Command → Ending → Session
 ended in_hand unanswered ending = record { exchange = record { commands = unanswered; replies = []; in_hand = in_hand; ending = ending }; noted = [] }
 
-abbrev pub sessions_at : Site → List Event → List Session
+abbrev pub sessions_at : Side → List Event → List Session
 sessions_at site [] = []
 sessions_at site (answered there command reply ∷ events) =
     if is_at site there then with_first (begin_answered command reply) (sessions_at site events) else sessions_at site events
@@ -98,7 +98,7 @@ sessions_at site (noticed notice ∷ events) =
     if is_at site (side_of notice) then with_first (begin_noticed notice) (sessions_at site events) else sessions_at site events
 
 -- the site's part of a history: its exchanges, one for each session
-abbrev pub exchanges_at : Site → List Event → List Exchange
+abbrev pub exchanges_at : Side → List Event → List Exchange
 exchanges_at site events = map (λ (session : Session). session.exchange) (sessions_at site events)
 
 -- ---- notices that are true
@@ -168,7 +168,7 @@ pub record IsFromWire (crossing : Crossing) (wire : Wire) (key : Key) (new : New
 -- The sender reports a job as gone to the receiver, or releases it, only if it was answered, or
 -- said to be taken. The receiver hands in under the sender's name only what came over the wire, and
 -- doesn't remove the sender. Both may be given any other command.
-abbrev pub MayBeGiven : Crossing → Wire → Site → Command → Type 0
+abbrev pub MayBeGiven : Crossing → Wire → Side → Command → Type 0
 MayBeGiven crossing wire sender (Done system at jobs) = system ≡ crossing.to → All (Contains wire.answers) jobs
 MayBeGiven crossing wire sender (Release system jobs) = system ≡ crossing.to → All (Contains wire.answers) jobs
 MayBeGiven crossing wire sender command = ⊤
@@ -177,21 +177,21 @@ MayBeGiven crossing wire receiver (QueueOnce key new) = key.from ≡ crossing.fr
 MayBeGiven crossing wire receiver command = ⊤
 
 -- the command of an event does so, and each of those in hand at a stop
-abbrev pub Keeps : Crossing → Wire → Event → Type 0
-Keeps crossing wire (answered site command reply) = MayBeGiven crossing wire site command
-Keeps crossing wire (stopped site in_hand unanswered ending) = All (MayBeGiven crossing wire site) (take in_hand unanswered)
-Keeps crossing wire (noticed notice) = ⊤
+abbrev pub EventKeepsToWire : Crossing → Wire → Event → Type 0
+EventKeepsToWire crossing wire (answered site command reply) = MayBeGiven crossing wire site command
+EventKeepsToWire crossing wire (stopped site in_hand unanswered ending) = All (MayBeGiven crossing wire site) (take in_hand unanswered)
+EventKeepsToWire crossing wire (noticed notice) = ⊤
 
 -- each of the events keeps to what is on the wire before it
 abbrev pub KeepsToWire : Crossing → Wire → List Event → Type 0
 KeepsToWire crossing wire [] = ⊤
-KeepsToWire crossing wire (event ∷ events) = Keeps crossing wire event × KeepsToWire crossing (after_event crossing wire event) events
+KeepsToWire crossing wire (event ∷ events) = EventKeepsToWire crossing wire event × KeepsToWire crossing (after_event crossing wire event) events
 
 -- ---- what the receiver forgets
 
 -- The receiver forgets only those of the sender's numbers that are below one that the sender has
 -- said. (That jobs come once doesn't depend on this.)
-abbrev pub MayForget : Crossing → Wire → Site → Command → Type 0
+abbrev pub MayForget : Crossing → Wire → Side → Command → Type 0
 MayForget crossing wire receiver (Forget system below) = system ≡ crossing.from → (said : ℕ) × Contains wire.said said × (below ≤ said)
 MayForget crossing wire site command = ⊤
 

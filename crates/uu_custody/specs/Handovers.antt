@@ -8,7 +8,7 @@ use Rattle.uu_core.specs.State.{State, Job, same_text}
 use Rattle.uu_core.specs.After.{after, job_of}
 use Rattle.uu_core.specs.Run.{state_after}
 use Rattle.uu_core.specs.Laws.{accepted_of, IsAmong, IsKept, IsFirstUnder}
-use Rattle.uu_handover.specs.Custody.{parcel_of, Crossing, Handed, World, kills_in, added, start, IsReached, IsOf, IsFree}
+use Rattle.uu_handover.specs.Custody.{parcel_of, Crossing, Handed, World, kills_in, added, start, IsReached, IsHandedFor, IsFree}
 use Rattle.uu_store.specs.Acknowledged.{IsAcknowledged, IsAcknowledgedUnder, WasLetGo}
 use Rattle.uu_store.specs.Exchanges.{Exchange}
 use Rattle.uu_custody.specs.Events.{Event, nothing_sent, ForgetsWhatWasSaid}
@@ -42,7 +42,7 @@ IsKeptOrGone state commands job = IsAmong (state_after state commands).jobs job 
 pub record HasCome (crossing : Crossing) (state : State) (commands : List Command) (job : Job) : Type 0 where
   pub handed : Handed
   pub there : Contains (handed_in crossing state commands) handed
-  pub of : IsOf crossing (parcel_of job) handed
+  pub of : IsHandedFor crossing (parcel_of job) handed
   pub kept : IsKeptOrGone state commands handed.job
 
 -- a number of a job that an accepted command killed
@@ -58,7 +58,7 @@ IsInCustody crossing sender sent receiver received job =
 pub record IsOfWaiting (crossing : Crossing) (state : State) (commands : List Command) (handed : Handed) : Type 0 where
   pub job : Job
   pub waited : Waited crossing state commands job
-  pub of : IsOf crossing (parcel_of job) handed
+  pub of : IsHandedFor crossing (parcel_of job) handed
 
 -- The sender's spool ran these commands from its first state, and the receiver's ran those from its
 -- own. No job that waited for the receiver is lost. No number of the sender's was queued twice, and

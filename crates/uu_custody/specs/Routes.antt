@@ -4,7 +4,7 @@ use Rattle.uu_core.specs.declared.command.Command.{Command}
 use Rattle.uu_core.specs.State.{State, Job}
 use Rattle.uu_core.specs.Run.{state_after}
 use Rattle.uu_core.specs.Laws.{IsAmong}
-use Rattle.uu_handover.specs.Custody.{parcel_of, Handed, IsOf}
+use Rattle.uu_handover.specs.Custody.{parcel_of, Handed, IsHandedFor}
 use Rattle.uu_handover.specs.Network.{Chart}
 use Rattle.uu_custody.specs.Handovers.{handed_in, IsKeptOrGone, WasKilled, ComeOnce, NothingIsInTheWay}
 
@@ -42,7 +42,7 @@ abbrev pub IsOnItsWay : Chart → Course → ℕ → List ℕ → Job → Type 0
 IsOnItsWay chart course site [] job = IsKeptOrGone (course.first site) (course.counted site) job
 IsOnItsWay chart course site (line ∷ lines) job =
     IsAmong (last_of course site).jobs job ⊎ WasKilled (course.first site) (course.counted site) job.number
-    ⊎ ((handed : Handed) × Contains (handed_over chart course line) handed × IsOf (chart.crossing line) (parcel_of job) handed × IsOnItsWay chart course (chart.ends line) lines handed.job)
+    ⊎ ((handed : Handed) × Contains (handed_over chart course line) handed × IsHandedFor (chart.crossing line) (parcel_of job) handed × IsOnItsWay chart course (chart.ends line) lines handed.job)
 
 -- over these lines the job came to this one: each end queued a job for the number that it had before
 abbrev pub CameTo : Chart → Course → List ℕ → Job → Job → Type 0

@@ -12,7 +12,7 @@ ghost use Rattle.uu_core.specs.State.{State, Job, IsWellFormed, link_of, new_lin
 ghost use Rattle.uu_handover.specs.Bundles.{Bundle};
 ghost use Rattle.uu_handover.specs.Custody.{Crossing};
 ghost use Rattle.uu_handover.specs.Network.{Chart, IsRoute, GoesBy};
-ghost use Rattle.uu_custody.specs.Events.{Event, Site, is_at, Notice, IsTrueOf, sender, receiver, sessions_at, exchanges_at, PassesTruly, KeepsToWire, nothing_sent, ForgetsWhatWasSaid};
+ghost use Rattle.uu_custody.specs.Events.{Event, Side, is_at, Notice, IsTrueOf, sender, receiver, sessions_at, exchanges_at, PassesTruly, KeepsToWire, nothing_sent, ForgetsWhatWasSaid};
 ghost use Rattle.uu_custody.specs.Handovers.{AreOfWorld, ComeOnce, NothingIsInTheWay, ToldAreInCustody, ToldUnderKeysAreInCustody, Waited};
 ghost use Rattle.uu_custody.specs.Sites.{AllHandOver, AllComeOnce};
 ghost use Rattle.uu_custody.specs.Spools.{IsHandover, WereShown, WereShownInFiles, StoreOnce, KeepOnce};
@@ -20,9 +20,9 @@ ghost use Rattle.uu_schema.specs.declared.fault.StoreFault.{StoreFault};
 ghost use Rattle.uu_store.specs.declared.spool.Spool.{Spool};
 ghost use Rattle.uu_store.specs.Files.{FileStretch, AllFilesPassed, file_exchanges, last_left};
 ghost use Rattle.uu_store.specs.Openings.{ImageKeeps, Started};
-ghost use Rattle.uu_store.specs.Runs.{GoesOn, Ran, answered};
+ghost use Rattle.uu_store.specs.Runs.{GoesOn, Ran, answered_commands};
 ghost use Rattle.uu_store.specs.Spool.{disk, Shows};
-ghost use Rattle.uu_store.specs.Stretches.{StretchOver, Led, told};
+ghost use Rattle.uu_store.specs.Stretches.{StretchOver, Led, exchanges_over};
 ghost use Rattle.uu_custody.specs.Carried.{Deed, events_of, sayings_at, IsSaidBy, WereSaid, WereSaidInFiles, nothing_said, GoesByBundles, CameInBundlesOver, CameInBundles};
 ghost use Rattle.uu_custody.specs.AmongSites.{AreNamed, AreAmong, GoAround, GoOn, IsInFiles, seen_by, AllCameInBundles};
 ghost use Rattle.uu_custody.specs.Routes.{Course, ComeOnceOverAll, IsOnItsWay, CameTo};
@@ -83,7 +83,7 @@ pub fn jobs_come_once_over_stops()
 pub fn jobs_come_once_over<S: Alter, R: Alter>()
     ensures { (crossing : Crossing) (events : List Event) (a b : State) (before : Held S) (stretches : List (StretchOver S)) (found : Held S) (first : Held R) (others : List (StretchOver R)) (last : Held R)
         → Led S.Store a before stretches found → Led R.Store b first others last
-        → told S.Store stretches ≡ exchanges_at sender events → told R.Store others ≡ exchanges_at receiver events
+        → exchanges_over S.Store stretches ≡ exchanges_at sender events → exchanges_over R.Store others ≡ exchanges_at receiver events
         → WereShown S.Store crossing (sessions_at sender events) stretches → WereShown R.Store crossing (sessions_at receiver events) others → IsHandover crossing b events
         → ∥ StoreOnce crossing a b events (state S.Store found) (state R.Store last) ∥₁ }
 {
@@ -118,17 +118,17 @@ pub fn jobs_come_once_in_files<A: FileHistory, B: FileHistory>()
 /// one. Then the history keeps to the wire (`keeps`), and the receiver forgets only what the sender
 /// said (`forgets`).
 pub fn bundles_keep_to_the_wire()
-    ensures keeps { (crossing : Crossing) (deeds : List (Deed Site)) → GoesByBundles crossing nothing_said deeds → KeepsToWire crossing nothing_sent (events_of crossing deeds) }
-    ensures forgets { (crossing : Crossing) (deeds : List (Deed Site)) → GoesByBundles crossing nothing_said deeds → ForgetsWhatWasSaid crossing nothing_sent (events_of crossing deeds) }
+    ensures keeps { (crossing : Crossing) (deeds : List (Deed Side)) → GoesByBundles crossing nothing_said deeds → KeepsToWire crossing nothing_sent (events_of crossing deeds) }
+    ensures forgets { (crossing : Crossing) (deeds : List (Deed Side)) → GoesByBundles crossing nothing_said deeds → ForgetsWhatWasSaid crossing nothing_sent (events_of crossing deeds) }
 {}
 
 /// So jobs come once in bundles over databases, over stores of any two kinds, as in
 /// [`jobs_come_once_over`]. The premise is that each bundle was what its site had to say in the
 /// stored state.
 pub fn jobs_come_once_in_bundles_over<S: Alter, R: Alter>()
-    ensures { (crossing : Crossing) (deeds : List (Deed Site)) (a b : State) (before : Held S) (stretches : List (StretchOver S)) (found : Held S) (first : Held R) (others : List (StretchOver R)) (last : Held R)
+    ensures { (crossing : Crossing) (deeds : List (Deed Side)) (a b : State) (before : Held S) (stretches : List (StretchOver S)) (found : Held S) (first : Held R) (others : List (StretchOver R)) (last : Held R)
         → Led S.Store a before stretches found → Led R.Store b first others last
-        → told S.Store stretches ≡ exchanges_at sender (events_of crossing deeds) → told R.Store others ≡ exchanges_at receiver (events_of crossing deeds)
+        → exchanges_over S.Store stretches ≡ exchanges_at sender (events_of crossing deeds) → exchanges_over R.Store others ≡ exchanges_at receiver (events_of crossing deeds)
         → WereSaid S.Store crossing.from (sayings_at (is_at sender) deeds) stretches → WereSaid R.Store crossing.to (sayings_at (is_at receiver) deeds) others
         → link_of b crossing.from ≡ new_link crossing.from → GoesByBundles crossing nothing_said deeds
         → ∥ CameInBundlesOver crossing a b deeds (state S.Store found) (state R.Store last) ∥₁ }
@@ -143,7 +143,7 @@ pub fn jobs_come_once_in_bundles_over<S: Alter, R: Alter>()
 /// state that is kept. The only premise about a carrier is that each bundle that it brings was
 /// said, or is the beginning of one that was.
 pub fn jobs_come_once_in_bundles<A: FileHistory, B: FileHistory>()
-    ensures { (crossing : Crossing) (deeds : List (Deed Site)) (a b : State)
+    ensures { (crossing : Crossing) (deeds : List (Deed Side)) (a b : State)
         → ImageKeeps A.before a → AllFilesPassed A.before A.stretches → ImageKeeps B.before b → AllFilesPassed B.before B.stretches
         → file_exchanges A.stretches ≡ exchanges_at sender (events_of crossing deeds) → file_exchanges B.stretches ≡ exchanges_at receiver (events_of crossing deeds)
         → WereSaidInFiles crossing.from A.before (sayings_at (is_at sender) deeds) A.stretches → WereSaidInFiles crossing.to B.before (sayings_at (is_at receiver) deeds) B.stretches
@@ -163,11 +163,11 @@ pub fn what_a_spool_shows_is_true<D: Disk>()
     ensures notices { (before : Image) (begun now : Spool (FileStore D D.Disk) over_files) (in_hand : ℕ) (commands : List Command) (replies : List Reply) (was : Option StoreFault) (crossing : Crossing) (notice : Notice)
         → Started before begun → Ran in_hand commands begun now replies was → GoesOn was → HasCleanDisk (disk now)
         → ((u : State) → Shows now u → IsTrueOf crossing u notice)
-        → (s : State) → ImageKeeps before s → IsTrueOf crossing (state_after s (answered replies commands)) notice }
+        → (s : State) → ImageKeeps before s → IsTrueOf crossing (state_after s (answered_commands replies commands)) notice }
     ensures bundles { (before : Image) (begun now : Spool (FileStore D D.Disk) over_files) (in_hand : ℕ) (commands : List Command) (replies : List Reply) (was : Option StoreFault) (own : List ℕ) (bundle : Bundle)
         → Started before begun → Ran in_hand commands begun now replies was → GoesOn was → HasCleanDisk (disk now)
         → ((u : State) → Shows now u → IsSaidBy own u bundle)
-        → (s : State) → ImageKeeps before s → IsSaidBy own (state_after s (answered replies commands)) bundle }
+        → (s : State) → ImageKeeps before s → IsSaidBy own (state_after s (answered_commands replies commands)) bundle }
 {}
 
 /// A message over several sites, between which jobs come once over each line. The spools of the

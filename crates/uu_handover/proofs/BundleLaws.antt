@@ -13,15 +13,15 @@ use Rattle.uu_core.specs.Due.{goes_before}
 use Rattle.uu_handover.specs.Custody.{Parcel, parcel_of, Crossing, World, HasTaken, IsQueued}
 use Rattle.uu_handover.specs.Bundles.{Bundle, Told, told_of, Packed, packed_of, has_of, waiting_for, is_up_to, named_job, is_behind, jobs_to, IsFront, AreWaiting, AreSomeWaiting, IsSaid, is_settled, settled_of}
 use Rattle.uu_core.proofs.Members.{first_of, later_of, first_or_later, none_in, kept, from_filter, mapped, from_map, some_passes, passing_one}
-use Rattle.uu_core.proofs.WellFormedLemmas.{pairs-first, pairs-rest}
+use Rattle.uu_core.proofs.WellFormedLemmas.{pairs_first, pairs_rest}
 use Rattle.uu_handover.proofs.CustodyLemmas.{all_from}
-use Rattle.uu_handover.proofs.CustodyInvariant.{Holds, IsIn, was-in}
+use Rattle.uu_handover.proofs.CustodyInvariant.{Holds, IsIn, was_in}
 
 -- ---- what the bundle has was taken, and what waits is there
 
-and-first : (a b : Bool) → a && b ≡ true → a ≡ true
-and-first true b e = refl
-and-first false b e = absurd (cc)
+and_first : (a b : Bool) → a && b ≡ true → a ≡ true
+and_first true b e = refl
+and_first false b e = absurd (cc)
 
 pub told_taken : (crossing : Crossing) (receiver : State) (mark : Parcel → ℕ) (bundle : Bundle) (told : Told) → IsSaid crossing.to crossing.from mark receiver bundle → Contains bundle.has told
     → (row : Taken) × Contains (link_of receiver crossing.from).taken row × (told_of row ≡ told)
@@ -57,8 +57,8 @@ pub in_front : {X : Type 0} (first all : List X) (x : X) → IsFront first all �
 in_front first all x front there = subst (λ l. Contains l x) (sym front.is) (Contains-append_left first front.rest x there)
 
 -- pairs of the first ones are pairs of all
-front-pairs : {X : Type 0} (R : X → X → Type 0) (first rest : List X) → AllPairs R (first ++ rest) → AllPairs R first
-front-pairs R first rest pairs i j d below within =
+front_pairs : {X : Type 0} (R : X → X → Type 0) (first rest : List X) → AllPairs R (first ++ rest) → AllPairs R first
+front_pairs R first rest pairs i j d below within =
     let more : j < length (first ++ rest) = let l = length-append first rest in omega (arith, l, within) in
     let far = pairs i j d below more in
     subst (λ x. R x (get_or first j d)) (get_or_append_left first rest d i (omega (arith, below, within))) (subst (R (get_or (first ++ rest) i d)) (get_or_append_left first rest d j within) far)
@@ -66,14 +66,14 @@ front-pairs R first rest pairs i j d below within =
 pub front_waits : (system : List ℕ) (lowest after : Option ℕ) (state : State) (waiting first : List Job) → AreWaiting system lowest after state waiting → IsFront first waiting → AreSomeWaiting system state first
 front_waits system lowest after state waiting first are front = record {
   there = all_from (Contains (waiting_for system state)) first (λ job there. is_waiting_for system lowest after state waiting job are (in_front first waiting job front there));
-  in_order = front-pairs (λ (a b : JobHead). goes_before a b ≡ true) (map head_of first) (map head_of front.rest) (subst (AllPairs (λ (a b : JobHead). goes_before a b ≡ true)) (ap (map head_of) front.is ∙ map-append head_of first front.rest) are.in_order);
+  in_order = front_pairs (λ (a b : JobHead). goes_before a b ≡ true) (map head_of first) (map head_of front.rest) (subst (AllPairs (λ (a b : JobHead). goes_before a b ≡ true)) (ap (map head_of) front.is ∙ map-append head_of first front.rest) are.in_order);
 }
 
 -- ---- of a world that is reached
 
 module _ (crossing : Crossing) (world : World) (h : Holds crossing world) (mark : Parcel → ℕ) (bundle : Bundle) (told : Told) (said : IsSaid crossing.to crossing.from mark world.receiver bundle) (there : Contains bundle.has told) where
   pub told_in : IsIn world.handed told.number
-  told_in = was-in crossing world h told.number (has_told crossing world.receiver mark bundle told said there)
+  told_in = was_in crossing world h told.number (has_told crossing world.receiver mark bundle told said there)
 
   pub told_of_job : (job : Job) → Contains world.sender.jobs job → job.number ≡ told.number → IsQueued crossing world (parcel_of job) × (told.mark ≡ crossing.mark (parcel_of job))
   told_of_job job waits number =
@@ -91,20 +91,20 @@ and-both : (a b : Bool) → a ≡ true → b ≡ true → a && b ≡ true
 and-both true b e f = f
 and-both false b e f = absurd (cc)
 
-and-second : (a b : Bool) → a && b ≡ true → b ≡ true
-and-second true b e = e
-and-second false b e = absurd (cc)
+and_second : (a b : Bool) → a && b ≡ true → b ≡ true
+and_second true b e = e
+and_second false b e = absurd (cc)
 
-eq-is : (a b : ℕ) → a ≡ b → a == b ≡ true
-eq-is a b e = grind (arith, nat_tests)
+eq_is : (a b : ℕ) → a ≡ b → a == b ≡ true
+eq_is a b e = grind (arith, nat_tests)
 
 pub settled_told : (system : List ℕ) (mark : Parcel → ℕ) (state : State) (has : List Told) (told : Told) (job : Job) → Contains has told → Contains state.jobs job → job.system ≡ system → job.number ≡ told.number → told.mark ≡ mark (parcel_of job)
     → Contains (settled_of system mark state has) job.number
 settled_told system mark state has told job there waits own number same =
     let passes = some_passes (λ (other : Job). same_text other.system system && other.number == told.number && mark (parcel_of other) == told.mark) state.jobs job waits
     (and-both (same_text job.system system && job.number == told.number) (mark (parcel_of job) == told.mark)
-    (and-both (same_text job.system system) (job.number == told.number) ((bytes_decides job.system system).1 own) (eq-is job.number told.number number))
-    (eq-is (mark (parcel_of job)) told.mark (sym same))) in
+    (and-both (same_text job.system system) (job.number == told.number) ((bytes_decides job.system system).1 own) (eq_is job.number told.number number))
+    (eq_is (mark (parcel_of job)) told.mark (sym same))) in
     subst (Contains (settled_of system mark state has)) (sym number)
     (mapped (λ (t : Told). t.number) (filter (is_settled system mark state) has) told (kept (is_settled system mark state) has told there passes))
 
@@ -116,16 +116,16 @@ settled_waits system mark state has number there =
     let inside = from_filter (is_settled system mark state) has told one.1 in
     let it = passing_one (λ (job : Job). same_text job.system system && job.number == told.number && mark (parcel_of job) == told.mark) state.jobs inside.1 in
     let job = it.0 in
-    let both = and-first (same_text job.system system && job.number == told.number) (mark (parcel_of job) == told.mark) it.2 in (
+    let both = and_first (same_text job.system system && job.number == told.number) (mark (parcel_of job) == told.mark) it.2 in (
       told,
       inside.0,
       one.2,
       (
         job,
         it.1,
-        (bytes_decides job.system system).0 (and-first (same_text job.system system) (job.number == told.number) both),
-        eqb-true job.number told.number (and-second (same_text job.system system) (job.number == told.number) both) ∙ one.2,
-        eqb-true (mark (parcel_of job)) told.mark (and-second (same_text job.system system && job.number == told.number) (mark (parcel_of job) == told.mark) it.2),
+        (bytes_decides job.system system).0 (and_first (same_text job.system system) (job.number == told.number) both),
+        eqb-true job.number told.number (and_second (same_text job.system system) (job.number == told.number) both) ∙ one.2,
+        eqb-true (mark (parcel_of job)) told.mark (and_second (same_text job.system system && job.number == told.number) (mark (parcel_of job) == told.mark) it.2),
       ),
     )
 
@@ -135,13 +135,13 @@ abbrev Before : Job → Job → Type 0
 Before a b = goes_before (head_of a) (head_of b) ≡ true
 
 not-both : (a b : Job) → Before a b → Before b a → ⊥
-not-both a b = by-numbers a.grade b.grade a.number b.number
+not-both a b = by_numbers a.grade b.grade a.number b.number
   where
-    by-numbers : (g h n m : ℕ) → ltb g h || (g == h && ltb n m) ≡ true → ltb h g || (h == g && ltb m n) ≡ true → ⊥
-    by-numbers g h n m e f = grind (arith, nat_tests)
+    by_numbers : (g h n m : ℕ) → ltb g h || (g == h && ltb n m) ≡ true → ltb h g || (h == g && ltb m n) ≡ true → ⊥
+    by_numbers g h n m e f = grind (arith, nat_tests)
 
-of-heads : (jobs : List Job) → AllPairs (λ a b. goes_before a b ≡ true) (map head_of jobs) → AllPairs Before jobs
-of-heads jobs pairs i j d below within =
+of_heads : (jobs : List Job) → AllPairs (λ a b. goes_before a b ≡ true) (map head_of jobs) → AllPairs Before jobs
+of_heads jobs pairs i j d below within =
     let far = pairs i j (head_of d) below (subst (λ n. j < n) (sym (length-map jobs head_of)) within) in
     subst (λ h. goes_before h (head_of (get_or jobs j d)) ≡ true) (get_or-map head_of jobs i d (head_of d) (omega (arith, below, within)))
     (subst (λ h. goes_before (get_or (map head_of jobs) i (head_of d)) h ≡ true) (get_or-map head_of jobs j d (head_of d) within) far)
@@ -150,26 +150,26 @@ same_order : (xs ys : List Job) → AllPairs Before xs → AllPairs Before ys �
 same_order [] [] p q there back = refl
 same_order [] (y ∷ ys) p q there back = absurd (none_in y (back y (first_of y ys)))
 same_order (x ∷ xs) [] p q there back = absurd (none_in x (there x (first_of x xs)))
-same_order (x ∷ xs) (y ∷ ys) p q there back = ap (λ j. j ∷ xs) same ∙ ap (λ l. y ∷ l) (same_order xs ys (pairs-rest Before x xs p) (pairs-rest Before y ys q) (inside xs ys x y p same there) (inside ys xs y x q (sym same) back))
+same_order (x ∷ xs) (y ∷ ys) p q there back = ap (λ j. j ∷ xs) same ∙ ap (λ l. y ∷ l) (same_order xs ys (pairs_rest Before x xs p) (pairs_rest Before y ys q) (inside xs ys x y p same there) (inside ys xs y x q (sym same) back))
   where
     same : x ≡ y
     same = elim (first_or_later y x ys (there x (first_of x xs))) [
       | inl e ↦ sym e
       | inr behind ↦ (elim (first_or_later x y xs (back y (first_of y ys))) [
         | inl e ↦ e
-        | inr later ↦ absurd (not-both x y (All-contains (Before x) xs y (pairs-first Before x xs p) later) (All-contains (Before y) ys x (pairs-first Before y ys q) behind))
+        | inr later ↦ absurd (not-both x y (All-contains (Before x) xs y (pairs_first Before x xs p) later) (All-contains (Before y) ys x (pairs_first Before y ys q) behind))
       ])
     ]
 
     inside : (some most : List Job) (a b : Job) → AllPairs Before (a ∷ some) → a ≡ b → ((job : Job) → Contains (a ∷ some) job → Contains (b ∷ most) job) → (job : Job) → Contains some job → Contains most job
     inside some most a b pairs e all job at = elim (first_or_later b job most (all job (later_of a job some at))) [
-      | inl own ↦ absurd (let l = All-contains (Before a) some job (pairs-first Before a some pairs) at in let l_own = subst (Before a) (sym own ∙ sym e) l in not-both a a l_own l_own)
+      | inl own ↦ absurd (let l = All-contains (Before a) some job (pairs_first Before a some pairs) at in let l_own = subst (Before a) (sym own ∙ sym e) l in not-both a a l_own l_own)
       | inr later ↦ later
     ]
 
 pub one_order : (system : List ℕ) (lowest after : Option ℕ) (state : State) (one other : List Job) → AreWaiting system lowest after state one → AreWaiting system lowest after state other → one ≡ other
 one_order system lowest after state one other a b =
-    same_order one other (of-heads one a.in_order) (of-heads other b.in_order) (across one other a b) (across other one b a)
+    same_order one other (of_heads one a.in_order) (of_heads other b.in_order) (across one other a b) (across other one b a)
   where
     across : (first second : List Job) → AreWaiting system lowest after state first → AreWaiting system lowest after state second → (job : Job) → Contains first job → Contains second job
     across first second f s job there = Contains-permutation (jobs_to system lowest after state) second job s.these (Contains-permutation first (jobs_to system lowest after state) job (IsPermutation-sym (jobs_to system lowest after state) first f.these) there)

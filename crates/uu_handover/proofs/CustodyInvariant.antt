@@ -14,13 +14,13 @@ use Rattle.uu_core.specs.declared.custody.Taken.{Taken}
 use Rattle.uu_core.specs.declared.job.NewJob.{NewJob}
 use Rattle.uu_core.specs.declared.refusal.Refusal.{Refusal}
 use Rattle.uu_core.specs.State.{State, Job, Link, same_text, link_of}
-use Rattle.uu_core.specs.After.{after, job_of, with_job, with_taken, forgotten, take_in}
+use Rattle.uu_core.specs.After.{after, job_of, with_job, with_taken, forgotten, with_job_once}
 use Rattle.uu_core.specs.Order.{IsInOrder}
-use Rattle.uu_handover.specs.Custody.{Parcel, parcel_of, Crossing, key_of, Handed, World, IsLeast, HasTaken, is_of_others, handed_for, added, answer_to, was_said, go, IsOf}
+use Rattle.uu_handover.specs.Custody.{Parcel, parcel_of, Crossing, key_of, Handed, World, IsLeast, HasTaken, is_of_others, handed_for, added, answer_to, was_said, go, IsHandedFor}
 use Rattle.uu_handover.specs.Custody.Step.{SenderRuns, SenderShows, SenderSays, ReceiverRuns, ReceiverTells}
 use Rattle.uu_core.proofs.Members.{first_of, later_of, first_or_later, kept, from_filter, passing_one, keeps_none}
 use Rattle.uu_core.proofs.LinkLemmas.{link_own, taken_says, name_is}
-use Rattle.uu_core.proofs.WellFormedLemmas.{pairs-push}
+use Rattle.uu_core.proofs.WellFormedLemmas.{pairs_push}
 use Rattle.uu_core.proofs.OrderLemmas.{still_in_order}
 use Rattle.uu_handover.proofs.CustodyLemmas.{IsShown, LinkAfter, all_from, still_shown, shown_now, still_least, least_below, least_both, link_after, rises}
 
@@ -50,7 +50,7 @@ IsRemembered link it = (it.number < link.below) ⊎ ((row : Taken) × Contains l
 
 -- it was handed in for a parcel that was shown
 abbrev pub IsMade : Crossing → List Parcel → Handed → Type 0
-IsMade crossing shown it = (parcel : Parcel) × Contains shown parcel × IsOf crossing parcel it
+IsMade crossing shown it = (parcel : Parcel) × Contains shown parcel × IsHandedFor crossing parcel it
 
 pub record Holds (crossing : Crossing) (world : World) : Type 0 where
   pub sender_order : IsInOrder world.sender
@@ -66,19 +66,19 @@ pub record Holds (crossing : Crossing) (world : World) : Type 0 where
   pub said : All (IsLeast crossing world.sender) world.said
   pub heard : world.is_heard ≡ true → IsLeast crossing world.sender (kept_of crossing world).below
 
-and-first : (a b : Bool) → a && b ≡ true → a ≡ true
-and-first true b e = refl
-and-first false b e = absurd (cc)
+and_first : (a b : Bool) → a && b ≡ true → a ≡ true
+and_first true b e = refl
+and_first false b e = absurd (cc)
 
-and-second : (a b : Bool) → a && b ≡ true → b ≡ true
-and-second true b e = e
-and-second false b e = absurd (cc)
+and_second : (a b : Bool) → a && b ≡ true → b ≡ true
+and_second true b e = e
+and_second false b e = absurd (cc)
 
 -- ---- the sender's steps
 
 module _ (crossing : Crossing) (world : World) (h : Holds crossing world) where
-  pub after-sender : (command : Command) → Holds crossing (go crossing world (SenderRuns command))
-  after-sender command = record {
+  pub after_sender : (command : Command) → Holds crossing (go crossing world (SenderRuns command))
+  after_sender command = record {
     sender_order = still_in_order world.sender command h.sender_order;
     receiver_order = h.receiver_order;
     shown = λ parcel there. still_shown world.sender command parcel (h.shown parcel there);
@@ -93,8 +93,8 @@ module _ (crossing : Crossing) (world : World) (h : Holds crossing world) where
     heard = λ e. still_least crossing world.sender command (kept_of crossing world).below (h.heard e);
   }
 
-  pub after-show : (job : Job) → Contains world.sender.jobs job → Holds crossing (go crossing world (SenderShows job))
-  after-show job inside = record {
+  pub after_show : (job : Job) → Contains world.sender.jobs job → Holds crossing (go crossing world (SenderShows job))
+  after_show job inside = record {
     sender_order = h.sender_order;
     receiver_order = h.receiver_order;
     shown = λ parcel there. elim (Contains-push_cases world.shown (parcel_of job) parcel there) [
@@ -112,8 +112,8 @@ module _ (crossing : Crossing) (world : World) (h : Holds crossing world) where
     heard = h.heard;
   }
 
-  pub after-say : (below : ℕ) → IsLeast crossing world.sender below → Holds crossing (go crossing world (SenderSays below))
-  after-say below least = record {
+  pub after_say : (below : ℕ) → IsLeast crossing world.sender below → Holds crossing (go crossing world (SenderSays below))
+  after_say below least = record {
     sender_order = h.sender_order;
     receiver_order = h.receiver_order;
     shown = h.shown;
@@ -151,8 +151,8 @@ module _ (crossing : Crossing) (world : World) (h : Holds crossing world) where
     heard = least;
   }
 
-  pub after-receiver : (command : Command) → is_of_others crossing command ≡ true → Holds crossing (go crossing world (ReceiverRuns command))
-  after-receiver command free = by-link (link_after crossing world.receiver command free)
+  pub after_receiver : (command : Command) → is_of_others crossing command ≡ true → Holds crossing (go crossing world (ReceiverRuns command))
+  after_receiver command free = by-link (link_after crossing world.receiver command free)
     where
       order : IsInOrder (after world.receiver command).0
       order = still_in_order world.receiver command h.receiver_order
@@ -161,11 +161,11 @@ module _ (crossing : Crossing) (world : World) (h : Holds crossing world) where
       by-link (inl same) = moved (after world.receiver command).0 (world.is_heard && was_said crossing world command) order (rises world.receiver command)
           (λ row there. subst (λ (l : Link). Contains l.taken row) same there)
           (λ it was. subst (λ (l : Link). IsRemembered l it) (sym same) was)
-          (λ e. subst (λ (l : Link). IsLeast crossing world.sender l.below) (sym same) (h.heard (and-first world.is_heard (was_said crossing world command) e)))
+          (λ e. subst (λ (l : Link). IsLeast crossing world.sender l.below) (sym same) (h.heard (and_first world.is_heard (was_said crossing world command) e)))
       by-link (inr (below, system, is, own, same)) = moved (after world.receiver command).0 (world.is_heard && was_said crossing world command) order (rises world.receiver command)
           (λ row there. (from_filter (λ (r : Taken). leb below r.number) (kept_of crossing world).taken row (subst (λ (l : Link). Contains l.taken row) same there)).0)
           (λ it was. subst (λ (l : Link). IsRemembered l it) (sym same) (less it was))
-          (λ e. subst (λ (l : Link). IsLeast crossing world.sender l.below) (sym same) (least_both crossing world.sender (kept_of crossing world).below below (h.heard (and-first world.is_heard (was_said crossing world command) e)) (told (and-second world.is_heard (was_said crossing world command) e))))
+          (λ e. subst (λ (l : Link). IsLeast crossing world.sender l.below) (sym same) (least_both crossing world.sender (kept_of crossing world).below below (h.heard (and_first world.is_heard (was_said crossing world command) e)) (told (and_second world.is_heard (was_said crossing world command) e))))
         where
           less : (it : Handed) → IsRemembered (kept_of crossing world) it → IsRemembered (forgotten below (kept_of crossing world)) it
           less it (inl small) = inl (omega (arith, small))
@@ -191,11 +191,11 @@ module _ (crossing : Crossing) (world : World) (h : Holds crossing world) where
   -- ---- the receiver tells what it has
 
   -- what is kept as taken was handed in
-  pub was-in : (number : ℕ) → HasTaken crossing world.receiver number → IsIn world.handed number
-  was-in number has = subst (IsIn world.handed) has.is (h.taken has.row has.there).number
+  pub was_in : (number : ℕ) → HasTaken crossing world.receiver number → IsIn world.handed number
+  was_in number has = subst (IsIn world.handed) has.is (h.taken has.row has.there).number
 
-  pub after-tell : (number : ℕ) → HasTaken crossing world.receiver number → Holds crossing (go crossing world (ReceiverTells number))
-  after-tell number has = record {
+  pub after_tell : (number : ℕ) → HasTaken crossing world.receiver number → Holds crossing (go crossing world (ReceiverTells number))
+  after_tell number has = record {
     sender_order = h.sender_order;
     receiver_order = h.receiver_order;
     shown = h.shown;
@@ -207,7 +207,7 @@ module _ (crossing : Crossing) (world : World) (h : Holds crossing world) where
     below_next = h.below_next;
     answered = λ n there. elim (Contains-push_cases world.answered number n there) [
       | inl before ↦ h.answered n before
-      | inr same ↦ subst (IsIn world.handed) same (was-in number has)
+      | inr same ↦ subst (IsIn world.handed) same (was_in number has)
     ];
     said = h.said;
     heard = h.heard;
@@ -232,8 +232,8 @@ module _ (crossing : Crossing) (world : World) (h : Holds crossing world) where
       below : (n : ℕ) → n < world.receiver.next → leb world.receiver.next n ≡ false
       below n l = grind (arith, nat_tests)
 
-  pub one-added : (new : NewJob) → added world.receiver (with_job new world.receiver) ≡ job_of world.receiver.next new ∷ []
-  one-added new =
+  pub one_added : (new : NewJob) → added world.receiver (with_job new world.receiver) ≡ job_of world.receiver.next new ∷ []
+  one_added new =
       filter-append (λ (job : Job). leb world.receiver.next job.number) world.receiver.jobs (job_of world.receiver.next new ∷ [])
       ∙ ap (λ l. l ++ filter (λ (job : Job). leb world.receiver.next job.number) (job_of world.receiver.next new ∷ [])) none-added
       ∙ ap (λ t. cond t (job_of world.receiver.next new ∷ []) []) (le-leb world.receiver.next world.receiver.next (omega arith))
@@ -243,13 +243,13 @@ module _ (crossing : Crossing) (world : World) (h : Holds crossing world) where
       ap (λ (l : List Job). world.handed ++ map (handed_for parcel) l) none-added ∙ append-nil world.handed
 
   -- refused: nothing changes
-  pub take-refused : (parcel : Parcel) (refusal : Refusal) → answering parcel (world.receiver, Refused refusal) ≡ world
-  take-refused parcel refusal = ap (λ a. record world { answered = a; handed = world.handed ++ map (handed_for parcel) (added world.receiver world.receiver) }) (append-nil world.answered)
+  pub take_refused : (parcel : Parcel) (refusal : Refusal) → answering parcel (world.receiver, Refused refusal) ≡ world
+  take_refused parcel refusal = ap (λ a. record world { answered = a; handed = world.handed ++ map (handed_for parcel) (added world.receiver world.receiver) }) (append-nil world.answered)
       ∙ ap (λ l. record world { handed = l }) (nothing-more parcel)
 
   -- again: the number is answered that it got
-  pub take-again : (parcel : Parcel) (number : ℕ) → IsIn world.handed parcel.number → Holds crossing (answering parcel (world.receiver, Number number))
-  take-again parcel number known = subst (Holds crossing) (sym (ap (λ l. record world { answered = world.answered ++ parcel.number ∷ []; handed = l }) (nothing-more parcel))) (record {
+  pub take_again : (parcel : Parcel) (number : ℕ) → IsIn world.handed parcel.number → Holds crossing (answering parcel (world.receiver, Number number))
+  take_again parcel number known = subst (Holds crossing) (sym (ap (λ l. record world { answered = world.answered ++ parcel.number ∷ []; handed = l }) (nothing-more parcel))) (record {
     sender_order = h.sender_order;
     receiver_order = h.receiver_order;
     shown = h.shown;
@@ -276,19 +276,19 @@ module _ (crossing : Crossing) (world : World) (h : Holds crossing world) where
     item = record { number = parcel.number; job = job_of world.receiver.next new }
 
     abbrev pub then : State
-    then = take_in (First world.receiver.next) (key_of crossing parcel) new world.receiver
+    then = with_job_once (First world.receiver.next) (key_of crossing parcel) new world.receiver
 
     abbrev pub world-then : World
     world-then = record world { receiver = then; answered = world.answered ++ parcel.number ∷ []; handed = world.handed ++ item ∷ [] }
 
-    link-then : link_of then crossing.from ≡ with_taken row (kept_of crossing world)
-    link-then =
+    link_then : link_of then crossing.from ≡ with_taken row (kept_of crossing world)
+    link_then =
         link_own (with_job new world.receiver) crossing.from (with_taken row (kept_of crossing world)) (name_is world.receiver crossing.from)
         (λ silent. absurd (taken_says row (kept_of crossing world) silent))
 
     -- what is taken then: this one, and what was
-    in-taken : (other : Taken) → Contains (with_taken row (kept_of crossing world)).taken other → (other ≡ row) ⊎ Contains (kept_of crossing world).taken other
-    in-taken other there = elim (Contains-append_cases before (row ∷ behind) other there) [
+    in_taken : (other : Taken) → Contains (with_taken row (kept_of crossing world)).taken other → (other ≡ row) ⊎ Contains (kept_of crossing world).taken other
+    in_taken other there = elim (Contains-append_cases before (row ∷ behind) other there) [
       | inl first ↦ inr (from_filter (λ (r : Taken). ltb r.number row.number) (kept_of crossing world).taken other first).0
       | inr rest ↦ (elim (first_or_later row other behind rest) [
         | inl same ↦ inl (sym same)
@@ -305,16 +305,16 @@ module _ (crossing : Crossing) (world : World) (h : Holds crossing world) where
     abbrev pub more : List Handed
     more = world.handed ++ item ∷ []
 
-    still-in : (number : ℕ) → IsIn world.handed number → IsIn more number
-    still-in number was = record { it = was.it; there = Contains-append_left world.handed (item ∷ []) was.it was.there; is = was.is }
+    still_in : (number : ℕ) → IsIn world.handed number → IsIn more number
+    still_in number was = record { it = was.it; there = Contains-append_left world.handed (item ∷ []) was.it was.there; is = was.is }
 
-    now-in : IsIn more parcel.number
-    now-in = record { it = item; there = Contains-append_right world.handed (item ∷ []) item (first_of item []); is = refl }
+    now_in : IsIn more parcel.number
+    now_in = record { it = item; there = Contains-append_right world.handed (item ∷ []) item (first_of item []); is = refl }
 
     module _ (order : IsInOrder then) (low : (kept_of crossing world).below ≤ parcel.number) (fresh : (other : Taken) → Contains (kept_of crossing world).taken other → other.number ≡ parcel.number → ⊥) where
       -- what was taken stays so
-      still-taken : (other : Taken) → Contains (kept_of crossing world).taken other → Contains (with_taken row (kept_of crossing world)).taken other
-      still-taken other there = by-test (ltb other.number row.number) (ltb row.number other.number) refl refl
+      still_taken : (other : Taken) → Contains (kept_of crossing world).taken other → Contains (with_taken row (kept_of crossing world)).taken other
+      still_taken other there = by-test (ltb other.number row.number) (ltb row.number other.number) refl refl
         where
           before : List Taken
           before = filter (λ (r : Taken). ltb r.number row.number) (kept_of crossing world).taken
@@ -330,49 +330,49 @@ module _ (crossing : Crossing) (world : World) (h : Holds crossing world) where
               same : (a b : ℕ) → ltb a b ≡ false → ltb b a ≡ false → a ≡ b
               same a b e f = grind (arith, nat_tests)
 
-      still-remembered : (it : Handed) → IsRemembered (kept_of crossing world) it → IsRemembered (with_taken row (kept_of crossing world)) it
-      still-remembered it (inl small) = inl small
-      still-remembered it (inr (other, there, number)) = inr (other, still-taken other there, number)
+      still_remembered : (it : Handed) → IsRemembered (kept_of crossing world) it → IsRemembered (with_taken row (kept_of crossing world)) it
+      still_remembered it (inl small) = inl small
+      still_remembered it (inr (other, there, number)) = inr (other, still_taken other there, number)
 
-      now-remembered : IsRemembered (with_taken row (kept_of crossing world)) item
-      now-remembered = inr (
+      now_remembered : IsRemembered (with_taken row (kept_of crossing world)) item
+      now_remembered = inr (
         row,
         Contains-append_right (filter (λ (r : Taken). ltb r.number row.number) (kept_of crossing world).taken) (row ∷ filter (λ (r : Taken). ltb row.number r.number) (kept_of crossing world).taken) row (first_of row _),
         refl,
       )
 
-      new-number : (it : Handed) → Contains world.handed it → ¬ (it.number ≡ item.number)
-      new-number it there = by-remembered (h.handed it there)
+      new_number : (it : Handed) → Contains world.handed it → ¬ (it.number ≡ item.number)
+      new_number it there = by_remembered (h.handed it there)
         where
-          by-remembered : IsRemembered (kept_of crossing world) it → ¬ (it.number ≡ item.number)
-          by-remembered (inl small) = λ same. omega (arith, small, low, same)
-          by-remembered (inr (other, taken, number)) = λ same. fresh other taken (number ∙ same)
+          by_remembered : IsRemembered (kept_of crossing world) it → ¬ (it.number ≡ item.number)
+          by_remembered (inl small) = λ same. omega (arith, small, low, same)
+          by_remembered (inr (other, taken, number)) = λ same. fresh other taken (number ∙ same)
 
       rightly : (other : Taken) → (other ≡ row) ⊎ Contains (kept_of crossing world).taken other → IsTakenRightly crossing world-then other
-      rightly other (inl same) = subst (IsTakenRightly crossing world-then) (sym same) (record { number = now-in; parcel = parcel; shown = inside; of = refl; mark = refl })
-      rightly other (inr was_there) = let was = h.taken other was_there in record { number = still-in other.number was.number; parcel = was.parcel; shown = was.shown; of = was.of; mark = was.mark }
+      rightly other (inl same) = subst (IsTakenRightly crossing world-then) (sym same) (record { number = now_in; parcel = parcel; shown = inside; of = refl; mark = refl })
+      rightly other (inr was_there) = let was = h.taken other was_there in record { number = still_in other.number was.number; parcel = was.parcel; shown = was.shown; of = was.of; mark = was.mark }
 
       pub take-first : Holds crossing world-then
       take-first = record {
         sender_order = h.sender_order;
         receiver_order = order;
         shown = h.shown;
-        taken = λ other there. rightly other (in-taken other (subst (λ (l : Link). Contains l.taken other) link-then there));
-        handed = λ it there. subst (λ (l : Link). IsRemembered l it) (sym link-then) (elim (Contains-push_cases world.handed item it there) [
-          | inl before ↦ still-remembered it (h.handed it before)
-          | inr same ↦ subst (IsRemembered (with_taken row (kept_of crossing world))) same now-remembered
+        taken = λ other there. rightly other (in_taken other (subst (λ (l : Link). Contains l.taken other) link_then there));
+        handed = λ it there. subst (λ (l : Link). IsRemembered l it) (sym link_then) (elim (Contains-push_cases world.handed item it there) [
+          | inl before ↦ still_remembered it (h.handed it before)
+          | inr same ↦ subst (IsRemembered (with_taken row (kept_of crossing world))) same now_remembered
         ]);
         made = λ it there. elim (Contains-push_cases world.handed item it there) [
           | inl before ↦ h.made it before
           | inr same ↦ subst (IsMade crossing world.shown) same (parcel, inside, record { number = refl; new = new; made = made; job_is = refl })
         ];
-        once = pairs-push (λ (one other : Handed). ¬ (one.number ≡ other.number)) world.handed item (all_from (λ (it : Handed). ¬ (it.number ≡ item.number)) world.handed new-number) h.once;
-        rising = pairs-push (λ (one other : Handed). one.job.number < other.job.number) world.handed item h.below_next h.rising;
+        once = pairs_push (λ (one other : Handed). ¬ (one.number ≡ other.number)) world.handed item (all_from (λ (it : Handed). ¬ (it.number ≡ item.number)) world.handed new_number) h.once;
+        rising = pairs_push (λ (one other : Handed). one.job.number < other.job.number) world.handed item h.below_next h.rising;
         below_next = All-push (λ (it : Handed). it.job.number < world.receiver.next + 1) world.handed item (All-weaker (λ (it : Handed). it.job.number < world.receiver.next) (λ (it : Handed). it.job.number < world.receiver.next + 1) (λ it l. omega (arith, l)) world.handed h.below_next) (omega arith);
         answered = λ n there. elim (Contains-push_cases world.answered parcel.number n there) [
-          | inl before ↦ still-in n (h.answered n before)
-          | inr same ↦ subst (IsIn more) same now-in
+          | inl before ↦ still_in n (h.answered n before)
+          | inr same ↦ subst (IsIn more) same now_in
         ];
         said = h.said;
-        heard = λ e. subst (λ (l : Link). IsLeast crossing world.sender l.below) (sym link-then) (h.heard e);
+        heard = λ e. subst (λ (l : Link). IsLeast crossing world.sender l.below) (sym link_then) (h.heard e);
       }

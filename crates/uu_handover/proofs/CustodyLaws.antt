@@ -21,13 +21,13 @@ use Rattle.uu_core.specs.Refusal.{first_reason}
 use Rattle.uu_core.specs.State.{State, Job, same_text, has_system, head_of, is_taken}
 use Rattle.uu_core.specs.Order.{IsInOrder}
 use Rattle.uu_core.specs.Verdict.{verdict, queue_reasons, fresh_reasons, is_again, is_other, are_known, taken_of, has_other, has_number, is_missing_one, has_repeat, done_reasons}
-use Rattle.uu_core.specs.After.{after, after_verdict, hand_in, take_in, number_of, is_among}
+use Rattle.uu_core.specs.After.{after, after_verdict, hand_in, with_job_once, hand_in_number, is_among}
 use Rattle.uu_core.specs.Laws.{IsSameJob, IsAmong, lets_go, accepted_of, unless_refused}
 use Rattle.uu_handover.specs.Custody.{Parcel, parcel_of, Crossing, key_of, World, Step, IsLeast, least_of, MayRun, MayGo, MayGoOn, kills_in, handed_for, added, answer_to, go, world_after, IsQueued, IsNotLost, IsFree, MayCross}
 use Rattle.uu_handover.specs.Custody.Step.{SenderRuns, SenderShows, SenderSays, ReceiverTakes, ReceiverRuns, ReceiverTells}
-use Rattle.uu_core.proofs.Members.{first_of, none_in, first_or_later, from_filter, from_map, mapped, some_passes, passing_one, find-there, find-none}
+use Rattle.uu_core.proofs.Members.{first_of, none_in, first_or_later, from_filter, from_map, mapped, some_passes, passing_one, find_there, find-none}
 use Rattle.uu_core.proofs.KeyLemmas.{by_hand_in, first_why}
-use Rattle.uu_core.proofs.WellFormedLemmas.{none_first, pairs-first, pairs-rest}
+use Rattle.uu_core.proofs.WellFormedLemmas.{none_first, pairs_first, pairs_rest}
 use Rattle.uu_core.proofs.JobLemmas.{stays}
 use Rattle.uu_core.proofs.DecisionLemmas.{carried}
 use Rattle.uu_handover.proofs.CustodyLemmas.{all_from, one_of_number, same_parcel}
@@ -40,28 +40,28 @@ apart p q = cc
 -- ---- what was handed in is not queued again
 
 pub unchanged : (crossing : Crossing) (world : World) (parcel : Parcel) (new : NewJob) → Holds crossing world → IsQueued crossing world parcel → (after world.receiver (QueueOnce (key_of crossing parcel) new)).0 ≡ world.receiver
-unchanged crossing world parcel new h queued = by-verdict (verdict world.receiver (QueueOnce (key_of crossing parcel) new)) refl
+unchanged crossing world parcel new h queued = by_verdict (verdict world.receiver (QueueOnce (key_of crossing parcel) new)) refl
   where
-    by-verdict : (v : Option Refusal) → verdict world.receiver (QueueOnce (key_of crossing parcel) new) ≡ v → (after_verdict v world.receiver (QueueOnce (key_of crossing parcel) new)).0 ≡ world.receiver
-    by-verdict (Some refusal) e = refl
-    by-verdict None e = by_hand_in P (taken_of world.receiver (key_of crossing parcel)) (key_of crossing parcel) world.receiver.next (λ first. absurd (not-new first)) (λ row is mark repeat. refl) refl
+    by_verdict : (v : Option Refusal) → verdict world.receiver (QueueOnce (key_of crossing parcel) new) ≡ v → (after_verdict v world.receiver (QueueOnce (key_of crossing parcel) new)).0 ≡ world.receiver
+    by_verdict (Some refusal) e = refl
+    by_verdict None e = by_hand_in P (taken_of world.receiver (key_of crossing parcel)) (key_of crossing parcel) world.receiver.next (λ first. absurd (not_new first)) (λ row is mark repeat. refl) refl
       where
         P : Bool → HandIn → Type 0
-        P again comes = is_again (taken_of world.receiver (key_of crossing parcel)) (key_of crossing parcel) ≡ again → take_in comes (key_of crossing parcel) new world.receiver ≡ world.receiver
+        P again comes = is_again (taken_of world.receiver (key_of crossing parcel)) (key_of crossing parcel) ≡ again → with_job_once comes (key_of crossing parcel) new world.receiver ≡ world.receiver
 
-        not-new : is_again (taken_of world.receiver (key_of crossing parcel)) (key_of crossing parcel) ≡ false → ⊥
-        not-new first = by-remembered (h.handed queued.handed queued.there)
+        not_new : is_again (taken_of world.receiver (key_of crossing parcel)) (key_of crossing parcel) ≡ false → ⊥
+        not_new first = by_remembered (h.handed queued.handed queued.there)
           where
             why : ((kept_of crossing world).below ≤ parcel.number) × (taken_of world.receiver (key_of crossing parcel) ≡ None)
             why = first_why world.receiver (key_of crossing parcel) new e first
 
-            is-it : (a b : ℕ) → a ≡ b → a == b ≡ true
-            is-it a b e = grind (arith, nat_tests)
+            is_it : (a b : ℕ) → a ≡ b → a == b ≡ true
+            is_it a b e = grind (arith, nat_tests)
 
-            by-remembered : IsRemembered (kept_of crossing world) queued.handed → ⊥
-            by-remembered (inl small) = omega (arith, small, why.0, queued.of.number)
-            by-remembered (inr (row, there, same)) =
-                apart (some_passes (is_taken parcel.number) (kept_of crossing world).taken row there (is-it row.number parcel.number (same ∙ queued.of.number))) (find-none (is_taken parcel.number) (kept_of crossing world).taken why.1)
+            by_remembered : IsRemembered (kept_of crossing world) queued.handed → ⊥
+            by_remembered (inl small) = omega (arith, small, why.0, queued.of.number)
+            by_remembered (inr (row, there, same)) =
+                apart (some_passes (is_taken parcel.number) (kept_of crossing world).taken row there (is_it row.number parcel.number (same ∙ queued.of.number))) (find-none (is_taken parcel.number) (kept_of crossing world).taken why.1)
 
 -- ---- nothing hinders a job that waits
 
@@ -84,39 +84,39 @@ module _ (crossing : Crossing) (world : World) (job : Job) (new : NewJob) (h : H
   low : least ≤ job.number
   low = All-contains (λ (j : Job). j.system ≡ crossing.to → (kept_of crossing world).below ≤ j.number) world.sender.jobs job (h.heard heard).now there own
 
-  not-stale : (a b : ℕ) → a ≤ b → ltb b a ≡ false
-  not-stale a b l = grind (arith, nat_tests)
+  not_stale : (a b : ℕ) → a ≤ b → ltb b a ≡ false
+  not_stale a b l = grind (arith, nat_tests)
 
-  is-it : (a b : ℕ) → a ≡ b → a == b ≡ true
-  is-it a b e = grind (arith, nat_tests)
+  is_it : (a b : ℕ) → a ≡ b → a == b ≡ true
+  is_it a b e = grind (arith, nat_tests)
 
   -- what was taken under its number has its mark
   same_mark : (row : Taken) → taken ≡ Some row → row.mark ≡ crossing.mark (parcel_of job)
   same_mark row is =
-      let found = find-there (is_taken job.number) (kept_of crossing world).taken row is in
+      let found = find_there (is_taken job.number) (kept_of crossing world).taken row is in
       let was = h.taken row found.0 in
       let number : job.number ≡ was.parcel.number = sym (eqb-true row.number job.number found.1) ∙ sym was.of in
       was.mark ∙ ap crossing.mark (sym ((h.shown was.parcel was.shown).same job there number))
 
-  not-other : (o : Option Taken) → taken ≡ o → is_again o key ≡ false → is_other o key ≡ false
-  not-other None is e = refl
-  not-other (Some row) is e = absurd (apart (is-it row.mark (crossing.mark (parcel_of job)) (same_mark row is)) e)
+  not_other : (o : Option Taken) → taken ≡ o → is_again o key ≡ false → is_other o key ≡ false
+  not_other None is e = refl
+  not_other (Some row) is e = absurd (apart (is_it row.mark (crossing.mark (parcel_of job)) (same_mark row is)) e)
 
-  by-again : (s t : Bool) → is_again taken key ≡ s → is_other taken key ≡ t → IsFree crossing world job new
-  by-again true t e f = inl (ap (λ s. first_reason (cond s [] (fresh_reasons known next least (is_other taken key) key new))) e)
-  by-again false t e f =
+  by_again : (s t : Bool) → is_again taken key ≡ s → is_other taken key ≡ t → IsFree crossing world job new
+  by_again true t e f = inl (ap (λ s. first_reason (cond s [] (fresh_reasons known next least (is_other taken key) key new))) e)
+  by_again false t e f =
       inr (ap (λ s. first_reason (cond s [] (fresh_reasons known next least (is_other taken key) key new))) e
-      ∙ ap (λ s. first_reason (queue_reasons known next new ++ (ltb job.number least, Stale) ∷ (s, Differs) ∷ [])) (not-other taken refl e)
-      ∙ ap (λ s. first_reason (queue_reasons known next new ++ (s, Stale) ∷ (false, Differs) ∷ [])) (not-stale least job.number low))
+      ∙ ap (λ s. first_reason (queue_reasons known next new ++ (ltb job.number least, Stale) ∷ (s, Differs) ∷ [])) (not_other taken refl e)
+      ∙ ap (λ s. first_reason (queue_reasons known next new ++ (s, Stale) ∷ (false, Differs) ∷ [])) (not_stale least job.number low))
 
   pub free : IsFree crossing world job new
-  free = by-again (is_again taken key) (is_other taken key) refl refl
+  free = by_again (is_again taken key) (is_other taken key) refl refl
 
 -- ---- no job is lost
 
 -- an accepted report of a call names jobs of its own system alone
-own-system : (state : State) (system : List ℕ) (at : Moment) (numbers : List ℕ) (job : Job) → verdict state (Done system at numbers) ≡ None → Contains state.jobs job → list_any (λ number. number == job.number) numbers ≡ true → job.system ≡ system
-own-system state system at numbers job e there named = (bytes_decides job.system system).0 (by-test (same_text job.system system) refl)
+own_system : (state : State) (system : List ℕ) (at : Moment) (numbers : List ℕ) (job : Job) → verdict state (Done system at numbers) ≡ None → Contains state.jobs job → list_any (λ number. number == job.number) numbers ≡ true → job.system ≡ system
+own_system state system at numbers job e there named = (bytes_decides job.system system).0 (by-test (same_text job.system system) refl)
   where
     heads : List JobHead
     heads = map head_of state.jobs
@@ -144,102 +144,102 @@ both-first : (a b : Bool) → a && b ≡ true → a ≡ true
 both-first true b e = refl
 both-first false b e = absurd (cc)
 
-both-second : (a b : Bool) → a && b ≡ true → b ≡ true
-both-second true b e = e
-both-second false b e = absurd (cc)
+both_second : (a b : Bool) → a && b ≡ true → b ≡ true
+both_second true b e = e
+both_second false b e = absurd (cc)
 
-is-same : (a b : ℕ) → a == b ≡ true → b ≡ a
-is-same a b e = grind (arith, nat_tests)
+is_same : (a b : ℕ) → a == b ≡ true → b ≡ a
+is_same a b e = grind (arith, nat_tests)
 
 module _ (crossing : Crossing) (world : World) (h : Holds crossing world) (job : Job) (there : Contains world.sender.jobs job) (own : job.system ≡ crossing.to) where
   -- a number that was answered was queued for this very job
-  was-queued : Contains world.answered job.number → IsQueued crossing world (parcel_of job)
-  was-queued told =
+  was_queued : Contains world.answered job.number → IsQueued crossing world (parcel_of job)
+  was_queued told =
       let was = h.answered job.number told in
       let made = h.made was.it was.there in
       let same : parcel_of job ≡ made.0 = (h.shown made.0 made.1).same job there (sym was.is ∙ made.2.number) in
       subst (IsQueued crossing world) (sym same) (record { handed = was.it; there = was.there; of = made.2 })
 
-  gone-by : (command : Command) → MayRun crossing world command → verdict world.sender command ≡ None → lets_go command job ≡ true → Contains (kills_in (command ∷ [])) job.number ⊎ IsQueued crossing world (parcel_of job)
-  gone-by (Kill number by) may e goes = inl (let same : number ≡ job.number = is-same job.number number goes in subst (λ n. Contains (n ∷ []) job.number) (sym same) (first_of job.number []))
-  gone-by (Done system at numbers) may e goes =
-      let mine : job.system ≡ system = own-system world.sender system at numbers job e there goes in
+  gone_by : (command : Command) → MayRun crossing world command → verdict world.sender command ≡ None → lets_go command job ≡ true → Contains (kills_in (command ∷ [])) job.number ⊎ IsQueued crossing world (parcel_of job)
+  gone_by (Kill number by) may e goes = inl (let same : number ≡ job.number = is_same job.number number goes in subst (λ n. Contains (n ∷ []) job.number) (sym same) (first_of job.number []))
+  gone_by (Done system at numbers) may e goes =
+      let mine : job.system ≡ system = own_system world.sender system at numbers job e there goes in
       let one = passing_one (λ number. number == job.number) numbers goes in
       let told = All-contains (Contains world.answered) numbers one.0 (may (sym mine ∙ own)) one.1 in
-      inr (was-queued (subst (Contains world.answered) (eqb-true one.0 job.number one.2) told))
-  gone-by (Release system numbers) may e goes =
-      let mine : job.system ≡ system = (bytes_decides job.system system).0 (both-second (is_among numbers job) (same_text job.system system) goes) in
+      inr (was_queued (subst (Contains world.answered) (eqb-true one.0 job.number one.2) told))
+  gone_by (Release system numbers) may e goes =
+      let mine : job.system ≡ system = (bytes_decides job.system system).0 (both_second (is_among numbers job) (same_text job.system system) goes) in
       let one = passing_one (λ number. number == job.number) numbers (both-first (is_among numbers job) (same_text job.system system) goes) in
       let told = All-contains (Contains world.answered) numbers one.0 (may (sym mine ∙ own)) one.1 in
-      inr (was-queued (subst (Contains world.answered) (eqb-true one.0 job.number one.2) told))
-  gone-by (Define def) may e goes = absurd (cc)
-  gone-by (Remove name) may e goes = absurd (cc)
-  gone-by (Queue new) may e goes = absurd (cc)
-  gone-by (QueueOnce key new) may e goes = absurd (cc)
-  gone-by (Regrade number grade by) may e goes = absurd (cc)
-  gone-by (Rejuvenate number at by) may e goes = absurd (cc)
-  gone-by (Failed system at why) may e goes = absurd (cc)
-  gone-by (Entry bytes) may e goes = absurd (cc)
-  gone-by (Forget system below) may e goes = absurd (cc)
+      inr (was_queued (subst (Contains world.answered) (eqb-true one.0 job.number one.2) told))
+  gone_by (Define def) may e goes = absurd (cc)
+  gone_by (Remove name) may e goes = absurd (cc)
+  gone_by (Queue new) may e goes = absurd (cc)
+  gone_by (QueueOnce key new) may e goes = absurd (cc)
+  gone_by (Regrade number grade by) may e goes = absurd (cc)
+  gone_by (Rejuvenate number at by) may e goes = absurd (cc)
+  gone_by (Failed system at why) may e goes = absurd (cc)
+  gone_by (Entry bytes) may e goes = absurd (cc)
+  gone_by (Forget system below) may e goes = absurd (cc)
 
   abbrev Ends : Command → Option Refusal → Type 0
   Ends command v = IsAmong (after_verdict v world.sender command).0.jobs job ⊎ Contains (world.killed ++ kills_in (unless_refused v command [])) job.number ⊎ IsQueued crossing world (parcel_of job)
 
   ends : (command : Command) → MayRun crossing world command → Ends command (verdict world.sender command)
-  ends command may = by-verdict (verdict world.sender command) refl (stays world.sender command job there)
+  ends command may = by_verdict (verdict world.sender command) refl (stays world.sender command job there)
     where
-      by-verdict : (v : Option Refusal) → verdict world.sender command ≡ v → (lets_go command job ≡ false → IsAmong (after_verdict v world.sender command).0.jobs job) → Ends command v
-      by-verdict (Some refusal) e stay = inl (record { later = job; there = there; same = record { number = refl; system = refl; user = refl; kind = refl; bytes = refl } })
-      by-verdict None e stay = by-test (lets_go command job) refl
+      by_verdict : (v : Option Refusal) → verdict world.sender command ≡ v → (lets_go command job ≡ false → IsAmong (after_verdict v world.sender command).0.jobs job) → Ends command v
+      by_verdict (Some refusal) e stay = inl (record { later = job; there = there; same = record { number = refl; system = refl; user = refl; kind = refl; bytes = refl } })
+      by_verdict None e stay = by-test (lets_go command job) refl
         where
           by-test : (t : Bool) → lets_go command job ≡ t → Ends command None
           by-test false f = inl (stay f)
-          by-test true f = inr (elim (gone-by command may e f) [
+          by-test true f = inr (elim (gone_by command may e f) [
             | inl killed ↦ inl (Contains-append_right world.killed (kills_in (command ∷ [])) job.number killed)
             | inr queued ↦ inr queued
           ])
 
 -- the same, of a job that was the same before
-carried-back : (crossing : Crossing) (world : World) (job later : Job) → IsSameJob job later → IsNotLost crossing world later → IsNotLost crossing world job
-carried-back crossing world job later same (inl among) = inl (record {
+carried_back : (crossing : Crossing) (world : World) (job later : Job) → IsSameJob job later → IsNotLost crossing world later → IsNotLost crossing world job
+carried_back crossing world job later same (inl among) = inl (record {
   later = among.later;
   there = among.there;
   same = record { number = among.same.number ∙ same.number; system = among.same.system ∙ same.system; user = among.same.user ∙ same.user; kind = among.same.kind ∙ same.kind; bytes = among.same.bytes ∙ same.bytes };
 })
-carried-back crossing world job later same (inr (inl killed)) = inr (inl (subst (Contains world.killed) same.number killed))
-carried-back crossing world job later same (inr (inr queued)) = inr (inr (subst (IsQueued crossing world) (same_parcel job later same) queued))
+carried_back crossing world job later same (inr (inl killed)) = inr (inl (subst (Contains world.killed) same.number killed))
+carried_back crossing world job later same (inr (inr queued)) = inr (inr (subst (IsQueued crossing world) (same_parcel job later same) queued))
 
 -- a step leaves a job accounted for that waits
-waits-on : (crossing : Crossing) (world : World) (step : Step) (job : Job) → Holds crossing world → MayGo crossing world step → Contains world.sender.jobs job → job.system ≡ crossing.to → IsNotLost crossing (go crossing world step) job
-waits-on crossing world (SenderRuns command) job h may there own = elim (ends crossing world h job there own command may) [
+waits_on : (crossing : Crossing) (world : World) (step : Step) (job : Job) → Holds crossing world → MayGo crossing world step → Contains world.sender.jobs job → job.system ≡ crossing.to → IsNotLost crossing (go crossing world step) job
+waits_on crossing world (SenderRuns command) job h may there own = elim (ends crossing world h job there own command may) [
   | inl among ↦ inl among
   | inr rest ↦ (elim rest [
     | inl killed ↦ inr (inl killed)
     | inr queued ↦ inr (inr (record { handed = queued.handed; there = queued.there; of = queued.of }))
   ])
 ]
-waits-on crossing world (SenderShows shown) job h may there own = inl (record { later = job; there = there; same = record { number = refl; system = refl; user = refl; kind = refl; bytes = refl } })
-waits-on crossing world (SenderSays below) job h may there own = inl (record { later = job; there = there; same = record { number = refl; system = refl; user = refl; kind = refl; bytes = refl } })
-waits-on crossing world (ReceiverTakes parcel new) job h may there own = inl (record { later = job; there = there; same = record { number = refl; system = refl; user = refl; kind = refl; bytes = refl } })
-waits-on crossing world (ReceiverRuns command) job h may there own = inl (record { later = job; there = there; same = record { number = refl; system = refl; user = refl; kind = refl; bytes = refl } })
-waits-on crossing world (ReceiverTells number) job h may there own = inl (record { later = job; there = there; same = record { number = refl; system = refl; user = refl; kind = refl; bytes = refl } })
+waits_on crossing world (SenderShows shown) job h may there own = inl (record { later = job; there = there; same = record { number = refl; system = refl; user = refl; kind = refl; bytes = refl } })
+waits_on crossing world (SenderSays below) job h may there own = inl (record { later = job; there = there; same = record { number = refl; system = refl; user = refl; kind = refl; bytes = refl } })
+waits_on crossing world (ReceiverTakes parcel new) job h may there own = inl (record { later = job; there = there; same = record { number = refl; system = refl; user = refl; kind = refl; bytes = refl } })
+waits_on crossing world (ReceiverRuns command) job h may there own = inl (record { later = job; there = there; same = record { number = refl; system = refl; user = refl; kind = refl; bytes = refl } })
+waits_on crossing world (ReceiverTells number) job h may there own = inl (record { later = job; there = there; same = record { number = refl; system = refl; user = refl; kind = refl; bytes = refl } })
 
-still-killed : (crossing : Crossing) (world : World) (step : Step) (number : ℕ) → Contains world.killed number → Contains (go crossing world step).killed number
-still-killed crossing world (SenderRuns command) number there = Contains-append_left world.killed (kills_in (accepted_of world.sender (command ∷ []))) number there
-still-killed crossing world (SenderShows job) number there = there
-still-killed crossing world (SenderSays below) number there = there
-still-killed crossing world (ReceiverTakes parcel new) number there = there
-still-killed crossing world (ReceiverRuns command) number there = there
-still-killed crossing world (ReceiverTells told) number there = there
+still_killed : (crossing : Crossing) (world : World) (step : Step) (number : ℕ) → Contains world.killed number → Contains (go crossing world step).killed number
+still_killed crossing world (SenderRuns command) number there = Contains-append_left world.killed (kills_in (accepted_of world.sender (command ∷ []))) number there
+still_killed crossing world (SenderShows job) number there = there
+still_killed crossing world (SenderSays below) number there = there
+still_killed crossing world (ReceiverTakes parcel new) number there = there
+still_killed crossing world (ReceiverRuns command) number there = there
+still_killed crossing world (ReceiverTells told) number there = there
 
-still-queued : (crossing : Crossing) (world : World) (step : Step) (parcel : Parcel) → IsQueued crossing world parcel → IsQueued crossing (go crossing world step) parcel
-still-queued crossing world (SenderRuns command) parcel q = record { handed = q.handed; there = q.there; of = q.of }
-still-queued crossing world (SenderShows job) parcel q = record { handed = q.handed; there = q.there; of = q.of }
-still-queued crossing world (SenderSays below) parcel q = record { handed = q.handed; there = q.there; of = q.of }
-still-queued crossing world (ReceiverTakes other new) parcel q =
+still_queued : (crossing : Crossing) (world : World) (step : Step) (parcel : Parcel) → IsQueued crossing world parcel → IsQueued crossing (go crossing world step) parcel
+still_queued crossing world (SenderRuns command) parcel q = record { handed = q.handed; there = q.there; of = q.of }
+still_queued crossing world (SenderShows job) parcel q = record { handed = q.handed; there = q.there; of = q.of }
+still_queued crossing world (SenderSays below) parcel q = record { handed = q.handed; there = q.there; of = q.of }
+still_queued crossing world (ReceiverTakes other new) parcel q =
     record { handed = q.handed; there = Contains-append_left world.handed (map (handed_for other) (added world.receiver (after world.receiver (QueueOnce (key_of crossing other) new)).0)) q.handed q.there; of = q.of }
-still-queued crossing world (ReceiverRuns command) parcel q = record { handed = q.handed; there = q.there; of = q.of }
-still-queued crossing world (ReceiverTells number) parcel q = record { handed = q.handed; there = q.there; of = q.of }
+still_queued crossing world (ReceiverRuns command) parcel q = record { handed = q.handed; there = q.there; of = q.of }
+still_queued crossing world (ReceiverTells number) parcel q = record { handed = q.handed; there = q.there; of = q.of }
 
 pub accounted : (crossing : Crossing) (world : World) (steps : List Step) (job : Job) → Holds crossing world → MayGoOn crossing world steps → job.system ≡ crossing.to → IsNotLost crossing world job → IsNotLost crossing (world_after crossing world steps) job
 accounted crossing world [] job h may own was = was
@@ -247,9 +247,9 @@ accounted crossing world (step ∷ steps) job h may own was =
     accounted crossing (go crossing world step) steps job (holds_after crossing world step h may.0) may.1 own (by-case was)
   where
     by-case : IsNotLost crossing world job → IsNotLost crossing (go crossing world step) job
-    by-case (inl among) = carried-back crossing (go crossing world step) job among.later among.same (waits-on crossing world step among.later h may.0 among.there (among.same.system ∙ own))
-    by-case (inr (inl killed)) = inr (inl (still-killed crossing world step job.number killed))
-    by-case (inr (inr queued)) = inr (inr (still-queued crossing world step (parcel_of job) queued))
+    by-case (inl among) = carried_back crossing (go crossing world step) job among.later among.same (waits_on crossing world step among.later h may.0 among.there (among.same.system ∙ own))
+    by-case (inr (inl killed)) = inr (inl (still_killed crossing world step job.number killed))
+    by-case (inr (inr queued)) = inr (inr (still_queued crossing world step (parcel_of job) queued))
 
 pub never_lost : (crossing : Crossing) (world : World) (steps : List Step) (job : Job) → Holds crossing world → MayGoOn crossing world steps → Contains world.sender.jobs job → job.system ≡ crossing.to → IsNotLost crossing (world_after crossing world steps) job
 never_lost crossing world steps job h may there own =
@@ -258,8 +258,8 @@ never_lost crossing world steps job h may there own =
 -- ---- a job that waits may cross
 
 -- a report of one job that waits for the system is accepted
-pub done-accepted : (state : State) (system : List ℕ) (job : Job) → AllPairs (λ (a b : Job). a.number < b.number) state.jobs → has_system state system ≡ true → Contains state.jobs job → job.system ≡ system → first_reason (done_reasons (has_system state system) system (job.number ∷ []) (map head_of state.jobs)) ≡ None
-done-accepted state system job rising known there own =
+pub done_accepted : (state : State) (system : List ℕ) (job : Job) → AllPairs (λ (a b : Job). a.number < b.number) state.jobs → has_system state system ≡ true → Contains state.jobs job → job.system ≡ system → first_reason (done_reasons (has_system state system) system (job.number ∷ []) (map head_of state.jobs)) ≡ None
+done_accepted state system job rising known there own =
     ap (λ t. first_reason ((false, TooLarge) ∷ (not t, NoSystem) ∷ (is_missing_one numbers heads, NoJob) ∷ (false, JobTwice) ∷ (has_other system numbers heads, OtherSystem) ∷ [])) known
     ∙ ap (λ t. first_reason ((not t || false, NoJob) ∷ (false, JobTwice) ∷ (has_other system numbers heads, OtherSystem) ∷ [])) found
     ∙ ap (λ t. first_reason ((t, OtherSystem) ∷ [])) (by-test (has_other system numbers heads) refl)
@@ -280,9 +280,9 @@ done-accepted state system job rising known there own =
     and-both true b e = (refl, e)
     and-both false b e = absurd (cc)
 
-    or-first : (a : Bool) → a || false ≡ true → a ≡ true
-    or-first true e = refl
-    or-first false e = absurd (cc)
+    or_first : (a : Bool) → a || false ≡ true → a ≡ true
+    or_first true e = refl
+    or_first false e = absurd (cc)
 
     turned : (t : Bool) → not t ≡ true → t ≡ false
     turned true e = absurd (cc)
@@ -294,13 +294,13 @@ done-accepted state system job rising known there own =
         let one = passing_one (λ (other : JobHead). list_any (λ number. number == other.number) (job.number ∷ []) && not (same_text other.system system)) (map head_of state.jobs) e in
         let from = from_map head_of state.jobs one.0 one.1 in
         let both = and-both (list_any (λ number. number == one.0.number) (job.number ∷ [])) (not (same_text one.0.system system)) one.2 in
-        let number : job.number ≡ one.0.number = eqb-true job.number one.0.number (or-first (job.number == one.0.number) both.0) in
+        let number : job.number ≡ one.0.number = eqb-true job.number one.0.number (or_first (job.number == one.0.number) both.0) in
         let same : job ≡ from.0 = one_of_number state.jobs job from.0 rising there from.1 (number ∙ sym (ap (λ (head : JobHead). head.number) from.2)) in
         let system_is : one.0.system ≡ system = sym (ap (λ (head : JobHead). head.system) from.2) ∙ sym (ap (λ (j : Job). j.system) same) ∙ own in
         absurd (apart ((bytes_decides one.0.system system).1 system_is) (turned (same_text one.0.system system) both.1))
 
-pub done-gone : (state : State) (system : List ℕ) (at : Moment) (job : Job) → verdict state (Done system at (job.number ∷ [])) ≡ None → ¬ IsAmong (after state (Done system at (job.number ∷ []))).0.jobs job
-done-gone state system at job e among =
+pub done_gone : (state : State) (system : List ℕ) (at : Moment) (job : Job) → verdict state (Done system at (job.number ∷ [])) ≡ None → ¬ IsAmong (after state (Done system at (job.number ∷ []))).0.jobs job
+done_gone state system at job e among =
     let inside = subst (λ v. Contains (after_verdict v state (Done system at (job.number ∷ []))).0.jobs among.later) e among.there in
     let kept = from_filter (λ (other : Job). not (is_among (job.number ∷ []) other)) state.jobs among.later inside in
     left (job.number == among.later.number) (same job.number among.later.number among.same.number) kept.1
@@ -335,7 +335,7 @@ module _ (crossing : Crossing) (world : World) (job : Job) (new : NewJob) (at : 
 
     told : Contains two.answered job.number
     told =
-        let reply : (after world.receiver hand-in).1 ≡ Number (number_of (hand_in world.receiver (key_of crossing parcel))) = ap (λ (p : State × Reply). p.1) (carried world.receiver hand-in accepted) in
+        let reply : (after world.receiver hand-in).1 ≡ Number (hand_in_number (hand_in world.receiver (key_of crossing parcel))) = ap (λ (p : State × Reply). p.1) (carried world.receiver hand-in accepted) in
         subst (λ r. Contains (world.answered ++ answer_to parcel r) job.number) (sym reply) (Contains-append_right world.answered (job.number ∷ []) job.number (first_of job.number []))
 
     first : Holds crossing one
@@ -345,7 +345,7 @@ module _ (crossing : Crossing) (world : World) (job : Job) (new : NewJob) (at : 
     second = holds_after crossing one (ReceiverTakes parcel new) first (shown, made)
 
     reported : verdict world.sender report ≡ None
-    reported = done-accepted world.sender crossing.to job h.sender_order.rising knows there own
+    reported = done_accepted world.sender crossing.to job h.sender_order.rising knows there own
 
     answers : (system_is : crossing.to ≡ crossing.to) → All (Contains two.answered) (job.number ∷ [])
     answers system_is = All-cons (Contains two.answered) job.number [] told (All-nil (Contains two.answered))
@@ -354,37 +354,37 @@ module _ (crossing : Crossing) (world : World) (job : Job) (new : NewJob) (at : 
     may_cross = record {
       steps = SenderShows job ∷ ReceiverTakes parcel new ∷ SenderRuns report ∷ [];
       may_go = ((there, own), ((shown, made), (answers, tt)));
-      queued = still-queued crossing two (SenderRuns report) parcel (was-queued crossing two second job there own told);
-      gone = done-gone world.sender crossing.to at job reported;
+      queued = still_queued crossing two (SenderRuns report) parcel (was_queued crossing two second job there own told);
+      gone = done_gone world.sender crossing.to at job reported;
     }
 
 -- ---- what the sender may say
 
 -- in the order of the numbers the first that passes has the least
-first-least : (p : Job → Bool) (jobs : List Job) (job : Job) → AllPairs (λ (a b : Job). a.number < b.number) jobs → find p jobs ≡ Some job → (other : Job) → Contains jobs other → p other ≡ true → job.number ≤ other.number
-first-least p [] job rising e other there own = absurd (none_in other there)
-first-least p (one ∷ jobs) job rising e other there own = by-test (p one) refl e (first_or_later one other jobs there) (λ f later. first-least p jobs job (pairs-rest R one jobs rising) f other later own)
+first_least : (p : Job → Bool) (jobs : List Job) (job : Job) → AllPairs (λ (a b : Job). a.number < b.number) jobs → find p jobs ≡ Some job → (other : Job) → Contains jobs other → p other ≡ true → job.number ≤ other.number
+first_least p [] job rising e other there own = absurd (none_in other there)
+first_least p (one ∷ jobs) job rising e other there own = by-test (p one) refl e (first_or_later one other jobs there) (λ f later. first_least p jobs job (pairs_rest R one jobs rising) f other later own)
   where
     R : Job → Job → Type 0
     R a b = a.number < b.number
 
     by-test : (t : Bool) → p one ≡ t → cond t (Some one) (find p jobs) ≡ Some job → (one ≡ other) ⊎ Contains jobs other → (find p jobs ≡ Some job → Contains jobs other → job.number ≤ other.number) → job.number ≤ other.number
     by-test true f e (inl same) again = let first : one ≡ job = cc in let a = ap (λ (j : Job). j.number) first in let b = ap (λ (j : Job). j.number) same in omega arith
-    by-test true f e (inr later) again = let first : one ≡ job = cc in let a = ap (λ (j : Job). j.number) first in let l = All-contains (R one) jobs other (pairs-first R one jobs rising) later in omega arith
+    by-test true f e (inr later) again = let first : one ≡ job = cc in let a = ap (λ (j : Job). j.number) first in let l = All-contains (R one) jobs other (pairs_first R one jobs rising) later in omega arith
     by-test false f e (inl same) again = absurd (apart (ap p same ∙ own) f)
     by-test false f e (inr later) again = again e later
 
 pub least_waiting : (crossing : Crossing) (sender : State) → IsInOrder sender → IsLeast crossing sender (least_of crossing sender)
-least_waiting crossing sender h = by-first (find (λ (job : Job). same_text job.system crossing.to) sender.jobs) refl
+least_waiting crossing sender h = by_first (find (λ (job : Job). same_text job.system crossing.to) sender.jobs) refl
   where
-    by-first : (o : Option Job) → find (λ (job : Job). same_text job.system crossing.to) sender.jobs ≡ o → IsLeast crossing sender (unwrap_or (option_map (λ (job : Job). job.number) o) sender.next)
-    by-first None e = record {
+    by_first : (o : Option Job) → find (λ (job : Job). same_text job.system crossing.to) sender.jobs ≡ o → IsLeast crossing sender (unwrap_or (option_map (λ (job : Job). job.number) o) sender.next)
+    by_first None e = record {
       now = all_from (λ (job : Job). job.system ≡ crossing.to → sender.next ≤ job.number) sender.jobs
           (λ job there own. absurd (apart (some_passes (λ (j : Job). same_text j.system crossing.to) sender.jobs job there ((bytes_decides job.system crossing.to).1 own)) (find-none (λ (j : Job). same_text j.system crossing.to) sender.jobs e)));
       later = omega arith;
     }
-    by-first (Some first) e = record {
+    by_first (Some first) e = record {
       now = all_from (λ (job : Job). job.system ≡ crossing.to → first.number ≤ job.number) sender.jobs
-          (λ job there own. first-least (λ (j : Job). same_text j.system crossing.to) sender.jobs first h.rising e job there ((bytes_decides job.system crossing.to).1 own));
-      later = let l = All-contains (λ (j : Job). j.number < sender.next) sender.jobs first h.below_next (find-there (λ (j : Job). same_text j.system crossing.to) sender.jobs first e).0 in omega arith;
+          (λ job there own. first_least (λ (j : Job). same_text j.system crossing.to) sender.jobs first h.rising e job there ((bytes_decides job.system crossing.to).1 own));
+      later = let l = All-contains (λ (j : Job). j.number < sender.next) sender.jobs first h.below_next (find_there (λ (j : Job). same_text j.system crossing.to) sender.jobs first e).0 in omega arith;
     }

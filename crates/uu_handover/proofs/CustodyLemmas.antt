@@ -11,13 +11,13 @@ use Rattle.uu_core.specs.declared.job.NewJob.{NewJob}
 use Rattle.uu_core.specs.declared.refusal.Refusal.{Refusal}
 use Rattle.uu_core.specs.State.{State, Job, Link, same_text, link_of}
 use Rattle.uu_core.specs.Verdict.{verdict}
-use Rattle.uu_core.specs.After.{after, after_verdict, accept, with_job, with_taken, forgotten, hand_in, take_in}
+use Rattle.uu_core.specs.After.{after, after_verdict, accept, with_job, with_taken, forgotten, hand_in, with_job_once}
 use Rattle.uu_core.specs.Laws.{IsSameJob, IsHandedIn}
 use Rattle.uu_core.specs.Order.{IsInOrder}
 use Rattle.uu_handover.specs.Custody.{Parcel, parcel_of, Crossing, IsLeast, is_of_others}
 use Rattle.uu_core.proofs.Members.{first_or_later, none_in}
 use Rattle.uu_core.proofs.LinkLemmas.{link_own, link_other, link_kept, forgotten_says, name_is}
-use Rattle.uu_core.proofs.WellFormedLemmas.{pairs-first, pairs-rest}
+use Rattle.uu_core.proofs.WellFormedLemmas.{pairs_first, pairs_rest}
 use Rattle.uu_core.proofs.RunLemmas.{next-run}
 use Rattle.uu_core.proofs.JobLemmas.{handed_in}
 
@@ -33,13 +33,13 @@ not_true false e = refl
 -- two jobs of one number are one
 pub one_of_number : (jobs : List Job) (one other : Job) → AllPairs (λ (a b : Job). a.number < b.number) jobs → Contains jobs one → Contains jobs other → one.number ≡ other.number → one ≡ other
 one_of_number [] one other rising a b same = absurd (none_in one a)
-one_of_number (job ∷ jobs) one other rising a b same = by-place (first_or_later job one jobs a) (first_or_later job other jobs b) (one_of_number jobs one other (pairs-rest R job jobs rising))
+one_of_number (job ∷ jobs) one other rising a b same = by-place (first_or_later job one jobs a) (first_or_later job other jobs b) (one_of_number jobs one other (pairs_rest R job jobs rising))
   where
     R : Job → Job → Type 0
     R first second = first.number < second.number
 
     before : (later : Job) → Contains jobs later → job.number < later.number
-    before later there = All-contains (R job) jobs later (pairs-first R job jobs rising) there
+    before later there = All-contains (R job) jobs later (pairs_first R job jobs rising) there
 
     by-place : (job ≡ one) ⊎ Contains jobs one → (job ≡ other) ⊎ Contains jobs other → (Contains jobs one → Contains jobs other → one.number ≡ other.number → one ≡ other) → one ≡ other
     by-place (inl p) (inl q) again = sym p ∙ q
@@ -63,8 +63,8 @@ pub record IsShown (sender : State) (parcel : Parcel) : Type 0 where
   pub same : (job : Job) → Contains sender.jobs job → job.number ≡ parcel.number → parcel_of job ≡ parcel
 
 -- a job that a command hands in has the next number
-handed-number : (state : State) (command : Command) (job : Job) → IsHandedIn state command job → job.number ≡ state.next
-handed-number state command job it = ap (λ (j : Job). j.number) it.job_is
+handed_number : (state : State) (command : Command) (job : Job) → IsHandedIn state command job → job.number ≡ state.next
+handed_number state command job it = ap (λ (j : Job). j.number) it.job_is
 
 pub rises : (state : State) (command : Command) → state.next ≤ (after state command).0.next
 rises state command = next-run state (command ∷ [])
@@ -74,7 +74,7 @@ still_shown sender command parcel h = record {
   used = omega (arith, rises sender command, h.used);
   same = λ job there is. elim (handed_in sender command job there) [
     | inl among ↦ (sym (same_parcel job among.later among.same) ∙ h.same among.later among.there (among.same.number ∙ is))
-    | inr made ↦ absurd (let n = handed-number sender command job made in let u = h.used in omega (arith, n, u, is))
+    | inr made ↦ absurd (let n = handed_number sender command job made in let u = h.used in omega (arith, n, u, is))
   ];
 }
 
@@ -95,7 +95,7 @@ still_least crossing sender command below h = record {
     waits : (job : Job) → Contains (after sender command).0.jobs job → job.system ≡ crossing.to → below ≤ job.number
     waits job there own = elim (handed_in sender command job there) [
       | inl among ↦ (let l = All-contains (λ (j : Job). j.system ≡ crossing.to → below ≤ j.number) sender.jobs among.later h.now among.there (among.same.system ∙ own) in let n = among.same.number in omega (arith, l, n))
-      | inr made ↦ (let n = handed-number sender command job made in let l = h.later in omega (arith, n, l))
+      | inr made ↦ (let n = handed_number sender command job made in let l = h.later in omega (arith, n, l))
     ]
 
 pub least_below : (crossing : Crossing) (sender : State) (low high : ℕ) → low ≤ high → IsLeast crossing sender high → IsLeast crossing sender low
@@ -120,13 +120,13 @@ least_zero crossing sender = record { now = all_from (λ (job : Job). job.system
 abbrev pub LinkAfter : List ℕ → State → Command → Link → Type 0
 LinkAfter name state command link = (link ≡ link_of state name) ⊎ ((below : ℕ) × (system : List ℕ) × (command ≡ Forget system below) × (system ≡ name) × (link ≡ forgotten below (link_of state name)))
 
-link-once : (crossing : Crossing) (state : State) (key : Key) (job : NewJob) (comes : HandIn) → same_text key.from crossing.from ≡ false → link_of (take_in comes key job state) crossing.from ≡ link_of state crossing.from
-link-once crossing state key job (First number) differs =
+link_once : (crossing : Crossing) (state : State) (key : Key) (job : NewJob) (comes : HandIn) → same_text key.from crossing.from ≡ false → link_of (with_job_once comes key job state) crossing.from ≡ link_of state crossing.from
+link_once crossing state key job (First number) differs =
     link_other (with_job job state) crossing.from (with_taken (record { number = key.number; mark = key.mark; job = number }) (link_of state key.from)) (ap (λ n. same_text n crossing.from) (name_is state key.from) ∙ differs)
-link-once crossing state key job (Again number) differs = refl
+link_once crossing state key job (Again number) differs = refl
 
-link-forget : (crossing : Crossing) (state : State) (system : List ℕ) (below : ℕ) → LinkAfter crossing.from state (Forget system below) (link_of (accept state (Forget system below)) crossing.from)
-link-forget crossing state system below = by-test (same_text system crossing.from) refl
+link_forget : (crossing : Crossing) (state : State) (system : List ℕ) (below : ℕ) → LinkAfter crossing.from state (Forget system below) (link_of (accept state (Forget system below)) crossing.from)
+link_forget crossing state system below = by-test (same_text system crossing.from) refl
   where
     by-test : (t : Bool) → same_text system crossing.from ≡ t → LinkAfter crossing.from state (Forget system below) (link_of (accept state (Forget system below)) crossing.from)
     by-test false e = inl (link_other state crossing.from (forgotten below (link_of state system)) (ap (λ n. same_text n crossing.from) (name_is state system) ∙ e))
@@ -136,23 +136,23 @@ link-forget crossing state system below = by-test (same_text system crossing.fro
         let now : link_of (accept state (Forget system below)) crossing.from ≡ new = link_own state crossing.from new (name_is state system ∙ own) (λ silent. forgotten_says below (link_of state system) silent ∙ ap (link_of state) own) in
         inr (below, system, refl, own, now ∙ ap (λ n. forgotten below (link_of state n)) own)
 
-link-accept : (crossing : Crossing) (state : State) (command : Command) → is_of_others crossing command ≡ true → LinkAfter crossing.from state command (link_of (accept state command) crossing.from)
-link-accept crossing state (Define def) e = inl refl
-link-accept crossing state (Remove name) e = inl (link_kept state crossing.from name (not_true (same_text name crossing.from) e))
-link-accept crossing state (Queue job) e = inl refl
-link-accept crossing state (QueueOnce key job) e = inl (link-once crossing state key job (hand_in state key) (not_true (same_text key.from crossing.from) e))
-link-accept crossing state (Kill job by) e = inl refl
-link-accept crossing state (Regrade job grade by) e = inl refl
-link-accept crossing state (Rejuvenate job at by) e = inl refl
-link-accept crossing state (Failed system at why) e = inl refl
-link-accept crossing state (Done system at jobs) e = inl refl
-link-accept crossing state (Release system jobs) e = inl refl
-link-accept crossing state (Entry bytes) e = inl refl
-link-accept crossing state (Forget system below) e = link-forget crossing state system below
+link_accept : (crossing : Crossing) (state : State) (command : Command) → is_of_others crossing command ≡ true → LinkAfter crossing.from state command (link_of (accept state command) crossing.from)
+link_accept crossing state (Define def) e = inl refl
+link_accept crossing state (Remove name) e = inl (link_kept state crossing.from name (not_true (same_text name crossing.from) e))
+link_accept crossing state (Queue job) e = inl refl
+link_accept crossing state (QueueOnce key job) e = inl (link_once crossing state key job (hand_in state key) (not_true (same_text key.from crossing.from) e))
+link_accept crossing state (Kill job by) e = inl refl
+link_accept crossing state (Regrade job grade by) e = inl refl
+link_accept crossing state (Rejuvenate job at by) e = inl refl
+link_accept crossing state (Failed system at why) e = inl refl
+link_accept crossing state (Done system at jobs) e = inl refl
+link_accept crossing state (Release system jobs) e = inl refl
+link_accept crossing state (Entry bytes) e = inl refl
+link_accept crossing state (Forget system below) e = link_forget crossing state system below
 
 pub link_after : (crossing : Crossing) (state : State) (command : Command) → is_of_others crossing command ≡ true → LinkAfter crossing.from state command (link_of (after state command).0 crossing.from)
-link_after crossing state command e = by-verdict (verdict state command)
+link_after crossing state command e = by_verdict (verdict state command)
   where
-    by-verdict : (v : Option Refusal) → LinkAfter crossing.from state command (link_of (after_verdict v state command).0 crossing.from)
-    by-verdict None = link-accept crossing state command e
-    by-verdict (Some refusal) = inl refl
+    by_verdict : (v : Option Refusal) → LinkAfter crossing.from state command (link_of (after_verdict v state command).0 crossing.from)
+    by_verdict None = link_accept crossing state command e
+    by_verdict (Some refusal) = inl refl

@@ -14,19 +14,19 @@ use Rattle.uu_handover.specs.Custody.Step.{SenderRuns, ReceiverRuns}
 use Rattle.uu_handover.specs.Network.{Chart, Network, Move, MayMove, world_of, network_after, opened, IsReachedNetwork, GoesBy, AreNamedApart, by_line, MayArrive}
 use Rattle.uu_handover.specs.Network.Move.{Runs}
 use Rattle.uu_core.proofs.Members.{first_of}
-use Rattle.uu_core.proofs.WellFormedLemmas.{still-empty}
+use Rattle.uu_core.proofs.WellFormedLemmas.{still_empty}
 use Rattle.uu_handover.proofs.NetworkLaws.{holds_all}
 use Rattle.uu_handover.proofs.NetworkArrival.{arrives}
 
 -- a site's own command, which no line has a say in
 module _ (chart : Chart) (network : Network) (site : ℕ) (command : Command) (sends : (crossing : Crossing) (world : World) → MayRun crossing world command) (gets : (crossing : Crossing) → is_of_others crossing command ≡ true) where
-  may-run : MayMove chart network (Runs site command)
-  may-run line = by-ends (chart.begins line == site) (chart.ends line == site)
+  may_run : MayMove chart network (Runs site command)
+  may_run line = by_ends (chart.begins line == site) (chart.ends line == site)
     where
-      by-ends : (s t : Bool) → MayGoOn (chart.crossing line) (world_of chart network line) (cond s (SenderRuns command ∷ []) (cond t (ReceiverRuns command ∷ []) []))
-      by-ends true t = (sends (chart.crossing line) (world_of chart network line), tt)
-      by-ends false true = (gets (chart.crossing line), tt)
-      by-ends false false = tt
+      by_ends : (s t : Bool) → MayGoOn (chart.crossing line) (world_of chart network line) (cond s (SenderRuns command ∷ []) (cond t (ReceiverRuns command ∷ []) []))
+      by_ends true t = (sends (chart.crossing line) (world_of chart network line), tt)
+      by_ends false true = (gets (chart.crossing line), tt)
+      by_ends false false = tt
 
 -- what duke makes of a letter goes on to unc, and what unc makes of it to joe's machine
 abbrev crossing : ℕ → Crossing
@@ -74,19 +74,19 @@ module _ (monday : Moment) where
     sites = λ site. empty;
     moves = setup;
     apart = far;
-    sites_are = λ site. still-empty;
+    sites_are = λ site. still_empty;
     nothing_kept = λ line. refl;
     may_move = (
-      may-run chart _ 0 (Define (system (codes "duke"))) (λ c w. tt) (λ c. refl),
+      may_run chart _ 0 (Define (system (codes "duke"))) (λ c w. tt) (λ c. refl),
       (
-        may-run chart _ 1 (Define (system (codes "mysite"))) (λ c w. tt) (λ c. refl),
+        may_run chart _ 1 (Define (system (codes "mysite"))) (λ c w. tt) (λ c. refl),
         (
-          may-run chart _ 1 (Define (system (codes "unc"))) (λ c w. tt) (λ c. refl),
+          may_run chart _ 1 (Define (system (codes "unc"))) (λ c w. tt) (λ c. refl),
           (
-            may-run chart _ 2 (Define (system (codes "duke"))) (λ c w. tt) (λ c. refl),
+            may_run chart _ 2 (Define (system (codes "duke"))) (λ c w. tt) (λ c. refl),
             (
-              may-run chart _ 2 (Define (system (codes "joe"))) (λ c w. tt) (λ c. refl),
-              (may-run chart _ 0 (Queue at-mysite) (λ c w. tt) (λ c. refl), tt),
+              may_run chart _ 2 (Define (system (codes "joe"))) (λ c w. tt) (λ c. refl),
+              (may_run chart _ 0 (Queue at-mysite) (λ c w. tt) (λ c. refl), tt),
             ),
           ),
         ),
@@ -98,12 +98,12 @@ module _ (monday : Moment) where
   it_waits : (before.site 0).jobs ≡ job_of 1 at-mysite ∷ []
   it_waits = refl
 
-  and-first : (a b : Bool) → a && b ≡ true → a ≡ true
-  and-first true b e = refl
-  and-first false b e = absurd (cc)
+  and_first : (a b : Bool) → a && b ≡ true → a ≡ true
+  and_first true b e = refl
+  and_first false b e = absurd (cc)
 
   it_goes_on : GoesBy chart (0 ∷ 1 ∷ []) (job_of 1 at-mysite)
-  it_goes_on = (refl, λ number new made. ((bytes_decides new.system (codes "unc")).0 (and-first (same_text new.system (codes "unc")) (same_text new.bytes (codes "Hello")) made), λ number new made. tt))
+  it_goes_on = (refl, λ number new made. ((bytes_decides new.system (codes "unc")).0 (and_first (same_text new.system (codes "unc")) (same_text new.bytes (codes "Hello")) made), λ number new made. tt))
 
   -- the law says that it may come to unc
   it_may_come : MayArrive chart before 0 (0 ∷ 1 ∷ []) (job_of 1 at-mysite)

@@ -17,7 +17,7 @@ use Rattle.uu_handover.proofs.CustodyLemmas.{one_of_number, rises}
 use Rattle.uu_handover.proofs.CustodyInvariant.{Holds}
 use Rattle.uu_handover.proofs.CustodyRuns.{holds_after}
 use Rattle.uu_handover.proofs.NetworkWorlds.{agrees, seen_one}
-use Rattle.uu_handover.proofs.NetworkLaws.{HoldsAll, holds_all, all_on, once, once-behind}
+use Rattle.uu_handover.proofs.NetworkLaws.{HoldsAll, holds_all, all_on, once, once_behind}
 
 -- ---- what was shown was for the receiver
 
@@ -25,8 +25,8 @@ pub record IsFor (state : State) (to : List ℕ) (parcel : Parcel) : Type 0 wher
   pub used : parcel.number < state.next
   pub for : (job : Job) → Contains state.jobs job → job.number ≡ parcel.number → job.system ≡ to
 
-still-for : (state : State) (to : List ℕ) (command : Command) (parcel : Parcel) → IsFor state to parcel → IsFor (after state command).0 to parcel
-still-for state to command parcel f = record {
+still_for : (state : State) (to : List ℕ) (command : Command) (parcel : Parcel) → IsFor state to parcel → IsFor (after state command).0 to parcel
+still_for state to command parcel f = record {
   used = omega (arith, f.used, rises state command);
   for = λ job there is. elim (handed_in state command job there) [
     | inl among ↦ (sym among.same.system ∙ f.for among.later among.there (among.same.number ∙ is))
@@ -37,23 +37,23 @@ still-for state to command parcel f = record {
 abbrev pub AreFor : Crossing → World → Type 0
 AreFor crossing world = (parcel : Parcel) → Contains world.shown parcel → IsFor world.sender crossing.to parcel
 
-for-step : (crossing : Crossing) (world : World) (step : Step) → Holds crossing world → MayGo crossing world step → AreFor crossing world → AreFor crossing (go crossing world step)
-for-step crossing world (SenderRuns command) h may f parcel there = still-for world.sender crossing.to command parcel (f parcel there)
-for-step crossing world (SenderShows job) h may f parcel there = elim (Contains-push_cases world.shown (parcel_of job) parcel there) [
+for_step : (crossing : Crossing) (world : World) (step : Step) → Holds crossing world → MayGo crossing world step → AreFor crossing world → AreFor crossing (go crossing world step)
+for_step crossing world (SenderRuns command) h may f parcel there = still_for world.sender crossing.to command parcel (f parcel there)
+for_step crossing world (SenderShows job) h may f parcel there = elim (Contains-push_cases world.shown (parcel_of job) parcel there) [
   | inl before ↦ f parcel before
   | inr same ↦ subst (IsFor world.sender crossing.to) same (record {
     used = All-contains (λ (j : Job). j.number < world.sender.next) world.sender.jobs job h.sender_order.below_next may.0;
     for = λ other inside is. ap (λ (j : Job). j.system) (one_of_number world.sender.jobs other job h.sender_order.rising inside may.0 is) ∙ may.1;
   })
 ]
-for-step crossing world (SenderSays below) h may f parcel there = f parcel there
-for-step crossing world (ReceiverTakes other new) h may f parcel there = f parcel there
-for-step crossing world (ReceiverRuns command) h may f parcel there = f parcel there
-for-step crossing world (ReceiverTells number) h may f parcel there = f parcel there
+for_step crossing world (SenderSays below) h may f parcel there = f parcel there
+for_step crossing world (ReceiverTakes other new) h may f parcel there = f parcel there
+for_step crossing world (ReceiverRuns command) h may f parcel there = f parcel there
+for_step crossing world (ReceiverTells number) h may f parcel there = f parcel there
 
-for-on : (crossing : Crossing) (world : World) (steps : List Step) → Holds crossing world → MayGoOn crossing world steps → AreFor crossing world → AreFor crossing (world_after crossing world steps)
-for-on crossing world [] h may f = f
-for-on crossing world (step ∷ steps) h may f = for-on crossing (go crossing world step) steps (holds_after crossing world step h may.0) may.1 (for-step crossing world step h may.0 f)
+for_on : (crossing : Crossing) (world : World) (steps : List Step) → Holds crossing world → MayGoOn crossing world steps → AreFor crossing world → AreFor crossing (world_after crossing world steps)
+for_on crossing world [] h may f = f
+for_on crossing world (step ∷ steps) h may f = for_on crossing (go crossing world step) steps (holds_after crossing world step h may.0) may.1 (for_step crossing world step h may.0 f)
 
 -- ---- what a move shows and hands on anew
 
@@ -61,22 +61,22 @@ for-on crossing world (step ∷ steps) h may f = for-on crossing (go crossing wo
 abbrev pub IsShownNow : Crossing → World → Parcel → Type 0
 IsShownNow crossing world parcel = (job : Job) × Contains world.sender.jobs job × (job.system ≡ crossing.to) × (parcel_of job ≡ parcel)
 
-shows-step : (crossing : Crossing) (world : World) (step : Step) (parcel : Parcel) → MayGo crossing world step → Contains (go crossing world step).shown parcel → Contains world.shown parcel ⊎ IsShownNow crossing world parcel
-shows-step crossing world (SenderRuns command) parcel may there = inl there
-shows-step crossing world (SenderShows job) parcel may there = elim (Contains-push_cases world.shown (parcel_of job) parcel there) [
+shows_step : (crossing : Crossing) (world : World) (step : Step) (parcel : Parcel) → MayGo crossing world step → Contains (go crossing world step).shown parcel → Contains world.shown parcel ⊎ IsShownNow crossing world parcel
+shows_step crossing world (SenderRuns command) parcel may there = inl there
+shows_step crossing world (SenderShows job) parcel may there = elim (Contains-push_cases world.shown (parcel_of job) parcel there) [
   | inl before ↦ inl before
   | inr same ↦ inr (job, may.0, may.1, same)
 ]
-shows-step crossing world (SenderSays below) parcel may there = inl there
-shows-step crossing world (ReceiverTakes other new) parcel may there = inl there
-shows-step crossing world (ReceiverRuns command) parcel may there = inl there
-shows-step crossing world (ReceiverTells number) parcel may there = inl there
+shows_step crossing world (SenderSays below) parcel may there = inl there
+shows_step crossing world (ReceiverTakes other new) parcel may there = inl there
+shows_step crossing world (ReceiverRuns command) parcel may there = inl there
+shows_step crossing world (ReceiverTells number) parcel may there = inl there
 
 shows : (chart : Chart) (line : ℕ) (move : Move) (crossing : Crossing) (world : World) (parcel : Parcel) → MayGoOn crossing world (seen chart line move) → Contains (world_after crossing world (seen chart line move)).shown parcel
     → Contains world.shown parcel ⊎ IsShownNow crossing world parcel
 shows chart line move crossing world parcel =
     seen_one (λ (steps : List Step). MayGoOn crossing world steps → Contains (world_after crossing world steps).shown parcel → Contains world.shown parcel ⊎ IsShownNow crossing world parcel)
-    (λ may there. inl there) (λ step may there. shows-step crossing world step parcel may.0 there) chart line move
+    (λ may there. inl there) (λ step may there. shows_step crossing world step parcel may.0 there) chart line move
 
 -- the move takes a parcel from this line
 abbrev pub TakesAt : Move → ℕ → Type 0
@@ -98,16 +98,16 @@ module _ (chart : Chart) (line : ℕ) (crossing : Crossing) (world : World) (it 
   abbrev IsNew : Move → List Step → Type 0
   IsNew move steps = Contains (world_after crossing world steps).handed it → Contains world.handed it ⊎ ((world.receiver.next ≤ it.job.number) × TakesAt move line)
 
-  none-of-command : (move : Move) (site : ℕ) (command : Command) → IsNew move (seen_of chart line site command)
-  none-of-command move site command = by-ends (chart.begins line == site) (chart.ends line == site)
+  none_of_command : (move : Move) (site : ℕ) (command : Command) → IsNew move (seen_of chart line site command)
+  none_of_command move site command = by_ends (chart.begins line == site) (chart.ends line == site)
     where
-      by-ends : (s t : Bool) → IsNew move (cond s (SenderRuns command ∷ []) (cond t (ReceiverRuns command ∷ []) []))
-      by-ends true t there = inl there
-      by-ends false true there = inl there
-      by-ends false false there = inl there
+      by_ends : (s t : Bool) → IsNew move (cond s (SenderRuns command ∷ []) (cond t (ReceiverRuns command ∷ []) []))
+      by_ends true t there = inl there
+      by_ends false true there = inl there
+      by_ends false false there = inl there
 
   hands : (move : Move) → IsNew move (seen chart line move)
-  hands (Runs site command) there = none-of-command (Runs site command) site command there
+  hands (Runs site command) there = none_of_command (Runs site command) site command there
   hands (Shows other job) there = by-test (other == line) there
     where
       by-test : (t : Bool) → IsNew (Shows other job) (cond t (SenderShows job ∷ []) [])
@@ -126,7 +126,7 @@ module _ (chart : Chart) (line : ℕ) (crossing : Crossing) (world : World) (it 
   hands (Takes other parcel new) there = by-test (other == line) refl there
     where
       by-test : (t : Bool) → other == line ≡ t → IsNew (Takes other parcel new) (cond t (ReceiverTakes parcel new ∷ []) (seen_of chart line (chart.ends other) (QueueOnce (key_of (chart.crossing other) parcel) new)))
-      by-test false e there = none-of-command (Takes other parcel new) (chart.ends other) (QueueOnce (key_of (chart.crossing other) parcel) new) there
+      by-test false e there = none_of_command (Takes other parcel new) (chart.ends other) (QueueOnce (key_of (chart.crossing other) parcel) new) there
       by-test true e there = elim (Contains-append_cases world.handed _ it there) [
         | inl before ↦ inl before
         | inr later ↦ inr (
@@ -149,63 +149,63 @@ pub record OneWay (chart : Chart) (network : Network) : Type 0 where
 module _ (chart : Chart) (far : (line : ℕ) → ¬ (chart.begins line ≡ chart.ends line)) where
   module _ (network : Network) (move : Move) (h : HoldsAll chart network) (w : OneWay chart network) (may : MayMove chart network move) where
     -- a parcel that is shown now beside one that was shown before
-    now-before : (line next : ℕ) → chart.begins line ≡ chart.begins next → (one other : Parcel) → IsShownNow (chart.crossing line) (world_of chart network line) one → Contains (network.wire next).shown other → one.number ≡ other.number
+    now_before : (line next : ℕ) → chart.begins line ≡ chart.begins next → (one other : Parcel) → IsShownNow (chart.crossing line) (world_of chart network line) one → Contains (network.wire next).shown other → one.number ≡ other.number
         → (chart.crossing line).to ≡ (chart.crossing next).to
-    now-before line next joint one other (job, there, own, is) before same =
+    now_before line next joint one other (job, there, own, is) before same =
         sym own ∙ (w.for next other before).for job (subst (λ (s : ℕ). Contains (network.site s).jobs job) joint there) (ap (λ (p : Parcel). p.number) is ∙ same)
 
-    both-now : (line next : ℕ) → chart.begins line ≡ chart.begins next → (one other : Parcel) → IsShownNow (chart.crossing line) (world_of chart network line) one → IsShownNow (chart.crossing next) (world_of chart network next) other → one.number ≡ other.number
+    both_now : (line next : ℕ) → chart.begins line ≡ chart.begins next → (one other : Parcel) → IsShownNow (chart.crossing line) (world_of chart network line) one → IsShownNow (chart.crossing next) (world_of chart network next) other → one.number ≡ other.number
         → (chart.crossing line).to ≡ (chart.crossing next).to
-    both-now line next joint one other (job, there, own, is) (also, where_also, own_also, is_also) same =
+    both_now line next joint one other (job, there, own, is) (also, where_also, own_also, is_also) same =
         sym own
         ∙ ap (λ (j : Job). j.system) (one_of_number (network.site (chart.begins next)).jobs job also (h.each next).sender_order.rising (subst (λ (s : ℕ). Contains (network.site s).jobs job) joint there) where_also
         (ap (λ (p : Parcel). p.number) is ∙ same ∙ sym (ap (λ (p : Parcel). p.number) is_also)))
         ∙ own_also
 
-    to-then : (line next : ℕ) → chart.begins line ≡ chart.begins next → (one other : Parcel) → Contains ((move_on chart network move).wire line).shown one → Contains ((move_on chart network move).wire next).shown other → one.number ≡ other.number
+    to_then : (line next : ℕ) → chart.begins line ≡ chart.begins next → (one other : Parcel) → Contains ((move_on chart network move).wire line).shown one → Contains ((move_on chart network move).wire next).shown other → one.number ≡ other.number
         → (chart.crossing line).to ≡ (chart.crossing next).to
-    to-then line next joint one other there where_other same = by-case (shows chart line move (chart.crossing line) (world_of chart network line) one (may line) there) (shows chart next move (chart.crossing next) (world_of chart network next) other (may next) where_other)
+    to_then line next joint one other there where_other same = by-case (shows chart line move (chart.crossing line) (world_of chart network line) one (may line) there) (shows chart next move (chart.crossing next) (world_of chart network next) other (may next) where_other)
       where
         by-case : Contains (network.wire line).shown one ⊎ IsShownNow (chart.crossing line) (world_of chart network line) one → Contains (network.wire next).shown other ⊎ IsShownNow (chart.crossing next) (world_of chart network next) other
             → (chart.crossing line).to ≡ (chart.crossing next).to
         by-case (inl a) (inl b) = w.same_to line next joint one other a b same
-        by-case (inl a) (inr b) = sym (now-before next line (sym joint) other one b a (sym same))
-        by-case (inr a) (inl b) = now-before line next joint one other a b same
-        by-case (inr a) (inr b) = both-now line next joint one other a b same
+        by-case (inl a) (inr b) = sym (now_before next line (sym joint) other one b a (sym same))
+        by-case (inr a) (inl b) = now_before line next joint one other a b same
+        by-case (inr a) (inr b) = both_now line next joint one other a b same
 
     -- a number that is new at a site differs from those that were handed on there
-    not-before : (line next : ℕ) → chart.ends line ≡ chart.ends next → (one other : Handed) → (network.site (chart.ends line)).next ≤ one.job.number → Contains (network.wire next).handed other → one.job.number ≡ other.job.number → ⊥
-    not-before line next joint one other new before same =
+    not_before : (line next : ℕ) → chart.ends line ≡ chart.ends next → (one other : Handed) → (network.site (chart.ends line)).next ≤ one.job.number → Contains (network.wire next).handed other → one.job.number ≡ other.job.number → ⊥
+    not_before line next joint one other new before same =
         let l = All-contains (λ (it : Handed). it.job.number < (network.site (chart.ends next)).next) (network.wire next).handed other (h.each next).below_next before in
         let n = ap (λ (s : ℕ). (network.site s).next) joint in
         omega (arith, l, n, new, same)
 
-    line-then : (line next : ℕ) → chart.ends line ≡ chart.ends next → (one other : Handed) → Contains ((move_on chart network move).wire line).handed one → Contains ((move_on chart network move).wire next).handed other → one.job.number ≡ other.job.number
+    line_then : (line next : ℕ) → chart.ends line ≡ chart.ends next → (one other : Handed) → Contains ((move_on chart network move).wire line).handed one → Contains ((move_on chart network move).wire next).handed other → one.job.number ≡ other.job.number
         → line ≡ next
-    line-then line next joint one other there where_other same = by-case (hands chart line (chart.crossing line) (world_of chart network line) one move there) (hands chart next (chart.crossing next) (world_of chart network next) other move where_other)
+    line_then line next joint one other there where_other same = by-case (hands chart line (chart.crossing line) (world_of chart network line) one move there) (hands chart next (chart.crossing next) (world_of chart network next) other move where_other)
       where
         by-case : Contains (network.wire line).handed one ⊎ (((network.site (chart.ends line)).next ≤ one.job.number) × TakesAt move line) → Contains (network.wire next).handed other ⊎ (((network.site (chart.ends next)).next ≤ other.job.number) × TakesAt move next)
             → line ≡ next
         by-case (inl a) (inl b) = w.same_line line next joint one other a b same
-        by-case (inl a) (inr b) = absurd (not-before next line (sym joint) other one b.0 a (sym same))
-        by-case (inr a) (inl b) = absurd (not-before line next joint one other a.0 b same)
+        by-case (inl a) (inr b) = absurd (not_before next line (sym joint) other one b.0 a (sym same))
+        by-case (inr a) (inl b) = absurd (not_before line next joint one other a.0 b same)
         by-case (inr a) (inr b) = one-taken move line next a.1 b.1
 
-    way-then : OneWay chart (move_on chart network move)
-    way-then = record {
-      for = λ line. subst (AreFor (chart.crossing line)) (sym (agrees chart network line (far line) move)) (for-on (chart.crossing line) (world_of chart network line) (seen chart line move) (h.each line) (may line) (w.for line));
-      same_to = to-then;
-      same_line = line-then;
+    way_then : OneWay chart (move_on chart network move)
+    way_then = record {
+      for = λ line. subst (AreFor (chart.crossing line)) (sym (agrees chart network line (far line) move)) (for_on (chart.crossing line) (world_of chart network line) (seen chart line move) (h.each line) (may line) (w.for line));
+      same_to = to_then;
+      same_line = line_then;
     }
 
-  way-on : (network : Network) (moves : List Move) → HoldsAll chart network → OneWay chart network → MayMoveOn chart network moves → OneWay chart (network_after chart network moves)
-  way-on network [] h w may = w
-  way-on network (move ∷ moves) h w may = way-on (move_on chart network move) moves (all_on chart far network (move ∷ []) h (may.0, tt)) (way-then network move h w may.0) may.1
+  way_on : (network : Network) (moves : List Move) → HoldsAll chart network → OneWay chart network → MayMoveOn chart network moves → OneWay chart (network_after chart network moves)
+  way_on network [] h w may = w
+  way_on network (move ∷ moves) h w may = way_on (move_on chart network move) moves (all_on chart far network (move ∷ []) h (may.0, tt)) (way_then network move h w may.0) may.1
 
 pub goes_one_way : (chart : Chart) (network : Network) → IsReachedNetwork chart network → OneWay chart network
 goes_one_way chart network r =
     subst (OneWay chart) (sym r.network_is)
-    (way-on chart r.apart (opened r.sites) r.moves
+    (way_on chart r.apart (opened r.sites) r.moves
     (holds_all chart (opened r.sites) (record { sites = r.sites; moves = []; apart = r.apart; sites_are = r.sites_are; nothing_kept = r.nothing_kept; may_move = tt; network_is = refl }))
     (record { for = λ line parcel there. absurd (none_in parcel there); same_to = λ line next joint one other there where_other same. absurd (none_in one there); same_line = λ line next joint one other there where_other same. absurd (none_in one there) })
     r.may_move)
@@ -241,4 +241,4 @@ one_origin chart network h w line next one other joint there where_other same = 
     here = w.same_line line next joint one other there where_other same
 
     behind : (line : ℕ) (one other : Handed) → Contains (network.wire line).handed one → Contains (network.wire line).handed other → one.job.number ≡ other.job.number → one ≡ other
-    behind = once-behind chart network h
+    behind = once_behind chart network h

@@ -13,8 +13,8 @@ use Rattle.uu_core.proofs.Members.{kept, from_filter, some_passes, passing_one}
 use Rattle.uu_handover.proofs.CustodyLemmas.{all_from}
 use Rattle.uu_handover.proofs.BundleLaws.{settled_waits}
 
-eq-is : (a b : ℕ) → a ≡ b → a == b ≡ true
-eq-is a b e = grind (arith, nat_tests)
+eq_is : (a b : ℕ) → a ≡ b → a == b ≡ true
+eq_is a b e = grind (arith, nat_tests)
 
 apart : {t : Bool} → t ≡ true → not t ≡ true → ⊥
 apart {t = true} p q = cc
@@ -24,24 +24,24 @@ both : (a b : Bool) → a ≡ true → b ≡ true → a && b ≡ true
 both true b e f = f
 both false b e f = absurd (cc)
 
-and-first : (a b : Bool) → a && b ≡ true → a ≡ true
-and-first true b e = refl
-and-first false b e = absurd (cc)
+and_first : (a b : Bool) → a && b ≡ true → a ≡ true
+and_first true b e = refl
+and_first false b e = absurd (cc)
 
-and-second : (a b : Bool) → a && b ≡ true → b ≡ true
-and-second true b e = e
-and-second false b e = absurd (cc)
+and_second : (a b : Bool) → a && b ≡ true → b ≡ true
+and_second true b e = e
+and_second false b e = absurd (cc)
 
 -- a job that waits for the system and is named is let go
 pub goes : (system numbers : List ℕ) (job : Job) → Contains numbers job.number → job.system ≡ system → is_released system numbers job ≡ true
 goes system numbers job named own =
-    both (is_among numbers job) (same_text job.system system) (some_passes (λ number. number == job.number) numbers job.number named (eq-is job.number job.number refl)) ((bytes_decides job.system system).1 own)
+    both (is_among numbers job) (same_text job.system system) (some_passes (λ number. number == job.number) numbers job.number named (eq_is job.number job.number refl)) ((bytes_decides job.system system).1 own)
 
 -- and no other is
 pub named : (system numbers : List ℕ) (job : Job) → is_released system numbers job ≡ true → Contains numbers job.number × (job.system ≡ system)
 named system numbers job e =
-    let one = passing_one (λ number. number == job.number) numbers (and-first (is_among numbers job) (same_text job.system system) e) in
-    (subst (Contains numbers) (eqb-true one.0 job.number one.2) one.1, (bytes_decides job.system system).0 (and-second (is_among numbers job) (same_text job.system system) e))
+    let one = passing_one (λ number. number == job.number) numbers (and_first (is_among numbers job) (same_text job.system system) e) in
+    (subst (Contains numbers) (eqb-true one.0 job.number one.2) one.1, (bytes_decides job.system system).0 (and_second (is_among numbers job) (same_text job.system system) e))
 
 pub gone : (state : State) (system numbers : List ℕ) (job : Job) → Contains numbers job.number → job.system ≡ system → ¬ Contains (after state (Release system numbers)).0.jobs job
 gone state system numbers job number own there = apart (goes system numbers job number own) (from_filter (λ (other : Job). not (is_released system numbers other)) state.jobs job there).1

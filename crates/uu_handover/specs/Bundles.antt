@@ -146,7 +146,7 @@ refused_of system make state jobs = flat_map (λ packed. refused_for packed (ver
 
 -- A bundle that answers jobs of the system, as they are sent. Of these it has all that are kept as
 -- taken, and refuses all that would be refused.
-pub record IsAnswer (own system : List ℕ) (mark : Parcel → ℕ) (make : Packed → NewJob) (state : State) (asked : List Packed) (bundle : Bundle) : Type 0 where
+pub record IsAnswerBundle (own system : List ℕ) (mark : Parcel → ℕ) (make : Packed → NewJob) (state : State) (asked : List Packed) (bundle : Bundle) : Type 0 where
   pub said : IsSaid own system mark state bundle
   pub has : bundle.has ≡ asked_of system state asked
   pub refused : bundle.refused ≡ refused_of system make state asked
@@ -185,7 +185,7 @@ pub record IsMadeAnew (made anew : NewJob) : Type 0 where
 
 -- The neighbour, which has this name for the site, unpacked the bundle, and made this of its jobs. In
 -- the state that it had then it answers. For that it makes the jobs anew, at a later second.
-pub record Exchange (bundle : Bundle) : Type 0 where
+pub record BundleExchange (bundle : Bundle) : Type 0 where
   pub from : List ℕ
   pub made : Packed → NewJob
   pub neighbour : State
@@ -196,7 +196,7 @@ pub record Exchange (bundle : Bundle) : Type 0 where
   pub own : List ℕ
   pub marks : Parcel → ℕ
   pub answer : Bundle
-  pub answers : IsAnswer own from marks make later bundle.jobs answer
+  pub answers : IsAnswerBundle own from marks make later bundle.jobs answer
 
 -- it was packed from this job
 pub record IsOfJob (mark : Parcel → ℕ) (job : Job) (packed : Packed) : Type 0 where

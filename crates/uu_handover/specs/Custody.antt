@@ -182,7 +182,7 @@ pub record IsReached (crossing : Crossing) (world : World) : Type 0 where
 -- ---- what is claimed of them
 
 -- this was queued for the parcel: a job that the receiver's program made of it
-pub record IsOf (crossing : Crossing) (parcel : Parcel) (handed : Handed) : Type 0 where
+pub record IsHandedFor (crossing : Crossing) (parcel : Parcel) (handed : Handed) : Type 0 where
   pub number : handed.number ≡ parcel.number
   pub new : NewJob
   pub made : crossing.makes parcel new ≡ true
@@ -192,7 +192,7 @@ pub record IsOf (crossing : Crossing) (parcel : Parcel) (handed : Handed) : Type
 pub record IsQueued (crossing : Crossing) (world : World) (parcel : Parcel) : Type 0 where
   pub handed : Handed
   pub there : Contains world.handed handed
-  pub of : IsOf crossing parcel handed
+  pub of : IsHandedFor crossing parcel handed
 
 -- a job of the sender's waits there, or an accepted command killed it, or the receiver queued it
 abbrev pub IsNotLost : Crossing → World → Job → Type 0

@@ -158,9 +158,9 @@ IsMadeOf chart (line ∷ lines) job last =
 -- If lines lead on from the job, it was not handed on yet, and waits or was killed. If no lines are
 -- left, it has come to the end. (A job that was shown before it was killed may still be taken
 -- later.)
-abbrev pub Rests : Chart → Network → List ℕ → Job → Type 0
-Rests chart network [] job = ⊤
-Rests chart network (line ∷ lines) job =
+abbrev pub IsFurthest : Chart → Network → List ℕ → Job → Type 0
+IsFurthest chart network [] job = ⊤
+IsFurthest chart network (line ∷ lines) job =
     let wire = network.wire line in
     ((handed : Handed) → Contains wire.handed handed → ¬ (handed.number ≡ job.number))
     × (IsAmong (network.site (chart.begins line)).jobs job ⊎ Contains wire.killed job.number)
@@ -168,13 +168,13 @@ Rests chart network (line ∷ lines) job =
 -- Where a message is on its way: the lines that it has crossed, those ahead, and the furthest job
 -- made of it. Jobs before that one may still be at the sites behind, until they are reported as
 -- gone.
-pub record Stands (chart : Chart) (network : Network) (lines : List ℕ) (job : Job) : Type 0 where
+pub record HasPlaceOnTheWay (chart : Chart) (network : Network) (lines : List ℕ) (job : Job) : Type 0 where
   pub crossed : List ℕ
   pub ahead : List ℕ
   pub lines_are : lines ≡ crossed ++ ahead
   pub last : Job
   pub comes : ComesTo network crossed job last
-  pub rests : Rests chart network ahead last
+  pub rests : IsFurthest chart network ahead last
 
 -- ---- that a message may come to the end
 

@@ -5,10 +5,10 @@ ghost use Rattle.uu_core.specs.declared.command.Command.TheVariants.{QueueOnce, 
 ghost use Rattle.uu_times.specs.declared.moment.Moment.{Moment};
 ghost use Rattle.uu_core.specs.declared.job.NewJob.{NewJob};
 ghost use Rattle.uu_core.specs.State.{State, Job, IsWellFormed, has_system};
-ghost use Rattle.uu_handover.specs.Bundles.{Bundle, Told, Packed, packed_of, has_of, AreWaiting, AreSomeWaiting, IsFront, IsSaid, settled_of, settling, Exchange, IsOfJob, GoesOrIsRefused};
-ghost use Rattle.uu_handover.specs.Custody.{Crossing, World, Parcel, Handed, Step, parcel_of, key_of, MayGo, MayGoOn, world_after, IsReached, IsOf, IsQueued, IsNotLost, IsFree, IsLeast, least_of, MayCross};
+ghost use Rattle.uu_handover.specs.Bundles.{Bundle, Told, Packed, packed_of, has_of, AreWaiting, AreSomeWaiting, IsFront, IsSaid, settled_of, settling, BundleExchange, IsOfJob, GoesOrIsRefused};
+ghost use Rattle.uu_handover.specs.Custody.{Crossing, World, Parcel, Handed, Step, parcel_of, key_of, MayGo, MayGoOn, world_after, IsReached, IsHandedFor, IsQueued, IsNotLost, IsFree, IsLeast, least_of, MayCross};
 ghost use Rattle.uu_handover.specs.Custody.Step.{SenderRuns, SenderShows, SenderSays, ReceiverTells};
-ghost use Rattle.uu_handover.specs.Network.{Chart, Network, Move, world_of, MayMoveOn, network_after, IsReachedNetwork, IsRoute, GoesBy, ComesTo, IsMadeOf, Stands, AreNamedApart, by_line, IsWelcome, next_of, IsWelcomeOn, IsAcross, MayArrive};
+ghost use Rattle.uu_handover.specs.Network.{Chart, Network, Move, world_of, MayMoveOn, network_after, IsReachedNetwork, IsRoute, GoesBy, ComesTo, IsMadeOf, HasPlaceOnTheWay, AreNamedApart, by_line, IsWelcome, next_of, IsWelcomeOn, IsAcross, MayArrive};
 ghost use Rattle.uu_core.specs.Verdict.{verdict};
 ghost use Rattle.uu_core.specs.After.{after};
 ghost use Rattle.uu_core.specs.Run.{state_after};
@@ -39,7 +39,7 @@ pub fn handed_on_jobs_come_once()
     ensures answered { (crossing : Crossing) (world : World) (number : ℕ) → IsReached crossing world → Contains world.answered number
         → (handed : Handed) × Contains world.handed handed × (handed.number ≡ number) }
     ensures same { (crossing : Crossing) (world : World) (handed : Handed) → IsReached crossing world → Contains world.handed handed
-        → (parcel : Parcel) × Contains world.shown parcel × IsOf crossing parcel handed }
+        → (parcel : Parcel) × Contains world.shown parcel × IsHandedFor crossing parcel handed }
     ensures gets_through { (crossing : Crossing) (world : World) (job : Job) (new : NewJob) → IsReached crossing world → world.is_heard ≡ true
         → Contains world.sender.jobs job → job.system ≡ crossing.to → IsFree crossing world job new }
     ensures may_say { (crossing : Crossing) (sender : State) → IsWellFormed sender → IsLeast crossing sender (least_of crossing sender) }
@@ -99,11 +99,11 @@ pub fn settled_jobs_may_be_reported()
 /// this holds for all of them (`all`). No job goes that the neighbour didn't take under its number
 /// and its mark (`taken`).
 pub fn jobs_go_or_are_refused()
-    ensures goes { (to : List ℕ) (mark : Parcel → ℕ) (sender : State) (bundle : Bundle) (exchange : Exchange bundle) (packed : Packed) (job : Job)
+    ensures goes { (to : List ℕ) (mark : Parcel → ℕ) (sender : State) (bundle : Bundle) (exchange : BundleExchange bundle) (packed : Packed) (job : Job)
         → Contains bundle.jobs packed → Contains sender.jobs job → job.system ≡ to → IsOfJob mark job packed → GoesOrIsRefused to mark sender exchange.answer job }
-    ensures all { (to : List ℕ) (mark : Parcel → ℕ) (sender : State) (bundle : Bundle) (exchange : Exchange bundle) (waiting : List Job)
+    ensures all { (to : List ℕ) (mark : Parcel → ℕ) (sender : State) (bundle : Bundle) (exchange : BundleExchange bundle) (waiting : List Job)
         → AreWaiting to None None sender waiting → bundle.jobs ≡ map (packed_of mark) waiting → All (GoesOrIsRefused to mark sender exchange.answer) waiting }
-    ensures taken { (to : List ℕ) (mark : Parcel → ℕ) (sender : State) (bundle : Bundle) (exchange : Exchange bundle) (job : Job)
+    ensures taken { (to : List ℕ) (mark : Parcel → ℕ) (sender : State) (bundle : Bundle) (exchange : BundleExchange bundle) (job : Job)
         → IsWellFormed sender → Contains sender.jobs job → ¬ Contains (after sender (settling to mark sender exchange.answer)).0.jobs job
         → Contains (has_of exchange.from exchange.later) (record { number = job.number; mark = mark (parcel_of job) }) }
 {}
@@ -138,8 +138,8 @@ pub fn messages_cross_sites_once()
     ensures onward { (chart : Chart) (network : Network) (moves : List Move) (lines : List ℕ) (job last : Job)
         → ComesTo network lines job last → ComesTo (network_after chart network moves) lines job last }
     ensures never_lost { (chart : Chart) (network : Network) (moves : List Move) (site : ℕ) (lines : List ℕ) (job : Job) → IsReachedNetwork chart network → MayMoveOn chart network moves
-        → IsRoute chart site lines → Contains (network.site site).jobs job → GoesBy chart lines job → Stands chart (network_after chart network moves) lines job }
-    ensures one_place { (chart : Chart) (network : Network) (lines : List ℕ) (job : Job) (one other : Stands chart network lines job) → IsReachedNetwork chart network
+        → IsRoute chart site lines → Contains (network.site site).jobs job → GoesBy chart lines job → HasPlaceOnTheWay chart (network_after chart network moves) lines job }
+    ensures one_place { (chart : Chart) (network : Network) (lines : List ℕ) (job : Job) (one other : HasPlaceOnTheWay chart network lines job) → IsReachedNetwork chart network
         → (one.crossed ≡ other.crossed) × (one.last ≡ other.last) }
     ensures killed { (chart : Chart) (network : Network) (line : ℕ) (job : Job) → IsReachedNetwork chart network → Contains (network.wire line).killed job.number
         → ¬ IsAmong (network.site (chart.begins line)).jobs job }

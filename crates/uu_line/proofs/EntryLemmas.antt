@@ -27,7 +27,7 @@ use Rattle.clap.specs.declared.error.kind.ErrorKind.{ErrorKind}
 use Rattle.clap.specs.declared.error.kind.ErrorKind.TheVariants as kind
 use Rattle.clap.proofs.SimpleLemmas.{is_false, is_nil}
 use Rattle.clap.proofs.WalkLemmas.{both}
-use Rattle.uu_line.specs.Internal.Entries.{AreNumbersUpTo, AreTaken, HasSubcommand, HaveTexts, IsEntered, most_job, most_second, subcommand_named, texts_of}
+use Rattle.uu_line.specs.Internal.Entries.{AreNumbersUpTo, AreLineEntries, HasSubcommand, HaveTexts, IsEntered, most_job, most_second, subcommand_named, texts_of}
 use Rattle.uu_line.specs.Lines.{texts_at}
 use Rattle.uu_line.proofs.StopLemmas.{long_steps, steps_so, step_stops, stops_so}
 use Rattle.uu_line.proofs.UseLemmas.{HoldsIfAny, RowsHold, RulesHold, UsesHold, all_pass, first_passes, is_counting, level_holds, then_passes}
@@ -494,7 +494,7 @@ module _ (b : App) (below : list_all passes_below b.subs ≡ true) (on_top : pas
           below_taken s p.0 p.1 found.1 found.0 well e
 
   pub all_taken : (words : List Text) → built_fault b nothing_held words ≡ []
-      → AreTaken (rows_after b.top.rules (names_of b) words) (entered b (walk b.top.rules (names_of b) nothing_held words).stopped)
+      → AreLineEntries (rows_after b.top.rules (names_of b) words) (entered b (walk b.top.rules (names_of b) nothing_held words).stopped)
   all_taken words e = record {
     texts = (default_text b.top names words (codes "config") has lower e config.0 config.1, (default_text b.top names words (codes "as") has lower e user.0 user.1, tt));
     second = level_numbers b.top names words (codes "at") most_second has lower e second.0;

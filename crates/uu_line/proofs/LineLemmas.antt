@@ -31,19 +31,19 @@ use Rattle.clap.specs.ValueTests.{is_unsigned_in}
 use Rattle.clap.specs.declared.builder.value_parser.ValueParser.TheVariants as vp
 use Rattle.clap.proofs.ValueTestLemmas.{accepts-Accepts}
 use Rattle.clap.proofs.WalkLemmas.{both}
-use Rattle.uu_line.specs.Internal.Entries.{AreNumbersUpTo, AreTaken, HasSubcommand}
+use Rattle.uu_line.specs.Internal.Entries.{AreNumbersUpTo, AreLineEntries, HasSubcommand}
 use Rattle.uu_line.specs.Lines.{texts_at}
-use Rattle.uu_line.specs.Lines.{Answers, AreNumbers, HasEntriesOf, IsAddressFault, IsAnswerTo, IsBadAddress, IsNumber, IsNumberOf, IsWordsOf, Line, Means, MeansEntered, MeansEntries, MeansLineOf, UnlessMemory, and_then, each_of, line_or_fault, named, said, word_of}
+use Rattle.uu_line.specs.Lines.{AnswersUnlessMemory, AreNumbers, HasEntriesOf, IsAddressFault, IsAnswerTo, IsBadAddress, IsNumber, IsNumberOf, IsWordsOf, LineView, Means, MeansEntered, MeansEntries, MeansLineOf, UnlessMemory, and_then, each_of, line_or_fault, named, line_view, word_of}
 use Rattle.uu_line.proofs.ProgramLemmas.{program_takes}
 use Rattle.uu_line.specs.declared.fault.LineFault.{LineFault}
 use Rattle.uu_line.specs.declared.fault.LineFault.TheVariants as fault
 
 -- a fault of words with a kind with P is one with a kind with Q
-pub IsWordsOf-weaker : (P Q : ErrorKind → Type 0) (f : LineFault) → ((kind : ErrorKind) → P kind → Q kind) → IsWordsOf P f → IsWordsOf Q f
-IsWordsOf-weaker P Q (fault.Words text help) weaker it = (it.0, weaker it.0 it.1, it.2)
-IsWordsOf-weaker P Q (fault.Name why) weaker it = it
-IsWordsOf-weaker P Q fault.TwoSystems weaker it = it
-IsWordsOf-weaker P Q fault.Memory weaker it = tt
+pub IsWordsOf_weaker : (P Q : ErrorKind → Type 0) (f : LineFault) → ((kind : ErrorKind) → P kind → Q kind) → IsWordsOf P f → IsWordsOf Q f
+IsWordsOf_weaker P Q (fault.Words text help) weaker it = (it.0, weaker it.0 it.1, it.2)
+IsWordsOf_weaker P Q (fault.Name why) weaker it = it
+IsWordsOf_weaker P Q fault.TwoSystems weaker it = it
+IsWordsOf_weaker P Q fault.Memory weaker it = tt
 
 -- what holds of a fault that isn't out of memory
 pub err_weaker : {V W : Type 0} (P : Result V LineFault → Type 0) (Q : Result W LineFault → Type 0) (f : LineFault)
@@ -55,7 +55,7 @@ err_weaker P Q fault.Memory weaker holds = tt
 
 -- a fault of the first reading is that of both
 pub answers_then : {V W : Type 0} (f : LineFault) (first : Result V LineFault) (next : V → Result W LineFault)
-    → Answers (Err f) first → Answers (Err f) (and_then first next)
+    → AnswersUnlessMemory (Err f) first → AnswersUnlessMemory (Err f) (and_then first next)
 answers_then f first next answers =
     err_weaker (λ a. a ≡ first) (λ a. a ≡ and_then first next) f (λ is. ap (λ r. and_then r next) is) answers
 
@@ -79,7 +79,7 @@ pub memory_meets : {V : Type 0} (P : Result V LineFault → Type 0) (f : LineFau
 memory_meets P f is = subst (λ g. UnlessMemory P (Err g)) (sym is) tt
 
 -- the answer has the property that the expected one has
-pub meaning : {V : Type 0} (P : Result V LineFault → Type 0) (answer expected : Result V LineFault) → P expected → Answers answer expected → UnlessMemory P answer
+pub meaning : {V : Type 0} (P : Result V LineFault → Type 0) (answer expected : Result V LineFault) → P expected → AnswersUnlessMemory answer expected → UnlessMemory P answer
 meaning P (Ok value) expected holds is = subst P (sym is) holds
 meaning P (Err (fault.Words text help)) expected holds is = is
 meaning P (Err (fault.Name why)) expected holds is = subst P (sym is) holds
@@ -225,23 +225,23 @@ paths_next f xs i d paths path inside so_far is is_path =
     one_path t is (suc k) e lt = absurd (omega arith)
 
 -- what the entries mean is what the words mean
-means_words : (words : List Text) (found : ArgMatches) (meant : Result Line LineFault) → HasEntriesOf words found
+means_words : (words : List Text) (found : ArgMatches) (meant : Result LineView LineFault) → HasEntriesOf words found
     → MeansEntries (rows_of (found_of found)) (subcommand_rows_of found) meant → Means words meant
 means_words words found meant entries means =
     subst (λ entered. MeansEntries (matches_of program words) entered meant) entries.2
     (subst (λ rows. MeansEntries rows (subcommand_rows_of found) meant) entries.1 means)
 
 -- the entries are those that the program's lines have
-pub found_taken : (words : List Text) (found : ArgMatches) → HasEntriesOf words found → AreTaken (rows_of (found_of found)) (subcommand_rows_of found)
+pub found_taken : (words : List Text) (found : ArgMatches) → HasEntriesOf words found → AreLineEntries (rows_of (found_of found)) (subcommand_rows_of found)
 found_taken words found entries =
-    subst (λ entered. AreTaken (rows_of (found_of found)) entered) (sym entries.2)
-    (subst (λ rows. AreTaken rows (subcommand_of program words)) (sym entries.1) (program_takes words entries.0))
+    subst (λ entered. AreLineEntries (rows_of (found_of found)) entered) (sym entries.2)
+    (subst (λ rows. AreLineEntries rows (subcommand_of program words)) (sym entries.1) (program_takes words entries.0))
 
 -- and so the answer is the words'
 pub answers_words : (words : List Text) (found : ArgMatches) (answer : Result CommandLine LineFault) → HasEntriesOf words found
     → UnlessMemory (λ a. MeansEntries (rows_of (found_of found)) (subcommand_rows_of found) (line_or_fault a)) answer
     → IsAnswerTo words answer
-answers_words words found (Ok line) entries means = (entries.0, means_words words found (Ok (said line)) entries means)
+answers_words words found (Ok line) entries means = (entries.0, means_words words found (Ok (line_view line)) entries means)
 answers_words words found (Err (fault.Words text help)) entries means = absurd means
 answers_words words found (Err (fault.Name why)) entries means = (entries.0, means_words words found (Err (fault.Name why)) entries means)
 answers_words words found (Err fault.TwoSystems) entries means = (entries.0, means_words words found (Err fault.TwoSystems) entries means)
@@ -267,7 +267,7 @@ no_subcommand None is has = has
 no_subcommand (Some subcommand) is has = absurd cc
 
 -- if the answer is known to be a value, a fault is out of memory
-pub only_memory : {V : Type 0} (f : LineFault) (expected : Result V LineFault) (value : V) → expected ≡ Ok value → Answers (Err f) expected → f ≡ fault.Memory
+pub only_memory : {V : Type 0} (f : LineFault) (expected : Result V LineFault) (value : V) → expected ≡ Ok value → AnswersUnlessMemory (Err f) expected → f ≡ fault.Memory
 only_memory (fault.Words text help) expected value known answers = absurd answers
 only_memory (fault.Name why) expected value known answers = absurd cc
 only_memory fault.TwoSystems expected value known answers = absurd cc
@@ -331,7 +331,7 @@ rests_next (path ∷ paths) (suc i) d rests rest inside so_far is =
 -- the line if the user isn't valid, if the task isn't valid, and if both are valid
 pub user_fault : (rows : List Row) (entered : Option (Text × List Row)) (config user : Text) (at : Option ℕ) (f : LineFault) → Some config ≡ first_of (codes "config") rows
     → Some user ≡ first_of (codes "as") rows → IsNumberOf 64 (first_of (codes "at") rows) at
-    → (let answer : Result (List ℕ) LineFault = Err f in Answers answer (word_of user))
+    → (let answer : Result (List ℕ) LineFault = Err f in AnswersUnlessMemory answer (word_of user))
     → (let answer : Result CommandLine LineFault = Err f in UnlessMemory (λ a. MeansEntries rows entered (line_or_fault a)) answer)
 user_fault rows entered config user at f is_config is_user is_at answers =
     err_weaker (λ a. a ≡ word_of user) (λ a. MeansEntries rows entered (line_or_fault a)) f
@@ -347,9 +347,9 @@ task_fault rows entered config user at word f is_config is_user is_at is_word me
 
 pub line_meant : (rows : List Row) (entered : Option (Text × List Row)) (user : Text) (line : CommandLine) → Some (string_bytes line.config) ≡ first_of (codes "config") rows
     → Some user ≡ first_of (codes "as") rows → IsNumberOf 64 (first_of (codes "at") rows) line.at → Ok line.user ≡ word_of user
-    → MeansEntered entered (Ok line.task) → MeansEntries rows entered (Ok (said line))
+    → MeansEntered entered (Ok line.task) → MeansEntries rows entered (Ok (line_view line))
 line_meant rows entered user line is_config is_user is_at is_word means =
-    (string_bytes line.config, is_config, (user, is_user, (line.at, is_at, subst (λ read. MeansLineOf (string_bytes line.config) line.at read entered (Ok (said line))) is_word (Ok line.task, means, refl))))
+    (string_bytes line.config, is_config, (user, is_user, (line.at, is_at, subst (λ read. MeansLineOf (string_bytes line.config) line.at read entered (Ok (line_view line))) is_word (Ok line.task, means, refl))))
 
 -- a task that means what its subcommand does
 pub task_meant : (P Q : Result Task LineFault → Type 0) (answer : Result Task LineFault) → ((meant : Result Task LineFault) → P meant → Q meant)

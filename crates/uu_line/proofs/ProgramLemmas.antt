@@ -6,7 +6,7 @@ use Rattle.clap.specs.Words.{Text, fault_of, is_simple, is_simple_and_free, matc
 use Rattle.clap.specs.Simple.{argument_words, built}
 use Rattle.clap.proofs.OnLiterals.{clap_on_literals}
 use Rattle.uu_line.specs.Commands.{program}
-use Rattle.uu_line.specs.Internal.Entries.{AreTaken}
+use Rattle.uu_line.specs.Internal.Entries.{AreLineEntries}
 use Rattle.uu_line.proofs.EntryLemmas.{all_taken, passes_below, passes_on_top}
 
 pub program_is_simple : is_simple program ≡ true
@@ -25,5 +25,5 @@ program_passes_on_top : passes_on_top (built program).top ≡ true
 unfolding clap_on_literals
 program_passes_on_top = refl
 
-pub program_takes : (words : List Text) → fault_of program words ≡ [] → AreTaken (matches_of program words) (subcommand_of program words)
+pub program_takes : (words : List Text) → fault_of program words ≡ [] → AreLineEntries (matches_of program words) (subcommand_of program words)
 program_takes words e = all_taken (built program) program_passes_below program_passes_on_top (argument_words program words) e

@@ -394,20 +394,20 @@ takes_input task.Name = false
 -- ---- lines
 
 -- a line, as these definitions see it
-pub record Line : Type 0 where
+pub record LineView : Type 0 where
   pub config : Text
   pub at : Option ℕ
   pub user : List ℕ
   pub task : Task
 
-abbrev pub said : CommandLine → Line
-said line = record { config = string_bytes line.config; at = line.at; user = line.user; task = line.task }
+abbrev pub line_view : CommandLine → LineView
+line_view line = record { config = string_bytes line.config; at = line.at; user = line.user; task = line.task }
 
-abbrev pub line_or_fault : Result CommandLine LineFault → Result Line LineFault
-line_or_fault (Ok line) = Ok (said line)
+abbrev pub line_or_fault : Result CommandLine LineFault → Result LineView LineFault
+line_or_fault (Ok line) = Ok (line_view line)
 line_or_fault (Err fault) = Err fault
 
-abbrev pub line_with : Text → Option ℕ → List ℕ → Result Task LineFault → Result Line LineFault
+abbrev pub line_with : Text → Option ℕ → List ℕ → Result Task LineFault → Result LineView LineFault
 line_with config at user task = and_then task (λ task. Ok (record { config = config; at = at; user = user; task = task }))
 
 -- the task of the subcommand that was entered
@@ -416,13 +416,13 @@ MeansEntered None meant = ⊥
 MeansEntered (Some subcommand) meant = MeansTask subcommand.0 subcommand.1 meant
 
 -- the line of a user with a subcommand; the user is checked first
-abbrev pub MeansLineOf : Text → Option ℕ → Result (List ℕ) LineFault → Option (Text × List Row) → Result Line LineFault → Type 0
+abbrev pub MeansLineOf : Text → Option ℕ → Result (List ℕ) LineFault → Option (Text × List Row) → Result LineView LineFault → Type 0
 MeansLineOf config at (Err fault) entered meant = meant ≡ Err fault
 MeansLineOf config at (Ok user) entered meant =
     (task : Result Task LineFault) × MeansEntered entered task × (meant ≡ line_with config at user task)
 
 -- what entries mean, with the subcommand that was entered
-abbrev pub MeansEntries : List Row → Option (Text × List Row) → Result Line LineFault → Type 0
+abbrev pub MeansEntries : List Row → Option (Text × List Row) → Result LineView LineFault → Type 0
 MeansEntries rows entered meant =
     WithText (codes "config") rows (λ config.
     WithText (codes "as") rows (λ user.
@@ -430,7 +430,7 @@ MeansEntries rows entered meant =
 
 -- What words mean that `clap` accepts, without the program's name: a line, or the first fault of
 -- its names.
-abbrev pub Means : List Text → Result Line LineFault → Type 0
+abbrev pub Means : List Text → Result LineView LineFault → Type 0
 Means words meant = MeansEntries (matches_of program words) (subcommand_of program words) meant
 
 -- `clap` accepts the words, and finds these entries in them
@@ -450,7 +450,7 @@ AreRefused words help = (kind : ErrorKind) × IsAmong kind (fault_of program wor
 
 -- the words mean this line
 abbrev pub MeansLine : List Text → CommandLine → Type 0
-MeansLine words line = (fault_of program words ≡ []) × Means words (Ok (said line))
+MeansLine words line = (fault_of program words ≡ []) × Means words (Ok (line_view line))
 
 -- `clap` accepts the words, and this is the first fault of their names and addresses
 abbrev pub MeansFault : List Text → LineFault → Type 0
@@ -475,8 +475,8 @@ UnlessMemory P (Err (Words text help)) = ⊥
 UnlessMemory P (Err Memory) = ⊤
 
 -- the answer is the expected one, or out of memory
-abbrev pub Answers : {V : Type 0} → Result V LineFault → Result V LineFault → Type 0
-Answers answer expected = UnlessMemory (λ a. a ≡ expected) answer
+abbrev pub AnswersUnlessMemory : {V : Type 0} → Result V LineFault → Result V LineFault → Type 0
+AnswersUnlessMemory answer expected = UnlessMemory (λ a. a ≡ expected) answer
 
 -- out of memory, or a fault of words with a kind with P, which says whether they ask for help
 abbrev pub IsWordsOf : (ErrorKind → Type 0) → LineFault → Type 0

@@ -5,7 +5,7 @@ ghost use Rattle.std.specs.Str.{bytes_eq};
 ghost use Rattle.clap.specs.Words.{rows_of, found_of, first_of};
 ghost use Rattle.uu_line.specs.Internal.Entries.{AreNumbersUpTo, HaveTexts, IsEntered, most_job, subcommands};
 ghost use Rattle.uu_line.specs.Lines.{texts_at};
-ghost use Rattle.uu_line.specs.Lines.{Answers, UnlessMemory, MeansTask};
+ghost use Rattle.uu_line.specs.Lines.{AnswersUnlessMemory, UnlessMemory, MeansTask};
 ghost use Rattle.uu_line.specs.Lines as spec;
 
 use crate::fault::LineFault;
@@ -153,7 +153,7 @@ fn mail_in(alloc: Global, given: &ArgMatches<'_>) -> Result<Task, LineFault>
 }
 
 fn list_in(alloc: Global, given: &ArgMatches<'_>) -> Result<Task, LineFault>
-    ensures { Answers result (spec.list_task (first_of (codes "system") (rows_of (found_of given.now)))
+    ensures { AnswersUnlessMemory result (spec.list_task (first_of (codes "system") (rows_of (found_of given.now)))
         (first_of (codes "user") (rows_of (found_of given.now)))) }
 {
     list_task(alloc, given.get_str("system"), given.get_str("user"))
@@ -195,26 +195,26 @@ fn rejuvenate_in(given: &ArgMatches<'_>) -> Task
 }
 
 fn due_in(alloc: Global, given: &ArgMatches<'_>) -> Result<Task, LineFault>
-    ensures { Answers result (spec.due_task (first_of (codes "system") (rows_of (found_of given.now)))) }
+    ensures { AnswersUnlessMemory result (spec.due_task (first_of (codes "system") (rows_of (found_of given.now)))) }
 {
     due_task(alloc, given.get_str("system"))
 }
 
 fn when_in(alloc: Global, given: &ArgMatches<'_>) -> Result<Task, LineFault>
-    ensures { Answers result (spec.when_task (spec.has_flag (codes "all") (rows_of (found_of given.now))) (first_of (codes "system") (rows_of (found_of given.now)))) }
+    ensures { AnswersUnlessMemory result (spec.when_task (spec.has_flag (codes "all") (rows_of (found_of given.now))) (first_of (codes "system") (rows_of (found_of given.now)))) }
 {
     let all = has_flag(given, "all");
     when_task(alloc, all, given.get_str("system"))
 }
 
 fn queues_in(alloc: Global, given: &ArgMatches<'_>) -> Result<Task, LineFault>
-    ensures { Answers result (spec.queues_task (first_of (codes "system") (rows_of (found_of given.now)))) }
+    ensures { AnswersUnlessMemory result (spec.queues_task (first_of (codes "system") (rows_of (found_of given.now)))) }
 {
     queues_task(alloc, given.get_str("system"))
 }
 
 fn systems_in(alloc: Global, given: &ArgMatches<'_>) -> Result<Task, LineFault>
-    ensures { Answers result (spec.systems_task (first_of (codes "system") (rows_of (found_of given.now)))) }
+    ensures { AnswersUnlessMemory result (spec.systems_task (first_of (codes "system") (rows_of (found_of given.now)))) }
 {
     systems_task(alloc, given.get_str("system"))
 }

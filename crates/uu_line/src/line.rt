@@ -4,7 +4,7 @@ ghost use Rattle.std.specs.Prelude.{◌≡◌, ◌≢◌, IfOk, IfErr, map};
 ghost use Rattle.std.specs.String.{string_bytes};
 ghost use Rattle.clap.specs.Words.{IsAmong, rows_of, found_of, kind_of, fault_of, subcommand_rows_of};
 ghost use Rattle.uu_line.specs.Commands.{program};
-ghost use Rattle.uu_line.specs.Internal.Entries.{AreTaken, HasSubcommand};
+ghost use Rattle.uu_line.specs.Internal.Entries.{AreLineEntries, HasSubcommand};
 ghost use Rattle.uu_line.specs.Lines.{HasEntriesOf, UnlessMemory, IsAnswerTo, IsWordsOf};
 ghost use Rattle.uu_line.specs.Lines as spec;
 
@@ -50,7 +50,7 @@ pub fn line_of(alloc: Global, words: &[String]) -> Result<CommandLine, LineFault
 // The line with these entries.
 #[tactic(auto, using(crate::proofs::LineLemmas::user_fault, crate::proofs::LineLemmas::task_fault, crate::proofs::LineLemmas::line_meant))]
 fn line_in(alloc: Global, given: &ArgMatches<'_>) -> Result<CommandLine, LineFault>
-    requires { AreTaken (rows_of (found_of given.now)) (subcommand_rows_of given.now) }
+    requires { AreLineEntries (rows_of (found_of given.now)) (subcommand_rows_of given.now) }
     ensures { UnlessMemory (λ answer. spec.MeansEntries (rows_of (found_of given.now)) (subcommand_rows_of given.now) (spec.line_or_fault answer)) result }
 {
     let config = text_in(given, "config");

@@ -3,7 +3,7 @@
 ghost use Rattle.std.specs.Prelude.{◌≡◌, option_map, ok_or};
 ghost use Rattle.uu_names.specs.Path.{first_hop, rest_of};
 ghost use Rattle.uu_names.specs.declared.fault.NameFault.TheVariants.{BadPath};
-ghost use Rattle.uu_line.specs.Lines.{Answers, after_bang, named};
+ghost use Rattle.uu_line.specs.Lines.{AnswersUnlessMemory, after_bang, named};
 ghost use Rattle.uu_line.specs.Lines as spec;
 
 use crate::fault::LineFault;
@@ -28,7 +28,7 @@ const LAST_NUMBER: u32 = 4_294_967_294;
 /// The text as `SYSTEM!NUMBER` or `SYSTEM!NUMBER!WORD`.
 #[tactic(auto, using(crate::proofs::LineLemmas::answers_then))]
 pub(crate) fn origin_of(alloc: Global, text: &str) -> Result<Origin, LineFault>
-    ensures { Answers result (spec.origin_of text.now) }
+    ensures { AnswersUnlessMemory result (spec.origin_of text.now) }
 {
     let (site, number, word) = parts_of(text);
     let from = site_of(alloc, site)?;

@@ -4,7 +4,7 @@ ghost use Rattle.std.specs.Prelude.{◌≡◌, ℕ, List, Some, IfOk, IfErr, IsS
 ghost use Rattle.std.specs.List.{list_all};
 ghost use Rattle.clap.specs.Words.{found_of, rows_of};
 ghost use Rattle.uu_names.specs.Path.{first_hop, rest_of};
-ghost use Rattle.uu_line.specs.Lines.{Answers, texts_at};
+ghost use Rattle.uu_line.specs.Lines.{AnswersUnlessMemory, texts_at};
 ghost use Rattle.uu_line.specs.Lines as spec;
 
 use crate::fault::LineFault;
@@ -21,7 +21,7 @@ use uu_names::{Grade, Listed, Path, SiteName, Word};
 /// The task of `drop`.
 #[tactic(auto, using(crate::proofs::LineLemmas::answers_then))]
 pub(crate) fn drop_task(alloc: Global, system: &str) -> Result<Task, LineFault>
-    ensures { Answers result (spec.drop_task system.now) }
+    ensures { AnswersUnlessMemory result (spec.drop_task system.now) }
 {
     let system = site_of(alloc, system)?;
     Ok(Task::Drop { system })
@@ -37,7 +37,7 @@ pub(crate) fn send_task(
     grade: &str,
     once: Option<&str>,
 ) -> Result<Task, LineFault>
-    ensures { Answers result (spec.file_task Task.Send system.now source.now target.now grade.now (option_map (λ text. text.now) once.entry)) }
+    ensures { AnswersUnlessMemory result (spec.file_task Task.Send system.now source.now target.now grade.now (option_map (λ text. text.now) once.entry)) }
 {
     let system = site_of(alloc, system)?;
     let source = word_of(alloc, source)?;
@@ -62,7 +62,7 @@ pub(crate) fn request_task(
     grade: &str,
     once: Option<&str>,
 ) -> Result<Task, LineFault>
-    ensures { Answers result (spec.file_task Task.Request system.now source.now target.now grade.now (option_map (λ text. text.now) once.entry)) }
+    ensures { AnswersUnlessMemory result (spec.file_task Task.Request system.now source.now target.now grade.now (option_map (λ text. text.now) once.entry)) }
 {
     let system = site_of(alloc, system)?;
     let source = word_of(alloc, source)?;
@@ -87,7 +87,7 @@ pub(crate) fn execute_task(
     command: &str,
     given: &ArgMatches<'_>,
 ) -> Result<Task, LineFault>
-    ensures { Answers result (spec.exec_task grade.now (option_map (λ text. text.now) once.entry) system.now command.now (texts_at (codes "argument") (rows_of (found_of given.now)))) }
+    ensures { AnswersUnlessMemory result (spec.exec_task grade.now (option_map (λ text. text.now) once.entry) system.now command.now (texts_at (codes "argument") (rows_of (found_of given.now)))) }
 {
     let (grade, once) = terms_of(alloc, grade, once)?;
     let system = site_of(alloc, system)?;
@@ -109,7 +109,7 @@ pub(crate) fn mail_task(
     paths: &[Path],
 ) -> Result<Task, LineFault>
     requires { IsSome (slice_get paths.now 0) }
-    ensures { (first : List ℕ) → Some first ≡ slice_get paths.now 0 → Answers result (spec.mail_by terms first paths.now) }
+    ensures { (first : List ℕ) → Some first ≡ slice_get paths.now 0 → AnswersUnlessMemory result (spec.mail_by terms first paths.now) }
 {
     match paths.first() {
         Some(first) => mail_by(alloc, terms, first, paths),
@@ -124,7 +124,7 @@ fn mail_by(
     first: &Path,
     paths: &[Path],
 ) -> Result<Task, LineFault>
-    ensures { Answers result (spec.mail_by terms first.now paths.now) }
+    ensures { AnswersUnlessMemory result (spec.mail_by terms first.now paths.now) }
 {
     if !begin_alike(first.first_hop(), paths) {
         return Err(LineFault::TwoSystems);
@@ -169,7 +169,7 @@ pub(crate) fn list_task(
     system: Option<&str>,
     user: Option<&str>,
 ) -> Result<Task, LineFault>
-    ensures { Answers result (spec.list_task (option_map (λ text. text.now) system.entry) (option_map (λ text. text.now) user.entry)) }
+    ensures { AnswersUnlessMemory result (spec.list_task (option_map (λ text. text.now) system.entry) (option_map (λ text. text.now) user.entry)) }
 {
     let system = optional_site(alloc, system)?;
     let user = optional_word(alloc, user)?;
@@ -180,7 +180,7 @@ pub(crate) fn list_task(
 /// The task of `due`.
 #[tactic(auto, using(crate::proofs::LineLemmas::answers_then))]
 pub(crate) fn due_task(alloc: Global, system: Option<&str>) -> Result<Task, LineFault>
-    ensures { Answers result (spec.due_task (option_map (λ text. text.now) system.entry)) }
+    ensures { AnswersUnlessMemory result (spec.due_task (option_map (λ text. text.now) system.entry)) }
 {
     let wanted = optional_site(alloc, system)?;
     Ok(Task::Due { system: wanted })
@@ -189,7 +189,7 @@ pub(crate) fn due_task(alloc: Global, system: Option<&str>) -> Result<Task, Line
 /// The task of `when`.
 #[tactic(auto, using(crate::proofs::LineLemmas::answers_then))]
 pub(crate) fn when_task(alloc: Global, all: bool, system: Option<&str>) -> Result<Task, LineFault>
-    ensures { Answers result (spec.when_task all (option_map (λ text. text.now) system.entry)) }
+    ensures { AnswersUnlessMemory result (spec.when_task all (option_map (λ text. text.now) system.entry)) }
 {
     let wanted = optional_site(alloc, system)?;
     Ok(asked_when(all, wanted))
@@ -210,7 +210,7 @@ fn asked_when(all: bool, system: Option<SiteName>) -> Task
 /// The task of `queues`.
 #[tactic(auto, using(crate::proofs::LineLemmas::answers_then))]
 pub(crate) fn queues_task(alloc: Global, system: Option<&str>) -> Result<Task, LineFault>
-    ensures { Answers result (spec.queues_task (option_map (λ text. text.now) system.entry)) }
+    ensures { AnswersUnlessMemory result (spec.queues_task (option_map (λ text. text.now) system.entry)) }
 {
     let wanted = optional_site(alloc, system)?;
     let filter = Filter {
@@ -223,7 +223,7 @@ pub(crate) fn queues_task(alloc: Global, system: Option<&str>) -> Result<Task, L
 /// The task of `systems`.
 #[tactic(auto, using(crate::proofs::LineLemmas::answers_then))]
 pub(crate) fn systems_task(alloc: Global, system: Option<&str>) -> Result<Task, LineFault>
-    ensures { Answers result (spec.systems_task (option_map (λ text. text.now) system.entry)) }
+    ensures { AnswersUnlessMemory result (spec.systems_task (option_map (λ text. text.now) system.entry)) }
 {
     let wanted = optional_site(alloc, system)?;
     Ok(Task::Systems { system: wanted })
@@ -232,7 +232,7 @@ pub(crate) fn systems_task(alloc: Global, system: Option<&str>) -> Result<Task, 
 /// The task of `regrade`.
 #[tactic(auto, using(crate::proofs::LineLemmas::answers_then))]
 pub(crate) fn regrade_task(job: u32, grade: &str) -> Result<Task, LineFault>
-    ensures { Answers result (spec.regrade_task job grade.now) }
+    ensures { AnswersUnlessMemory result (spec.regrade_task job grade.now) }
 {
     let grade = grade_of(grade)?;
     Ok(Task::Regrade { job, grade })
@@ -241,7 +241,7 @@ pub(crate) fn regrade_task(job: u32, grade: &str) -> Result<Task, LineFault>
 /// The task of `failed`.
 #[tactic(auto, using(crate::proofs::LineLemmas::answers_then))]
 pub(crate) fn failed_task(alloc: Global, system: &str, why: &str) -> Result<Task, LineFault>
-    ensures { Answers result (spec.failed_task system.now why.now) }
+    ensures { AnswersUnlessMemory result (spec.failed_task system.now why.now) }
 {
     let system = site_of(alloc, system)?;
     let why = word_of(alloc, why)?;
@@ -251,7 +251,7 @@ pub(crate) fn failed_task(alloc: Global, system: &str, why: &str) -> Result<Task
 /// The task of `done`.
 #[tactic(auto, using(crate::proofs::LineLemmas::answers_then))]
 pub(crate) fn done_task(alloc: Global, system: &str, jobs: Listed<u32>) -> Result<Task, LineFault>
-    ensures { Answers result (spec.done_task system.now jobs) }
+    ensures { AnswersUnlessMemory result (spec.done_task system.now jobs) }
 {
     let system = site_of(alloc, system)?;
     Ok(Task::Done { system, jobs })
@@ -260,7 +260,7 @@ pub(crate) fn done_task(alloc: Global, system: &str, jobs: Listed<u32>) -> Resul
 /// The task of `forget`.
 #[tactic(auto, using(crate::proofs::LineLemmas::answers_then))]
 pub(crate) fn forget_task(alloc: Global, system: &str, below: u32) -> Result<Task, LineFault>
-    ensures { Answers result (spec.forget_task system.now below) }
+    ensures { AnswersUnlessMemory result (spec.forget_task system.now below) }
 {
     let system = site_of(alloc, system)?;
     Ok(Task::Forget { system, below })
@@ -276,7 +276,7 @@ pub(crate) fn pack_task(
     after: Option<u32>,
     no_jobs: bool,
 ) -> Result<Task, LineFault>
-    ensures { Answers result (spec.pack_task system.now grade.now (option_map (λ text. text.now) spool.entry) after no_jobs) }
+    ensures { AnswersUnlessMemory result (spec.pack_task system.now grade.now (option_map (λ text. text.now) spool.entry) after no_jobs) }
 {
     let system = site_of(alloc, system)?;
     let lowest = grade_of(grade)?;
@@ -297,7 +297,7 @@ pub(crate) fn unpack_task(
     sender: &str,
     given: &ArgMatches<'_>,
 ) -> Result<Task, LineFault>
-    ensures { Answers result (spec.unpack_task sender.now (texts_at (codes "system") (rows_of (found_of given.now)))) }
+    ensures { AnswersUnlessMemory result (spec.unpack_task sender.now (texts_at (codes "system") (rows_of (found_of given.now)))) }
 {
     let sender = site_of(alloc, sender)?;
     let onward = sites_in(alloc, given, "system")?;
@@ -311,7 +311,7 @@ pub(crate) fn settle_task(
     system: &str,
     spool: Option<&str>,
 ) -> Result<Task, LineFault>
-    ensures { Answers result (spec.settle_task system.now (option_map (λ text. text.now) spool.entry)) }
+    ensures { AnswersUnlessMemory result (spec.settle_task system.now (option_map (λ text. text.now) spool.entry)) }
 {
     let system = site_of(alloc, system)?;
     let spool = optional_word(alloc, spool)?;
@@ -329,7 +329,7 @@ pub(crate) fn answer_task(
     after: Option<u32>,
     no_jobs: bool,
 ) -> Result<Task, LineFault>
-    ensures { Answers result (spec.answer_task sender.now (texts_at (codes "system") (rows_of (found_of given.now))) grade.now (option_map (λ text. text.now) spool.entry) after no_jobs) }
+    ensures { AnswersUnlessMemory result (spec.answer_task sender.now (texts_at (codes "system") (rows_of (found_of given.now))) grade.now (option_map (λ text. text.now) spool.entry) after no_jobs) }
 {
     let sender = site_of(alloc, sender)?;
     let onward = sites_in(alloc, given, "system")?;
@@ -348,7 +348,7 @@ pub(crate) fn answer_task(
 /// The task of `neighbours`.
 #[tactic(auto, using(crate::proofs::LineLemmas::answers_then))]
 pub(crate) fn neighbours_task(alloc: Global, host: &str) -> Result<Task, LineFault>
-    ensures { Answers result (spec.neighbours_task host.now) }
+    ensures { AnswersUnlessMemory result (spec.neighbours_task host.now) }
 {
     let host = site_of(alloc, host)?;
     Ok(Task::Neighbours { host })

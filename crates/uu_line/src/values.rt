@@ -7,7 +7,7 @@ ghost use Rattle.clap.specs.Words.{first_of, rows_of, found_of};
 ghost use Rattle.uu_names.specs.Path.{IsPathText};
 ghost use Rattle.uu_line.specs.Internal.Entries.{AreNumbersUpTo, most_job, most_second};
 ghost use Rattle.uu_line.specs.Lines.{texts_at};
-ghost use Rattle.uu_line.specs.Lines.{Answers, AreNumbers, IsNumber, IsNumberOf, WithText};
+ghost use Rattle.uu_line.specs.Lines.{AnswersUnlessMemory, AreNumbers, IsNumber, IsNumberOf, WithText};
 ghost use Rattle.uu_line.specs.Lines as spec;
 
 use crate::fault::LineFault;
@@ -127,7 +127,7 @@ pub(crate) fn string_of(alloc: Global, text: &str) -> Result<String, LineFault>
 
 /// The text as a site name.
 pub(crate) fn site_of(alloc: Global, text: &str) -> Result<SiteName, LineFault>
-    ensures { Answers result (spec.site_of text.now) }
+    ensures { AnswersUnlessMemory result (spec.site_of text.now) }
 {
     match SiteName::parse(alloc, text) {
         Ok(name) => Ok(name),
@@ -137,7 +137,7 @@ pub(crate) fn site_of(alloc: Global, text: &str) -> Result<SiteName, LineFault>
 
 /// The text as a word.
 pub(crate) fn word_of(alloc: Global, text: &str) -> Result<Word, LineFault>
-    ensures { Answers result (spec.word_of text.now) }
+    ensures { AnswersUnlessMemory result (spec.word_of text.now) }
 {
     match Word::parse(alloc, text) {
         Ok(word) => Ok(word),
@@ -150,7 +150,7 @@ pub(crate) fn optional_site(
     alloc: Global,
     text: Option<&str>,
 ) -> Result<Option<SiteName>, LineFault>
-    ensures { Answers result (spec.optional spec.site_of (option_map (λ text. text.now) text.entry)) }
+    ensures { AnswersUnlessMemory result (spec.optional spec.site_of (option_map (λ text. text.now) text.entry)) }
 {
     match text {
         Some(text) => match site_of(alloc, text) {
@@ -163,7 +163,7 @@ pub(crate) fn optional_site(
 
 /// The text as a word, if there is one.
 pub(crate) fn optional_word(alloc: Global, text: Option<&str>) -> Result<Option<Word>, LineFault>
-    ensures { Answers result (spec.optional spec.word_of (option_map (λ text. text.now) text.entry)) }
+    ensures { AnswersUnlessMemory result (spec.optional spec.word_of (option_map (λ text. text.now) text.entry)) }
 {
     match text {
         Some(text) => match word_of(alloc, text) {
@@ -176,7 +176,7 @@ pub(crate) fn optional_word(alloc: Global, text: Option<&str>) -> Result<Option<
 
 /// The text as a grade, which is one byte.
 pub(crate) fn grade_of(text: &str) -> Result<Grade, LineFault>
-    ensures { Answers result (spec.grade_of text.now) }
+    ensures { AnswersUnlessMemory result (spec.grade_of text.now) }
 {
     let [byte] = text.as_bytes() else {
         return Err(LineFault::Name(NameFault::BadGrade));
@@ -192,7 +192,7 @@ pub(crate) fn optional_origin(
     alloc: Global,
     text: Option<&str>,
 ) -> Result<Option<Origin>, LineFault>
-    ensures { Answers result (spec.optional spec.origin_of (option_map (λ text. text.now) text.entry)) }
+    ensures { AnswersUnlessMemory result (spec.optional spec.origin_of (option_map (λ text. text.now) text.entry)) }
 {
     match text {
         Some(text) => match origin_of(alloc, text) {
@@ -210,7 +210,7 @@ pub(crate) fn terms_of(
     grade: &str,
     once: Option<&str>,
 ) -> Result<(Grade, Option<Origin>), LineFault>
-    ensures { Answers result (spec.terms_of grade.now (option_map (λ text. text.now) once.entry)) }
+    ensures { AnswersUnlessMemory result (spec.terms_of grade.now (option_map (λ text. text.now) once.entry)) }
 {
     let grade = grade_of(grade)?;
     let once = optional_origin(alloc, once)?;
@@ -223,7 +223,7 @@ pub(crate) fn words_in(
     given: &ArgMatches<'_>,
     id: &str,
 ) -> Result<Listed<Word>, LineFault>
-    ensures { Answers result (spec.words_of (texts_at id.now (rows_of (found_of given.now)))) }
+    ensures { AnswersUnlessMemory result (spec.words_of (texts_at id.now (rows_of (found_of given.now)))) }
 {
     match given.get_strs(id) {
         Some(texts) => words_of(alloc, texts),
@@ -232,7 +232,7 @@ pub(crate) fn words_in(
 }
 
 fn words_of(alloc: Global, texts: &[&str]) -> Result<Listed<Word>, LineFault>
-    ensures { Answers result (spec.words_of (map (λ text. text.now) texts.now)) }
+    ensures { AnswersUnlessMemory result (spec.words_of (map (λ text. text.now) texts.now)) }
 {
     let mut words = Vec::new(alloc);
     for text in texts {
@@ -250,7 +250,7 @@ pub(crate) fn sites_in(
     given: &ArgMatches<'_>,
     id: &str,
 ) -> Result<Listed<SiteName>, LineFault>
-    ensures { Answers result (spec.sites_of (texts_at id.now (rows_of (found_of given.now)))) }
+    ensures { AnswersUnlessMemory result (spec.sites_of (texts_at id.now (rows_of (found_of given.now)))) }
 {
     match given.get_strs(id) {
         Some(texts) => sites_of(alloc, texts),
@@ -260,7 +260,7 @@ pub(crate) fn sites_in(
 
 // The texts as site names.
 fn sites_of(alloc: Global, texts: &[&str]) -> Result<Listed<SiteName>, LineFault>
-    ensures { Answers result (spec.sites_of (map (λ text. text.now) texts.now)) }
+    ensures { AnswersUnlessMemory result (spec.sites_of (map (λ text. text.now) texts.now)) }
 {
     let mut sites = Vec::new(alloc);
     for text in texts {

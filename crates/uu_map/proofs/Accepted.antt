@@ -10,7 +10,7 @@ use Rattle.uu_map.specs.declared.expression.Level.{Level}
 use Rattle.uu_map.specs.declared.expression.Stage.{Stage}
 use Rattle.uu_map.specs.declared.expression.Stage.TheVariants.{Operand, Operator, Done}
 use Rattle.uu_map.specs.Expression.{Sum, Product, Factor, kept, one_product, added, one_factor, scaled, amount, dead, group, signed, sum_text, product_text, factor_text}
-use Rattle.uu_map.specs.Internal.Reading.{State, one_less, sum_with, flipped, with_factor, closed, at_operand, at_operator, at_stage, step, finish, run, start}
+use Rattle.uu_map.specs.Internal.Reading.{ReadingState, one_less, sum_with, flipped, with_factor, closed, at_operand, at_operator, at_stage, step, finish, run, start}
 
 -- ---- what comes before a state
 
@@ -38,7 +38,7 @@ StageBefore outer l Operand t = (o : List Token) × (u : List Token) × OuterBef
 StageBefore outer l (Operator v) t = (o : List Token) × (a : List Token) × (p : Product) × OuterBefore outer o × SumBefore l.sum a × ProductBefore l.product [] × (t ≡ o ++ (a ++ product_text p))
 StageBefore outer l (Done v) t = (s : Sum) × (t ≡ sum_text s ++ tokens.Close ∷ [])
 
-abbrev Grown : Option State → List Token → Type 0
+abbrev Grown : Option ReadingState → List Token → Type 0
 Grown None t = Unit {0}
 Grown (Some s) t = StageBefore s.outer s.level s.stage t
 
@@ -145,11 +145,11 @@ finished outer l d Operand t c before e = absurd cc
 finished outer l d (Operator v) t c before e = absurd cc
 finished outer l d (Done v) t c (s, e) _ = (s, append-nil t ∙ e)
 
-accepted : (ts : List Token) (s : State) (t : List Token) (c : Cost) → StageBefore s.outer s.level s.stage t → run s ts ≡ Some c → (tree : Sum) × (t ++ ts ≡ sum_text tree ++ tokens.Close ∷ [])
+accepted : (ts : List Token) (s : ReadingState) (t : List Token) (c : Cost) → StageBefore s.outer s.level s.stage t → run s ts ≡ Some c → (tree : Sum) × (t ++ ts ≡ sum_text tree ++ tokens.Close ∷ [])
 accepted [] s t c before e = finished s.outer s.level s.dead s.stage t c before e
 accepted (k ∷ ts) s t c before e = go (λ n grown r. accepted ts n (t ++ k ∷ []) c grown r) (step s k) (stage_grows s.outer s.level s.dead s.stage k t before) e
   where
-    go : ((n : State) → StageBefore n.outer n.level n.stage (t ++ k ∷ []) → run n ts ≡ Some c → (tree : Sum) × ((t ++ k ∷ []) ++ ts ≡ sum_text tree ++ tokens.Close ∷ [])) → (o : Option State) → Grown o (t ++ k ∷ []) → option_and_then (λ n. run n ts) o ≡ Some c → (tree : Sum) × (t ++ k ∷ ts ≡ sum_text tree ++ tokens.Close ∷ [])
+    go : ((n : ReadingState) → StageBefore n.outer n.level n.stage (t ++ k ∷ []) → run n ts ≡ Some c → (tree : Sum) × ((t ++ k ∷ []) ++ ts ≡ sum_text tree ++ tokens.Close ∷ [])) → (o : Option ReadingState) → Grown o (t ++ k ∷ []) → option_and_then (λ n. run n ts) o ≡ Some c → (tree : Sum) × (t ++ k ∷ ts ≡ sum_text tree ++ tokens.Close ∷ [])
     go rec None grown r = absurd cc
     go rec (Some n) grown r = let (tree, et) = rec n grown r in (tree, sym (append_assoc t (k ∷ []) ts) ∙ et)
 

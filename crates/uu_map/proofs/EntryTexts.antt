@@ -55,21 +55,21 @@ links_of_one : (line : ℕ) (o : Option Meaning) → (of_one line o).links ≡ l
 links_of_one line None = refl
 links_of_one line (Some m) = refl
 
-said-aliases : (host : List ℕ) (ss : List Numbered) → (all_said host ss).aliases ≡ flat_map aliases_in (meanings host ss)
-said-aliases host [] = refl
-said-aliases host (s ∷ ss) = ap (λ a. a ++ (all_said host ss).aliases) (aliases_of_one s.line (statement_of host s.text)) ∙ ap (λ r. aliases_in (statement_of host s.text) ++ r) (said-aliases host ss)
+said_aliases : (host : List ℕ) (ss : List Numbered) → (all_said host ss).aliases ≡ flat_map aliases_in (meanings host ss)
+said_aliases host [] = refl
+said_aliases host (s ∷ ss) = ap (λ a. a ++ (all_said host ss).aliases) (aliases_of_one s.line (statement_of host s.text)) ∙ ap (λ r. aliases_in (statement_of host s.text) ++ r) (said_aliases host ss)
 
-said-links : (host : List ℕ) (ss : List Numbered) → (all_said host ss).links ≡ flat_map links_in (meanings host ss)
-said-links host [] = refl
-said-links host (s ∷ ss) = ap (λ a. a ++ (all_said host ss).links) (links_of_one s.line (statement_of host s.text)) ∙ ap (λ r. links_in (statement_of host s.text) ++ r) (said-links host ss)
+said_links : (host : List ℕ) (ss : List Numbered) → (all_said host ss).links ≡ flat_map links_in (meanings host ss)
+said_links host [] = refl
+said_links host (s ∷ ss) = ap (λ a. a ++ (all_said host ss).links) (links_of_one s.line (statement_of host s.text)) ∙ ap (λ r. links_in (statement_of host s.text) ++ r) (said_links host ss)
 
 skipped_more : (s : Numbered) (ss : List Numbered) (o : Option Meaning) (os : List (Option Meaning)) (rest : List ℕ) → rest ≡ skipped_lines ss os → (of_one s.line o).skipped ++ rest ≡ skipped_lines (s ∷ ss) (o ∷ os)
 skipped_more s ss None os rest e = ap (λ r. s.line ∷ r) e
 skipped_more s ss (Some m) os rest e = e
 
-said-skipped : (host : List ℕ) (ss : List Numbered) → (all_said host ss).skipped ≡ skipped_lines ss (meanings host ss)
-said-skipped host [] = refl
-said-skipped host (s ∷ ss) = skipped_more s ss (statement_of host s.text) (meanings host ss) (all_said host ss).skipped (said-skipped host ss)
+said_skipped : (host : List ℕ) (ss : List Numbered) → (all_said host ss).skipped ≡ skipped_lines ss (meanings host ss)
+said_skipped host [] = refl
+said_skipped host (s ∷ ss) = skipped_more s ss (statement_of host s.text) (meanings host ss) (all_said host ss).skipped (said_skipped host ss)
 
 -- what the text says about the host that it names is the entry of the text
 pub entry_is : (text host : List ℕ) (entry : Entry) → Ok host ≡ host_of text → Says (all_said host (statements_of text)) host entry → IsEntry text entry
@@ -77,9 +77,9 @@ entry_is text host entry eh says = record {
   meanings = meanings host (statements_of text);
   host = sym eh ∙ ap Ok (sym says.host_is);
   each = subst (λ (h : List ℕ). AllZip (IsParsed h) (statements_of text) (meanings host (statements_of text))) (sym says.host_is) (each_parsed host (statements_of text));
-  aliases = says.aliases ∙ said-aliases host (statements_of text);
-  links = subst (λ (ls : List Link). IsListing ls entry.links) (said-links host (statements_of text)) says.links;
-  skipped = says.skipped ∙ said-skipped host (statements_of text);
+  aliases = says.aliases ∙ said_aliases host (statements_of text);
+  links = subst (λ (ls : List Link). IsListing ls entry.links) (said_links host (statements_of text)) says.links;
+  skipped = says.skipped ∙ said_skipped host (statements_of text);
 }
 
 -- ---- one listing

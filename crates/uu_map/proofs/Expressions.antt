@@ -12,7 +12,7 @@ use Rattle.uu_map.specs.declared.expression.Level.{Level}
 use Rattle.uu_map.specs.declared.expression.Stage.{Stage}
 use Rattle.uu_map.specs.declared.expression.Stage.TheVariants.{Operand, Operator}
 use Rattle.uu_map.specs.Expression.{Sum, Product, Factor, one_product, added, one_factor, scaled, amount, dead, group, signed, sum_text, product_text, factor_text, kept, sum_of, product_of, both, negated, with_sign, sum_value, product_value, factor_value, sum_fits, product_fits, factor_fits, sum_is_dead, product_is_dead, factor_is_dead, cost_of}
-use Rattle.uu_map.specs.Internal.Reading.{State, sum_with, product_with, negated_if, flipped, run, start}
+use Rattle.uu_map.specs.Internal.Reading.{ReadingState, sum_with, product_with, negated_if, flipped, run, start}
 
 -- ---- values on the way are kept
 
@@ -114,7 +114,7 @@ level_of sum product negative room base = record { sum = sum; product = product;
 abbrev plain : Option (Option ℤ × Additive) → ℕ → Level
 plain sum base = level_of sum None false base base
 
-abbrev at : List Level → Level → Stage → Bool → State
+abbrev at : List Level → Level → Stage → Bool → ReadingState
 at outer level stage d = record { outer = outer; level = level; stage = stage; dead = d }
 
 -- a sum is read up to its last product

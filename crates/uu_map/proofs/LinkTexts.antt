@@ -29,20 +29,20 @@ use Rattle.uu_map.proofs.Accepted.{accepted_expression}
 -- ---- fronts
 
 -- the longest prefix that passes, if what follows it doesn't begin so
-pub prefix_len-front : (p : ℕ → Bool) (xs rest : List ℕ) → list_all p xs ≡ true → begins p rest ≡ false → prefix_len p (xs ++ rest) ≡ length xs
-prefix_len-front p [] [] all stops = refl
-prefix_len-front p [] (r ∷ rest) all stops = ap (λ b. cond b (1 + prefix_len p rest) 0) stops
-prefix_len-front p (x ∷ xs) rest all stops = go (p x) all (λ more. prefix_len-front p xs rest more stops)
+pub prefix_len_front : (p : ℕ → Bool) (xs rest : List ℕ) → list_all p xs ≡ true → begins p rest ≡ false → prefix_len p (xs ++ rest) ≡ length xs
+prefix_len_front p [] [] all stops = refl
+prefix_len_front p [] (r ∷ rest) all stops = ap (λ b. cond b (1 + prefix_len p rest) 0) stops
+prefix_len_front p (x ∷ xs) rest all stops = go (p x) all (λ more. prefix_len_front p xs rest more stops)
   where
     go : (b : Bool) → (b && list_all p xs) ≡ true → (list_all p xs ≡ true → prefix_len p (xs ++ rest) ≡ length xs) → cond b (1 + prefix_len p (xs ++ rest)) 0 ≡ length (x ∷ xs)
     go true e ih = let n : prefix_len p (xs ++ rest) ≡ length xs = ih e in omega arith
     go false e ih = absurd cc
 
-pub skip-front : (p : ℕ → Bool) (xs rest : List ℕ) → list_all p xs ≡ true → begins p rest ≡ false → skip p (xs ++ rest) ≡ rest
-skip-front p xs rest all stops = ap (λ n. drop n (xs ++ rest)) (prefix_len-front p xs rest all stops) ∙ drop_at xs rest (length xs) refl
+pub skip_front : (p : ℕ → Bool) (xs rest : List ℕ) → list_all p xs ≡ true → begins p rest ≡ false → skip p (xs ++ rest) ≡ rest
+skip_front p xs rest all stops = ap (λ n. drop n (xs ++ rest)) (prefix_len_front p xs rest all stops) ∙ drop_at xs rest (length xs) refl
 
 pub take-front : (p : ℕ → Bool) (xs rest : List ℕ) → list_all p xs ≡ true → begins p rest ≡ false → take (prefix_len p (xs ++ rest)) (xs ++ rest) ≡ xs
-take-front p xs rest all stops = ap (λ n. take n (xs ++ rest)) (prefix_len-front p xs rest all stops) ∙ take_at xs rest (length xs) refl
+take-front p xs rest all stops = ap (λ n. take n (xs ++ rest)) (prefix_len_front p xs rest all stops) ∙ take_at xs rest (length xs) refl
 
 -- ---- answers
 
@@ -262,7 +262,7 @@ named_is_read link back behind name mark cost =
     let all : list_all is_site_byte link.to ≡ true = name_passes link.to name in
     let stops : begins is_site_byte (back ++ behind) ≡ false = mark_stops back behind mark starts.no_site_byte in
     let front : take (prefix_len is_site_byte (link.to ++ (back ++ behind))) (link.to ++ (back ++ behind)) ≡ link.to = take-front is_site_byte link.to (back ++ behind) all stops in
-    let rest : skip is_site_byte (link.to ++ (back ++ behind)) ≡ back ++ behind = skip-front is_site_byte link.to (back ++ behind) all stops in
+    let rest : skip is_site_byte (link.to ++ (back ++ behind)) ≡ back ++ behind = skip_front is_site_byte link.to (back ++ behind) all stops in
     let after : skip_mark (back ++ behind) ≡ behind = behind_mark back behind mark starts.no_mark in
     ap (λ t. option_and_then (λ cost. option_map (λ name. let l : Link = record { to = name; cost = cost } in l) (site_name (take (prefix_len is_site_byte (link.to ++ (back ++ behind))) (link.to ++ (back ++ behind))))) (cost_behind (token.tokens (skip_mark t)))) rest
     ∙ (ap (λ t. option_and_then (λ cost. option_map (λ name. let l : Link = record { to = name; cost = cost } in l) (site_name (take (prefix_len is_site_byte (link.to ++ (back ++ behind))) (link.to ++ (back ++ behind))))) (cost_behind (token.tokens t))) after
@@ -276,7 +276,7 @@ unfolding link_of
 link_is_read text link l =
     let (stops, after) = front_begins l.front link.to (l.back ++ l.behind) l.front_mark l.name in
     ap (λ t. named_link (skip_mark (skip is_blank t))) l.written
-    ∙ (ap (λ t. named_link (skip_mark t)) (skip-front is_blank l.blanks (l.front ++ (link.to ++ (l.back ++ l.behind))) l.before stops)
+    ∙ (ap (λ t. named_link (skip_mark t)) (skip_front is_blank l.blanks (l.front ++ (link.to ++ (l.back ++ l.behind))) l.before stops)
     ∙ (ap named_link after
     ∙ named_is_read link l.back l.behind l.name l.back_mark l.cost))
 
@@ -314,7 +314,7 @@ unfolding named_alias
 named_alias_is_read name behind good blank =
     let all : list_all is_site_byte name ≡ true = name_passes name good in
     let stops : begins is_site_byte behind ≡ false = blanks_stop behind blank in
-    ap (λ t. cond (all_blank t) (site_name (take (prefix_len is_site_byte (name ++ behind)) (name ++ behind))) None) (skip-front is_site_byte name behind all stops)
+    ap (λ t. cond (all_blank t) (site_name (take (prefix_len is_site_byte (name ++ behind)) (name ++ behind))) None) (skip_front is_site_byte name behind all stops)
     ∙ (ap (λ b. cond b (site_name (take (prefix_len is_site_byte (name ++ behind)) (name ++ behind))) None) blank
     ∙ (ap site_name (take-front is_site_byte name behind all stops)
     ∙ ap (λ b. cond b (Some name) None) good))
@@ -324,5 +324,5 @@ unfolding alias_of
 alias_is_read text name a =
     let (stops, _) = name_begins name a.behind a.is_name in
     ap (λ t. named_alias (skip is_blank t)) a.written
-    ∙ (ap named_alias (skip-front is_blank a.blanks (name ++ a.behind) a.before stops)
+    ∙ (ap named_alias (skip_front is_blank a.blanks (name ++ a.behind) a.before stops)
     ∙ named_alias_is_read name a.behind a.is_name a.after)

@@ -41,26 +41,26 @@ cost_ties (Value a) Dead = refl
 cost_ties Dead (Value b) = refl
 cost_ties Dead Dead = refl
 
-is_eq-then : (o p : Ordering) → (is_eq o && is_eq p) ≡ is_eq (ordering_then o p)
-is_eq-then Less p = refl
-is_eq-then Equal p = refl
-is_eq-then Greater p = refl
+is_eq_then : (o p : Ordering) → (is_eq o && is_eq p) ≡ is_eq (ordering_then o p)
+is_eq_then Less p = refl
+is_eq_then Equal p = refl
+is_eq_then Greater p = refl
 
 ranked_ties : (a b : Ranked) → ranked_eq a b ≡ eq_by_cmp ranked_cmp a b
 ranked_ties a b =
     ap (λ t. t && pointwise nat_eq a.to b.to) (cost_ties a.cost b.cost)
     ∙ (ap (λ t. is_eq (cost_cmp a.cost b.cost) && t) (texts_ties a.to b.to)
-    ∙ is_eq-then (cost_cmp a.cost b.cost) (slice_cmp nat_cmp a.to b.to))
+    ∙ is_eq_then (cost_cmp a.cost b.cost) (slice_cmp nat_cmp a.to b.to))
 
-is_eq-reverse : (o : Ordering) → is_eq (ordering_reverse o) ≡ is_eq o
-is_eq-reverse Less = refl
-is_eq-reverse Equal = refl
-is_eq-reverse Greater = refl
+is_eq_reverse : (o : Ordering) → is_eq (ordering_reverse o) ≡ is_eq o
+is_eq_reverse Less = refl
+is_eq_reverse Equal = refl
+is_eq_reverse Greater = refl
 
 ranked_equivalence : IsEquivalence (eq_by_cmp ranked_cmp)
 ranked_equivalence = record {
   refl = λ x. ap is_eq (tied_itself ranked_total x);
-  symm = λ x y. ap is_eq (ranked_total.antisymm x y) ∙ is_eq-reverse (ranked_cmp y x);
+  symm = λ x y. ap is_eq (ranked_total.antisymm x y) ∙ is_eq_reverse (ranked_cmp y x);
   congr = λ x y z e. ap is_eq (ranked_total.congr x y z ((Equal-is (ranked_cmp x y)).0 e));
 }
 

@@ -16,7 +16,7 @@ use Rattle.uu_names.specs.Text.{is_blank}
 use Rattle.uu_names.proofs.Basics.{front_passes}
 use Rattle.uu_map.specs.Statement.{is_mark, is_comma, all_blank, cut, elements, IsLink, IsAlias, Meaning, IsStatement, alone, with_links, with_aliases}
 use Rattle.uu_map.specs.Internal.StatementReading.{skip, skip_mark, cost_behind, site_name, named_link, link_of, alias_of, each_of, list_of, is_equals, said_by, statement_of}
-use Rattle.uu_map.proofs.LinkTexts.{skip-front, link_is, link_is_read, alias_is, alias_is_read}
+use Rattle.uu_map.proofs.LinkTexts.{skip_front, link_is, link_is_read, alias_is, alias_is_read}
 
 -- ---- lists
 
@@ -60,18 +60,18 @@ aliases_are_read list aliases h = each_is_read alias_of IsAlias alias_is_read (e
 
 -- ---- no list of links begins with an equals sign
 
-skip-blank : (b : ℕ) (bs : List ℕ) → is_blank b ≡ true → skip is_blank (b ∷ bs) ≡ skip is_blank bs
-skip-blank b bs h = ap (λ t. drop (cond t (1 + prefix_len is_blank bs) 0) (b ∷ bs)) h ∙ ap (λ n. drop n (b ∷ bs)) (one-add (prefix_len is_blank bs))
+skip_blank : (b : ℕ) (bs : List ℕ) → is_blank b ≡ true → skip is_blank (b ∷ bs) ≡ skip is_blank bs
+skip_blank b bs h = ap (λ t. drop (cond t (1 + prefix_len is_blank bs) 0) (b ∷ bs)) h ∙ ap (λ n. drop n (b ∷ bs)) (one-add (prefix_len is_blank bs))
 
-skip-other : (b : ℕ) (bs : List ℕ) → is_blank b ≡ false → skip is_blank (b ∷ bs) ≡ b ∷ bs
-skip-other b bs h = ap (λ t. drop (cond t (1 + prefix_len is_blank bs) 0) (b ∷ bs)) h
+skip_other : (b : ℕ) (bs : List ℕ) → is_blank b ≡ false → skip is_blank (b ∷ bs) ≡ b ∷ bs
+skip_other b bs h = ap (λ t. drop (cond t (1 + prefix_len is_blank bs) 0) (b ∷ bs)) h
 
 skip-all : (text : List ℕ) → all_blank text ≡ true → skip is_blank text ≡ []
 skip-all [] h = refl
 skip-all (b ∷ bs) h = go (λ k. skip-all bs k) (is_blank b) refl h
   where
     go : (all_blank bs ≡ true → skip is_blank bs ≡ []) → (t : Bool) → is_blank b ≡ t → (t && all_blank bs) ≡ true → skip is_blank (b ∷ bs) ≡ []
-    go rec true e h = skip-blank b bs e ∙ rec h
+    go rec true e h = skip_blank b bs e ∙ rec h
     go rec false e h = absurd cc
 
 blank_is_no_comma : (b : ℕ) → is_blank b ≡ true → is_comma b ≡ false
@@ -104,7 +104,7 @@ first_part (b ∷ bs) h = go (is_blank b) refl (λ k. first_part bs k)
       part = b ∷ f.part;
       parts = f.parts;
       is = ap (λ t. cond t ([] ∷ cut is_comma bs) (onto_first b (cut is_comma bs))) (blank_is_no_comma b e) ∙ ap (onto_first b) f.is;
-      begins_so = ap (begins is_equals) (skip-blank b f.part e) ∙ f.begins_so;
+      begins_so = ap (begins is_equals) (skip_blank b f.part e) ∙ f.begins_so;
     }
 
     here : is_blank b ≡ false → is_equals b ≡ true → (ps : List (List ℕ)) → cut is_comma bs ≡ ps → FirstPart (b ∷ bs)
@@ -112,18 +112,18 @@ first_part (b ∷ bs) h = go (is_blank b) refl (λ k. first_part bs k)
       part = b ∷ [];
       parts = [];
       is = ap (λ t. cond t ([] ∷ cut is_comma bs) (onto_first b (cut is_comma bs))) (equals_is_no_comma b q) ∙ ap (onto_first b) c;
-      begins_so = ap (begins is_equals) (skip-other b [] e) ∙ q;
+      begins_so = ap (begins is_equals) (skip_other b [] e) ∙ q;
     }
     here e q (p ∷ ps) c = record {
       part = b ∷ p;
       parts = ps;
       is = ap (λ t. cond t ([] ∷ cut is_comma bs) (onto_first b (cut is_comma bs))) (equals_is_no_comma b q) ∙ ap (onto_first b) c;
-      begins_so = ap (begins is_equals) (skip-other b p e) ∙ q;
+      begins_so = ap (begins is_equals) (skip_other b p e) ∙ q;
     }
 
     go : (t : Bool) → is_blank b ≡ t → (begins is_equals (skip is_blank bs) ≡ true → FirstPart bs) → FirstPart (b ∷ bs)
-    go true e rec = after_blank e (rec (sym (ap (begins is_equals) (skip-blank b bs e)) ∙ h))
-    go false e rec = here e (sym (ap (begins is_equals) (skip-other b bs e)) ∙ h) (cut is_comma bs) refl
+    go true e rec = after_blank e (rec (sym (ap (begins is_equals) (skip_blank b bs e)) ∙ h))
+    go false e rec = here e (sym (ap (begins is_equals) (skip_other b bs e)) ∙ h) (cut is_comma bs) refl
 
 no_link : (text : List ℕ) → begins is_equals text ≡ true → named_link (skip_mark text) ≡ None
 unfolding named_link
@@ -189,7 +189,7 @@ links_are_said : (blank : ℕ) (list : List ℕ) (links : List Link) → is_blan
 links_are_said blank list links is_one h = go (begins is_equals (skip is_blank (blank ∷ list))) refl (is_blank blank) is_one
   where
     go : (t : Bool) → begins is_equals (skip is_blank (blank ∷ list)) ≡ t → (w : Bool) → w ≡ true → cond t (option_map of_aliases (list_of alias_of (drop 1 (skip is_blank (blank ∷ list))))) (cond w (option_map of_links (list_of link_of list)) None) ≡ Some (of_links links)
-    go true e w k = let impossible : None ≡ Some links = sym (no_links list (sym (ap (begins is_equals) (skip-blank blank list is_one)) ∙ e)) ∙ links_are_read list links h in absurd cc
+    go true e w k = let impossible : None ≡ Some links = sym (no_links list (sym (ap (begins is_equals) (skip_blank blank list is_one)) ∙ e)) ∙ links_are_read list links h in absurd cc
     go false e true k = ap (option_map of_links) (links_are_read list links h)
     go false e false k = absurd cc
 
@@ -222,4 +222,4 @@ pub statement_is_read : (host text : List ℕ) (m : Meaning) → IsStatement hos
 statement_is_read host text m alone = ap (statement_of host) (sym (append-nil host)) ∙ host_first host []
 statement_is_read host text m (with_links blank list links is_one h) = host_first host (blank ∷ list) ∙ links_are_said blank list links is_one h
 statement_is_read host text m (with_aliases blanks list aliases all h) =
-    host_first host (blanks ++ byte "=" ∷ list) ∙ aliases_behind (blanks ++ byte "=" ∷ list) list aliases (skip-front is_blank blanks (byte "=" ∷ list) all refl) h
+    host_first host (blanks ++ byte "=" ∷ list) ∙ aliases_behind (blanks ++ byte "=" ∷ list) list aliases (skip_front is_blank blanks (byte "=" ∷ list) all refl) h

@@ -19,17 +19,17 @@ capital_is_no_digit c h = grind (arith, nat_tests)
 
 -- ---- blanks
 
-pub words-skip : (xs : List ℕ) → words (drop (prefix_len is_blank xs) xs) ≡ words xs
-words-skip [] = refl
-words-skip (x ∷ xs) = go (is_blank x) refl (words-skip xs)
+pub words_skip : (xs : List ℕ) → words (drop (prefix_len is_blank xs) xs) ≡ words xs
+words_skip [] = refl
+words_skip (x ∷ xs) = go (is_blank x) refl (words_skip xs)
   where
     go : (b : Bool) → is_blank x ≡ b → words (drop (prefix_len is_blank xs) xs) ≡ words xs → words (drop (cond b (1 + prefix_len is_blank xs) 0) (x ∷ xs)) ≡ cond b (words xs) (cond (runs_on x xs) (onto_first x (words xs)) ((x ∷ []) ∷ words xs))
     go true e ih = ap (λ n. words (drop n (x ∷ xs))) (one-add (prefix_len is_blank xs)) ∙ ih
     go false e ih = ap (λ t. cond t (words xs) (cond (runs_on x xs) (onto_first x (words xs)) ((x ∷ []) ∷ words xs))) e
 
-pub begins-skip : (p : ℕ → Bool) (xs : List ℕ) → begins p (drop (prefix_len p xs) xs) ≡ false
-begins-skip p [] = refl
-begins-skip p (x ∷ xs) = go (p x) refl (begins-skip p xs)
+pub begins_skip : (p : ℕ → Bool) (xs : List ℕ) → begins p (drop (prefix_len p xs) xs) ≡ false
+begins_skip p [] = refl
+begins_skip p (x ∷ xs) = go (p x) refl (begins_skip p xs)
   where
     go : (b : Bool) → p x ≡ b → begins p (drop (prefix_len p xs) xs) ≡ false → begins p (drop (cond b (1 + prefix_len p xs) 0) (x ∷ xs)) ≡ false
     go true e ih = ap (λ n. begins p (drop n (x ∷ xs))) (one-add (prefix_len p xs)) ∙ ih
@@ -87,11 +87,11 @@ from_word [] stops some = absurd (omega arith)
 from_word (b ∷ bs) stops some = ap (map word_token) (words-cons b bs stops)
 
 pub tokens_next : (t : List ℕ) → 0 < length (drop (prefix_len is_blank t) t) → tokens t ≡ word_token (take (word_len (drop (prefix_len is_blank t) t)) (drop (prefix_len is_blank t) t)) ∷ tokens (drop (word_len (drop (prefix_len is_blank t) t)) (drop (prefix_len is_blank t) t))
-tokens_next t some = ap (map word_token) (sym (words-skip t)) ∙ from_word (drop (prefix_len is_blank t) t) (begins-skip is_blank t) some
+tokens_next t some = ap (map word_token) (sym (words_skip t)) ∙ from_word (drop (prefix_len is_blank t) t) (begins_skip is_blank t) some
 
 from_nothing : (u : List ℕ) → length u ≡ 0 → tokens u ≡ []
 from_nothing [] e = refl
 from_nothing (b ∷ bs) e = absurd (omega arith)
 
 pub tokens_end : (t : List ℕ) → length (drop (prefix_len is_blank t) t) ≡ 0 → tokens t ≡ []
-tokens_end t none = ap (map word_token) (sym (words-skip t)) ∙ from_nothing (drop (prefix_len is_blank t) t) none
+tokens_end t none = ap (map word_token) (sym (words_skip t)) ∙ from_nothing (drop (prefix_len is_blank t) t) none

@@ -147,10 +147,10 @@ fn cost_of_value(value: i64) -> Cost
 }
 
 impl Reading {
-    ghost use Rattle.uu_map.specs.Internal.Reading.{state_of, with_factor, at_operand, closed, at_operator, step, finish};
+    ghost use Rattle.uu_map.specs.Internal.Reading.{reading_state, with_factor, at_operand, closed, at_operator, step, finish};
 
     fn new(alloc: Global) -> Reading
-        ensures { state_of result ≡ start most_depth }
+        ensures { reading_state result ≡ start most_depth }
     {
         Reading {
             outer: Vec::new(alloc),
@@ -162,7 +162,7 @@ impl Reading {
 
     // The reading after a factor of this value.
     fn with_factor(outer: Vec<Level>, level: Level, dead: bool, value: Option<i64>) -> Reading
-        ensures { state_of result ≡ with_factor (reverse outer.items) level dead value }
+        ensures { reading_state result ≡ with_factor (reverse outer.items) level dead value }
     {
         let value = product_with(level.product, negated_if(level.negative, value));
         let level = Level {
@@ -186,7 +186,7 @@ impl Reading {
         dead: bool,
         room: u32,
     ) -> Result<Reading, AllocError>
-        ensures { IfOk result (λ r. state_of r ≡ record { outer = level ∷ reverse outer.items; level = fresh room; stage = Stage.Operand; dead = dead }) }
+        ensures { IfOk result (λ r. reading_state r ≡ record { outer = level ∷ reverse outer.items; level = fresh room; stage = Stage.Operand; dead = dead }) }
     {
         outer.push(level)?;
         Ok(Reading {
@@ -204,7 +204,7 @@ impl Reading {
         dead: bool,
         token: Token,
     ) -> Result<Option<Reading>, AllocError>
-        ensures { IfOk result (λ r. option_map state_of r ≡ at_operand (reverse outer.items) level dead token) }
+        ensures { IfOk result (λ r. option_map reading_state r ≡ at_operand (reverse outer.items) level dead token) }
     {
         match token {
             Token::Amount(value) => {
@@ -238,7 +238,7 @@ impl Reading {
 
     // The reading after the parenthesis that closes a sum of this value.
     fn closed(mut outer: Vec<Level>, level: Level, dead: bool, value: Option<i64>) -> Reading
-        ensures { state_of result ≡ closed (reverse outer.items) level dead value }
+        ensures { reading_state result ≡ closed (reverse outer.items) level dead value }
     {
         match outer.pop() {
             None => Reading {
@@ -259,7 +259,7 @@ impl Reading {
         value: Option<i64>,
         token: Token,
     ) -> Option<Reading>
-        ensures { option_map state_of result ≡ at_operator (reverse outer.items) level dead value token }
+        ensures { option_map reading_state result ≡ at_operator (reverse outer.items) level dead value token }
     {
         let level = match token {
             Token::Additive(op) => Level {
@@ -286,7 +286,7 @@ impl Reading {
 
     // Takes the next token, or refuses it.
     fn step(self, token: Token) -> Result<Option<Reading>, AllocError>
-        ensures { IfOk result (λ r. option_map state_of r ≡ step (state_of self) token) }
+        ensures { IfOk result (λ r. option_map reading_state r ≡ step (reading_state self) token) }
     {
         let Reading {
             outer,

@@ -7,11 +7,11 @@ use Rattle.uu_names.specs.declared.fault.NameFault.{NameFault}
 use Rattle.uu_names.specs.declared.fault.NameFault.TheVariants.{TooLong, BadName}
 use Rattle.uu_names.specs.Name.{has_form, checked_text, is_site_byte, is_site_name, site_name_of}
 
-prefix_len-not_not : (p : ℕ → Bool) (xs : List ℕ) → prefix_len (λ x. not (not (p x))) xs ≡ prefix_len p xs
-prefix_len-not_not p [] = refl
-prefix_len-not_not p (x ∷ xs) =
+prefix_len_not_not : (p : ℕ → Bool) (xs : List ℕ) → prefix_len (λ x. not (not (p x))) xs ≡ prefix_len p xs
+prefix_len_not_not p [] = refl
+prefix_len_not_not p (x ∷ xs) =
     elim (p x) as (λ b. cond (not (not b)) (1 + prefix_len (λ x. not (not (p x))) xs) 0 ≡ cond b (1 + prefix_len p xs) 0) [
-      | true ↦ ap (λ n. 1 + n) (prefix_len-not_not p xs)
+      | true ↦ ap (λ n. 1 + n) (prefix_len_not_not p xs)
       | false ↦ refl
     ]
 
@@ -25,7 +25,7 @@ all_or_first p (x ∷ xs) =
     ]
 
 position-not : (p : ℕ → Bool) (xs : List ℕ) → position (λ x. not (p x)) xs ≡ cond (ltb (prefix_len p xs) (length xs)) (Some (prefix_len p xs)) None
-position-not p xs = ap (λ n. cond (ltb n (length xs)) (Some n) None) (prefix_len-not_not p xs)
+position-not p xs = ap (λ n. cond (ltb n (length xs)) (Some n) None) (prefix_len_not_not p xs)
 
 -- the first byte that does not pass is the offset of the fault
 pub checked_text-at : (p : ℕ → Bool) (limit : ℕ) (bad_at : ℕ → NameFault) (text : List ℕ) (at : ℕ) → Some at ≡ position (λ x. not (p x)) text → checked_text p limit bad_at text ≡ Err (bad_at at)
@@ -64,8 +64,8 @@ by-length p limit bad_at text fits e some q =
     let t : leb 1 (length text) ≡ true = grind (arith, nat_tests) in
     rw (t, all_pass p text e, q)
 
-pub checked_text-long : (p : ℕ → Bool) (limit : ℕ) (bad_at : ℕ → NameFault) (text : List ℕ) → None ≡ position (λ x. not (p x)) text → 0 < length text → limit < length text → checked_text p limit bad_at text ≡ Err TooLong
-checked_text-long p limit bad_at text e some long = by-length p limit bad_at text false e some (grind (arith, nat_tests))
+pub checked_text_long : (p : ℕ → Bool) (limit : ℕ) (bad_at : ℕ → NameFault) (text : List ℕ) → None ≡ position (λ x. not (p x)) text → 0 < length text → limit < length text → checked_text p limit bad_at text ≡ Err TooLong
+checked_text_long p limit bad_at text e some long = by-length p limit bad_at text false e some (grind (arith, nat_tests))
 
 pub checked_text-ok : (p : ℕ → Bool) (limit : ℕ) (bad_at : ℕ → NameFault) (text : List ℕ) → None ≡ position (λ x. not (p x)) text → 0 < length text → length text ≤ limit → checked_text p limit bad_at text ≡ Ok text
 checked_text-ok p limit bad_at text e some fits = by-length p limit bad_at text true e some (grind (arith, nat_tests))

@@ -7,7 +7,7 @@ use Rattle.std.proofs.lemmas.Str.{IsCharBoundary-before_ascii, IsCharBoundary-af
 use Rattle.std.proofs.lemmas.Str.Ascii.{IsAscii-nil, IsAscii-cons}
 use Rattle.uu_names.specs.Name.{is_word_byte, is_site_name, is_word}
 use Rattle.uu_names.specs.Path.{IsPathText, is_bang, first_hop, rest_of}
-use Rattle.uu_names.proofs.PathScan.{IsCut, cut_path, position-front, path_bytes, path_fits}
+use Rattle.uu_names.proofs.PathScan.{IsCut, cut_path, position_front, path_bytes, path_fits}
 use Rattle.uu_names.proofs.Basics.{and_first, and_second}
 
 below_128 : (b : ℕ) → is_word_byte b ≡ true → b < 128
@@ -24,7 +24,7 @@ path_ascii text p = word_bytes_ascii text (path_bytes text p)
 
 -- the first site, and where it ends
 pub hop_len_is : (text : List ℕ) (c : IsCut text) → position_or_len is_bang text ≡ length c.site
-hop_len_is text c = ap (position_or_len is_bang) c.split ∙ position-front c.site c.rest c.no_bang
+hop_len_is text c = ap (position_or_len is_bang) c.split ∙ position_front c.site c.rest c.no_bang
 
 pub first_hop_is : (text : List ℕ) (c : IsCut text) → first_hop text ≡ c.site
 first_hop_is text c = (λ i. take (hop_len_is text c i) (c.split i)) ∙ take_at c.site (33 ∷ c.rest) (length c.site) refl

@@ -20,16 +20,16 @@ pub whole-cons : (site : List ℕ) (sites : List (List ℕ)) (part : List ℕ) �
 whole-cons site [] part = refl
 whole-cons site (next ∷ sites) part = refl
 
-pub whole-push_byte : (sites : List (List ℕ)) (part : List ℕ) (b : ℕ) → whole sites (part ++ b ∷ []) ≡ whole sites part ++ b ∷ []
-whole-push_byte [] part b = refl
-whole-push_byte (site ∷ sites) part b =
-    whole-cons site sites (part ++ b ∷ []) ∙ ap (λ t. site ++ (33 ∷ t)) (whole-push_byte sites part b)
+pub whole_push_byte : (sites : List (List ℕ)) (part : List ℕ) (b : ℕ) → whole sites (part ++ b ∷ []) ≡ whole sites part ++ b ∷ []
+whole_push_byte [] part b = refl
+whole_push_byte (site ∷ sites) part b =
+    whole-cons site sites (part ++ b ∷ []) ∙ ap (λ t. site ++ (33 ∷ t)) (whole_push_byte sites part b)
     ∙ sym (append_assoc site (33 ∷ whole sites part) (b ∷ [])) ∙ ap (λ t. t ++ b ∷ []) (sym (whole-cons site sites part))
 
-pub whole-push_part : (sites : List (List ℕ)) (part : List ℕ) → whole (sites ++ part ∷ []) [] ≡ whole sites part ++ 33 ∷ []
-whole-push_part [] part = refl
-whole-push_part (site ∷ sites) part =
-    whole-cons site (sites ++ part ∷ []) [] ∙ ap (λ t. site ++ (33 ∷ t)) (whole-push_part sites part)
+pub whole_push_part : (sites : List (List ℕ)) (part : List ℕ) → whole (sites ++ part ∷ []) [] ≡ whole sites part ++ 33 ∷ []
+whole_push_part [] part = refl
+whole_push_part (site ∷ sites) part =
+    whole-cons site (sites ++ part ∷ []) [] ∙ ap (λ t. site ++ (33 ∷ t)) (whole_push_part sites part)
     ∙ sym (append_assoc site (33 ∷ whole sites part) (33 ∷ [])) ∙ ap (λ t. t ++ 33 ∷ []) (sym (whole-cons site sites part))
 
 -- ---- cutting at the first `!`
@@ -78,17 +78,17 @@ byte_within p (a ∷ x) (c ∷ y) xs b q e = byte_within p x y xs b (and_second 
 -- ---- what the classes of bytes have to do with each other
 
 -- a byte of a site name is one of a local part, and neither is `!`
-pub local-from_site : (b : ℕ) → is_site_byte b ≡ true → is_local_byte b ≡ true
-local-from_site b h = grind (arith, nat_tests)
+pub local_from_site : (b : ℕ) → is_site_byte b ≡ true → is_local_byte b ≡ true
+local_from_site b h = grind (arith, nat_tests)
 
-pub no_bang-from_local : (b : ℕ) → is_local_byte b ≡ true → not (is_bang b) ≡ true
-no_bang-from_local b h = and_second (is_word_byte b) _ h
+pub no_bang_from_local : (b : ℕ) → is_local_byte b ≡ true → not (is_bang b) ≡ true
+no_bang_from_local b h = and_second (is_word_byte b) _ h
 
 pub local_has_no_bang : (xs : List ℕ) → list_all is_local_byte xs ≡ true → has_no_bang xs ≡ true
-local_has_no_bang xs e = list_all_weaker is_local_byte (λ b. not (is_bang b)) xs no_bang-from_local e
+local_has_no_bang xs e = list_all_weaker is_local_byte (λ b. not (is_bang b)) xs no_bang_from_local e
 
 pub site_has_no_bang : (xs : List ℕ) → list_all is_site_byte xs ≡ true → has_no_bang xs ≡ true
-site_has_no_bang xs e = local_has_no_bang xs (list_all_weaker is_site_byte is_local_byte xs local-from_site e)
+site_has_no_bang xs e = local_has_no_bang xs (list_all_weaker is_site_byte is_local_byte xs local_from_site e)
 
 -- the bytes of a text of some form, and that it has one
 pub form_bytes : (p : ℕ → Bool) (xs : List ℕ) → has_form p xs ≡ true → list_all p xs ≡ true
@@ -97,8 +97,8 @@ form_bytes p xs e = and_second (leb 1 (length xs)) _ e
 pub form_some : (p : ℕ → Bool) (xs : List ℕ) → has_form p xs ≡ true → 0 < length xs
 form_some p xs e = let t = and_first (leb 1 (length xs)) _ e in grind (arith, nat_tests)
 
-pub form-from : (p : ℕ → Bool) (xs : List ℕ) → 0 < length xs → list_all p xs ≡ true → has_form p xs ≡ true
-form-from p xs l e = let t : leb 1 (length xs) ≡ true = grind (arith, nat_tests) in rw (t, e)
+pub form_from : (p : ℕ → Bool) (xs : List ℕ) → 0 < length xs → list_all p xs ≡ true → has_form p xs ≡ true
+form_from p xs l e = let t : leb 1 (length xs) ≡ true = grind (arith, nat_tests) in rw (t, e)
 
 -- ---- a text that is some sites and a part, against a path's text
 
@@ -160,18 +160,18 @@ list_all-append p (x ∷ xs) ys = ap (λ b. p x && b) (list_all-append p xs ys) 
     and-assoc true b c = refl
     and-assoc false b c = refl
 
-all_sites-push : (sites : List (List ℕ)) (part : List ℕ) → all_sites sites ≡ true → has_form is_site_byte part ≡ true → all_sites (sites ++ part ∷ []) ≡ true
-all_sites-push [] part p q = rw q
-all_sites-push (site ∷ sites) part p q =
-    rw (and_first (has_form is_site_byte site) (all_sites sites) p, all_sites-push sites part (and_second (has_form is_site_byte site) (all_sites sites) p) q)
+all_sites_push : (sites : List (List ℕ)) (part : List ℕ) → all_sites sites ≡ true → has_form is_site_byte part ≡ true → all_sites (sites ++ part ∷ []) ≡ true
+all_sites_push [] part p q = rw q
+all_sites_push (site ∷ sites) part p q =
+    rw (and_first (has_form is_site_byte site) (all_sites sites) p, all_sites_push sites part (and_second (has_form is_site_byte site) (all_sites sites) p) q)
 
-long-push : (sites : List (List ℕ)) (part : List ℕ) → list_any is_long_site (sites ++ part ∷ []) ≡ list_any is_long_site sites || is_long_site part
-long-push [] part = or-false (is_long_site part)
+long_push : (sites : List (List ℕ)) (part : List ℕ) → list_any is_long_site (sites ++ part ∷ []) ≡ list_any is_long_site sites || is_long_site part
+long_push [] part = or-false (is_long_site part)
   where
     or-false : (b : Bool) → b || false ≡ b
     or-false true = refl
     or-false false = refl
-long-push (site ∷ sites) part = ap (λ b. is_long_site site || b) (long-push sites part) ∙ or-assoc (is_long_site site) _ _
+long_push (site ∷ sites) part = ap (λ b. is_long_site site || b) (long_push sites part) ∙ or-assoc (is_long_site site) _ _
   where
     or-assoc : (a b c : Bool) → a || (b || c) ≡ (a || b) || c
     or-assoc true b c = refl
@@ -181,24 +181,24 @@ long-push (site ∷ sites) part = ap (λ b. is_long_site site || b) (long-push s
 abbrev pub or_at : Option ℕ → ℕ → Option ℕ
 or_at first at = option_or first (Some at)
 
-first_len-push : (sites : List (List ℕ)) (part : List ℕ) (at : ℕ) → at ≡ length (whole sites part) → first_len (sites ++ part ∷ []) ≡ or_at (first_len sites) at
-first_len-push [] part at e = ap Some (sym e)
-first_len-push (site ∷ sites) part at e = refl
+first_len_push : (sites : List (List ℕ)) (part : List ℕ) (at : ℕ) → at ≡ length (whole sites part) → first_len (sites ++ part ∷ []) ≡ or_at (first_len sites) at
+first_len_push [] part at e = ap Some (sym e)
+first_len_push (site ∷ sites) part at e = refl
 
 -- a `!` after a part of the form of a site name
 pub scan_bang : {seen : List ℕ} {first : Option ℕ} {n : ℕ} {s l : Bool} → IsScanned seen first n s l → 0 < n → s ≡ true → IsScanned (seen ++ 33 ∷ []) (or_at first (length seen)) 0 true (l || ltb 63 n)
 scan_bang {seen} {first} {n} {s} {l} k some site =
-    let form : has_form is_site_byte k.part ≡ true = form-from is_site_byte k.part (omega (arith, k.len)) (sym k.is_site ∙ site) in
+    let form : has_form is_site_byte k.part ≡ true = form_from is_site_byte k.part (omega (arith, k.len)) (sym k.is_site ∙ site) in
     record {
       sites = k.sites ++ k.part ∷ [];
       part = [];
-      text = ap (λ t. t ++ 33 ∷ []) k.text ∙ sym (whole-push_part k.sites k.part);
-      named = all_sites-push k.sites k.part k.named form;
+      text = ap (λ t. t ++ 33 ∷ []) k.text ∙ sym (whole_push_part k.sites k.part);
+      named = all_sites_push k.sites k.part k.named form;
       bytes = nothing (k.sites ++ k.part ∷ []);
-      first = ap (λ f. or_at f (length seen)) k.first ∙ sym (first_len-push k.sites k.part (length seen) (ap length k.text));
+      first = ap (λ f. or_at f (length seen)) k.first ∙ sym (first_len_push k.sites k.part (length seen) (ap length k.text));
       len = refl;
       is_site = refl;
-      long = (λ i. k.long i || ltb 63 (k.len i)) ∙ sym (long-push k.sites k.part);
+      long = (λ i. k.long i || ltb 63 (k.len i)) ∙ sym (long_push k.sites k.part);
     }
   where
     nothing : (sites : List (List ℕ)) → list_all (part_byte sites) [] ≡ true
@@ -210,7 +210,7 @@ pub scan_byte : {seen : List ℕ} {first : Option ℕ} {n : ℕ} {s l : Bool} (b
 scan_byte {seen} {first} {n} {s} {l} b site k is ok = record {
   sites = k.sites;
   part = k.part ++ b ∷ [];
-  text = ap (λ t. t ++ b ∷ []) k.text ∙ sym (whole-push_byte k.sites k.part b);
+  text = ap (λ t. t ++ b ∷ []) k.text ∙ sym (whole_push_byte k.sites k.part b);
   named = k.named;
   bytes = list_all-append (part_byte k.sites) k.part (b ∷ []) ∙ rw (k.bytes, ok);
   first = k.first;
@@ -229,38 +229,38 @@ has_sites : (sites : List (List ℕ)) (part : List ℕ) → 0 < length sites →
 has_sites sites part some named form =
     let t : leb 1 (length sites) ≡ true = grind (arith, nat_tests) in rw (t, named, form)
 
-begins-from : (sites : List (List ℕ)) (part : List ℕ) → all_sites sites ≡ true → list_all (part_byte sites) part ≡ true → BeginsPath (whole sites part)
-begins-from [] [] named bytes = record { path = record { sites = (97 ∷ []) ∷ []; local_part = 97 ∷ [] }; rest = 97 ∷ 33 ∷ 97 ∷ []; is_text = refl; form = refl }
-begins-from [] (b ∷ part) named bytes =
-    let form : has_form is_site_byte (b ∷ part) ≡ true = form-from is_site_byte (b ∷ part) (omega arith) bytes in
+begins_from : (sites : List (List ℕ)) (part : List ℕ) → all_sites sites ≡ true → list_all (part_byte sites) part ≡ true → BeginsPath (whole sites part)
+begins_from [] [] named bytes = record { path = record { sites = (97 ∷ []) ∷ []; local_part = 97 ∷ [] }; rest = 97 ∷ 33 ∷ 97 ∷ []; is_text = refl; form = refl }
+begins_from [] (b ∷ part) named bytes =
+    let form : has_form is_site_byte (b ∷ part) ≡ true = form_from is_site_byte (b ∷ part) (omega arith) bytes in
     record {
       path = record { sites = (b ∷ part) ∷ []; local_part = 97 ∷ [] };
       rest = 33 ∷ 97 ∷ [];
       is_text = refl;
       form = has_sites ((b ∷ part) ∷ []) (97 ∷ []) (omega arith) (rw form) refl;
     }
-begins-from (site ∷ sites) [] named bytes = record {
+begins_from (site ∷ sites) [] named bytes = record {
   path = record { sites = site ∷ sites; local_part = 97 ∷ [] };
   rest = 97 ∷ [];
-  is_text = whole-push_byte (site ∷ sites) [] 97;
+  is_text = whole_push_byte (site ∷ sites) [] 97;
   form = has_sites (site ∷ sites) (97 ∷ []) (omega arith) named refl;
 }
-begins-from (site ∷ sites) (b ∷ part) named bytes = record {
+begins_from (site ∷ sites) (b ∷ part) named bytes = record {
   path = record { sites = site ∷ sites; local_part = b ∷ part };
   rest = [];
   is_text = sym (append-nil (whole (site ∷ sites) (b ∷ part)));
-  form = has_sites (site ∷ sites) (b ∷ part) (omega arith) named (form-from is_local_byte (b ∷ part) (omega arith) bytes);
+  form = has_sites (site ∷ sites) (b ∷ part) (omega arith) named (form_from is_local_byte (b ∷ part) (omega arith) bytes);
 }
 
 pub scan_begins : {seen : List ℕ} {first : Option ℕ} {n : ℕ} {s l : Bool} → IsScanned seen first n s l → BeginsPath seen
-scan_begins k = subst BeginsPath (sym k.text) (begins-from k.sites k.part k.named k.bytes)
+scan_begins k = subst BeginsPath (sym k.text) (begins_from k.sites k.part k.named k.bytes)
 
 -- ---- a whole path
 
 -- how the scan's variables tell whether the limits hold
-fits-from_long : (sites : List (List ℕ)) → list_all (λ site. leb (length site) 63) sites ≡ not (list_any is_long_site sites)
-fits-from_long [] = refl
-fits-from_long (site ∷ sites) = (λ i. single i && fits-from_long sites i) ∙ not-or (is_long_site site) _
+fits_from_long : (sites : List (List ℕ)) → list_all (λ site. leb (length site) 63) sites ≡ not (list_any is_long_site sites)
+fits_from_long [] = refl
+fits_from_long (site ∷ sites) = (λ i. single i && fits_from_long sites i) ∙ not-or (is_long_site site) _
   where
     single : leb (length site) 63 ≡ not (is_long_site site)
     single = grind (arith, nat_tests)
@@ -278,15 +278,15 @@ pub record IsWhole (text : List ℕ) (hop_len : ℕ) (long : Bool) : Type 0 wher
   pub hop : first_len path.sites ≡ Some hop_len
 
 pub scan_whole : {text : List ℕ} {k n : ℕ} {s l : Bool} → IsScanned text (Some k) n s l → 0 < n → IsWhole text k l
-scan_whole {text} {k} {n} {s} {l} z some = by-sites z.sites z.part z.text z.named z.bytes z.first z.long (omega (arith, z.len))
+scan_whole {text} {k} {n} {s} {l} z some = by_sites z.sites z.part z.text z.named z.bytes z.first z.long (omega (arith, z.len))
   where
-    by-sites : (sites : List (List ℕ)) (part : List ℕ) → text ≡ whole sites part → all_sites sites ≡ true → list_all (part_byte sites) part ≡ true → Some k ≡ first_len sites → l ≡ list_any is_long_site sites → 0 < length part → IsWhole text k l
-    by-sites [] part e named bytes f g some = cc
-    by-sites (site ∷ sites) part e named bytes f g some = record {
+    by_sites : (sites : List (List ℕ)) (part : List ℕ) → text ≡ whole sites part → all_sites sites ≡ true → list_all (part_byte sites) part ≡ true → Some k ≡ first_len sites → l ≡ list_any is_long_site sites → 0 < length part → IsWhole text k l
+    by_sites [] part e named bytes f g some = cc
+    by_sites (site ∷ sites) part e named bytes f g some = record {
       path = record { sites = site ∷ sites; local_part = part };
       is_text = sym e;
-      form = has_sites (site ∷ sites) part (omega arith) named (form-from is_local_byte part some bytes);
-      limits = (λ i. (fits-from_long (site ∷ sites) ∙ ap not (sym g)) i && leb (length (sym e i)) 255);
+      form = has_sites (site ∷ sites) part (omega arith) named (form_from is_local_byte part some bytes);
+      limits = (λ i. (fits_from_long (site ∷ sites) ∙ ap not (sym g)) i && leb (length (sym e i)) 255);
       hop = sym f;
     }
 
@@ -309,16 +309,16 @@ part_has_no_bang : (sites : List (List ℕ)) (part : List ℕ) → list_all (par
 part_has_no_bang [] part e = site_has_no_bang part e
 part_has_no_bang (site ∷ sites) part e = local_has_no_bang part e
 
-is_bang-is : (b : ℕ) → is_bang b ≡ true → b ≡ 33
-is_bang-is b h = grind (arith, nat_tests)
+is_bang_is : (b : ℕ) → is_bang b ≡ true → b ≡ 33
+is_bang_is b h = grind (arith, nat_tests)
 
 -- the byte would belong to the local part
-stuck-local : (sites : List (List ℕ)) (part last rest : List ℕ) (b : ℕ) → 0 < length (sites ++ []) → has_form is_local_byte last ≡ true → IsStuck (first_len sites) (length part) (list_all is_site_byte part) b → last ≡ part ++ (b ∷ rest) → ⊥
-stuck-local sites part last rest b some form why e =
+stuck_local : (sites : List (List ℕ)) (part last rest : List ℕ) (b : ℕ) → 0 < length (sites ++ []) → has_form is_local_byte last ≡ true → IsStuck (first_len sites) (length part) (list_all is_site_byte part) b → last ≡ part ++ (b ∷ rest) → ⊥
+stuck_local sites part last rest b some form why e =
     elim why [
-      | inl w ↦ false-true (not (is_bang b)) (no_bang-from_local b local) (ap not w.0)
+      | inl w ↦ false-true (not (is_bang b)) (no_bang_from_local b local) (ap not w.0)
       | inr w ↦ elim w.2 [
-        | inl none ↦ no-sites sites some none
+        | inl none ↦ no_sites sites some none
         | inr no_word ↦ false-true (is_word_byte b) (and_first (is_word_byte b) _ local) no_word
       ]
     ]
@@ -326,13 +326,13 @@ stuck-local sites part last rest b some form why e =
     local : is_local_byte b ≡ true
     local = byte_within is_local_byte last part rest b (form_bytes is_local_byte last form) e
 
-    no-sites : (sites : List (List ℕ)) → 0 < length (sites ++ []) → first_len sites ≡ None → ⊥
-    no-sites [] some none = omega arith
-    no-sites (site ∷ sites) some none = cc
+    no_sites : (sites : List (List ℕ)) → 0 < length (sites ++ []) → first_len sites ≡ None → ⊥
+    no_sites [] some none = omega arith
+    no_sites (site ∷ sites) some none = cc
 
 -- the byte would belong to a site name, or would end one
-stuck-site : (part site rest others : List ℕ) (first : Option ℕ) (b : ℕ) → has_form is_site_byte site ≡ true → has_no_bang part ≡ true → IsStuck first (length part) (list_all is_site_byte part) b → site ++ (33 ∷ others) ≡ part ++ (b ∷ rest) → ⊥
-stuck-site part site rest others first b form no_bang why e =
+stuck_site : (part site rest others : List ℕ) (first : Option ℕ) (b : ℕ) → has_form is_site_byte site ≡ true → has_no_bang part ≡ true → IsStuck first (length part) (list_all is_site_byte part) b → site ++ (33 ∷ others) ≡ part ++ (b ∷ rest) → ⊥
+stuck_site part site rest others first b form no_bang why e =
     elim why [
       | inl w ↦ ended w.0 w.1
       | inr w ↦ false-true (is_site_byte b) (byte_of_front is_site_byte site part others rest b no_bang w.0 (form_bytes is_site_byte site form) e) w.1
@@ -340,21 +340,21 @@ stuck-site part site rest others first b form no_bang why e =
   where
     ended : is_bang b ≡ true → (length part ≡ 0) ⊎ (list_all is_site_byte part ≡ false) → ⊥
     ended bang why =
-        let f : site ++ (33 ∷ others) ≡ part ++ (33 ∷ rest) = e ∙ ap (λ c. part ++ (c ∷ rest)) (is_bang-is b bang) in
+        let f : site ++ (33 ∷ others) ≡ part ++ (33 ∷ rest) = e ∙ ap (λ c. part ++ (c ∷ rest)) (is_bang_is b bang) in
         let same = same_front site part others rest (site_has_no_bang site (form_bytes is_site_byte site form)) no_bang f in
         elim why [
           | inl empty ↦ omega (arith, form_some is_site_byte site form, ap length same.0)
           | inr no_site ↦ false-true (list_all is_site_byte part) (ap (list_all is_site_byte) (sym same.0) ∙ form_bytes is_site_byte site form) no_site
         ]
 
-stuck-from : (sites more : List (List ℕ)) (part last rest : List ℕ) (b : ℕ) → 0 < length (sites ++ more) → all_sites more ≡ true → has_form is_local_byte last ≡ true → list_all (part_byte sites) part ≡ true → IsStuck (first_len sites) (length part) (list_all is_site_byte part) b → whole more last ≡ part ++ (b ∷ rest) → ⊥
-stuck-from sites [] part last rest b some named form bytes why e = stuck-local sites part last rest b some form why e
-stuck-from sites (site ∷ more) part last rest b some named form bytes why e =
-    stuck-site part site rest _ (first_len sites) b (and_first _ (all_sites more) named) (part_has_no_bang sites part bytes) why (sym (whole-cons site more last) ∙ e)
+stuck_from : (sites more : List (List ℕ)) (part last rest : List ℕ) (b : ℕ) → 0 < length (sites ++ more) → all_sites more ≡ true → has_form is_local_byte last ≡ true → list_all (part_byte sites) part ≡ true → IsStuck (first_len sites) (length part) (list_all is_site_byte part) b → whole more last ≡ part ++ (b ∷ rest) → ⊥
+stuck_from sites [] part last rest b some named form bytes why e = stuck_local sites part last rest b some form why e
+stuck_from sites (site ∷ more) part last rest b some named form bytes why e =
+    stuck_site part site rest _ (first_len sites) b (and_first _ (all_sites more) named) (part_has_no_bang sites part bytes) why (sym (whole-cons site more last) ∙ e)
 
-all_sites-right : (xs ys : List (List ℕ)) → all_sites (xs ++ ys) ≡ true → all_sites ys ≡ true
-all_sites-right [] ys e = e
-all_sites-right (x ∷ xs) ys e = all_sites-right xs ys (and_second (has_form is_site_byte x) _ e)
+all_sites_right : (xs ys : List (List ℕ)) → all_sites (xs ++ ys) ≡ true → all_sites ys ≡ true
+all_sites_right [] ys e = e
+all_sites_right (x ∷ xs) ys e = all_sites_right xs ys (and_second (has_form is_site_byte x) _ e)
 
 -- how a path's text goes on after what has been scanned
 record Onward (sites : List (List ℕ)) (part rest : List ℕ) : Type 0 where
@@ -373,7 +373,7 @@ onward k path rest form e =
       more = g.more;
       last = path.local_part;
       some = subst (λ (xs : List (List ℕ)). 0 < length xs) g.sites_are f.0;
-      named = all_sites-right k.sites g.more (ap all_sites (sym g.sites_are) ∙ f.1);
+      named = all_sites_right k.sites g.more (ap all_sites (sym g.sites_are) ∙ f.1);
       form = f.2;
       text = g.text;
     }
@@ -381,11 +381,11 @@ onward k path rest form e =
 pub stuck : {seen : List ℕ} {first : Option ℕ} {n : ℕ} {s l : Bool} → IsScanned seen first n s l → (b : ℕ) → IsStuck first n s b → (path : BangPath) (rest : List ℕ) → IsTrue (has_path_form path) → path_text path ≡ seen ++ (b ∷ rest) → ⊥
 stuck {seen} {first} {n} {s} {l} k b why path rest form e =
     let o = onward k path (b ∷ rest) form e in
-    let same : IsStuck (first_len k.sites) (length k.part) (list_all is_site_byte k.part) b = same-why in
-    stuck-from k.sites o.more k.part o.last rest b o.some o.named o.form k.bytes same o.text
+    let same : IsStuck (first_len k.sites) (length k.part) (list_all is_site_byte k.part) b = same_why in
+    stuck_from k.sites o.more k.part o.last rest b o.some o.named o.form k.bytes same o.text
   where
-    same-why : IsStuck (first_len k.sites) (length k.part) (list_all is_site_byte k.part) b
-    same-why = subst (λ (f : Option ℕ). IsStuck f (length k.part) (list_all is_site_byte k.part) b) k.first
+    same_why : IsStuck (first_len k.sites) (length k.part) (list_all is_site_byte k.part) b
+    same_why = subst (λ (f : Option ℕ). IsStuck f (length k.part) (list_all is_site_byte k.part) b) k.first
         (subst (λ (m : ℕ). IsStuck first m (list_all is_site_byte k.part) b) k.len
         (subst (λ (t : Bool). IsStuck first n t b) k.is_site why))
 
@@ -474,29 +474,29 @@ loop_byte text at b first first' n n' s s' l l' site k h is no_bang of ok ef en 
     allowed : (sites : List (List ℕ)) → first ≡ first_len sites → (site ≡ true) ⊎ ((first ≢ None) × (is_word_byte b ≡ true)) → part_byte sites b ≡ true
     allowed [] f (inl t) = sym of ∙ t
     allowed [] f (inr w) = absurd (w.0 f)
-    allowed (name ∷ sites) f (inl t) = local-from_site b (sym of ∙ t)
+    allowed (name ∷ sites) f (inl t) = local_from_site b (sym of ∙ t)
     allowed (name ∷ sites) f (inr w) = is_local w.1
 
 -- ---- the outcomes
 
-pub position-front : (site rest : List ℕ) → has_no_bang site ≡ true → position_or_len is_bang (site ++ (33 ∷ rest)) ≡ length site
-position-front [] rest e = refl
-position-front (b ∷ site) rest e =
-    rw (and_first (not (is_bang b)) (has_no_bang site) e, position-front site rest (and_second (not (is_bang b)) (has_no_bang site) e)) (omega arith)
+pub position_front : (site rest : List ℕ) → has_no_bang site ≡ true → position_or_len is_bang (site ++ (33 ∷ rest)) ≡ length site
+position_front [] rest e = refl
+position_front (b ∷ site) rest e =
+    rw (and_first (not (is_bang b)) (has_no_bang site) e, position_front site rest (and_second (not (is_bang b)) (has_no_bang site) e)) (omega arith)
 
-hop-of : (text part : List ℕ) (sites : List (List ℕ)) (hop_len : ℕ) → whole sites part ≡ text → all_sites sites ≡ true → first_len sites ≡ Some hop_len → hop_len ≡ position_or_len is_bang text
-hop-of text part [] hop_len e named f = cc
-hop-of text part (site ∷ sites) hop_len e named f =
+hop_of : (text part : List ℕ) (sites : List (List ℕ)) (hop_len : ℕ) → whole sites part ≡ text → all_sites sites ≡ true → first_len sites ≡ Some hop_len → hop_len ≡ position_or_len is_bang text
+hop_of text part [] hop_len e named f = cc
+hop_of text part (site ∷ sites) hop_len e named f =
     let no_bang = site_has_no_bang site (form_bytes is_site_byte site (and_first (has_form is_site_byte site) (all_sites sites) named)) in
     let h : hop_len ≡ length site = cc in
-    h ∙ sym (position-front site (whole sites part) no_bang) ∙ ap (position_or_len is_bang) (sym (whole-cons site sites part) ∙ e)
+    h ∙ sym (position_front site (whole sites part) no_bang) ∙ ap (position_or_len is_bang) (sym (whole-cons site sites part) ∙ e)
 
 pub is_path : (text : List ℕ) (hop_len n : ℕ) (first : Option ℕ) (s l : Bool) → IsScanned text first n s l → first ≡ Some hop_len → 0 < n → l ≡ false → length text ≤ 255 → IsPathText text × (hop_len ≡ position_or_len is_bang text)
 is_path text hop_len n first s l k f some short fits =
     let w : IsWhole text hop_len l = scan_whole (subst (λ (u : Option ℕ). IsScanned text u n s l) f k) some in
     let t : leb (length text) 255 ≡ true = grind (arith, nat_tests) in (
       record { path = w.path; is_text = w.is_text; form = w.form; limits = w.limits ∙ rw (short, t) },
-      hop-of text w.path.local_part w.path.sites hop_len w.is_text (path_sites w.path w.form).1 w.hop,
+      hop_of text w.path.local_part w.path.sites hop_len w.is_text (path_sites w.path w.form).1 w.hop,
     )
 
 pub is_long : (text : List ℕ) (hop_len n : ℕ) (first : Option ℕ) (s l : Bool) → IsScanned text first n s l → first ≡ Some hop_len → 0 < n → (l ≡ true) ⊎ (255 < length text) → IsLongPath text
@@ -520,17 +520,17 @@ pub record IsCut (text : List ℕ) : Type 0 where
 
 whole_bytes : (sites : List (List ℕ)) (part : List ℕ) → all_sites sites ≡ true → has_form is_local_byte part ≡ true → has_form is_word_byte (whole sites part) ≡ true
 whole_bytes [] part named form =
-    form-from is_word_byte part (form_some is_local_byte part form) (list_all_weaker is_local_byte is_word_byte part (λ b h. and_first (is_word_byte b) _ h) (form_bytes is_local_byte part form))
+    form_from is_word_byte part (form_some is_local_byte part form) (list_all_weaker is_local_byte is_word_byte part (λ b h. and_first (is_word_byte b) _ h) (form_bytes is_local_byte part form))
 whole_bytes (site ∷ sites) part named form =
     let site_form = and_first (has_form is_site_byte site) (all_sites sites) named in
-    let front = list_all_weaker is_site_byte is_word_byte site (λ b h. and_first (is_word_byte b) _ (local-from_site b h)) (form_bytes is_site_byte site site_form) in
+    let front = list_all_weaker is_site_byte is_word_byte site (λ b h. and_first (is_word_byte b) _ (local_from_site b h)) (form_bytes is_site_byte site site_form) in
     let back = form_bytes is_word_byte (whole sites part) (whole_bytes sites part (and_second (has_form is_site_byte site) (all_sites sites) named) form) in
-    ap (has_form is_word_byte) (whole-cons site sites part) ∙ form-from is_word_byte (site ++ (33 ∷ whole sites part)) (omega (arith, length-append site (33 ∷ whole sites part)))
+    ap (has_form is_word_byte) (whole-cons site sites part) ∙ form_from is_word_byte (site ++ (33 ∷ whole sites part)) (omega (arith, length-append site (33 ∷ whole sites part)))
     (list_all-append is_word_byte site (33 ∷ whole sites part) ∙ rw (front, back))
 
-cut-sites : (text : List ℕ) (sites : List (List ℕ)) (part : List ℕ) → whole sites part ≡ text → IsTrue (has_path_form (record { sites = sites; local_part = part })) → IsTrue (is_within_limits (record { sites = sites; local_part = part })) → IsCut text
-cut-sites text [] part e form limits = absurd (omega (arith, (path_sites (record { sites = []; local_part = part }) form).0))
-cut-sites text (site ∷ sites) part e form limits =
+cut_sites : (text : List ℕ) (sites : List (List ℕ)) (part : List ℕ) → whole sites part ≡ text → IsTrue (has_path_form (record { sites = sites; local_part = part })) → IsTrue (is_within_limits (record { sites = sites; local_part = part })) → IsCut text
+cut_sites text [] part e form limits = absurd (omega (arith, (path_sites (record { sites = []; local_part = part }) form).0))
+cut_sites text (site ∷ sites) part e form limits =
     let f = path_sites (record { sites = site ∷ sites; local_part = part }) form in
     let site_form : has_form is_site_byte site ≡ true = and_first (has_form is_site_byte site) (all_sites sites) f.1 in
     let lens = and_first (leb (length site) 63 && list_all (λ (u : List ℕ). leb (length u) 63) sites) _ limits in
@@ -549,7 +549,7 @@ cut-sites text (site ∷ sites) part e form limits =
     }
 
 pub cut_path : (text : List ℕ) → IsPathText text → IsCut text
-cut_path text p = cut-sites text p.path.sites p.path.local_part p.is_text p.form p.limits
+cut_path text p = cut_sites text p.path.sites p.path.local_part p.is_text p.form p.limits
 
 -- at the loop's end all of the text has been scanned
 pub scan_all : (text : List ℕ) (at : ℕ) (first : Option ℕ) (n : ℕ) (s l : Bool) → IsScanned (take at text) first n s l → length text ≤ at → IsScanned text first n s l
@@ -589,13 +589,13 @@ no_long_path text long p =
     long.over ((λ i. is_within_limits (record { sites = sym same.0 i; local_part = sym same.1 i })) ∙ p.limits)
 
 -- what is refused isn't a path
-pub fault-no_path : (text : List ℕ) (fault : NameFault) → IsPathFault text fault → UnlessMemory fault (¬ IsPathText text)
-fault-no_path text (BadPath at) f = λ p. f.no_path p.path p.form p.is_text
-fault-no_path text TooLong f = no_long_path text f
-fault-no_path text Memory f = tt
-fault-no_path text BadGrade f = absurd f
-fault-no_path text (BadName at) f = absurd f
-fault-no_path text (BadWord at) f = absurd f
-fault-no_path text NoEnvelope f = absurd f
+pub fault_no_path : (text : List ℕ) (fault : NameFault) → IsPathFault text fault → UnlessMemory fault (¬ IsPathText text)
+fault_no_path text (BadPath at) f = λ p. f.no_path p.path p.form p.is_text
+fault_no_path text TooLong f = no_long_path text f
+fault_no_path text Memory f = tt
+fault_no_path text BadGrade f = absurd f
+fault_no_path text (BadName at) f = absurd f
+fault_no_path text (BadWord at) f = absurd f
+fault_no_path text NoEnvelope f = absurd f
 
-pub ruleset faults = (fault-no_path)
+pub ruleset faults = (fault_no_path)

@@ -9,33 +9,33 @@ use Rattle.uu_names.specs.ReturnPath.{raw_lines}
 abbrev is_line_feed : ℕ → Bool
 is_line_feed b = eqb b 10
 
-raw-more : (text : List ℕ) (n : ℕ) → position_or_len is_line_feed text ≡ n → n < length text → raw_lines text ≡ take (n + 1) text ∷ raw_lines (drop (n + 1) text)
-raw-more [] n e h = absurd (omega arith)
-raw-more (b ∷ bs) n e h = by-first (is_line_feed b) refl (λ fits. raw-more bs (position_or_len is_line_feed bs) refl fits)
+raw_more : (text : List ℕ) (n : ℕ) → position_or_len is_line_feed text ≡ n → n < length text → raw_lines text ≡ take (n + 1) text ∷ raw_lines (drop (n + 1) text)
+raw_more [] n e h = absurd (omega arith)
+raw_more (b ∷ bs) n e h = by_first (is_line_feed b) refl (λ fits. raw_more bs (position_or_len is_line_feed bs) refl fits)
   where
-    by-first : (t : Bool) → is_line_feed b ≡ t → (position_or_len is_line_feed bs < length bs → raw_lines bs ≡ take (position_or_len is_line_feed bs + 1) bs ∷ raw_lines (drop (position_or_len is_line_feed bs + 1) bs)) → raw_lines (b ∷ bs) ≡ take (n + 1) (b ∷ bs) ∷ raw_lines (drop (n + 1) (b ∷ bs))
-    by-first true f again =
+    by_first : (t : Bool) → is_line_feed b ≡ t → (position_or_len is_line_feed bs < length bs → raw_lines bs ≡ take (position_or_len is_line_feed bs + 1) bs ∷ raw_lines (drop (position_or_len is_line_feed bs + 1) bs)) → raw_lines (b ∷ bs) ≡ take (n + 1) (b ∷ bs) ∷ raw_lines (drop (n + 1) (b ∷ bs))
+    by_first true f again =
         let zero_is : 0 ≡ n = rw f at e in
         rw (f, ← zero_is)
-    by-first false f again =
+    by_first false f again =
         let more : 1 + position_or_len is_line_feed bs ≡ n = rw f at e in
         let m = position_or_len is_line_feed bs in
         let r = again (omega arith) in
         let count : n + 1 ≡ suc (m + 1) = omega arith in
         rw (f, r, count)
 
-raw-last : (text : List ℕ) → position_or_len is_line_feed text ≡ length text → 0 < length text → raw_lines text ≡ text ∷ []
-raw-last [] e h = absurd (omega arith)
-raw-last (b ∷ []) e h = by-first (is_line_feed b) refl
+raw_last : (text : List ℕ) → position_or_len is_line_feed text ≡ length text → 0 < length text → raw_lines text ≡ text ∷ []
+raw_last [] e h = absurd (omega arith)
+raw_last (b ∷ []) e h = by_first (is_line_feed b) refl
   where
-    by-first : (t : Bool) → is_line_feed b ≡ t → raw_lines (b ∷ []) ≡ (b ∷ []) ∷ []
-    by-first true f = rw f
-    by-first false f = rw f
-raw-last (b ∷ c ∷ cs) e h = by-first (is_line_feed b) refl (λ q. raw-last (c ∷ cs) q (omega arith))
+    by_first : (t : Bool) → is_line_feed b ≡ t → raw_lines (b ∷ []) ≡ (b ∷ []) ∷ []
+    by_first true f = rw f
+    by_first false f = rw f
+raw_last (b ∷ c ∷ cs) e h = by_first (is_line_feed b) refl (λ q. raw_last (c ∷ cs) q (omega arith))
   where
-    by-first : (t : Bool) → is_line_feed b ≡ t → (position_or_len is_line_feed (c ∷ cs) ≡ length (c ∷ cs) → raw_lines (c ∷ cs) ≡ (c ∷ cs) ∷ []) → raw_lines (b ∷ c ∷ cs) ≡ (b ∷ c ∷ cs) ∷ []
-    by-first true f again = let g : 0 ≡ length (b ∷ c ∷ cs) = rw f at e in absurd (omega arith)
-    by-first false f again =
+    by_first : (t : Bool) → is_line_feed b ≡ t → (position_or_len is_line_feed (c ∷ cs) ≡ length (c ∷ cs) → raw_lines (c ∷ cs) ≡ (c ∷ cs) ∷ []) → raw_lines (b ∷ c ∷ cs) ≡ (b ∷ c ∷ cs) ∷ []
+    by_first true f again = let g : 0 ≡ length (b ∷ c ∷ cs) = rw f at e in absurd (omega arith)
+    by_first false f again =
         let g : 1 + position_or_len is_line_feed (c ∷ cs) ≡ length (b ∷ c ∷ cs) = rw f at e in
         rw f (ap (onto_first b) (again (omega arith)))
 
@@ -70,7 +70,7 @@ not_found p text e = by-test (ltb n (length text)) refl
     by-test false f = let h : length text ≤ n = grind (arith, nat_tests) in omega (arith, prefix_len-le-length (λ b. not (p b)) text)
 
 pub raw_lines-some : (text : List ℕ) (at : ℕ) → Some at ≡ position is_line_feed text → raw_lines text ≡ take (at + 1) text ∷ raw_lines (drop (at + 1) text)
-raw_lines-some text at e = let f = found_at is_line_feed text at e in raw-more text at f.0 f.1
+raw_lines-some text at e = let f = found_at is_line_feed text at e in raw_more text at f.0 f.1
 
 pub raw_lines-none : (text : List ℕ) → None ≡ position is_line_feed text → 0 < length text → raw_lines text ≡ take (length text) text ∷ raw_lines (drop (length text) text)
-raw_lines-none text e h = raw-last text (not_found is_line_feed text e) h ∙ rw (take_all (length text) text (omega arith), drop_all (length text) text (omega arith))
+raw_lines-none text e h = raw_last text (not_found is_line_feed text e) h ∙ rw (take_all (length text) text (omega arith), drop_all (length text) text (omega arith))

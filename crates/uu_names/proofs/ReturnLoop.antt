@@ -41,12 +41,12 @@ abbrev marker_after : List ℕ → List Sender → List ℕ
 marker_after marker [] = marker
 marker_after marker (sender ∷ senders) = later_marker
 
-say-push : (marker line : List ℕ) (leading : List (List ℕ)) (senders : List Sender) (sender : Sender) → AreLeadingLines marker leading senders → IsLeadingLine (marker_after marker senders) (content line) sender → AreLeadingLines marker (leading ++ line ∷ []) (senders ++ sender ∷ [])
-say-push marker line [] [] sender say more = (more, tt)
-say-push marker line [] (s ∷ senders) sender say more = absurd say
-say-push marker line (l ∷ leading) [] sender say more = absurd say
-say-push marker line (l ∷ leading) (s ∷ []) sender say more = (say.0, say-push later_marker line leading [] sender say.1 more)
-say-push marker line (l ∷ leading) (s ∷ t ∷ senders) sender say more = (say.0, say-push later_marker line leading (t ∷ senders) sender say.1 more)
+say_push : (marker line : List ℕ) (leading : List (List ℕ)) (senders : List Sender) (sender : Sender) → AreLeadingLines marker leading senders → IsLeadingLine (marker_after marker senders) (content line) sender → AreLeadingLines marker (leading ++ line ∷ []) (senders ++ sender ∷ [])
+say_push marker line [] [] sender say more = (more, tt)
+say_push marker line [] (s ∷ senders) sender say more = absurd say
+say_push marker line (l ∷ leading) [] sender say more = absurd say
+say_push marker line (l ∷ leading) (s ∷ []) sender say more = (say.0, say_push later_marker line leading [] sender say.1 more)
+say_push marker line (l ∷ leading) (s ∷ t ∷ senders) sender say more = (say.0, say_push later_marker line leading (t ∷ senders) sender say.1 more)
 
 marker_same : (senders : List Sender) → next_marker senders ≡ marker_after first_marker senders
 marker_same [] = refl
@@ -56,25 +56,25 @@ concat-push : (leading : List (List ℕ)) (line : List ℕ) → length (concat (
 concat-push [] line = omega (arith, ap length (append-nil line))
 concat-push (l ∷ leading) line = omega (arith, length-append l (concat (leading ++ line ∷ [])), length-append l (concat leading), concat-push leading line)
 
-sites-push : (senders : List Sender) (sender : Sender) → sites_of (senders ++ sender ∷ []) ≡ sites_of senders ++ (sender.site ++ 33 ∷ [])
-sites-push [] sender = append-nil (sender.site ++ 33 ∷ [])
-sites-push (s ∷ senders) sender = ap (λ t. (s.site ++ 33 ∷ []) ++ t) (sites-push senders sender) ∙ sym (append_assoc (s.site ++ 33 ∷ []) (sites_of senders) (sender.site ++ 33 ∷ []))
+sites_push : (senders : List Sender) (sender : Sender) → sites_of (senders ++ sender ∷ []) ≡ sites_of senders ++ (sender.site ++ 33 ∷ [])
+sites_push [] sender = append-nil (sender.site ++ 33 ∷ [])
+sites_push (s ∷ senders) sender = ap (λ t. (s.site ++ 33 ∷ []) ++ t) (sites_push senders sender) ∙ sym (append_assoc (s.site ++ 33 ∷ []) (sites_of senders) (sender.site ++ 33 ∷ []))
 
-last-push : (s : Sender) (senders : List Sender) (sender : Sender) → last_user s (senders ++ sender ∷ []) ≡ sender.user
-last-push s [] sender = refl
-last-push s (t ∷ senders) sender = last-push t senders sender
+last_push : (s : Sender) (senders : List Sender) (sender : Sender) → last_user s (senders ++ sender ∷ []) ≡ sender.user
+last_push s [] sender = refl
+last_push s (t ∷ senders) sender = last_push t senders sender
 
-user-push : (senders : List Sender) (sender : Sender) → user_of (senders ++ sender ∷ []) ≡ sender.user
-user-push [] sender = refl
-user-push (s ∷ senders) sender = last-push s senders sender
+user_push : (senders : List Sender) (sender : Sender) → user_of (senders ++ sender ∷ []) ≡ sender.user
+user_push [] sender = refl
+user_push (s ∷ senders) sender = last_push s senders sender
 
-marker-push : (senders : List Sender) (sender : Sender) → next_marker (senders ++ sender ∷ []) ≡ later_marker
-marker-push [] sender = refl
-marker-push (s ∷ senders) sender = refl
+marker_push : (senders : List Sender) (sender : Sender) → next_marker (senders ++ sender ∷ []) ≡ later_marker
+marker_push [] sender = refl
+marker_push (s ∷ senders) sender = refl
 
-some-push : (senders : List Sender) (sender : Sender) (body : ℕ) → 0 < body → HasSenders (senders ++ sender ∷ []) body
-some-push [] sender body h = h
-some-push (s ∷ senders) sender body h = h
+some_push : (senders : List Sender) (sender : Sender) (body : ℕ) → 0 < body → HasSenders (senders ++ sender ∷ []) body
+some_push [] sender body h = h
+some_push (s ∷ senders) sender body h = h
 
 pub read_more : (message way user marker : List ℕ) (body : ℕ) (u s : List ℕ) (n : ℕ) → HasRead message way user marker body → BeginsWithSender marker (drop body message) u s n → HasRead message (way ++ s ++ 33 ∷ []) u later_marker (body + n)
 read_more message way user marker body u s n k next = record {
@@ -82,12 +82,12 @@ read_more message way user marker body u s n k next = record {
   leading = k.leading ++ line ∷ [];
   within = omega (arith, next.within, length-drop body message);
   lines = k.lines ∙ ap (λ t. k.leading ++ t) (next.line ∙ ap (λ t. line ∷ raw_lines t) (drop-drop n body message)) ∙ sym (append_assoc k.leading (line ∷ []) (raw_lines (drop (body + n) message)));
-  say = say-push first_marker line k.leading k.senders sender k.say (subst (λ (m : List ℕ). IsLeadingLine m (content line) sender) (k.marker_is ∙ marker_same k.senders) next.says);
+  say = say_push first_marker line k.leading k.senders sender k.say (subst (λ (m : List ℕ). IsLeadingLine m (content line) sender) (k.marker_is ∙ marker_same k.senders) next.says);
   start = omega (arith, k.start, concat-push k.leading line, length-take-le n (drop body message) next.within);
-  way_is = append_assoc way s (33 ∷ []) ∙ ap (λ t. t ++ (s ++ 33 ∷ [])) k.way_is ∙ sym (sites-push k.senders sender);
-  user_is = sym (user-push k.senders sender);
-  marker_is = sym (marker-push k.senders sender);
-  some = some-push k.senders sender (body + n) (omega (arith, next.some));
+  way_is = append_assoc way s (33 ∷ []) ∙ ap (λ t. t ++ (s ++ 33 ∷ [])) k.way_is ∙ sym (sites_push k.senders sender);
+  user_is = sym (user_push k.senders sender);
+  marker_is = sym (marker_push k.senders sender);
+  some = some_push k.senders sender (body + n) (omega (arith, next.some));
 }
   where
     sender : Sender
@@ -122,18 +122,18 @@ pub record HasWay (message way user : List ℕ) (body : ℕ) : Type 0 where
   pub lines : HasLeadingLines message (first ∷ others) body
   pub text : way ++ user ≡ way_back first others
 
-sites-whole : (senders : List Sender) (user : List ℕ) → sites_of senders ++ user ≡ whole (map (λ s. s.site) senders) user
-sites-whole [] user = refl
-sites-whole (s ∷ senders) user =
+sites_whole : (senders : List Sender) (user : List ℕ) → sites_of senders ++ user ≡ whole (map (λ s. s.site) senders) user
+sites_whole [] user = refl
+sites_whole (s ∷ senders) user =
     append_assoc (s.site ++ 33 ∷ []) (sites_of senders) user ∙ append_assoc s.site (33 ∷ []) (sites_of senders ++ user)
-    ∙ ap (λ t. s.site ++ (33 ∷ t)) (sites-whole senders user) ∙ sym (whole-cons s.site (map (λ s. s.site) senders) user)
+    ∙ ap (λ t. s.site ++ (33 ∷ t)) (sites_whole senders user) ∙ sym (whole-cons s.site (map (λ s. s.site) senders) user)
 
 pub has_way : (message way user marker : List ℕ) (body : ℕ) → HasRead message way user marker body → Stops marker (raw_lines (drop body message)) → 0 < body → HasWay message way user body
-has_way message way user marker body k stops some = by-senders k.senders k.some (has_lines k stops) k.way_is k.user_is
+has_way message way user marker body k stops some = by_senders k.senders k.some (has_lines k stops) k.way_is k.user_is
   where
-    by-senders : (senders : List Sender) → HasSenders senders body → HasLeadingLines message senders body → way ≡ sites_of senders → user ≡ user_of senders → HasWay message way user body
-    by-senders [] none lines ew eu = absurd (omega (arith, none))
-    by-senders (s ∷ senders) h lines ew eu = record { first = s; others = senders; lines = lines; text = (λ i. ew i ++ eu i) ∙ sites-whole (s ∷ senders) (last_user s senders) }
+    by_senders : (senders : List Sender) → HasSenders senders body → HasLeadingLines message senders body → way ≡ sites_of senders → user ≡ user_of senders → HasWay message way user body
+    by_senders [] none lines ew eu = absurd (omega (arith, none))
+    by_senders (s ∷ senders) h lines ew eu = record { first = s; others = senders; lines = lines; text = (λ i. ew i ++ eu i) ∙ sites_whole (s ∷ senders) (last_user s senders) }
 
 pub is_return_path : (message way user : List ℕ) (body : ℕ) (path : List ℕ) → HasWay message way user body → path ≡ way ++ user → IsPathText path → IsReturnPath message path body
 is_return_path message way user body path w e p = record { first = w.first; others = w.others; lines = w.lines; is_path = p; is_text = e ∙ w.text }

@@ -7,7 +7,7 @@ use Rattle.uu_names.specs.declared.fault.NameFault.TheVariants.{BadGrade, BadNam
 use Rattle.uu_names.specs.Fault.{UnlessMemory}
 use Rattle.uu_names.specs.Path.{IsPathText}
 use Rattle.uu_names.specs.ReturnPath.{content, is_no_space, Sender, IsLeadingLine, first_marker, later_marker, AreLeadingLines, next_marker, Stops, HasLeadingLines, way_back, IsReturnPath, HasBadWay, IsReturnFault}
-use Rattle.uu_names.proofs.PathScan.{fault-no_path}
+use Rattle.uu_names.proofs.PathScan.{fault_no_path}
 use Rattle.uu_names.proofs.ReturnSenders.{is_space, IsRead, is_read, ReadsAs, reads_as}
 
 -- a line says one thing at most
@@ -107,11 +107,11 @@ no_way text path body fault w none p =
     none (subst IsPathText (p.is_text ∙ same_way p.first w.first p.others w.others same.0) p.is_path)
 
 -- what is refused has no way back that is a path
-pub fault-no_way : (text : List ℕ) (fault : NameFault) → IsReturnFault text fault → UnlessMemory fault ((path : List ℕ) (body : ℕ) → ¬ IsReturnPath text path body)
-fault-no_way text NoEnvelope f = λ path body p. nil-cons p.first p.others (one_run_of text [] (p.first ∷ p.others) 0 body f p.lines).0
-fault-no_way text (BadPath at) f = λ path body. no_way text path body (BadPath at) f (fault-no_path (way_back f.first f.others) (BadPath at) f.fault_of)
-fault-no_way text TooLong f = λ path body. no_way text path body TooLong f (fault-no_path (way_back f.first f.others) TooLong f.fault_of)
-fault-no_way text Memory f = tt
-fault-no_way text BadGrade f = absurd f
-fault-no_way text (BadName at) f = absurd f
-fault-no_way text (BadWord at) f = absurd f
+pub fault_no_way : (text : List ℕ) (fault : NameFault) → IsReturnFault text fault → UnlessMemory fault ((path : List ℕ) (body : ℕ) → ¬ IsReturnPath text path body)
+fault_no_way text NoEnvelope f = λ path body p. nil-cons p.first p.others (one_run_of text [] (p.first ∷ p.others) 0 body f p.lines).0
+fault_no_way text (BadPath at) f = λ path body. no_way text path body (BadPath at) f (fault_no_path (way_back f.first f.others) (BadPath at) f.fault_of)
+fault_no_way text TooLong f = λ path body. no_way text path body TooLong f (fault_no_path (way_back f.first f.others) TooLong f.fault_of)
+fault_no_way text Memory f = tt
+fault_no_way text BadGrade f = absurd f
+fault_no_way text (BadName at) f = absurd f
+fault_no_way text (BadWord at) f = absurd f

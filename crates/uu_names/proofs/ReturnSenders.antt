@@ -9,7 +9,7 @@ use borrow.Author.Tests.{lt-ltb}
 use Rattle.uu_names.proofs.ReturnLines.{found_at}
 use Rattle.uu_names.specs.Name.{is_site_byte, has_form, is_site_name}
 use Rattle.uu_names.specs.ReturnPath.{is_no_space, Sender, IsSpaced, IsLeadingLine}
-use Rattle.uu_names.proofs.PathScan.{form_bytes, form-from}
+use Rattle.uu_names.proofs.PathScan.{form_bytes, form_from}
 use Rattle.uu_names.proofs.Basics.{and_first, and_second, list_all_weaker, front_passes}
 
 -- a text that begins with another
@@ -61,18 +61,18 @@ site_has_no_space site e = list_all_weaker is_site_byte is_no_space site no_spac
 abbrev pub remote : List ℕ
 remote = codes " remote from "
 
-spaced-from : (between rest more : List ℕ) → between ++ rest ≡ 32 ∷ more → IsSpaced between
-spaced-from [] rest more e = inl refl
-spaced-from (b ∷ between) rest more e = let h : b ≡ 32 = cc in inr (between, λ i. h i ∷ between)
+spaced_from : (between rest more : List ℕ) → between ++ rest ≡ 32 ∷ more → IsSpaced between
+spaced_from [] rest more e = inl refl
+spaced_from (b ∷ between) rest more e = let h : b ≡ 32 = cc in inr (between, λ i. h i ∷ between)
 
 -- ---- what the code reads is a leading line
 
-pub leading-from : (marker line rest user back front site : List ℕ) (n k : ℕ) → pointwise nat_eq (take (length marker) line) marker ≡ true → rest ≡ drop (length marker) line → Some n ≡ position is_space rest → user ≡ take n rest → back ≡ drop n rest → front ≡ take k back → site ≡ drop k back → 0 < length user → pointwise nat_eq remote (drop (length front - 13) front) ≡ true → is_site_name site ≡ true → IsLeadingLine marker line (record { user = user; site = site })
-leading-from marker line rest user back front site n k starts er es eu eb ef et some ends named = record {
+pub leading_from : (marker line rest user back front site : List ℕ) (n k : ℕ) → pointwise nat_eq (take (length marker) line) marker ≡ true → rest ≡ drop (length marker) line → Some n ≡ position is_space rest → user ≡ take n rest → back ≡ drop n rest → front ≡ take k back → site ≡ drop k back → 0 < length user → pointwise nat_eq remote (drop (length front - 13) front) ≡ true → is_site_name site ≡ true → IsLeadingLine marker line (record { user = user; site = site })
+leading_from marker line rest user back front site n k starts er es eu eb ef et some ends named = record {
   between = between;
   text = begins_with line marker starts ∙ ap (λ t. marker ++ t) (sym er ∙ halves ∙ ap (λ t. user ++ t) (parts ∙ ap (λ t. t ++ site) tail ∙ append_assoc between remote site));
-  user = form-from is_no_space user some all;
-  spaced = spaced-from between (remote ++ site) (drop (n + 1) rest) (sym (append_assoc between remote site) ∙ ap (λ t. t ++ site) (sym tail) ∙ sym parts ∙ opens);
+  user = form_from is_no_space user some all;
+  spaced = spaced_from between (remote ++ site) (drop (n + 1) rest) (sym (append_assoc between remote site) ∙ ap (λ t. t ++ site) (sym tail) ∙ sym parts ∙ opens);
   site = named;
 }
   where
@@ -95,10 +95,10 @@ leading-from marker line rest user back front site n k starts er es eu eb ef et 
     all = ap (list_all is_no_space) (eu ∙ ap (λ m. take m rest) (sym at.0)) ∙ front_passes is_no_space rest
 
     space : get_or rest n 0 ≡ 32
-    space = is_space-is (get_or rest n 0) (ap (λ m. is_space (get_or rest m 0)) (sym at.0) ∙ passes_at_first is_space rest 0 (omega (arith, at.0, at.1)))
+    space = is_space_is (get_or rest n 0) (ap (λ m. is_space (get_or rest m 0)) (sym at.0) ∙ passes_at_first is_space rest 0 (omega (arith, at.0, at.1)))
       where
-        is_space-is : (b : ℕ) → is_space b ≡ true → b ≡ 32
-        is_space-is b h = grind (arith, nat_tests)
+        is_space_is : (b : ℕ) → is_space b ≡ true → b ≡ 32
+        is_space_is b h = grind (arith, nat_tests)
 
     opens : back ≡ 32 ∷ drop (n + 1) rest
     opens = eb ∙ drop_more rest n 0 at.1 ∙ ap (λ b. b ∷ drop (n + 1) rest) space

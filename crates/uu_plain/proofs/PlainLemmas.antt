@@ -31,16 +31,16 @@ use Rattle.uu_core.specs.declared.system.SystemRow.{SystemRow}
 use Rattle.uu_core.specs.Refusal.{decided, first_reason}
 use Rattle.uu_core.specs.State.{State, Job, Link, link_of, taken_at, ComesBefore, is_job, is_system, system_at, has_system, head_of, numbers_end, most_bytes}
 use Rattle.uu_core.specs.Verdict.{verdict, queue_reasons, once_reasons, are_known, taken_of, done_reasons, is_too_large, has_many_arguments}
-use Rattle.uu_core.specs.After.{after, hand_in, hand_in_of, number_of, take_in, is_before, put_by, change_job, change_call, is_among, failed_call, failed_decision, done_call, done_call_of}
+use Rattle.uu_core.specs.After.{after, hand_in, hand_in_of, hand_in_number, with_job_once, is_before, put_by, change_job, change_call, is_among, failed_call, failed_decision, done_call, done_call_of}
 use Rattle.uu_core.specs.Due.{HaveNumbers}
 use Rattle.uu_core.specs.Run.{state_after, replies_to}
 use Rattle.uu_core.specs.Order.{AreByName, IsInOrder}
 use Rattle.uu_plain.specs.Lists.{IsGiven}
 use Rattle.uu_core.proofs.RunLemmas.{states_append, replies_append}
-use Rattle.uu_core.proofs.WellFormedLemmas.{within, or_false, none_first, pairs-first, pairs-rest}
+use Rattle.uu_core.proofs.WellFormedLemmas.{within, or_false, none_first, pairs_first, pairs_rest}
 use Rattle.uu_core.proofs.DecisionLemmas.{carried, turned_down, none_decided, some_decided, first_room}
 use Rattle.uu_core.proofs.OrderLemmas.{still_in_order}
-use Rattle.uu_core.proofs.Members.{keeps_none, find-any, find-none}
+use Rattle.uu_core.proofs.Members.{keeps_none, find_any, find-none}
 
 -- ---- the one system of a name
 
@@ -71,7 +71,7 @@ others name row rows own later =
 -- become
 pub called_once : (name : List ℕ) (change : SystemRow → CallState) (call : CallState) (rows : List SystemRow) → AreByName (λ (row : SystemRow). row.def.name) rows → ((row : SystemRow) → find (is_system name) rows ≡ Some row → change row ≡ call) → change_call name (λ _. call) rows ≡ change_call name change rows
 called_once name change call [] ordered is = refl
-called_once name change call (row ∷ rows) ordered is = by-test (is_system name row) refl is (called_once name change call rows (pairs-rest before row rows ordered))
+called_once name change call (row ∷ rows) ordered is = by-test (is_system name row) refl is (called_once name change call rows (pairs_rest before row rows ordered))
   where
     before : SystemRow → SystemRow → Type 0
     before a b = ComesBefore a.def.name b.def.name
@@ -79,7 +79,7 @@ called_once name change call (row ∷ rows) ordered is = by-test (is_system name
     by-test : (t : Bool) → is_system name row ≡ t → ((r : SystemRow) → cond t (Some row) (find (is_system name) rows) ≡ Some r → change r ≡ call) → (((r : SystemRow) → find (is_system name) rows ≡ Some r → change r ≡ call) → change_call name (λ _. call) rows ≡ change_call name change rows)
         → cond t (record row { call = call }) row ∷ change_call name (λ _. call) rows ≡ cond t (record row { call = change row }) row ∷ change_call name change rows
     by-test true e is again =
-        let none = others name row rows e (pairs-first before row rows ordered) in
+        let none = others name row rows e (pairs_first before row rows ordered) in
         ap (λ c. record row { call = c } ∷ change_call name (λ _. call) rows) (sym (is row refl))
         ∙ ap (λ rest. record row { call = change row } ∷ rest) (untouched name (λ _. call) rows none ∙ sym (untouched name change rows none))
     by-test false e is again = ap (λ rest. row ∷ rest) (again is)
@@ -237,14 +237,14 @@ module _ (state : State) (key : Key) (job : NewJob) (known : Bool) (link : Link)
   pub once_again : (number : ℕ) → Ok (Again number) ≡ decided (once_reasons known state.next below taken key job) (hand_in_of taken key state.next) → (state, Number number) ≡ after state (QueueOnce key job)
   once_again number e =
       let d = once_accepts (Again number) e in
-      sym (carried state (QueueOnce key job) d.1 ∙ ap (λ comes. (take_in comes key job state, Number (number_of comes))) d.0)
+      sym (carried state (QueueOnce key job) d.1 ∙ ap (λ comes. (with_job_once comes key job state, Number (hand_in_number comes))) d.0)
 
   pub once_first : {E : Type 0} (number : ℕ) (result : Result Reply E) (new : State) → Ok (First number) ≡ decided (once_reasons known state.next below taken key job) (hand_in_of taken key state.next)
-      → MatchResult result (λ reply. (new ≡ take_in (First number) key job state) × (reply ≡ Number number)) (λ _. new ≡ state) → IsGiven state (QueueOnce key job) result new
+      → MatchResult result (λ reply. (new ≡ with_job_once (First number) key job state) × (reply ≡ Number number)) (λ _. new ≡ state) → IsGiven state (QueueOnce key job) result new
   once_first number (Ok reply) new e m =
       let d = once_accepts (First number) e in
-      ap (λ s. (s, reply)) m.0 ∙ ap (λ r. (take_in (First number) key job state, r)) m.1
-      ∙ sym (carried state (QueueOnce key job) d.1 ∙ ap (λ comes. (take_in comes key job state, Number (number_of comes))) d.0)
+      ap (λ s. (s, reply)) m.0 ∙ ap (λ r. (with_job_once (First number) key job state, r)) m.1
+      ∙ sym (carried state (QueueOnce key job) d.1 ∙ ap (λ comes. (with_job_once comes key job state, Number (hand_in_number comes))) d.0)
   once_first number (Err fault) new e m = m
 
 pub first_accepted : (known : Bool) (next below : ℕ) (taken : Option Taken) (key : Key) (job : NewJob) (number : ℕ) → Ok (First number) ≡ decided (once_reasons known next below taken key job) (hand_in_of taken key next) → (length job.bytes ≤ most_bytes) × ((next == numbers_end) ≡ false) × (next ≡ number)
@@ -273,7 +273,7 @@ failed_accepted state name at why (Some row) call rows h f e r =
         ap (λ (o : SystemRow). failed_call o at why) (sym s) ∙ sym is-call
 
     accepted : verdict state (Failed name at why) ≡ None
-    accepted = ap (λ b. cond (not b) (Some NoSystem) None) (find-any (is_system name) state.systems row (sym f))
+    accepted = ap (λ b. cond (not b) (Some NoSystem) None) (find_any (is_system name) state.systems row (sym f))
 
 pub failed_refused : (state : State) (name : List ℕ) (at : Moment) (why : List ℕ) (found : Option SystemRow) (refusal : Refusal) → found ≡ system_at state name → Err refusal ≡ failed_decision found at why → (state, Refused refusal) ≡ after state (Failed name at why)
 failed_refused state name at why None refusal f e =
@@ -287,9 +287,9 @@ failed_refused state name at why (Some row) refusal f e = absurd apart
     apart = cc
 
 -- a system is found exactly if it is known
-found-known : (state : State) (name : List ℕ) (found : Option SystemRow) → found ≡ system_at state name → is_some found ≡ has_system state name
-found-known state name None f = sym (find-none (is_system name) state.systems (sym f))
-found-known state name (Some row) f = sym (find-any (is_system name) state.systems row (sym f))
+found_known : (state : State) (name : List ℕ) (found : Option SystemRow) → found ≡ system_at state name → is_some found ≡ has_system state name
+found_known state name None f = sym (find-none (is_system name) state.systems (sym f))
+found_known state name (Some row) f = sym (find_any (is_system name) state.systems row (sym f))
 
 done_once : (found : Option SystemRow) (row : SystemRow) (at : Moment) → found ≡ Some row → done_call row at ≡ done_call_of found at
 done_once found row at is = ap (λ o. done_call_of o at) (sym is)
@@ -297,7 +297,7 @@ done_once found row at is = ap (λ o. done_call_of o at) (sym is)
 pub done_accepted : (state : State) (name : List ℕ) (at : Moment) (numbers : List ℕ) (found : Option SystemRow) (heads : List JobHead) (call : CallState) (jobs : List Job) (rows : List SystemRow) → IsInOrder state → found ≡ system_at state name → heads ≡ map head_of state.jobs → Ok call ≡ decided (done_reasons (is_some found) name numbers heads) (done_call_of found at) → jobs ≡ filter (λ (job : Job). not (is_among numbers job)) state.jobs → rows ≡ change_call name (λ _. call) state.systems → (record state { jobs = jobs; systems = rows }, Carried) ≡ after state (Done name at numbers)
 done_accepted state name at numbers found heads call jobs rows h f hs e j r =
     let known = is_some found in
-    let k = found-known state name found f in
+    let k = found_known state name found f in
     let d = none_decided (done_reasons known name numbers heads) (done_call_of found at) call (sym e) in
     ap (λ js. (record state { jobs = js; systems = rows }, Carried)) j
     ∙ ap (λ systems. (record state { jobs = filter (λ (job : Job). not (is_among numbers job)) state.jobs; systems = systems }, Carried)) (r ∙ called_once name (λ other. done_call other at) call state.systems h.by_name (λ other q. done_once found other at (f ∙ q) ∙ d.1))
@@ -306,7 +306,7 @@ done_accepted state name at numbers found heads call jobs rows h f hs e j r =
 pub done_refused : (state : State) (name : List ℕ) (at : Moment) (numbers : List ℕ) (found : Option SystemRow) (heads : List JobHead) (refusal : Refusal) → found ≡ system_at state name → heads ≡ map head_of state.jobs → Err refusal ≡ decided (done_reasons (is_some found) name numbers heads) (done_call_of found at) → (state, Refused refusal) ≡ after state (Done name at numbers)
 done_refused state name at numbers found heads refusal f hs e =
     let known = is_some found in
-    let k = found-known state name found f in
+    let k = found_known state name found f in
     sym (turned_down state (Done name at numbers) refusal (ap (λ b. first_reason (done_reasons b name numbers (map head_of state.jobs))) (sym k) ∙ ap (λ l. first_reason (done_reasons known name numbers l)) (sym hs) ∙ some_decided (done_reasons known name numbers heads) (done_call_of found at) refusal (sym e)))
 
 -- ---- map entries
@@ -317,10 +317,10 @@ pub given_in_order : {E : Type 0} (old new : State) (command : Command) (result 
 given_in_order old new command (Ok reply) h g = subst IsInOrder (sym (ap (λ (p : State × Reply). p.0) g)) (still_in_order old command h)
 given_in_order old new command (Err fault) h g = subst IsInOrder (sym g) h
 
-get-map : {X Y : Type 0} (f : X → Y) (xs : List X) (i : ℕ) (x : X) (y : Y) → i < length xs → get_or (map f xs) i y ≡ f (get_or xs i x)
-get-map f [] i x y within = absurd (omega (arith, within))
-get-map f (z ∷ xs) zero x y within = refl
-get-map f (z ∷ xs) (suc i) x y within = get-map f xs i x y (omega (arith, within))
+get_map : {X Y : Type 0} (f : X → Y) (xs : List X) (i : ℕ) (x : X) (y : Y) → i < length xs → get_or (map f xs) i y ≡ f (get_or xs i x)
+get_map f [] i x y within = absurd (omega (arith, within))
+get_map f (z ∷ xs) zero x y within = refl
+get_map f (z ∷ xs) (suc i) x y within = get_map f xs i x y (omega (arith, within))
 
 nat_differ : (a b : ℕ) → a < b → nat_eq a b ≡ false
 nat_differ a b l = grind (arith, nat_tests)
@@ -328,7 +328,7 @@ nat_differ a b l = grind (arith, nat_tests)
 number_at : (jobs : List Job) (k : ℕ) (job : Job) (d : ℕ) → k < length jobs → get_or (map (λ (head : JobHead). head.number) (map head_of jobs)) k d ≡ (get_or jobs k job).number
 number_at jobs k job d within =
     let n : length (map head_of jobs) ≡ length jobs = length-map jobs head_of in
-    get-map (λ (head : JobHead). head.number) (map head_of jobs) k (head_of job) d (omega (arith, n, within)) ∙ ap (λ (head : JobHead). head.number) (get-map head_of jobs k job (head_of job) within)
+    get_map (λ (head : JobHead). head.number) (map head_of jobs) k (head_of job) d (omega (arith, n, within)) ∙ ap (λ (head : JobHead). head.number) (get_map head_of jobs k job (head_of job) within)
 
 numbers_differ : (jobs : List Job) (job : Job) → AllPairs (λ (a b : Job). a.number < b.number) jobs → (i j d : ℕ) → i < j → j < length (map (λ (head : JobHead). head.number) (map head_of jobs)) → nat_eq (get_or (map (λ (head : JobHead). head.number) (map head_of jobs)) i d) (get_or (map (λ (head : JobHead). head.number) (map head_of jobs)) j d) ≡ false
 numbers_differ jobs job h i j d below inside =

@@ -1,7 +1,7 @@
 // What the machine holds, and what each command makes of it.
 ghost use Rattle.std.specs.Prelude.{◌≡◌, ◌<◌, ◌≤◌, length, MatchResult};
 ghost use Rattle.uu_core.specs.State.{link_of, numbers_end, most_bytes};
-ghost use Rattle.uu_core.specs.After.{after, take_in};
+ghost use Rattle.uu_core.specs.After.{after, with_job_once};
 ghost use Rattle.uu_core.specs.Order.{IsInOrder};
 ghost use Rattle.uu_plain.specs.Lists.{state_of, IsGiven};
 
@@ -10,8 +10,8 @@ use crate::entry::PlainEntry;
 use crate::job::PlainJob;
 use crate::link::{PlainLink, link_of};
 use crate::rows::{
-    are_known, call_of, decide_on, drop_job, drop_jobs, drop_link, drop_system, has_system,
-    is_waiting, put, put_link, regrade, rejuvenate, release_jobs, set_call, system_at,
+    are_known, call_of, decide_on, has_system, is_waiting, put, put_link, regrade, rejuvenate,
+    release_jobs, remove_job, remove_jobs, remove_link, remove_system, set_call, system_at,
 };
 use std::alloc::{AllocError, Global};
 use uu_core::{
@@ -68,8 +68,8 @@ impl Lists {
         let waiting = is_waiting(self.jobs.as_slice(), name);
         match decide_drop(known, waiting) {
             Ok(()) => {
-                drop_system(&mut self.systems, name);
-                drop_link(&mut self.links, name);
+                remove_system(&mut self.systems, name);
+                remove_link(&mut self.links, name);
                 Reply::Done
             }
             Err(refusal) => Reply::Refused(refusal),
@@ -98,14 +98,14 @@ impl Lists {
         let known = are_known(self.systems.as_slice(), key, &job);
         let taken = link.taken_at(key.number);
         match decide_queue_once(known, self.next, link.below(), taken, key, &job) {
-            Ok(HandIn::First(number)) => self.take_in(alloc, number, link, key, job),
+            Ok(HandIn::First(number)) => self.add_once(alloc, number, link, key, job),
             Ok(HandIn::Again(number)) => Ok(Reply::Number(number)),
             Err(refusal) => Ok(Reply::Refused(refusal)),
         }
     }
 
     // The job is queued under the next number, and its key kept in the link.
-    fn take_in(
+    fn add_once(
         &mut self,
         alloc: Global,
         number: u32,
@@ -118,7 +118,7 @@ impl Lists {
         requires some_left { number < numbers_end }
         requires small { length job.bytes ≤ most_bytes }
         requires link_is { link ≡ link_of (state_of self.old) key.now.from }
-        ensures { MatchResult result (λ reply. (state_of self.new ≡ take_in (HandIn.First number) key.now job (state_of self.old)) × (reply ≡ Reply.Number number)) (λ _. state_of self.new ≡ state_of self.old) }
+        ensures { MatchResult result (λ reply. (state_of self.new ≡ with_job_once (HandIn.First number) key.now job (state_of self.old)) × (reply ≡ Reply.Number number)) (λ _. state_of self.new ≡ state_of self.old) }
     {
         let mut link = link;
         link.take(
@@ -147,7 +147,7 @@ impl Lists {
     {
         match decide_on(self.jobs.as_slice(), job, by) {
             Ok(()) => {
-                drop_job(&mut self.jobs, job);
+                remove_job(&mut self.jobs, job);
                 Reply::Done
             }
             Err(refusal) => Reply::Refused(refusal),
@@ -205,7 +205,7 @@ impl Lists {
         let row = system_at(self.systems.as_slice(), system);
         match decide_done(row, system, jobs, heads.as_slice(), at) {
             Ok(call) => {
-                drop_jobs(&mut self.jobs, jobs);
+                remove_jobs(&mut self.jobs, jobs);
                 set_call(self.systems.as_mut_slice(), system, call);
                 Ok(Reply::Done)
             }

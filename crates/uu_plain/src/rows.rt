@@ -184,25 +184,25 @@ fn is_among(numbers: &[u32], number: u32) -> bool
     numbers.iter().any(|other| *other == number)
 }
 
-pub(crate) fn drop_system(rows: &mut Vec<SystemRow>, name: &SiteName)
+pub(crate) fn remove_system(rows: &mut Vec<SystemRow>, name: &SiteName)
     ensures { rows.new.items ≡ filter (λ row. not (is_system name.now row)) rows.old.items }
 {
     rows.retain(|row| row.def.name != *name);
 }
 
-pub(crate) fn drop_link(links: &mut Vec<PlainLink>, name: &SiteName)
+pub(crate) fn remove_link(links: &mut Vec<PlainLink>, name: &SiteName)
     ensures { links.new.items ≡ filter (λ link. not (is_link name.now link)) links.old.items }
 {
     links.retain(|link| link.name != *name);
 }
 
-pub(crate) fn drop_job(jobs: &mut Vec<PlainJob>, number: u32)
+pub(crate) fn remove_job(jobs: &mut Vec<PlainJob>, number: u32)
     ensures { jobs.new.items ≡ filter (λ job. not (is_job number job)) jobs.old.items }
 {
     jobs.retain(|job| job.head().number != number);
 }
 
-pub(crate) fn drop_jobs(jobs: &mut Vec<PlainJob>, numbers: &[u32])
+pub(crate) fn remove_jobs(jobs: &mut Vec<PlainJob>, numbers: &[u32])
     ensures { jobs.new.items ≡ filter (λ job. not (is_among numbers.now job)) jobs.old.items }
 {
     jobs.retain(|job| !is_among(numbers, job.head().number));

@@ -5,12 +5,12 @@ use Rattle.std.specs.declared.alloc.Global.{Global}
 use Rattle.sqlite.specs.declared.error.Error.{Error}
 use Rattle.sqlite.specs.Order.{Row}
 use Rattle.sqlite.specs.State.{State as DbState, HasCleanDisk}
-use Rattle.uu_schema.specs.Steps.{Stands, Told}
+use Rattle.uu_schema.specs.Steps.{Stands, OpenIfAnswered}
 use Rattle.uu_schema.proofs.Steps.{told_also, told_not, told_told}
 use Rattle.uu_core.specs.State.{State, IsWellFormed}
-use Rattle.uu_schema.specs.Schema.{site}
-use Rattle.uu_questions.specs.Answers.{IsAt, IsOf, Answers}
-use Rattle.uu_rows.specs.Shows.{Shows}
+use Rattle.uu_schema.specs.Schema.{spool_schema}
+use Rattle.uu_questions.specs.Answers.{IsAt, IsStateOf, Answers}
+use Rattle.uu_rows.specs.Shows.{ShowsRows}
 use Rattle.uu_rows.proofs.Showing.{answered}
 use Rattle.std.proofs.lemmas.Result.{IfOk-weaker}
 
@@ -30,14 +30,14 @@ pub none_answered : {T E : Type 0} (P : T → Type 0) (r : Result T E) → IsErr
 none_answered P (Ok x) fails = absurd (cc)
 none_answered P (Err e) fails = tt
 
-module _ {T : Type 0} (IsAnswer : State → T → Type 0) (text : List ℕ) (params : Row) (a b : DbState) (r : Result (Vec Row Global) Error) (q : Result T Error) (h : Shows text params a b r) where
+module _ {T : Type 0} (IsAnswer : State → T → Type 0) (text : List ℕ) (params : Row) (a b : DbState) (r : Result (Vec Row Global) Error) (q : Result T Error) (h : ShowsRows text params a b r) where
   -- the question in SQL was refused
   pub not_shown : IsErr q → Answers IsAnswer a b q
-  not_shown fails = record { told = told_not site a b r q fails h.told; same = λ clean stands. none_told _ q fails; exact = λ clean s of. none_answered (IsAnswer s) q fails }
+  not_shown fails = record { told = told_not spool_schema a b r q fails h.told; same = λ clean stands. none_told _ q fails; exact = λ clean s of. none_answered (IsAnswer s) q fails }
 
   -- it was answered, and its rows are read
-  pub then_read : IsOk r → (HasCleanDisk b → (s : State) → IsOf s a → IfOk q (IsAnswer s)) → Answers IsAnswer a b q
-  then_read ok exact = record { told = told_also site a b r q ok h.told; same = λ clean stands. to_any q (from_ok r ok (h.same clean)); exact = exact }
+  pub then_read : IsOk r → (HasCleanDisk b → (s : State) → IsStateOf s a → IfOk q (IsAnswer s)) → Answers IsAnswer a b q
+  then_read ok exact = record { told = told_also spool_schema a b r q ok h.told; same = λ clean stands. to_any q (from_ok r ok (h.same clean)); exact = exact }
 
 -- ---- what answered, and what did not
 
@@ -51,31 +51,31 @@ both_ok (Err e) P Q R step h k = tt
 
 -- ---- one question after another
 
-as_told : {T U : Type 0} (a b : DbState) (q : Result T Error) (r : Result U Error) → (IsOk r → IsOk q) → Told site a b q → Told site a b r
-as_told a b q (Ok x) ok h = told_also site a b q (Ok x) (ok refl) h
-as_told a b q (Err e) ok h = told_not site a b q (Err e) refl h
+as_told : {T U : Type 0} (a b : DbState) (q : Result T Error) (r : Result U Error) → (IsOk r → IsOk q) → OpenIfAnswered spool_schema a b q → OpenIfAnswered spool_schema a b r
+as_told a b q (Ok x) ok h = told_also spool_schema a b q (Ok x) (ok refl) h
+as_told a b q (Err e) ok h = told_not spool_schema a b q (Err e) refl h
 
 module _ {T : Type 0} (P : State → T → Type 0) (a b : DbState) (p : Result T Error) (first : Answers P a b p) (done : IsOk p) where
-  before : {V : Type 0} (c : DbState) (q : Result V Error) → Told site b c q → HasCleanDisk c → HasCleanDisk b
+  before : {V : Type 0} (c : DbState) (q : Result V Error) → OpenIfAnswered spool_schema b c q → HasCleanDisk c → HasCleanDisk b
   before c q told clean = omega (arith, clean, told.asked.survives.clean)
 
-  stays : HasCleanDisk b → Stands site a.now → b.now ≡ a.now
+  stays : HasCleanDisk b → Stands spool_schema a.now → b.now ≡ a.now
   stays clean stands = from_ok p done (first.same clean stands)
 
   -- the tables are those of the same state
-  pub still_of : HasCleanDisk b → (s : State) → IsOf s a → IsOf s b
+  pub still_of : HasCleanDisk b → (s : State) → IsStateOf s a → IsStateOf s b
   still_of clean s of = subst (λ d. IsAt s d) (sym (stays clean of.stands)) of
 
   module _ {V : Type 0} (Q : State → V → Type 0) (c : DbState) (q : Result V Error) (second : Answers Q b c q) where
     pub then_answers : {U : Type 0} (R : State → U → Type 0) (r : Result U Error) → (IsOk r → IsOk q) → ((s : State) → IsWellFormed s → IfOk p (P s) → IfOk q (Q s) → IfOk r (R s)) → Answers R a c r
     then_answers R r ok step = record {
-      told = as_told a c q r ok (told_told site a b p c q done first.told second.told);
+      told = as_told a c q r ok (told_told spool_schema a b p c q done first.told second.told);
       same = λ clean stands. go r ok clean stands;
       exact = λ clean s of. let early = before c q second.told clean in step s of.good (first.exact early s of) (second.exact clean s (still_of early s of));
     }
       where
-        go : {U : Type 0} (r : Result U Error) → (IsOk r → IsOk q) → HasCleanDisk c → Stands site a.now → OnOk r (c.now ≡ a.now)
-        go (Ok x) ok clean stands = let early = before c q second.told clean in from_ok q (ok refl) (second.same clean (subst (Stands site) (sym (stays early stands)) stands)) ∙ stays early stands
+        go : {U : Type 0} (r : Result U Error) → (IsOk r → IsOk q) → HasCleanDisk c → Stands spool_schema a.now → OnOk r (c.now ≡ a.now)
+        go (Ok x) ok clean stands = let early = before c q second.told clean in from_ok q (ok refl) (second.same clean (subst (Stands spool_schema) (sym (stays early stands)) stands)) ∙ stays early stands
         go (Err e) ok clean stands = tt
 
 pub answer_in : {T E : Type 0} (P : T → Type 0) (r : Result T E) (x : T) → r ≡ Ok x → IfOk r P → P x
@@ -95,7 +95,7 @@ answers_as {T} {U} P R a b p r h ok step = record {
   exact = λ clean s of. step s of.good (h.exact clean s of);
 }
   where
-    go : (r : Result U Error) → (IsOk r → IsOk p) → HasCleanDisk b → Stands site a.now → OnOk r (b.now ≡ a.now)
+    go : (r : Result U Error) → (IsOk r → IsOk p) → HasCleanDisk b → Stands spool_schema a.now → OnOk r (b.now ≡ a.now)
     go (Ok x) ok clean stands = from_ok p (ok refl) (h.same clean stands)
     go (Err e) ok clean stands = tt
 

@@ -10,7 +10,7 @@ use Rattle.sqlite.specs.Store.{Ghosts}
 use Rattle.uu_core.specs.State.{State, IsWellFormed}
 use Rattle.uu_rows.specs.Shows.{AsksText}
 use Rattle.uu_rows.proofs.Showing.{answered}
-use Rattle.uu_questions.specs.Answers.{Asks, IsOf}
+use Rattle.uu_questions.specs.Answers.{Asks, IsStateOf}
 use Rattle.uu_questions.specs.Reading.{AsksAndReads}
 use Rattle.uu_questions.specs.Walks.{AsksAndWalks, Took}
 use Rattle.uu_questions.proofs.Answering.{then_read, answers_as, beside_first, answer_in, none_ok, none_answered}
@@ -21,15 +21,15 @@ module _ {S : Type 0} {g : Ghosts S} where
   -- ---- what is read of the rows that a text shows is the answer
 
   pub asks_shown : {T : Type 0} {IsAnswer : State → T → Type 0} {text : List ℕ} {a b : Held S} {r : Result (Vec Row Global) Error} {rows : Vec Row Global} {q : Result T Error} → AsksText g text a b r → r ≡ Ok rows
-      → (HasCleanDisk (state g b) → (s : State) → IsOf s (state g a) → IfOk q (IsAnswer s)) → Asks g IsAnswer a b q
+      → (HasCleanDisk (state g b) → (s : State) → IsStateOf s (state g a) → IfOk q (IsAnswer s)) → Asks g IsAnswer a b q
   asks_shown {rows = rows} h was exact = record { idle = h.idle; answers = then_read _ _ [] _ _ _ _ h.shows (answered _ rows was) exact }
 
   pub asks_read : {T : Type 0} {IsRead : List Row → T → Type 0} {IsAnswer : State → T → Type 0} {text : List ℕ} {params : Row} {a b : Held S} {r : Result T Error} → AsksAndReads g IsRead text params a b r
-      → ((s : State) → IsOf s (state g a) → (rows : List Row) → Shown text params (state g a) (state g b) rows → (read : T) → IsRead rows read → IsAnswer s read) → Asks g IsAnswer a b r
+      → ((s : State) → IsStateOf s (state g a) → (rows : List Row) → Shown text params (state g a) (state g b) rows → (read : T) → IsRead rows read → IsAnswer s read) → Asks g IsAnswer a b r
   asks_read h step = record { idle = h.idle; answers = read_answers _ _ _ _ _ _ _ h.reads step }
 
   pub asks_walked : {X T U : Type 0} {IsAnswer : State → U → Type 0} {takes : X → Row → X → Type 0} {text : List ℕ} {params : Row} {a b : Held S} {before after : X} {r : Result T Error} {q : Result U Error} → AsksAndWalks g takes text params a b before after r → (IsOk q → IsOk r)
-      → ((s : State) → IsOf s (state g a) → (rows : List Row) → Shown text params (state g a) (state g b) rows → Took takes before rows after → IfOk q (IsAnswer s)) → Asks g IsAnswer a b q
+      → ((s : State) → IsStateOf s (state g a) → (rows : List Row) → Shown text params (state g a) (state g b) rows → Took takes before rows after → IfOk q (IsAnswer s)) → Asks g IsAnswer a b q
   asks_walked h ok step = record { idle = h.idle; answers = walk_answers _ _ _ _ _ _ _ _ _ _ h.walks ok step }
 
   -- ---- one question, and what its caller answers

@@ -22,15 +22,15 @@ use Rattle.uu_tables.specs.declared.rows.LineColumns.{LineColumns}
 use Rattle.uu_tables.specs.declared.rows.RangeColumns.{RangeColumns}
 use Rattle.uu_tables.specs.declared.rows.WaitColumns.{WaitColumns}
 use Rattle.uu_tables.specs.Tables.{PlacedLine, system_columns, call_columns, placed, placed_from, line_columns, range_columns, ranges_of, waits_from, waits_of}
-use Rattle.uu_questions.specs.Assembly.{is_line_of, is_range_of, is_wait_of, is_range_of_line, own, others, range_of, lines_from, wait_from, lines_and_wait, lines_and_wait_of_each, HaveWindows, MakeSystems}
+use Rattle.uu_questions.specs.Assembly.{is_line_of, is_range_of, is_wait_of, is_range_of_line, own_rows, rows_behind, range_of, lines_from, wait_from, lines_and_wait, lines_and_wait_of_each, HaveWindows, MakeSystems}
 
 -- ---- the front of a list
 
 module _ {P C : Type 0} (owns : P → C → Bool) (owner : P) (xs rest : List C) (all : AllByRecursion (λ c. owns owner c ≡ true) xs) (none : AllByRecursion (λ c. owns owner c ≡ false) rest) where
-  own_is : own owns owner (xs ++ rest) ≡ xs
+  own_is : own_rows owns owner (xs ++ rest) ≡ xs
   own_is = ap (λ n. take n (xs ++ rest)) (own_front (owns owner) xs rest all none) ∙ take-append_seam xs rest
 
-  others_are : others owns owner (xs ++ rest) ≡ rest
+  others_are : rows_behind owns owner (xs ++ rest) ≡ rest
   others_are = ap (λ n. drop n (xs ++ rest)) (own_front (owns owner) xs rest all none) ∙ drop-append_seam xs rest
 
 -- ---- the lines of a system
@@ -63,8 +63,8 @@ lines_back name place (line ∷ lines) =
     let here : (place == place) ≡ true = grind (arith, nat_tests) in
     let mine = ranges_pass (is_range_of_line l) true name place line.windows (λ w. rw (text_to name, here) refl) in
     let none = later_ranges name l (place + 1) lines (omega arith) in
-    let windows : map range_of (own is_range_of_line l (ranges_of p ++ rest)) ≡ line.windows = ap (map range_of) (own_is is_range_of_line l (ranges_of p) rest mine none) ∙ windows_back name place line.windows in
-    let more : lines_from (map line_columns (placed_from name (place + 1) lines)) (others is_range_of_line l (ranges_of p ++ rest)) ≡ lines =
+    let windows : map range_of (own_rows is_range_of_line l (ranges_of p ++ rest)) ≡ line.windows = ap (map range_of) (own_is is_range_of_line l (ranges_of p) rest mine none) ∙ windows_back name place line.windows in
+    let more : lines_from (map line_columns (placed_from name (place + 1) lines)) (rows_behind is_range_of_line l (ranges_of p ++ rest)) ≡ lines =
     ap (lines_from (map line_columns (placed_from name (place + 1) lines))) (others_are is_range_of_line l (ranges_of p) rest mine none) ∙ lines_back name (place + 1) lines in
     λ i. record line { windows = windows i } ∷ more i
 
@@ -149,39 +149,39 @@ Rises rows = IsAscending (λ (a b : SystemRow). ComesBefore a.def.name b.def.nam
 
 -- the rows of the first system, and those after them
 module _ (row : SystemRow) (rows : List SystemRow) (up : AllByRecursion (λ (r : SystemRow). ComesBefore row.def.name r.def.name) rows) where
-  own_lines : own is_line_of (system_columns row) (lines_table (row ∷ rows)) ≡ map line_columns (placed row)
+  own_lines : own_rows is_line_of (system_columns row) (lines_table (row ∷ rows)) ≡ map line_columns (placed row)
   own_lines =
-      ap (own is_line_of (system_columns row)) (lines_split row rows)
+      ap (own_rows is_line_of (system_columns row)) (lines_split row rows)
       ∙ own_is is_line_of (system_columns row) (map line_columns (placed row)) (lines_table rows) (lines_pass (is_line_of (system_columns row)) true row.def.name 0 row.def.lines (λ l e. ap (λ n. same_text n row.def.name) e ∙ text_to row.def.name)) (other_lines row rows up)
 
-  own_ranges : own is_range_of (system_columns row) (ranges_table (row ∷ rows)) ≡ flat_map ranges_of (placed row)
+  own_ranges : own_rows is_range_of (system_columns row) (ranges_table (row ∷ rows)) ≡ flat_map ranges_of (placed row)
   own_ranges =
-      ap (own is_range_of (system_columns row)) (ranges_split row rows)
+      ap (own_rows is_range_of (system_columns row)) (ranges_split row rows)
       ∙ own_is is_range_of (system_columns row) (flat_map ranges_of (placed row)) (ranges_table rows) (all_ranges_pass (is_range_of (system_columns row)) true row.def.name 0 row.def.lines (λ r e. ap (λ n. same_text n row.def.name) e ∙ text_to row.def.name)) (other_ranges row rows up)
 
-  first_lines : lines_from (own is_line_of (system_columns row) (lines_table (row ∷ rows))) (own is_range_of (system_columns row) (ranges_table (row ∷ rows))) ≡ row.def.lines
+  first_lines : lines_from (own_rows is_line_of (system_columns row) (lines_table (row ∷ rows))) (own_rows is_range_of (system_columns row) (ranges_table (row ∷ rows))) ≡ row.def.lines
   first_lines = (λ i. lines_from (own_lines i) (own_ranges i)) ∙ lines_back row.def.name 0 row.def.lines
 
   own_wait : AllByRecursion (λ w. is_wait_of (system_columns row) w ≡ true) (waits_of row)
   own_wait = wait_passes (is_wait_of (system_columns row)) true row.def.name row.def.success_wait (λ w e. ap (λ n. same_text n row.def.name) e ∙ text_to row.def.name)
 
-  first_wait : wait_from (own is_wait_of (system_columns row) (waits_table (row ∷ rows))) ≡ row.def.success_wait
+  first_wait : wait_from (own_rows is_wait_of (system_columns row) (waits_table (row ∷ rows))) ≡ row.def.success_wait
   first_wait = ap wait_from (own_is is_wait_of (system_columns row) (waits_of row) (waits_table rows) own_wait (other_waits row rows up)) ∙ wait_back row.def.name row.def.success_wait
 
-  first_of_each : (lines_from (own is_line_of (system_columns row) (lines_table (row ∷ rows))) (own is_range_of (system_columns row) (ranges_table (row ∷ rows))), wait_from (own is_wait_of (system_columns row) (waits_table (row ∷ rows)))) ≡ lines_and_wait row
+  first_of_each : (lines_from (own_rows is_line_of (system_columns row) (lines_table (row ∷ rows))) (own_rows is_range_of (system_columns row) (ranges_table (row ∷ rows))), wait_from (own_rows is_wait_of (system_columns row) (waits_table (row ∷ rows)))) ≡ lines_and_wait row
   first_of_each = λ i. (first_lines i, first_wait i)
 
-  lines_behind : others is_line_of (system_columns row) (lines_table (row ∷ rows)) ≡ lines_table rows
+  lines_behind : rows_behind is_line_of (system_columns row) (lines_table (row ∷ rows)) ≡ lines_table rows
   lines_behind =
-      ap (others is_line_of (system_columns row)) (lines_split row rows)
+      ap (rows_behind is_line_of (system_columns row)) (lines_split row rows)
       ∙ others_are is_line_of (system_columns row) (map line_columns (placed row)) (lines_table rows) (lines_pass (is_line_of (system_columns row)) true row.def.name 0 row.def.lines (λ l e. ap (λ n. same_text n row.def.name) e ∙ text_to row.def.name)) (other_lines row rows up)
 
-  ranges_behind : others is_range_of (system_columns row) (ranges_table (row ∷ rows)) ≡ ranges_table rows
+  ranges_behind : rows_behind is_range_of (system_columns row) (ranges_table (row ∷ rows)) ≡ ranges_table rows
   ranges_behind =
-      ap (others is_range_of (system_columns row)) (ranges_split row rows)
+      ap (rows_behind is_range_of (system_columns row)) (ranges_split row rows)
       ∙ others_are is_range_of (system_columns row) (flat_map ranges_of (placed row)) (ranges_table rows) (all_ranges_pass (is_range_of (system_columns row)) true row.def.name 0 row.def.lines (λ r e. ap (λ n. same_text n row.def.name) e ∙ text_to row.def.name)) (other_ranges row rows up)
 
-  waits_behind : others is_wait_of (system_columns row) (waits_table (row ∷ rows)) ≡ waits_table rows
+  waits_behind : rows_behind is_wait_of (system_columns row) (waits_table (row ∷ rows)) ≡ waits_table rows
   waits_behind = others_are is_wait_of (system_columns row) (waits_of row) (waits_table rows) own_wait (other_waits row rows up)
 
 pub assembled : (rows : List SystemRow) → Rises rows → lines_and_wait_of_each (map system_columns rows) (lines_table rows) (ranges_table rows) (waits_table rows) ≡ map lines_and_wait rows
@@ -205,8 +205,8 @@ rows_make (row ∷ rows) good up =
         outcome = row.call.outcome;
         call = record { number = refl; why = refl };
       },
-      subst (λ l. MakeSystems (map system_columns rows) l (others is_range_of (system_columns row) (ranges_table (row ∷ rows))) (others is_wait_of (system_columns row) (waits_table (row ∷ rows)))) (sym (lines_behind row rows up.0))
-          (subst (λ r. MakeSystems (map system_columns rows) (lines_table rows) r (others is_wait_of (system_columns row) (waits_table (row ∷ rows)))) (sym (ranges_behind row rows up.0))
+      subst (λ l. MakeSystems (map system_columns rows) l (rows_behind is_range_of (system_columns row) (ranges_table (row ∷ rows))) (rows_behind is_wait_of (system_columns row) (waits_table (row ∷ rows)))) (sym (lines_behind row rows up.0))
+          (subst (λ r. MakeSystems (map system_columns rows) (lines_table rows) r (rows_behind is_wait_of (system_columns row) (waits_table (row ∷ rows)))) (sym (ranges_behind row rows up.0))
           (subst (λ w. MakeSystems (map system_columns rows) (lines_table rows) (ranges_table rows) w) (sym (waits_behind row rows up.0)) (rows_make rows good.1 up.1))),
     )
 

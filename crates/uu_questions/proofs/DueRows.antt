@@ -19,7 +19,7 @@ use Rattle.sqlite_keyed.proofs.ListLemmas.{ascending_weaker, ascending-filter}
 use Rattle.sqlite_keyed.proofs.SortLemmas.{IsPermutation-sort_by}
 use Rattle.uu_names.proofs.Basics.{any_push}
 use Rattle.uu_schema.proofs.Answers.{answer_of}
-use Rattle.uu_schema.proofs.Sorted.{rises-insert_sorted}
+use Rattle.uu_schema.proofs.Sorted.{rises_insert_sorted}
 use Rattle.uu_times.specs.declared.moment.Moment.{Moment}
 use Rattle.uu_core.specs.declared.job.JobHead.{JobHead}
 use Rattle.uu_core.specs.declared.due.Due.{Due}
@@ -27,12 +27,12 @@ use Rattle.uu_core.specs.declared.filter.Filter.{Filter}
 use Rattle.uu_core.specs.declared.system.SystemRow.{SystemRow}
 use Rattle.uu_core.specs.State.{State, IsWellFormed, same_text, head_of}
 use Rattle.uu_core.specs.Due.{is_within, may_be_called, may_go, goes_before, due_of, is_listed, AreInOrder, AreDue}
-use Rattle.uu_schema.specs.Schema.{site, jobs}
+use Rattle.uu_schema.specs.Schema.{spool_schema, jobs}
 use Rattle.uu_schema.specs.Keyed.{columns}
 use Rattle.uu_schema.specs.Held.{job_places}
 use Rattle.uu_schema.specs.Cells.{job_cells}
-use Rattle.uu_questions.specs.Answers.{IsOf}
-use Rattle.uu_questions.specs.Listing.{by_rank, fits, listed}
+use Rattle.uu_questions.specs.Answers.{IsStateOf}
+use Rattle.uu_questions.specs.Listing.{by_rank, fits, listed_jobs}
 use Rattle.uu_questions.specs.Dues.{IsLeft, TakesRow, due_cells}
 use Rattle.uu_questions.specs.Walks.{Took}
 use Rattle.uu_questions.proofs.Texts.{due_jobs_text}
@@ -40,7 +40,7 @@ use Rattle.uu_rows.proofs.Meanings.{at_places, by_places}
 use Rattle.uu_questions.proofs.Meanings.{due_jobs_means}
 use Rattle.uu_rows.proofs.Typed.{typed_sorted}
 use Rattle.uu_rows.proofs.InTables.{all_pass}
-use Rattle.uu_rows.proofs.Comparing.{numbered, int_cmp-nat}
+use Rattle.uu_rows.proofs.Comparing.{numbered, int_cmp_nat}
 use Rattle.uu_questions.proofs.Listed.{apart, numbers_rise}
 
 -- ---- one more of a list
@@ -52,16 +52,16 @@ any_more p xs i d h = ap (list_any p) (take_more xs i d h) ∙ any_push p (take 
 
 -- what is let go is free no more
 pub let_go : (may gone same : Bool) (grade : ℕ) (old new : Option ℕ) → is_within old grade ≡ (may && not gone) → new ≡ cond same None old → is_within new grade ≡ (may && not (gone || same))
-let_go may gone same grade old new h e = ap (λ o. is_within o grade) e ∙ by-same same
+let_go may gone same grade old new h e = ap (λ o. is_within o grade) e ∙ by_same same
   where
     never : (a b : Bool) → a && not (b || true) ≡ false
     never true true = refl
     never true false = refl
     never false b = refl
 
-    by-same : (t : Bool) → is_within (cond t None old) grade ≡ (may && not (gone || t))
-    by-same true = sym (never may gone)
-    by-same false = h ∙ ap (λ b. may && not b) (sym (or-false gone))
+    by_same : (t : Bool) → is_within (cond t None old) grade ≡ (may && not (gone || t))
+    by_same true = sym (never may gone)
+    by_same false = h ∙ ap (λ b. may && not b) (sym (or-false gone))
 
 -- so is the system of a job that is listed
 pub left_after : (may : Bool) (dues : List Due) (due : Due) (name : List ℕ) (grade : ℕ) (old new : Option ℕ) → is_within old grade ≡ (may && not (is_listed dues name)) → new ≡ cond (same_text due.system name) None old
@@ -121,7 +121,7 @@ all_sorted P (x ∷ xs) all = all_inserted P x (by_grade xs) all.0 (all_sorted P
 
 rises_sorted : (xs : List JobHead) → IsAscending (λ a b. is_eq (by_rank a b) ≡ false) xs → IsAscending (λ a b. by_rank a b ≡ Less) (by_grade xs)
 rises_sorted [] apart = tt
-rises_sorted (x ∷ xs) apart = rises-insert_sorted by_rank ranks_total x (by_grade xs) (all_sorted _ xs apart.0) (rises_sorted xs apart.1)
+rises_sorted (x ∷ xs) apart = rises_insert_sorted by_rank ranks_total x (by_grade xs) (all_sorted _ xs apart.0) (rises_sorted xs apart.1)
 
 before_is : (a b : JobHead) → by_rank a b ≡ Less → goes_before a b ≡ true
 before_is a b h = go (nat_cmp a.grade b.grade) (ranked a.grade b.grade _ refl) (nat_cmp a.number b.number) (ranked a.number b.number _ refl) h
@@ -148,21 +148,21 @@ in_order s good =
     (rises_sorted (map head_of s.jobs) (ascending_weaker _ (λ a b. is_eq (by_rank a b) ≡ false) apart _ (numbers_rise s good))))
 
 -- and those of them that fit
-pub fitting_in_order : (wanted : Filter) (s : State) → IsWellFormed s → AreInOrder (listed wanted s)
+pub fitting_in_order : (wanted : Filter) (s : State) → IsWellFormed s → AreInOrder (listed_jobs wanted s)
 fitting_in_order wanted s good =
     pairs_of (λ a b. goes_before a b ≡ true) _ (ascending_weaker _ (λ a b. goes_before a b ≡ true) before_is _
     (rises_sorted (filter (fits wanted) (map head_of s.jobs))
     (ascending-filter _ (fits wanted) _ (ascending_weaker _ (λ a b. is_eq (by_rank a b) ≡ false) apart _ (numbers_rise s good)))))
 
-pub fitting_same : (wanted : Filter) (s : State) → IsPermutation (filter (fits wanted) (map head_of s.jobs)) (listed wanted s)
+pub fitting_same : (wanted : Filter) (s : State) → IsPermutation (filter (fits wanted) (map head_of s.jobs)) (listed_jobs wanted s)
 fitting_same wanted s = IsPermutation-sym _ _ (IsPermutation-sort_by by_rank ranks_total (filter (fits wanted) (map head_of s.jobs)))
 
-pub due_rows : (old new : db.State) (s : State) (rows : List Row) → IsOf s old → db.Shown due_jobs_text [] old new rows → rows ≡ map (λ j. due_cells (due_of j)) (by_grade (map head_of s.jobs))
+pub due_rows : (old new : db.State) (s : State) (rows : List Row) → IsStateOf s old → db.Shown due_jobs_text [] old new rows → rows ≡ map (λ j. due_cells (due_of j)) (by_grade (map head_of s.jobs))
 due_rows old new s rows of h =
-    let a = answer_of site due_jobs_text _ _ [] old new due_jobs_means of.stands.schema rows h in
+    let a = answer_of spool_schema due_jobs_text _ _ [] old new due_jobs_means of.stands.schema rows h in
     typed_sorted jobs.tree [] (at_places (2 ∷ 3 ∷ 0 ∷ [])) (by_places (3 ∷ 0 ∷ [])) old.now.trees [] rows refl a (columns job_places) numbered (λ r. refl) (λ r. refl) job_cells (map head_of s.jobs) of.holds.jobs.same
     (λ j. true) (λ j. refl)
-    by_rank (λ x y. then_key (value_cmp-Int (pos x.grade) (pos y.grade) ∙ int_cmp-nat x.grade y.grade) (last_key (value_cmp-Int (pos x.number) (pos y.number) ∙ int_cmp-nat x.number y.number)))
+    by_rank (λ x y. then_key (value_cmp-Int (pos x.grade) (pos y.grade) ∙ int_cmp_nat x.grade y.grade) (last_key (value_cmp-Int (pos x.number) (pos y.number) ∙ int_cmp_nat x.number y.number)))
     (ascending_weaker _ (λ x y. is_eq (by_rank x y) ≡ false) apart _ (ascending-filter _ (λ j. true) _ (numbers_rise s of.good)))
     ∙ ap (λ l. map (λ j. due_cells (due_of j)) (by_grade l)) (all_pass (map head_of s.jobs))
 
@@ -174,7 +174,7 @@ module _ {X : Type 0} (limit : X → List ℕ → Option ℕ) (dues : X → List
   and-not true = refl
   and-not false = refl
 
-  pub are_due : (old new : db.State) (s : State) (shown : List Row) (before after : X) → IsOf s old → db.Shown due_jobs_text [] old new shown → Took (Walked limit dues) before shown after → dues before ≡ []
+  pub are_due : (old new : db.State) (s : State) (shown : List Row) (before after : X) → IsStateOf s old → db.Shown due_jobs_text [] old new shown → Took (Walked limit dues) before shown after → dues before ≡ []
       → (rows : List SystemRow) (at : Moment) → ((name : List ℕ) (grade : ℕ) → is_within (limit before name) grade ≡ may_be_called rows at name grade) → AreDue rows (map head_of s.jobs) at (dues after)
   are_due old new s shown before after of h took start rows at callable =
       let heads = map head_of s.jobs in

@@ -16,7 +16,7 @@ use Rattle.uu_core.specs.declared.job.JobHead.{JobHead}
 use Rattle.uu_core.specs.State.{State, Job, IsWellFormed, head_of, job_at, is_job}
 use Rattle.uu_tables.specs.Tables.{tables_of, pieces_of, piece_count}
 use Rattle.uu_check.proofs.Cuts.{pieces_from, bytes_of}
-use Rattle.uu_questions.specs.Listing.{handed_out, whole}
+use Rattle.uu_questions.specs.Listing.{handed_out, head_and_bytes}
 use Rattle.uu_rows.proofs.InOrder.{ascending_pairs}
 use Rattle.uu_questions.proofs.Listed.{is_piece_of}
 
@@ -57,19 +57,19 @@ job_together s n j good is =
 -- ---- a job as it is handed out
 
 pub handed : (s : State) (n : ℕ) (head : JobHead) (bytes : Vec ℕ Global) → IsWellFormed s → Some head ≡ option_map head_of (job_at s n) → bytes.items ≡ bytes_of (filter (is_piece_of n) (tables_of s).pieces)
-    → option_map handed_out (Some (head, bytes)) ≡ option_map whole (job_at s n)
+    → option_map handed_out (Some (head, bytes)) ≡ option_map head_and_bytes (job_at s n)
 handed s n head bytes good is all = go (job_at s n) refl is
   where
-    go : (o : Option Job) → job_at s n ≡ o → Some head ≡ option_map head_of o → option_map handed_out (Some (head, bytes)) ≡ option_map whole o
+    go : (o : Option Job) → job_at s n ≡ o → Some head ≡ option_map head_of o → option_map handed_out (Some (head, bytes)) ≡ option_map head_and_bytes o
     go None e k = absurd (cc)
     go (Some j) e k =
         let same : head ≡ head_of j = cc in
         let mine : bytes.items ≡ j.bytes = all ∙ job_together s n j good e in
         λ i. Some (same i, mine i)
 
-pub not_there : (s : State) (n : ℕ) → None ≡ option_map head_of (job_at s n) → option_map handed_out None ≡ option_map whole (job_at s n)
+pub not_there : (s : State) (n : ℕ) → None ≡ option_map head_of (job_at s n) → option_map handed_out None ≡ option_map head_and_bytes (job_at s n)
 not_there s n is = go (job_at s n) is
   where
-    go : (o : Option Job) → None ≡ option_map head_of o → option_map handed_out None ≡ option_map whole o
+    go : (o : Option Job) → None ≡ option_map head_of o → option_map handed_out None ≡ option_map head_and_bytes o
     go None k = refl
     go (Some j) k = absurd (cc)

@@ -23,8 +23,8 @@ use Rattle.uu_tables.specs.Changes.{is_link_of}
 use Rattle.uu_tables.proofs.SystemLemmas.{each_link}
 use Rattle.uu_tables.proofs.RowLemmas.{each_made}
 use Rattle.uu_schema.specs.Cells.{link_cells, taken_cells}
-use Rattle.uu_schema.specs.Schema.{site}
-use Rattle.uu_questions.specs.Answers.{IsOf}
+use Rattle.uu_schema.specs.Schema.{spool_schema}
+use Rattle.uu_questions.specs.Answers.{IsStateOf}
 use Rattle.uu_questions.specs.Links.{below_in, taken_in}
 use Rattle.uu_questions.proofs.Texts.{link_text, taken_text}
 use Rattle.uu_questions.proofs.Meanings.{link_means, taken_means}
@@ -32,7 +32,7 @@ use Rattle.uu_rows.proofs.InOrder.{ascending_pairs}
 use Rattle.uu_questions.proofs.Finding.{found_mapped}
 use Rattle.uu_questions.proofs.Rising.{links_rise, taken_rise}
 use Rattle.uu_rows.proofs.Back.{same_one, link_back, link_returns, taken_back, taken_returns}
-use Rattle.uu_rows.proofs.Comparing.{int_eq-nat}
+use Rattle.uu_rows.proofs.Comparing.{int_eq_nat}
 use Rattle.uu_rows.proofs.InTables.{links_are, taken_are}
 
 -- ---- what is found in lists, one after the other
@@ -96,7 +96,7 @@ any : {X : Type 0} (o : Option X) → IfSome o (λ _. Unit {0})
 any None = tt
 any (Some x) = tt
 
-module _ (old new : db.State) (s : State) (rows : List Row) (of : IsOf s old) where
+module _ (old new : db.State) (s : State) (rows : List Row) (of : IsStateOf s old) where
   links_up : IsAscending Before s.links
   links_up = ascending_pairs Before s.links of.good.by_link
 
@@ -104,7 +104,7 @@ module _ (old new : db.State) (s : State) (rows : List Row) (of : IsOf s old) wh
   link_answer name h found is =
       let p = is_link_of name in
       let all = (tables_of s).links in
-      let shown = links_are site old new rows of.stands.schema link_text _ (Text name ∷ []) (where_is 1 0 ∷ []) h link_means (λ r. refl) all of.holds.links.same (links_rise s of.good) p (λ x. last_term (at_texts false Eq x.system name ∙ is_eq-slice_cmp x.system name)) in
+      let shown = links_are spool_schema old new rows of.stands.schema link_text _ (Text name ∷ []) (where_is 1 0 ∷ []) h link_means (λ r. refl) all of.holds.links.same (links_rise s of.good) p (λ x. last_term (at_texts false Eq x.system name ∙ is_eq-slice_cmp x.system name)) in
       let first = ap (λ rs. slice_get rs 0) shown ∙ slice_get-map link_cells (filter p all) 0 ∙ ap (option_map link_cells) (slice_get-filter p all) in
       ap below_in (same_one link_cells link_back (λ _. Unit {0}) (λ x good. link_returns x) found (find p all) (any found) (any (find p all)) (is ∙ first)) ∙ below_found name s.links links_up
 
@@ -112,7 +112,7 @@ module _ (old new : db.State) (s : State) (rows : List Row) (of : IsOf s old) wh
   taken_answer name number h found is =
       let p = is_row name number in
       let all = (tables_of s).taken in
-      let shown = taken_are site old new rows of.stands.schema taken_text _ (Text name ∷ Int (pos number) ∷ []) (where_is 1 0 ∷ where_is 2 1 ∷ []) h taken_means (λ r. refl) all of.holds.taken.same (taken_rise s of.good) p
-      (λ x. then_term (at_texts false Eq x.system name ∙ is_eq-slice_cmp x.system name) (last_term (at_ints false Eq (pos x.taken.number) (pos number) ∙ int_eq-nat x.taken.number number))) in
+      let shown = taken_are spool_schema old new rows of.stands.schema taken_text _ (Text name ∷ Int (pos number) ∷ []) (where_is 1 0 ∷ where_is 2 1 ∷ []) h taken_means (λ r. refl) all of.holds.taken.same (taken_rise s of.good) p
+      (λ x. then_term (at_texts false Eq x.system name ∙ is_eq-slice_cmp x.system name) (last_term (at_ints false Eq (pos x.taken.number) (pos number) ∙ int_eq_nat x.taken.number number))) in
       let first = ap (λ rs. slice_get rs 0) shown ∙ slice_get-map taken_cells (filter p all) 0 ∙ ap (option_map taken_cells) (slice_get-filter p all) in
       ap taken_in (same_one taken_cells taken_back (λ _. Unit {0}) (λ x good. taken_returns x) found (find p all) (any found) (any (find p all)) (is ∙ first)) ∙ taken_found name number s.links links_up

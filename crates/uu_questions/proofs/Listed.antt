@@ -19,7 +19,7 @@ use Rattle.sqlite_sql.specs.declared.ops.BinaryOp.TheVariants.{Compare, Is, Or}
 use Rattle.sqlite_sql.specs.declared.ops.CompareOp.TheVariants.{Eq}
 use Rattle.sqlite_keyed.specs.Lists.{sort_by}
 use Rattle.sqlite_keyed.proofs.ListLemmas.{ascending_weaker, ascending-filter, ascending-map, slice_get-filter}
-use Rattle.sqlite_trees.proofs.ListLemmas.{all-permutation}
+use Rattle.sqlite_trees.proofs.ListLemmas.{all_permutation}
 use Rattle.sqlite_typed.proofs.TestLemmas.{truth_or, at_ints, at_texts, at_or, at_is_null, then_term, last_term, then_key, last_key}
 use Rattle.sqlite_value.specs.Order.{value_cmp}
 use Rattle.sqlite_value.proofs.OrderLemmas.{value_cmp-Int}
@@ -31,19 +31,19 @@ use Rattle.uu_core.specs.declared.job.JobHead.{JobHead}
 use Rattle.uu_core.specs.State.{State, Job, IsWellFormed, head_of, entry_at, same_text}
 use Rattle.uu_tables.specs.declared.rows.EntryColumns.{EntryColumns}
 use Rattle.uu_tables.specs.Tables.{Piece, tables_of, entry_columns}
-use Rattle.uu_schema.specs.Schema.{site, jobs, pieces}
+use Rattle.uu_schema.specs.Schema.{spool_schema, jobs, pieces}
 use Rattle.uu_schema.specs.Keyed.{columns}
 use Rattle.uu_schema.specs.Held.{job_places, piece_places}
 use Rattle.uu_schema.specs.Cells.{job_cells, piece_cells, entry_cells}
 use Rattle.uu_core.specs.declared.filter.Filter.{Filter}
-use Rattle.uu_questions.specs.Answers.{IsOf}
-use Rattle.uu_questions.specs.Listing.{is_wanted, fits, WantsAll, by_rank, listed}
+use Rattle.uu_questions.specs.Answers.{IsStateOf}
+use Rattle.uu_questions.specs.Listing.{is_wanted, fits, WantsAll, by_rank, listed_jobs}
 use Rattle.uu_tables.specs.Order.{piece_cmp, entry_cmp}
-use Rattle.uu_rows.specs.Readable.{IsHead}
+use Rattle.uu_rows.specs.Readable.{IsTypedHead}
 use Rattle.uu_questions.proofs.Texts.{all_jobs_text, jobs_text, pieces_text, entry_text}
 use Rattle.uu_rows.proofs.Meanings.{at_places, by_places}
 use Rattle.uu_questions.proofs.Meanings.{fit_terms, all_jobs_means, jobs_means, pieces_means, entry_means}
-use Rattle.uu_rows.proofs.Comparing.{beside, numbered, int_cmp-nat, int_eq-nat, below_is}
+use Rattle.uu_rows.proofs.Comparing.{beside, numbered, int_cmp_nat, int_eq_nat, below_is}
 use Rattle.uu_rows.proofs.Typed.{typed_sorted, typed_only}
 use Rattle.uu_rows.proofs.InTables.{entries_are}
 use Rattle.uu_rows.proofs.InOrder.{ascending_pairs}
@@ -86,38 +86,38 @@ all_kept : {X : Type 0} (P : X → Type 0) (p : X → Bool) (xs : List X) → Al
 all_kept P p [] all = tt
 all_kept P p (x ∷ xs) all = elim (p x) as (λ b. AllByRecursion P (cond b (x ∷ filter p xs) (filter p xs))) [ true ↦ (all.0, all_kept P p xs all.1) | false ↦ all_kept P p xs all.1 ]
 
-all_sorted : (hs : List JobHead) → AllByRecursion IsHead hs → AllByRecursion IsHead (sort_by by_rank hs)
+all_sorted : (hs : List JobHead) → AllByRecursion IsTypedHead hs → AllByRecursion IsTypedHead (sort_by by_rank hs)
 all_sorted [] all = tt
-all_sorted (h ∷ hs) all = all-permutation IsHead _ _ (IsPermutation-sym _ _ (IsPermutation-insert_sorted by_rank h (sort_by by_rank hs))) (all.0, all_sorted hs all.1)
+all_sorted (h ∷ hs) all = all_permutation IsTypedHead _ _ (IsPermutation-sym _ _ (IsPermutation-insert_sorted by_rank h (sort_by by_rank hs))) (all.0, all_sorted hs all.1)
 
-pub jobs_listed : (old new : db.State) (s : State) (f : Filter) (rows : List Row) → IsOf s old → db.Shown jobs_text (sought f) old new rows → (found : List JobHead) → AllByRecursion IsHead found → rows ≡ map job_cells found → found ≡ listed f s
+pub jobs_listed : (old new : db.State) (s : State) (f : Filter) (rows : List Row) → IsStateOf s old → db.Shown jobs_text (sought f) old new rows → (found : List JobHead) → AllByRecursion IsTypedHead found → rows ≡ map job_cells found → found ≡ listed_jobs f s
 jobs_listed old new s f rows of h found good read =
     let order = by_places (3 ∷ 0 ∷ []) in
     let q : Query = ordered jobs.tree fit_terms (at_places job_places) order in
     let hs = map head_of s.jobs in
-    let a = answer_of site jobs_text _ _ (sought f) old new jobs_means of.stands.schema rows h in
+    let a = answer_of spool_schema jobs_text _ _ (sought f) old new jobs_means of.stands.schema rows h in
     let out : JobHead → Output = λ j. output q (sought f ∷ numbered (job_cells j) ∷ []) in
     let is : (x y : JobHead) → output_cmp q (out x) (out y) ≡ by_rank x y = λ x y.
-    then_key (value_cmp-Int (pos x.grade) (pos y.grade)) (last_key (value_cmp-Int (pos x.number) (pos y.number))) ∙ ap₂ ordering_then (int_cmp-nat x.grade y.grade) (int_cmp-nat x.number y.number) in
+    then_key (value_cmp-Int (pos x.grade) (pos y.grade)) (last_key (value_cmp-Int (pos x.number) (pos y.number))) ∙ ap₂ ordering_then (int_cmp_nat x.grade y.grade) (int_cmp_nat x.number y.number) in
     let sorted = typed_sorted jobs.tree fit_terms (at_places job_places) order old.now.trees (sought f) rows refl a (columns job_places) numbered (λ r. refl) (λ r. refl) job_cells hs of.holds.jobs.same
     (fits f) (λ j. then_term (wanted_test f.system j.system) (last_term (wanted_test f.user j.user))) by_rank is
     (ascending-filter _ (fits f) hs (ascending_weaker _ (λ x y. is_eq (by_rank x y) ≡ false) apart hs (numbers_rise s of.good))) in
-    same_all job_cells head_back IsHead head_returns found (listed f s) good (all_sorted (filter (fits f) hs) (all_kept IsHead (fits f) hs (heads_good s of.good))) (sym read ∙ sorted)
+    same_all job_cells head_back IsTypedHead head_returns found (listed_jobs f s) good (all_sorted (filter (fits f) hs) (all_kept IsTypedHead (fits f) hs (heads_good s of.good))) (sym read ∙ sorted)
 
 -- the same for all jobs, if the filter gives no system and no user
-pub all_jobs_listed : (old new : db.State) (s : State) (f : Filter) → WantsAll f → (rows : List Row) → IsOf s old → db.Shown all_jobs_text [] old new rows → (found : List JobHead) → AllByRecursion IsHead found → rows ≡ map job_cells found → found ≡ listed f s
+pub all_jobs_listed : (old new : db.State) (s : State) (f : Filter) → WantsAll f → (rows : List Row) → IsStateOf s old → db.Shown all_jobs_text [] old new rows → (found : List JobHead) → AllByRecursion IsTypedHead found → rows ≡ map job_cells found → found ≡ listed_jobs f s
 all_jobs_listed old new s f all rows of h found good read =
     let order = by_places (3 ∷ 0 ∷ []) in
     let q : Query = ordered jobs.tree [] (at_places job_places) order in
     let hs = map head_of s.jobs in
-    let a = answer_of site all_jobs_text _ _ [] old new all_jobs_means of.stands.schema rows h in
+    let a = answer_of spool_schema all_jobs_text _ _ [] old new all_jobs_means of.stands.schema rows h in
     let out : JobHead → Output = λ j. output q ([] ∷ numbered (job_cells j) ∷ []) in
     let is : (x y : JobHead) → output_cmp q (out x) (out y) ≡ by_rank x y = λ x y.
-    then_key (value_cmp-Int (pos x.grade) (pos y.grade)) (last_key (value_cmp-Int (pos x.number) (pos y.number))) ∙ ap₂ ordering_then (int_cmp-nat x.grade y.grade) (int_cmp-nat x.number y.number) in
+    then_key (value_cmp-Int (pos x.grade) (pos y.grade)) (last_key (value_cmp-Int (pos x.number) (pos y.number))) ∙ ap₂ ordering_then (int_cmp_nat x.grade y.grade) (int_cmp_nat x.number y.number) in
     let sorted = typed_sorted jobs.tree [] (at_places job_places) order old.now.trees [] rows refl a (columns job_places) numbered (λ r. refl) (λ r. refl) job_cells hs of.holds.jobs.same
     (fits f) (λ j. ap₂ (λ system user. is_wanted system j.system && is_wanted user j.user) (sym all.0) (sym all.1)) by_rank is
     (ascending-filter _ (fits f) hs (ascending_weaker _ (λ x y. is_eq (by_rank x y) ≡ false) apart hs (numbers_rise s of.good))) in
-    same_all job_cells head_back IsHead head_returns found (listed f s) good (all_sorted (filter (fits f) hs) (all_kept IsHead (fits f) hs (heads_good s of.good))) (sym read ∙ sorted)
+    same_all job_cells head_back IsTypedHead head_returns found (listed_jobs f s) good (all_sorted (filter (fits f) hs) (all_kept IsTypedHead (fits f) hs (heads_good s of.good))) (sym read ∙ sorted)
 
 -- ---- an entry
 
@@ -125,13 +125,13 @@ any_some : {X : Type 0} (o : Option X) → IfSome o (λ _. ⊤)
 any_some None = tt
 any_some (Some x) = tt
 
-pub entry_found : (old new : db.State) (s : State) (host : List ℕ) (rows : List Row) → IsOf s old → db.Shown entry_text (Text host ∷ []) old new rows → (found : Option EntryColumns) → option_map entry_cells found ≡ slice_get rows 0
+pub entry_found : (old new : db.State) (s : State) (host : List ℕ) (rows : List Row) → IsStateOf s old → db.Shown entry_text (Text host ∷ []) old new rows → (found : Option EntryColumns) → option_map entry_cells found ≡ slice_get rows 0
     → found ≡ option_map entry_columns (entry_at s host)
 entry_found old new s host rows of h found read =
     let es = map entry_columns s.entries in
     let p : EntryColumns → Bool = λ e. same_text e.host host in
     let rise : IsAscending (λ x y. entry_cmp x y ≡ Less) es = ascending-map (λ x y. entry_cmp x y ≡ Less) entry_columns s.entries (ascending_pairs _ s.entries of.good.by_host) in
-    let is = entries_are site old new rows of.stands.schema entry_text _ (Text host ∷ []) (where_is 1 0 ∷ []) h entry_means (λ r. refl) es of.holds.entries.same rise p (λ e. last_term (at_texts false Eq e.host host ∙ is_eq-slice_cmp e.host host)) in
+    let is = entries_are spool_schema old new rows of.stands.schema entry_text _ (Text host ∷ []) (where_is 1 0 ∷ []) h entry_means (λ r. refl) es of.holds.entries.same rise p (λ e. last_term (at_texts false Eq e.host host ∙ is_eq-slice_cmp e.host host)) in
     same_one entry_cells entry_back (λ _. ⊤) (λ e _. entry_returns e) found (find p es) (any_some found) (any_some (find p es))
     (read ∙ ap (λ rs. slice_get rs 0) is ∙ slice_get-map entry_cells (filter p es) 0 ∙ ap (option_map entry_cells) (slice_get-filter p es))
     ∙ found_mapped p entry_columns s.entries
@@ -144,7 +144,7 @@ is_piece_of n p = p.job == n
 abbrev pub piece_shown : Piece → Row
 piece_shown p = Blob p.bytes ∷ []
 
-pub pieces_found : (old new : db.State) (s : State) (n : ℕ) (rows : List Row) → IsOf s old → db.Shown pieces_text (Int (pos n) ∷ []) old new rows → rows ≡ map piece_shown (filter (is_piece_of n) (tables_of s).pieces)
+pub pieces_found : (old new : db.State) (s : State) (n : ℕ) (rows : List Row) → IsStateOf s old → db.Shown pieces_text (Int (pos n) ∷ []) old new rows → rows ≡ map piece_shown (filter (is_piece_of n) (tables_of s).pieces)
 pieces_found old new s n rows of h =
     let params : Row = Int (pos n) ∷ [] in
     let tests = where_is 1 0 ∷ [] in
@@ -153,7 +153,7 @@ pieces_found old new s n rows of h =
     let q : Query = ordered pieces.tree tests (at_places (3 ∷ [])) order in
     let out : Piece → Output = λ x. output q (params ∷ beside (piece_cells x) ∷ []) in
     let less : (x y : Piece) → piece_cmp x y ≡ Less → output_cmp q (out x) (out y) ≡ Less = λ x y e.
-    then_key (value_cmp-Int (pos x.job) (pos y.job) ∙ int_cmp-nat x.job y.job) (last_key (value_cmp-Int (pos x.place) (pos y.place)) ∙ int_cmp-nat x.place y.place) ∙ e in
-    typed_only pieces.tree tests (at_places (3 ∷ [])) order old.now.trees params rows refl (answer_of site pieces_text q _ params old new pieces_means of.stands.schema rows h) (columns piece_places) beside (λ r. refl) (λ r. refl)
-    piece_cells ps of.holds.pieces.same (is_piece_of n) (λ p. last_term (at_ints false Eq (pos p.job) (pos n)) ∙ int_eq-nat p.job n)
+    then_key (value_cmp-Int (pos x.job) (pos y.job) ∙ int_cmp_nat x.job y.job) (last_key (value_cmp-Int (pos x.place) (pos y.place)) ∙ int_cmp_nat x.place y.place) ∙ e in
+    typed_only pieces.tree tests (at_places (3 ∷ [])) order old.now.trees params rows refl (answer_of spool_schema pieces_text q _ params old new pieces_means of.stands.schema rows h) (columns piece_places) beside (λ r. refl) (λ r. refl)
+    piece_cells ps of.holds.pieces.same (is_piece_of n) (λ p. last_term (at_ints false Eq (pos p.job) (pos n)) ∙ int_eq_nat p.job n)
     (ascending-filter _ (is_piece_of n) ps (ascending_weaker _ (λ x y. output_cmp q (out x) (out y) ≡ Less) less ps (pieces_rise s of.good)))

@@ -12,13 +12,13 @@ use Rattle.sqlite_sql.specs.declared.ops.ArithOp.TheVariants.{Add}
 use Rattle.uu_schema.proofs.Terms.{over, where_is, equal_terms}
 use Rattle.uu_schema.proofs.Asks.{Means, ordered}
 use Rattle.uu_schema.specs.Queries.{IsQuery}
-use Rattle.uu_schema.specs.Schema.{site, spool, systems, lines, ranges, jobs, pieces, entries, success_waits, links, taken}
+use Rattle.uu_schema.specs.Schema.{spool_schema, spool, systems, lines, ranges, jobs, pieces, entries, success_waits, links, taken}
 use Rattle.uu_questions.proofs.Texts.{next_text, known_text, waiting_text, head_text, system_text, lines_of_text, ranges_of_text, waits_of_text, link_text, taken_text, all_jobs_text, jobs_text, pieces_text, entry_text, taken_from_text, held_text, open_text, due_jobs_text}
 use Rattle.uu_rows.proofs.Meanings.{at_places, by_places, is_first, head_names, system_names, line_names, range_names, wait_names, link_names, taken_names}
 
 -- ---- before a command
 
-pub next_means : Means site next_text (ordered spool.tree (is_first ∷ []) (at_places (3 ∷ [])) []) (codes "next" ∷ [])
+pub next_means : Means spool_schema next_text (ordered spool.tree (is_first ∷ []) (at_places (3 ∷ [])) []) (codes "next" ∷ [])
 unfolding understood everything
 next_means = record { command = refl; plain = (refl, refl); listing = refl }
 
@@ -26,7 +26,7 @@ pub next_ask : IsQuery next_text
 unfolding everything
 next_ask = refl
 
-pub known_means : Means site known_text (ordered systems.tree (where_is 1 0 ∷ []) (at_places (1 ∷ [])) []) (codes "name" ∷ [])
+pub known_means : Means spool_schema known_text (ordered systems.tree (where_is 1 0 ∷ []) (at_places (1 ∷ [])) []) (codes "name" ∷ [])
 unfolding understood everything
 known_means = record { command = refl; plain = (refl, refl); listing = refl }
 
@@ -34,35 +34,35 @@ known_means = record { command = refl; plain = (refl, refl); listing = refl }
 abbrev pub first_waiting : Query
 first_waiting = record (over jobs.tree (where_is 2 0 ∷ []) (at_places (0 ∷ []))) { limit = lit (Int (pos 1)) }
 
-pub waiting_means : Means site waiting_text first_waiting (codes "number" ∷ [])
+pub waiting_means : Means spool_schema waiting_text first_waiting (codes "number" ∷ [])
 unfolding understood everything
 waiting_means = record { command = refl; plain = (refl, refl); listing = refl }
 
-pub head_means : Means site head_text (ordered jobs.tree (where_is 0 0 ∷ []) (at_places (0 ∷ 2 ∷ 3 ∷ 4 ∷ 5 ∷ 6 ∷ 7 ∷ 8 ∷ 9 ∷ [])) (by_places (0 ∷ []))) head_names
+pub head_means : Means spool_schema head_text (ordered jobs.tree (where_is 0 0 ∷ []) (at_places (0 ∷ 2 ∷ 3 ∷ 4 ∷ 5 ∷ 6 ∷ 7 ∷ 8 ∷ 9 ∷ [])) (by_places (0 ∷ []))) head_names
 unfolding understood everything
 head_means = record { command = refl; plain = (refl, refl); listing = refl }
 
-pub system_means : Means site system_text (ordered systems.tree (where_is 1 0 ∷ []) (at_places (1 ∷ 2 ∷ 3 ∷ 4 ∷ 5 ∷ 6 ∷ 7 ∷ [])) (by_places (1 ∷ []))) system_names
+pub system_means : Means spool_schema system_text (ordered systems.tree (where_is 1 0 ∷ []) (at_places (1 ∷ 2 ∷ 3 ∷ 4 ∷ 5 ∷ 6 ∷ 7 ∷ [])) (by_places (1 ∷ []))) system_names
 unfolding understood everything
 system_means = record { command = refl; plain = (refl, refl); listing = refl }
 
-pub lines_of_means : Means site lines_of_text (ordered lines.tree (where_is 1 0 ∷ []) (at_places (1 ∷ 2 ∷ 3 ∷ 4 ∷ [])) (by_places (1 ∷ 2 ∷ []))) line_names
+pub lines_of_means : Means spool_schema lines_of_text (ordered lines.tree (where_is 1 0 ∷ []) (at_places (1 ∷ 2 ∷ 3 ∷ 4 ∷ [])) (by_places (1 ∷ 2 ∷ []))) line_names
 unfolding understood everything
 lines_of_means = record { command = refl; plain = (refl, refl); listing = refl }
 
-pub ranges_of_means : Means site ranges_of_text (ordered ranges.tree (where_is 1 0 ∷ []) (at_places (1 ∷ 2 ∷ 3 ∷ 4 ∷ [])) (by_places (1 ∷ 2 ∷ 3 ∷ []))) range_names
+pub ranges_of_means : Means spool_schema ranges_of_text (ordered ranges.tree (where_is 1 0 ∷ []) (at_places (1 ∷ 2 ∷ 3 ∷ 4 ∷ [])) (by_places (1 ∷ 2 ∷ 3 ∷ []))) range_names
 unfolding understood everything
 ranges_of_means = record { command = refl; plain = (refl, refl); listing = refl }
 
-pub link_means : Means site link_text (ordered links.tree (where_is 1 0 ∷ []) (at_places (1 ∷ 2 ∷ [])) (by_places (1 ∷ []))) link_names
+pub link_means : Means spool_schema link_text (ordered links.tree (where_is 1 0 ∷ []) (at_places (1 ∷ 2 ∷ [])) (by_places (1 ∷ []))) link_names
 unfolding understood everything
 link_means = record { command = refl; plain = (refl, refl); listing = refl }
 
-pub taken_means : Means site taken_text (ordered taken.tree (where_is 1 0 ∷ where_is 2 1 ∷ []) (at_places (1 ∷ 2 ∷ 3 ∷ 4 ∷ [])) (by_places (1 ∷ 2 ∷ []))) taken_names
+pub taken_means : Means spool_schema taken_text (ordered taken.tree (where_is 1 0 ∷ where_is 2 1 ∷ []) (at_places (1 ∷ 2 ∷ 3 ∷ 4 ∷ [])) (by_places (1 ∷ 2 ∷ []))) taken_names
 unfolding understood everything
 taken_means = record { command = refl; plain = (refl, refl); listing = refl }
 
-pub waits_of_means : Means site waits_of_text (ordered success_waits.tree (where_is 1 0 ∷ []) (at_places (1 ∷ 2 ∷ [])) (by_places (1 ∷ []))) wait_names
+pub waits_of_means : Means spool_schema waits_of_text (ordered success_waits.tree (where_is 1 0 ∷ []) (at_places (1 ∷ 2 ∷ [])) (by_places (1 ∷ []))) wait_names
 unfolding understood everything
 waits_of_means = record { command = refl; plain = (refl, refl); listing = refl }
 
@@ -75,23 +75,23 @@ null_or_is place param = op2 Or (op2 (Is Binary) (col 0 param) (lit Null)) (wher
 abbrev pub fit_terms : List Term
 fit_terms = null_or_is 2 0 ∷ null_or_is 4 1 ∷ []
 
-pub all_jobs_means : Means site all_jobs_text (ordered jobs.tree [] (at_places (0 ∷ 2 ∷ 3 ∷ 4 ∷ 5 ∷ 6 ∷ 7 ∷ 8 ∷ 9 ∷ [])) (by_places (3 ∷ 0 ∷ []))) head_names
+pub all_jobs_means : Means spool_schema all_jobs_text (ordered jobs.tree [] (at_places (0 ∷ 2 ∷ 3 ∷ 4 ∷ 5 ∷ 6 ∷ 7 ∷ 8 ∷ 9 ∷ [])) (by_places (3 ∷ 0 ∷ []))) head_names
 unfolding understood everything
 all_jobs_means = record { command = refl; plain = (refl, refl); listing = refl }
 
-pub jobs_means : Means site jobs_text (ordered jobs.tree fit_terms (at_places (0 ∷ 2 ∷ 3 ∷ 4 ∷ 5 ∷ 6 ∷ 7 ∷ 8 ∷ 9 ∷ [])) (by_places (3 ∷ 0 ∷ []))) head_names
+pub jobs_means : Means spool_schema jobs_text (ordered jobs.tree fit_terms (at_places (0 ∷ 2 ∷ 3 ∷ 4 ∷ 5 ∷ 6 ∷ 7 ∷ 8 ∷ 9 ∷ [])) (by_places (3 ∷ 0 ∷ []))) head_names
 unfolding understood everything
 jobs_means = record { command = refl; plain = (refl, refl); listing = refl }
 
-pub pieces_means : Means site pieces_text (ordered pieces.tree (where_is 1 0 ∷ []) (at_places (3 ∷ [])) (by_places (1 ∷ 2 ∷ []))) (codes "bytes" ∷ [])
+pub pieces_means : Means spool_schema pieces_text (ordered pieces.tree (where_is 1 0 ∷ []) (at_places (3 ∷ [])) (by_places (1 ∷ 2 ∷ []))) (codes "bytes" ∷ [])
 unfolding understood everything
 pieces_means = record { command = refl; plain = (refl, refl); listing = refl }
 
-pub entry_means : Means site entry_text (ordered entries.tree (where_is 1 0 ∷ []) (at_places (1 ∷ 2 ∷ [])) (by_places (1 ∷ []))) (codes "host" ∷ codes "bytes" ∷ [])
+pub entry_means : Means spool_schema entry_text (ordered entries.tree (where_is 1 0 ∷ []) (at_places (1 ∷ 2 ∷ [])) (by_places (1 ∷ []))) (codes "host" ∷ codes "bytes" ∷ [])
 unfolding understood everything
 entry_means = record { command = refl; plain = (refl, refl); listing = refl }
 
-pub taken_from_means : Means site taken_from_text (ordered taken.tree (where_is 1 0 ∷ []) (at_places (1 ∷ 2 ∷ 3 ∷ 4 ∷ [])) (by_places (1 ∷ 2 ∷ []))) taken_names
+pub taken_from_means : Means spool_schema taken_from_text (ordered taken.tree (where_is 1 0 ∷ []) (at_places (1 ∷ 2 ∷ 3 ∷ 4 ∷ [])) (by_places (1 ∷ 2 ∷ []))) taken_names
 unfolding understood everything
 taken_from_means = record { command = refl; plain = (refl, refl); listing = refl }
 
@@ -101,7 +101,7 @@ taken_from_means = record { command = refl; plain = (refl, refl); listing = refl
 abbrev pub held_terms : List Term
 held_terms = op2 (Compare Le Binary) (col 1 3) (col 0 0) ∷ op2 (Compare Lt Binary) (col 0 0) (op2 (Arith Add) (col 1 3) (col 1 5)) ∷ []
 
-pub held_means : Means site held_text (ordered systems.tree held_terms (at_places (1 ∷ 2 ∷ 3 ∷ 4 ∷ 5 ∷ 6 ∷ 7 ∷ [])) (by_places (1 ∷ []))) system_names
+pub held_means : Means spool_schema held_text (ordered systems.tree held_terms (at_places (1 ∷ 2 ∷ 3 ∷ 4 ∷ 5 ∷ 6 ∷ 7 ∷ [])) (by_places (1 ∷ []))) system_names
 unfolding understood everything
 held_means = record { command = refl; plain = (refl, refl); listing = refl }
 
@@ -112,12 +112,12 @@ open_terms = equal_terms (col 2 1) (col 1 1) ∷ equal_terms (col 2 2) (col 1 2)
 abbrev pub open_query : Query
 open_query = record (over lines.tree open_terms (at_places (1 ∷ 2 ∷ 3 ∷ 4 ∷ []))) { from = inner lines.tree (inner ranges.tree end) }
 
-pub open_means : Means site open_text open_query line_names
+pub open_means : Means spool_schema open_text open_query line_names
 unfolding understood everything
 open_means = record { command = refl; plain = (refl, refl); listing = refl }
 
 -- ---- for which job each system is called
 
-pub due_jobs_means : Means site due_jobs_text (ordered jobs.tree [] (at_places (2 ∷ 3 ∷ 0 ∷ [])) (by_places (3 ∷ 0 ∷ []))) (codes "system" ∷ codes "rank" ∷ codes "number" ∷ [])
+pub due_jobs_means : Means spool_schema due_jobs_text (ordered jobs.tree [] (at_places (2 ∷ 3 ∷ 0 ∷ [])) (by_places (3 ∷ 0 ∷ []))) (codes "system" ∷ codes "rank" ∷ codes "number" ∷ [])
 unfolding understood everything
 due_jobs_means = record { command = refl; plain = (refl, refl); listing = refl }

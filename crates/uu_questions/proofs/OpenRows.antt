@@ -30,14 +30,14 @@ use Rattle.uu_tables.specs.declared.rows.SystemColumns.{SystemColumns}
 use Rattle.uu_tables.specs.declared.rows.LineColumns.{LineColumns}
 use Rattle.uu_tables.specs.declared.rows.RangeColumns.{RangeColumns}
 use Rattle.uu_tables.specs.Tables.{tables_of, system_columns}
-use Rattle.uu_schema.specs.Schema.{site, lines, ranges}
+use Rattle.uu_schema.specs.Schema.{spool_schema, lines, ranges}
 use Rattle.uu_schema.specs.Keyed.{columns}
 use Rattle.uu_schema.specs.Held.{line_places, range_places}
 use Rattle.uu_schema.specs.Cells.{system_cells, line_cells, range_cells}
 use Rattle.uu_rows.proofs.Back.{text_back, number_back, system_back, system_returns}
-use Rattle.uu_rows.proofs.Comparing.{beside, int_eq-nat}
+use Rattle.uu_rows.proofs.Comparing.{beside, int_eq_nat}
 use Rattle.uu_rows.proofs.InTables.{systems_are}
-use Rattle.uu_questions.specs.Answers.{IsOf}
+use Rattle.uu_questions.specs.Answers.{IsStateOf}
 use Rattle.uu_questions.specs.Dues.{lets_through, is_open}
 use Rattle.uu_questions.proofs.Texts.{held_text, open_text}
 use Rattle.uu_questions.proofs.Meanings.{held_terms, held_means, open_terms, open_query, open_means}
@@ -68,14 +68,14 @@ held_test second row call =
     then_term (at_ints false Le (pos last) (pos second) ∙ le_nat last second)
     (last_term (ap (λ v. truth_or false (binary (Compare Lt Binary) (Int (pos second)) v)) (sum_fits (pos last) (pos wait) (fits last wait call.last call.wait)) ∙ at_ints false Lt (pos second) (pos last +ℤ pos wait) ∙ lt_nat second (last + wait)))
 
-pub held_found : (old new : db.State) (s : State) (second : ℕ) (rows : List Row) → IsOf s old → db.Shown held_text (Int (pos second) ∷ []) old new rows → (found : List SystemColumns) → rows ≡ map system_cells found
+pub held_found : (old new : db.State) (s : State) (second : ℕ) (rows : List Row) → IsStateOf s old → db.Shown held_text (Int (pos second) ∷ []) old new rows → (found : List SystemColumns) → rows ≡ map system_cells found
     → found ≡ map system_columns (filter (λ row. is_held row.call second) s.systems)
 held_found old new s second rows of h found read =
     let params : Row = Int (pos second) ∷ [] in
     let passes : SystemColumns → Bool = λ x. list_all (holds (params ∷ beside (system_cells x) ∷ [])) held_terms in
     let calls = recursion_from_All (λ (row : SystemRow). IsCall row.call) s.systems of.good.calls in
     same_cells system_cells system_back system_returns found _ (sym read
-    ∙ systems_are site old new rows of.stands.schema held_text _ params held_terms h held_means (λ r. refl) (map system_columns s.systems) of.holds.systems.same (systems_rise s of.good) passes (λ x. refl))
+    ∙ systems_are spool_schema old new rows of.stands.schema held_text _ params held_terms h held_means (λ r. refl) (map system_columns s.systems) of.holds.systems.same (systems_rise s of.good) passes (λ x. refl))
     ∙ filter-map passes system_columns s.systems
     ∙ ap (map system_columns) (keep_same (λ row. passes (system_columns row)) (λ row. is_held row.call second) s.systems (all_weaker (λ (row : SystemRow). IsCall row.call) (λ row. passes (system_columns row) ≡ is_held row.call second) (held_test second) s.systems calls))
 
@@ -85,7 +85,7 @@ held_found old new s second rows of h found read =
 any_moved : {X : Type 0} (cells : X → Row) (shown : Row → Row) (xs : List X) (rows : List Row) → IsPermutation (map cells xs) (map shown rows) → (f : Row → Bool) → list_any (λ r. f (shown r)) rows ≡ list_any (λ x. f (cells x)) xs
 any_moved cells shown xs rows same f = sym (any_mapped f shown rows) ∙ sym (list_any-IsPermutation f (map cells xs) (map shown rows) same) ∙ any_mapped f cells xs
 
-module _ (old new : db.State) (s : State) (rows : List Row) (of : IsOf s old) (week : ℕ) (h : db.Shown open_text (Int (pos week) ∷ []) old new rows) where
+module _ (old new : db.State) (s : State) (rows : List Row) (of : IsStateOf s old) (week : ℕ) (h : db.Shown open_text (Int (pos week) ∷ []) old new rows) where
   abbrev params : Row
   params = Int (pos week) ∷ []
 
@@ -93,7 +93,7 @@ module _ (old new : db.State) (s : State) (rows : List Row) (of : IsOf s old) (w
   joins r t = list_all (holds (params ∷ r ∷ t ∷ [])) open_terms
 
   a : IsAnswer open_query (overlay old.now.trees []) params rows
-  a = answer_of site open_text open_query _ params old new open_means of.stands.schema rows h
+  a = answer_of spool_schema open_text open_query _ params old new open_means of.stands.schema rows h
 
   abbrev second : Output → Row
   second o = o.1
@@ -120,7 +120,7 @@ module _ (old new : db.State) (s : State) (rows : List Row) (of : IsOf s old) (w
   joins_are : (name : List ℕ) (grade : ℕ) (l : LineColumns) (x : RangeColumns) → joins (beside (line_cells l)) (beside (range_cells x)) ≡ joined week name grade l x
   joins_are name grade l x =
       then_term (at_texts false Eq x.system l.system ∙ is_eq-slice_cmp x.system l.system)
-      (then_term (at_ints false Eq (pos x.place) (pos l.place) ∙ int_eq-nat x.place l.place)
+      (then_term (at_ints false Eq (pos x.place) (pos l.place) ∙ int_eq_nat x.place l.place)
       (then_term (at_ints false Le (pos x.low) (pos week) ∙ le_nat x.low week) (last_term (at_ints false Le (pos week) (pos x.high) ∙ le_nat week x.high))))
 
   pub open_found : (found : List LineColumns) → rows ≡ map line_cells found → (name : List ℕ) (grade : ℕ) → lets_through found name grade ≡ is_open s.systems week name grade

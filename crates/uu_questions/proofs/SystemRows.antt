@@ -17,9 +17,9 @@ use Rattle.uu_tables.specs.declared.rows.RangeColumns.{RangeColumns}
 use Rattle.uu_tables.specs.declared.rows.WaitColumns.{WaitColumns}
 use Rattle.uu_tables.specs.Tables.{tables_of, system_columns}
 use Rattle.uu_schema.specs.Cells.{system_cells, line_cells, range_cells, wait_cells}
-use Rattle.uu_schema.specs.Schema.{site}
+use Rattle.uu_schema.specs.Schema.{spool_schema}
 use Rattle.uu_schema.specs.declared.version.Version.TheVariants.{Third}
-use Rattle.uu_questions.specs.Answers.{IsOf}
+use Rattle.uu_questions.specs.Answers.{IsStateOf}
 use Rattle.uu_questions.specs.Assembly.{AreRowsOfSystems}
 use Rattle.uu_tables.specs.Order.{system_cmp}
 use Rattle.uu_questions.proofs.Texts.{system_text, lines_of_text, ranges_of_text, waits_of_text}
@@ -38,51 +38,51 @@ same_cells cells back returns xs ys same = sym (map_back cells back returns xs) 
 pub systems_rise : (s : State) → IsWellFormed s → IsAscending (λ x y. system_cmp x y ≡ Less) (map system_columns s.systems)
 systems_rise s good = ascending-map (λ x y. system_cmp x y ≡ Less) system_columns s.systems (names_rise s good)
 
-module _ (old new : db.State) (s : State) (rows : List Row) (of : IsOf s old) where
+module _ (old new : db.State) (s : State) (rows : List Row) (of : IsStateOf s old) where
   pub system_found : (name : List ℕ) → db.Shown system_text (Text name ∷ []) old new rows → (found : List SystemColumns) → rows ≡ map system_cells found → found ≡ map system_columns (filter (is_system name) s.systems)
   system_found name h found read =
       let p : SystemColumns → Bool = λ x. same_text x.name name in
       same_cells system_cells system_back system_returns found _ (sym read
-      ∙ systems_are site old new rows of.stands.schema system_text _ (Text name ∷ []) (where_is 1 0 ∷ []) h system_means (λ r. refl) (map system_columns s.systems) of.holds.systems.same (systems_rise s of.good) p (λ x. last_term (at_texts false Eq x.name name ∙ is_eq-slice_cmp x.name name)))
+      ∙ systems_are spool_schema old new rows of.stands.schema system_text _ (Text name ∷ []) (where_is 1 0 ∷ []) h system_means (λ r. refl) (map system_columns s.systems) of.holds.systems.same (systems_rise s of.good) p (λ x. last_term (at_texts false Eq x.name name ∙ is_eq-slice_cmp x.name name)))
       ∙ filter-map p system_columns s.systems
 
   pub systems_found : db.Shown systems_text [] old new rows → (found : List SystemColumns) → rows ≡ map system_cells found → found ≡ map system_columns s.systems
   systems_found h found read =
       same_cells system_cells system_back system_returns found _ (sym read
-      ∙ systems_are site old new rows of.stands.schema systems_text _ [] [] h (systems_means Third) (λ r. refl) (map system_columns s.systems) of.holds.systems.same (systems_rise s of.good) (λ x. true) (λ x. refl))
+      ∙ systems_are spool_schema old new rows of.stands.schema systems_text _ [] [] h (systems_means Third) (λ r. refl) (map system_columns s.systems) of.holds.systems.same (systems_rise s of.good) (λ x. true) (λ x. refl))
       ∙ all_pass (map system_columns s.systems)
 
   pub lines_of_found : (name : List ℕ) → db.Shown lines_of_text (Text name ∷ []) old new rows → (found : List LineColumns) → rows ≡ map line_cells found → found ≡ filter (λ (l : LineColumns). same_text l.system name) (tables_of s).lines
   lines_of_found name h found read =
       same_cells line_cells line_back line_returns found _ (sym read
-      ∙ lines_are site old new rows of.stands.schema lines_of_text _ (Text name ∷ []) (where_is 1 0 ∷ []) h lines_of_means (λ r. refl) (tables_of s).lines of.holds.lines.same (lines_rise s of.good) (λ x. same_text x.system name) (λ x. last_term (at_texts false Eq x.system name ∙ is_eq-slice_cmp x.system name)))
+      ∙ lines_are spool_schema old new rows of.stands.schema lines_of_text _ (Text name ∷ []) (where_is 1 0 ∷ []) h lines_of_means (λ r. refl) (tables_of s).lines of.holds.lines.same (lines_rise s of.good) (λ x. same_text x.system name) (λ x. last_term (at_texts false Eq x.system name ∙ is_eq-slice_cmp x.system name)))
 
   pub lines_found : db.Shown lines_text [] old new rows → (found : List LineColumns) → rows ≡ map line_cells found → found ≡ (tables_of s).lines
   lines_found h found read =
       same_cells line_cells line_back line_returns found _ (sym read
-      ∙ lines_are site old new rows of.stands.schema lines_text _ [] [] h (lines_means Third) (λ r. refl) (tables_of s).lines of.holds.lines.same (lines_rise s of.good) (λ x. true) (λ x. refl))
+      ∙ lines_are spool_schema old new rows of.stands.schema lines_text _ [] [] h (lines_means Third) (λ r. refl) (tables_of s).lines of.holds.lines.same (lines_rise s of.good) (λ x. true) (λ x. refl))
       ∙ all_pass (tables_of s).lines
 
   pub ranges_of_found : (name : List ℕ) → db.Shown ranges_of_text (Text name ∷ []) old new rows → (found : List RangeColumns) → rows ≡ map range_cells found → found ≡ filter (λ (r : RangeColumns). same_text r.system name) (tables_of s).ranges
   ranges_of_found name h found read =
       same_cells range_cells range_back range_returns found _ (sym read
-      ∙ ranges_are site old new rows of.stands.schema ranges_of_text _ (Text name ∷ []) (where_is 1 0 ∷ []) h ranges_of_means (λ r. refl) (tables_of s).ranges of.holds.ranges.same (ranges_rise s of.good) (λ x. same_text x.system name) (λ x. last_term (at_texts false Eq x.system name ∙ is_eq-slice_cmp x.system name)))
+      ∙ ranges_are spool_schema old new rows of.stands.schema ranges_of_text _ (Text name ∷ []) (where_is 1 0 ∷ []) h ranges_of_means (λ r. refl) (tables_of s).ranges of.holds.ranges.same (ranges_rise s of.good) (λ x. same_text x.system name) (λ x. last_term (at_texts false Eq x.system name ∙ is_eq-slice_cmp x.system name)))
 
   pub ranges_found : db.Shown ranges_text [] old new rows → (found : List RangeColumns) → rows ≡ map range_cells found → found ≡ (tables_of s).ranges
   ranges_found h found read =
       same_cells range_cells range_back range_returns found _ (sym read
-      ∙ ranges_are site old new rows of.stands.schema ranges_text _ [] [] h (ranges_means Third) (λ r. refl) (tables_of s).ranges of.holds.ranges.same (ranges_rise s of.good) (λ x. true) (λ x. refl))
+      ∙ ranges_are spool_schema old new rows of.stands.schema ranges_text _ [] [] h (ranges_means Third) (λ r. refl) (tables_of s).ranges of.holds.ranges.same (ranges_rise s of.good) (λ x. true) (λ x. refl))
       ∙ all_pass (tables_of s).ranges
 
   pub waits_of_found : (name : List ℕ) → db.Shown waits_of_text (Text name ∷ []) old new rows → (found : List WaitColumns) → rows ≡ map wait_cells found → found ≡ filter (λ (w : WaitColumns). same_text w.system name) (tables_of s).success_waits
   waits_of_found name h found read =
       same_cells wait_cells wait_back wait_returns found _ (sym read
-      ∙ waits_are site old new rows of.stands.schema waits_of_text _ (Text name ∷ []) (where_is 1 0 ∷ []) h waits_of_means (λ r. refl) (tables_of s).success_waits of.holds.success_waits.same (waits_rise s of.good) (λ x. same_text x.system name) (λ x. last_term (at_texts false Eq x.system name ∙ is_eq-slice_cmp x.system name)))
+      ∙ waits_are spool_schema old new rows of.stands.schema waits_of_text _ (Text name ∷ []) (where_is 1 0 ∷ []) h waits_of_means (λ r. refl) (tables_of s).success_waits of.holds.success_waits.same (waits_rise s of.good) (λ x. same_text x.system name) (λ x. last_term (at_texts false Eq x.system name ∙ is_eq-slice_cmp x.system name)))
 
   pub waits_found : db.Shown waits_text [] old new rows → (found : List WaitColumns) → rows ≡ map wait_cells found → found ≡ (tables_of s).success_waits
   waits_found h found read =
       same_cells wait_cells wait_back wait_returns found _ (sym read
-      ∙ waits_are site old new rows of.stands.schema waits_text _ [] [] h waits_means (λ r. refl) (tables_of s).success_waits of.holds.success_waits.same (waits_rise s of.good) (λ x. true) (λ x. refl))
+      ∙ waits_are spool_schema old new rows of.stands.schema waits_text _ [] [] h waits_means (λ r. refl) (tables_of s).success_waits of.holds.success_waits.same (waits_rise s of.good) (λ x. true) (λ x. refl))
       ∙ all_pass (tables_of s).success_waits
 
 -- ---- put together

@@ -14,7 +14,7 @@ use Rattle.uu_names.proofs.Basics.{later_other, text_from}
 use Rattle.uu_check.proofs.Lists.{all_flat_of}
 use Rattle.uu_schema.proofs.Terms.{where_is}
 use Rattle.uu_schema.specs.Cells.{taken_cells}
-use Rattle.uu_schema.specs.Schema.{site}
+use Rattle.uu_schema.specs.Schema.{spool_schema}
 use Rattle.uu_core.specs.declared.custody.Taken.{Taken}
 use Rattle.uu_core.specs.State.{State, Link, ComesBefore, is_link, new_link, link_of, same_text}
 use Rattle.uu_tables.specs.declared.rows.TakenColumns.{TakenColumns}
@@ -25,7 +25,7 @@ use Rattle.uu_tables.proofs.RowLemmas.{each_made}
 use Rattle.uu_rows.proofs.Back.{taken_back, taken_returns}
 use Rattle.uu_rows.proofs.InOrder.{ascending_pairs}
 use Rattle.uu_rows.proofs.InTables.{taken_are}
-use Rattle.uu_questions.specs.Answers.{IsOf}
+use Rattle.uu_questions.specs.Answers.{IsStateOf}
 use Rattle.uu_questions.proofs.Texts.{taken_from_text}
 use Rattle.uu_questions.specs.Walks.{Took}
 use Rattle.uu_questions.proofs.Meanings.{taken_from_means}
@@ -74,10 +74,10 @@ module _ {X : Type 0} (taken : X → List Taken) where
       let one : h.1.0 ≡ taken_columns name t = same_row (taken_columns name t) h.1.0 h.1.1 in
       walked name ts h.0 after h.2 ∙ ap (λ l. l ++ ts) (h.1.2 ∙ ap (λ (r : TakenColumns). taken before ++ r.taken ∷ []) one) ∙ append_assoc (taken before) (t ∷ []) ts
 
-  pub taken_listed : (old new : db.State) (s : State) (name : List ℕ) (rows : List Row) (before after : X) → IsOf s old → db.Shown taken_from_text (Text name ∷ []) old new rows → taken before ≡ [] → Took Lists before rows after
+  pub taken_listed : (old new : db.State) (s : State) (name : List ℕ) (rows : List Row) (before after : X) → IsStateOf s old → db.Shown taken_from_text (Text name ∷ []) old new rows → taken before ≡ [] → Took Lists before rows after
       → taken after ≡ (link_of s name).taken
   taken_listed old new s name rows before after of h none took =
       let all = (tables_of s).taken in
-      let shown = taken_are site old new rows of.stands.schema taken_from_text _ (Text name ∷ []) (where_is 1 0 ∷ []) h taken_from_means (λ r. refl) all of.holds.taken.same (taken_rise s of.good) (is_taken_of name) (λ x. last_term (at_texts false Eq x.system name ∙ is_eq-slice_cmp x.system name)) in
+      let shown = taken_are spool_schema old new rows of.stands.schema taken_from_text _ (Text name ∷ []) (where_is 1 0 ∷ []) h taken_from_means (λ r. refl) all of.holds.taken.same (taken_rise s of.good) (is_taken_of name) (λ x. last_term (at_texts false Eq x.system name ∙ is_eq-slice_cmp x.system name)) in
       let its_rows = shown ∙ ap (map taken_cells) (taken_kept name s.links (ascending_pairs Before s.links of.good.by_link)) in
       walked name (link_of s name).taken before after (subst (λ rs. Took Lists before rs after) its_rows took) ∙ ap (λ l. l ++ (link_of s name).taken) none

@@ -14,8 +14,8 @@ use Rattle.sqlite.proofs.Callers.{never_commits, unchanged_then}
 use Rattle.uu_schema.specs.Steps.{Stands, Rests, Ready, Asked}
 use Rattle.uu_schema.proofs.Steps.{told_also, told_not}
 use Rattle.uu_core.specs.State.{State}
-use Rattle.uu_schema.specs.Schema.{site}
-use Rattle.uu_questions.specs.Answers.{Answers, IsOf}
+use Rattle.uu_schema.specs.Schema.{spool_schema}
+use Rattle.uu_questions.specs.Answers.{Answers, IsStateOf}
 use Rattle.uu_questions.specs.Walks.{Took, Walks}
 
 pub took_more : {X : Type 0} (takes : X → Row → X → Type 0) (rows : List Row) (row : Row) (before mid after : X) → Took takes before rows mid → takes mid row after → Took takes before (rows ++ row ∷ []) after
@@ -24,8 +24,8 @@ took_more takes (r ∷ rows) row before mid after h k = (h.0, h.1, took_more tak
 
 -- ---- what a question leaves that was refused, or stopped on the way
 
-module _ (sql : List ℕ) (params : Row) (old new : DbState) (plain : IsPlain (understood site sql)) where
-  pub plain_here : Stands site old.now → IsPlain (understood old.now.schema sql)
+module _ (sql : List ℕ) (params : Row) (old new : DbState) (plain : IsPlain (understood spool_schema sql)) where
+  pub plain_here : Stands spool_schema old.now → IsPlain (understood old.now.schema sql)
   plain_here stands = subst (λ s. IsPlain (understood s sql)) (sym stands.schema) plain
 
   not_run : (e : Error) → IsNotRun old new sql params e → IsUnchanged old new ⊎ IsRolledBack old new
@@ -33,14 +33,14 @@ module _ (sql : List ℕ) (params : Row) (old new : DbState) (plain : IsPlain (u
   not_run e (inl none) = inl none.1
   not_run e (inr failed) = inr failed.3
 
-  pub refused : Stands site old.now → (e : Error) → FailsToQuery sql params old new e → IsUnchanged old new ⊎ IsRolledBack old new
+  pub refused : Stands spool_schema old.now → (e : Error) → FailsToQuery sql params old new e → IsUnchanged old new ⊎ IsRolledBack old new
   unfolding FailsToQuery
   refused stands e (inl none) = not_run e none
   refused stands e (inr failed) =
       let bare = subst IsPlain failed.1.is (plain_here stands) in
       inl (rw bare.0 at failed.2).3
 
-  pub commits_nothing : Survives old new (CommitsShowing sql params old) → Survives old new (λ _. ¬ Ready site old)
+  pub commits_nothing : Survives old new (CommitsShowing sql params old) → Survives old new (λ _. ¬ Ready spool_schema old)
   commits_nothing = survives_weaker old new _ _ (λ _ db commits ready. never_commits sql params old db (plain_here ready.stands) commits)
 
 rests : (old new : DbState) → IsUnchanged old new ⊎ IsRolledBack old new → Rests old → IsTrue new.is_open → Rests new × (new.now ≡ old.now)
@@ -49,11 +49,11 @@ rests old new (inr back) r is_open =
     let undone = back.undone is_open in
     (record { is_open = is_open; idle = back.autocommit; settled = undone.0 ∙ sym undone.1 }, undone.0 ∙ sym r.settled)
 
-pub asked : (old new : DbState) → (HasCleanDisk new → Stands site old.now → IsUnchanged old new ⊎ IsRolledBack old new) → Survives old new (λ _. ¬ Ready site old) → Asked site old new
+pub asked : (old new : DbState) → (HasCleanDisk new → Stands spool_schema old.now → IsUnchanged old new ⊎ IsRolledBack old new) → Survives old new (λ _. ¬ Ready spool_schema old) → Asked spool_schema old new
 asked old new left survives = record {
   same = λ clean ready is_open.
       let it = rests old new (left clean ready.stands) ready.rests is_open in
-      (record { rests = it.0; stands = subst (Stands site) (sym it.1) ready.stands }, it.1);
+      (record { rests = it.0; stands = subst (Stands spool_schema) (sym it.1) ready.stands }, it.1);
   survives = survives;
 }
 
@@ -69,7 +69,7 @@ none_on_ok : {T : Type 0} (P : Type 0) (r : Result T Error) → IsErr r → OnOk
 none_on_ok P (Ok x) fails = absurd (cc)
 none_on_ok P (Err e) fails = tt
 
-pub failed : {X T : Type 0} (takes : X → Row → X → Type 0) (text : List ℕ) (params : Row) (old new : DbState) (before after : X) (r : Result T Error) → IsErr r → Asked site old new → Walks takes text params old new before after r
+pub failed : {X T : Type 0} (takes : X → Row → X → Type 0) (text : List ℕ) (params : Row) (old new : DbState) (before after : X) (r : Result T Error) → IsErr r → Asked spool_schema old new → Walks takes text params old new before after r
 failed takes text params old new before after r fails h = record {
   told = record { asked = h; is_open = λ clean ready. none_on_ok _ r fails };
   same = λ clean stands. none_on_ok _ r fails;
@@ -93,8 +93,8 @@ shown_from sql params a b c rows plain same h =
       subst (ShowsRows a c sql h.0 full rows) (sym none) (it.0, subst (λ (d : Database). IsSourceOf (reads_listing d.schema sql) d it.0) same.0.now_is it.1, it.2, unchanged_then a b c same it.3),
     )
 
-pub walked : {X : Type 0} (takes : X → Row → X → Type 0) (text : List ℕ) (params : Row) (old mid new : DbState) (before after : X) → IsPlain (understood site text) → Survives old new (λ _. ¬ Ready site old)
-    → (HasCleanDisk new → Stands site old.now → (given : List Row) × IsUnchanged old mid × IsUnchanged mid new × Shown text params mid new given × Took takes before given after) → Walks {T = Unit {0}} takes text params old new before after (Ok tt)
+pub walked : {X : Type 0} (takes : X → Row → X → Type 0) (text : List ℕ) (params : Row) (old mid new : DbState) (before after : X) → IsPlain (understood spool_schema text) → Survives old new (λ _. ¬ Ready spool_schema old)
+    → (HasCleanDisk new → Stands spool_schema old.now → (given : List Row) × IsUnchanged old mid × IsUnchanged mid new × Shown text params mid new given × Took takes before given after) → Walks {T = Unit {0}} takes text params old new before after (Ok tt)
 walked takes text params old mid new before after plain survives ends = record {
   told = record {
     asked = asked old new (λ clean stands. let e = ends clean stands in inl (unchanged_then old mid new e.1 e.2)) survives;
@@ -129,10 +129,10 @@ from_ok (Ok x) ok p = p
 from_ok (Err e) ok p = absurd (cc)
 
 pub walk_answers : {X T U : Type 0} (IsAnswer : State → U → Type 0) (takes : X → Row → X → Type 0) (text : List ℕ) (params : Row) (a b : DbState) (before after : X) (r : Result T Error) (q : Result U Error) → Walks takes text params a b before after r → (IsOk q → IsOk r)
-    → ((s : State) → IsOf s a → (rows : List Row) → Shown text params a b rows → Took takes before rows after → IfOk q (IsAnswer s)) → Answers IsAnswer a b q
+    → ((s : State) → IsStateOf s a → (rows : List Row) → Shown text params a b rows → Took takes before rows after → IfOk q (IsAnswer s)) → Answers IsAnswer a b q
 walk_answers IsAnswer takes text params a b before after r (Ok y) h ok step = record {
-  told = told_also site a b r (Ok y) (ok refl) h.told;
+  told = told_also spool_schema a b r (Ok y) (ok refl) h.told;
   same = λ clean stands. from_ok r (ok refl) (h.same clean stands);
   exact = λ clean s of. let w = from_ok r (ok refl) (h.rows clean of.stands) in step s of w.0 w.1 w.2;
 }
-walk_answers IsAnswer takes text params a b before after r (Err e) h ok step = record { told = told_not site a b r (Err e) refl h.told; same = λ clean stands. tt; exact = λ clean s of. tt }
+walk_answers IsAnswer takes text params a b before after r (Err e) h ok step = record { told = told_not spool_schema a b r (Err e) refl h.told; same = λ clean stands. tt; exact = λ clean s of. tt }

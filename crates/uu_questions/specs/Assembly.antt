@@ -2,7 +2,7 @@
 use Rattle.std.specs.Prelude.{◌≡◌, ⊤, ℕ, Bool, ◌==◌, ◌&&◌, List, [], ◌∷◌, map, take, drop}
 use Rattle.std.specs.List.{prefix_len, flat_map, AllByRecursion}
 use Rattle.uu_times.specs.declared.system.Line.{Line}
-use Rattle.uu_times.specs.Ranges.{AreRuns}
+use Rattle.uu_times.specs.Ranges.{AreSeparateRanges}
 use Rattle.uu_times.specs.System.{AreWithinLimits}
 use Rattle.uu_core.specs.declared.system.Outcome.{Outcome}
 use Rattle.uu_core.specs.declared.system.SystemRow.{SystemRow}
@@ -48,11 +48,11 @@ abbrev pub is_range_of_line : LineColumns → RangeColumns → Bool
 is_range_of_line line range = same_text range.system line.system && (range.place == line.place)
 
 -- what belongs to it at the beginning, and the rest
-abbrev pub own : {P C : Type 0} → (P → C → Bool) → P → List C → List C
-own owns owner children = take (prefix_len (owns owner) children) children
+abbrev pub own_rows : {P C : Type 0} → (P → C → Bool) → P → List C → List C
+own_rows owns owner children = take (prefix_len (owns owner) children) children
 
-abbrev pub others : {P C : Type 0} → (P → C → Bool) → P → List C → List C
-others owns owner children = drop (prefix_len (owns owner) children) children
+abbrev pub rows_behind : {P C : Type 0} → (P → C → Bool) → P → List C → List C
+rows_behind owns owner children = drop (prefix_len (owns owner) children) children
 
 -- ---- what they make
 
@@ -64,7 +64,7 @@ line_from line ranges = record { grade = line.grade; windows = map range_of rang
 
 abbrev pub lines_from : List LineColumns → List RangeColumns → List Line
 lines_from [] ranges = []
-lines_from (line ∷ lines) ranges = line_from line (own is_range_of_line line ranges) ∷ lines_from lines (others is_range_of_line line ranges)
+lines_from (line ∷ lines) ranges = line_from line (own_rows is_range_of_line line ranges) ∷ lines_from lines (rows_behind is_range_of_line line ranges)
 
 -- the seconds of the first row, or 0 if there is none
 abbrev pub wait_from : List WaitColumns → ℕ
@@ -79,14 +79,14 @@ lines_and_wait row = (row.def.lines, row.def.success_wait)
 abbrev pub lines_and_wait_of_each : List SystemColumns → List LineColumns → List RangeColumns → List WaitColumns → List (List Line × ℕ)
 lines_and_wait_of_each [] lines ranges waits = []
 lines_and_wait_of_each (s ∷ systems) lines ranges waits =
-    (lines_from (own is_line_of s lines) (own is_range_of s ranges), wait_from (own is_wait_of s waits))
-    ∷ lines_and_wait_of_each systems (others is_line_of s lines) (others is_range_of s ranges) (others is_wait_of s waits)
+    (lines_from (own_rows is_line_of s lines) (own_rows is_range_of s ranges), wait_from (own_rows is_wait_of s waits))
+    ∷ lines_and_wait_of_each systems (rows_behind is_line_of s lines) (rows_behind is_range_of s ranges) (rows_behind is_wait_of s waits)
 
 -- ---- which rows make a system
 
 -- the ranges of each line are those of a set of minutes
 abbrev pub HaveWindows : List Line → Type 0
-HaveWindows lines = AllByRecursion (λ (line : Line). AreRuns line.windows) lines
+HaveWindows lines = AllByRecursion (λ (line : Line). AreSeparateRanges line.windows) lines
 
 -- the rows are those of the system that they make with this success wait, and the system is within
 -- its limits
@@ -100,5 +100,5 @@ pub record MakeSystem (s : SystemColumns) (lines : List LineColumns) (ranges : L
 abbrev pub MakeSystems : List SystemColumns → List LineColumns → List RangeColumns → List WaitColumns → Type 0
 MakeSystems [] lines ranges waits = ⊤
 MakeSystems (s ∷ systems) lines ranges waits =
-    MakeSystem s (own is_line_of s lines) (own is_range_of s ranges) (wait_from (own is_wait_of s waits))
-    × MakeSystems systems (others is_line_of s lines) (others is_range_of s ranges) (others is_wait_of s waits)
+    MakeSystem s (own_rows is_line_of s lines) (own_rows is_range_of s ranges) (wait_from (own_rows is_wait_of s waits))
+    × MakeSystems systems (rows_behind is_line_of s lines) (rows_behind is_range_of s ranges) (rows_behind is_wait_of s waits)

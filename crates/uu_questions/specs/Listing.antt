@@ -26,12 +26,12 @@ abbrev pub WantsAll : Filter → Type 0
 WantsAll f = (f.system ≡ None) × (f.user ≡ None)
 
 -- the jobs that match, without their bytes
-abbrev pub listed : Filter → State → List JobHead
-listed f s = sort_by by_rank (filter (fits f) (map head_of s.jobs))
+abbrev pub listed_jobs : Filter → State → List JobHead
+listed_jobs f s = sort_by by_rank (filter (fits f) (map head_of s.jobs))
 
 -- a job in the answer as the state has it: its head, and its bytes
 abbrev pub handed_out : JobHead × Vec ℕ Global → JobHead × List ℕ
 handed_out job = (job.0, job.1.items)
 
-abbrev pub whole : Job → JobHead × List ℕ
-whole job = (head_of job, job.bytes)
+abbrev pub head_and_bytes : Job → JobHead × List ℕ
+head_and_bytes job = (head_of job, job.bytes)

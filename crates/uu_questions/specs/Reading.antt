@@ -7,14 +7,14 @@ use Rattle.sqlite.specs.Held.{Held, state}
 use Rattle.sqlite.specs.Order.{Row}
 use Rattle.sqlite.specs.State as db
 use Rattle.sqlite.specs.Store.{Ghosts}
-use Rattle.uu_schema.specs.Steps.{Stands, StaysIdle, Told}
-use Rattle.uu_schema.specs.Schema.{site}
+use Rattle.uu_schema.specs.Steps.{Stands, StaysIdle, OpenIfAnswered}
+use Rattle.uu_schema.specs.Schema.{spool_schema}
 
 -- A question commits nothing and changes nothing, with any answer. What is read is read from the
 -- rows that its text means.
 pub record Reads {T : Type 0} (IsRead : List Row → T → Type 0) (text : List ℕ) (params : Row) (old new : db.State) (r : Result T Error) : Type 0 where
-  pub told : Told site old new r
-  pub same : db.HasCleanDisk new → Stands site old.now → OnOk r (new.now ≡ old.now)
+  pub told : OpenIfAnswered spool_schema old new r
+  pub same : db.HasCleanDisk new → Stands spool_schema old.now → OnOk r (new.now ≡ old.now)
   pub rows : db.HasCleanDisk new → IfOk r (λ read. (rows : List Row) × db.Shown text params old new rows × IsRead rows read)
 
 -- The text is asked over a connection, and this is read from its rows; an idle connection stays
@@ -32,5 +32,5 @@ abbrev pub IsFirst : {T : Type 0} → (T → Row) → (T → Type 0) → List Ro
 IsFirst cells IsReadable rows first = (option_map cells first ≡ slice_get rows 0) × IfSome first IsReadable
 
 -- whether there is one
-abbrev pub IsThere : List Row → Bool → Type 0
-IsThere rows there = there ≡ not (nat_eq (length rows) 0)
+abbrev pub IsAnyRow : List Row → Bool → Type 0
+IsAnyRow rows there = there ≡ not (nat_eq (length rows) 0)

@@ -5,8 +5,8 @@ use Rattle.sqlite.specs.Held.{Held, state}
 use Rattle.sqlite.specs.Order.{Row}
 use Rattle.sqlite.specs.State as db
 use Rattle.sqlite.specs.Store.{Ghosts}
-use Rattle.uu_schema.specs.Steps.{Stands, StaysIdle, Told}
-use Rattle.uu_schema.specs.Schema.{site}
+use Rattle.uu_schema.specs.Steps.{Stands, StaysIdle, OpenIfAnswered}
+use Rattle.uu_schema.specs.Schema.{spool_schema}
 
 -- the rows, one after the other, led from the first value to the last
 abbrev pub Took : {X : Type 0} → (X → Row → X → Type 0) → X → List Row → X → Type 0
@@ -16,9 +16,9 @@ Took {X} takes before (row ∷ rows) after = (mid : X) × takes before row mid �
 -- A walk commits nothing and changes nothing, with any answer. The rows that it took are those that
 -- the text means.
 pub record Walks {X T : Type 0} (takes : X → Row → X → Type 0) (text : List ℕ) (params : Row) (old new : db.State) (before after : X) (r : Result T Error) : Type 0 where
-  pub told : Told site old new r
-  pub same : db.HasCleanDisk new → Stands site old.now → OnOk r (new.now ≡ old.now)
-  pub rows : db.HasCleanDisk new → Stands site old.now → OnOk r ((rows : List Row) × db.Shown text params old new rows × Took takes before rows after)
+  pub told : OpenIfAnswered spool_schema old new r
+  pub same : db.HasCleanDisk new → Stands spool_schema old.now → OnOk r (new.now ≡ old.now)
+  pub rows : db.HasCleanDisk new → Stands spool_schema old.now → OnOk r ((rows : List Row) × db.Shown text params old new rows × Took takes before rows after)
 
 -- The text is asked over a connection, and its rows are read one at a time; an idle connection
 -- stays idle.

@@ -2,8 +2,8 @@
 ghost use Rattle.sqlite.specs.Values.{bound};
 ghost use Rattle.sqlite.specs.Given.{IsPlain};
 ghost use Rattle.sqlite.specs.Listing.{understood};
-ghost use Rattle.uu_schema.specs.Schema.{site};
-ghost use Rattle.uu_questions.specs.Reading.{AsksAndReads, AreTyped, IsFirst, IsThere};
+ghost use Rattle.uu_schema.specs.Schema.{spool_schema};
+ghost use Rattle.uu_questions.specs.Reading.{AsksAndReads, AreTyped, IsFirst, IsAnyRow};
 
 use sqlite::types::ValueRef;
 use sqlite::{Alter, Connection, Error};
@@ -17,7 +17,7 @@ pub(crate) fn typed_rows<S: Alter, T: TypedRow>(
     sql: &str,
     params: &[ValueRef<'_>],
 ) -> Result<Vec<T>, Error>
-    requires { IsPlain (understood site sql.now) }
+    requires { IsPlain (understood spool_schema sql.now) }
     ensures { AsksAndReads S.Store (AreTyped T.cells T.IsReadable) sql.now (bound params.now) conn.old conn.new result }
 {
     let rows = conn.query_all(sql, params)?;
@@ -31,7 +31,7 @@ pub(crate) fn typed_row<S: Alter, T: TypedRow>(
     sql: &str,
     params: &[ValueRef<'_>],
 ) -> Result<Option<T>, Error>
-    requires { IsPlain (understood site sql.now) }
+    requires { IsPlain (understood spool_schema sql.now) }
     ensures { AsksAndReads S.Store (IsFirst T.cells T.IsReadable) sql.now (bound params.now) conn.old conn.new result }
 {
     let rows = conn.query_all(sql, params)?;
@@ -44,8 +44,8 @@ pub(crate) fn has_row<S: Alter>(
     sql: &str,
     params: &[ValueRef<'_>],
 ) -> Result<bool, Error>
-    requires { IsPlain (understood site sql.now) }
-    ensures { AsksAndReads S.Store IsThere sql.now (bound params.now) conn.old conn.new result }
+    requires { IsPlain (understood spool_schema sql.now) }
+    ensures { AsksAndReads S.Store IsAnyRow sql.now (bound params.now) conn.old conn.new result }
 {
     let rows = conn.query_all(sql, params)?;
     Ok(!rows.is_empty())

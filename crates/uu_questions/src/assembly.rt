@@ -1,11 +1,11 @@
 // Systems assembled from the rows of four tables.
 ghost use Rattle.std.specs.Prelude.{◌≡◌, ◌≤◌, ◌<◌, ◌^◌, true, false, List, Bool, map, Ok, IfOk, length};
 ghost use Rattle.std.specs.List.{prefix_len};
-ghost use Rattle.uu_questions.specs.Assembly.{is_line_of, is_range_of, is_wait_of, is_range_of_line, own, others, range_of, line_from, lines_from, wait_from, lines_and_wait, lines_and_wait_of_each, AreRowsOfSystems, HasOutcome, HaveWindows, MakeSystem, MakeSystems};
+ghost use Rattle.uu_questions.specs.Assembly.{is_line_of, is_range_of, is_wait_of, is_range_of_line, own_rows, rows_behind, range_of, line_from, lines_from, wait_from, lines_and_wait, lines_and_wait_of_each, AreRowsOfSystems, HasOutcome, HaveWindows, MakeSystem, MakeSystems};
 ghost use Rattle.uu_core.specs.declared.system.Outcome.{Outcome};
 ghost use Rattle.uu_core.specs.declared.system.SystemRow.{SystemRow};
 ghost use Rattle.uu_rows.specs.Values.{NotIf};
-ghost use Rattle.uu_times.specs.Ranges.{AreRuns};
+ghost use Rattle.uu_times.specs.Ranges.{AreSeparateRanges};
 ghost use Rattle.uu_tables.specs.Tables.{system_columns};
 
 use std::alloc::{AllocError, Global};
@@ -77,8 +77,8 @@ fn count_own<P: Owner<C>, C>(owner: &P, children: &[C]) -> usize
 
 // The rows at the beginning that belong to the owner, and the rest.
 fn split_own<'a, P: Owner<C>, C>(owner: &P, children: &'a [C]) -> (&'a [C], &'a [C])
-    ensures own { result.0.now ≡ own P.owns owner.now children.now }
-    ensures others { result.1.now ≡ others P.owns owner.now children.now }
+    ensures own { result.0.now ≡ own_rows P.owns owner.now children.now }
+    ensures others { result.1.now ≡ rows_behind P.owns owner.now children.now }
 {
     children.split_at(count_own(owner, children))
 }
@@ -93,7 +93,7 @@ fn minute_of(minute: u32) -> Result<u16, RowFault>
 // The set of minutes with these ranges.
 fn windows_of(alloc: Global, ranges: &[RangeColumns]) -> Result<Windows, RowFault>
     ensures windows { IfOk result (λ windows. windows ≡ map range_of ranges.now) }
-    ensures bad { NotIf result (AreRuns (map range_of ranges.now)) }
+    ensures bad { NotIf result (AreSeparateRanges (map range_of ranges.now)) }
 {
     let mut runs = Vec::new(alloc);
     for range in ranges {

@@ -1,7 +1,7 @@
 // What is asked before a neighbour's bundle: the facts from which it is planned.
 ghost use Rattle.std.specs.Prelude.{◌≡◌, map, length, IfOk};
 ghost use Rattle.uu_core.specs.State.{has_system, link_of};
-ghost use Rattle.uu_tables.specs.TakingPlans.{AreTakingFacts, fact_of};
+ghost use Rattle.uu_tables.specs.TakeInPlans.{AreTakeInFacts, fact_of};
 ghost use Rattle.uu_questions.specs.Answers.{Asks};
 
 use crate::facts::{below_of, is_known, next_number, taken_of};
@@ -9,7 +9,7 @@ use sqlite::{Alter, Connection, Error};
 use std::alloc::Global;
 use uu_core::{Offered, TakeIn};
 use uu_names::SiteName;
-use uu_tables::{OfferedFacts, TakingFacts};
+use uu_tables::{OfferedFacts, TakeInFacts};
 
 // The facts about a job of the neighbour's. `known` says whether the neighbour is known.
 fn fact_of<S: Alter>(
@@ -62,12 +62,12 @@ fn facts_of_neighbour<S: Alter>(
     alloc: Global,
     conn: &mut Connection<S>,
     from: &SiteName,
-) -> Result<TakingFacts, Error>
+) -> Result<TakeInFacts, Error>
     ensures { Asks S.Store (λ s facts. (facts.known ≡ has_system s from.now) × (facts.next ≡ s.next) × (facts.before ≡ (link_of s from.now).below)) conn.old conn.new result }
 {
     let (known, next) = known_and_next(conn, from)?;
     let before = below_of(alloc, conn, from)?;
-    Ok(TakingFacts {
+    Ok(TakeInFacts {
         known,
         next,
         before,
@@ -78,15 +78,15 @@ fn facts_of_neighbour<S: Alter>(
 /// What has to be known before a neighbour's bundle is planned. It asks once whether the neighbour
 /// is known. For each job it asks whether its system is known and what was taken under its number.
 /// There are as many answers as jobs, with any database.
-pub fn facts_of_bundle<S: Alter>(
+pub fn facts_for_take_in<S: Alter>(
     alloc: Global,
     conn: &mut Connection<S>,
     it: &TakeIn,
-) -> Result<TakingFacts, Error>
-    ensures asks { Asks S.Store (λ s facts. AreTakingFacts facts s it.now) conn.old conn.new result }
+) -> Result<TakeInFacts, Error>
+    ensures asks { Asks S.Store (λ s facts. AreTakeInFacts facts s it.now) conn.old conn.new result }
     ensures suits { IfOk result (λ facts. length facts.jobs.items ≡ length it.now.jobs) }
 {
     let facts = facts_of_neighbour(alloc, conn, &it.from)?;
     let jobs = facts_of_jobs(alloc, conn, facts.known, &it.from, it.jobs.as_slice())?;
-    Ok(TakingFacts { jobs, ..facts })
+    Ok(TakeInFacts { jobs, ..facts })
 }

@@ -8,7 +8,7 @@ ghost use Rattle.uu_core.specs.Verdict.{verdict, are_known, taken_of};
 ghost use Rattle.uu_core.specs.Laws.{AreFound};
 ghost use Rattle.uu_tables.specs.declared.facts.Facts.{Facts};
 ghost use Rattle.uu_core.specs.declared.command.Command.TheVariants.{Define, Remove, Queue, QueueOnce, Kill, Regrade, Rejuvenate, Failed, Done, Release, Forget};
-ghost use Rattle.uu_tables.specs.Plans.{AreFacts, AreOfSuccess, AreOfRelease, IsFor, waits_under};
+ghost use Rattle.uu_tables.specs.Plans.{AreFacts, AreDoneFacts, AreReleaseFacts, IsFor, waits_under};
 ghost use Rattle.uu_rows.specs.Readable.{IsSmall};
 ghost use Rattle.uu_questions.specs.Answers.{Asks};
 ghost use Rattle.uu_questions.specs.Links.{below_in, taken_in};
@@ -221,79 +221,79 @@ pub(crate) fn taken_of<S: Alter>(
 
 // ---- the facts of each command
 
-fn definition<S: Alter>(conn: &mut Connection<S>, system: &SiteName) -> Result<Facts, Error>
-    ensures asks { Asks S.Store (λ s facts. facts ≡ Facts.Definition (has_system s system.now)) conn.old conn.new result }
+fn define_facts<S: Alter>(conn: &mut Connection<S>, system: &SiteName) -> Result<Facts, Error>
+    ensures asks { Asks S.Store (λ s facts. facts ≡ Facts.Define (has_system s system.now)) conn.old conn.new result }
     ensures suits { (def : _) → IfOk result (λ facts. IsFor facts (Define def)) }
 {
     let known = is_known(conn, system)?;
-    Ok(Facts::Definition { known })
+    Ok(Facts::Define { known })
 }
 
-fn removal<S: Alter>(conn: &mut Connection<S>, system: &SiteName) -> Result<Facts, Error>
-    ensures asks { Asks S.Store (λ s facts. facts ≡ Facts.Removal (has_system s system.now) (is_waiting s system.now)) conn.old conn.new result }
+fn remove_facts<S: Alter>(conn: &mut Connection<S>, system: &SiteName) -> Result<Facts, Error>
+    ensures asks { Asks S.Store (λ s facts. facts ≡ Facts.Remove (has_system s system.now) (is_waiting s system.now)) conn.old conn.new result }
     ensures suits { (name : _) → IfOk result (λ facts. IsFor facts (Remove name)) }
 {
     let known = is_known(conn, system)?;
     let waiting = is_waiting(conn, system)?;
-    Ok(Facts::Removal { known, waiting })
+    Ok(Facts::Remove { known, waiting })
 }
 
-fn queueing<S: Alter>(conn: &mut Connection<S>, system: &SiteName) -> Result<Facts, Error>
-    ensures asks { Asks S.Store (λ s facts. facts ≡ Facts.Queueing (has_system s system.now) s.next) conn.old conn.new result }
+fn queue_facts<S: Alter>(conn: &mut Connection<S>, system: &SiteName) -> Result<Facts, Error>
+    ensures asks { Asks S.Store (λ s facts. facts ≡ Facts.Queue (has_system s system.now) s.next) conn.old conn.new result }
     ensures suits { (job : _) → IfOk result (λ facts. IsFor facts (Queue job)) }
 {
     let known = is_known(conn, system)?;
     let next = next_number(conn)?;
-    Ok(Facts::Queueing { known, next })
+    Ok(Facts::Queue { known, next })
 }
 
-fn head<S: Alter>(alloc: Global, conn: &mut Connection<S>, number: u32) -> Result<Facts, Error>
-    ensures asks { Asks S.Store (λ s facts. facts ≡ Facts.Head (option_map head_of (job_at s number))) conn.old conn.new result }
+fn job_facts<S: Alter>(alloc: Global, conn: &mut Connection<S>, number: u32) -> Result<Facts, Error>
+    ensures asks { Asks S.Store (λ s facts. facts ≡ Facts.Job (option_map head_of (job_at s number))) conn.old conn.new result }
     ensures kill { (job : _) → (by : _) → IfOk result (λ facts. IsFor facts (Kill job by)) }
     ensures regrade { (job : _) → (grade : _) → (by : _) → IfOk result (λ facts. IsFor facts (Regrade job grade by)) }
     ensures rejuvenate { (job : _) → (at : _) → (by : _) → IfOk result (λ facts. IsFor facts (Rejuvenate job at by)) }
 {
     let head = head_of_job(alloc, conn, number)?;
-    Ok(Facts::Head(head))
+    Ok(Facts::Job(head))
 }
 
-fn failure<S: Alter>(
+fn failed_facts<S: Alter>(
     alloc: Global,
     conn: &mut Connection<S>,
     system: &SiteName,
 ) -> Result<Facts, Error>
-    ensures asks { Asks S.Store (λ s facts. facts ≡ Facts.Failure (system_at s system.now)) conn.old conn.new result }
+    ensures asks { Asks S.Store (λ s facts. facts ≡ Facts.Failed (system_at s system.now)) conn.old conn.new result }
     ensures suits { (name : _) → (at : _) → (why : _) → IfOk result (λ facts. IsFor facts (Failed name at why)) }
 {
     let row = system_of_name(alloc, conn, system)?;
-    Ok(Facts::Failure(row))
+    Ok(Facts::Failed(row))
 }
 
-fn success<S: Alter>(
+fn done_facts<S: Alter>(
     alloc: Global,
     conn: &mut Connection<S>,
     system: &SiteName,
     numbers: &[u32],
 ) -> Result<Facts, Error>
-    ensures asks { Asks S.Store (λ s facts. AreOfSuccess facts s system.now numbers.now) conn.old conn.new result }
+    ensures asks { Asks S.Store (λ s facts. AreDoneFacts facts s system.now numbers.now) conn.old conn.new result }
     ensures suits { (name : _) → (at : _) → (jobs : _) → IfOk result (λ facts. IsFor facts (Done name at jobs)) }
 {
     let row = system_of_name(alloc, conn, system)?;
     let found = heads_of_jobs(alloc, conn, numbers)?;
-    Ok(Facts::Success { row, found })
+    Ok(Facts::Done { row, found })
 }
 
-fn forgetting<S: Alter>(
+fn forget_facts<S: Alter>(
     alloc: Global,
     conn: &mut Connection<S>,
     system: &SiteName,
 ) -> Result<Facts, Error>
-    ensures asks { Asks S.Store (λ s facts. facts ≡ Facts.Forgetting (has_system s system.now) (link_of s system.now).below) conn.old conn.new result }
+    ensures asks { Asks S.Store (λ s facts. facts ≡ Facts.Forget (has_system s system.now) (link_of s system.now).below) conn.old conn.new result }
     ensures suits { (name : _) → (below : _) → IfOk result (λ facts. IsFor facts (Forget name below)) }
 {
     let known = is_known(conn, system)?;
     let before = below_of(alloc, conn, system)?;
-    Ok(Facts::Forgetting { known, before })
+    Ok(Facts::Forget { known, before })
 }
 
 // Whether the neighbour and the job's system are known.
@@ -331,18 +331,18 @@ fn below_and_taken<S: Alter>(
     Ok((below, taken))
 }
 
-fn keyed_queueing<S: Alter>(
+fn queue_once_facts<S: Alter>(
     alloc: Global,
     conn: &mut Connection<S>,
     key: &Key,
     job: &NewJob,
 ) -> Result<Facts, Error>
-    ensures asks { Asks S.Store (λ s facts. facts ≡ Facts.KeyedQueueing (are_known s key.now job.now) s.next (link_of s key.now.from).below (taken_of s key.now)) conn.old conn.new result }
+    ensures asks { Asks S.Store (λ s facts. facts ≡ Facts.QueueOnce (are_known s key.now job.now) s.next (link_of s key.now.from).below (taken_of s key.now)) conn.old conn.new result }
     ensures suits { (key : _) → (job : _) → IfOk result (λ facts. IsFor facts (QueueOnce key job)) }
 {
     let (known, next) = are_known_and_next(conn, key, job)?;
     let (below, taken) = below_and_taken(alloc, conn, key)?;
-    Ok(Facts::KeyedQueueing {
+    Ok(Facts::QueueOnce {
         known,
         next,
         below,
@@ -350,17 +350,17 @@ fn keyed_queueing<S: Alter>(
     })
 }
 
-fn releasing<S: Alter>(
+fn release_facts<S: Alter>(
     alloc: Global,
     conn: &mut Connection<S>,
     system: &SiteName,
     numbers: &[u32],
 ) -> Result<Facts, Error>
-    ensures asks { Asks S.Store (λ s facts. AreOfRelease facts s system.now numbers.now) conn.old conn.new result }
+    ensures asks { Asks S.Store (λ s facts. AreReleaseFacts facts s system.now numbers.now) conn.old conn.new result }
     ensures suits { (name : _) → (jobs : _) → IfOk result (λ facts. IsFor facts (Release name jobs)) }
 {
     let found = numbers_that_wait(alloc, conn, system, numbers)?;
-    Ok(Facts::Releasing { found })
+    Ok(Facts::Release { found })
 }
 
 /// What has to be known before the command is planned: only what the command names. The facts are
@@ -374,18 +374,18 @@ pub fn facts_for<S: Alter>(
     ensures suits { IfOk result (λ facts. IsFor facts command.now) }
 {
     match command {
-        Command::Define(def) => definition(conn, &def.name),
-        Command::Remove(system) => removal(conn, system),
-        Command::Queue(job) => queueing(conn, &job.system),
-        Command::QueueOnce(key, job) => keyed_queueing(alloc, conn, key, job),
+        Command::Define(def) => define_facts(conn, &def.name),
+        Command::Remove(system) => remove_facts(conn, system),
+        Command::Queue(job) => queue_facts(conn, &job.system),
+        Command::QueueOnce(key, job) => queue_once_facts(alloc, conn, key, job),
         Command::Kill { job, .. }
         | Command::Regrade { job, .. }
-        | Command::Rejuvenate { job, .. } => head(alloc, conn, *job),
-        Command::Failed { system, .. } => failure(alloc, conn, system),
-        Command::Done { system, jobs, .. } => success(alloc, conn, system, jobs.as_slice()),
-        Command::Release { system, jobs } => releasing(alloc, conn, system, jobs.as_slice()),
-        Command::Entry(_) => Ok(Facts::Nothing),
-        Command::Forget { system, .. } => forgetting(alloc, conn, system),
+        | Command::Rejuvenate { job, .. } => job_facts(alloc, conn, *job),
+        Command::Failed { system, .. } => failed_facts(alloc, conn, system),
+        Command::Done { system, jobs, .. } => done_facts(alloc, conn, system, jobs.as_slice()),
+        Command::Release { system, jobs } => release_facts(alloc, conn, system, jobs.as_slice()),
+        Command::Entry(_) => Ok(Facts::Entry),
+        Command::Forget { system, .. } => forget_facts(alloc, conn, system),
     }
 }
 

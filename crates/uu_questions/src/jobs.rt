@@ -9,7 +9,7 @@ ghost use Rattle.uu_core.specs.declared.filter.Filter.{Filter};
 ghost use Rattle.uu_core.specs.State.{job_at};
 ghost use Rattle.uu_tables.specs.Tables.{tables_of};
 ghost use Rattle.uu_questions.specs.Answers.{Answers, Asks};
-ghost use Rattle.uu_questions.specs.Listing.{WantsAll, listed, handed_out, whole};
+ghost use Rattle.uu_questions.specs.Listing.{WantsAll, listed_jobs, handed_out, head_and_bytes};
 
 use crate::asks::typed_rows;
 use crate::facts::head_of_job;
@@ -28,7 +28,7 @@ fn wants_all(filter: &Filter) -> bool
 
 // All jobs, which match a filter that gives no system and no user.
 fn list_all_jobs<S: Alter>(alloc: Global, conn: &mut Connection<S>) -> Result<Vec<JobHead>, Error>
-    ensures { Asks S.Store (λ s heads. (f : Filter) → WantsAll f → heads.items ≡ listed f s) conn.old conn.new result }
+    ensures { Asks S.Store (λ s heads. (f : Filter) → WantsAll f → heads.items ≡ listed_jobs f s) conn.old conn.new result }
 {
     typed_rows(
         alloc,
@@ -44,7 +44,7 @@ fn list_fitting_jobs<S: Alter>(
     conn: &mut Connection<S>,
     filter: &Filter,
 ) -> Result<Vec<JobHead>, Error>
-    ensures { Asks S.Store (λ s heads. heads.items ≡ listed filter.now s) conn.old conn.new result }
+    ensures { Asks S.Store (λ s heads. heads.items ≡ listed_jobs filter.now s) conn.old conn.new result }
 {
     let system = filter.system_text();
     let user = filter.user_text();
@@ -62,7 +62,7 @@ pub fn list_jobs<S: Alter>(
     conn: &mut Connection<S>,
     filter: &Filter,
 ) -> Result<Vec<JobHead>, Error>
-    ensures { Asks S.Store (λ s heads. heads.items ≡ listed filter.now s) conn.old conn.new result }
+    ensures { Asks S.Store (λ s heads. heads.items ≡ listed_jobs filter.now s) conn.old conn.new result }
 {
     if wants_all(filter) {
         list_all_jobs(alloc, conn)
@@ -133,7 +133,7 @@ pub fn job_of_number<S: Alter>(
     number: u32,
 ) -> Result<Option<(JobHead, Vec<u8>)>, Error>
     ensures idle { StaysIdle conn.old conn.new }
-    ensures answers { Answers (λ s found. option_map handed_out found ≡ option_map whole (job_at s number)) (state S.Store conn.old) (state S.Store conn.new) result }
+    ensures answers { Answers (λ s found. option_map handed_out found ≡ option_map head_and_bytes (job_at s number)) (state S.Store conn.old) (state S.Store conn.new) result }
     ensures size { IfOk result (λ found. IfSome found (λ job. job.0.size ≡ length job.1.items)) }
 {
     let Some(head) = head_of_job(alloc, conn, number)? else {

@@ -17,7 +17,7 @@ mod systems;
 mod taken;
 mod walk;
 
-pub use bundle::facts_of_bundle;
+pub use bundle::facts_for_take_in;
 pub use due::systems_due;
 pub use entries::entry_of_host;
 pub use facts::{facts_for, next_number, refusal_of};

@@ -4,7 +4,7 @@ ghost use Rattle.sqlite.specs.Order.{Row};
 ghost use Rattle.sqlite.specs.Values.{bound};
 ghost use Rattle.sqlite.specs.Given.{IsPlain};
 ghost use Rattle.sqlite.specs.Listing.{understood};
-ghost use Rattle.uu_schema.specs.Schema.{site};
+ghost use Rattle.uu_schema.specs.Schema.{spool_schema};
 ghost use Rattle.uu_questions.specs.Walks.{AsksAndWalks};
 
 use sqlite::types::ValueRef;
@@ -27,7 +27,7 @@ pub(crate) fn walk_rows<S: Alter, T: RowTaker>(
     params: &[ValueRef<'_>],
     taker: &mut T,
 ) -> Result<(), Error>
-    requires { IsPlain (understood site sql.now) }
+    requires { IsPlain (understood spool_schema sql.now) }
     ensures { AsksAndWalks S.Store T.takes sql.now (bound params.now) conn.old conn.new taker.old taker.new result }
 {
     let mut rows = conn.query(sql, params)?;

@@ -25,9 +25,9 @@ use Rattle.uu_bundle.specs.declared.bundle.Record.{Record}
 use Rattle.uu_bundle.specs.declared.bundle.Record.TheVariants.{Has, No, Job}
 use Rattle.uu_line.specs.Lines.{same_text}
 use Rattle.uu_settings.specs.declared.settings.Settings.{Settings}
-use Rattle.uu_request.specs.Carried.{AreUnpacked, bundle_crossing, carried, is_unpacked, packed, said_of}
-use Rattle.uu_request.specs.Receivers.{is_job}
-use Rattle.uu_request.specs.Unpacking.{IsSaid, answer, is_by_way_of, job_made, made_of, message_to, next_hop, offered, own_job, passed_on, rests_of, settle, spool_of, take_in, unpack, user_of, wrong_sites}
+use Rattle.uu_request.specs.Carried.{AreUnpacked, bundle_crossing, carried, is_unpacked, packed_job, said_of}
+use Rattle.uu_request.specs.Receivers.{is_job_of}
+use Rattle.uu_request.specs.Unpacking.{IsBundleBetween, answer, is_by_way_of, job_made, made_of, message_to, next_hop, offered, own_job, passed_on, rests_of, settle, spool_of, queue_once_command, unpack, user_of, wrong_sites}
 use Rattle.uu_request.specs.declared.fault.RequestFault.{RequestFault}
 use Rattle.uu_request.specs.declared.fault.WrongBundle.TheVariants.{OtherSender, OtherSite}
 use Rattle.uu_request.specs.declared.request.Answering.{Answering}
@@ -94,7 +94,7 @@ module _ (settings : Settings) (at : Moment) (from : List ℕ) (parcel : Parcel)
       → is_unpacked from settings.name (carried parcel) (message_to settings at user parcel system) ≡ true
   message_is onward system is =
       or_right _ _
-      (ap (λ b. b && (is_job user system (kind.Execute (codes "rmail") (rests_of parcel.kind)) (message_to settings at user parcel system) && ends_with nat_eq (envelope_of user at.local settings.name parcel.bytes) (quote_of parcel.bytes ++ parcel.bytes)))
+      (ap (λ b. b && (is_job_of user system (kind.Execute (codes "rmail") (rests_of parcel.kind)) (message_to settings at user parcel system) && ends_with nat_eq (envelope_of user at.local settings.name parcel.bytes) (quote_of parcel.bytes ++ parcel.bytes)))
       (alone onward parcel.kind system is)
       ∙ mailed user system parcel.grade (rests_of parcel.kind) (from_line user at.local settings.name) parcel.bytes at)
 
@@ -117,60 +117,60 @@ head_of P x xs all = all 0 x (omega arith)
 
 -- what the text of what is packed contains
 abbrev unpacked_job : Packed → Parcel
-unpacked_job packed = record {
-  number = packed.parcel.number;
-  mark = packed.mark;
-  grade = packed.grade;
-  user = packed.parcel.user;
-  kind = packed.parcel.kind;
-  bytes = packed.parcel.bytes;
+unpacked_job packed_job = record {
+  number = packed_job.parcel.number;
+  mark = packed_job.mark;
+  grade = packed_job.grade;
+  user = packed_job.parcel.user;
+  kind = packed_job.parcel.kind;
+  bytes = packed_job.parcel.bytes;
 }
 
 module _ (settings : Settings) (at : Moment) (from : List ℕ) (onward : List (List ℕ)) where
   abbrev make : Packed → NewJob
-  make packed = job_made settings at from onward (unpacked_job packed)
+  make packed_job = job_made settings at from onward (unpacked_job packed_job)
 
   abbrev taken : List ℕ → Packed → Command
-  taken name packed = QueueOnce (record { from = name; number = packed.parcel.number; mark = packed.mark }) (make packed)
+  taken name packed_job = QueueOnce (record { from = name; number = packed_job.parcel.number; mark = packed_job.mark }) (make packed_job)
 
-  taken_each : (jobs : List Parcel) → map (take_in settings at from onward) jobs ≡ map (taken from) (map packed jobs)
+  taken_each : (jobs : List Parcel) → map (queue_once_command settings at from onward) jobs ≡ map (taken from) (map packed_job jobs)
   taken_each [] = refl
-  taken_each (job ∷ jobs) = ap (λ commands. taken from (packed job) ∷ commands) (taken_each jobs)
+  taken_each (job ∷ jobs) = ap (λ commands. taken from (packed_job job) ∷ commands) (taken_each jobs)
 
-  made_each : (jobs : List Parcel) → All (λ packed. is_unpacked from settings.name packed.parcel (make packed) ≡ true) (map packed jobs)
-  made_each [] = All-nil (λ packed. is_unpacked from settings.name packed.parcel (make packed) ≡ true)
+  made_each : (jobs : List Parcel) → All (λ packed_job. is_unpacked from settings.name packed_job.parcel (make packed_job) ≡ true) (map packed_job jobs)
+  made_each [] = All-nil (λ packed_job. is_unpacked from settings.name packed_job.parcel (make packed_job) ≡ true)
   made_each (job ∷ jobs) =
-      All-cons (λ packed. is_unpacked from settings.name packed.parcel (make packed) ≡ true) (packed job) (map packed jobs)
+      All-cons (λ packed_job. is_unpacked from settings.name packed_job.parcel (make packed_job) ≡ true) (packed_job job) (map packed_job jobs)
       (made_by settings at from job onward (next_hop onward job.kind) refl) (made_each jobs)
 
 abbrev IsMarked : Heading → Packed → Type 0
-IsMarked heading packed = packed.mark ≡ (bundle_crossing heading.from heading.to heading.spool).mark packed.parcel
+IsMarked heading packed_job = packed_job.mark ≡ (bundle_crossing heading.from heading.to heading.spool).mark packed_job.parcel
 
-marked_each : (heading : Heading) (records : List Record) → All (IsRecord heading) records → All (IsMarked heading) (map packed (jobs_in records))
+marked_each : (heading : Heading) (records : List Record) → All (IsRecord heading) records → All (IsMarked heading) (map packed_job (jobs_in records))
 marked_each heading [] all = All-nil (IsMarked heading)
 marked_each heading (Has told ∷ records) all = marked_each heading records (tail_of (IsRecord heading) (Has told) records all)
 marked_each heading (No refused ∷ records) all = marked_each heading records (tail_of (IsRecord heading) (No refused) records all)
 marked_each heading (Job job ∷ records) all =
     let it : IsParcel heading job = head_of (IsRecord heading) (Job job) records all in
-    All-cons (IsMarked heading) (packed job) (map packed (jobs_in records)) it.mark
+    All-cons (IsMarked heading) (packed_job job) (map packed_job (jobs_in records)) it.mark
     (marked_each heading records (tail_of (IsRecord heading) (Job job) records all))
 
 -- the commands of the jobs of a bundle that was read, with one before them that forgets
 are_unpacked : (settings : Settings) (at : Moment) (input sender : List ℕ) (onward : List (List ℕ)) (bundle : BundleText)
     → IsRead input bundle → bundle.from ≡ sender → bundle.to ≡ settings.name
     → AreUnpacked (bundle_crossing bundle.from bundle.to bundle.spool) (said_of bundle)
-    (Forget bundle.from bundle.below ∷ map (take_in settings at sender onward) bundle.jobs)
+    (Forget bundle.from bundle.below ∷ map (queue_once_command settings at sender onward) bundle.jobs)
 are_unpacked settings at input sender onward bundle read from to =
-    let jobs = map packed bundle.jobs in record {
+    let jobs = map packed_job bundle.jobs in record {
       make = make settings at sender onward;
       commands_are =
           ap (λ taking. Forget bundle.from bundle.below ∷ taking) (taken_each settings at sender onward bundle.jobs)
           ∙ ap (λ name. Forget bundle.from bundle.below ∷ map (taken settings at sender onward name) jobs) (sym from);
       made =
-          subst (λ name. All (λ packed. is_unpacked name bundle.to packed.parcel (make settings at sender onward packed) ≡ true) jobs) (sym from)
-          (subst (λ name. All (λ packed. is_unpacked sender name packed.parcel (make settings at sender onward packed) ≡ true) jobs) (sym to)
+          subst (λ name. All (λ packed_job. is_unpacked name bundle.to packed_job.parcel (make settings at sender onward packed_job) ≡ true) jobs) (sym from)
+          (subst (λ name. All (λ packed_job. is_unpacked sender name packed_job.parcel (make settings at sender onward packed_job) ≡ true) jobs) (sym to)
           (made_each settings at sender onward bundle.jobs));
-      marked = subst (λ taken. All (IsMarked (heading_of bundle)) (map packed taken)) (sym read.jobs) (marked_each (heading_of bundle) read.records read.each);
+      marked = subst (λ taken. All (IsMarked (heading_of bundle)) (map packed_job taken)) (sym read.jobs) (marked_each (heading_of bundle) read.records read.each);
     }
 
 -- the commands of a bundle that is to be taken
@@ -179,7 +179,7 @@ taken_of (Ok (request.Unpacking it)) = commands_in it.bundle
 taken_of _ = []
 
 pub unpacked : (settings : Settings) (at : Moment) (input sender : List ℕ) (onward : List (List ℕ)) (it : Unpacking) (said : Result BundleText RequestFault)
-    → IsSaid sender settings.name input said
+    → IsBundleBetween sender settings.name input said
     → (let asked : Result Request RequestFault = Ok (request.Unpacking it) in asked ≡ made_of (unpack settings at sender onward) said)
     → (bundle : BundleText) × IsRead input bundle × (bundle.from ≡ sender) × (bundle.to ≡ settings.name)
     × AreUnpacked (bundle_crossing bundle.from bundle.to bundle.spool) (said_of bundle) (commands_in it.bundle)
@@ -187,9 +187,9 @@ unpacked settings at input sender onward it (Err fault) is_said asked = absurd c
 unpacked settings at input sender onward it (Ok bundle) is_said asked =
     let sites = right_sites sender settings.name bundle is_said.1 in
     let read = is_said.0 in
-    let commands : commands_in it.bundle ≡ Forget bundle.from bundle.below ∷ map (take_in settings at sender onward) bundle.jobs =
+    let commands : commands_in it.bundle ≡ Forget bundle.from bundle.below ∷ map (queue_once_command settings at sender onward) bundle.jobs =
     ap taken_of asked ∙ ap (λ commands. Forget sender bundle.below ∷ commands) (mapped_twice (offering sender) (offered settings at sender onward) bundle.jobs)
-    ∙ ap (λ name. Forget name bundle.below ∷ map (take_in settings at sender onward) bundle.jobs) (sym sites.0) in (
+    ∙ ap (λ name. Forget name bundle.below ∷ map (queue_once_command settings at sender onward) bundle.jobs) (sym sites.0) in (
       bundle,
       read,
       sites.0,
@@ -204,7 +204,7 @@ settling_in other (Ok (request.Settling it)) = it
 settling_in other _ = other
 
 pub settles : (name input system : List ℕ) (spool : Option (List ℕ)) (it : Settling) (said : Result BundleText RequestFault)
-    → IsSaid system name input said
+    → IsBundleBetween system name input said
     → (let asked : Result Request RequestFault = Ok (request.Settling it) in asked ≡ made_of (settle system spool) said)
     → (bundle : BundleText) × IsRead input bundle × (bundle.from ≡ system) × (bundle.to ≡ name)
     × (it ≡ record { system = system; spool = spool_of spool; has = bundle.has; refused = bundle.refused })
@@ -219,7 +219,7 @@ answering_in other (Ok (request.Question (question.Answer it))) = it
 answering_in other _ = other
 
 pub answers : (settings : Settings) (at : Moment) (input : List ℕ) (onward : List (List ℕ)) (packing : Packing) (it : Answering) (said : Result BundleText RequestFault)
-    → IsSaid packing.system settings.name input said
+    → IsBundleBetween packing.system settings.name input said
     → (let asked : Result Request RequestFault = Ok (request.Question (question.Answer it)) in asked ≡ made_of (answer settings at onward packing) said)
     → (bundle : BundleText) × IsRead input bundle × (bundle.from ≡ packing.system) × (bundle.to ≡ settings.name)
     × (it.packing ≡ packing) × (it.asked ≡ bundle.grade)
@@ -228,7 +228,7 @@ answers settings at input onward packing it (Err fault) is_said asked = absurd c
 answers settings at input onward packing it (Ok bundle) is_said asked =
     let sites = right_sites packing.system settings.name bundle is_said.1 in
     let same = ap (answering_in it) asked in
-    let commands : it.commands ≡ map (take_in settings at packing.system onward) bundle.jobs = ap (λ (a : Answering). a.commands) same in (
+    let commands : it.commands ≡ map (queue_once_command settings at packing.system onward) bundle.jobs = ap (λ (a : Answering). a.commands) same in (
       bundle,
       is_said.0,
       sites.0,

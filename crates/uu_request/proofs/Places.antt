@@ -19,9 +19,9 @@ Rise-from : (low from high : ℕ) (offsets : List ℕ) → low ≤ from → Rise
 Rise-from low from high [] before rise = omega arith
 Rise-from low from high (at ∷ more) before rise = let first = rise.0 in (omega arith, rise.1)
 
-Rise-ends : (low high : ℕ) (offsets : List ℕ) → Rise low high offsets → low ≤ high
-Rise-ends low high [] rise = rise
-Rise-ends low high (at ∷ more) rise = let later = Rise-ends at high more rise.1 in let first = rise.0 in omega arith
+Rise_ends : (low high : ℕ) (offsets : List ℕ) → Rise low high offsets → low ≤ high
+Rise_ends low high [] rise = rise
+Rise_ends low high (at ∷ more) rise = let later = Rise_ends at high more rise.1 in let first = rise.0 in omega arith
 
 passing_one : (test : Bool) (from high : ℕ) (later : List ℕ) → Rise from high later → Rise from high (cond test (from ∷ later) later)
 passing_one true from high later rise = (omega arith, rise)
@@ -39,7 +39,7 @@ rising_within : (text : List ℕ) (low : ℕ) (starts : List ℕ) → Rise low (
 rising_within text low [] rise = All-nil (IsPlace text)
 rising_within text low (start ∷ []) rise = All-cons (IsPlace text) _ [] (rise.1, omega arith) (All-nil (IsPlace text))
 rising_within text low (start ∷ next ∷ more) rise =
-    All-cons (IsPlace text) _ (entries_from text (next ∷ more)) (rise.1.0, Rise-ends next (length text) more rise.1.1)
+    All-cons (IsPlace text) _ (entries_from text (next ∷ more)) (rise.1.0, Rise_ends next (length text) more rise.1.1)
     (rising_within text start (next ∷ more) rise.1)
 
 pub entries_within : (text : List ℕ) → All (IsPlace text) (entries_of text)

@@ -19,7 +19,7 @@ use Rattle.uu_settings.specs.declared.settings.Settings.{Settings}
 use Rattle.uu_request.specs.Attempts.{regraded}
 use Rattle.uu_bundle.specs.Marks.{mark_of}
 use Rattle.uu_request.specs.Marks.{handed_text, key_of, marked_text}
-use Rattle.uu_request.specs.Receivers.{is_job, is_made, once_of, same_kind, text_given}
+use Rattle.uu_request.specs.Receivers.{is_job_of, is_made, once_of, same_kind, text_given}
 use Rattle.uu_request.specs.Requests.{one, queue, task_request}
 
 all_same : (texts : List (List ℕ)) → pointwise same_text texts texts ≡ true
@@ -34,11 +34,11 @@ kind_same (kind.Execute command arguments) = rw (text_to command, all_same argum
 abbrev pub job_with : List ℕ → List ℕ → ℕ → Kind → List ℕ → Moment → NewJob
 job_with user system grade k bytes at = record { system = system; grade = grade; user = user; kind = k; bytes = bytes; at = at }
 
-is_its : (user system : List ℕ) (grade : ℕ) (k : Kind) (bytes : List ℕ) (at : Moment) → is_job user system k (job_with user system grade k bytes at) ≡ true
+is_its : (user system : List ℕ) (grade : ℕ) (k : Kind) (bytes : List ℕ) (at : Moment) → is_job_of user system k (job_with user system grade k bytes at) ≡ true
 is_its user system grade k bytes at = rw (text_to user, text_to system, kind_same k) refl
 
 pub with_bytes : (user system : List ℕ) (grade : ℕ) (k : Kind) (bytes : List ℕ) (at : Moment)
-    → (is_job user system k (job_with user system grade k bytes at) && same_text bytes bytes) ≡ true
+    → (is_job_of user system k (job_with user system grade k bytes at) && same_text bytes bytes) ≡ true
 with_bytes user system grade k bytes at = rw (is_its user system grade k bytes at, text_to bytes) refl
 
 -- the bytes of a message end with it
@@ -49,7 +49,7 @@ ends_so front back =
 
 pub mailed : (user system : List ℕ) (grade : ℕ) (rests : List (List ℕ)) (line input : List ℕ) (at : Moment)
     → (let k = kind.Execute (codes "rmail") rests in
-    is_job user system k (job_with user system grade k (line ++ quote_of input ++ input) at) && ends_with nat_eq (line ++ quote_of input ++ input) (quote_of input ++ input)) ≡ true
+    is_job_of user system k (job_with user system grade k (line ++ quote_of input ++ input) at) && ends_with nat_eq (line ++ quote_of input ++ input) (quote_of input ++ input)) ≡ true
 mailed user system grade rests line input at =
     let bytes = line ++ quote_of input ++ input in
     ap (λ b. b && ends_with nat_eq bytes (quote_of input ++ input)) (is_its user system grade (kind.Execute (codes "rmail") rests) bytes at)

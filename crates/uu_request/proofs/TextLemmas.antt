@@ -5,7 +5,7 @@ use Rattle.std.specs.Prelude.{nat_le}
 use Rattle.std.specs.List.{list_all}
 use Rattle.std.specs.Option.{option_map_or}
 use Rattle.uu_names.specs.Name.{has_form, is_word, is_word_byte, most_word}
-use Rattle.uu_request.specs.Marks.{Given, HasWords, spaced_words, text_of}
+use Rattle.uu_request.specs.Marks.{Given, HasWords, spaced_words, marked_text_of}
 
 -- the bytes of a word are those of words
 bytes_pass : (word : List ℕ) → is_word word ≡ true → list_all is_word_byte word ≡ true
@@ -83,7 +83,7 @@ same_parts o p a b c d e f ws vs i j spool first second last =
     ap (λ x. made x a c e ws i) spool ∙ ap (λ x. made p x c e ws i) first ∙ ap (λ x. made p b x e ws i) system ∙ ap (λ x. made p b d x ws i) user
     ∙ ap (λ x. made p b d f x i) words ∙ ap (made p b d f vs) last
 
-pub told_apart : (one other : Given) → HasWords one → HasWords other → text_of one ≡ text_of other → one ≡ other
+pub told_apart : (one other : Given) → HasWords one → HasWords other → marked_text_of one ≡ marked_text_of other → one ≡ other
 told_apart one other of_one of_other e =
     let own = one.system ∷ one.user ∷ one.words in
     let others = other.system ∷ other.user ∷ other.words in

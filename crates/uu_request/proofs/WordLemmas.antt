@@ -26,8 +26,8 @@ all_dropped p (suc n) [] e = refl
 all_dropped p (suc n) (x ∷ xs) e = all_dropped p n xs (and_parts (p x) (list_all p xs) e).1
 
 -- a byte of a site name is one of a word
-word-from_site : (b : ℕ) → is_site_byte b ≡ true → is_word_byte b ≡ true
-word-from_site b h = grind (arith, nat_tests)
+word_from_site : (b : ℕ) → is_site_byte b ≡ true → is_word_byte b ≡ true
+word_from_site b h = grind (arith, nat_tests)
 
 -- a site name is a word
 pub site_word : (site : List ℕ) → is_site_name site ≡ true → is_word site ≡ true
@@ -36,7 +36,7 @@ site_word site e =
     let form = and_parts (nat_le 1 (length site)) (list_all is_site_byte site) parts.0 in
     let short : length site ≤ 63 = leb-true (length site) 63 parts.1 in
     and_from (has_form is_word_byte site) (nat_le (length site) most_word)
-    (and_from (nat_le 1 (length site)) (list_all is_word_byte site) form.0 (list_all_weaker is_site_byte is_word_byte site word-from_site form.1))
+    (and_from (nat_le 1 (length site)) (list_all is_word_byte site) form.0 (list_all_weaker is_site_byte is_word_byte site word_from_site form.1))
     (le-leb (length site) 255 (omega (arith, short)))
 
 -- what comes after the first `!` of a word is a word, if anything does

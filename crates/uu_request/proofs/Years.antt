@@ -9,7 +9,7 @@ use Rattle.jiff_core.proofs.SignedLemmas.{signed_arith}
 use Rattle.jiff_core.proofs.CalendarLemmas.{days_from_civil-day_count, day_count-epoch, day_count-lt_year}
 use Rattle.jiff_core.proofs.DateLemmas.{civil, days_from_civil-day, days_from_civil-next_year}
 use Rattle.jiff_core.specs.Timestamp.{IsOffsetSeconds}
-use Rattle.uu_times.specs.Moment.{Shows, local_second}
+use Rattle.uu_times.specs.Moment.{IsDateTimeAt, local_second}
 use Rattle.uu_times.specs.Zone.{offset_at}
 use Rattle.uu_times.specs.declared.zone.Zone.{Zone}
 
@@ -36,7 +36,7 @@ day_from : (shown day : ℤ) → neg_ℤ (pos 172800) ≤ℤ shown → day ≡ i
 day_from (pos s) day from is = omega (arith, ints)
 day_from (negsuc s) day from is = omega (arith, ints)
 
-pub shown_year : (local : DateTime) (second : ℕ) (zone : Zone) → IsOffsetSeconds (offset_at zone second) → Shows local (local_second zone second)
+pub shown_year : (local : DateTime) (second : ℕ) (zone : Zone) → IsOffsetSeconds (offset_at zone second) → IsDateTimeAt local (local_second zone second)
     → (pos 1000 ≤ℤ local.date.year) × (local.date.year ≤ℤ pos 9999)
 shown_year local second zone within shown =
     let from : neg_ℤ (pos 172800) ≤ℤ local_second zone second = omega (arith, signed_arith, within.0) in

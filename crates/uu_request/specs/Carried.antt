@@ -14,7 +14,7 @@ use Rattle.uu_bundle.specs.declared.bundle.Parcel.{Parcel as BundledJob}
 use Rattle.uu_bundle.specs.declared.bundle.Refused.{Refused}
 use Rattle.uu_bundle.specs.declared.bundle.Told.{Told as ToldText}
 use Rattle.uu_line.specs.Lines.{same_text}
-use Rattle.uu_request.specs.Receivers.{is_job}
+use Rattle.uu_request.specs.Receivers.{is_job_of}
 use Rattle.uu_request.specs.Unpacking.{next_hop, rests_of, user_of}
 
 -- the part of a bundle's job that is handed on
@@ -27,9 +27,9 @@ carried job = record { number = job.number; user = job.user; kind = job.kind; by
 abbrev pub is_unpacked : List ℕ → List ℕ → Parcel → NewJob → Bool
 is_unpacked from to parcel job =
     let user = user_of from parcel.user in
-    (is_job user to parcel.kind job && same_text job.bytes parcel.bytes)
+    (is_job_of user to parcel.kind job && same_text job.bytes parcel.bytes)
     || (is_some (next_hop (job.system ∷ []) parcel.kind)
-    && (is_job user job.system (kind.Execute (codes "rmail") (rests_of parcel.kind)) job
+    && (is_job_of user job.system (kind.Execute (codes "rmail") (rests_of parcel.kind)) job
     && ends_with nat_eq job.bytes (quote_of parcel.bytes ++ parcel.bytes)))
 
 -- The crossing of bundles with these names in them: from the site that says them to the one that
@@ -43,11 +43,11 @@ bundle_crossing from to spool = record {
 }
 
 -- What a site is told by a bundle that it reads (`uu_handover/specs/Bundles.antt`).
-abbrev pub packed : BundledJob → Packed
-packed job = record { parcel = carried job; mark = job.mark; grade = job.grade }
+abbrev pub packed_job : BundledJob → Packed
+packed_job job = record { parcel = carried job; mark = job.mark; grade = job.grade }
 
-abbrev pub told : ToldText → Told
-told one = record { number = one.number; mark = one.mark }
+abbrev pub told_job : ToldText → Told
+told_job one = record { number = one.number; mark = one.mark }
 
 abbrev pub refused_job : Refused → RefusedJob
 refused_job one = record { number = one.number; mark = one.mark; reason = one.reason }
@@ -58,9 +58,9 @@ said_of bundle = record {
   to = bundle.to;
   below = bundle.below;
   grade = bundle.grade;
-  has = map told bundle.has;
+  has = map told_job bundle.has;
   refused = map refused_job bundle.refused;
-  jobs = map packed bundle.jobs;
+  jobs = map packed_job bundle.jobs;
 }
 
 -- The commands are those of a bundle: what the sender won't hand on again is forgotten, and each
@@ -69,5 +69,5 @@ said_of bundle = record {
 pub record AreUnpacked (crossing : Crossing) (bundle : Bundle) (commands : List Command) : Type 0 where
   pub make : Packed → NewJob
   pub commands_are : commands ≡ unpacked bundle.from make bundle
-  pub made : All (λ packed. crossing.makes packed.parcel (make packed) ≡ true) bundle.jobs
-  pub marked : All (λ packed. packed.mark ≡ crossing.mark packed.parcel) bundle.jobs
+  pub made : All (λ packed_job. crossing.makes packed_job.parcel (make packed_job) ≡ true) bundle.jobs
+  pub marked : All (λ packed_job. packed_job.mark ≡ crossing.mark packed_job.parcel) bundle.jobs

@@ -32,8 +32,8 @@ pub record Given : Type 0 where
   pub words : List (List ℕ)
   pub input : List ℕ
 
-abbrev pub text_of : Given → List ℕ
-text_of given = marked_text given.spool (handed_text given.subcommand given.system given.user given.words given.input)
+abbrev pub marked_text_of : Given → List ℕ
+marked_text_of given = marked_text given.spool (handed_text given.subcommand given.system given.user given.words given.input)
 
 -- its words are valid: they have no space and no line feed
 abbrev pub HasWords : Given → Type 0

@@ -51,18 +51,18 @@ same_kind (kind.Execute command arguments) (kind.Execute other others) = same_te
 same_kind one other = false
 
 -- the job is this user's, for this system, and of this kind
-abbrev pub is_job : List ℕ → List ℕ → Kind → NewJob → Bool
-is_job user system kind job = same_text job.user user && same_text job.system system && same_kind job.kind kind
+abbrev pub is_job_of : List ℕ → List ℕ → Kind → NewJob → Bool
+is_job_of user system kind job = same_text job.user user && same_text job.system system && same_kind job.kind kind
 
 -- The job is one that a task of this user hands in, with this input as its bytes, or without bytes
 -- for a request. The bytes of a message end with the input, after an envelope line that differs
 -- each time.
 abbrev pub is_made : List ℕ → List ℕ → Task → NewJob → Bool
-is_made user input (task.Send system source target grade once) job = is_job user system (kind.Send source target) job && same_text job.bytes input
-is_made user input (task.Request system source target grade once) job = is_job user system (kind.Request source target) job && same_text job.bytes []
-is_made user input (task.Execute grade once system command arguments) job = is_job user system (kind.Execute command arguments) job && same_text job.bytes input
+is_made user input (task.Send system source target grade once) job = is_job_of user system (kind.Send source target) job && same_text job.bytes input
+is_made user input (task.Request system source target grade once) job = is_job_of user system (kind.Request source target) job && same_text job.bytes []
+is_made user input (task.Execute grade once system command arguments) job = is_job_of user system (kind.Execute command arguments) job && same_text job.bytes input
 is_made user input (task.Mail grade once system rests) job =
-    is_job user system (kind.Execute (codes "rmail") rests) job && ends_with nat_eq job.bytes (quote_of input ++ input)
+    is_job_of user system (kind.Execute (codes "rmail") rests) job && ends_with nat_eq job.bytes (quote_of input ++ input)
 is_made user input other job = false
 
 -- the crossing from a neighbour of this name here, if this site has a name for the neighbour too

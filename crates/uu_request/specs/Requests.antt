@@ -49,14 +49,14 @@ abbrev pub by_of : Settings → List ℕ → By
 by_of settings user = record { user = user; admin = list_any (λ admin. same_text admin user) settings.admins.items }
 
 -- a job is handed in, under a key if it is a neighbour's
-abbrev pub hand_in : Option Key → NewJob → Command
-hand_in None job = command.Queue job
-hand_in (Some key) job = command.QueueOnce key job
+abbrev pub queue_command : Option Key → NewJob → Command
+queue_command None job = command.Queue job
+queue_command (Some key) job = command.QueueOnce key job
 
 -- a job is handed in now
 abbrev pub queue : Option Key → List ℕ → Moment → List ℕ → ℕ → Kind → List ℕ → Request
 queue key user at system grade kind bytes =
-    one (hand_in key (record { system = system; grade = grade; user = user; kind = kind; bytes = bytes; at = at }))
+    one (queue_command key (record { system = system; grade = grade; user = user; kind = kind; bytes = bytes; at = at }))
 
 -- A message: the system runs `rmail` with its arguments, and the envelope as its input, with the
 -- site's local date and time and the site's name.
@@ -160,8 +160,8 @@ abbrev pub has_too_much : List ℕ → CommandLine → Bool
 has_too_much input line = takes_input line.task && nat_lt most_text (length input)
 
 -- what a line asks for
-abbrev pub Asks : Settings → Moment → List ℕ → CommandLine → Result Request RequestFault → Type 0
-Asks settings at input line asked =
+abbrev pub LineAsks : Settings → Moment → List ℕ → CommandLine → Result Request RequestFault → Type 0
+LineAsks settings at input line asked =
     (IsTrue (has_too_much input line) × (asked ≡ Err Input))
     ⊎ ((has_too_much input line ≡ false) × TaskAsks settings at input line.user line.task asked)
 

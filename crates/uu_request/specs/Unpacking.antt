@@ -39,11 +39,11 @@ wrong_sites from to bundle =
     if same_text bundle.from from then (if same_text bundle.to to then None else Some OtherSite) else Some OtherSender
 
 -- what a text is as a bundle from the one site to the other: the bundle, or why it isn't one
-abbrev pub IsSaid : List ℕ → List ℕ → List ℕ → Result Bundle RequestFault → Type 0
-IsSaid from to text (Ok bundle) = IsRead text bundle × (wrong_sites from to bundle ≡ None)
-IsSaid from to text (Err (fault.Bundle NoBundle)) = IsNoBundle text
-IsSaid from to text (Err (fault.Bundle why)) = (bundle : Bundle) × IsRead text bundle × (wrong_sites from to bundle ≡ Some why)
-IsSaid from to text (Err other) = ⊥
+abbrev pub IsBundleBetween : List ℕ → List ℕ → List ℕ → Result Bundle RequestFault → Type 0
+IsBundleBetween from to text (Ok bundle) = IsRead text bundle × (wrong_sites from to bundle ≡ None)
+IsBundleBetween from to text (Err (fault.Bundle NoBundle)) = IsNoBundle text
+IsBundleBetween from to text (Err (fault.Bundle why)) = (bundle : Bundle) × IsRead text bundle × (wrong_sites from to bundle ≡ Some why)
+IsBundleBetween from to text (Err other) = ⊥
 
 -- ---- a job of a bundle
 
@@ -115,8 +115,8 @@ offered settings at sender onward parcel =
     record { number = parcel.number; mark = parcel.mark; job = job_made settings at sender onward parcel }
 
 -- the command that queues it, once
-abbrev pub take_in : Settings → Moment → List ℕ → List (List ℕ) → Parcel → Command
-take_in settings at sender onward parcel =
+abbrev pub queue_once_command : Settings → Moment → List ℕ → List (List ℕ) → Parcel → Command
+queue_once_command settings at sender onward parcel =
     command.QueueOnce (record { from = sender; number = parcel.number; mark = parcel.mark }) (job_made settings at sender onward parcel)
 
 -- ---- a bundle
@@ -155,7 +155,7 @@ abbrev pub answer : Settings → Moment → List (List ℕ) → Packing → Bund
 answer settings at onward packing bundle = request.Question (question.Answer (record {
   packing = packing;
   asked = bundle.grade;
-  commands = map (take_in settings at packing.system onward) bundle.jobs;
+  commands = map (queue_once_command settings at packing.system onward) bundle.jobs;
 }))
 
 -- ---- requests made from a text
@@ -166,4 +166,4 @@ made_of made (Err why) = Err why
 
 -- the request for the bundle from the one site to the other
 abbrev pub AsksOf : List ℕ → List ℕ → List ℕ → (Bundle → Request) → Result Request RequestFault → Type 0
-AsksOf from to text made asked = (said : Result Bundle RequestFault) × IsSaid from to text said × (asked ≡ made_of made said)
+AsksOf from to text made asked = (said : Result Bundle RequestFault) × IsBundleBetween from to text said × (asked ≡ made_of made said)

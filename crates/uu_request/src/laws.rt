@@ -23,7 +23,7 @@ ghost use Rattle.uu_line.specs.declared.task.Task.TheVariants.{Answer, Settle, U
 ghost use Rattle.uu_settings.specs.declared.settings.Settings.{Settings};
 ghost use Rattle.uu_request.specs.Attempts.{regraded};
 ghost use Rattle.uu_request.specs.Carried.{AreUnpacked, bundle_crossing, said_of};
-ghost use Rattle.uu_request.specs.Marks.{Given, HasWords, text_of};
+ghost use Rattle.uu_request.specs.Marks.{Given, HasWords, marked_text_of};
 ghost use Rattle.uu_request.specs.Receivers.{IsOnce, Script, crossing_of};
 ghost use Rattle.uu_request.specs.Requests.{TaskAsks, one, task_request};
 ghost use Rattle.uu_request.specs.Unpacking.{is_by_way_of, packing, spool_of};
@@ -39,7 +39,7 @@ use uu_core::laws::keys_are_answered_again;
 /// The text of what is handed in, from which a mark is made, determines all of it: no two have the
 /// same text. (That no two texts have the same mark rests on the digest, and no law says it.)
 pub fn texts_tell_apart()
-    ensures { (one other : Given) → HasWords one → HasWords other → text_of one ≡ text_of other → one ≡ other }
+    ensures { (one other : Given) → HasWords one → HasWords other → marked_text_of one ≡ marked_text_of other → one ≡ other }
 {}
 
 /// A job of a neighbour that was queued under a number gets this number again, and nothing changes,

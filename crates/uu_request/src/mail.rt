@@ -2,7 +2,7 @@
 
 ghost use Rattle.std.specs.Prelude.{◌≡◌, Ok, Err, IfOk, MatchResult, codes};
 ghost use Rattle.uu_names.specs.Envelope.{envelope_of};
-ghost use Rattle.uu_times.specs.Moment.{Shows, local_second};
+ghost use Rattle.uu_times.specs.Moment.{IsDateTimeAt, local_second};
 ghost use Rattle.uu_core.specs.declared.job.Kind.TheVariants as kind;
 ghost use Rattle.uu_request.specs.Requests.{AnswersUnlessMemory};
 ghost use Rattle.uu_request.specs.Requests as spec;
@@ -29,7 +29,7 @@ pub(crate) fn mail(
     at: Moment,
     settings: &Settings,
 ) -> Result<Request, RequestFault>
-    requires { Shows at.local (local_second settings.now.zone at.second) }
+    requires { IsDateTimeAt at.local (local_second settings.now.zone at.second) }
     ensures { AnswersUnlessMemory result (Ok (spec.mail settings.now key user at system grade rests message.now)) }
 {
     let envelope = with_envelope(alloc, &user, &at, settings, message);
@@ -71,7 +71,7 @@ pub(crate) fn with_envelope(
     settings: &Settings,
     message: &[u8],
 ) -> Result<Vec<u8>, NameFault>
-    requires { Shows at.now.local (local_second settings.now.zone at.now.second) }
+    requires { IsDateTimeAt at.now.local (local_second settings.now.zone at.now.second) }
     ensures { IfOk result (λ bytes. bytes.items ≡ envelope_of user.now at.now.local settings.now.name message.now) }
 {
     zones_are_what_they_say();

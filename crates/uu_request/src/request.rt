@@ -3,7 +3,7 @@
 ghost use Rattle.std.specs.Prelude.{◌≡◌, ◌≤◌, Ok, IsTrue, length};
 ghost use Rattle.std.specs.List.{list_any};
 ghost use Rattle.uu_names.specs.Text.{most_text};
-ghost use Rattle.uu_times.specs.Moment.{Shows, local_second};
+ghost use Rattle.uu_times.specs.Moment.{IsDateTimeAt, local_second};
 ghost use Rattle.uu_line.specs.Lines.{same_text, takes_input};
 ghost use Rattle.uu_request.specs.Requests.{AnswersUnlessMemory, UnlessMemory};
 ghost use Rattle.uu_request.specs.Requests as spec;
@@ -150,8 +150,8 @@ pub fn request_of(
     at: Moment,
     input: Vec<u8>,
 ) -> Result<Request, RequestFault>
-    requires { Shows at.local (local_second settings.now.zone at.second) }
-    ensures { UnlessMemory (spec.Asks settings.now at input.items line) result }
+    requires { IsDateTimeAt at.local (local_second settings.now.zone at.second) }
+    ensures { UnlessMemory (spec.LineAsks settings.now at input.items line) result }
 {
     if line.task.has_input() && input.len() > MAX_TEXT {
         drop(line);
@@ -175,7 +175,7 @@ fn task_request(
     at: Moment,
     input: Vec<u8>,
 ) -> Result<Request, RequestFault>
-    requires clock { Shows at.local (local_second settings.now.zone at.second) }
+    requires clock { IsDateTimeAt at.local (local_second settings.now.zone at.second) }
     requires fits { IsTrue (takes_input task) → length input.items ≤ most_text }
     ensures { UnlessMemory (spec.TaskAsks settings.now at input.items user task) result }
 {

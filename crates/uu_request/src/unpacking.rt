@@ -6,11 +6,11 @@ ghost use Rattle.std.specs.Option.{option_to_list};
 ghost use Rattle.uu_names.specs.Envelope.{envelope_of};
 ghost use Rattle.uu_names.specs.Name.{is_site_byte, is_site_name};
 ghost use Rattle.uu_names.specs.Path.{is_bang, rest_of};
-ghost use Rattle.uu_times.specs.Moment.{Shows, local_second};
+ghost use Rattle.uu_times.specs.Moment.{IsDateTimeAt, local_second};
 ghost use Rattle.uu_core.specs.TakeIns.{offering};
 ghost use Rattle.uu_core.specs.declared.subject.Subject.TheVariants as subject;
 ghost use Rattle.uu_request.specs.Requests.{AnswersUnlessMemory, UnlessMemory};
-ghost use Rattle.uu_request.specs.Unpacking.{AsksOf, IsSaid, are_steps};
+ghost use Rattle.uu_request.specs.Unpacking.{AsksOf, IsBundleBetween, are_steps};
 ghost use Rattle.uu_request.specs.Unpacking as spec;
 
 use crate::fault::{RequestFault, WrongBundle};
@@ -105,7 +105,7 @@ pub(crate) fn answer(
     at: &Moment,
     text: &[u8],
 ) -> Result<Request, RequestFault>
-    requires { Shows at.now.local (local_second settings.now.zone at.now.second) }
+    requires { IsDateTimeAt at.now.local (local_second settings.now.zone at.now.second) }
     ensures { UnlessMemory (AsksOf packing.system settings.now.name text.now (spec.answer settings.now at.now onward.now packing)) result }
 {
     match said(alloc, &packing.system, &settings.name, text) {
@@ -123,7 +123,7 @@ fn answered(
     at: &Moment,
     bundle: Bundle,
 ) -> Result<Request, RequestFault>
-    requires { Shows at.now.local (local_second settings.now.zone at.now.second) }
+    requires { IsDateTimeAt at.now.local (local_second settings.now.zone at.now.second) }
     ensures { AnswersUnlessMemory result (Ok (spec.answer settings.now at.now onward.now packing bundle)) }
 {
     let asked = bundle.grade;
@@ -160,7 +160,7 @@ pub(crate) fn unpack(
     at: &Moment,
     text: &[u8],
 ) -> Result<Request, RequestFault>
-    requires { Shows at.now.local (local_second settings.now.zone at.now.second) }
+    requires { IsDateTimeAt at.now.local (local_second settings.now.zone at.now.second) }
     ensures { UnlessMemory (AsksOf sender settings.now.name text.now (spec.unpack settings.now at.now sender onward.now)) result }
 {
     match said(alloc, &sender, &settings.name, text) {
@@ -171,7 +171,7 @@ pub(crate) fn unpack(
 
 // The bundle from one site to the other.
 fn said(alloc: Global, from: &SiteName, to: &SiteName, text: &[u8]) -> Result<Bundle, RequestFault>
-    ensures { UnlessMemory (IsSaid from.now to.now text.now) result }
+    ensures { UnlessMemory (IsBundleBetween from.now to.now text.now) result }
 {
     match read_bundle(alloc, text) {
         Ok(bundle) => match wrong_sites(from, to, &bundle) {
@@ -205,7 +205,7 @@ fn unpacked(
     at: &Moment,
     bundle: Bundle,
 ) -> Result<Request, RequestFault>
-    requires { Shows at.now.local (local_second settings.now.zone at.now.second) }
+    requires { IsDateTimeAt at.now.local (local_second settings.now.zone at.now.second) }
     ensures { AnswersUnlessMemory result (Ok (spec.unpack settings.now at.now sender onward.now bundle)) }
 {
     let Bundle {
@@ -270,7 +270,7 @@ fn offers_of(
     at: &Moment,
     jobs: Vec<Parcel>,
 ) -> Result<Vec<Offered>, RequestFault>
-    requires { Shows at.now.local (local_second settings.now.zone at.now.second) }
+    requires { IsDateTimeAt at.now.local (local_second settings.now.zone at.now.second) }
     ensures offers { IfOk result (λ offers. offers.items ≡ map (spec.offered settings.now at.now sender.now onward.now) jobs.items) }
     ensures memory { IfErr result (λ fault. fault ≡ RequestFault.Memory) }
 {
@@ -310,7 +310,7 @@ fn offered(
     at: &Moment,
     parcel: Parcel,
 ) -> Result<Offered, RequestFault>
-    requires { Shows at.now.local (local_second settings.now.zone at.now.second) }
+    requires { IsDateTimeAt at.now.local (local_second settings.now.zone at.now.second) }
     ensures offered { IfOk result (λ offered. offered ≡ spec.offered settings.now at.now sender.now onward.now parcel) }
     ensures memory { IfErr result (λ fault. fault ≡ RequestFault.Memory) }
 {
@@ -330,7 +330,7 @@ fn job_of(
     user: Word,
     parcel: Parcel,
 ) -> Result<NewJob, RequestFault>
-    requires { Shows at.now.local (local_second settings.now.zone at.now.second) }
+    requires { IsDateTimeAt at.now.local (local_second settings.now.zone at.now.second) }
     ensures job { IfOk result (λ job. job ≡ unwrap_or (spec.passed_on settings.now at.now user parcel (spec.next_hop onward.now parcel.kind)) (spec.own_job settings.now at.now user parcel)) }
     ensures memory { IfErr result (λ fault. fault ≡ RequestFault.Memory) }
 {
@@ -379,7 +379,7 @@ fn passed_on(
     user: &Word,
     parcel: &Parcel,
 ) -> Result<Option<NewJob>, RequestFault>
-    requires { Shows at.now.local (local_second settings.now.zone at.now.second) }
+    requires { IsDateTimeAt at.now.local (local_second settings.now.zone at.now.second) }
     ensures message { IfOk result (λ message. message ≡ spec.passed_on settings.now at.now user.now parcel.now (spec.next_hop onward.now parcel.now.kind)) }
     ensures memory { IfErr result (λ fault. fault ≡ RequestFault.Memory) }
 {
@@ -398,7 +398,7 @@ fn message_to(
     user: &Word,
     parcel: &Parcel,
 ) -> Result<Option<NewJob>, RequestFault>
-    requires clock { Shows at.now.local (local_second settings.now.zone at.now.second) }
+    requires clock { IsDateTimeAt at.now.local (local_second settings.now.zone at.now.second) }
     requires rests { IsTrue (spec.have_rests parcel.now.kind) }
     ensures message { IfOk result (λ message. message ≡ spec.passed_on settings.now at.now user.now parcel.now (Some system.now)) }
     ensures memory { IfErr result (λ fault. fault ≡ RequestFault.Memory) }

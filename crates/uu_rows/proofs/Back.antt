@@ -20,7 +20,7 @@ use Rattle.uu_tables.specs.declared.rows.TakenColumns.{TakenColumns}
 use Rattle.uu_schema.specs.Cells.{system_cells, line_cells, range_cells, job_cells, entry_cells, wait_cells, link_cells, taken_cells}
 use Rattle.uu_rows.specs.Values.{number_cell}
 use Rattle.uu_core.specs.WellFormed.{HasWords}
-use Rattle.uu_rows.specs.Readable.{IsHead, size_cells}
+use Rattle.uu_rows.specs.Readable.{IsTypedHead, size_cells}
 use Rattle.uu_rows.proofs.Words.{words_back, words_returned}
 
 -- ---- generic
@@ -149,5 +149,5 @@ with_kind (Send source target) h words = refl
 with_kind (Request source target) h words = refl
 with_kind (Execute command arguments) h words = ap (λ args. record h { kind = Execute command args }) (words_returned arguments words.1)
 
-pub head_returns : (h : JobHead) → IsHead h → head_back (job_cells h) ≡ h
+pub head_returns : (h : JobHead) → IsTypedHead h → head_back (job_cells h) ≡ h
 head_returns h good = with_kind h.kind h good.kind

@@ -25,11 +25,11 @@ compared a b Less h = omega (arith, ints, h)
 compared a b Equal h = ap pos h
 compared a b Greater h = omega (arith, ints, h)
 
-pub int_cmp-nat : (a b : ℕ) → int_cmp (pos a) (pos b) ≡ nat_cmp a b
-int_cmp-nat a b = sym (int_cmp_is (pos a) (pos b) (nat_cmp a b) (compared a b (nat_cmp a b) (ranked a b (nat_cmp a b) refl)))
+pub int_cmp_nat : (a b : ℕ) → int_cmp (pos a) (pos b) ≡ nat_cmp a b
+int_cmp_nat a b = sym (int_cmp_is (pos a) (pos b) (nat_cmp a b) (compared a b (nat_cmp a b) (ranked a b (nat_cmp a b) refl)))
 
 pub below_is : (a b : ℕ) → a < b → nat_cmp a b ≡ Less
 below_is a b h = sym (nat_cmp_is a b Less h)
 
-pub int_eq-nat : (a b : ℕ) → int_eq (pos a) (pos b) ≡ (a == b)
-int_eq-nat a b = ap is_eq (int_cmp-nat a b) ∙ unsigned_tied a b
+pub int_eq_nat : (a b : ℕ) → int_eq (pos a) (pos b) ≡ (a == b)
+int_eq_nat a b = ap is_eq (int_cmp_nat a b) ∙ unsigned_tied a b

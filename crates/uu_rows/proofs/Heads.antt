@@ -6,14 +6,14 @@ use Rattle.uu_core.specs.declared.job.Kind.{Kind}
 use Rattle.uu_core.specs.declared.job.Kind.TheVariants.{Send, Request, Execute}
 use Rattle.uu_core.specs.State.{State, Job, IsJob, IsKind, IsWellFormed, head_of}
 use Rattle.uu_core.specs.WellFormed.{HasWords}
-use Rattle.uu_rows.specs.Readable.{IsHead}
+use Rattle.uu_rows.specs.Readable.{IsTypedHead}
 
 kind_words : (kind : Kind) → IsKind kind → HasWords kind
 kind_words (Send source target) good = good
 kind_words (Request source target) good = good
 kind_words (Execute command arguments) good = (good.0, good.1)
 
-head_good : (s : State) (j : Job) → IsWellFormed s → IsJob j → j.number < s.next → IsHead (head_of j)
+head_good : (s : State) (j : Job) → IsWellFormed s → IsJob j → j.number < s.next → IsTypedHead (head_of j)
 head_good s j good job below = record {
   number = (let most = good.next in omega (arith, below, most));
   system = job.system;
@@ -23,9 +23,9 @@ head_good s j good job below = record {
   size = (let few = job.bytes in omega (arith, few));
 }
 
-heads_of : (s : State) → IsWellFormed s → (jobs : List Job) → AllByRecursion IsJob jobs → AllByRecursion (λ (j : Job). j.number < s.next) jobs → AllByRecursion IsHead (map head_of jobs)
+heads_of : (s : State) → IsWellFormed s → (jobs : List Job) → AllByRecursion IsJob jobs → AllByRecursion (λ (j : Job). j.number < s.next) jobs → AllByRecursion IsTypedHead (map head_of jobs)
 heads_of s good [] each below = tt
 heads_of s good (j ∷ jobs) each below = (head_good s j good each.0 below.0, heads_of s good jobs each.1 below.1)
 
-pub heads_good : (s : State) → IsWellFormed s → AllByRecursion IsHead (map head_of s.jobs)
+pub heads_good : (s : State) → IsWellFormed s → AllByRecursion IsTypedHead (map head_of s.jobs)
 heads_good s good = heads_of s good s.jobs (recursion_from_All IsJob s.jobs good.jobs) (recursion_from_All (λ (j : Job). j.number < s.next) s.jobs good.below_next)

@@ -8,7 +8,7 @@ use Rattle.sqlite_value.specs.declared.keys.Key.{Key}
 use Rattle.uu_schema.proofs.Terms.{equal_terms}
 use Rattle.uu_schema.proofs.Asks.{Means, ordered, up}
 use Rattle.uu_schema.specs.Queries.{IsQuery}
-use Rattle.uu_schema.specs.Schema.{site, second_site, site_of, systems, lines, ranges, success_waits, links, taken}
+use Rattle.uu_schema.specs.Schema.{spool_schema, second_schema, schema_of, systems, lines, ranges, success_waits, links, taken}
 use Rattle.uu_schema.specs.declared.version.Version.{Version}
 use Rattle.uu_schema.specs.declared.version.Version.TheVariants.{First, Second, Third}
 use Rattle.uu_rows.specs.Texts.{systems_text, lines_text, ranges_text, waits_text, links_text, taken_text}
@@ -42,19 +42,19 @@ range_names = codes "system" ∷ codes "place" ∷ codes "low" ∷ codes "high" 
 
 -- ---- every row of a table
 
-pub systems_means : (v : Version) → Means (site_of v) systems_text (ordered systems.tree [] (at_places (1 ∷ 2 ∷ 3 ∷ 4 ∷ 5 ∷ 6 ∷ 7 ∷ [])) (by_places (1 ∷ []))) system_names
+pub systems_means : (v : Version) → Means (schema_of v) systems_text (ordered systems.tree [] (at_places (1 ∷ 2 ∷ 3 ∷ 4 ∷ 5 ∷ 6 ∷ 7 ∷ [])) (by_places (1 ∷ []))) system_names
 unfolding understood everything
 systems_means First = record { command = refl; plain = (refl, refl); listing = refl }
 systems_means Second = record { command = refl; plain = (refl, refl); listing = refl }
 systems_means Third = record { command = refl; plain = (refl, refl); listing = refl }
 
-pub lines_means : (v : Version) → Means (site_of v) lines_text (ordered lines.tree [] (at_places (1 ∷ 2 ∷ 3 ∷ 4 ∷ [])) (by_places (1 ∷ 2 ∷ []))) line_names
+pub lines_means : (v : Version) → Means (schema_of v) lines_text (ordered lines.tree [] (at_places (1 ∷ 2 ∷ 3 ∷ 4 ∷ [])) (by_places (1 ∷ 2 ∷ []))) line_names
 unfolding understood everything
 lines_means First = record { command = refl; plain = (refl, refl); listing = refl }
 lines_means Second = record { command = refl; plain = (refl, refl); listing = refl }
 lines_means Third = record { command = refl; plain = (refl, refl); listing = refl }
 
-pub ranges_means : (v : Version) → Means (site_of v) ranges_text (ordered ranges.tree [] (at_places (1 ∷ 2 ∷ 3 ∷ 4 ∷ [])) (by_places (1 ∷ 2 ∷ 3 ∷ []))) range_names
+pub ranges_means : (v : Version) → Means (schema_of v) ranges_text (ordered ranges.tree [] (at_places (1 ∷ 2 ∷ 3 ∷ 4 ∷ [])) (by_places (1 ∷ 2 ∷ 3 ∷ []))) range_names
 unfolding understood everything
 ranges_means First = record { command = refl; plain = (refl, refl); listing = refl }
 ranges_means Second = record { command = refl; plain = (refl, refl); listing = refl }
@@ -63,26 +63,26 @@ ranges_means Third = record { command = refl; plain = (refl, refl); listing = re
 abbrev pub wait_names : List (List ℕ)
 wait_names = codes "system" ∷ codes "wait" ∷ []
 
-pub waits_means : Means site waits_text (ordered success_waits.tree [] (at_places (1 ∷ 2 ∷ [])) (by_places (1 ∷ []))) wait_names
+pub waits_means : Means spool_schema waits_text (ordered success_waits.tree [] (at_places (1 ∷ 2 ∷ [])) (by_places (1 ∷ []))) wait_names
 unfolding understood everything
 waits_means = record { command = refl; plain = (refl, refl); listing = refl }
 
 -- the same in version 2
-pub second_waits_means : Means second_site waits_text (ordered success_waits.tree [] (at_places (1 ∷ 2 ∷ [])) (by_places (1 ∷ []))) wait_names
+pub second_waits_means : Means second_schema waits_text (ordered success_waits.tree [] (at_places (1 ∷ 2 ∷ [])) (by_places (1 ∷ []))) wait_names
 unfolding understood everything
 second_waits_means = record { command = refl; plain = (refl, refl); listing = refl }
 
 abbrev pub link_names : List (List ℕ)
 link_names = codes "system" ∷ codes "below" ∷ []
 
-pub links_means : Means site links_text (ordered links.tree [] (at_places (1 ∷ 2 ∷ [])) (by_places (1 ∷ []))) link_names
+pub links_means : Means spool_schema links_text (ordered links.tree [] (at_places (1 ∷ 2 ∷ [])) (by_places (1 ∷ []))) link_names
 unfolding understood everything
 links_means = record { command = refl; plain = (refl, refl); listing = refl }
 
 abbrev pub taken_names : List (List ℕ)
 taken_names = codes "system" ∷ codes "number" ∷ codes "mark" ∷ codes "job" ∷ []
 
-pub taken_means : Means site taken_text (ordered taken.tree [] (at_places (1 ∷ 2 ∷ 3 ∷ 4 ∷ [])) (by_places (1 ∷ 2 ∷ []))) taken_names
+pub taken_means : Means spool_schema taken_text (ordered taken.tree [] (at_places (1 ∷ 2 ∷ 3 ∷ 4 ∷ [])) (by_places (1 ∷ 2 ∷ []))) taken_names
 unfolding understood everything
 taken_means = record { command = refl; plain = (refl, refl); listing = refl }
 

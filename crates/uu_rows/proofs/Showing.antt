@@ -7,14 +7,14 @@ use Rattle.sqlite.specs.Order.{Row}
 use Rattle.sqlite.specs.State.{State, HasCleanDisk, Shown, FailsToQuery, Survives, CommitsShowing}
 use Rattle.uu_schema.specs.Queries.{IsQuery}
 use Rattle.uu_schema.proofs.Questions.{same_read, told}
-use Rattle.uu_schema.specs.Schema.{site}
-use Rattle.uu_rows.specs.Shows.{Shows}
+use Rattle.uu_schema.specs.Schema.{spool_schema}
+use Rattle.uu_rows.specs.Shows.{ShowsRows}
 
 pub shows : (text : List ℕ) (params : Row) (old new : State) → IsQuery text → (r : Result (Vec Row Global) Error)
     → (HasCleanDisk new → IfOk r (λ rows. Shown text params old new rows.items)) → (HasCleanDisk new → IfErr r (FailsToQuery text params old new))
-    → Survives old new (CommitsShowing text params old) → Shows text params old new r
+    → Survives old new (CommitsShowing text params old) → ShowsRows text params old new r
 shows text params old new is r ok err survives = record {
-  told = told text is params old new site r ok err survives;
+  told = told text is params old new spool_schema r ok err survives;
   same = λ clean. go r (ok clean);
   rows = ok;
   refused = err;

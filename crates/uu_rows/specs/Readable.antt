@@ -22,7 +22,7 @@ use Rattle.uu_tables.specs.declared.rows.TakenColumns.{TakenColumns}
 abbrev pub IsSmall : ℕ → Type 0
 IsSmall n = n < 2 ^ 32
 
-pub record IsSystem (s : SystemColumns) : Type 0 where
+pub record IsTypedSystem (s : SystemColumns) : Type 0 where
   pub name : IsTrue (is_site_name s.name)
   pub max_retries : IsSmall s.max_retries
   pub last : IsSmall s.call.last
@@ -31,19 +31,19 @@ pub record IsSystem (s : SystemColumns) : Type 0 where
   pub outcome : IsSmall s.call.outcome
   pub why : IfSome s.call.why (λ why. IsTrue (is_word why))
 
-pub record IsLine (l : LineColumns) : Type 0 where
+pub record IsTypedLine (l : LineColumns) : Type 0 where
   pub system : IsTrue (is_site_name l.system)
   pub place : IsSmall l.place
   pub grade : l.grade < grade_count
   pub retry : IfSome l.retry IsSmall
 
-pub record IsRange (r : RangeColumns) : Type 0 where
+pub record IsTypedRange (r : RangeColumns) : Type 0 where
   pub system : IsTrue (is_site_name r.system)
   pub place : IsSmall r.place
   pub low : IsSmall r.low
   pub high : IsSmall r.high
 
-pub record IsHead (h : JobHead) : Type 0 where
+pub record IsTypedHead (h : JobHead) : Type 0 where
   pub number : IsSmall h.number
   pub system : IsTrue (is_site_name h.system)
   pub grade : h.grade < grade_count
@@ -51,23 +51,23 @@ pub record IsHead (h : JobHead) : Type 0 where
   pub kind : HasWords h.kind
   pub size : IsSmall h.size
 
-pub record IsSize (p : PieceSize) : Type 0 where
+pub record IsTypedSize (p : PieceSize) : Type 0 where
   pub job : IsSmall p.job
   pub place : IsSmall p.place
   pub length : IsSmall p.length
 
-pub record IsEntry (e : EntryColumns) : Type 0 where
+pub record IsTypedEntry (e : EntryColumns) : Type 0 where
   pub host : IsTrue (is_site_name e.host)
 
-pub record IsWait (w : WaitColumns) : Type 0 where
+pub record IsTypedWait (w : WaitColumns) : Type 0 where
   pub system : IsTrue (is_site_name w.system)
   pub wait : IsSmall w.wait
 
-pub record IsLink (l : LinkColumns) : Type 0 where
+pub record IsTypedLink (l : LinkColumns) : Type 0 where
   pub system : IsTrue (is_site_name l.system)
   pub below : IsSmall l.below
 
-pub record IsTaken (t : TakenColumns) : Type 0 where
+pub record IsTypedTaken (t : TakenColumns) : Type 0 where
   pub system : IsTrue (is_site_name t.system)
   pub number : IsSmall t.taken.number
   pub mark : t.taken.mark < marks_end

@@ -5,7 +5,7 @@ ghost use Rattle.sqlite.specs.Order.{column};
 ghost use Rattle.uu_schema.specs.Cells.{system_cells, line_cells, range_cells, job_cells, entry_cells, wait_cells, link_cells, taken_cells, kind_number, first_word, second_word};
 ghost use Rattle.uu_rows.specs.Values.{NotIf, number_cell};
 ghost use Rattle.uu_core.specs.WellFormed.{HasWords};
-ghost use Rattle.uu_rows.specs.Readable.{IsSystem, IsLine, IsRange, IsHead, IsSize, IsEntry, IsWait, IsLink, IsTaken, size_cells};
+ghost use Rattle.uu_rows.specs.Readable.{IsTypedSystem, IsTypedLine, IsTypedRange, IsTypedHead, IsTypedSize, IsTypedEntry, IsTypedWait, IsTypedLink, IsTypedTaken, size_cells};
 
 use crate::fault::RowFault;
 use crate::reading::TypedRow;
@@ -38,7 +38,7 @@ pub fn has_width(row: &Row, width: usize) -> Result<(), RowFault>
 impl TypedRow for SystemColumns {
     ghost cells = { system_cells };
 
-    ghost IsReadable = { IsSystem };
+    ghost IsReadable = { IsTypedSystem };
 
     fn read(alloc: Global, row: &Row) -> Result<SystemColumns, RowFault> {
         has_width(row, 7)?;
@@ -59,7 +59,7 @@ impl TypedRow for SystemColumns {
 impl TypedRow for LineColumns {
     ghost cells = { line_cells };
 
-    ghost IsReadable = { IsLine };
+    ghost IsReadable = { IsTypedLine };
 
     fn read(alloc: Global, row: &Row) -> Result<LineColumns, RowFault> {
         has_width(row, 4)?;
@@ -75,7 +75,7 @@ impl TypedRow for LineColumns {
 impl TypedRow for RangeColumns {
     ghost cells = { range_cells };
 
-    ghost IsReadable = { IsRange };
+    ghost IsReadable = { IsTypedRange };
 
     fn read(alloc: Global, row: &Row) -> Result<RangeColumns, RowFault> {
         has_width(row, 4)?;
@@ -91,7 +91,7 @@ impl TypedRow for RangeColumns {
 impl TypedRow for PieceSize {
     ghost cells = { size_cells };
 
-    ghost IsReadable = { IsSize };
+    ghost IsReadable = { IsTypedSize };
 
     fn read(_alloc: Global, row: &Row) -> Result<PieceSize, RowFault> {
         has_width(row, 3)?;
@@ -106,7 +106,7 @@ impl TypedRow for PieceSize {
 impl TypedRow for EntryColumns {
     ghost cells = { entry_cells };
 
-    ghost IsReadable = { IsEntry };
+    ghost IsReadable = { IsTypedEntry };
 
     fn read(alloc: Global, row: &Row) -> Result<EntryColumns, RowFault> {
         has_width(row, 2)?;
@@ -120,7 +120,7 @@ impl TypedRow for EntryColumns {
 impl TypedRow for WaitColumns {
     ghost cells = { wait_cells };
 
-    ghost IsReadable = { IsWait };
+    ghost IsReadable = { IsTypedWait };
 
     fn read(alloc: Global, row: &Row) -> Result<WaitColumns, RowFault> {
         has_width(row, 2)?;
@@ -134,7 +134,7 @@ impl TypedRow for WaitColumns {
 impl TypedRow for LinkColumns {
     ghost cells = { link_cells };
 
-    ghost IsReadable = { IsLink };
+    ghost IsReadable = { IsTypedLink };
 
     fn read(alloc: Global, row: &Row) -> Result<LinkColumns, RowFault> {
         has_width(row, 2)?;
@@ -148,7 +148,7 @@ impl TypedRow for LinkColumns {
 impl TypedRow for TakenColumns {
     ghost cells = { taken_cells };
 
-    ghost IsReadable = { IsTaken };
+    ghost IsReadable = { IsTypedTaken };
 
     fn read(alloc: Global, row: &Row) -> Result<TakenColumns, RowFault> {
         has_width(row, 4)?;
@@ -193,7 +193,7 @@ fn kind_in(alloc: Global, row: &Row) -> Result<Kind, RowFault>
 impl TypedRow for JobHead {
     ghost cells = { job_cells };
 
-    ghost IsReadable = { IsHead };
+    ghost IsReadable = { IsTypedHead };
 
     fn read(alloc: Global, row: &Row) -> Result<JobHead, RowFault> {
         has_width(row, 9)?;

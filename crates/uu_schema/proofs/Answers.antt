@@ -22,10 +22,10 @@ use Rattle.sqlite_keyed.proofs.SortLemmas.{sorted_is-sort_by, sort_by-map}
 use Rattle.uu_schema.proofs.Asks.{Means, ordered}
 use Rattle.uu_schema.proofs.Rows.{matched}
 
-module _ (site : Schema) (sql : List ℕ) (q : Query) (names : List (List ℕ)) (params : Row) (old new : State) (means : Means site sql q names) where
+module _ (schema : Schema) (sql : List ℕ) (q : Query) (names : List (List ℕ)) (params : Row) (old new : State) (means : Means schema sql q names) where
   -- what a query by text answers, as its meaning
-  pub answer_of : old.now.schema ≡ site → (rows : List Row) → Shown sql params old new rows → IsAnswer q (overlay old.now.trees []) params rows
-  answer_of has rows h = let it = reads_as sql params old new site has _ means.command means.plain means.listing rows h in it.answer Null
+  pub answer_of : old.now.schema ≡ schema → (rows : List Row) → Shown sql params old new rows → IsAnswer q (overlay old.now.trees []) params rows
+  answer_of has rows h = let it = reads_as sql params old new schema has _ means.command means.plain means.listing rows h in it.answer Null
 
 module _ (t : ℕ) (tests project : List Term) (order : List (Term × Key)) (db : Trees) (params : Row) (rows : List Row) (bare : overlay db [] t ≡ db t)
     (a : IsAnswer (ordered t tests project order) (overlay db []) params rows) where

@@ -20,7 +20,7 @@ abbrev pub ordered : ℕ → List Term → List Term → List (Term × Key) → 
 ordered tree filter project order = record (over tree filter project) { order = order }
 
 -- the text is this query on the schema's own tables, with no RETURNING and no clock
-pub record Means (site : Schema) (sql : List ℕ) (q : Query) (names : List (List ℕ)) : Type 0 where
-  pub command : command_of (understood site sql) ≡ Select (record { lets = []; body = q }) names
-  pub plain : IsPlain (understood site sql)
-  pub listing : reads_listing site sql ≡ false
+pub record Means (schema : Schema) (sql : List ℕ) (q : Query) (names : List (List ℕ)) : Type 0 where
+  pub command : command_of (understood schema sql) ≡ Select (record { lets = []; body = q }) names
+  pub plain : IsPlain (understood schema sql)
+  pub listing : reads_listing schema sql ≡ false

@@ -6,7 +6,7 @@ use Rattle.sqlite.specs.Order.{Row}
 use Rattle.sqlite.specs.Tree.{Trees}
 use Rattle.uu_schema.specs.Keyed.{Keyed}
 use Rattle.uu_tables.specs.Tables.{Tables}
-use Rattle.uu_schema.specs.Schema.{first_site, spool, systems, lines, ranges, jobs, pieces, entries, success_waits, links, taken}
+use Rattle.uu_schema.specs.Schema.{first_schema, spool, systems, lines, ranges, jobs, pieces, entries, success_waits, links, taken}
 use Rattle.uu_schema.specs.declared.version.Version.{Version}
 use Rattle.uu_schema.specs.declared.version.Version.TheVariants.{First, Second}
 use Rattle.uu_schema.specs.Made.{AllMade, IsMade, FromFirst, FromSecond, spool_row, spool_row_of}
@@ -84,7 +84,7 @@ record HoldSecond (v : Version) (db : Trees) (t : Tables) : Type 0 where
   taken : t.taken ≡ []
 
 -- with an empty table of the success waits those of version 1 do
-waits_added : (old new : Trees) → IsMade first_site success_waits.tree old new → (t : Tables) → HoldsAs First old t → HoldSecond First new t
+waits_added : (old new : Trees) → IsMade first_schema success_waits.tree old new → (t : Tables) → HoldsAs First old t → HoldSecond First new t
 waits_added old new made t held =
     let same = made.others in
     record {

@@ -10,7 +10,7 @@ use Rattle.sqlite_tied.specs.Compute.{everything}
 use Rattle.sqlite.specs.Listing.{understood}
 use Rattle.sqlite.proofs.Callers.{IsPlain, command_of, statement_of}
 use Rattle.uu_schema.proofs.Terms.{over}
-use Rattle.uu_schema.specs.Schema.{first_site, second_site, with_links, links, taken, success_waits, site, no_schema, with_spool, with_systems, with_lines, with_ranges, with_jobs, with_pieces, spool, systems, lines, ranges, jobs, pieces, entries}
+use Rattle.uu_schema.specs.Schema.{first_schema, second_schema, schema_with_links, links, taken, success_waits, spool_schema, no_schema, schema_with_spool, schema_with_systems, schema_with_lines, schema_with_ranges, schema_with_jobs, schema_with_pieces, spool, systems, lines, ranges, jobs, pieces, entries}
 use Rattle.uu_schema.proofs.Texts.{create_links, create_taken, create_success_waits, raise_version, create_spool, create_systems, create_lines, create_ranges, create_jobs, create_pieces, create_entries, insert_spool}
 
 pub create_spool_is : (command_of (understood no_schema create_spool) ≡ CreateTable) × (statement_of create_spool (understood no_schema create_spool) ≡ create_spool) × (table_defined_by create_spool ≡ Ok spool)
@@ -21,127 +21,127 @@ pub create_spool_plain : IsPlain (understood no_schema create_spool)
 unfolding understood everything
 create_spool_plain = (refl, refl)
 
-pub created_spool : created no_schema spool ≡ with_spool
+pub created_spool : created no_schema spool ≡ schema_with_spool
 created_spool = refl
 
-pub create_systems_is : (command_of (understood with_spool create_systems) ≡ CreateTable) × (statement_of create_systems (understood with_spool create_systems) ≡ create_systems) × (table_defined_by create_systems ≡ Ok (record systems { tree = 0 }))
+pub create_systems_is : (command_of (understood schema_with_spool create_systems) ≡ CreateTable) × (statement_of create_systems (understood schema_with_spool create_systems) ≡ create_systems) × (table_defined_by create_systems ≡ Ok (record systems { tree = 0 }))
 unfolding understood everything
 create_systems_is = (refl, refl, refl)
 
-pub create_systems_plain : IsPlain (understood with_spool create_systems)
+pub create_systems_plain : IsPlain (understood schema_with_spool create_systems)
 unfolding understood everything
 create_systems_plain = (refl, refl)
 
-pub created_systems : created with_spool (record systems { tree = 0 }) ≡ with_systems
+pub created_systems : created schema_with_spool (record systems { tree = 0 }) ≡ schema_with_systems
 created_systems = refl
 
-pub create_lines_is : (command_of (understood with_systems create_lines) ≡ CreateTable) × (statement_of create_lines (understood with_systems create_lines) ≡ create_lines) × (table_defined_by create_lines ≡ Ok (record lines { tree = 0 }))
+pub create_lines_is : (command_of (understood schema_with_systems create_lines) ≡ CreateTable) × (statement_of create_lines (understood schema_with_systems create_lines) ≡ create_lines) × (table_defined_by create_lines ≡ Ok (record lines { tree = 0 }))
 unfolding understood everything
 create_lines_is = (refl, refl, refl)
 
-pub create_lines_plain : IsPlain (understood with_systems create_lines)
+pub create_lines_plain : IsPlain (understood schema_with_systems create_lines)
 unfolding understood everything
 create_lines_plain = (refl, refl)
 
-pub created_lines : created with_systems (record lines { tree = 0 }) ≡ with_lines
+pub created_lines : created schema_with_systems (record lines { tree = 0 }) ≡ schema_with_lines
 created_lines = refl
 
-pub create_ranges_is : (command_of (understood with_lines create_ranges) ≡ CreateTable) × (statement_of create_ranges (understood with_lines create_ranges) ≡ create_ranges) × (table_defined_by create_ranges ≡ Ok (record ranges { tree = 0 }))
+pub create_ranges_is : (command_of (understood schema_with_lines create_ranges) ≡ CreateTable) × (statement_of create_ranges (understood schema_with_lines create_ranges) ≡ create_ranges) × (table_defined_by create_ranges ≡ Ok (record ranges { tree = 0 }))
 unfolding understood everything
 create_ranges_is = (refl, refl, refl)
 
-pub create_ranges_plain : IsPlain (understood with_lines create_ranges)
+pub create_ranges_plain : IsPlain (understood schema_with_lines create_ranges)
 unfolding understood everything
 create_ranges_plain = (refl, refl)
 
-pub created_ranges : created with_lines (record ranges { tree = 0 }) ≡ with_ranges
+pub created_ranges : created schema_with_lines (record ranges { tree = 0 }) ≡ schema_with_ranges
 created_ranges = refl
 
-pub create_jobs_is : (command_of (understood with_ranges create_jobs) ≡ CreateTable) × (statement_of create_jobs (understood with_ranges create_jobs) ≡ create_jobs) × (table_defined_by create_jobs ≡ Ok (record jobs { tree = 0 }))
+pub create_jobs_is : (command_of (understood schema_with_ranges create_jobs) ≡ CreateTable) × (statement_of create_jobs (understood schema_with_ranges create_jobs) ≡ create_jobs) × (table_defined_by create_jobs ≡ Ok (record jobs { tree = 0 }))
 unfolding understood everything
 create_jobs_is = (refl, refl, refl)
 
-pub create_jobs_plain : IsPlain (understood with_ranges create_jobs)
+pub create_jobs_plain : IsPlain (understood schema_with_ranges create_jobs)
 unfolding understood everything
 create_jobs_plain = (refl, refl)
 
-pub created_jobs : created with_ranges (record jobs { tree = 0 }) ≡ with_jobs
+pub created_jobs : created schema_with_ranges (record jobs { tree = 0 }) ≡ schema_with_jobs
 created_jobs = refl
 
-pub create_pieces_is : (command_of (understood with_jobs create_pieces) ≡ CreateTable) × (statement_of create_pieces (understood with_jobs create_pieces) ≡ create_pieces) × (table_defined_by create_pieces ≡ Ok (record pieces { tree = 0 }))
+pub create_pieces_is : (command_of (understood schema_with_jobs create_pieces) ≡ CreateTable) × (statement_of create_pieces (understood schema_with_jobs create_pieces) ≡ create_pieces) × (table_defined_by create_pieces ≡ Ok (record pieces { tree = 0 }))
 unfolding understood everything
 create_pieces_is = (refl, refl, refl)
 
-pub create_pieces_plain : IsPlain (understood with_jobs create_pieces)
+pub create_pieces_plain : IsPlain (understood schema_with_jobs create_pieces)
 unfolding understood everything
 create_pieces_plain = (refl, refl)
 
-pub created_pieces : created with_jobs (record pieces { tree = 0 }) ≡ with_pieces
+pub created_pieces : created schema_with_jobs (record pieces { tree = 0 }) ≡ schema_with_pieces
 created_pieces = refl
 
-pub create_entries_is : (command_of (understood with_pieces create_entries) ≡ CreateTable) × (statement_of create_entries (understood with_pieces create_entries) ≡ create_entries) × (table_defined_by create_entries ≡ Ok (record entries { tree = 0 }))
+pub create_entries_is : (command_of (understood schema_with_pieces create_entries) ≡ CreateTable) × (statement_of create_entries (understood schema_with_pieces create_entries) ≡ create_entries) × (table_defined_by create_entries ≡ Ok (record entries { tree = 0 }))
 unfolding understood everything
 create_entries_is = (refl, refl, refl)
 
-pub create_entries_plain : IsPlain (understood with_pieces create_entries)
+pub create_entries_plain : IsPlain (understood schema_with_pieces create_entries)
 unfolding understood everything
 create_entries_plain = (refl, refl)
 
-pub created_entries : created with_pieces (record entries { tree = 0 }) ≡ first_site
+pub created_entries : created schema_with_pieces (record entries { tree = 0 }) ≡ first_schema
 created_entries = refl
 
 abbrev pub spool_terms : List Term
 spool_terms = lit (Int (pos 1)) ∷ lit Null ∷ lit (Int (pos 3)) ∷ lit (Int (pos 1)) ∷ []
 
-pub insert_spool_is : command_of (understood site insert_spool) ≡ Insert 0 (Values spool_terms 4)
+pub insert_spool_is : command_of (understood spool_schema insert_spool) ≡ Insert 0 (Values spool_terms 4)
 unfolding understood everything
 insert_spool_is = refl
 
-pub insert_spool_plain : IsPlain (understood site insert_spool)
+pub insert_spool_plain : IsPlain (understood spool_schema insert_spool)
 unfolding understood everything
 insert_spool_plain = (refl, refl)
 
-pub create_success_waits_is : (command_of (understood first_site create_success_waits) ≡ CreateTable) × (statement_of create_success_waits (understood first_site create_success_waits) ≡ create_success_waits)
+pub create_success_waits_is : (command_of (understood first_schema create_success_waits) ≡ CreateTable) × (statement_of create_success_waits (understood first_schema create_success_waits) ≡ create_success_waits)
     × (table_defined_by create_success_waits ≡ Ok (record success_waits { tree = 0 }))
 unfolding understood everything
 create_success_waits_is = (refl, refl, refl)
 
-pub create_success_waits_plain : IsPlain (understood first_site create_success_waits)
+pub create_success_waits_plain : IsPlain (understood first_schema create_success_waits)
 unfolding understood everything
 create_success_waits_plain = (refl, refl)
 
-pub created_success_waits : created first_site (record success_waits { tree = 0 }) ≡ second_site
+pub created_success_waits : created first_schema (record success_waits { tree = 0 }) ≡ second_schema
 created_success_waits = refl
 
-pub create_links_is : (command_of (understood second_site create_links) ≡ CreateTable) × (statement_of create_links (understood second_site create_links) ≡ create_links) × (table_defined_by create_links ≡ Ok (record links { tree = 0 }))
+pub create_links_is : (command_of (understood second_schema create_links) ≡ CreateTable) × (statement_of create_links (understood second_schema create_links) ≡ create_links) × (table_defined_by create_links ≡ Ok (record links { tree = 0 }))
 unfolding understood everything
 create_links_is = (refl, refl, refl)
 
-pub create_links_plain : IsPlain (understood second_site create_links)
+pub create_links_plain : IsPlain (understood second_schema create_links)
 unfolding understood everything
 create_links_plain = (refl, refl)
 
-pub created_links : created second_site (record links { tree = 0 }) ≡ with_links
+pub created_links : created second_schema (record links { tree = 0 }) ≡ schema_with_links
 created_links = refl
 
-pub create_taken_is : (command_of (understood with_links create_taken) ≡ CreateTable) × (statement_of create_taken (understood with_links create_taken) ≡ create_taken) × (table_defined_by create_taken ≡ Ok (record taken { tree = 0 }))
+pub create_taken_is : (command_of (understood schema_with_links create_taken) ≡ CreateTable) × (statement_of create_taken (understood schema_with_links create_taken) ≡ create_taken) × (table_defined_by create_taken ≡ Ok (record taken { tree = 0 }))
 unfolding understood everything
 create_taken_is = (refl, refl, refl)
 
-pub create_taken_plain : IsPlain (understood with_links create_taken)
+pub create_taken_plain : IsPlain (understood schema_with_links create_taken)
 unfolding understood everything
 create_taken_plain = (refl, refl)
 
-pub created_taken : created with_links (record taken { tree = 0 }) ≡ site
+pub created_taken : created schema_with_links (record taken { tree = 0 }) ≡ spool_schema
 created_taken = refl
 
 abbrev pub raise_terms : List Term
 raise_terms = col 1 0 ∷ col 1 0 ∷ lit Null ∷ lit (Int (pos 3)) ∷ col 1 3 ∷ []
 
-pub raise_version_is : command_of (understood site raise_version) ≡ Update 0 (record { lets = []; body = over 0 [] raise_terms })
+pub raise_version_is : command_of (understood spool_schema raise_version) ≡ Update 0 (record { lets = []; body = over 0 [] raise_terms })
 unfolding understood everything
 raise_version_is = refl
 
-pub raise_version_plain : IsPlain (understood site raise_version)
+pub raise_version_plain : IsPlain (understood spool_schema raise_version)
 unfolding understood everything
 raise_version_plain = (refl, refl)

@@ -19,7 +19,7 @@ use Rattle.sqlite.specs.Listing.{understood, reads_listing, listing_schema, if_s
 use Rattle.sqlite.specs.declared.error.Error.{Error}
 use Rattle.sqlite.specs.State.{State, HasCleanDisk, Survives, Shown, FailsToQuery, CommitsShowing, IsNotRun, IsUnchanged, IsRolledBack}
 use Rattle.sqlite.proofs.StateLemmas.{survives_then, survives_weaker}
-use Rattle.uu_schema.specs.Steps.{Stands, Rests, Asked, Told}
+use Rattle.uu_schema.specs.Steps.{Stands, Rests, Asked, OpenIfAnswered}
 use Rattle.uu_schema.specs.Spares.{Spares}
 use Rattle.uu_schema.specs.Queries.{selects, asks, IsQuery}
 
@@ -128,17 +128,17 @@ module _ (text : List ℕ) (is : IsQuery text) (params : Row) (old new : State) 
     survives = commits_nothing survives;
   }
 
-  module _ (site : Schema) where
-    asked : (HasCleanDisk new → IsUnchanged old new ⊎ IsRolledBack old new) → Survives old new (CommitsShowing text params old) → Asked site old new
+  module _ (expected : Schema) where
+    asked : (HasCleanDisk new → IsUnchanged old new ⊎ IsRolledBack old new) → Survives old new (CommitsShowing text params old) → Asked expected old new
     asked left survives = record {
       same = λ clean ready is_open.
           let it = rests (left clean) ready.rests is_open in
-          (record { rests = it.0; stands = subst (Stands site) (sym it.1) ready.stands }, it.1);
+          (record { rests = it.0; stands = subst (Stands expected) (sym it.1) ready.stands }, it.1);
       survives = survives_weaker old new (λ _. ⊥) _ (λ _ db none. absurd none) (commits_nothing survives);
     }
 
     pub told : (r : Result (Vec Row Global) Error) → (HasCleanDisk new → IfOk r (λ rows. Shown text params old new rows.items)) → (HasCleanDisk new → IfErr r (FailsToQuery text params old new))
-        → Survives old new (CommitsShowing text params old) → Told site old new r
+        → Survives old new (CommitsShowing text params old) → OpenIfAnswered expected old new r
     told (Ok rows) ok err survives = record {
       asked = asked (λ clean. inl (same_read rows.items (ok clean))) survives;
       is_open = λ clean ready. (same_read rows.items (ok clean)).0.is_open;

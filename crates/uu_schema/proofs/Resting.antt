@@ -5,12 +5,12 @@ use Rattle.sqlite.specs.Effect.{Database}
 use Rattle.sqlite.specs.State as db
 use Rattle.uu_schema.specs.Steps.{Rests, Ready}
 use Rattle.uu_core.specs.State.{State}
-use Rattle.uu_schema.specs.Schema.{site}
+use Rattle.uu_schema.specs.Schema.{spool_schema}
 use Rattle.uu_schema.specs.declared.fault.StoreFault.{StoreFault}
 use Rattle.uu_schema.specs.declared.fault.StoreFault.TheVariants.{Memory}
 use Rattle.uu_schema.specs.Encoded.{Encodes}
 
-pub ready : (s : State) (a : db.State) → Rests a → Encodes a.now s → Ready site a
+pub ready : (s : State) (a : db.State) → Rests a → Encodes a.now s → Ready spool_schema a
 ready s a rests enc = record { rests = rests; stands = enc.stands }
 
 pub moved : (s : State) (a b : Database) → b ≡ a → Encodes a s → Encodes b s

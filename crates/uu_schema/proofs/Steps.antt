@@ -15,7 +15,7 @@ use Rattle.sqlite.proofs.StateLemmas.{survives_then}
 use Rattle.sqlite.proofs.Callers.{survives_begin}
 use Rattle.sqlite_catalog.specs.Listing.{IsSound}
 use Rattle.sqlite.proofs.InsideLemmas.{inside_keeps, keeps_then}
-use Rattle.uu_schema.specs.Steps.{Stands, Ready, Asked, Told, Went, Outcome, Both, Undid, Ends, Whole}
+use Rattle.uu_schema.specs.Steps.{Stands, Ready, Asked, OpenIfAnswered, Went, Outcome, Both, Undid, Ends, Whole}
 
 still : (a b c : State) → Survives a b (λ _. ⊥) → Survives b c (λ _. ⊥) → Survives a c (λ _. ⊥)
 still a b c p q = survives_then a b c (λ _. ⊥) (λ _. ⊥) (λ _. ⊥) (λ _ db none. none) (λ _ db none. none) p q
@@ -125,33 +125,33 @@ module _ (from to : Schema) {S : Type 0} (g : Ghosts S) (A : Trees → Trees →
 
 -- ---- questions, one after the other
 
-module _ (site : Schema) {T E : Type 0} (a b : State) (r : Result T E) where
+module _ (expected : Schema) {T E : Type 0} (a b : State) (r : Result T E) where
   opened : (r : Result T E) (P : Type 0) → IsOk r → OnOk r P → P
   opened (Ok x) P ok h = h
   opened (Err e) P ok h = absurd (cc)
 
   -- after an answer the connection shows what it showed
-  pub told_same : IsOk r → Told site a b r → HasCleanDisk b → Ready site a → Ready site b × (b.now ≡ a.now)
+  pub told_same : IsOk r → OpenIfAnswered expected a b r → HasCleanDisk b → Ready expected a → Ready expected b × (b.now ≡ a.now)
   told_same ok told clean ready = told.asked.same clean ready (opened r (IsTrue b.is_open) ok (told.is_open clean ready))
 
-  pub told_then : (c : State) → IsOk r → Told site a b r → Asked site b c → Asked site a c
+  pub told_then : (c : State) → IsOk r → OpenIfAnswered expected a b r → Asked expected b c → Asked expected a c
   told_then c ok p q = record {
     same = λ clean ready is_open.
         let one = told_same ok p (omega (arith, q.survives.clean)) ready in
         let two = q.same clean one.0 is_open in (two.0, two.1 ∙ one.1);
-    survives = survives_then a b c (λ _. ¬ Ready site a) (λ _. ¬ Ready site b) (λ _. ¬ Ready site a) (λ clean db never. never)
+    survives = survives_then a b c (λ _. ¬ Ready expected a) (λ _. ¬ Ready expected b) (λ _. ¬ Ready expected a) (λ clean db never. never)
         (λ clean db never ready. never (told_same ok p (omega (arith, q.survives.clean)) ready).0) p.asked.survives q.survives;
   }
 
-  pub told_told : {U F : Type 0} (c : State) (s : Result U F) → IsOk r → Told site a b r → Told site b c s → Told site a c s
+  pub told_told : {U F : Type 0} (c : State) (s : Result U F) → IsOk r → OpenIfAnswered expected a b r → OpenIfAnswered expected b c s → OpenIfAnswered expected a c s
   told_told c s ok p q = record { asked = told_then c ok p q.asked; is_open = λ clean ready. q.is_open clean (told_same ok p (omega (arith, q.asked.survives.clean)) ready).0 }
 
   -- the answer is read, or not
-  pub told_also : {U F : Type 0} (s : Result U F) → IsOk r → Told site a b r → Told site a b s
+  pub told_also : {U F : Type 0} (s : Result U F) → IsOk r → OpenIfAnswered expected a b r → OpenIfAnswered expected a b s
   told_also (Ok y) ok told = record { asked = told.asked; is_open = λ clean ready. opened r (IsTrue b.is_open) ok (told.is_open clean ready) }
   told_also (Err e) ok told = record { asked = told.asked; is_open = λ clean ready. tt }
 
-  pub told_not : {U F : Type 0} (s : Result U F) → IsErr s → Told site a b r → Told site a b s
+  pub told_not : {U F : Type 0} (s : Result U F) → IsErr s → OpenIfAnswered expected a b r → OpenIfAnswered expected a b s
   told_not (Ok y) fails told = absurd (cc)
   told_not (Err e) fails told = record { asked = told.asked; is_open = λ clean ready. tt }
 

@@ -9,7 +9,7 @@ use Rattle.uu_core.specs.State.{State, IsWellFormed}
 use Rattle.uu_tables.specs.Tables.{tables_of}
 use Rattle.uu_schema.specs.declared.version.Version.{Version}
 use Rattle.uu_schema.specs.declared.version.Version.TheVariants.{Third}
-use Rattle.uu_schema.specs.Schema.{site, site_of}
+use Rattle.uu_schema.specs.Schema.{spool_schema, schema_of}
 use Rattle.uu_schema.specs.Held.{HoldsAs}
 
 -- the rows of a version's tables are those of the state, in any order
@@ -23,7 +23,7 @@ HoldsState = HoldsStateAs Third
 
 -- the database has the tables of a version, and their rows are those of the state
 pub record EncodesAs (v : Version) (database : Database) (s : State) : Type 0 where
-  pub stands : Stands (site_of v) database
+  pub stands : Stands (schema_of v) database
   pub holds : HoldsStateAs v database.trees s
 
 -- the same of the version that is written
@@ -42,8 +42,8 @@ pub record Migrated (v : Version) (old new : Trees) : Type 0 where
 
 -- a stop leaves only what encodes the state
 abbrev pub Leaves : db.State → State → Type 0
-Leaves now s = (trees : Trees) → now.may_leave trees → IsSound site trees × HoldsState trees s
+Leaves now s = (trees : Trees) → now.may_leave trees → IsSound spool_schema trees × HoldsState trees s
 
 -- a stop leaves only what encodes one of the two states
 abbrev pub LeavesEither : db.State → State → State → Type 0
-LeavesEither now s t = (trees : Trees) → now.may_leave trees → IsSound site trees × (HoldsState trees s ⊎ HoldsState trees t)
+LeavesEither now s t = (trees : Trees) → now.may_leave trees → IsSound spool_schema trees × (HoldsState trees s ⊎ HoldsState trees t)

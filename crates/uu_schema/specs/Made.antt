@@ -7,28 +7,28 @@ use Rattle.sqlite.specs.Schema.{Schema}
 use Rattle.sqlite.specs.Table.{Table}
 use Rattle.sqlite.specs.Tree.{Trees}
 use Rattle.uu_schema.specs.Steps.{Both}
-use Rattle.uu_schema.specs.Schema.{site, no_schema, with_spool, with_systems, with_lines, with_ranges, with_jobs, with_pieces, first_site, second_site, with_links, spool, systems, lines, ranges, jobs, pieces, entries, success_waits, links, taken}
+use Rattle.uu_schema.specs.Schema.{spool_schema, no_schema, schema_with_spool, schema_with_systems, schema_with_lines, schema_with_ranges, schema_with_jobs, schema_with_pieces, first_schema, second_schema, schema_with_links, spool, systems, lines, ranges, jobs, pieces, entries, success_waits, links, taken}
 use Rattle.uu_schema.specs.declared.version.Version.{Version}
 use Rattle.uu_schema.specs.declared.version.Version.TheVariants.{First, Second, Third}
 
 -- the tables except those at these trees have the rows that they had
-abbrev pub Keeps : List ℕ → Trees → Trees → Type 0
-Keeps written old new = AllByRecursion (λ (t : Table). list_any (λ n. n == t.tree) written ≡ false → new t.tree ≡ old t.tree) site.tables
+abbrev pub KeepsOtherTables : List ℕ → Trees → Trees → Type 0
+KeepsOtherTables written old new = AllByRecursion (λ (t : Table). list_any (λ n. n == t.tree) written ≡ false → new t.tree ≡ old t.tree) spool_schema.tables
 
 -- the number of a version
-abbrev pub number_of : Version → ℕ
-number_of First = 1
-number_of Second = 2
-number_of Third = 3
+abbrev pub version_number : Version → ℕ
+version_number First = 1
+version_number Second = 2
+version_number Third = 3
 
 -- the version of the tables that are made and written
 abbrev pub version : ℕ
-version = number_of Third
+version = version_number Third
 
 -- The row of `spool` as the port keeps it: the rowid, then the columns. An INTEGER PRIMARY KEY is
 -- kept as Null.
 abbrev pub spool_row_of : Version → ℕ → Row
-spool_row_of v next = Int (pos 1) ∷ Null ∷ Int (pos (number_of v)) ∷ Int (pos next) ∷ []
+spool_row_of v next = Int (pos 1) ∷ Null ∷ Int (pos (version_number v)) ∷ Int (pos next) ∷ []
 
 abbrev pub spool_row : ℕ → Row
 spool_row = spool_row_of Third
@@ -41,51 +41,51 @@ pub record IsMade (from : Schema) (tree : ℕ) (old new : Trees) : Type 0 where
 -- the one row of `spool` is there, and nothing else differs
 pub record IsBegun (old new : Trees) : Type 0 where
   pub row : old spool.tree ≡ [] → new spool.tree ≡ spool_row 1 ∷ []
-  pub others : Keeps (spool.tree ∷ []) old new
+  pub others : KeepsOtherTables (spool.tree ∷ []) old new
 
 -- the one row of `spool` has the written version, and nothing else differs
 pub record HasRaised (next : ℕ) (old new : Trees) : Type 0 where
   pub row : new spool.tree ≡ spool_row next ∷ []
-  pub others : Keeps (spool.tree ∷ []) old new
+  pub others : KeepsOtherTables (spool.tree ∷ []) old new
 
 abbrev pub IsRaised : Trees → Trees → Type 0
 IsRaised old new = (v : Version) → (next : ℕ) → old spool.tree ≡ spool_row_of v next ∷ [] → HasRaised next old new
 
 -- the tables from one of them on, and the row of `spool`
 abbrev pub FromTaken : Trees → Trees → Type 0
-FromTaken = Both (IsMade with_links taken.tree) IsBegun
+FromTaken = Both (IsMade schema_with_links taken.tree) IsBegun
 
 abbrev pub FromLinks : Trees → Trees → Type 0
-FromLinks = Both (IsMade second_site links.tree) FromTaken
+FromLinks = Both (IsMade second_schema links.tree) FromTaken
 
 abbrev pub FromWaits : Trees → Trees → Type 0
-FromWaits = Both (IsMade first_site success_waits.tree) FromLinks
+FromWaits = Both (IsMade first_schema success_waits.tree) FromLinks
 
 abbrev pub FromEntries : Trees → Trees → Type 0
-FromEntries = Both (IsMade with_pieces entries.tree) FromWaits
+FromEntries = Both (IsMade schema_with_pieces entries.tree) FromWaits
 
 abbrev pub FromPieces : Trees → Trees → Type 0
-FromPieces = Both (IsMade with_jobs pieces.tree) FromEntries
+FromPieces = Both (IsMade schema_with_jobs pieces.tree) FromEntries
 
 abbrev pub FromJobs : Trees → Trees → Type 0
-FromJobs = Both (IsMade with_ranges jobs.tree) FromPieces
+FromJobs = Both (IsMade schema_with_ranges jobs.tree) FromPieces
 
 abbrev pub FromRanges : Trees → Trees → Type 0
-FromRanges = Both (IsMade with_lines ranges.tree) FromJobs
+FromRanges = Both (IsMade schema_with_lines ranges.tree) FromJobs
 
 abbrev pub FromLines : Trees → Trees → Type 0
-FromLines = Both (IsMade with_systems lines.tree) FromRanges
+FromLines = Both (IsMade schema_with_systems lines.tree) FromRanges
 
 abbrev pub FromSystems : Trees → Trees → Type 0
-FromSystems = Both (IsMade with_spool systems.tree) FromLines
+FromSystems = Both (IsMade schema_with_spool systems.tree) FromLines
 
 abbrev pub AllMade : Trees → Trees → Type 0
 AllMade = Both (IsMade no_schema spool.tree) FromSystems
 
 -- the tables that version 2 lacks, and then the version
 abbrev pub FromSecond : Trees → Trees → Type 0
-FromSecond = Both (IsMade second_site links.tree) (Both (IsMade with_links taken.tree) IsRaised)
+FromSecond = Both (IsMade second_schema links.tree) (Both (IsMade schema_with_links taken.tree) IsRaised)
 
 -- those that version 1 lacks
 abbrev pub FromFirst : Trees → Trees → Type 0
-FromFirst = Both (IsMade first_site success_waits.tree) FromSecond
+FromFirst = Both (IsMade first_schema success_waits.tree) FromSecond

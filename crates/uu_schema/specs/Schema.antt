@@ -79,39 +79,39 @@ taken = by_key (codes "taken") 16 (must (codes "system") Text ∷ must (codes "n
 abbrev pub no_schema : Schema
 no_schema = record { tables = []; indexes = []; views = [] }
 
-abbrev pub with_spool : Schema
-with_spool = record { tables = spool ∷ []; indexes = []; views = [] }
+abbrev pub schema_with_spool : Schema
+schema_with_spool = record { tables = spool ∷ []; indexes = []; views = [] }
 
-abbrev pub with_systems : Schema
-with_systems = record { tables = spool ∷ systems ∷ []; indexes = automatic systems 0 (1 ∷ []) 2 ∷ []; views = [] }
+abbrev pub schema_with_systems : Schema
+schema_with_systems = record { tables = spool ∷ systems ∷ []; indexes = automatic systems 0 (1 ∷ []) 2 ∷ []; views = [] }
 
-abbrev pub with_lines : Schema
-with_lines = record { tables = spool ∷ systems ∷ lines ∷ []; indexes = automatic systems 0 (1 ∷ []) 2 ∷ automatic lines 0 (1 ∷ 2 ∷ []) 4 ∷ []; views = [] }
+abbrev pub schema_with_lines : Schema
+schema_with_lines = record { tables = spool ∷ systems ∷ lines ∷ []; indexes = automatic systems 0 (1 ∷ []) 2 ∷ automatic lines 0 (1 ∷ 2 ∷ []) 4 ∷ []; views = [] }
 
-abbrev pub with_ranges : Schema
-with_ranges = record {
+abbrev pub schema_with_ranges : Schema
+schema_with_ranges = record {
   tables = spool ∷ systems ∷ lines ∷ ranges ∷ [];
   indexes = automatic systems 0 (1 ∷ []) 2 ∷ automatic lines 0 (1 ∷ 2 ∷ []) 4 ∷ automatic ranges 0 (1 ∷ 2 ∷ 3 ∷ []) 6 ∷ [];
   views = [];
 }
 
-abbrev pub with_jobs : Schema
-with_jobs = record {
+abbrev pub schema_with_jobs : Schema
+schema_with_jobs = record {
   tables = spool ∷ systems ∷ lines ∷ ranges ∷ jobs ∷ [];
   indexes = automatic systems 0 (1 ∷ []) 2 ∷ automatic lines 0 (1 ∷ 2 ∷ []) 4 ∷ automatic ranges 0 (1 ∷ 2 ∷ 3 ∷ []) 6 ∷ [];
   views = [];
 }
 
-abbrev pub with_pieces : Schema
-with_pieces = record {
+abbrev pub schema_with_pieces : Schema
+schema_with_pieces = record {
   tables = spool ∷ systems ∷ lines ∷ ranges ∷ jobs ∷ pieces ∷ [];
   indexes = automatic systems 0 (1 ∷ []) 2 ∷ automatic lines 0 (1 ∷ 2 ∷ []) 4 ∷ automatic ranges 0 (1 ∷ 2 ∷ 3 ∷ []) 6 ∷ automatic pieces 0 (1 ∷ 2 ∷ []) 9 ∷ [];
   views = [];
 }
 
 -- version 1
-abbrev pub first_site : Schema
-first_site = record {
+abbrev pub first_schema : Schema
+first_schema = record {
   tables = spool ∷ systems ∷ lines ∷ ranges ∷ jobs ∷ pieces ∷ entries ∷ [];
   indexes =
       automatic systems 0 (1 ∷ []) 2 ∷ automatic lines 0 (1 ∷ 2 ∷ []) 4 ∷ automatic ranges 0 (1 ∷ 2 ∷ 3 ∷ []) 6 ∷ automatic pieces 0 (1 ∷ 2 ∷ []) 9
@@ -120,8 +120,8 @@ first_site = record {
 }
 
 -- version 2
-abbrev pub second_site : Schema
-second_site = record {
+abbrev pub second_schema : Schema
+second_schema = record {
   tables = spool ∷ systems ∷ lines ∷ ranges ∷ jobs ∷ pieces ∷ entries ∷ success_waits ∷ [];
   indexes =
       automatic systems 0 (1 ∷ []) 2 ∷ automatic lines 0 (1 ∷ 2 ∷ []) 4 ∷ automatic ranges 0 (1 ∷ 2 ∷ 3 ∷ []) 6 ∷ automatic pieces 0 (1 ∷ 2 ∷ []) 9
@@ -129,8 +129,8 @@ second_site = record {
   views = [];
 }
 
-abbrev pub with_links : Schema
-with_links = record {
+abbrev pub schema_with_links : Schema
+schema_with_links = record {
   tables = spool ∷ systems ∷ lines ∷ ranges ∷ jobs ∷ pieces ∷ entries ∷ success_waits ∷ links ∷ [];
   indexes =
       automatic systems 0 (1 ∷ []) 2 ∷ automatic lines 0 (1 ∷ 2 ∷ []) 4 ∷ automatic ranges 0 (1 ∷ 2 ∷ 3 ∷ []) 6 ∷ automatic pieces 0 (1 ∷ 2 ∷ []) 9
@@ -139,8 +139,8 @@ with_links = record {
 }
 
 -- the whole, version 3
-abbrev pub site : Schema
-site = record {
+abbrev pub spool_schema : Schema
+spool_schema = record {
   tables = spool ∷ systems ∷ lines ∷ ranges ∷ jobs ∷ pieces ∷ entries ∷ success_waits ∷ links ∷ taken ∷ [];
   indexes =
       automatic systems 0 (1 ∷ []) 2 ∷ automatic lines 0 (1 ∷ 2 ∷ []) 4 ∷ automatic ranges 0 (1 ∷ 2 ∷ 3 ∷ []) 6 ∷ automatic pieces 0 (1 ∷ 2 ∷ []) 9
@@ -149,7 +149,7 @@ site = record {
 }
 
 -- that of a version
-abbrev pub site_of : Version → Schema
-site_of First = first_site
-site_of Second = second_site
-site_of Third = site
+abbrev pub schema_of : Version → Schema
+schema_of First = first_schema
+schema_of Second = second_schema
+schema_of Third = spool_schema

@@ -8,7 +8,7 @@ use Rattle.sqlite.specs.State.{HasCleanDisk}
 use Rattle.sqlite.specs.declared.error.Error.{Error}
 use Rattle.sqlite.specs.declared.transaction.Transaction.{Transaction}
 use Rattle.uu_schema.specs.Steps.{IsIdle, CommitsNothing, Outcome, Whole, Undid}
-use Rattle.uu_schema.specs.Schema.{site}
+use Rattle.uu_schema.specs.Schema.{spool_schema}
 use Rattle.uu_schema.specs.declared.fault.Halt.{Halt}
 use Rattle.uu_schema.specs.declared.fault.Halt.TheVariants.{Before}
 
@@ -20,7 +20,7 @@ pub record TakesStep {S T E : Type 0} (g : Ghosts S) (from to : Schema) (Step : 
 
 -- the same if the tables are those of the spool, and stay
 abbrev pub Writes : {S T E : Type 0} → Ghosts S → (Trees → Trees → Type 0) → Transaction S → Transaction S → Result T E → Type 0
-Writes g = TakesStep g site site
+Writes g = TakesStep g spool_schema spool_schema
 
 -- One transaction, whole or not at all, on any database. If it stopped before its commit, nothing
 -- of it can be kept, and the connection shows again what was committed before. This isn't said of a

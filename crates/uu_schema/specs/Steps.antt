@@ -31,9 +31,9 @@ UnchangedIf g Found old new = HasCleanDisk (state g new) → Found → IsTrue (s
 -- ---- steps inside a transaction
 
 -- the database has this schema, and its trees list it and obey it
-pub record Stands (site : Schema) (db : Database) : Type 0 where
-  pub schema : db.schema ≡ site
-  pub sound : IsSound site db.trees
+pub record Stands (expected : Schema) (db : Database) : Type 0 where
+  pub schema : db.schema ≡ expected
+  pub sound : IsSound expected db.trees
 
 -- the transaction goes on, and its trees took this step
 pub record Went (to : Schema) (Step : Trees → Trees → Type 0) (old new : State) : Type 0 where
@@ -86,19 +86,19 @@ pub record Whole {T E : Type 0} (from to : Schema) (Step : Trees → Trees → T
   pub idle : new.in_transaction ≡ false
 
 -- a connection at rest on a database of this schema
-pub record Ready (site : Schema) (s : State) : Type 0 where
+pub record Ready (expected : Schema) (s : State) : Type 0 where
   pub rests : Rests s
-  pub stands : Stands site s.now
+  pub stands : Stands expected s.now
 
 -- a question: it commits nothing, and while the connection answers it shows what it showed
-pub record Asked (site : Schema) (old new : State) : Type 0 where
-  pub same : HasCleanDisk new → Ready site old → IsTrue new.is_open → Ready site new × (new.now ≡ old.now)
-  pub survives : Survives old new (λ _. ¬ Ready site old)
+pub record Asked (expected : Schema) (old new : State) : Type 0 where
+  pub same : HasCleanDisk new → Ready expected old → IsTrue new.is_open → Ready expected new × (new.now ≡ old.now)
+  pub survives : Survives old new (λ _. ¬ Ready expected old)
 
 -- a question that was answered leaves the connection open
-pub record Told {T E : Type 0} (site : Schema) (old new : State) (r : Result T E) : Type 0 where
-  pub asked : Asked site old new
-  pub is_open : HasCleanDisk new → Ready site old → OnOk r (IsTrue new.is_open)
+pub record OpenIfAnswered {T E : Type 0} (expected : Schema) (old new : State) (r : Result T E) : Type 0 where
+  pub asked : Asked expected old new
+  pub is_open : HasCleanDisk new → Ready expected old → OnOk r (IsTrue new.is_open)
 
 -- a store that was found unclean stays so
 abbrev pub StaysUnclean : State → State → Type 0

@@ -16,7 +16,7 @@ use Rattle.uu_settings.specs.declared.fault.SettingsFault.TheVariants.{NotToml, 
 use Rattle.uu_settings.specs.declared.settings.Settings.{Settings}
 
 -- what is set for a site
-pub record Site : Type 0 where
+pub record SettingsView : Type 0 where
   pub name : List ℕ
   -- the rule of its clock
   pub zone : TzText
@@ -100,8 +100,8 @@ clock minutes document = clock_as minutes (get_member (key_name key.Zone) docume
 -- ---- settings
 
 -- what a document sets; other keys are ignored
-abbrev pub site_in : Members → Result Site SettingsFault
-site_in document =
+abbrev pub settings_in : Members → Result SettingsView SettingsFault
+settings_in document =
     and_then (required key.Name name_in document) (λ name.
     and_then (offset document) (λ minutes.
     and_then (clock minutes document) (λ zone.
@@ -110,14 +110,14 @@ site_in document =
     Ok (record { name = name; zone = zone; spool = spool; admins = admins }))))))
 
 -- what a text sets
-abbrev pub site_of : List ℕ → Result Site SettingsFault
-site_of text = and_then (ok_or (parse_document text) NotToml) site_in
+abbrev pub settings_of : List ℕ → Result SettingsView SettingsFault
+settings_of text = and_then (ok_or (parse_document text) NotToml) settings_in
 
 -- what the settings say
-abbrev pub said : Settings → Site
-said settings = record {
+abbrev pub settings_view : Settings → SettingsView
+settings_view settings = record {
   name = settings.name;
-  zone = clocks.said settings.zone;
+  zone = clocks.zone_view settings.zone;
   spool = string_bytes settings.spool;
   admins = settings.admins.items;
 }
@@ -130,4 +130,4 @@ AnswersAs seen (Err fault) expected = Err fault ≡ expected
 
 -- the answer to a text is what it sets, or why it sets nothing
 abbrev pub IsAnswerTo : List ℕ → Result Settings SettingsFault → Type 0
-IsAnswerTo text answer = AnswersAs said answer (site_of text)
+IsAnswerTo text answer = AnswersAs settings_view answer (settings_of text)

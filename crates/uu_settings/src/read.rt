@@ -1,6 +1,6 @@
 //! Reading the settings of a site from a text.
 ghost use Rattle.toml.specs.View.{table_view};
-ghost use Rattle.uu_settings.specs.Settings.{AnswersAs, IsAnswerTo, said};
+ghost use Rattle.uu_settings.specs.Settings.{AnswersAs, IsAnswerTo, settings_view};
 ghost use Rattle.uu_settings.specs.Settings as spec;
 
 use crate::fault::SettingsFault;
@@ -33,7 +33,7 @@ impl Settings {
 
 #[tactic(auto, using(crate::proofs::ReadingLemmas::answers_then))]
 fn settings_in(alloc: Global, document: &Table) -> Result<Settings, SettingsFault>
-    ensures { AnswersAs said result (spec.site_in (table_view document.now)) }
+    ensures { AnswersAs settings_view result (spec.settings_in (table_view document.now)) }
 {
     let name = name_of(alloc, document)?;
     let minutes = offset_of(document)?;

@@ -2,7 +2,7 @@
 ghost use Rattle.std.specs.Prelude.{◌≡◌, [], option_map, ok_or, string_bytes};
 ghost use Rattle.toml.specs.Data.{get_member};
 ghost use Rattle.toml.specs.View.{view, table_view, items_view};
-ghost use Rattle.uu_times.specs.Zone.{always, said};
+ghost use Rattle.uu_times.specs.Zone.{always, zone_view};
 ghost use Rattle.uu_settings.specs.Fault.{key_name, value_fault};
 ghost use Rattle.uu_settings.specs.Settings.{AnswersAs};
 ghost use Rattle.uu_settings.specs.Offsets.{IsOffset};
@@ -29,7 +29,7 @@ pub(crate) fn name_of(alloc: Global, document: &Table) -> Result<SiteName, Setti
 
 /// The clock from the minutes that it is ahead of UTC, if they are given.
 pub(crate) fn offset_of(document: &Table) -> Result<Option<Zone>, SettingsFault>
-    ensures { AnswersAs (λ minutes. option_map said minutes) result (spec.offset (table_view document.now)) }
+    ensures { AnswersAs (λ minutes. option_map zone_view minutes) result (spec.offset (table_view document.now)) }
 {
     match value_of(document, Key::Offset) {
         Some(value) => match offset_in(value) {
@@ -42,7 +42,7 @@ pub(crate) fn offset_of(document: &Table) -> Result<Option<Zone>, SettingsFault>
 
 /// The clock from its minutes or from a rule, or UTC if neither is given.
 pub(crate) fn zone_of(document: &Table, minutes: Option<Zone>) -> Result<Zone, SettingsFault>
-    ensures { AnswersAs said result (spec.clock (option_map said minutes) (table_view document.now)) }
+    ensures { AnswersAs zone_view result (spec.clock (option_map zone_view minutes) (table_view document.now)) }
 {
     match (minutes, value_of(document, Key::Zone)) {
         (None, None) => Ok(fixed(0)),
@@ -94,7 +94,7 @@ fn name_in(alloc: Global, value: &Value) -> Result<SiteName, SettingsFault>
 
 // The value as minutes.
 fn offset_in(value: &Value) -> Result<Zone, SettingsFault>
-    ensures { AnswersAs said result (ok_or (spec.offset_in (view value.now)) (SettingsFault.BadValue Key.Offset)) }
+    ensures { AnswersAs zone_view result (ok_or (spec.offset_in (view value.now)) (SettingsFault.BadValue Key.Offset)) }
 {
     match value.as_integer() {
         Some(minutes) if -MOST_MINUTES <= minutes && minutes <= MOST_MINUTES => Ok(fixed(
@@ -107,14 +107,14 @@ fn offset_in(value: &Value) -> Result<Zone, SettingsFault>
 // The clock that is always so many minutes ahead of UTC.
 fn fixed(minutes: i32) -> Zone
     requires { IsOffset minutes }
-    ensures { said result ≡ always minutes }
+    ensures { zone_view result ≡ always minutes }
 {
     Zone::fixed(minutes).unwrap()
 }
 
 // The value as a rule.
 fn zone_in(value: &Value) -> Result<Zone, SettingsFault>
-    ensures { AnswersAs said result (ok_or (spec.zone_in (view value.now)) (SettingsFault.BadValue Key.Zone)) }
+    ensures { AnswersAs zone_view result (ok_or (spec.zone_in (view value.now)) (SettingsFault.BadValue Key.Zone)) }
 {
     let Some(text) = value.as_str() else {
         return Err(SettingsFault::BadValue(Key::Zone));

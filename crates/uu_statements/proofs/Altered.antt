@@ -39,7 +39,7 @@ use Rattle.uu_tables.specs.declared.rows.CallColumns.{CallColumns}
 use Rattle.uu_tables.specs.declared.rows.SystemColumns.{SystemColumns}
 use Rattle.uu_tables.specs.Tables.{Tables}
 use Rattle.uu_tables.specs.Changes.{alter, has_name, has_number}
-use Rattle.uu_schema.specs.Schema.{site, spool, systems, jobs}
+use Rattle.uu_schema.specs.Schema.{spool_schema, spool, systems, jobs}
 use Rattle.uu_schema.specs.Keyed.{columns}
 use Rattle.uu_schema.specs.Made.{spool_row}
 use Rattle.uu_schema.specs.Cells.{system_cells, job_cells, kind_number, first_word, second_word}
@@ -68,15 +68,15 @@ compared a b Less h = omega (arith, ints, h)
 compared a b Equal h = ap pos h
 compared a b Greater h = omega (arith, ints, h)
 
-int_eq-nat : (a b : ℕ) → int_eq (pos a) (pos b) ≡ (a == b)
-int_eq-nat a b = ap is_eq (sym (int_cmp_is (pos a) (pos b) (nat_cmp a b) (compared a b (nat_cmp a b) (ranked a b (nat_cmp a b) refl)))) ∙ unsigned_tied a b
+int_eq_nat : (a b : ℕ) → int_eq (pos a) (pos b) ≡ (a == b)
+int_eq_nat a b = ap is_eq (sym (int_cmp_is (pos a) (pos b) (nat_cmp a b) (compared a b (nat_cmp a b) (ranked a b (nat_cmp a b) refl)))) ∙ unsigned_tied a b
 
 pub number_test : (n m : ℕ) → is_eq (value_cmp (Int (pos m)) (Int (pos n))) ≡ (m == n)
-number_test n m = ap is_eq (value_cmp-Int (pos m) (pos n)) ∙ int_eq-nat m n
+number_test n m = ap is_eq (value_cmp-Int (pos m) (pos n)) ∙ int_eq_nat m n
 
 -- ---- systems
 
-no_system_follows : (olds : List Row) (new : Row) → works site Enforced 0 1 olds (new ∷ []) ≡ []
+no_system_follows : (olds : List Row) (new : Row) → works spool_schema Enforced 0 1 olds (new ∷ []) ≡ []
 unfolding same_name joined
 no_system_follows olds new = refl
 
@@ -90,8 +90,8 @@ at_system : (x : SystemColumns) (was : Row) → columns system_places was ≡ sy
     × (column was 6 ≡ Int (pos x.call.outcome)) × (column was 7 ≡ or_null Text x.call.why)
 at_system x was shows = (ap (λ cs. column cs 0) shows, ap (λ cs. column cs 1) shows, ap (λ cs. column cs 2) shows, ap (λ cs. column cs 3) shows, ap (λ cs. column cs 4) shows, ap (λ cs. column cs 5) shows, ap (λ cs. column cs 6) shows)
 
-pub retries_set : (old new : State) (name : List ℕ) (max_retries : ℕ) (count : ℕ) → Stands site old.now → Executes set_retries (Text name ∷ Int (pos max_retries) ∷ []) old new (Ok count)
-    → Stands site new.now × ((t : Tables) → Holds old.now.trees t → Holds new.now.trees (record t { systems = alter (has_name name) (λ row. record row { max_retries = max_retries }) t.systems }))
+pub retries_set : (old new : State) (name : List ℕ) (max_retries : ℕ) (count : ℕ) → Stands spool_schema old.now → Executes set_retries (Text name ∷ Int (pos max_retries) ∷ []) old new (Ok count)
+    → Stands spool_schema new.now × ((t : Tables) → Holds old.now.trees t → Holds new.now.trees (record t { systems = alter (has_name name) (λ row. record row { max_retries = max_retries }) t.systems }))
 retries_set old new name max_retries count stands h =
     let params : Row = Text name ∷ Int (pos max_retries) ∷ [] in
     let f : SystemColumns → SystemColumns = λ row. record row { max_retries = max_retries } in
@@ -106,8 +106,8 @@ retries_set old new name max_retries count stands h =
 abbrev pub call_cells : CallColumns → Row
 call_cells c = Int (pos c.last) ∷ Int (pos c.failures) ∷ Int (pos c.wait) ∷ Int (pos c.outcome) ∷ or_null Text c.why ∷ []
 
-pub call_set : (old new : State) (name : List ℕ) (call : CallColumns) (count : ℕ) → Stands site old.now → Executes set_calls (Text name ∷ call_cells call) old new (Ok count)
-    → Stands site new.now × ((t : Tables) → Holds old.now.trees t → Holds new.now.trees (record t { systems = alter (has_name name) (λ row. record row { call = call }) t.systems }))
+pub call_set : (old new : State) (name : List ℕ) (call : CallColumns) (count : ℕ) → Stands spool_schema old.now → Executes set_calls (Text name ∷ call_cells call) old new (Ok count)
+    → Stands spool_schema new.now × ((t : Tables) → Holds old.now.trees t → Holds new.now.trees (record t { systems = alter (has_name name) (λ row. record row { call = call }) t.systems }))
 call_set old new name call count stands h =
     let params : Row = Text name ∷ call_cells call in
     let f : SystemColumns → SystemColumns = λ row. record row { call = call } in
@@ -120,7 +120,7 @@ call_set old new name call count stands h =
 
 -- ---- jobs
 
-no_job_follows : (olds : List Row) (new : Row) → works site Enforced 0 7 olds (new ∷ []) ≡ []
+no_job_follows : (olds : List Row) (new : Row) → works spool_schema Enforced 0 7 olds (new ∷ []) ≡ []
 unfolding same_name joined
 no_job_follows olds new = refl
 
@@ -136,8 +136,8 @@ at_job : (x : JobHead) (was : Row) → columns job_places was ≡ job_cells x
     × (column was 7 ≡ Text (first_word x.kind)) × (column was 8 ≡ Text (second_word x.kind)) × (column was 9 ≡ Int (pos x.size))
 at_job x was shows = (ap (λ cs. column cs 1) shows, ap (λ cs. column cs 2) shows, ap (λ cs. column cs 3) shows, ap (λ cs. column cs 4) shows, ap (λ cs. column cs 5) shows, ap (λ cs. column cs 6) shows, ap (λ cs. column cs 7) shows, ap (λ cs. column cs 8) shows)
 
-pub grade_set : (old new : State) (number grade count : ℕ) → Stands site old.now → Executes set_rank (Int (pos number) ∷ Int (pos grade) ∷ []) old new (Ok count)
-    → Stands site new.now × ((t : Tables) → Holds old.now.trees t → Holds new.now.trees (record t { jobs = alter (has_number number) (λ row. record row { grade = grade }) t.jobs }))
+pub grade_set : (old new : State) (number grade count : ℕ) → Stands spool_schema old.now → Executes set_rank (Int (pos number) ∷ Int (pos grade) ∷ []) old new (Ok count)
+    → Stands spool_schema new.now × ((t : Tables) → Holds old.now.trees t → Holds new.now.trees (record t { jobs = alter (has_number number) (λ row. record row { grade = grade }) t.jobs }))
 grade_set old new number grade count stands h =
     let params : Row = Int (pos number) ∷ Int (pos grade) ∷ [] in
     let f : JobHead → JobHead = λ row. record row { grade = grade } in
@@ -148,8 +148,8 @@ grade_set old new number grade count stands h =
     (λ x id. job_casts old.now.trees (f x) id) (λ x id. refl) (λ x was id key shows. ap (λ v. columns job_places (v ∷ job_tail (f x))) (sym key ∙ ap (λ cs. column cs 0) shows)) no_job_follows in
     (it.0, λ t held. let made = it.1 t.jobs held.jobs in holds_jobs t old.now.trees new.now.trees _ made.1 held made.0)
 
-pub queued_set : (old new : State) (number queued count : ℕ) → Stands site old.now → Executes set_second (Int (pos number) ∷ Int (pos queued) ∷ []) old new (Ok count)
-    → Stands site new.now × ((t : Tables) → Holds old.now.trees t → Holds new.now.trees (record t { jobs = alter (has_number number) (λ row. record row { queued = queued }) t.jobs }))
+pub queued_set : (old new : State) (number queued count : ℕ) → Stands spool_schema old.now → Executes set_second (Int (pos number) ∷ Int (pos queued) ∷ []) old new (Ok count)
+    → Stands spool_schema new.now × ((t : Tables) → Holds old.now.trees t → Holds new.now.trees (record t { jobs = alter (has_number number) (λ row. record row { queued = queued }) t.jobs }))
 queued_set old new number queued count stands h =
     let params : Row = Int (pos number) ∷ Int (pos queued) ∷ [] in
     let f : JobHead → JobHead = λ row. record row { queued = queued } in
@@ -162,25 +162,25 @@ queued_set old new number queued count stands h =
 
 -- ---- the next number
 
-pub next_set : (old new : State) (next count : ℕ) → Stands site old.now → Executes set_number (Int (pos next) ∷ []) old new (Ok count)
-    → Stands site new.now × ((t : Tables) → Holds old.now.trees t → Holds new.now.trees (record t { next = next }))
+pub next_set : (old new : State) (next count : ℕ) → Stands spool_schema old.now → Executes set_number (Int (pos next) ∷ []) old new (Ok count)
+    → Stands spool_schema new.now × ((t : Tables) → Holds old.now.trees t → Holds new.now.trees (record t { next = next }))
 next_set old new next count stands h =
     let db = old.now.trees in
     let params : Row = Int (pos next) ∷ [] in
     let program : Program = record { lets = []; body = over 0 [] set_number_terms } in
-    let w = runs_as set_number params old new site stands.schema (Update 0 program) set_number_is set_number_plain count h in
-    let text = statement_of set_number (understood site set_number) in
-    let ran = update_ran old new site stands.schema 0 spool refl text params count program w in
-    let wrote = update_writes old new site stands.schema 0 spool refl text params count program ran in (
+    let w = runs_as set_number params old new spool_schema stands.schema (Update 0 program) set_number_is set_number_plain count h in
+    let text = statement_of set_number (understood spool_schema set_number) in
+    let ran = update_ran old new spool_schema stands.schema 0 spool refl text params count program w in
+    let wrote = update_writes old new spool_schema stands.schema 0 spool refl text params count program ran in (
       ran.stands,
       λ t held.
           let row : Row = Int (pos 1) ∷ spool_row next in
           let order = over_rows db spool.tree [] set_number_terms params wrote.0 refl (wrote.1.answer Null) in
           let shown : List Row → List Row = λ rows. map (λ r. eval_all set_number_terms (params ∷ r ∷ [])) (filter (λ r. true) rows) in
           let rows : wrote.0 ≡ row ∷ [] = one_permutation row wrote.0 (subst (λ rs. IsPermutation (shown rs) wrote.0) held.spool order) in
-          let did = subst (λ all. WritesTrees site Enforced db (edit_of db spool (ids_of all) Given 1 all) (Ok new.now.trees)) rows wrote.2 in
+          let did = subst (λ all. WritesTrees spool_schema Enforced db (edit_of db spool (ids_of all) Given 1 all) (Ok new.now.trees)) rows wrote.2 in
           let edit : Edit = record { table = spool; gone = pos 1 ∷ []; news = spool_row next ∷ [] } in
           let is : edit_of db spool (pos 1 ∷ []) Given 1 (row ∷ []) ≡ edit = rw (cast_int (pos 1), cast_null, cast_int (pos 3), cast_int (pos next)) in
-          let a = one_step site Enforced db new.now.trees edit refl (subst (λ (e : Edit). WritesTrees site Enforced db e (Ok new.now.trees)) is did) in
+          let a = one_step spool_schema Enforced db new.now.trees edit refl (subst (λ (e : Edit). WritesTrees spool_schema Enforced db e (Ok new.now.trees)) is did) in
           holds_next t db new.now.trees next (keeps_one edit db new.now.trees a) held (rw (held.spool, value_cmp-Int (pos 1) (pos 1)) at a.rows),
     )

@@ -11,11 +11,11 @@ use Rattle.uu_tables.specs.declared.rows.LinkColumns.{LinkColumns}
 use Rattle.uu_tables.specs.declared.rows.TakenColumns.{TakenColumns}
 use Rattle.uu_tables.specs.Tables.{Tables, Piece}
 use Rattle.uu_schema.specs.Schema.{spool, systems, lines, ranges, jobs, pieces, entries, success_waits, links, taken}
-use Rattle.uu_schema.specs.Made.{Keeps, spool_row}
+use Rattle.uu_schema.specs.Made.{KeepsOtherTables, spool_row}
 use Rattle.uu_schema.specs.Held.{Holds, AreSystems, AreLines, AreRanges, AreJobs, ArePieces, AreEntries, AreWaits, AreLinks, AreTaken}
 
 -- only `systems` changed
-pub holds_systems : (t : Tables) (old new : Trees) (new_systems : List SystemColumns) → Keeps (systems.tree ∷ []) old new → Holds old t → AreSystems new_systems (new systems.tree) → Holds new (record t { systems = new_systems })
+pub holds_systems : (t : Tables) (old new : Trees) (new_systems : List SystemColumns) → KeepsOtherTables (systems.tree ∷ []) old new → Holds old t → AreSystems new_systems (new systems.tree) → Holds new (record t { systems = new_systems })
 holds_systems t old new new_systems kept holds are_systems = record {
   spool = kept.0 refl ∙ holds.spool;
   systems = are_systems;
@@ -30,7 +30,7 @@ holds_systems t old new new_systems kept holds are_systems = record {
 }
 
 -- only `lines` changed
-pub holds_lines : (t : Tables) (old new : Trees) (new_lines : List LineColumns) → Keeps (lines.tree ∷ []) old new → Holds old t → AreLines new_lines (new lines.tree) → Holds new (record t { lines = new_lines })
+pub holds_lines : (t : Tables) (old new : Trees) (new_lines : List LineColumns) → KeepsOtherTables (lines.tree ∷ []) old new → Holds old t → AreLines new_lines (new lines.tree) → Holds new (record t { lines = new_lines })
 holds_lines t old new new_lines kept holds are_lines = record {
   spool = kept.0 refl ∙ holds.spool;
   systems = subst (AreSystems t.systems) (sym (kept.1.0 refl)) holds.systems;
@@ -45,7 +45,7 @@ holds_lines t old new new_lines kept holds are_lines = record {
 }
 
 -- only `ranges` changed
-pub holds_ranges : (t : Tables) (old new : Trees) (new_ranges : List RangeColumns) → Keeps (ranges.tree ∷ []) old new → Holds old t → AreRanges new_ranges (new ranges.tree) → Holds new (record t { ranges = new_ranges })
+pub holds_ranges : (t : Tables) (old new : Trees) (new_ranges : List RangeColumns) → KeepsOtherTables (ranges.tree ∷ []) old new → Holds old t → AreRanges new_ranges (new ranges.tree) → Holds new (record t { ranges = new_ranges })
 holds_ranges t old new new_ranges kept holds are_ranges = record {
   spool = kept.0 refl ∙ holds.spool;
   systems = subst (AreSystems t.systems) (sym (kept.1.0 refl)) holds.systems;
@@ -60,7 +60,7 @@ holds_ranges t old new new_ranges kept holds are_ranges = record {
 }
 
 -- only `jobs` changed
-pub holds_jobs : (t : Tables) (old new : Trees) (new_jobs : List JobHead) → Keeps (jobs.tree ∷ []) old new → Holds old t → AreJobs new_jobs (new jobs.tree) → Holds new (record t { jobs = new_jobs })
+pub holds_jobs : (t : Tables) (old new : Trees) (new_jobs : List JobHead) → KeepsOtherTables (jobs.tree ∷ []) old new → Holds old t → AreJobs new_jobs (new jobs.tree) → Holds new (record t { jobs = new_jobs })
 holds_jobs t old new new_jobs kept holds are_jobs = record {
   spool = kept.0 refl ∙ holds.spool;
   systems = subst (AreSystems t.systems) (sym (kept.1.0 refl)) holds.systems;
@@ -75,7 +75,7 @@ holds_jobs t old new new_jobs kept holds are_jobs = record {
 }
 
 -- only `pieces` changed
-pub holds_pieces : (t : Tables) (old new : Trees) (new_pieces : List Piece) → Keeps (pieces.tree ∷ []) old new → Holds old t → ArePieces new_pieces (new pieces.tree) → Holds new (record t { pieces = new_pieces })
+pub holds_pieces : (t : Tables) (old new : Trees) (new_pieces : List Piece) → KeepsOtherTables (pieces.tree ∷ []) old new → Holds old t → ArePieces new_pieces (new pieces.tree) → Holds new (record t { pieces = new_pieces })
 holds_pieces t old new new_pieces kept holds are_pieces = record {
   spool = kept.0 refl ∙ holds.spool;
   systems = subst (AreSystems t.systems) (sym (kept.1.0 refl)) holds.systems;
@@ -90,7 +90,7 @@ holds_pieces t old new new_pieces kept holds are_pieces = record {
 }
 
 -- only `entries` changed
-pub holds_entries : (t : Tables) (old new : Trees) (new_entries : List EntryColumns) → Keeps (entries.tree ∷ []) old new → Holds old t → AreEntries new_entries (new entries.tree) → Holds new (record t { entries = new_entries })
+pub holds_entries : (t : Tables) (old new : Trees) (new_entries : List EntryColumns) → KeepsOtherTables (entries.tree ∷ []) old new → Holds old t → AreEntries new_entries (new entries.tree) → Holds new (record t { entries = new_entries })
 holds_entries t old new new_entries kept holds are_entries = record {
   spool = kept.0 refl ∙ holds.spool;
   systems = subst (AreSystems t.systems) (sym (kept.1.0 refl)) holds.systems;
@@ -105,7 +105,7 @@ holds_entries t old new new_entries kept holds are_entries = record {
 }
 
 -- only `success_waits` changed
-pub holds_waits : (t : Tables) (old new : Trees) (new_waits : List WaitColumns) → Keeps (success_waits.tree ∷ []) old new → Holds old t → AreWaits new_waits (new success_waits.tree) → Holds new (record t { success_waits = new_waits })
+pub holds_waits : (t : Tables) (old new : Trees) (new_waits : List WaitColumns) → KeepsOtherTables (success_waits.tree ∷ []) old new → Holds old t → AreWaits new_waits (new success_waits.tree) → Holds new (record t { success_waits = new_waits })
 holds_waits t old new new_waits kept holds are_waits = record {
   spool = kept.0 refl ∙ holds.spool;
   systems = subst (AreSystems t.systems) (sym (kept.1.0 refl)) holds.systems;
@@ -120,7 +120,7 @@ holds_waits t old new new_waits kept holds are_waits = record {
 }
 
 -- only `links` changed
-pub holds_links : (t : Tables) (old new : Trees) (new_links : List LinkColumns) → Keeps (links.tree ∷ []) old new → Holds old t → AreLinks new_links (new links.tree) → Holds new (record t { links = new_links })
+pub holds_links : (t : Tables) (old new : Trees) (new_links : List LinkColumns) → KeepsOtherTables (links.tree ∷ []) old new → Holds old t → AreLinks new_links (new links.tree) → Holds new (record t { links = new_links })
 holds_links t old new new_links kept holds are_links = record {
   spool = kept.0 refl ∙ holds.spool;
   systems = subst (AreSystems t.systems) (sym (kept.1.0 refl)) holds.systems;
@@ -135,7 +135,7 @@ holds_links t old new new_links kept holds are_links = record {
 }
 
 -- only `taken` changed
-pub holds_taken : (t : Tables) (old new : Trees) (new_taken : List TakenColumns) → Keeps (taken.tree ∷ []) old new → Holds old t → AreTaken new_taken (new taken.tree) → Holds new (record t { taken = new_taken })
+pub holds_taken : (t : Tables) (old new : Trees) (new_taken : List TakenColumns) → KeepsOtherTables (taken.tree ∷ []) old new → Holds old t → AreTaken new_taken (new taken.tree) → Holds new (record t { taken = new_taken })
 holds_taken t old new new_taken kept holds are_taken = record {
   spool = kept.0 refl ∙ holds.spool;
   systems = subst (AreSystems t.systems) (sym (kept.1.0 refl)) holds.systems;
@@ -150,7 +150,7 @@ holds_taken t old new new_taken kept holds are_taken = record {
 }
 
 -- a system changed with its lines and their ranges, its success wait and its link
-pub holds_after_system : (t : Tables) (old new : Trees) (new_systems : List SystemColumns) (new_lines : List LineColumns) (new_ranges : List RangeColumns) (new_waits : List WaitColumns) (new_links : List LinkColumns) (new_taken : List TakenColumns) → Keeps (systems.tree ∷ taken.tree ∷ links.tree ∷ success_waits.tree ∷ lines.tree ∷ ranges.tree ∷ []) old new → Holds old t → AreSystems new_systems (new systems.tree) → AreLines new_lines (new lines.tree) → AreRanges new_ranges (new ranges.tree) → AreWaits new_waits (new success_waits.tree) → AreLinks new_links (new links.tree) → AreTaken new_taken (new taken.tree) → Holds new (record t { systems = new_systems; lines = new_lines; ranges = new_ranges; success_waits = new_waits; links = new_links; taken = new_taken })
+pub holds_after_system : (t : Tables) (old new : Trees) (new_systems : List SystemColumns) (new_lines : List LineColumns) (new_ranges : List RangeColumns) (new_waits : List WaitColumns) (new_links : List LinkColumns) (new_taken : List TakenColumns) → KeepsOtherTables (systems.tree ∷ taken.tree ∷ links.tree ∷ success_waits.tree ∷ lines.tree ∷ ranges.tree ∷ []) old new → Holds old t → AreSystems new_systems (new systems.tree) → AreLines new_lines (new lines.tree) → AreRanges new_ranges (new ranges.tree) → AreWaits new_waits (new success_waits.tree) → AreLinks new_links (new links.tree) → AreTaken new_taken (new taken.tree) → Holds new (record t { systems = new_systems; lines = new_lines; ranges = new_ranges; success_waits = new_waits; links = new_links; taken = new_taken })
 holds_after_system t old new new_systems new_lines new_ranges new_waits new_links new_taken kept holds are_systems are_lines are_ranges are_waits are_links are_taken = record {
   spool = kept.0 refl ∙ holds.spool;
   systems = are_systems;
@@ -165,7 +165,7 @@ holds_after_system t old new new_systems new_lines new_ranges new_waits new_link
 }
 
 -- lines changed with their ranges
-pub holds_after_lines : (t : Tables) (old new : Trees) (new_lines : List LineColumns) (new_ranges : List RangeColumns) → Keeps (lines.tree ∷ ranges.tree ∷ []) old new → Holds old t → AreLines new_lines (new lines.tree) → AreRanges new_ranges (new ranges.tree) → Holds new (record t { lines = new_lines; ranges = new_ranges })
+pub holds_after_lines : (t : Tables) (old new : Trees) (new_lines : List LineColumns) (new_ranges : List RangeColumns) → KeepsOtherTables (lines.tree ∷ ranges.tree ∷ []) old new → Holds old t → AreLines new_lines (new lines.tree) → AreRanges new_ranges (new ranges.tree) → Holds new (record t { lines = new_lines; ranges = new_ranges })
 holds_after_lines t old new new_lines new_ranges kept holds are_lines are_ranges = record {
   spool = kept.0 refl ∙ holds.spool;
   systems = subst (AreSystems t.systems) (sym (kept.1.0 refl)) holds.systems;
@@ -180,7 +180,7 @@ holds_after_lines t old new new_lines new_ranges kept holds are_lines are_ranges
 }
 
 -- a job changed with its pieces
-pub holds_after_job : (t : Tables) (old new : Trees) (new_jobs : List JobHead) (new_pieces : List Piece) → Keeps (jobs.tree ∷ pieces.tree ∷ []) old new → Holds old t → AreJobs new_jobs (new jobs.tree) → ArePieces new_pieces (new pieces.tree) → Holds new (record t { jobs = new_jobs; pieces = new_pieces })
+pub holds_after_job : (t : Tables) (old new : Trees) (new_jobs : List JobHead) (new_pieces : List Piece) → KeepsOtherTables (jobs.tree ∷ pieces.tree ∷ []) old new → Holds old t → AreJobs new_jobs (new jobs.tree) → ArePieces new_pieces (new pieces.tree) → Holds new (record t { jobs = new_jobs; pieces = new_pieces })
 holds_after_job t old new new_jobs new_pieces kept holds are_jobs are_pieces = record {
   spool = kept.0 refl ∙ holds.spool;
   systems = subst (AreSystems t.systems) (sym (kept.1.0 refl)) holds.systems;
@@ -195,7 +195,7 @@ holds_after_job t old new new_jobs new_pieces kept holds are_jobs are_pieces = r
 }
 
 -- only the next number changed
-pub holds_next : (t : Tables) (old new : Trees) (next : ℕ) → Keeps (spool.tree ∷ []) old new → Holds old t → new spool.tree ≡ spool_row next ∷ [] → Holds new (record t { next = next })
+pub holds_next : (t : Tables) (old new : Trees) (next : ℕ) → KeepsOtherTables (spool.tree ∷ []) old new → Holds old t → new spool.tree ≡ spool_row next ∷ [] → Holds new (record t { next = next })
 holds_next t old new next kept holds is = record {
   spool = is;
   systems = subst (AreSystems t.systems) (sym (kept.1.0 refl)) holds.systems;

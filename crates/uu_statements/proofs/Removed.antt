@@ -44,8 +44,8 @@ use Rattle.uu_tables.specs.declared.rows.TakenColumns.{TakenColumns}
 use Rattle.uu_schema.specs.Keyed.{columns}
 use Rattle.uu_tables.specs.Tables.{Tables}
 use Rattle.uu_tables.specs.Changes.{without, has_name, is_line_of, is_range_of, is_wait_of, is_link_of, is_taken_of, is_forgotten, has_number, is_piece_of, is_about}
-use Rattle.uu_schema.specs.Schema.{site, systems, lines, ranges, jobs, pieces, entries, success_waits, links, taken, to_system, to_line, to_job}
-use Rattle.uu_schema.specs.Made.{Keeps}
+use Rattle.uu_schema.specs.Schema.{spool_schema, systems, lines, ranges, jobs, pieces, entries, success_waits, links, taken, to_system, to_line, to_job}
+use Rattle.uu_schema.specs.Made.{KeepsOtherTables}
 use Rattle.uu_schema.specs.Cells.{system_cells, line_cells, range_cells, job_cells, piece_cells, entry_cells, wait_cells, link_cells, taken_cells}
 use Rattle.uu_schema.specs.Held.{Holds, AreSystems, AreLines, AreRanges, AreJobs, ArePieces, AreEntries, AreWaits, AreLinks, AreTaken, link_key, taken_key, link_places, taken_places, system_key, line_key, range_key, job_key, piece_key, entry_key, wait_key, system_places, line_places, range_places, job_places, piece_places, entry_places, wait_places}
 use Rattle.uu_schema.proofs.Keeps.{keeps_one, keeps_more, keeps_all}
@@ -77,39 +77,39 @@ due_ranges depth olds = record { depth = depth; child = ranges; ref = to_line; p
 abbrev due_pieces : List Row → Work
 due_pieces olds = record { depth = 0; child = pieces; ref = to_job; places = 0 ∷ []; order = plain; deed = deed.Delete; moves = pairs olds [] }
 
-of_systems : (olds : List Row) → works site Enforced 0 systems.tree olds [] ≡ cond (list_any (loses plain (1 ∷ [])) (pairs olds [])) (due_all olds) []
+of_systems : (olds : List Row) → works spool_schema Enforced 0 systems.tree olds [] ≡ cond (list_any (loses plain (1 ∷ [])) (pairs olds [])) (due_all olds) []
 unfolding same_name joined
 of_systems olds = elim (cases_Bool (list_any (loses plain (1 ∷ [])) (pairs olds []))) [ inl some ↦ rw some refl | inr none ↦ rw none refl ]
 
-of_lines : (depth : ℕ) (olds : List Row) → works site Enforced depth lines.tree olds [] ≡ cond (list_any (loses plain (1 ∷ 2 ∷ [])) (pairs olds [])) (due_ranges depth olds ∷ []) []
+of_lines : (depth : ℕ) (olds : List Row) → works spool_schema Enforced depth lines.tree olds [] ≡ cond (list_any (loses plain (1 ∷ 2 ∷ [])) (pairs olds [])) (due_ranges depth olds ∷ []) []
 unfolding same_name joined
 of_lines depth olds = elim (cases_Bool (list_any (loses plain (1 ∷ 2 ∷ [])) (pairs olds []))) [ inl some ↦ rw some refl | inr none ↦ rw none refl ]
 
-of_ranges : (depth : ℕ) (olds : List Row) → works site Enforced depth ranges.tree olds [] ≡ []
+of_ranges : (depth : ℕ) (olds : List Row) → works spool_schema Enforced depth ranges.tree olds [] ≡ []
 unfolding same_name joined
 of_ranges depth olds = refl
 
-of_waits : (depth : ℕ) (olds : List Row) → works site Enforced depth success_waits.tree olds [] ≡ []
+of_waits : (depth : ℕ) (olds : List Row) → works spool_schema Enforced depth success_waits.tree olds [] ≡ []
 unfolding same_name joined
 of_waits depth olds = refl
 
-of_links : (depth : ℕ) (olds : List Row) → works site Enforced depth links.tree olds [] ≡ []
+of_links : (depth : ℕ) (olds : List Row) → works spool_schema Enforced depth links.tree olds [] ≡ []
 unfolding same_name joined
 of_links depth olds = refl
 
-of_taken_rows : (depth : ℕ) (olds : List Row) → works site Enforced depth taken.tree olds [] ≡ []
+of_taken_rows : (depth : ℕ) (olds : List Row) → works spool_schema Enforced depth taken.tree olds [] ≡ []
 unfolding same_name joined
 of_taken_rows depth olds = refl
 
-of_jobs : (olds : List Row) → works site Enforced 0 jobs.tree olds [] ≡ cond (list_any (loses plain (0 ∷ [])) (pairs olds [])) (due_pieces olds ∷ []) []
+of_jobs : (olds : List Row) → works spool_schema Enforced 0 jobs.tree olds [] ≡ cond (list_any (loses plain (0 ∷ [])) (pairs olds [])) (due_pieces olds ∷ []) []
 unfolding same_name joined
 of_jobs olds = elim (cases_Bool (list_any (loses plain (0 ∷ [])) (pairs olds []))) [ inl some ↦ rw some refl | inr none ↦ rw none refl ]
 
-of_pieces : (olds : List Row) → works site Enforced 1 pieces.tree olds [] ≡ []
+of_pieces : (olds : List Row) → works spool_schema Enforced 1 pieces.tree olds [] ≡ []
 unfolding same_name joined
 of_pieces olds = refl
 
-of_entries : (olds : List Row) → works site Enforced 0 entries.tree olds [] ≡ []
+of_entries : (olds : List Row) → works spool_schema Enforced 0 entries.tree olds [] ≡ []
 unfolding same_name joined
 of_entries olds = refl
 
@@ -185,22 +185,22 @@ named_by name a b same h = text_from name (column a 1) (subst (λ v. equal Binar
 -- some rows that pass the test go from the table at this tree, and nothing else differs
 record Falls (q : Row → Bool) (tree : ℕ) (old new : Trees) : Type 0 where
   lost : Loses q (old tree) (new tree)
-  others : Keeps (tree ∷ []) old new
+  others : KeepsOtherTables (tree ∷ []) old new
 
 none_falls : (q : Row → Bool) (tree : ℕ) (old new : Trees) → new ≡ old → Falls q tree old new
 none_falls q tree old new same = subst (Falls q tree old) (sym same) (record { lost = loses_none q (old tree); others = keeps_all (tree ∷ []) old })
 
 -- the children of a table to which nothing refers
 children_fall : (q : Row → Bool) (w : Work) (old new : Trees) → AreApart (old w.child.tree) → ((r : Row) → list_any (is_child_of (record w { deed = deed.Delete }) r) w.moves ≡ true → q r ≡ true) → nat_lt w.depth max_depth ≡ true
-    → ((olds : List Row) → works site Enforced (w.depth + 1) w.child.tree olds [] ≡ []) → (some : Bool) → Settles site Enforced old (cond some (record w { deed = deed.Delete } ∷ []) []) (Ok new) → Falls q w.child.tree old new
-children_fall q w old new apart means low none false s = none_falls q w.child.tree old new (nothing_due site Enforced s.0 old new s.1)
-children_fall q w old new apart means low none true s = let it = one_deed site Enforced old new w low s in after it.0 it.1 it.2
+    → ((olds : List Row) → works spool_schema Enforced (w.depth + 1) w.child.tree olds [] ≡ []) → (some : Bool) → Settles spool_schema Enforced old (cond some (record w { deed = deed.Delete } ∷ []) []) (Ok new) → Falls q w.child.tree old new
+children_fall q w old new apart means low none false s = none_falls q w.child.tree old new (nothing_due spool_schema Enforced s.0 old new s.1)
+children_fall q w old new apart means low none true s = let it = one_deed spool_schema Enforced old new w low s in after it.0 it.1 it.2
   where
-    after : (ids : List ℤ) → AreChildren old (record w { deed = deed.Delete }) ids → After site Enforced old new w ids → Falls q w.child.tree old new
+    after : (ids : List ℤ) → AreChildren old (record w { deed = deed.Delete }) ids → After spool_schema Enforced old new w ids → Falls q w.child.tree old new
     after ids children (inl unchanged) = none_falls q w.child.tree old new unchanged.1
     after ids children (inr some) =
-        let edit = removes site Enforced w ids in
-        let same : new ≡ some.0 = nothing_due site Enforced some.2.0 some.0 new (subst (λ stack. Leads site Enforced some.2.0 some.0 stack (Ok new)) (none (taken_by old edit)) some.2.1) in
+        let edit = removes spool_schema Enforced w ids in
+        let same : new ≡ some.0 = nothing_due spool_schema Enforced some.2.0 some.0 new (subst (λ stack. Leads spool_schema Enforced some.2.0 some.0 stack (Ok new)) (none (taken_by old edit)) some.2.1) in
         subst (Falls q w.child.tree old) (sym same) (record { lost = subst (Loses q (old w.child.tree)) (sym some.1.rows) (children_lost old (record w { deed = deed.Delete }) ids q apart children means); others = keeps_one edit old some.0 some.1 })
 
 -- ---- ranges go with their lines
@@ -210,14 +210,14 @@ range_named name depth olds named r h =
     let it = some_has (is_child_of (due_ranges depth olds) r) (pairs olds []) h in
     named_by name r it.0.0 (agree_first 1 1 (2 ∷ []) (2 ∷ []) r it.0.0 (and_parts _ _ it.2).1) (named it.0.0 (pair_of olds it.0 it.1))
 
-ranges_fall : (name : List ℕ) (depth : ℕ) (old new : Trees) (olds : List Row) → AreApart (old ranges.tree) → ((x : Row) → Has olds x → is_text name 1 x ≡ true) → nat_lt depth max_depth ≡ true → Settles site Enforced old (works site Enforced depth lines.tree olds []) (Ok new)
+ranges_fall : (name : List ℕ) (depth : ℕ) (old new : Trees) (olds : List Row) → AreApart (old ranges.tree) → ((x : Row) → Has olds x → is_text name 1 x ≡ true) → nat_lt depth max_depth ≡ true → Settles spool_schema Enforced old (works spool_schema Enforced depth lines.tree olds []) (Ok new)
     → Falls (is_text name 1) ranges.tree old new
 ranges_fall name depth old new olds apart named low settles = children_fall (is_text name 1) (due_ranges depth olds) old new apart (range_named name depth olds named) low (of_ranges (depth + 1)) (list_any (loses plain (1 ∷ 2 ∷ [])) (pairs olds []))
-    (subst (λ stack. Settles site Enforced old stack (Ok new)) (of_lines depth olds) settles)
+    (subst (λ stack. Settles spool_schema Enforced old stack (Ok new)) (of_lines depth olds) settles)
 
 -- what is left has a line, so it lacks the name that no line has
 range_left : (name : List ℕ) (db : Trees) → ((x : Row) → Has (db lines.tree) x → is_text name 1 x ≡ false) → (r : Row) → is_null (column r 2) ≡ false
-    → list_all (λ ref. not (is_among All ref) || has_parent site.tables db r ref) ranges.references ≡ true → is_text name 1 r ≡ false
+    → list_all (λ ref. not (is_among All ref) || has_parent spool_schema.tables db r ref) ranges.references ≡ true → is_text name 1 r ≡ false
 unfolding same_name joined
 range_left name db left r some h = elim (or_cases _ _ (and_parts _ true h).0) [
   | inl null ↦ elim (or_cases (is_null (column r 1)) (is_null (column r 2) || false) null) [ inl here ↦ null_text name (column r 1) here | inr more ↦ absurd (let e = rw some at more in cc) ]
@@ -233,7 +233,7 @@ line_named name olds named r h =
     let it = some_has (is_child_of (due_lines olds) r) (pairs olds []) h in
     named_by name r it.0.0 (agree_first 1 1 [] [] r it.0.0 (and_parts _ _ it.2).1) (named it.0.0 (pair_of olds it.0 it.1))
 
-line_left : (name : List ℕ) (db : Trees) → ((x : Row) → Has (db systems.tree) x → is_text name 1 x ≡ false) → (r : Row) → list_all (λ ref. not (is_among All ref) || has_parent site.tables db r ref) lines.references ≡ true → is_text name 1 r ≡ false
+line_left : (name : List ℕ) (db : Trees) → ((x : Row) → Has (db systems.tree) x → is_text name 1 x ≡ false) → (r : Row) → list_all (λ ref. not (is_among All ref) || has_parent spool_schema.tables db r ref) lines.references ≡ true → is_text name 1 r ≡ false
 unfolding same_name joined
 line_left name db left r h = elim (or_cases _ _ (and_parts _ true h).0) [
   | inl null ↦ elim (or_cases (is_null (column r 1)) false null) [ inl here ↦ null_text name (column r 1) here | inr never ↦ absurd (cc) ]
@@ -249,21 +249,21 @@ line_left name db left r h = elim (or_cases _ _ (and_parts _ true h).0) [
 record ChildFalls (name : List ℕ) (child : Table) (below : List Work) (some : Bool) (old new : Trees) : Type 0 where
   mid : Trees
   fall : Falls (is_text name 1) child.tree old mid
-  rest : Settles site Enforced mid (cond some below []) (Ok new)
+  rest : Settles spool_schema Enforced mid (cond some below []) (Ok new)
 
-child_falls : (name : List ℕ) (child : Table) (below : List Work) (old new : Trees) (olds : List Row) → AreApart (old child.tree) → ((x : Row) → Has olds x → is_text name 1 x ≡ true) → ((taken : List Row) → works site Enforced 1 child.tree taken [] ≡ [])
-    → (some : Bool) → Settles site Enforced old (cond some (below ++ due_child child olds ∷ []) []) (Ok new) → ChildFalls name child below some old new
+child_falls : (name : List ℕ) (child : Table) (below : List Work) (old new : Trees) (olds : List Row) → AreApart (old child.tree) → ((x : Row) → Has olds x → is_text name 1 x ≡ true) → ((taken : List Row) → works spool_schema Enforced 1 child.tree taken [] ≡ [])
+    → (some : Bool) → Settles spool_schema Enforced old (cond some (below ++ due_child child olds ∷ []) []) (Ok new) → ChildFalls name child below some old new
 child_falls name child below old new olds apart named none false s = record { mid = old; fall = none_falls (is_text name 1) child.tree old old refl; rest = s }
-child_falls name child below old new olds apart named none true s = let it = last_deed site Enforced old new below (due_child child olds) refl s in after it.0 it.1 it.2
+child_falls name child below old new olds apart named none true s = let it = last_deed spool_schema Enforced old new below (due_child child olds) refl s in after it.0 it.1 it.2
   where
-    after : (ids : List ℤ) → AreChildren old (due_child child olds) ids → AfterLast site Enforced old new below (due_child child olds) ids → ChildFalls name child below true old new
+    after : (ids : List ℤ) → AreChildren old (due_child child olds) ids → AfterLast spool_schema Enforced old new below (due_child child olds) ids → ChildFalls name child below true old new
     after ids children (inl gone) = record { mid = old; fall = none_falls (is_text name 1) child.tree old old refl; rest = gone.1 }
     after ids children (inr some) =
-        let edit = removes site Enforced (due_child child olds) ids in
+        let edit = removes spool_schema Enforced (due_child child olds) ids in
         record {
           mid = some.0;
           fall = record { lost = subst (Loses (is_text name 1) (old child.tree)) (sym some.1.rows) (children_lost old (due_child child olds) ids (is_text name 1) apart children (line_named name olds named)); others = keeps_one edit old some.0 some.1 };
-          rest = subst (λ stack. Settles site Enforced some.0 stack (Ok new)) (ap (λ more. below ++ more) (none (taken_by old edit)) ∙ append-nil below) some.2;
+          rest = subst (λ stack. Settles spool_schema Enforced some.0 stack (Ok new)) (ap (λ more. below ++ more) (none (taken_by old edit)) ∙ append-nil below) some.2;
         }
 
 -- what a step lost is what is lost if the steps before and after it left those rows
@@ -271,20 +271,20 @@ lost_between : (q : Row → Bool) (first before after last : List Row) → befor
 lost_between q first before after last p r h = subst (λ rows. Loses q first rows) (sym r) (subst (λ rows. Loses q rows after) p h)
 
 record LinesFall (name : List ℕ) (old new : Trees) : Type 0 where
-  others : Keeps (lines.tree ∷ ranges.tree ∷ []) old new
+  others : KeepsOtherTables (lines.tree ∷ ranges.tree ∷ []) old new
   lines : Loses (is_text name 1) (old lines.tree) (new lines.tree)
   ranges : Loses (is_text name 1) (old ranges.tree) (new ranges.tree)
 
 no_line_falls : (name : List ℕ) (old new : Trees) → new ≡ old → LinesFall name old new
 no_line_falls name old new same = subst (LinesFall name old) (sym same) (record { lines = loses_none (is_text name 1) (old lines.tree); ranges = loses_none (is_text name 1) (old ranges.tree); others = keeps_all (lines.tree ∷ ranges.tree ∷ []) old })
 
-lines_fall : (name : List ℕ) (old new : Trees) (olds : List Row) → AreApart (old lines.tree) → AreApart (old ranges.tree) → ((x : Row) → Has olds x → is_text name 1 x ≡ true) → (some : Bool) → Settles site Enforced old (cond some (due_lines olds ∷ []) []) (Ok new) → LinesFall name old new
+lines_fall : (name : List ℕ) (old new : Trees) (olds : List Row) → AreApart (old lines.tree) → AreApart (old ranges.tree) → ((x : Row) → Has olds x → is_text name 1 x ≡ true) → (some : Bool) → Settles spool_schema Enforced old (cond some (due_lines olds ∷ []) []) (Ok new) → LinesFall name old new
 lines_fall name old new olds apart below named = go
   where
-    after : (ids : List ℤ) → AreChildren old (due_lines olds) ids → After site Enforced old new (due_lines olds) ids → LinesFall name old new
+    after : (ids : List ℤ) → AreChildren old (due_lines olds) ids → After spool_schema Enforced old new (due_lines olds) ids → LinesFall name old new
     after ids children (inl none) = no_line_falls name old new none.1
     after ids children (inr some) =
-        let edit = removes site Enforced (due_lines olds) ids in
+        let edit = removes spool_schema Enforced (due_lines olds) ids in
         let mid = some.0 in
         let lost = children_lost old (due_lines olds) ids (is_text name 1) apart children (line_named name olds named) in
         let kept = keeps_one edit old mid some.1 in
@@ -296,9 +296,9 @@ lines_fall name old new olds apart below named = go
           others = keeps_more lines.tree (ranges.tree ∷ []) old mid new kept fall.others;
         }
 
-    go : (some : Bool) → Settles site Enforced old (cond some (due_lines olds ∷ []) []) (Ok new) → LinesFall name old new
-    go false s = no_line_falls name old new (nothing_due site Enforced s.0 old new s.1)
-    go true s = let it = one_deed site Enforced old new (due_lines olds) refl s in after it.0 it.1 it.2
+    go : (some : Bool) → Settles spool_schema Enforced old (cond some (due_lines olds ∷ []) []) (Ok new) → LinesFall name old new
+    go false s = no_line_falls name old new (nothing_due spool_schema Enforced s.0 old new s.1)
+    go true s = let it = one_deed spool_schema Enforced old new (due_lines olds) refl s in after it.0 it.1 it.2
 
 -- ---- pieces go with their jobs
 
@@ -307,7 +307,7 @@ piece_numbered n olds each r h =
     let it = some_has (is_child_of (due_pieces olds) r) (pairs olds []) h in
     number_from n (column r 1) (subst (λ v. equal Binary (column r 1) v ≡ true) (each it.0.0 (pair_of olds it.0 it.1)) (agree_first 1 0 [] [] r it.0.0 (and_parts _ _ it.2).1))
 
-piece_left : (n : ℤ) (db : Trees) → ((x : Row) → Has (db jobs.tree) x → has_rowid n x ≡ false) → (r : Row) → is_int (column r 1) ≡ true → list_all (λ ref. not (is_among All ref) || has_parent site.tables db r ref) pieces.references ≡ true
+piece_left : (n : ℤ) (db : Trees) → ((x : Row) → Has (db jobs.tree) x → has_rowid n x ≡ false) → (r : Row) → is_int (column r 1) ≡ true → list_all (λ ref. not (is_among All ref) || has_parent spool_schema.tables db r ref) pieces.references ≡ true
     → is_eq (value_cmp (column r 1) (Int n)) ≡ false
 unfolding same_name joined
 piece_left n db left r int h = elim (or_cases _ _ (and_parts _ true h).0) [
@@ -318,9 +318,9 @@ piece_left n db left r int h = elim (or_cases _ _ (and_parts _ true h).0) [
       (λ tied. true≢false (sym (number_from n (column it.0 0) (subst (λ v. equal Binary (column it.0 0) v ≡ true) (number_is n (column r 1) int tied) (agree_first 0 1 [] [] it.0 r it.2))) ∙ left it.0 it.1))
 ]
 
-pieces_fall : (n : ℤ) (old new : Trees) (olds : List Row) → AreApart (old pieces.tree) → ((x : Row) → Has olds x → column x 0 ≡ Int n) → Settles site Enforced old (works site Enforced 0 jobs.tree olds []) (Ok new) → Falls (λ r. is_eq (value_cmp (column r 1) (Int n))) pieces.tree old new
+pieces_fall : (n : ℤ) (old new : Trees) (olds : List Row) → AreApart (old pieces.tree) → ((x : Row) → Has olds x → column x 0 ≡ Int n) → Settles spool_schema Enforced old (works spool_schema Enforced 0 jobs.tree olds []) (Ok new) → Falls (λ r. is_eq (value_cmp (column r 1) (Int n))) pieces.tree old new
 pieces_fall n old new olds apart each settles = children_fall (λ r. is_eq (value_cmp (column r 1) (Int n))) (due_pieces olds) old new apart (piece_numbered n olds each) refl of_pieces (list_any (loses plain (0 ∷ [])) (pairs olds []))
-    (subst (λ stack. Settles site Enforced old stack (Ok new)) (of_jobs olds) settles)
+    (subst (λ stack. Settles spool_schema Enforced old stack (Ok new)) (of_jobs olds) settles)
 
 -- ---- the table's own rows
 
@@ -329,11 +329,11 @@ record Gone (table : Table) (q : Row → Bool) (old new : Trees) : Type 0 where
   mid : Trees
   olds : List Row
   rows : mid table.tree ≡ filter (λ r. not (q r)) (old table.tree)
-  kept : Keeps (table.tree ∷ []) old mid
+  kept : KeepsOtherTables (table.tree ∷ []) old mid
   each : (x : Row) → Has olds x → Has (old table.tree) x × (q x ≡ true)
-  settles : Settles site Enforced mid (works site Enforced 0 table.tree olds []) (Ok new)
+  settles : Settles spool_schema Enforced mid (works spool_schema Enforced 0 table.tree olds []) (Ok new)
 
-gone : (old new : State) (stands : Stands site old.now) (sql : List ℕ) (params : Row) (count at : ℕ) (bare : Table) (found : slice_get site.tables at ≡ Some (record bare { is_counted = false })) (tests : List Term) (q : Row → Bool)
+gone : (old new : State) (stands : Stands spool_schema old.now) (sql : List ℕ) (params : Row) (count at : ℕ) (bare : Table) (found : slice_get spool_schema.tables at ≡ Some (record bare { is_counted = false })) (tests : List Term) (q : Row → Bool)
     → Took old new stands sql params count at bare found tests → AreApart (old.now.trees bare.tree) → filter (λ r. list_all (holds (params ∷ r ∷ [])) tests) (old.now.trees bare.tree) ≡ filter q (old.now.trees bare.tree)
     → Gone (record bare { is_counted = false }) q old.now.trees new.now.trees
 gone old new stands sql params count at bare found tests q it apart picks = elim it.wrote [
@@ -385,14 +385,14 @@ module _ (name : List ℕ) (t : Tables) (old new : Trees) (held : Holds old t) w
   range_placed = all_cells range_key range_cells range_places (λ cs. is_null (column cs 1) ≡ false) (λ x. refl) t.ranges (old ranges.tree) held.ranges
 
   -- the ranges of a system that has no lines left are removed, and no others
-  all_ranges : Refers All site new → Loses (is_text name 1) (old ranges.tree) (new ranges.tree) → ((x : Row) → Has (new lines.tree) x → is_text name 1 x ≡ false) → new ranges.tree ≡ filter (λ r. not (is_text name 1 r)) (old ranges.tree)
+  all_ranges : Refers All spool_schema new → Loses (is_text name 1) (old ranges.tree) (new ranges.tree) → ((x : Row) → Has (new lines.tree) x → is_text name 1 x ≡ false) → new ranges.tree ≡ filter (λ r. not (is_text name 1 r)) (old ranges.tree)
   all_ranges refers lost none = exactly (is_text name 1) (old ranges.tree) (new ranges.tree) lost
       (λ x h. range_left name new none x (all_has (λ r. is_null (column r 2) ≡ false) (old ranges.tree) x range_placed (has_filtered (λ r. not (lost.picks r)) (old ranges.tree) x (subst (λ rows. Has rows x) lost.left h)).0) (all_has _ (new ranges.tree) x refers.1.1.1.0 h))
 
 -- ---- the statements
 
-pub entry_gone : (old new : State) (host : List ℕ) (count : ℕ) → Stands site old.now → Executes delete_entry (Text host ∷ []) old new (Ok count)
-    → Stands site new.now × ((t : Tables) → Holds old.now.trees t → Holds new.now.trees (record t { entries = without (is_about host) t.entries }))
+pub entry_gone : (old new : State) (host : List ℕ) (count : ℕ) → Stands spool_schema old.now → Executes delete_entry (Text host ∷ []) old new (Ok count)
+    → Stands spool_schema new.now × ((t : Tables) → Holds old.now.trees t → Holds new.now.trees (record t { entries = without (is_about host) t.entries }))
 entry_gone old new host count stands h =
     let db = old.now.trees in
     let next = new.now.trees in
@@ -400,12 +400,12 @@ entry_gone old new host count stands h =
       it.now_stands,
       λ t held.
           let out = gone old new stands delete_entry (Text host ∷ []) count 6 entries refl (where_is 1 0 ∷ []) (is_text host 1) it (apart_of entry_key entry_cells entry_places t.entries (db entries.tree) held.entries) (filter_same _ (is_text host 1) (at_text 1 host []) (db entries.tree)) in
-          let same : next ≡ out.mid = nothing_due site Enforced out.settles.0 out.mid next (subst (λ stack. Leads site Enforced out.settles.0 out.mid stack (Ok next)) (of_entries out.olds) out.settles.1) in
+          let same : next ≡ out.mid = nothing_due spool_schema Enforced out.settles.0 out.mid next (subst (λ stack. Leads spool_schema Enforced out.settles.0 out.mid stack (Ok next)) (of_entries out.olds) out.settles.1) in
           subst (λ trees. Holds trees (record t { entries = without (is_about host) t.entries })) (sym same) (holds_entries t db out.mid _ out.kept held (entries_left host t db out.mid held out.rows)),
     )
 
-pub wait_gone : (old new : State) (name : List ℕ) (count : ℕ) → Stands site old.now → Executes delete_wait (Text name ∷ []) old new (Ok count)
-    → Stands site new.now × ((t : Tables) → Holds old.now.trees t → Holds new.now.trees (record t { success_waits = without (is_wait_of name) t.success_waits }))
+pub wait_gone : (old new : State) (name : List ℕ) (count : ℕ) → Stands spool_schema old.now → Executes delete_wait (Text name ∷ []) old new (Ok count)
+    → Stands spool_schema new.now × ((t : Tables) → Holds old.now.trees t → Holds new.now.trees (record t { success_waits = without (is_wait_of name) t.success_waits }))
 wait_gone old new name count stands h =
     let db = old.now.trees in
     let next = new.now.trees in
@@ -413,12 +413,12 @@ wait_gone old new name count stands h =
       it.now_stands,
       λ t held.
           let out = gone old new stands delete_wait (Text name ∷ []) count 7 success_waits refl (where_is 1 0 ∷ []) (is_text name 1) it (apart_of wait_key wait_cells wait_places t.success_waits (db success_waits.tree) held.success_waits) (filter_same _ (is_text name 1) (at_text 1 name []) (db success_waits.tree)) in
-          let same : next ≡ out.mid = nothing_due site Enforced out.settles.0 out.mid next (subst (λ stack. Leads site Enforced out.settles.0 out.mid stack (Ok next)) (of_waits 0 out.olds) out.settles.1) in
+          let same : next ≡ out.mid = nothing_due spool_schema Enforced out.settles.0 out.mid next (subst (λ stack. Leads spool_schema Enforced out.settles.0 out.mid stack (Ok next)) (of_waits 0 out.olds) out.settles.1) in
           subst (λ trees. Holds trees (record t { success_waits = without (is_wait_of name) t.success_waits })) (sym same) (holds_waits t db out.mid _ out.kept held (waits_left name t db out.mid held out.rows)),
     )
 
-pub link_gone : (old new : State) (name : List ℕ) (count : ℕ) → Stands site old.now → Executes delete_link (Text name ∷ []) old new (Ok count)
-    → Stands site new.now × ((t : Tables) → Holds old.now.trees t → Holds new.now.trees (record t { links = without (is_link_of name) t.links }))
+pub link_gone : (old new : State) (name : List ℕ) (count : ℕ) → Stands spool_schema old.now → Executes delete_link (Text name ∷ []) old new (Ok count)
+    → Stands spool_schema new.now × ((t : Tables) → Holds old.now.trees t → Holds new.now.trees (record t { links = without (is_link_of name) t.links }))
 link_gone old new name count stands h =
     let db = old.now.trees in
     let next = new.now.trees in
@@ -426,7 +426,7 @@ link_gone old new name count stands h =
       it.now_stands,
       λ t held.
           let out = gone old new stands delete_link (Text name ∷ []) count 8 links refl (where_is 1 0 ∷ []) (is_text name 1) it (apart_of link_key link_cells link_places t.links (db links.tree) held.links) (filter_same _ (is_text name 1) (at_text 1 name []) (db links.tree)) in
-          let same : next ≡ out.mid = nothing_due site Enforced out.settles.0 out.mid next (subst (λ stack. Leads site Enforced out.settles.0 out.mid stack (Ok next)) (of_links 0 out.olds) out.settles.1) in
+          let same : next ≡ out.mid = nothing_due spool_schema Enforced out.settles.0 out.mid next (subst (λ stack. Leads spool_schema Enforced out.settles.0 out.mid stack (Ok next)) (of_links 0 out.olds) out.settles.1) in
           subst (λ trees. Holds trees (record t { links = without (is_link_of name) t.links })) (sym same) (holds_links t db out.mid _ out.kept held (links_left name t db out.mid held out.rows)),
     )
 
@@ -461,8 +461,8 @@ below_passes name below r it =
     let own : is_below name below 1 r ≡ is_forgotten name below x = rw (system, number) (forgotten_test name below x) in
     rw (system, number) (then_term (at_texts false Eq x.system name ∙ is_eq-slice_cmp x.system name) (last_term (at_ints false Lt (pos x.taken.number) (pos below) ∙ lt_nat x.taken.number below))) ∙ sym own
 
-pub taken_gone : (old new : State) (name : List ℕ) (below : ℕ) (count : ℕ) → Stands site old.now → Executes delete_taken (Text name ∷ Int (pos below) ∷ []) old new (Ok count)
-    → Stands site new.now × ((t : Tables) → Holds old.now.trees t → Holds new.now.trees (record t { taken = without (is_forgotten name below) t.taken }))
+pub taken_gone : (old new : State) (name : List ℕ) (below : ℕ) (count : ℕ) → Stands spool_schema old.now → Executes delete_taken (Text name ∷ Int (pos below) ∷ []) old new (Ok count)
+    → Stands spool_schema new.now × ((t : Tables) → Holds old.now.trees t → Holds new.now.trees (record t { taken = without (is_forgotten name below) t.taken }))
 taken_gone old new name below count stands h =
     let db = old.now.trees in
     let next = new.now.trees in
@@ -473,13 +473,13 @@ taken_gone old new name below count stands h =
           let rows = all_cells taken_key taken_cells taken_places ShowsTaken (λ x. (x, refl)) t.taken (db taken.tree) held.taken in
           let picks = filter_same_on (λ r. list_all (holds (params ∷ r ∷ [])) forgotten_terms) (is_below name below 1) (db taken.tree) (all_weaker (λ r. ShowsTaken (columns taken_places r)) (λ r. list_all (holds (params ∷ r ∷ [])) forgotten_terms ≡ is_below name below 1 r) (below_passes name below) (db taken.tree) rows) in
           let out = gone old new stands delete_taken params count 9 taken refl forgotten_terms (is_below name below 1) it (apart_of taken_key taken_cells taken_places t.taken (db taken.tree) held.taken) picks in
-          let same : next ≡ out.mid = nothing_due site Enforced out.settles.0 out.mid next (subst (λ stack. Leads site Enforced out.settles.0 out.mid stack (Ok next)) (of_taken_rows 0 out.olds) out.settles.1) in
+          let same : next ≡ out.mid = nothing_due spool_schema Enforced out.settles.0 out.mid next (subst (λ stack. Leads spool_schema Enforced out.settles.0 out.mid stack (Ok next)) (of_taken_rows 0 out.olds) out.settles.1) in
           let left : AreTaken (without (is_forgotten name below) t.taken) (out.mid taken.tree) = subst (AreTaken _) (sym out.rows) (fewer taken_key taken_cells taken_places (is_forgotten name below) (is_below name below 1) (is_below name below 0) (forgotten_test name below) (λ r. refl) t.taken (db taken.tree) held.taken) in
           subst (λ trees. Holds trees (record t { taken = without (is_forgotten name below) t.taken })) (sym same) (holds_taken t db out.mid _ out.kept held left),
     )
 
-pub lines_gone : (old new : State) (name : List ℕ) (count : ℕ) → Stands site old.now → Executes delete_lines (Text name ∷ []) old new (Ok count)
-    → Stands site new.now × ((t : Tables) → Holds old.now.trees t → Holds new.now.trees (record t { lines = without (is_line_of name) t.lines; ranges = without (is_range_of name) t.ranges }))
+pub lines_gone : (old new : State) (name : List ℕ) (count : ℕ) → Stands spool_schema old.now → Executes delete_lines (Text name ∷ []) old new (Ok count)
+    → Stands spool_schema new.now × ((t : Tables) → Holds old.now.trees t → Holds new.now.trees (record t { lines = without (is_line_of name) t.lines; ranges = without (is_range_of name) t.ranges }))
 lines_gone old new name count stands h =
     let db = old.now.trees in
     let next = new.now.trees in
@@ -494,8 +494,8 @@ lines_gone old new name count stands h =
           holds_after_lines t db next _ _ (keeps_more lines.tree (ranges.tree ∷ []) db out.mid next out.kept fall.others) held (lines_left name t db next held own) (ranges_left name t db next held children),
     )
 
-pub system_gone : (old new : State) (name : List ℕ) (count : ℕ) → Stands site old.now → Executes delete_system (Text name ∷ []) old new (Ok count)
-    → Stands site new.now × ((t : Tables) → Holds old.now.trees t
+pub system_gone : (old new : State) (name : List ℕ) (count : ℕ) → Stands spool_schema old.now → Executes delete_system (Text name ∷ []) old new (Ok count)
+    → Stands spool_schema new.now × ((t : Tables) → Holds old.now.trees t
     → Holds new.now.trees (record t { systems = without (has_name name) t.systems; lines = without (is_line_of name) t.lines; ranges = without (is_range_of name) t.ranges; success_waits = without (is_wait_of name) t.success_waits; links = without (is_link_of name) t.links; taken = without (is_taken_of name) t.taken }))
 system_gone old new name count stands h =
     let db = old.now.trees in
@@ -509,7 +509,7 @@ system_gone old new name count stands h =
           let some = list_any (loses plain (1 ∷ [])) (pairs out.olds []) in
           let taken_same : out.mid taken.tree ≡ db taken.tree = out.kept.1.1.1.1.1.1.1.1.1.0 refl in
           let first = child_falls name taken (due_lines out.olds ∷ due_child success_waits out.olds ∷ due_child links out.olds ∷ []) out.mid next out.olds (subst AreApart (sym taken_same) (apart_of taken_key taken_cells taken_places t.taken (db taken.tree) held.taken)) named (of_taken_rows 1) some
-          (subst (λ stack. Settles site Enforced out.mid stack (Ok next)) (of_systems out.olds) out.settles) in
+          (subst (λ stack. Settles spool_schema Enforced out.mid stack (Ok next)) (of_systems out.olds) out.settles) in
           let links_same : first.mid links.tree ≡ db links.tree = first.fall.others.1.1.1.1.1.1.1.1.0 refl ∙ out.kept.1.1.1.1.1.1.1.1.0 refl in
           let second = child_falls name links (due_lines out.olds ∷ due_child success_waits out.olds ∷ []) first.mid next out.olds (subst AreApart (sym links_same) (apart_of link_key link_cells link_places t.links (db links.tree) held.links)) named (of_links 1) some first.rest in
           let waits_same : second.mid success_waits.tree ≡ db success_waits.tree = second.fall.others.1.1.1.1.1.1.1.0 refl ∙ first.fall.others.1.1.1.1.1.1.1.0 refl ∙ out.kept.1.1.1.1.1.1.1.0 refl in
@@ -536,8 +536,8 @@ system_gone old new name count stands h =
           (systems_left name t db next held own) (lines_left name t db next held children) (ranges_left name t db next held grandchildren) (waits_left name t db next held waits) (links_left name t db next held all_links) (taken_left name t db next held all_taken),
     )
 
-pub job_gone : (old new : State) (number count : ℕ) → Stands site old.now → Executes delete_job (Int (pos number) ∷ []) old new (Ok count)
-    → Stands site new.now × ((t : Tables) → Holds old.now.trees t → Holds new.now.trees (record t { jobs = without (has_number number) t.jobs; pieces = without (is_piece_of number) t.pieces }))
+pub job_gone : (old new : State) (number count : ℕ) → Stands spool_schema old.now → Executes delete_job (Int (pos number) ∷ []) old new (Ok count)
+    → Stands spool_schema new.now × ((t : Tables) → Holds old.now.trees t → Holds new.now.trees (record t { jobs = without (has_number number) t.jobs; pieces = without (is_piece_of number) t.pieces }))
 job_gone old new number count stands h =
     let db = old.now.trees in
     let next = new.now.trees in

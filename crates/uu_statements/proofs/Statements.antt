@@ -44,9 +44,9 @@ use Rattle.uu_schema.proofs.Terms.{over}
 use Rattle.uu_schema.proofs.Rows.{cast_int, cast_null, over_rows}
 use Rattle.uu_schema.proofs.Writes.{insert_ran, insert_applies, inserted, update_ran, update_writes, delete_ran, delete_writes}
 use Rattle.uu_tables.specs.Changes.{alter}
-use Rattle.uu_schema.specs.Schema.{site}
+use Rattle.uu_schema.specs.Schema.{spool_schema}
 use Rattle.uu_schema.specs.Keyed.{columns, Keyed}
-use Rattle.uu_schema.specs.Made.{Keeps}
+use Rattle.uu_schema.specs.Made.{KeepsOtherTables}
 use Rattle.uu_schema.proofs.Keeps.{keeps_one}
 use Rattle.uu_statements.proofs.Keyed.{reordered, one_more, picked, picked_rows, altered, none_change, no_permutation, none_mapped}
 use Rattle.uu_statements.proofs.Unique.{fresh_key}
@@ -67,7 +67,7 @@ fresh_by_number key cells places x r rows keyed free reads y s there shows same 
     let alike : rowid s ≡ rowid r = reads y s shows ∙ ap (λ n. Int (pos n)) same ∙ sym keyed in
     true≢false (sym (ap is_eq (tied_itself value_cmp_total (rowid r))) ∙ ap (λ v. is_eq (value_cmp v (rowid r))) (sym alike) ∙ untied)
 
-module _ (old new : State) (stands : Stands site old.now) (sql : List ℕ) (params : Row) (count at : ℕ) (bare : Table) (found : slice_get site.tables at ≡ Some (record bare { is_counted = false })) where
+module _ (old new : State) (stands : Stands spool_schema old.now) (sql : List ℕ) (params : Row) (count at : ℕ) (bare : Table) (found : slice_get spool_schema.tables at ≡ Some (record bare { is_counted = false })) where
   abbrev table : Table
   table = record bare { is_counted = false }
 
@@ -86,15 +86,15 @@ module _ (old new : State) (stands : Stands site old.now) (sql : List ℕ) (para
   adds row = record { table = table; gone = []; news = row ∷ [] }
 
   module _ {K X : Type 0} (key : X → K) (cells : X → Row) (places : List ℕ) where
-    pub row_added : (terms : List Term) (width : ℕ) → command_of (understood site sql) ≡ Insert at (Values terms width) → IsPlain (understood site sql) → Executes sql params old new (Ok count) → (x : X) (row : Row)
-        → inserted old new site stands.schema at bare found (statement_of sql (understood site sql)) params count terms width ≡ adds row → columns places row ≡ cells x → is_int (rowid row) ≡ true
-        → (Fits site next → next bare.tree ≡ put_row row rows → is_taken rows row ≡ false → AreNumbered rows → (y : X) (s : Row) → Has rows s → columns places s ≡ cells y → key y ≢ key x)
-        → Stands site new.now × ((xs ys : List X) → IsPermutation (x ∷ xs) ys → Keyed key cells places xs rows → Keyed key cells places ys (next bare.tree)) × Keeps (bare.tree ∷ []) db next
+    pub row_added : (terms : List Term) (width : ℕ) → command_of (understood spool_schema sql) ≡ Insert at (Values terms width) → IsPlain (understood spool_schema sql) → Executes sql params old new (Ok count) → (x : X) (row : Row)
+        → inserted old new spool_schema stands.schema at bare found (statement_of sql (understood spool_schema sql)) params count terms width ≡ adds row → columns places row ≡ cells x → is_int (rowid row) ≡ true
+        → (Fits spool_schema next → next bare.tree ≡ put_row row rows → is_taken rows row ≡ false → AreNumbered rows → (y : X) (s : Row) → Has rows s → columns places s ≡ cells y → key y ≢ key x)
+        → Stands spool_schema new.now × ((xs ys : List X) → IsPermutation (x ∷ xs) ys → Keyed key cells places xs rows → Keyed key cells places ys (next bare.tree)) × KeepsOtherTables (bare.tree ∷ []) db next
     row_added terms width is plain h x row edit shows int fresh =
-        let text = statement_of sql (understood site sql) in
-        let w = runs_as sql params old new site stands.schema (Insert at (Values terms width)) is plain count h in
-        let ran = insert_ran old new site stands.schema at bare found text params count (Values terms width) w in
-        let a = subst (λ (e : Edit). Applies site Enforced db e next) edit (insert_applies old new site stands.schema at bare found text params count terms width ran) in
+        let text = statement_of sql (understood spool_schema sql) in
+        let w = runs_as sql params old new spool_schema stands.schema (Insert at (Values terms width)) is plain count h in
+        let ran = insert_ran old new spool_schema stands.schema at bare found text params count (Values terms width) w in
+        let a = subst (λ (e : Edit). Applies spool_schema Enforced db e next) edit (insert_applies old new spool_schema stands.schema at bare found text params count terms width ran) in
         let free : is_taken rows row ≡ false = not-true _ (and_parts (not (is_taken rows row)) true a.fresh).0 in (
           ran.stands,
           (λ xs ys same held. subst (Keyed key cells places ys) (sym a.rows) (reordered key cells places (x ∷ xs) ys (put_row row rows) same (one_more key cells places x xs row rows held shows int free (fresh a.fits a.rows free held.numbered)))),
@@ -108,18 +108,18 @@ module _ (old new : State) (stands : Stands site old.now) (sql : List ℕ) (para
 
   module _ {K X : Type 0} (key : X → K) (cells : X → Row) (places : List ℕ) (p : X → Bool) (q test : Row → Bool) (on_cells : (x : X) → test (cells x) ≡ p x) (on_rows : (r : Row) → test (columns places r) ≡ q r)
       (one : (x y : X) → p x ≡ true → p y ≡ true → key x ≡ key y) (f : X → X) (same_key : (x : X) → key (f x) ≡ key x) where
-    pub row_altered : (tests terms : List Term) → command_of (understood site sql) ≡ Update at (record { lets = []; body = over bare.tree tests terms }) → IsPlain (understood site sql) → Executes sql params old new (Ok count)
+    pub row_altered : (tests terms : List Term) → command_of (understood spool_schema sql) ≡ Update at (record { lets = []; body = over bare.tree tests terms }) → IsPlain (understood spool_schema sql) → Executes sql params old new (Ok count)
         → overlay db [] bare.tree ≡ rows → (AreNumbered rows → filter (λ r. list_all (holds (params ∷ r ∷ [])) tests) rows ≡ filter q rows) → (row : X → ℤ → Row)
         → ((x : X) (was : Row) (id : ℤ) → rowid was ≡ Int id → columns places was ≡ cells x → eval_all terms (params ∷ was ∷ []) ≡ Int id ∷ row x id)
         → ((x : X) (id : ℤ) → edit_of db table (id ∷ []) Given 1 ((Int id ∷ row x id) ∷ []) ≡ puts id (row x id)) → ((x : X) (id : ℤ) → rowid (row x id) ≡ Int id)
-        → ((x : X) (was : Row) (id : ℤ) → rowid was ≡ Int id → columns places was ≡ cells x → columns places (row x id) ≡ cells (f x)) → ((olds : List Row) (r : Row) → works site Enforced 0 bare.tree olds (r ∷ []) ≡ [])
-        → Stands site new.now × ((xs : List X) → Keyed key cells places xs rows → Keyed key cells places (alter p f xs) (next bare.tree) × Keeps (bare.tree ∷ []) db next)
+        → ((x : X) (was : Row) (id : ℤ) → rowid was ≡ Int id → columns places was ≡ cells x → columns places (row x id) ≡ cells (f x)) → ((olds : List Row) (r : Row) → works spool_schema Enforced 0 bare.tree olds (r ∷ []) ≡ [])
+        → Stands spool_schema new.now × ((xs : List X) → Keyed key cells places xs rows → Keyed key cells places (alter p f xs) (next bare.tree) × KeepsOtherTables (bare.tree ∷ []) db next)
     row_altered tests terms is plain h bare_tree finds row evals casts keyed shows none_due =
-        let text = statement_of sql (understood site sql) in
+        let text = statement_of sql (understood spool_schema sql) in
         let program : Program = record { lets = []; body = over bare.tree tests terms } in
-        let w = runs_as sql params old new site stands.schema (Update at program) is plain count h in
-        let ran = update_ran old new site stands.schema at bare found text params count program w in
-        let wrote = update_writes old new site stands.schema at bare found text params count program ran in
+        let w = runs_as sql params old new spool_schema stands.schema (Update at program) is plain count h in
+        let ran = update_ran old new spool_schema stands.schema at bare found text params count program w in
+        let wrote = update_writes old new spool_schema stands.schema at bare found text params count program ran in
         let eval : Row → Row = λ r. eval_all terms (params ∷ r ∷ []) in
         let order = over_rows db bare.tree tests terms params wrote.0 bare_tree (wrote.1.answer Null) in (
           ran.stands,
@@ -130,9 +130,9 @@ module _ (old new : State) (stands : Stands site old.now) (sql : List ℕ) (para
                 | inl none ↦
                     let no_row : filter q rows ≡ [] = none_mapped (columns places) _ (no_permutation _ (subst (λ l. IsPermutation (map cells l) (map (columns places) (filter q rows))) none matching)) in
                     let nothing : wrote.0 ≡ [] = no_permutation wrote.0 (subst (λ l. IsPermutation (map eval l) wrote.0) no_row all) in
-                    let did = subst (λ rs. WritesTrees site Enforced db (edit_of db table (ids_of rs) Given 1 rs) (Ok next)) nothing wrote.2 in
+                    let did = subst (λ rs. WritesTrees spool_schema Enforced db (edit_of db table (ids_of rs) Given 1 rs) (Ok next)) nothing wrote.2 in
                     let edit : Edit = record { table = table; gone = []; news = [] } in
-                    let a = one_step site Enforced db next edit (no_works site Enforced 0 bare.tree []) did in
+                    let a = one_step spool_schema Enforced db next edit (no_works spool_schema Enforced 0 bare.tree []) did in
                     (subst (Keyed key cells places _) (sym a.rows) (subst (λ ys. Keyed key cells places ys rows) (sym (none_change p f xs none)) held), keeps_one edit db next a)
                 | inr only ↦
                     let x = only.0 in
@@ -142,9 +142,9 @@ module _ (old new : State) (stands : Stands site old.now) (sql : List ℕ) (para
                     let there = has_filtered q rows was (subst (λ l. Has l was) (sym it.1) (inl refl)) in
                     let old_key : rowid was ≡ Int id = int_is (rowid was) (all_has (λ r. IsTrue (is_int (rowid r))) rows was held.numbered there.0) in
                     let now : wrote.0 ≡ (Int id ∷ row x id) ∷ [] = one_permutation _ wrote.0 (subst (λ l. IsPermutation (map eval l) wrote.0) it.1 all) ∙ ap (λ r. r ∷ []) (evals x was id old_key it.2) in
-                    let did = subst (λ rs. WritesTrees site Enforced db (edit_of db table (ids_of rs) Given 1 rs) (Ok next)) now wrote.2 in
+                    let did = subst (λ rs. WritesTrees spool_schema Enforced db (edit_of db table (ids_of rs) Given 1 rs) (Ok next)) now wrote.2 in
                     let edit = puts id (row x id) in
-                    let a = one_step site Enforced db next edit (none_due (taken_by db edit) (row x id)) (subst (λ (e : Edit). WritesTrees site Enforced db e (Ok next)) (casts x id) did) in
+                    let a = one_step spool_schema Enforced db next edit (none_due (taken_by db edit) (row x id)) (subst (λ (e : Edit). WritesTrees spool_schema Enforced db e (Ok next)) (casts x id) did) in
                     (subst (Keyed key cells places _) (sym a.rows) (altered key cells places p q test on_cells on_rows f same_key xs rows held x only.1 was (row x id) it.1 id old_key (keyed x id) (shows x was id old_key it.2)), keeps_one edit db next a)
               ],
         )
@@ -156,26 +156,26 @@ module _ (old new : State) (stands : Stands site old.now) (sql : List ℕ) (para
 
   -- those that pass the tests, by their rowids; what is left obeys the references
   pub record Took (tests : List Term) : Type 0 where
-    pub now_stands : Stands site new.now
+    pub now_stands : Stands spool_schema new.now
     pub shown : List Row
     pub order : IsPermutation (map (λ r. column r 0 ∷ []) (filter (λ r. list_all (holds (params ∷ r ∷ [])) tests) rows)) shown
-    pub wrote : WritesTrees site Enforced db (takes (ids_of shown)) (Ok next)
-    pub refers : Refers All site next
+    pub wrote : WritesTrees spool_schema Enforced db (takes (ids_of shown)) (Ok next)
+    pub refers : Refers All spool_schema next
 
-  pub took : (tests : List Term) → command_of (understood site sql) ≡ Delete at (record { lets = []; body = over bare.tree tests (col 1 0 ∷ []) }) → IsPlain (understood site sql) → Executes sql params old new (Ok count)
+  pub took : (tests : List Term) → command_of (understood spool_schema sql) ≡ Delete at (record { lets = []; body = over bare.tree tests (col 1 0 ∷ []) }) → IsPlain (understood spool_schema sql) → Executes sql params old new (Ok count)
       → overlay db [] bare.tree ≡ rows → Took tests
   took tests is plain h bare_tree =
-      let text = statement_of sql (understood site sql) in
+      let text = statement_of sql (understood spool_schema sql) in
       let program : Program = record { lets = []; body = over bare.tree tests (col 1 0 ∷ []) } in
-      let w = runs_as sql params old new site stands.schema (Delete at program) is plain count h in
-      let ran = delete_ran old new site stands.schema at bare found text params count program w in
-      let wrote = delete_writes old new site stands.schema at bare found text params count program ran in
+      let w = runs_as sql params old new spool_schema stands.schema (Delete at program) is plain count h in
+      let ran = delete_ran old new spool_schema stands.schema at bare found text params count program w in
+      let wrote = delete_writes old new spool_schema stands.schema at bare found text params count program ran in
       record {
         now_stands = ran.stands;
         shown = wrote.0;
         order = over_rows db bare.tree tests (col 1 0 ∷ []) params wrote.0 bare_tree (wrote.1.answer Null);
         wrote = wrote.2;
-        refers = subst (Refers All site) (sym ran.trees) ran.refers;
+        refers = subst (Refers All spool_schema) (sym ran.trees) ran.refers;
       }
 
 -- ---- values that may be NULL

@@ -13,7 +13,7 @@ use Rattle.uu_tables.specs.declared.change.Change.{Change}
 use Rattle.uu_tables.specs.Tables.{tables_of}
 use Rattle.uu_tables.specs.Changes.{applied}
 use Rattle.uu_schema.specs.Faults.{kind_of_error}
-use Rattle.uu_schema.specs.Schema.{site}
+use Rattle.uu_schema.specs.Schema.{spool_schema}
 use Rattle.uu_schema.specs.Held.{Holds}
 use Rattle.uu_statements.specs.Makes.{MakesAll}
 use Rattle.uu_schema.specs.declared.fault.StoreFault.{StoreFault}
@@ -24,11 +24,11 @@ use Rattle.uu_schema.specs.declared.fault.Halt.TheVariants.{Before, Commit}
 use Rattle.uu_statements.specs.Step.{HasTables, IsWrittenStep, IsToldStep}
 
 module _ {R : Type 0} (s t : State) (reply : R) (a : db.State) where
-  module _ (b : db.State) (changes : List Change) (leads : applied changes (tables_of s) ≡ tables_of t) {T E : Type 0} (w : Result T E) (whole : Whole site site (MakesAll changes) a b w) where
+  module _ (b : db.State) (changes : List Change) (leads : applied changes (tables_of s) ≡ tables_of t) {T E : Type 0} (w : Result T E) (whole : Whole spool_schema spool_schema (MakesAll changes) a b w) where
     means : (old new : Trees) → Holds old (tables_of s) → MakesAll changes old new → Holds new (tables_of t)
     means old new holds made = subst (Holds new) leads (made (tables_of s) holds)
 
-    left : db.HasCleanDisk b → Rests a → HasTables a.now s → (trees : Trees) → b.may_leave trees → a.may_leave trees ⊎ (IsSound site trees × Holds trees (tables_of t))
+    left : db.HasCleanDisk b → Rests a → HasTables a.now s → (trees : Trees) → b.may_leave trees → a.may_leave trees ⊎ (IsSound spool_schema trees × Holds trees (tables_of t))
     left clean rests enc trees may = elim (whole.survives.crash clean trees may) [
       | inl was ↦ inl was
       | inr made ↦ inr (let m = made enc.stands in (m.1, means a.now.trees trees enc.holds m.0))
@@ -44,7 +44,7 @@ module _ {R : Type 0} (s t : State) (reply : R) (a : db.State) where
       clean = whole.survives.clean;
     }
       where
-        did_of : (w : Result T E) → Ends site (MakesAll changes) a b w → IsOk w → Did site (MakesAll changes) a b
+        did_of : (w : Result T E) → Ends spool_schema (MakesAll changes) a b w → IsOk w → Did spool_schema (MakesAll changes) a b
         did_of (Ok x) ends done = ends
         did_of (Err e) ends done = absurd (cc)
 
@@ -57,7 +57,7 @@ module _ {R : Type 0} (s t : State) (reply : R) (a : db.State) where
       clean = whole.survives.clean;
     }
       where
-        back : (w : Result T E) → Ends site (MakesAll changes) a b w → IsErr w → Rests a → IsTrue b.is_open → HasTables a.now s → Rests b × HasTables b.now s
+        back : (w : Result T E) → Ends spool_schema (MakesAll changes) a b w → IsErr w → Rests a → IsTrue b.is_open → HasTables a.now s → Rests b × HasTables b.now s
         back (Ok x) ends undone rests is_open enc = absurd (cc)
         back (Err e) ends undone rests is_open enc =
             let u = ends.undone is_open in

@@ -23,7 +23,7 @@ use Rattle.sqlite_keyed.proofs.ListLemmas.{none_from_any}
 use Rattle.uu_schema.specs.Rowids.{AreNumbered}
 use Rattle.uu_schema.proofs.Rows.{put_permutes}
 use Rattle.uu_schema.proofs.Rowids.{has_moved}
-use Rattle.uu_schema.specs.Schema.{site, systems, lines, ranges, pieces, entries, success_waits, links, taken}
+use Rattle.uu_schema.specs.Schema.{spool_schema, systems, lines, ranges, pieces, entries, success_waits, links, taken}
 
 turned : (o : Ordering) → is_eq o ≡ false → is_ne (ordering_reverse o) ≡ true
 turned Less h = refl
@@ -64,28 +64,28 @@ fresh_key places r rows int numbered free unique s there =
 no_reference : Unique ≢ ForeignKey
 no_reference e = absurd (cc)
 
-pub unique_systems : (db : Trees) → Fits site db → (s : Row) → Has (db systems.tree) s → clashes plain (1 ∷ []) (db systems.tree) s ≡ false
+pub unique_systems : (db : Trees) → Fits spool_schema db → (s : Row) → Has (db systems.tree) s → clashes plain (1 ∷ []) (db systems.tree) s ≡ false
 unique_systems db fits s there = not-true _ (and_parts _ true (all_has _ (db systems.tree) s (fits.rules Unique no_reference).1.0 there)).0
 
-pub unique_lines : (db : Trees) → Fits site db → (s : Row) → Has (db lines.tree) s → clashes plain (1 ∷ 2 ∷ []) (db lines.tree) s ≡ false
+pub unique_lines : (db : Trees) → Fits spool_schema db → (s : Row) → Has (db lines.tree) s → clashes plain (1 ∷ 2 ∷ []) (db lines.tree) s ≡ false
 unique_lines db fits s there = not-true _ (and_parts _ true (all_has _ (db lines.tree) s (fits.rules Unique no_reference).1.1.0 there)).0
 
-pub unique_ranges : (db : Trees) → Fits site db → (s : Row) → Has (db ranges.tree) s → clashes plain (1 ∷ 2 ∷ 3 ∷ []) (db ranges.tree) s ≡ false
+pub unique_ranges : (db : Trees) → Fits spool_schema db → (s : Row) → Has (db ranges.tree) s → clashes plain (1 ∷ 2 ∷ 3 ∷ []) (db ranges.tree) s ≡ false
 unique_ranges db fits s there = not-true _ (and_parts _ true (all_has _ (db ranges.tree) s (fits.rules Unique no_reference).1.1.1.0 there)).0
 
-pub unique_pieces : (db : Trees) → Fits site db → (s : Row) → Has (db pieces.tree) s → clashes plain (1 ∷ 2 ∷ []) (db pieces.tree) s ≡ false
+pub unique_pieces : (db : Trees) → Fits spool_schema db → (s : Row) → Has (db pieces.tree) s → clashes plain (1 ∷ 2 ∷ []) (db pieces.tree) s ≡ false
 unique_pieces db fits s there = not-true _ (and_parts _ true (all_has _ (db pieces.tree) s (fits.rules Unique no_reference).1.1.1.1.1.0 there)).0
 
-pub unique_entries : (db : Trees) → Fits site db → (s : Row) → Has (db entries.tree) s → clashes plain (1 ∷ []) (db entries.tree) s ≡ false
+pub unique_entries : (db : Trees) → Fits spool_schema db → (s : Row) → Has (db entries.tree) s → clashes plain (1 ∷ []) (db entries.tree) s ≡ false
 unique_entries db fits s there = not-true _ (and_parts _ true (all_has _ (db entries.tree) s (fits.rules Unique no_reference).1.1.1.1.1.1.0 there)).0
 
-pub unique_waits : (db : Trees) → Fits site db → (s : Row) → Has (db success_waits.tree) s → clashes plain (1 ∷ []) (db success_waits.tree) s ≡ false
+pub unique_waits : (db : Trees) → Fits spool_schema db → (s : Row) → Has (db success_waits.tree) s → clashes plain (1 ∷ []) (db success_waits.tree) s ≡ false
 unique_waits db fits s there = not-true _ (and_parts _ true (all_has _ (db success_waits.tree) s (fits.rules Unique no_reference).1.1.1.1.1.1.1.0 there)).0
 
-pub unique_links : (db : Trees) → Fits site db → (s : Row) → Has (db links.tree) s → clashes plain (1 ∷ []) (db links.tree) s ≡ false
+pub unique_links : (db : Trees) → Fits spool_schema db → (s : Row) → Has (db links.tree) s → clashes plain (1 ∷ []) (db links.tree) s ≡ false
 unique_links db fits s there = not-true _ (and_parts _ true (all_has _ (db links.tree) s (fits.rules Unique no_reference).1.1.1.1.1.1.1.1.0 there)).0
 
-pub unique_taken : (db : Trees) → Fits site db → (s : Row) → Has (db taken.tree) s → clashes plain (1 ∷ 2 ∷ []) (db taken.tree) s ≡ false
+pub unique_taken : (db : Trees) → Fits spool_schema db → (s : Row) → Has (db taken.tree) s → clashes plain (1 ∷ 2 ∷ []) (db taken.tree) s ≡ false
 unique_taken db fits s there = not-true _ (and_parts _ true (all_has _ (db taken.tree) s (fits.rules Unique no_reference).1.1.1.1.1.1.1.1.1.0 there)).0
 
 -- ---- rows of one key agree

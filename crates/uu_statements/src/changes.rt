@@ -1,7 +1,7 @@
 // Changes, one statement each, and several changes in one transaction.
 ghost use Rattle.uu_schema.specs.Steps.{IsIdle};
 ghost use Rattle.uu_schema.specs.Statements.{Writes, Transacts};
-ghost use Rattle.uu_schema.specs.Schema.{site};
+ghost use Rattle.uu_schema.specs.Schema.{spool_schema};
 ghost use Rattle.uu_statements.specs.Makes.{Makes, MakesAll};
 
 use crate::entries::{add_entry, remove_entry};
@@ -82,7 +82,7 @@ pub(crate) fn commit<S: Alter>(
     changes: &[Change<'_>],
 ) -> Result<(), Halt>
     requires { IsIdle conn.old }
-    ensures { Transacts S.Store site site (MakesAll changes.now) conn.old conn.new result }
+    ensures { Transacts S.Store spool_schema spool_schema (MakesAll changes.now) conn.old conn.new result }
 {
     let mut tx = conn.transaction();
     write_all(alloc, &mut tx, changes)?;

@@ -155,12 +155,12 @@ module _
 
     accepted_append : (s : State) (first second : List Command) → accepted_of s (first ++ second) ≡ accepted_of s first ++ accepted_of (state_after s first) second
     accepted_append s [] second = refl
-    accepted_append s (command ∷ first) second = by-verdict (verdict s command) (accepted_append (after s command).0 first second)
+    accepted_append s (command ∷ first) second = by_verdict (verdict s command) (accepted_append (after s command).0 first second)
       where
-        by-verdict : (v : Option Refusal) → accepted_of (after s command).0 (first ++ second) ≡ accepted_of (after s command).0 first ++ accepted_of (state_after (after s command).0 first) second
+        by_verdict : (v : Option Refusal) → accepted_of (after s command).0 (first ++ second) ≡ accepted_of (after s command).0 first ++ accepted_of (state_after (after s command).0 first) second
             → unless_refused v command (accepted_of (after s command).0 (first ++ second)) ≡ unless_refused v command (accepted_of (after s command).0 first) ++ accepted_of (state_after (after s command).0 first) second
-        by-verdict None again = ap (λ l. command ∷ l) again
-        by-verdict (Some refusal) again = again
+        by_verdict None again = ap (λ l. command ∷ l) again
+        by_verdict (Some refusal) again = again
 
     -- ---- one job
 
@@ -194,7 +194,7 @@ module _
 
         -- what is handed in is there
         enters : (state : State) (command : Command) (new : NewJob) → IsHandedIn state command (job_of number new) → Contains (after state command).0.jobs (job_of state.next new)
-        enters state command new it = by-command command it.command_is it.accepted it.first
+        enters state command new it = by_command command it.command_is it.accepted it.first
           where
             is : (other : NewJob) → Some other ≡ Some it.new → job_of state.next other ≡ job_of state.next new
             is other e = ap (job_of state.next) (new_of other it.new e) ∙ same_new
@@ -202,27 +202,27 @@ module _
                 same_new : job_of state.next it.new ≡ job_of state.next new
                 same_new = sym it.job_is ∙ ap (λ n. job_of n new) (handed state command (job_of number new) it).0
 
-            by-command : (c : Command) → handed_by c ≡ Some it.new → verdict state c ≡ None → is_repeat state c ≡ false → Contains (after state c).0.jobs (job_of state.next new)
-            by-command (Queue job) e v f = subst (Contains (after state (Queue job)).0.jobs) (is job e) (queued state job v)
-            by-command (QueueOnce key job) e v f = subst (Contains (after state (QueueOnce key job)).0.jobs) (is job e) (queued_once state key job v f)
-            by-command (Define def) e v f = absurd (cc)
-            by-command (Remove name) e v f = absurd (cc)
-            by-command (Kill job by) e v f = absurd (cc)
-            by-command (Regrade job grade by) e v f = absurd (cc)
-            by-command (Rejuvenate job at by) e v f = absurd (cc)
-            by-command (Failed system at why) e v f = absurd (cc)
-            by-command (Done system at jobs) e v f = absurd (cc)
-            by-command (Release system jobs) e v f = absurd (cc)
-            by-command (Entry bytes) e v f = absurd (cc)
-            by-command (Forget system below) e v f = absurd (cc)
+            by_command : (c : Command) → handed_by c ≡ Some it.new → verdict state c ≡ None → is_repeat state c ≡ false → Contains (after state c).0.jobs (job_of state.next new)
+            by_command (Queue job) e v f = subst (Contains (after state (Queue job)).0.jobs) (is job e) (queued state job v)
+            by_command (QueueOnce key job) e v f = subst (Contains (after state (QueueOnce key job)).0.jobs) (is job e) (queued_once state key job v f)
+            by_command (Define def) e v f = absurd (cc)
+            by_command (Remove name) e v f = absurd (cc)
+            by_command (Kill job by) e v f = absurd (cc)
+            by_command (Regrade job grade by) e v f = absurd (cc)
+            by_command (Rejuvenate job at by) e v f = absurd (cc)
+            by_command (Failed system at why) e v f = absurd (cc)
+            by_command (Done system at jobs) e v f = absurd (cc)
+            by_command (Release system jobs) e v f = absurd (cc)
+            by_command (Entry bytes) e v f = absurd (cc)
+            by_command (Forget system below) e v f = absurd (cc)
 
         -- a command that got a number was accepted
         accepts : (state : State) (command : Command) → (after state command).1 ≡ Number number → verdict state command ≡ None
-        accepts state command told = by-verdict (verdict state command) refl told
+        accepts state command told = by_verdict (verdict state command) refl told
           where
-            by-verdict : (v : Option Refusal) → verdict state command ≡ v → (after_verdict v state command).1 ≡ Number number → verdict state command ≡ None
-            by-verdict None is told = is
-            by-verdict (Some refusal) is told = absurd (apart told)
+            by_verdict : (v : Option Refusal) → verdict state command ≡ v → (after_verdict v state command).1 ≡ Number number → verdict state command ≡ None
+            by_verdict None is told = is
+            by_verdict (Some refusal) is told = absurd (apart told)
               where
                 apart : Refused refusal ≡ Number number → ⊥
                 apart q = cc
@@ -310,7 +310,7 @@ module _
         pub accounted_under : ((state : State) (key : Key) (job : NewJob) (given : ℕ) → (after state (QueueOnce key job)).1 ≡ Number given → IsKept (after state (QueueOnce key job)).0 key given)
             → ((state : State) (commands : List Command) (key : Key) (given : ℕ) → IsKept (state_after state commands) key given → IsKept state key given ⊎ ((first : NewJob) × IsFirstUnder state commands key first given))
             → (counted : List Command) (key : Key) (new : NewJob) → Placed s counted (QueueOnce key new) (Number number) → IsAccountedForUnder s counted key number
-        accounted_under keeps origin counted key new it = by-origin (origin s (it.before ++ QueueOnce key new ∷ []) key number then_kept)
+        accounted_under keeps origin counted key new it = by_origin (origin s (it.before ++ QueueOnce key new ∷ []) key number then_kept)
           where
             then_kept : IsKept (state_after s (it.before ++ QueueOnce key new ∷ [])) key number
             then_kept = subst (λ t. IsKept t key number) (sym (follow s it.before (QueueOnce key new ∷ []))) (keeps (state_after s it.before) key new number it.told)
@@ -318,9 +318,9 @@ module _
             counted_is : counted ≡ (it.before ++ QueueOnce key new ∷ []) ++ it.behind
             counted_is = it.is ∙ sym (append_assoc it.before (QueueOnce key new ∷ []) it.behind)
 
-            by-origin : IsKept s key number ⊎ ((first : NewJob) × IsFirstUnder s (it.before ++ QueueOnce key new ∷ []) key first number) → IsAccountedForUnder s counted key number
-            by-origin (inl was) = inl (record { kept = was; job = λ job there is. kept_from s counted job there })
-            by-origin (inr (first, h)) =
+            by_origin : IsKept s key number ⊎ ((first : NewJob) × IsFirstUnder s (it.before ++ QueueOnce key new ∷ []) key first number) → IsAccountedForUnder s counted key number
+            by_origin (inl was) = inl (record { kept = was; job = λ job there is. kept_from s counted job there })
+            by_origin (inr (first, h)) =
                 let is : counted ≡ h.before ++ QueueOnce key first ∷ (h.behind ++ it.behind) = counted_is ∙ ap (λ l. l ++ it.behind) h.run_is ∙ append_assoc h.before (QueueOnce key first ∷ h.behind) it.behind in
                 inr (
                   first,

@@ -13,17 +13,17 @@ use Rattle.uu_core.specs.State.{State}
 use Rattle.uu_core.specs.Run.{state_after}
 use Rattle.uu_schema.specs.declared.version.Version.{Version}
 use Rattle.uu_schema.specs.declared.version.Version.TheVariants.{First, Second, Third}
-use Rattle.uu_schema.specs.Schema.{site_of, no_schema}
+use Rattle.uu_schema.specs.Schema.{schema_of, no_schema}
 use Rattle.uu_schema.specs.declared.fault.StoreFault.{StoreFault}
 use Rattle.uu_store.specs.declared.spool.Spool.{Spool}
 use Rattle.uu_adopt.specs.Adoption.{IsRefused, IsSpared, StopsAs}
-use Rattle.uu_adopt.specs.FoundTables.{HasNone, HasEarlier, IsEarlier}
+use Rattle.uu_adopt.specs.FoundTables.{HasNone, HasEarlier, IsEarlierVersion}
 use Rattle.uu_schema.specs.Steps.{StaysUnclean}
 use Rattle.uu_adopt.specs.Becoming.{CreatesTables, MigratesState}
 use Rattle.uu_schema.specs.Encoded.{Encodes, EncodesAs, HoldsState, HoldsStateAs}
 use Rattle.uu_store.specs.Kept.{Stores, KeepsOnly}
 use Rattle.uu_store.specs.Spool.{connection_of, has_failed, Shows}
-use Rattle.uu_store.specs.Stretches.{Adopted, TurnedAway, StoresAfter, StretchOver, Led, told}
+use Rattle.uu_store.specs.Stretches.{Adopted, TurnedAway, StoresAfter, StretchOver, Led, exchanges_over}
 use Rattle.uu_store.specs.Acknowledged.{IsAcknowledged, IsAcknowledgedUnder, StoresJob, StoresUnder}
 use Rattle.uu_store.specs.Remembered.{Remembers}
 use Rattle.uu_adopt.proofs.Settling.{Settles}
@@ -37,7 +37,7 @@ module _ {S : Type 0} (g : Ghosts S) (was now : Held S) where
   abbrev b : db.State
   b = state g now
 
-  pub adopted_as : (spool : Spool S g) → connection_of spool ≡ now → has_failed spool ≡ false → (¬ HasNone a.now.schema → (HasEarlier a.now.schema → IsRefused (Ok tt)) → IsSpared a b (Ok tt)) → ((v : Version) → IsEarlier v → MigratesState v a b (Ok tt)) → CreatesTables a b (Ok tt) → StaysUnclean a b → Adopted was spool
+  pub adopted_as : (spool : Spool S g) → connection_of spool ≡ now → has_failed spool ≡ false → (¬ HasNone a.now.schema → (HasEarlier a.now.schema → IsRefused (Ok tt)) → IsSpared a b (Ok tt)) → ((v : Version) → IsEarlierVersion v → MigratesState v a b (Ok tt)) → CreatesTables a b (Ok tt) → StaysUnclean a b → Adopted was spool
   adopted_as spool same usable spared migrates creates stays = record {
     shows = λ clean s rests stores. shown (clean_before spool now same clean) s rests stores;
     clean = subst (λ h. StaysUnclean a (state g h)) (sym same) stays;
@@ -48,9 +48,9 @@ module _ {S : Type 0} (g : Ghosts S) (was now : Held S) where
       shown clean s rests (inr none) = let it = creates.ok clean rests none.0 in shows_again spool now s same usable it.0 (subst (Encodes b.now) (sym none.1) (record { stands = it.1; holds = it.2 }))
 
   -- a stop leaves the state in the version that it was in, or in the last one
-  keeps_earlier : (v : Version) → IsEarlier v → (s : State) → StopsAs a b → EncodesAs v a.now s → KeepsOnly b.may_leave s
+  keeps_earlier : (v : Version) → IsEarlierVersion v → (s : State) → StopsAs a b → EncodesAs v a.now s → KeepsOnly b.may_leave s
   keeps_earlier v early s stops enc trees may = elim (stops.earlier v early enc.stands trees may) [
-    | inl same ↦ inl (v, subst (IsSound (site_of v)) (sym same) enc.stands.sound, subst (λ t. HoldsStateAs v t s) (sym same) enc.holds)
+    | inl same ↦ inl (v, subst (IsSound (schema_of v)) (sym same) enc.stands.sound, subst (λ t. HoldsStateAs v t s) (sym same) enc.holds)
     | inr made ↦ inl (Third, made.0, made.1.again s enc.holds)
   ]
 
@@ -64,23 +64,23 @@ module _ {S : Type 0} (g : Ghosts S) (was now : Held S) where
     | inr made ↦ inl (Third, made.0, subst (HoldsState trees) (sym none.1) made.1)
   ]
 
-  pub turned_away_as : (r : Result (Unit {0}) StoreFault) → Settles a → (¬ HasNone a.now.schema → (HasEarlier a.now.schema → IsRefused r) → IsSpared a b r) → ((v : Version) → IsEarlier v → MigratesState v a b r) → CreatesTables a b r → StaysUnclean a b → TurnedAway g was now
+  pub turned_away_as : (r : Result (Unit {0}) StoreFault) → Settles a → (¬ HasNone a.now.schema → (HasEarlier a.now.schema → IsRefused r) → IsSpared a b r) → ((v : Version) → IsEarlierVersion v → MigratesState v a b r) → CreatesTables a b r → StaysUnclean a b → TurnedAway g was now
   turned_away_as r settles spared migrates creates stays = record { stop = λ clean s rests stores. keeps_as s (stops_as a b r settles clean rests spared migrates creates) stores; clean = stays }
 
 -- a connection at rest leaves what it stores
 pub rests_leaves : (s : State) (a : db.State) → Settles a → Rests a → Stores a.now s → KeepsOnly a.may_leave s
 rests_leaves s a settles rests (inl (v, enc)) trees may =
     let is : trees ≡ a.now.trees = settles trees rests.is_open may ∙ sym (ap (λ (d : Database). d.trees) rests.settled) in
-    inl (v, subst (IsSound (site_of v)) (sym is) enc.stands.sound, subst (λ t. HoldsStateAs v t s) (sym is) enc.holds)
+    inl (v, subst (IsSound (schema_of v)) (sym is) enc.stands.sound, subst (λ t. HoldsStateAs v t s) (sym is) enc.holds)
 rests_leaves s a settles rests (inr none) trees may =
     let is = settles trees rests.is_open may in inr (subst (IsSound no_schema) (sym (is ∙ sym (ap (λ (d : Database). d.trees) rests.settled))) none.0.sound, none.1)
 
 -- ---- what is stored is shown
 
 module _ {S : Type 0} {g : Ghosts S} (found : Held S) (spool : Spool S g) (adopted : Adopted found spool) where
-  pub remembers : ((s : State) (before : Held S) (stretches : List (StretchOver S)) → Led g s before stretches found → ∥ StoresAfter s (told g stretches) (state g found) ∥₁)
-      → ((s : State) (before : Held S) (stretches : List (StretchOver S)) (new : NewJob) (number : ℕ) → Led g s before stretches found → IsAcknowledged (told g stretches) new number → ∥ StoresJob s (told g stretches) new number (state g found) ∥₁)
-      → ((s : State) (before : Held S) (stretches : List (StretchOver S)) (key : Key) (new : NewJob) (number : ℕ) → Led g s before stretches found → IsAcknowledgedUnder (told g stretches) key new number → ∥ StoresUnder s (told g stretches) key number (state g found) ∥₁)
+  pub remembers : ((s : State) (before : Held S) (stretches : List (StretchOver S)) → Led g s before stretches found → ∥ StoresAfter s (exchanges_over g stretches) (state g found) ∥₁)
+      → ((s : State) (before : Held S) (stretches : List (StretchOver S)) (new : NewJob) (number : ℕ) → Led g s before stretches found → IsAcknowledged (exchanges_over g stretches) new number → ∥ StoresJob s (exchanges_over g stretches) new number (state g found) ∥₁)
+      → ((s : State) (before : Held S) (stretches : List (StretchOver S)) (key : Key) (new : NewJob) (number : ℕ) → Led g s before stretches found → IsAcknowledgedUnder (exchanges_over g stretches) key new number → ∥ StoresUnder s (exchanges_over g stretches) key number (state g found) ∥₁)
       → Remembers found spool
   remembers commands jobs keys = record {
     commands = λ clean s before stretches led. ∥∥₁_map (commands s before stretches led) (λ then. (then.0, then.1, adopted.shows clean (state_after s then.0) then.2 then.3));

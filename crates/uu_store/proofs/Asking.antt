@@ -8,11 +8,11 @@ use Rattle.uu_core.specs.State.{State}
 use Rattle.uu_schema.specs.declared.fault.StoreFault.{StoreFault}
 use Rattle.uu_schema.specs.declared.fault.StoreFault.TheVariants.{Memory, Failed}
 use Rattle.uu_schema.specs.Encoded.{Encodes, Leaves}
-use Rattle.uu_schema.specs.Schema.{site}
+use Rattle.uu_schema.specs.Schema.{spool_schema}
 use Rattle.uu_schema.specs.Steps.{Asked, StaysUnclean}
 use Rattle.uu_schema.proofs.Steps.{told_same}
 use Rattle.uu_schema.proofs.Resting.{ready, moved, unchanged, is_memory}
-use Rattle.uu_questions.specs.Answers.{Answers, IsOf}
+use Rattle.uu_questions.specs.Answers.{Answers, IsStateOf}
 use Rattle.uu_adopt.proofs.Settling.{Settles, leaves}
 use Rattle.uu_store.specs.declared.spool.Spool.{Spool}
 use Rattle.uu_store.specs.Spool.{disk, failure_of, has_failed, Shows, IsFaultBetween, Notes}
@@ -21,7 +21,7 @@ use Rattle.uu_store.proofs.Ending.{noted_memory}
 use Rattle.uu_store.proofs.Running.{memory_of, one_ahead, ran_asked, ran_failed}
 
 -- what a database encodes, in the words of the questions
-asked_of : (s : State) (a : db.State) → Encodes a.now s → IsOf s a
+asked_of : (s : State) (a : db.State) → Encodes a.now s → IsStateOf s a
 asked_of s a enc = record { stands = enc.stands; good = enc.holds.good; holds = enc.holds.tables }
 
 -- the spool had failed before
@@ -60,7 +60,7 @@ module _ {S : Type 0} {g : Ghosts S} {T : Type 0} (IsAnswer : State → T → Ty
       again : db.HasCleanDisk (disk now) → (s : State) → Shows old s → Shows now s
       again clean s shows =
           let r : Result T Error = Ok answer in
-          let same = told_same site (disk old) (disk now) r refl it.told clean (ready s (disk old) shows.rests shows.encodes) in
+          let same = told_same spool_schema (disk old) (disk now) r refl it.told clean (ready s (disk old) shows.rests shows.encodes) in
           record { usable = usable; rests = same.0.rests; encodes = moved s (disk old).now (disk now).now same.1 shows.encodes }
 
       stop : db.HasCleanDisk (disk now) → (s : State) → Shows old s → Leaves (disk now) s
@@ -70,7 +70,7 @@ module _ {S : Type 0} {g : Ghosts S} {T : Type 0} (IsAnswer : State → T → Ty
       ]
 
   -- it was not, and the spool noted the fault
-  question_unanswered : (b : db.State) (fault : StoreFault) → IsFaultBetween false (has_failed now) fault → Notes (failure_of now) fault → Asked site (disk old) b
+  question_unanswered : (b : db.State) (fault : StoreFault) → IsFaultBetween false (has_failed now) fault → Notes (failure_of now) fault → Asked spool_schema (disk old) b
       → (db.HasCleanDisk (disk now) → fault ≡ Memory → IsTrue b.is_open × db.IsUnchanged b (disk now)) → db.Survives b (disk now) (λ _. ⊥) → IsQuestion IsAnswer old now (Err fault)
   question_unanswered b fault between notes asked memory over = record {
     marked = subst (λ before. IsFaultBetween before (has_failed now) fault) (sym was) between;

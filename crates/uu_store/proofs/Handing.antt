@@ -12,16 +12,16 @@ use Rattle.uu_core.specs.declared.job.JobHead.{JobHead}
 use Rattle.uu_core.specs.declared.system.SystemRow.{SystemRow}
 use Rattle.uu_core.specs.State.{State, Job, head_of}
 use Rattle.uu_questions.specs.Answers.{Answers}
-use Rattle.uu_questions.specs.Listing.{handed_out, whole}
+use Rattle.uu_questions.specs.Listing.{handed_out, head_and_bytes}
 use Rattle.uu_store.specs.HandedOut.{IsBounded, IsTimed, is_bounded, is_found_bounded, is_timed, job_with, job_shown, within_limits}
 
 -- the head and the bytes are those of the job
-pub shown : (found : Option (JobHead × Vec ℕ Global)) (job : Option Job) → option_map handed_out found ≡ option_map whole job → option_map job_shown found ≡ job
+pub shown : (found : Option (JobHead × Vec ℕ Global)) (job : Option Job) → option_map handed_out found ≡ option_map head_and_bytes job → option_map job_shown found ≡ job
 shown None None same = refl
 shown None (Some j) same = absurd (cc)
 shown (Some it) None same = absurd (cc)
 shown (Some it) (Some j) same =
-    let pair : handed_out it ≡ whole j = cc in
+    let pair : handed_out it ≡ head_and_bytes j = cc in
     let head : it.0 ≡ head_of j = ap (λ (p : JobHead × List ℕ). p.0) pair in
     let bytes : it.1.items ≡ j.bytes = ap (λ (p : JobHead × List ℕ). p.1) pair in
     λ i. Some (job_with (head i) (bytes i))

@@ -28,7 +28,7 @@ use Rattle.sqlite_store.specs.FileStore as store
 use Rattle.uu_schema.specs.Steps.{Rests, Stands}
 use Rattle.uu_core.specs.State.{State, empty}
 use Rattle.uu_schema.specs.declared.version.Version.{Version}
-use Rattle.uu_schema.specs.Schema.{site_of, no_schema}
+use Rattle.uu_schema.specs.Schema.{schema_of, no_schema}
 use Rattle.uu_store.specs.declared.remains.OpenFault.{OpenFault}
 use Rattle.uu_store.specs.declared.remains.Remains.{Remains}
 use Rattle.uu_store.specs.declared.remains.Remains.TheVariants as remains
@@ -54,7 +54,7 @@ pub none_fits : (s : State) → s ≡ empty → (trees : Trees) → trees catalo
 none_fits s is trees none = inr (empty_is_sound trees none, is)
 
 pub keeps_sound : (s : State) (trees : Trees) → Keeps trees s → (schema : Schema) × IsSound schema trees
-keeps_sound s trees (inl it) = (site_of it.0, it.1)
+keeps_sound s trees (inl it) = (schema_of it.0, it.1)
 keeps_sound s trees (inr it) = (no_schema, it.0)
 
 rests_found : (image : Image) (opened : db.State) → IsFound image opened → Rests opened
@@ -116,8 +116,8 @@ pub not_taken : {S : Type 0} (g : Ghosts S) (was last : Held S) (stopped : S) (f
     → (Stands no_schema (state g was).now → (fault ≢ Foreign) × (fault ≢ Newer)) → (HasUnversionedTables (state g was).now.schema → fault ≡ Foreign)
     → (db.HasCleanDisk (state g last) → Rests (state g was) → StopsAs (state g was) (state g last))
     → (db.HasCleanDisk (state g last) → Rests (state g was) → UnlessFailed fault ((trees : Trees) → (state g last).may_leave trees → trees ≡ (state g was).now.trees))
-    → (db.HasCleanDisk (state g last) → (v : Version) → Stands (site_of v) (state g was).now → fault ≡ Newer → IsLater (state g was).now.trees)
-    → (db.HasCleanDisk (state g last) → (v : Version) → Stands (site_of v) (state g was).now → fault ≡ Foreign → (¬ IsLater (state g was).now.trees) × ((s : State) → ¬ EncodesAs v (state g was).now s)) → IsNotTaken g was stopped fault
+    → (db.HasCleanDisk (state g last) → (v : Version) → Stands (schema_of v) (state g was).now → fault ≡ Newer → IsLater (state g was).now.trees)
+    → (db.HasCleanDisk (state g last) → (v : Version) → Stands (schema_of v) (state g was).now → fault ≡ Foreign → (¬ IsLater (state g was).now.trees) × ((s : State) → ¬ EncodesAs v (state g was).now s)) → IsNotTaken g was stopped fault
 not_taken g was last stopped fault away quiet numbered ours of_empty other stops unmade newer foreign = record {
   last = last;
   turned_away = away;
@@ -154,14 +154,14 @@ module _ {D : Type 0} {g : disk.Ghosts D} (image : Image) (opened : Held (FileSt
   found_trees : (trees : Trees) → HoldsDatabase image trees → (file_state opened).now.trees ≡ trees
   found_trees = trees_found image (file_state opened) found_away
 
-  away_told : (v : Version) (trees : Trees) → HoldsDatabase image trees → IsSound (site_of v) trees → IsToldRightly v trees fault
+  away_told : (v : Version) (trees : Trees) → HoldsDatabase image trees → IsSound (schema_of v) trees → IsToldRightly v trees fault
   away_told v trees held sound =
       let same = found_trees trees held in
-      let stands = stands_again (site_of v) (simple_of v) (file_state opened) found_away.live found_rests (subst (IsSound (site_of v)) (sym same) sound) in
+      let stands = stands_again (schema_of v) (simple_of v) (file_state opened) found_away.live found_rests (subst (IsSound (schema_of v)) (sym same) sound) in
       subst (λ trees. IsToldRightly v trees fault) same (away.whole v (no_doubt (view stopped).is_clean clean) stands)
 
   pub away_rightly : ((s : State) → ImageKeeps image s → (fault ≢ Foreign) × (fault ≢ Newer)) × (ImageHasUnversionedTables image → fault ≡ Foreign)
-      × ((v : Version) (trees : Trees) → HoldsDatabase image trees → IsSound (site_of v) trees → IsToldRightly v trees fault)
+      × ((v : Version) (trees : Trees) → HoldsDatabase image trees → IsSound (schema_of v) trees → IsToldRightly v trees fault)
   away_rightly = (away_ours, away_other, away_told)
 
   -- what is left of another database is that database

@@ -15,17 +15,17 @@ use Rattle.uu_core.specs.State.{State}
 use Rattle.uu_core.specs.Run.{state_after, replies_to}
 use Rattle.uu_schema.specs.declared.version.Version.{Version}
 use Rattle.uu_schema.specs.declared.version.Version.TheVariants.{First, Second, Third}
-use Rattle.uu_schema.specs.Schema.{site_of, no_schema}
+use Rattle.uu_schema.specs.Schema.{schema_of, no_schema}
 use Rattle.uu_schema.specs.declared.fault.StoreFault.{StoreFault}
 use Rattle.uu_schema.specs.declared.fault.StoreFault.TheVariants.{Memory, Store, Failed, Foreign, Newer}
 use Rattle.uu_store.specs.Kept.{Stores, Keeps, KeepsOnly, KeepsEither}
 use Rattle.uu_store.specs.Spool.{disk, Shows}
 use Rattle.uu_store.specs.Runs.{GoesOn}
-use Rattle.uu_store.specs.Exchanges.{Exchange, IsSettled, Counts, Passes}
+use Rattle.uu_store.specs.Exchanges.{Exchange, HasNothingInHand, Counts, Passes}
 use Rattle.uu_store.specs.Stretches.{Stretch, opened_as, left_by, Worked, Unworked, Passed, Reopens, LeadTo, exchanges, StoresThroughout, AllStore, StoresAfter}
 use Rattle.uu_store.proofs.Running.{StatesFollow, RepliesFollow, take_past, replies_length}
 
-pub simple_of : (v : Version) → IsSimple (site_of v)
+pub simple_of : (v : Version) → IsSimple (schema_of v)
 simple_of First = record { views = refl; keys = (omega arith, (omega arith, (omega arith, (omega arith, (omega arith, (omega arith, (omega arith, tt))))))) }
 simple_of Second = record { views = refl; keys = (omega arith, (omega arith, (omega arith, (omega arith, (omega arith, (omega arith, (omega arith, (omega arith, tt)))))))) }
 simple_of Third = record { views = refl; keys = (omega arith, (omega arith, (omega arith, (omega arith, (omega arith, (omega arith, (omega arith, (omega arith, (omega arith, (omega arith, tt)))))))))) }
@@ -38,7 +38,7 @@ pub stands_again : (known : Schema) → IsSimple known → (found : db.State) �
 stands_again known simple found live rests sound = record { schema = one_schema found.now.trees known found.now.schema simple sound (live rests.is_open).0; sound = sound }
 
 pub stores_of : (found : db.State) (s : State) → db.IsLive found → Rests found → Keeps found.now.trees s → Stores found.now s
-stores_of found s live rests (inl it) = inl (it.0, record { stands = stands_again (site_of it.0) (simple_of it.0) found live rests it.1; holds = it.2 })
+stores_of found s live rests (inl it) = inl (it.0, record { stands = stands_again (schema_of it.0) (simple_of it.0) found live rests it.1; holds = it.2 })
 stores_of found s live rests (inr it) = inr (stands_again no_schema simple_none found live rests it.0, it.1)
 
 pub stores_either : (could_leave : Trees → Type 0) (found : db.State) → Reopens could_leave found → (s t : State) → KeepsEither could_leave s t → ∥ Stores found.now s ⊎ Stores found.now t ∥₁
@@ -79,7 +79,7 @@ module _ (answers_follow : RepliesFollow) (s : State) (it : Exchange) (k : ℕ) 
   }
 
   -- the request in hand, if the store failed: all of its commands, unless every command was answered
-  counts_next : (¬ IsSettled it.ending) → Counts it s (take (k + it.in_hand) it.commands)
+  counts_next : (¬ HasNothingInHand it.ending) → Counts it s (take (k + it.in_hand) it.commands)
   counts_next loose = elim within [ inl every ↦ subst (Counts it s) (sym (same every)) counts_first | inr ahead ↦ whole_request ahead ]
     where
       same : k ≡ length it.commands → take (k + it.in_hand) it.commands ≡ take k it.commands
@@ -130,7 +130,7 @@ module _ (answers_follow : RepliesFollow) (it : Stretch) (s : State) (passed : P
           other = take (k + it.exchange.in_hand) it.exchange.commands;
           keeps = λ trees may. (let left = from.stop_store trees (w.let_go.left trees may) in elim left.1 [ inl h ↦ inl (inl (Third, left.0, h)) | inr h ↦ inr (inl (Third, left.0, h)) ]);
           counts_one = first;
-          counts_other = counts_next answers_follow s it.exchange k refl w.ran.within from.answers (λ h. loose (subst IsSettled w.ending h));
+          counts_other = counts_next answers_follow s it.exchange k refl w.ran.within from.answers (λ h. loose (subst HasNothingInHand w.ending h));
         })
       ]
 

@@ -14,11 +14,11 @@ use Rattle.uu_core.specs.declared.take_in.TakeIn.{TakeIn}
 use Rattle.uu_core.specs.State.{State, IsWellFormed}
 use Rattle.uu_core.specs.After.{after}
 use Rattle.uu_core.specs.Run.{state_after, replies_to}
-use Rattle.uu_core.specs.TakeIns.{offering, commands_in, taken_in}
+use Rattle.uu_core.specs.TakeIns.{offering, commands_in, after_take_in}
 use Rattle.uu_schema.specs.declared.fault.StoreFault.{StoreFault}
 use Rattle.uu_schema.specs.declared.fault.StoreFault.TheVariants.{Memory}
 use Rattle.uu_schema.specs.Encoded.{HoldsState, Leaves}
-use Rattle.uu_schema.specs.Schema.{site}
+use Rattle.uu_schema.specs.Schema.{spool_schema}
 use Rattle.uu_schema.specs.Steps.{StaysUnclean}
 use Rattle.uu_schema.proofs.Resting.{is_memory}
 use Rattle.uu_statements.specs.Step.{IsToldStep, HasTables}
@@ -112,7 +112,7 @@ changed {S} {g} s t reply old now r settles noted told = record {
     tables : Shows old s → HasTables (disk old).now s
     tables shows = record { stands = shows.encodes.stands; holds = shows.encodes.holds.tables }
 
-    stop : db.HasCleanDisk (disk now) → Shows old s → (trees : Trees) → (disk now).may_leave trees → (disk old).may_leave trees ⊎ (IsSound site trees × HoldsState trees t)
+    stop : db.HasCleanDisk (disk now) → Shows old s → (trees : Trees) → (disk now).may_leave trees → (disk old).may_leave trees ⊎ (IsSound spool_schema trees × HoldsState trees t)
     stop clean shows trees may = elim ((step shows).stop clean shows.rests (tables shows) trees may) [
       | inl was ↦ inl was
       | inr made ↦ inr (made.0, record { tables = made.1; good = good shows })
@@ -182,7 +182,7 @@ pub bundle_ahead : (bundle : TakeIn) → IsAhead (length bundle.jobs + 1) (comma
 bundle_ahead bundle = let all = in_hand_all bundle in inr (omega (arith, all))
 
 module _ {S : Type 0} {g : Ghosts S} (bundle : TakeIn) (old now : Spool S g) (r : Result (Vec Reply Global) StoreFault) (settles : Settles (disk now)) (steps : (s : State) → IsTakingStep s bundle old now r) where
-  pub bundle_stops_ok : db.HasCleanDisk (disk now) → (s : State) → Shows old s → IfOk r (λ _. Leaves (disk now) (taken_in s bundle).0)
+  pub bundle_stops_ok : db.HasCleanDisk (disk now) → (s : State) → Shows old s → IfOk r (λ _. Leaves (disk now) (after_take_in s bundle).0)
   bundle_stops_ok = stops_ok (commands_in bundle) listed_replies old now r settles steps
 
   pub bundle_stops_memory : db.HasCleanDisk (disk now) → (s : State) → Shows old s → r ≡ Err Memory → Leaves (disk now) s

@@ -8,7 +8,7 @@ use Rattle.uu_core.specs.declared.command.Reply.{Reply}
 use Rattle.uu_core.specs.State.{State}
 use Rattle.uu_core.specs.declared.take_in.TakeIn.{TakeIn}
 use Rattle.uu_core.specs.After.{after}
-use Rattle.uu_core.specs.TakeIns.{taken_in}
+use Rattle.uu_core.specs.TakeIns.{after_take_in}
 use Rattle.uu_schema.specs.declared.fault.StoreFault.{StoreFault}
 use Rattle.uu_schema.specs.declared.fault.StoreFault.TheVariants.{Memory}
 use Rattle.uu_schema.specs.Encoded.{LeavesEither}
@@ -28,4 +28,4 @@ IsCommandStep s command old new r = IsStep s (after s command).0 (λ reply. repl
 
 -- a bundle is its commands, one after the other, as one step
 abbrev pub IsTakingStep : {S : Type 0} {g : Ghosts S} → State → TakeIn → Spool S g → Spool S g → Result (Vec Reply Global) StoreFault → Type 0
-IsTakingStep s bundle old new r = IsStep s (taken_in s bundle).0 (λ replies. replies.items ≡ (taken_in s bundle).1) old new r
+IsTakingStep s bundle old new r = IsStep s (after_take_in s bundle).0 (λ replies. replies.items ≡ (after_take_in s bundle).1) old new r

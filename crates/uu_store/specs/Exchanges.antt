@@ -33,9 +33,9 @@ not_given commands = record { commands = commands; replies = []; in_hand = 1; en
 
 -- no request was in hand at the stop: none was given, or the run ended by itself or because memory
 -- ran out
-abbrev pub IsSettled : Ending → Type 0
-IsSettled none_given = ⊤
-IsSettled (given fault) = GoesOn fault
+abbrev pub HasNothingInHand : Ending → Type 0
+HasNothingInHand none_given = ⊤
+HasNothingInHand (given fault) = GoesOn fault
 
 -- Which commands of an exchange count, if it began at a state: a prefix of them. The replies are
 -- the machine's to this prefix. If the store failed, they may be its replies to the prefix without
@@ -45,7 +45,7 @@ pub record Counts (it : Exchange) (s : State) (counted : List Command) : Type 0 
   pub prefix : it.commands ≡ counted ++ rest
   pub unheard : List Reply
   pub whole : (unheard ≡ []) ⊎ (length unheard ≡ it.in_hand)
-  pub settled : IsSettled it.ending → unheard ≡ []
+  pub settled : HasNothingInHand it.ending → unheard ≡ []
   pub answers : replies_to s counted ≡ it.replies ++ unheard
 
 -- the commands that count of all exchanges; each exchange begins at the state after those that

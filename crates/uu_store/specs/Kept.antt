@@ -7,7 +7,7 @@ use Rattle.sqlite_catalog.specs.Listing.{IsSound}
 use Rattle.uu_schema.specs.Steps.{Stands}
 use Rattle.uu_core.specs.State.{State, empty}
 use Rattle.uu_schema.specs.declared.version.Version.{Version}
-use Rattle.uu_schema.specs.Schema.{site_of, no_schema}
+use Rattle.uu_schema.specs.Schema.{schema_of, no_schema}
 use Rattle.uu_schema.specs.Encoded.{EncodesAs, HoldsStateAs}
 
 -- the database encodes the state, or has no tables and the state is an empty spool's
@@ -16,7 +16,7 @@ Stores database s = ((v : Version) × EncodesAs v database s) ⊎ (Stands no_sch
 
 -- the same for its trees alone, which are all that a stop leaves
 abbrev pub Keeps : Trees → State → Type 0
-Keeps trees s = ((v : Version) × IsSound (site_of v) trees × HoldsStateAs v trees s) ⊎ (IsSound no_schema trees × (s ≡ empty))
+Keeps trees s = ((v : Version) × IsSound (schema_of v) trees × HoldsStateAs v trees s) ⊎ (IsSound no_schema trees × (s ≡ empty))
 
 -- each outcome keeps the state
 abbrev pub KeepsOnly : (Trees → Type 0) → State → Type 0

@@ -8,7 +8,7 @@ pub mod Stretches
 pub mod Acknowledged
 pub mod Remembered
 pub mod Openings
-pub mod Taken
+pub mod Adopted
 pub mod Questions
 pub mod Files
 pub mod Closing

@@ -33,7 +33,7 @@ use Rattle.uu_adopt.specs.Adoption.{IsOfNone}
 use Rattle.uu_schema.specs.Encoded.{EncodesAs}
 use Rattle.uu_schema.specs.Steps.{Stands, Rests}
 use Rattle.uu_schema.specs.declared.version.Version.{Version}
-use Rattle.uu_schema.specs.Schema.{site_of}
+use Rattle.uu_schema.specs.Schema.{schema_of}
 use Rattle.uu_adopt.specs.Version.{IsLater}
 use Rattle.uu_store.specs.Spool.{connection_of}
 use Rattle.uu_store.specs.Kept.{Keeps, Stores}
@@ -84,7 +84,7 @@ pub record Started {S : Type 0} {g : Ghosts S} (image : Image) (spool : Spool S 
   pub found : IsFoundIfClean g image opened
   pub adopted : Adopted opened spool
   pub taken : HasNoneOrAll (state g opened).now.schema
-  pub encoded : (v : Version) → db.HasCleanDisk (state g (connection_of spool)) → Stands (site_of v) (state g opened).now → (s : State) × EncodesAs v (state g opened).now s
+  pub encoded : (v : Version) → db.HasCleanDisk (state g (connection_of spool)) → Stands (schema_of v) (state g opened).now → (s : State) × EncodesAs v (state g opened).now s
 
 -- a fault that says nothing about the contents of the files
 abbrev pub IsOfNoContents : StoreFault → Type 0
@@ -116,7 +116,7 @@ pub record IsNotTaken {S : Type 0} (g : Ghosts S) (was : Held S) (stopped : S) (
   pub numbered : IsClean (g.view stopped) → IsTrue (g.view stopped).is_numbered
   pub ours : IsClean (g.view stopped) → (s : State) → Stores (state g was).now s → IsOfNoContents fault
   pub other : HasUnversionedTables (state g was).now.schema → fault ≡ Foreign
-  pub whole : (v : Version) → IsClean (g.view stopped) → Stands (site_of v) (state g was).now → IsToldRightly v (state g was).now.trees fault
+  pub whole : (v : Version) → IsClean (g.view stopped) → Stands (schema_of v) (state g was).now → IsToldRightly v (state g was).now.trees fault
   pub some : IsClean (g.view stopped) → Rests (state g was) → StaysAfter fault (state g was).now.schema → (trees : Trees) → g.recovers stopped trees → trees ≡ (state g was).now.trees
 
 -- ---- an opening that failed, by what is left of the files
@@ -180,4 +180,4 @@ module _ {D : Type 0} {g : disk.Ghosts D} where
   IsRightFault before fault (remains.Files it) = IsOfNoContents fault × (IsCleanLeft it → (which : StoreKind) → fault ≡ Store which → HasOpeningCause before which it)
   IsRightFault before fault (remains.Store it) =
       IsTrue (store.view it).is_clean → ((s : State) → ImageKeeps before s → IsOfNoContents fault) × (ImageHasUnversionedTables before → fault ≡ Foreign)
-      × ((v : Version) (trees : Trees) → HoldsDatabase before trees → IsSound (site_of v) trees → IsToldRightly v trees fault)
+      × ((v : Version) (trees : Trees) → HoldsDatabase before trees → IsSound (schema_of v) trees → IsToldRightly v trees fault)

@@ -8,7 +8,7 @@ use Rattle.uu_core.specs.declared.job.NewJob.{NewJob}
 use Rattle.uu_core.specs.State.{State}
 use Rattle.uu_store.specs.declared.spool.Spool.{Spool}
 use Rattle.uu_store.specs.Spool.{disk}
-use Rattle.uu_store.specs.Stretches.{StretchOver, Led, ShowsAfter, told}
+use Rattle.uu_store.specs.Stretches.{StretchOver, Led, ShowsAfter, exchanges_over}
 use Rattle.uu_store.specs.Acknowledged.{IsAcknowledged, IsAcknowledgedUnder, ShowsJob, ShowsUnder}
 
 -- Any stretches may have led to the connection from which the spool was made. It shows the state
@@ -16,8 +16,8 @@ use Rattle.uu_store.specs.Acknowledged.{IsAcknowledged, IsAcknowledgedUnder, Sho
 -- request in hand counts too, whole. It shows each acknowledged job, also under a key, unless an
 -- accepted command removed it.
 pub record Remembers {S : Type 0} {g : Ghosts S} (found : Held S) (spool : Spool S g) : Type 0 where
-  pub commands : db.HasCleanDisk (disk spool) → (s : State) (before : Held S) (stretches : List (StretchOver S)) → Led g s before stretches found → ∥ ShowsAfter s (told g stretches) spool ∥₁
+  pub commands : db.HasCleanDisk (disk spool) → (s : State) (before : Held S) (stretches : List (StretchOver S)) → Led g s before stretches found → ∥ ShowsAfter s (exchanges_over g stretches) spool ∥₁
   pub jobs : db.HasCleanDisk (disk spool) → (s : State) (before : Held S) (stretches : List (StretchOver S)) → Led g s before stretches found
-      → (new : NewJob) (number : ℕ) → IsAcknowledged (told g stretches) new number → ∥ ShowsJob s (told g stretches) new number spool ∥₁
+      → (new : NewJob) (number : ℕ) → IsAcknowledged (exchanges_over g stretches) new number → ∥ ShowsJob s (exchanges_over g stretches) new number spool ∥₁
   pub keys : db.HasCleanDisk (disk spool) → (s : State) (before : Held S) (stretches : List (StretchOver S)) → Led g s before stretches found
-      → (key : Key) (new : NewJob) (number : ℕ) → IsAcknowledgedUnder (told g stretches) key new number → ∥ ShowsUnder s (told g stretches) key number spool ∥₁
+      → (key : Key) (new : NewJob) (number : ℕ) → IsAcknowledgedUnder (exchanges_over g stretches) key new number → ∥ ShowsUnder s (exchanges_over g stretches) key number spool ∥₁

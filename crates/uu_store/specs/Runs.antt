@@ -25,18 +25,18 @@ GoesOn (Some Foreign) = ⊥
 GoesOn (Some Newer) = ⊥
 
 -- the commands with these replies: as many of the first ones as there are replies
-abbrev pub answered : List Reply → List Command → List Command
-answered replies commands = take (length replies) commands
+abbrev pub answered_commands : List Reply → List Command → List Command
+answered_commands replies commands = take (length replies) commands
 
 -- What a run did if the spool showed a state: the commands that were answered were steps of the
 -- machine, and the replies are its replies. The spool shows the state after them, and a stop leaves
 -- that. If the store failed, a stop leaves that, or the state after the whole request in hand,
 -- which has the next `in_hand` commands.
 pub record RanFrom {S : Type 0} {g : Ghosts S} (in_hand : ℕ) (s : State) (commands : List Command) (new : Spool S g) (replies : List Reply) (stopped : Option StoreFault) : Type 0 where
-  pub answers : replies ≡ replies_to s (answered replies commands)
-  pub shows : GoesOn stopped → Shows new (state_after s (answered replies commands))
-  pub stop : GoesOn stopped → Leaves (disk new) (state_after s (answered replies commands))
-  pub stop_store : LeavesEither (disk new) (state_after s (answered replies commands)) (state_after s (take (length replies + in_hand) commands))
+  pub answers : replies ≡ replies_to s (answered_commands replies commands)
+  pub shows : GoesOn stopped → Shows new (state_after s (answered_commands replies commands))
+  pub stop : GoesOn stopped → Leaves (disk new) (state_after s (answered_commands replies commands))
+  pub stop_store : LeavesEither (disk new) (state_after s (answered_commands replies commands)) (state_after s (take (length replies + in_hand) commands))
 
 -- What a run did, for each state that the spool may have shown. Every command was answered, or the
 -- request in hand is among those that weren't.

@@ -123,14 +123,14 @@ pub record StretchOver (S : Type 0) : Type 0 where
   pub exchange : Exchange
   pub stopped : S
 
-abbrev pub over : {S : Type 0} → Ghosts S → StretchOver S → Stretch
-over {S} g it = record { S = S; store = g; opened = it.opened; exchange = it.exchange; stopped = it.stopped }
+abbrev pub as_stretch : {S : Type 0} → Ghosts S → StretchOver S → Stretch
+as_stretch {S} g it = record { S = S; store = g; opened = it.opened; exchange = it.exchange; stopped = it.stopped }
 
-abbrev pub told : {S : Type 0} → Ghosts S → List (StretchOver S) → List Exchange
-told g stretches = exchanges (map (over g) stretches)
+abbrev pub exchanges_over : {S : Type 0} → Ghosts S → List (StretchOver S) → List Exchange
+exchanges_over g stretches = exchanges (map (as_stretch g) stretches)
 
 -- stretches that began with what could be left of a state, and what an opening after the last one
 -- found
 pub record Led {S : Type 0} (g : Ghosts S) (s : State) (before : Held S) (stretches : List (StretchOver S)) (found : Held S) : Type 0 where
   pub kept : KeepsOnly (state g before).may_leave s
-  pub led : LeadTo (state g before).may_leave (map (over g) stretches) (state g found)
+  pub led : LeadTo (state g before).may_leave (map (as_stretch g) stretches) (state g found)

@@ -24,7 +24,7 @@ pub struct AdoptFault<S: Alter> {
 impl<S: Alter> Spool<S> {
     ghost use Rattle.std.specs.Prelude.{false, IfOk, IsErrAnd};
     ghost use Rattle.uu_store.specs.Spool.{has_failed};
-    ghost use Rattle.uu_store.specs.Taken.{IsTaken, IsHandedBack};
+    ghost use Rattle.uu_store.specs.Adopted.{IsAdoptedSpool, IsHandedBack};
     ghost use Rattle.uu_store.specs.Remembered.{Remembers};
 
     /// Takes the database as a spool. One with none of the spool's tables gets them, in one
@@ -50,7 +50,7 @@ impl<S: Alter> Spool<S> {
         ensures never_failed { IfErr result (λ back. back.fault ≢ StoreFault.Failed) }
 
         // What was found, what the spool shows of it, and what a stop leaves.
-        ensures taken { IfOk result (IsTaken conn) }
+        ensures adopted { IfOk result (IsAdoptedSpool conn) }
         ensures handed_back { IfErr result (IsHandedBack conn) }
 
         // A database in which a name of the spool's tables is taken and no table says a version is

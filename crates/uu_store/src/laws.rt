@@ -23,7 +23,7 @@ ghost use Rattle.uu_schema.specs.declared.fault.StoreFault.{StoreFault};
 ghost use Rattle.uu_store.specs.declared.spool.Spool.{Spool};
 ghost use Rattle.uu_schema.specs.declared.version.Version.{Version};
 ghost use Rattle.uu_schema.specs.declared.version.Version.TheVariants.{First};
-ghost use Rattle.uu_adopt.specs.FoundTables.{IsEarlier};
+ghost use Rattle.uu_adopt.specs.FoundTables.{IsEarlierVersion};
 ghost use Rattle.sqlite.specs.Effect.{Database};
 ghost use Rattle.std.specs.List.{AllByRecursion};
 ghost use Rattle.uu_core.specs.declared.system.SystemRow.{SystemRow};
@@ -33,7 +33,7 @@ ghost use Rattle.uu_store.specs.Spool.{connection_of};
 ghost use Rattle.uu_store.specs.Kept.{Stores, KeepsOnly};
 ghost use Rattle.uu_store.specs.Runs.{GoesOn, Ran};
 ghost use Rattle.uu_store.specs.Exchanges.{Exchange, exchange_of, not_given, Passes};
-ghost use Rattle.uu_store.specs.Stretches.{Adopted, Stretch, StretchOver, TurnedAway, IsLetGo, Passed, Reopens, LeadTo, AllStore, StoresAfter, Led, exchanges, over, stretch, told};
+ghost use Rattle.uu_store.specs.Stretches.{Adopted, Stretch, StretchOver, TurnedAway, IsLetGo, Passed, Reopens, LeadTo, AllStore, StoresAfter, Led, exchanges, as_stretch, stretch, exchanges_over};
 ghost use Rattle.uu_store.specs.Acknowledged.{IsAcknowledged, IsAcknowledgedUnder, IsAccountedFor, IsAccountedForUnder, StoresJob, StoresUnder};
 ghost use Rattle.uu_store.specs.Files.{FileStretch, FilePassed, AllFilesPassed, last_left, file_exchanges, AllKeep, KeepsAfter, KeepsJob, KeepsUnder, IsStretch, IsClosedStretch};
 ghost use Rattle.uu_store.specs.Files.{let_go_after, closed_after, not_started_for};
@@ -65,7 +65,7 @@ pub fn version_one_has_no_success_waits()
 
 /// A database of an earlier version keeps no links, and neither does the state that it encodes.
 pub fn earlier_versions_have_no_links()
-    ensures { (v : Version) (database : Database) (s : State) → IsEarlier v → EncodesAs v database s → s.links ≡ [] }
+    ensures { (v : Version) (database : Database) (s : State) → IsEarlierVersion v → EncodesAs v database s → s.links ≡ [] }
 {}
 
 /// If every command of a run was answered, it and the next run are one run of all the commands. (A
@@ -125,13 +125,13 @@ pub fn no_answered_command_is_lost<H: History>()
 /// values, and need no trait.
 pub fn no_answered_command_is_lost_over<S: Alter>()
     ensures commands { (s : State) (before : Held S) (stretches : List (StretchOver S)) (found : Held S)
-        → Led S.Store s before stretches found → ∥ StoresAfter s (told S.Store stretches) (state S.Store found) ∥₁ }
+        → Led S.Store s before stretches found → ∥ StoresAfter s (exchanges_over S.Store stretches) (state S.Store found) ∥₁ }
     ensures jobs { (s : State) (before : Held S) (stretches : List (StretchOver S)) (found : Held S) (new : NewJob) (number : ℕ)
-        → Led S.Store s before stretches found → IsAcknowledged (told S.Store stretches) new number → ∥ StoresJob s (told S.Store stretches) new number (state S.Store found) ∥₁ }
+        → Led S.Store s before stretches found → IsAcknowledged (exchanges_over S.Store stretches) new number → ∥ StoresJob s (exchanges_over S.Store stretches) new number (state S.Store found) ∥₁ }
     ensures keys { (s : State) (before : Held S) (stretches : List (StretchOver S)) (found : Held S) (key : Key) (new : NewJob) (number : ℕ)
-        → Led S.Store s before stretches found → IsAcknowledgedUnder (told S.Store stretches) key new number → ∥ StoresUnder s (told S.Store stretches) key number (state S.Store found) ∥₁ }
+        → Led S.Store s before stretches found → IsAcknowledgedUnder (exchanges_over S.Store stretches) key new number → ∥ StoresUnder s (exchanges_over S.Store stretches) key number (state S.Store found) ∥₁ }
     ensures throughout { (s : State) (before : Held S) (stretches : List (StretchOver S)) (found : Held S)
-        → Led S.Store s before stretches found → ∥ AllStore s (map (over S.Store) stretches) (state S.Store found) ∥₁ }
+        → Led S.Store s before stretches found → ∥ AllStore s (map (as_stretch S.Store) stretches) (state S.Store found) ∥₁ }
 {
     runs_follow_one_another();
     states_stay_well_formed();

@@ -10,7 +10,7 @@ ghost use Rattle.uu_schema.specs.declared.fault.StoreKind.TheVariants.{Database}
 ghost use Rattle.uu_schema.specs.Encoded.{Leaves};
 ghost use Rattle.uu_store.specs.Openings.{ImageHasUnversionedTables, ImageKeeps, IsFoundIfClean, IsRightFault, IsNotTaken, LeavesAlone, LeavesAsKept, LeavesSame, Started, remains_of};
 ghost use Rattle.uu_store.specs.Spool.{disk, has_failed, Shows};
-ghost use Rattle.uu_store.specs.Taken.{IsTaken};
+ghost use Rattle.uu_store.specs.Adopted.{IsAdoptedSpool};
 
 use crate::adopt::AdoptFault;
 use crate::remains::{OpenFault, open_files};
@@ -104,7 +104,7 @@ fn adopted<S: Alter + Drop>(alloc: Global, conn: Connection<S>) -> Result<Spool<
     requires { IsIdle conn }
     ensures usable { IfOk result (λ spool. has_failed spool ≡ false) }
     ensures never_failed { IfErr result (λ e. e.0 ≢ StoreFault.Failed) }
-    ensures taken { IfOk result (IsTaken conn) }
+    ensures adopted { IfOk result (IsAdoptedSpool conn) }
     ensures alone { IfOk result (λ spool. (s : State) → Shows spool s → Leaves (disk spool) s) }
     ensures away { IfErr result (λ e. IsNotTaken S.Store conn e.1 e.0) }
 {

@@ -5,7 +5,7 @@ ghost use Rattle.uu_core.specs.State.{State, IsWellFormed};
 ghost use Rattle.uu_tables.specs.Tables.{tables_of};
 ghost use Rattle.uu_tables.specs.Changes.{applied};
 ghost use Rattle.uu_tables.specs.Plans.{AreFacts, IsFor};
-ghost use Rattle.uu_tables.specs.TakingPlans.{AreTakingFacts};
+ghost use Rattle.uu_tables.specs.TakeInPlans.{AreTakeInFacts};
 ghost use Rattle.uu_schema.specs.Faults.{IsFaultOfThisCall};
 ghost use Rattle.uu_schema.specs.Steps.{IsIdle, StaysUnclean};
 
@@ -17,12 +17,12 @@ use uu_core::laws::{commands_are_sound, states_stay_well_formed, take_ins_are_so
 use uu_core::{Command, Due, Filter, JobHead, Refusal, Reply, SystemRow, TakeIn, Taken};
 use uu_names::SiteName;
 use uu_questions::{
-    all_systems, entry_of_host, facts_for, facts_of_bundle, job_of_number, list_jobs, next_number,
-    refusal_of, systems_due, taken_from,
+    all_systems, entry_of_host, facts_for, facts_for_take_in, job_of_number, list_jobs,
+    next_number, refusal_of, systems_due, taken_from,
 };
 use uu_schema::{StoreFault, StoreKind, store_fault};
 use uu_statements::carry_out;
-use uu_tables::{Change, Facts, TakingFacts, make_plan, plan_take_in};
+use uu_tables::{Change, Facts, TakeInFacts, make_plan, plan_take_in};
 use uu_times::Moment;
 
 /// A spool, over a connection that it owns.
@@ -43,14 +43,14 @@ impl<S: Alter> Spool<S> {
     ghost use Rattle.std.specs.List.{AllByRecursion};
     ghost use Rattle.uu_core.specs.State.{head_of, job_at, entry_at, link_of};
     ghost use Rattle.uu_core.specs.Due.{AreDue};
-    ghost use Rattle.uu_questions.specs.Listing.{listed};
+    ghost use Rattle.uu_questions.specs.Listing.{listed_jobs};
     ghost use Rattle.uu_questions.specs.Assembly.{holding};
     ghost use Rattle.uu_store.specs.HandedOut.{IsBounded, IsTimed, job_shown};
     ghost use Rattle.sqlite.specs.State.{HasCleanDisk};
     ghost use Rattle.sqlite.specs.View.{IsClean};
     ghost use Rattle.uu_core.specs.Verdict.{verdict};
     ghost use Rattle.uu_core.specs.After.{after};
-    ghost use Rattle.uu_core.specs.TakeIns.{commands_in, taken_in};
+    ghost use Rattle.uu_core.specs.TakeIns.{commands_in, after_take_in};
     ghost use Rattle.uu_schema.specs.Encoded.{Leaves, LeavesEither};
     ghost use Rattle.uu_store.specs.Spool.{connection_of, disk, failure_of, has_failed, Shows, IsFaultBetween, Notes};
     ghost use Rattle.uu_store.specs.Commands.{IsStep, IsCommandStep, IsTakingStep};
@@ -198,13 +198,13 @@ impl<S: Alter> Spool<S> {
         ensures noted { IfErr result (Notes (failure_of self.new)) }
 
         // On a clean store a bundle is its commands, one after the other.
-        ensures step { HasCleanDisk (disk self.new) → (s : _) → Shows self.old s → IfOk result (λ replies. (replies.items ≡ (taken_in s bundle).1) × Shows self.new (taken_in s bundle).0) }
+        ensures step { HasCleanDisk (disk self.new) → (s : _) → Shows self.old s → IfOk result (λ replies. (replies.items ≡ (after_take_in s bundle).1) × Shows self.new (after_take_in s bundle).0) }
         ensures memory { HasCleanDisk (disk self.new) → (s : _) → Shows self.old s → result ≡ Err StoreFault.Memory → Shows self.new s }
 
         // What a stop at its end leaves: never a part of the bundle.
-        ensures stop_ok { HasCleanDisk (disk self.new) → (s : _) → Shows self.old s → IfOk result (λ _. Leaves (disk self.new) (taken_in s bundle).0) }
+        ensures stop_ok { HasCleanDisk (disk self.new) → (s : _) → Shows self.old s → IfOk result (λ _. Leaves (disk self.new) (after_take_in s bundle).0) }
         ensures stop_memory { HasCleanDisk (disk self.new) → (s : _) → Shows self.old s → result ≡ Err StoreFault.Memory → Leaves (disk self.new) s }
-        ensures stop_store { HasCleanDisk (disk self.new) → (s : _) → Shows self.old s → LeavesEither (disk self.new) s (taken_in s bundle).0 }
+        ensures stop_store { HasCleanDisk (disk self.new) → (s : _) → Shows self.old s → LeavesEither (disk self.new) s (after_take_in s bundle).0 }
         ensures clean { StaysUnclean (disk self.old) (disk self.new) }
 
         // There are as many replies as commands, on any store.
@@ -220,7 +220,7 @@ impl<S: Alter> Spool<S> {
             drop(bundle);
             return Err(StoreFault::Failed);
         }
-        let facts = facts_of_bundle(alloc, &mut self.conn, &bundle);
+        let facts = facts_for_take_in(alloc, &mut self.conn, &bundle);
         match self.told(facts) {
             Ok(facts) => self.carry_out_bundle(alloc, facts, bundle),
             Err(fault) => {
@@ -257,14 +257,14 @@ impl<S: Alter> Spool<S> {
     fn carry_out_bundle(
         &mut self,
         alloc: Global,
-        facts: TakingFacts,
+        facts: TakeInFacts,
         bundle: TakeIn,
     ) -> Result<Vec<Reply>, StoreFault>
         requires usable { has_failed self.old ≡ false }
         requires suits { length facts.jobs.items ≡ length bundle.jobs }
         ensures marked { MatchResult result (λ _. has_failed self.new ≡ false) (IsFaultBetween false (has_failed self.new)) }
         ensures noted { IfErr result (Notes (failure_of self.new)) }
-        ensures step { (s : State) → AreTakingFacts facts s bundle → IsTakingStep s bundle self.old self.new result }
+        ensures step { (s : State) → AreTakeInFacts facts s bundle → IsTakingStep s bundle self.old self.new result }
         ensures every { IfOk result (λ replies. length replies.items ≡ length (commands_in bundle)) }
         ensures clean { StaysUnclean (disk self.old) (disk self.new) }
     {
@@ -303,7 +303,7 @@ impl<S: Alter> Spool<S> {
     /// row that a spool doesn't allow; nothing that is kept changed. From then on every command and
     /// question answers `Failed` and does nothing.
     pub fn jobs(&mut self, alloc: Global, filter: &Filter) -> Result<Vec<JobHead>, StoreFault>
-        ensures question { IsQuestion (λ s heads. heads.items ≡ listed filter.now s) self.old self.new result }
+        ensures question { IsQuestion (λ s heads. heads.items ≡ listed_jobs filter.now s) self.old self.new result }
         ensures bounds { IfOk result (λ heads. AllByRecursion IsBounded heads.items) }
     {
         if self.is_failed() {

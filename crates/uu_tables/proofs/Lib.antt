@@ -11,5 +11,5 @@ pub mod ReleaseLemmas
 pub mod ReportLemmas
 pub mod RowLemmas
 pub mod SystemLemmas
-pub mod TakingLemmas
+pub mod TakeInLemmas
 pub mod WaitLemmas

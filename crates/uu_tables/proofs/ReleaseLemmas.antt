@@ -43,8 +43,8 @@ module _ (s : State) (system numbers : List ℕ) (rising : AllPairs (λ (a b : J
   abbrev found : List ℕ
   found = filter (waits_under s system) numbers
 
-  turned-eq : (a b : ℕ) → (a == b) ≡ true → (b == a) ≡ true
-  turned-eq a b e = grind (arith, nat_tests)
+  turned_eq : (a b : ℕ) → (a == b) ≡ true → (b == a) ≡ true
+  turned_eq a b e = grind (arith, nat_tests)
 
   -- of the state's jobs those have a number that was found that are released
   released : (job : Job) → Contains s.jobs job → is_among found job ≡ is_released system numbers job
@@ -64,7 +64,7 @@ module _ (s : State) (system numbers : List ℕ) (rising : AllPairs (λ (a b : J
       back e =
           let own = and_second (is_among numbers job) (same_text job.system system) e in
           let one = passing_one (λ number. number == job.number) numbers (and_first (is_among numbers job) (same_text job.system system) e) in
-          let waits : waits_under s system one.0 ≡ true = some_passes (λ (j : Job). j.number == one.0 && same_text j.system system) s.jobs job there (and_from (job.number == one.0) (same_text job.system system) (turned-eq one.0 job.number one.2) own) in
+          let waits : waits_under s system one.0 ≡ true = some_passes (λ (j : Job). j.number == one.0 && same_text j.system system) s.jobs job there (and_from (job.number == one.0) (same_text job.system system) (turned_eq one.0 job.number one.2) own) in
           some_passes (λ number. number == job.number) found one.0 (in_filter (waits_under s system) numbers one.0 one.1 waits) one.2
 
   pub release : without_jobs found (tables_of s) ≡ tables_of (accept s (Release system numbers))

@@ -3,4 +3,4 @@ pub mod Order
 pub mod Parts
 pub mod Plans
 pub mod Tables
-pub mod TakingPlans
+pub mod TakeInPlans

@@ -11,52 +11,52 @@ use Rattle.uu_core.specs.Verdict.{verdict, are_known, taken_of}
 use Rattle.uu_core.specs.After.{after}
 use Rattle.uu_core.specs.Laws.{AreFound}
 use Rattle.uu_tables.specs.declared.facts.Facts.{Facts}
-use Rattle.uu_tables.specs.declared.facts.Facts.TheVariants.{Definition, Removal, Queueing, KeyedQueueing, Head, Failure, Success, Releasing, Nothing, Forgetting}
+use Rattle.uu_tables.specs.declared.facts.Facts.TheVariants as fact
 use Rattle.uu_tables.specs.declared.plan.Plan.{Plan}
 use Rattle.uu_tables.specs.Tables.{tables_of}
 use Rattle.uu_tables.specs.Changes.{applied}
 
 -- the system of a successful call, and the named jobs in any order
-abbrev pub AreOfSuccess : Facts → State → List ℕ → List ℕ → Type 0
-AreOfSuccess facts s system jobs = (found : Vec JobHead Global) × (facts ≡ Success (system_at s system) found) × AreFound jobs (map head_of s.jobs) found.items
+abbrev pub AreDoneFacts : Facts → State → List ℕ → List ℕ → Type 0
+AreDoneFacts facts s system jobs = (found : Vec JobHead Global) × (facts ≡ fact.Done (system_at s system) found) × AreFound jobs (map head_of s.jobs) found.items
 
 -- a job of this number waits for the system
 abbrev pub waits_under : State → List ℕ → ℕ → Bool
 waits_under s system number = list_any (λ job. job.number == number && same_text job.system system) s.jobs
 
 -- those of the named numbers under which a job waits for the system
-abbrev pub AreOfRelease : Facts → State → List ℕ → List ℕ → Type 0
-AreOfRelease facts s system jobs = (found : Vec ℕ Global) × (facts ≡ Releasing found) × (found.items ≡ filter (waits_under s system) jobs)
+abbrev pub AreReleaseFacts : Facts → State → List ℕ → List ℕ → Type 0
+AreReleaseFacts facts s system jobs = (found : Vec ℕ Global) × (facts ≡ fact.Release found) × (found.items ≡ filter (waits_under s system) jobs)
 
 -- they are the facts of the state that the command asks for
 abbrev pub AreFacts : Facts → State → Command → Type 0
-AreFacts facts s (Define def) = facts ≡ Definition (has_system s def.name)
-AreFacts facts s (Remove name) = facts ≡ Removal (has_system s name) (is_waiting s name)
-AreFacts facts s (Queue job) = facts ≡ Queueing (has_system s job.system) s.next
-AreFacts facts s (QueueOnce key job) = facts ≡ KeyedQueueing (are_known s key job) s.next (link_of s key.from).below (taken_of s key)
-AreFacts facts s (Kill job by) = facts ≡ Head (option_map head_of (job_at s job))
-AreFacts facts s (Regrade job grade by) = facts ≡ Head (option_map head_of (job_at s job))
-AreFacts facts s (Rejuvenate job at by) = facts ≡ Head (option_map head_of (job_at s job))
-AreFacts facts s (Failed system at why) = facts ≡ Failure (system_at s system)
-AreFacts facts s (Done system at jobs) = AreOfSuccess facts s system jobs
-AreFacts facts s (Release system jobs) = AreOfRelease facts s system jobs
-AreFacts facts s (Entry bytes) = facts ≡ Nothing
-AreFacts facts s (Forget system below) = facts ≡ Forgetting (has_system s system) (link_of s system).below
+AreFacts facts s (Define def) = facts ≡ fact.Define (has_system s def.name)
+AreFacts facts s (Remove name) = facts ≡ fact.Remove (has_system s name) (is_waiting s name)
+AreFacts facts s (Queue job) = facts ≡ fact.Queue (has_system s job.system) s.next
+AreFacts facts s (QueueOnce key job) = facts ≡ fact.QueueOnce (are_known s key job) s.next (link_of s key.from).below (taken_of s key)
+AreFacts facts s (Kill job by) = facts ≡ fact.Job (option_map head_of (job_at s job))
+AreFacts facts s (Regrade job grade by) = facts ≡ fact.Job (option_map head_of (job_at s job))
+AreFacts facts s (Rejuvenate job at by) = facts ≡ fact.Job (option_map head_of (job_at s job))
+AreFacts facts s (Failed system at why) = facts ≡ fact.Failed (system_at s system)
+AreFacts facts s (Done system at jobs) = AreDoneFacts facts s system jobs
+AreFacts facts s (Release system jobs) = AreReleaseFacts facts s system jobs
+AreFacts facts s (Entry bytes) = facts ≡ fact.Entry
+AreFacts facts s (Forget system below) = facts ≡ fact.Forget (has_system s system) (link_of s system).below
 
 -- the facts are of the kind that the command asks for; what they say doesn't matter
 abbrev pub IsFor : Facts → Command → Type 0
-IsFor (Definition known) (Define def) = ⊤
-IsFor (Removal known waiting) (Remove name) = ⊤
-IsFor (Queueing known next) (Queue job) = ⊤
-IsFor (KeyedQueueing known next below taken) (QueueOnce key job) = ⊤
-IsFor (Head job) (Kill number by) = ⊤
-IsFor (Head job) (Regrade number grade by) = ⊤
-IsFor (Head job) (Rejuvenate number at by) = ⊤
-IsFor (Failure row) (Failed system at why) = ⊤
-IsFor (Success row found) (Done system at jobs) = ⊤
-IsFor (Releasing found) (Release system jobs) = ⊤
-IsFor Nothing (Entry bytes) = ⊤
-IsFor (Forgetting known before) (Forget system below) = ⊤
+IsFor (fact.Define known) (Define def) = ⊤
+IsFor (fact.Remove known waiting) (Remove name) = ⊤
+IsFor (fact.Queue known next) (Queue job) = ⊤
+IsFor (fact.QueueOnce known next below taken) (QueueOnce key job) = ⊤
+IsFor (fact.Job job) (Kill number by) = ⊤
+IsFor (fact.Job job) (Regrade number grade by) = ⊤
+IsFor (fact.Job job) (Rejuvenate number at by) = ⊤
+IsFor (fact.Failed row) (Failed system at why) = ⊤
+IsFor (fact.Done row found) (Done system at jobs) = ⊤
+IsFor (fact.Release found) (Release system jobs) = ⊤
+IsFor fact.Entry (Entry bytes) = ⊤
+IsFor (fact.Forget known before) (Forget system below) = ⊤
 IsFor facts command = ⊥
 
 -- the reply is the machine's, the changes make the tables of the state after the command, and a

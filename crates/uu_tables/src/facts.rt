@@ -6,26 +6,26 @@ use uu_core::{JobHead, SystemRow, Taken};
 #[derive(Drop)]
 pub enum Facts {
     /// Before `Define`.
-    Definition {
+    Define {
         /// Whether the system is known.
         known: bool,
     },
     /// Before `Remove`.
-    Removal {
+    Remove {
         /// Whether the system is known.
         known: bool,
         /// Whether a job waits for it.
         waiting: bool,
     },
     /// Before `Queue`.
-    Queueing {
+    Queue {
         /// Whether the job's system is known.
         known: bool,
         /// The number of the next job.
         next: u32,
     },
     /// Before `QueueOnce`.
-    KeyedQueueing {
+    QueueOnce {
         /// Whether the neighbour and the job's system are known.
         known: bool,
         /// The number of the next job.
@@ -36,25 +36,25 @@ pub enum Facts {
         taken: Option<Taken>,
     },
     /// Before `Kill`, `Regrade` and `Rejuvenate`: the job of the number, if it is there.
-    Head(Option<JobHead>),
+    Job(Option<JobHead>),
     /// Before `Failed`: the system with its definition and its calls, if it is known.
-    Failure(Option<SystemRow>),
+    Failed(Option<SystemRow>),
     /// Before `Done`.
-    Success {
+    Done {
         /// The system with its definition and its calls, if it is known.
         row: Option<SystemRow>,
         /// The jobs that are there under the named numbers.
         found: Vec<JobHead>,
     },
     /// Before `Release`.
-    Releasing {
+    Release {
         /// Those of the named numbers under which a job waits for the system.
         found: Vec<u32>,
     },
     /// Before `Entry`: nothing.
-    Nothing,
+    Entry,
     /// Before `Forget`.
-    Forgetting {
+    Forget {
         /// Whether the neighbour is known.
         known: bool,
         /// The number below which it wouldn't ask again so far.
@@ -64,7 +64,7 @@ pub enum Facts {
 
 /// The answers of the tables before a neighbour's bundle.
 #[derive(Drop)]
-pub struct TakingFacts {
+pub struct TakeInFacts {
     /// Whether the neighbour is known.
     pub known: bool,
     /// The number of the next job.

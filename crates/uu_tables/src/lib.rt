@@ -8,8 +8,8 @@ mod plan;
 mod rows;
 
 pub use change::{Change, JobColumns};
-pub use facts::{Facts, OfferedFacts, TakingFacts};
-pub use plan::{PIECE_BYTES, Plan, TakingPlan, make_plan, plan_take_in};
+pub use facts::{Facts, OfferedFacts, TakeInFacts};
+pub use plan::{PIECE_BYTES, Plan, TakeInPlan, make_plan, plan_take_in};
 pub use rows::{
     CALL_FAILED, CALL_MADE, CallColumns, EXECUTE, EntryColumns, LineColumns, LinkColumns,
     NEVER_CALLED, PieceSize, REQUEST, RangeColumns, SEND, SystemColumns, TakenColumns, WaitColumns,

@@ -9,7 +9,7 @@ mod link;
 mod queue;
 mod report;
 mod system;
-mod taking;
+mod take_in;
 
 use crate::change::Change;
 use crate::facts::Facts;
@@ -21,7 +21,7 @@ use queue::plan_queue;
 use report::{plan_done, plan_failed, plan_release};
 use std::alloc::{AllocError, Global};
 use system::{plan_define, plan_remove};
-pub use taking::{TakingPlan, plan_take_in};
+pub use take_in::{TakeInPlan, plan_take_in};
 use uu_core::{Command, Refusal, Reply};
 
 /// The reply to a command, and what it changes.
@@ -77,40 +77,40 @@ pub fn make_plan<'a>(
     ensures { (s : State) → IsWellFormed s → AreFacts facts.now s command.now → IfOk result (IsPlan s command.now) }
 {
     match (command, facts) {
-        (Command::Define(def), Facts::Definition { known }) => plan_define(alloc, *known, def),
-        (Command::Remove(system), Facts::Removal { known, waiting }) => {
+        (Command::Define(def), Facts::Define { known }) => plan_define(alloc, *known, def),
+        (Command::Remove(system), Facts::Remove { known, waiting }) => {
             plan_remove(alloc, *known, *waiting, system)
         }
-        (Command::Queue(job), Facts::Queueing { known, next }) => {
+        (Command::Queue(job), Facts::Queue { known, next }) => {
             plan_queue(alloc, *known, *next, job)
         }
         (
             Command::QueueOnce(key, job),
-            Facts::KeyedQueueing {
+            Facts::QueueOnce {
                 known,
                 next,
                 below,
                 taken,
             },
         ) => { plan_queue_once(alloc, *known, *next, *below, *taken, key, job) }
-        (Command::Kill { job, by }, Facts::Head(head)) => {
+        (Command::Kill { job, by }, Facts::Job(head)) => {
             plan_kill(alloc, head.as_ref(), *job, by)
         }
-        (Command::Regrade { job, grade, by }, Facts::Head(head)) => {
+        (Command::Regrade { job, grade, by }, Facts::Job(head)) => {
             plan_regrade(alloc, head.as_ref(), *job, *grade, by)
         }
-        (Command::Rejuvenate { job, at, by }, Facts::Head(head)) => {
+        (Command::Rejuvenate { job, at, by }, Facts::Job(head)) => {
             plan_rejuvenate(alloc, head.as_ref(), *job, at, by)
         }
-        (Command::Failed { system, at, why }, Facts::Failure(row)) => {
+        (Command::Failed { system, at, why }, Facts::Failed(row)) => {
             plan_failed(alloc, row.as_ref(), system, at, why)
         }
-        (Command::Done { system, at, jobs }, Facts::Success { row, found }) => {
+        (Command::Done { system, at, jobs }, Facts::Done { row, found }) => {
             plan_done(alloc, row.as_ref(), found, system, at, jobs.as_slice())
         }
-        (Command::Release { .. }, Facts::Releasing { found }) => plan_release(alloc, found),
-        (Command::Entry(bytes), Facts::Nothing) => plan_entry(alloc, bytes.as_slice()),
-        (Command::Forget { system, below }, Facts::Forgetting { known, before }) => {
+        (Command::Release { .. }, Facts::Release { found }) => plan_release(alloc, found),
+        (Command::Entry(bytes), Facts::Entry) => plan_entry(alloc, bytes.as_slice()),
+        (Command::Forget { system, below }, Facts::Forget { known, before }) => {
             plan_forget(alloc, *known, *before, system, *below)
         }
         _ => unreachable!(),

@@ -8,12 +8,12 @@ use Rattle.std.specs.Str.{bytes_eq}
 use Rattle.uu_times.specs.Grammar.{lower}
 
 -- the front is compared in lower case
-pub front-lower : (text word : List ℕ) → bytes_eq (lower word) (lower (take (length word) text)) ≡ starts_with nat_eq (lower text) (lower word)
-front-lower text word =
+pub front_lower : (text word : List ℕ) → bytes_eq (lower word) (lower (take (length word) text)) ≡ starts_with nat_eq (lower text) (lower word)
+front_lower text word =
     ap (bytes_eq (lower word)) (sym (take-map to_ascii_lowercase (length word) text) ∙ ap (λ n. take n (lower text)) (sym (length-map word to_ascii_lowercase)))
 
 -- a text that is shorter than the word
-pub short-lower : (text word : List ℕ) → length text < length word → starts_with nat_eq (lower text) (lower word) ≡ false
-short-lower text [] short = absurd (omega arith)
-short-lower [] (w ∷ ws) short = refl
-short-lower (t ∷ ts) (w ∷ ws) short = and_right (nat_eq (to_ascii_lowercase w) (to_ascii_lowercase t)) (starts_with nat_eq (lower ts) (lower ws)) (short-lower ts ws (omega arith))
+pub short_lower : (text word : List ℕ) → length text < length word → starts_with nat_eq (lower text) (lower word) ≡ false
+short_lower text [] short = absurd (omega arith)
+short_lower [] (w ∷ ws) short = refl
+short_lower (t ∷ ts) (w ∷ ws) short = and_right (nat_eq (to_ascii_lowercase w) (to_ascii_lowercase t)) (starts_with nat_eq (lower ts) (lower ws)) (short_lower ts ws (omega arith))

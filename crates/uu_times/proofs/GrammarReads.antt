@@ -13,22 +13,22 @@ use Rattle.uu_times.specs.declared.scan.Place.TheVariants.{Start, Letter, Letter
 use Rattle.uu_times.specs.Internal.Simples.{no_days, with_days, two_letters, days_of, simple_of}
 use Rattle.uu_times.specs.Grammar.{DayWord, su, mo, tu, we, th, fr, sa, wk, any, word_text, word_days, Hours, Spelling, two_digits, hours_text, spelled, IsTime, IsEnd, AreHours, IsSpelling, Spells, bounds_of, is_separator}
 use Rattle.uu_times.specs.Internal.Scan.{is_time, is_end, more_digits, start_digit, end_digit, first_letter, second_letter, next_place, simple_at, after, ending, going_on, scan}
-use Rattle.uu_times.proofs.GrammarLemmas.{written, place_behind, simple-behind, made}
+use Rattle.uu_times.proofs.GrammarLemmas.{written, place_behind, simple_behind, made}
 
 -- what an equation of options says
 pub none-some : {X : Type 0} (y : X) (o : Option X) → o ≡ None → o ≡ Some y → ⊥
 none-some y o none some = cc
 
-ok-same : {X : Type 0} (x y : X) → let r : Result X ℕ = Ok x in r ≡ Ok y → x ≡ y
-ok-same x y same = cc
+ok_same : {X : Type 0} (x y : X) → let r : Result X ℕ = Ok x in r ≡ Ok y → x ≡ y
+ok_same x y same = cc
 
 err-ok : {X : Type 0} (at : ℕ) (y : X) → let r : Result X ℕ = Err at in r ≡ Ok y → ⊥
 err-ok at y same = cc
 
 -- a guard that passed, and a first choice or a later one
-guard-passed : {X : Type 0} (b : Bool) (x y : X) → cond b (Some x) None ≡ Some y → (b ≡ true) × (x ≡ y)
-guard-passed true x y same = (refl, same_Some x y same)
-guard-passed false x y same = absurd (none-some y None refl same)
+guard_passed : {X : Type 0} (b : Bool) (x y : X) → cond b (Some x) None ≡ Some y → (b ≡ true) × (x ≡ y)
+guard_passed true x y same = (refl, same_Some x y same)
+guard_passed false x y same = absurd (none-some y None refl same)
 
 choice : {X : Type 0} (b : Bool) (x y : X) (o : Option X) → cond b (Some x) o ≡ Some y → ((b ≡ true) × (x ≡ y)) ⊎ (o ≡ Some y)
 choice true x y o same = inl (refl, same_Some x y same)
@@ -49,8 +49,8 @@ pub record IsWord (a b : ℕ) (more : ℕ × ℕ) : Type 0 where
   pub days : word_days word ≡ more
   pub text : word_text word ≡ a ∷ b ∷ []
 
-two-word : (a b : ℕ) (more : ℕ × ℕ) → two_letters a b ≡ Some more → IsWord a b more
-two-word a b more same =
+two_word : (a b : ℕ) (more : ℕ × ℕ) → two_letters a b ≡ Some more → IsWord a b more
+two_word a b more same =
     elim (choice (nat_eq a 115 && nat_eq b 117) (0, 0) more _ same) [
       | inl found ↦ record { word = su; days = found.1; text = both a b 115 117 found.0 }
       | inr later ↦
@@ -91,9 +91,9 @@ pub record Words (days : Days) (text : List ℕ) : Type 0 where
   pub named : days ≡ days_of no_days words
   pub spelled : text ≡ flat_map word_text words
 
-days-more : (days : Days) (words : List DayWord) (word : DayWord) → days_of days (words ++ word ∷ []) ≡ with_days (days_of days words) (word_days word)
-days-more days [] word = refl
-days-more days (first ∷ words) word = days-more (with_days days (word_days first)) words word
+days_more : (days : Days) (words : List DayWord) (word : DayWord) → days_of days (words ++ word ∷ []) ≡ with_days (days_of days words) (word_days word)
+days_more days [] word = refl
+days_more days (first ∷ words) word = days_more (with_days days (word_days first)) words word
 
 text-more : (words : List DayWord) (word : DayWord) → flat_map word_text (words ++ word ∷ []) ≡ flat_map word_text words ++ word_text word
 text-more [] word = append-nil (word_text word)
@@ -111,7 +111,7 @@ one-more : (days : Days) (text : List ℕ) (word : DayWord) → Words days text 
 one-more days text word front = record {
   front = record {
     words = front.words ++ word ∷ [];
-    named = ap (λ (d : Days). with_days d (word_days word)) front.named ∙ sym (days-more no_days front.words word);
+    named = ap (λ (d : Days). with_days d (word_days word)) front.named ∙ sym (days_more no_days front.words word);
     spelled = ap (λ t. t ++ word_text word) front.spelled ∙ sym (text-more front.words word);
   };
   some = omega (arith, length-append front.words (word ∷ []));
@@ -146,8 +146,8 @@ Pending (Whole days start end) text =
     (front part last : List ℕ) × Named' days front × Clock IsTime start part × Clock IsEnd end last × (text ≡ front ++ (part ++ 45 ∷ last))
 
 -- a byte that is a digit
-digit-value : (letter : ℕ) → is_ascii_digit letter ≡ true → (d : ℕ) × (d < 10) × (letter ≡ 48 + d)
-digit-value letter is =
+digit_value : (letter : ℕ) → is_ascii_digit letter ≡ true → (d : ℕ) × (d < 10) × (letter ≡ 48 + d)
+digit_value letter is =
     let parts = and_parts (nat_le 48 letter) (nat_le letter 57) is in
     let low : 48 ≤ letter = leb-true 48 letter parts.0 in
     let high : letter ≤ 57 = leb-true letter 57 parts.1 in
@@ -157,15 +157,15 @@ abbrev pub Led : (ℕ → Bool) → (ℕ → Place) → ℕ → ℕ → ℕ → 
 Led test place unit digits letter next =
     (d : ℕ) × (d < 10) × (letter ≡ 48 + d) × (test (digits + d * unit) ≡ true) × (place (digits + d * unit) ≡ next)
 
-digit-led : (test : ℕ → Bool) (place : ℕ → Place) (unit digits letter : ℕ) (next : Place)
+digit_led : (test : ℕ → Bool) (place : ℕ → Place) (unit digits letter : ℕ) (next : Place)
     → option_and_then (λ more. cond (test more) (Some (place more)) None) (more_digits unit digits letter) ≡ Some next → Led test place unit digits letter next
-digit-led test place unit digits letter next same =
+digit_led test place unit digits letter next same =
     elim (cases_Bool (is_ascii_digit letter)) [
       | inl is ↦
-          let value = digit-value letter is in
+          let value = digit_value letter is in
           let read : more_digits unit digits letter ≡ Some (digits + value.0 * unit) =
           cond-true (is_ascii_digit letter) (Some (digits + (letter - 48) * unit)) None is ∙ ap (λ (x : ℕ). Some (digits + x * unit)) (omega (arith, value.2)) in
-          let passed = guard-passed (test (digits + value.0 * unit)) (place (digits + value.0 * unit)) next
+          let passed = guard_passed (test (digits + value.0 * unit)) (place (digits + value.0 * unit)) next
           (sym (ap (option_and_then (λ more. cond (test more) (Some (place more)) None)) read) ∙ same) in
           (value.0, value.1, value.2, passed.0, passed.1)
       | inr other ↦
@@ -178,29 +178,29 @@ there : (place next : Place) (text : List ℕ) → place ≡ next → Pending pl
 there place next text same pending = subst (λ (p : Place). Pending p text) same pending
 
 -- a first letter
-step-first : (days : Days) (text : List ℕ) (letter : ℕ) (next : Place) → Words days text → first_letter days letter ≡ Some next → Pending next (text ++ letter ∷ [])
-step-first days text letter next front same =
-    let passed = guard-passed (list_any (λ first. nat_eq first letter) (115 ∷ 109 ∷ 116 ∷ 119 ∷ 102 ∷ 97 ∷ [])) (Letter days letter) next same in
+step_first : (days : Days) (text : List ℕ) (letter : ℕ) (next : Place) → Words days text → first_letter days letter ≡ Some next → Pending next (text ++ letter ∷ [])
+step_first days text letter next front same =
+    let passed = guard_passed (list_any (λ first. nat_eq first letter) (115 ∷ 109 ∷ 116 ∷ 119 ∷ 102 ∷ 97 ∷ [])) (Letter days letter) next same in
     there (Letter days letter) next (text ++ letter ∷ []) passed.1 (text, front, refl)
 
-step-second : (days : Days) (first letter : ℕ) (text front : List ℕ) (next : Place) → Words days front → text ≡ front ++ first ∷ [] → second_letter days first letter ≡ Some next
+step_second : (days : Days) (first letter : ℕ) (text front : List ℕ) (next : Place) → Words days front → text ≡ front ++ first ∷ [] → second_letter days first letter ≡ Some next
     → Pending next (text ++ letter ∷ [])
-step-second days first letter text front next words is same =
+step_second days first letter text front next words is same =
     let whole : text ++ letter ∷ [] ≡ front ++ first ∷ letter ∷ [] = ap (λ t. t ++ letter ∷ []) is ∙ append_assoc front (first ∷ []) (letter ∷ []) in
     elim (choice (nat_eq first 97 && nat_eq letter 110) (LettersAn days) next (option_map (λ more. Named (with_days days more)) (two_letters first letter)) same) [
       | inl an ↦ there (LettersAn days) next (text ++ letter ∷ []) an.1 (front, words, whole ∙ ap (λ t. front ++ t) (sym (both first letter 97 110 an.0)))
       | inr later ↦
           let found = mapped (λ (more : ℕ × ℕ). Named (with_days days more)) (two_letters first letter) next later in
-          let word = two-word first letter found.0 found.1 in
+          let word = two_word first letter found.0 found.1 in
           there (Named (with_days days found.0)) next (text ++ letter ∷ []) found.2
           (subst (λ (t : List ℕ). Named' (with_days days found.0) t) (ap (λ t. front ++ t) word.text ∙ sym whole)
           (subst (λ (more : ℕ × ℕ). Named' (with_days days more) (front ++ word_text word.word)) word.days (one-more days front word.word words)))
     ]
 
 -- digits of the time at which hours begin
-clock-of : (a b c d digits : ℕ) (text : List ℕ) → a < 10 → b < 10 → c < 10 → d < 10 → digits ≡ 0 + a * 1000 + b * 100 + c * 10 + d * 1
+clock_of : (a b c d digits : ℕ) (text : List ℕ) → a < 10 → b < 10 → c < 10 → d < 10 → digits ≡ 0 + a * 1000 + b * 100 + c * 10 + d * 1
     → text ≡ (48 + a) ∷ (48 + b) ∷ (48 + c) ∷ (48 + d) ∷ [] → (passes : ℕ → ℕ → Type 0) → passes (10 * a + b) (10 * c + d) → Clock passes digits text
-clock-of a b c d digits text a_in b_in c_in d_in value is passes holds =
+clock_of a b c d digits text a_in b_in c_in d_in value is passes holds =
     let first : (10 * a + b) / 10 ≡ a = omega arith in
     let second : (10 * a + b) % 10 ≡ b = omega arith in
     let third : (10 * c + d) / 10 ≡ c = omega arith in
@@ -217,17 +217,17 @@ clock-of a b c d digits text a_in b_in c_in d_in value is passes holds =
           ∙ ap (λ (x : ℕ). let l : List ℕ = (48 + (10 * a + b) / 10) ∷ (48 + (10 * a + b) % 10) ∷ (48 + (10 * c + d) / 10) ∷ (48 + x) ∷ [] in l) (sym fourth);
     }
 
-time-from : (a b c d digits : ℕ) → b < 10 → c < 10 → d < 10 → digits ≡ 0 + a * 1000 + b * 100 + c * 10 + d * 1 → is_time digits ≡ true → IsTime (10 * a + b) (10 * c + d)
-time-from a b c d digits b_in c_in d_in value is =
+time_from : (a b c d digits : ℕ) → b < 10 → c < 10 → d < 10 → digits ≡ 0 + a * 1000 + b * 100 + c * 10 + d * 1 → is_time digits ≡ true → IsTime (10 * a + b) (10 * c + d)
+time_from a b c d digits b_in c_in d_in value is =
     let parts = and_parts (nat_lt (digits / 100) 24) (nat_lt (digits % 100) 60) is in
     let hour : digits / 100 < 24 = ltb-true (digits / 100) 24 parts.0 in
     let minute : digits % 100 < 60 = ltb-true (digits % 100) 60 parts.1 in
     (omega arith, omega arith)
 
-end-from : (a b c d digits : ℕ) → a < 10 → b < 10 → c < 10 → d < 10 → digits ≡ 0 + a * 1000 + b * 100 + c * 10 + d * 1 → is_end digits ≡ true → IsEnd (10 * a + b) (10 * c + d)
-end-from a b c d digits a_in b_in c_in d_in value is =
+end_from : (a b c d digits : ℕ) → a < 10 → b < 10 → c < 10 → d < 10 → digits ≡ 0 + a * 1000 + b * 100 + c * 10 + d * 1 → is_end digits ≡ true → IsEnd (10 * a + b) (10 * c + d)
+end_from a b c d digits a_in b_in c_in d_in value is =
     elim (or_cases (is_time digits) (nat_eq digits 2400) is) [
-      | inl time ↦ inl (time-from a b c d digits b_in c_in d_in value time)
+      | inl time ↦ inl (time_from a b c d digits b_in c_in d_in value time)
       | inr last ↦ let all : digits ≡ 2400 = eqb-true digits 2400 last in inr (omega arith, omega arith)
     ]
 
@@ -242,33 +242,33 @@ grow passes unit digits text d none d_in holds = inl (refl, one d d_in)
 grow passes unit digits text d (one a a_in) d_in holds = inl (refl, two a d a_in d_in)
 grow passes unit digits text d (two a b a_in b_in) d_in holds = inl (refl, three a b d a_in b_in d_in)
 grow passes unit digits text d (three a b c a_in b_in c_in) d_in holds =
-    inr (refl, clock-of a b c d (0 + a * 1000 + b * 100 + c * 10 + d * 1) ((48 + a) ∷ (48 + b) ∷ (48 + c) ∷ (48 + d) ∷ []) a_in b_in c_in d_in refl refl passes (holds a b c a_in b_in c_in refl))
+    inr (refl, clock_of a b c d (0 + a * 1000 + b * 100 + c * 10 + d * 1) ((48 + a) ∷ (48 + b) ∷ (48 + c) ∷ (48 + d) ∷ []) a_in b_in c_in d_in refl refl passes (holds a b c a_in b_in c_in refl))
 
 step-from : (days : Days) (unit digits letter : ℕ) (text front part : List ℕ) (next : Place) → Named' days front → Digits unit digits part → text ≡ front ++ part
     → start_digit days unit digits letter ≡ Some next → Pending next (text ++ letter ∷ [])
 step-from days unit digits letter text front part next words so_far is same =
-    let led = digit-led is_time (λ more. cond (nat_eq unit 1) (Dash days more) (From days (unit / 10) more)) unit digits letter next same in
+    let led = digit_led is_time (λ more. cond (nat_eq unit 1) (Dash days more) (From days (unit / 10) more)) unit digits letter next same in
     let d = led.0 in
     let value = digits + d * unit in
     let whole : text ++ letter ∷ [] ≡ front ++ (part ++ (48 + d) ∷ []) =
     ap (λ t. t ++ letter ∷ []) is ∙ append_assoc front part (letter ∷ []) ∙ ap (λ (l : ℕ). front ++ (part ++ l ∷ [])) led.2 in
-    elim (grow IsTime unit digits part d so_far led.1 (λ a b c a_in b_in c_in sum. time-from a b c d value b_in c_in led.1 sum led.3)) [
+    elim (grow IsTime unit digits part d so_far led.1 (λ a b c a_in b_in c_in sum. time_from a b c d value b_in c_in led.1 sum led.3)) [
       | inl grown ↦ there (From days (unit / 10) value) next (text ++ letter ∷ []) (sym (cond-false (nat_eq unit 1) (Dash days value) (From days (unit / 10) value) grown.0) ∙ led.4)
           (front, part ++ (48 + d) ∷ [], words, grown.1, whole)
       | inr all ↦ there (Dash days value) next (text ++ letter ∷ []) (sym (cond-true (nat_eq unit 1) (Dash days value) (From days (unit / 10) value) all.0) ∙ led.4)
           (front, part ++ (48 + d) ∷ [], words, all.1, whole)
     ]
 
-step-to : (days : Days) (start unit digits letter : ℕ) (text front part last : List ℕ) (next : Place) → Named' days front → Clock IsTime start part → Digits unit digits last
+step_to : (days : Days) (start unit digits letter : ℕ) (text front part last : List ℕ) (next : Place) → Named' days front → Clock IsTime start part → Digits unit digits last
     → text ≡ front ++ (part ++ 45 ∷ last) → end_digit days start unit digits letter ≡ Some next → Pending next (text ++ letter ∷ [])
-step-to days start unit digits letter text front part last next words begun so_far is same =
-    let led = digit-led is_end (λ more. cond (nat_eq unit 1) (Whole days start more) (To days start (unit / 10) more)) unit digits letter next same in
+step_to days start unit digits letter text front part last next words begun so_far is same =
+    let led = digit_led is_end (λ more. cond (nat_eq unit 1) (Whole days start more) (To days start (unit / 10) more)) unit digits letter next same in
     let d = led.0 in
     let value = digits + d * unit in
     let whole : text ++ letter ∷ [] ≡ front ++ (part ++ 45 ∷ (last ++ (48 + d) ∷ [])) =
     ap (λ t. t ++ letter ∷ []) is ∙ append_assoc front (part ++ 45 ∷ last) (letter ∷ []) ∙ ap (λ t. front ++ t) (append_assoc part (45 ∷ last) (letter ∷ []))
     ∙ ap (λ (l : ℕ). front ++ (part ++ 45 ∷ (last ++ l ∷ []))) led.2 in
-    elim (grow IsEnd unit digits last d so_far led.1 (λ a b c a_in b_in c_in sum. end-from a b c d value a_in b_in c_in led.1 sum led.3)) [
+    elim (grow IsEnd unit digits last d so_far led.1 (λ a b c a_in b_in c_in sum. end_from a b c d value a_in b_in c_in led.1 sum led.3)) [
       | inl grown ↦ there (To days start (unit / 10) value) next (text ++ letter ∷ []) (sym (cond-false (nat_eq unit 1) (Whole days start value) (To days start (unit / 10) value) grown.0) ∙ led.4)
           (front, part, last ++ (48 + d) ∷ [], words, begun, grown.1, whole)
       | inr all ↦ there (Whole days start value) next (text ++ letter ∷ []) (sym (cond-true (nat_eq unit 1) (Whole days start value) (To days start (unit / 10) value) all.0) ∙ led.4)
@@ -276,26 +276,26 @@ step-to days start unit digits letter text front part last next words begun so_f
     ]
 
 -- each byte keeps what was read
-step-next : (place next : Place) (letter : ℕ) (text : List ℕ) → next_place place letter ≡ Some next → Pending place text → Pending next (text ++ letter ∷ [])
-step-next Start next letter text same pending =
-    step-first no_days text letter next (subst (Words no_days) (sym pending) no-words) same
-step-next (Letter days first) next letter text same (front, words, is) = step-second days first letter text front next words is same
-step-next (LettersAn days) next letter text same (front, words, is) =
-    let passed = guard-passed (nat_eq letter 121) (Named (with_days days (0, 6))) next same in
+step_next : (place next : Place) (letter : ℕ) (text : List ℕ) → next_place place letter ≡ Some next → Pending place text → Pending next (text ++ letter ∷ [])
+step_next Start next letter text same pending =
+    step_first no_days text letter next (subst (Words no_days) (sym pending) no-words) same
+step_next (Letter days first) next letter text same (front, words, is) = step_second days first letter text front next words is same
+step_next (LettersAn days) next letter text same (front, words, is) =
+    let passed = guard_passed (nat_eq letter 121) (Named (with_days days (0, 6))) next same in
     there (Named (with_days days (0, 6))) next (text ++ letter ∷ []) passed.1
     (subst (λ (t : List ℕ). Named' (with_days days (0, 6)) t)
     (sym (append_assoc front (97 ∷ 110 ∷ []) (121 ∷ [])) ∙ ap (λ t. t ++ 121 ∷ []) (sym is) ∙ ap (λ (l : ℕ). text ++ l ∷ []) (sym (eqb-true letter 121 passed.0)))
     (one-more days front any words))
-step-next (Named days) next letter text same pending =
+step_next (Named days) next letter text same pending =
     elim (cases_Bool (is_ascii_digit letter)) [
       | inl digit ↦ step-from days 1000 0 letter text text [] next pending none (sym (append-nil text))
           (sym (cond-true (is_ascii_digit letter) (start_digit days 1000 0 letter) (first_letter days letter) digit) ∙ same)
-      | inr other ↦ step-first days text letter next pending.front
+      | inr other ↦ step_first days text letter next pending.front
           (sym (cond-false (is_ascii_digit letter) (start_digit days 1000 0 letter) (first_letter days letter) other) ∙ same)
     ]
-step-next (From days unit digits) next letter text same (front, part, words, so_far, is) = step-from days unit digits letter text front part next words so_far is same
-step-next (Dash days start) next letter text same (front, part, words, begun, is) =
-    let passed = guard-passed (nat_eq letter 45) (To days start 1000 0) next same in
+step_next (From days unit digits) next letter text same (front, part, words, so_far, is) = step-from days unit digits letter text front part next words so_far is same
+step_next (Dash days start) next letter text same (front, part, words, begun, is) =
+    let passed = guard_passed (nat_eq letter 45) (To days start 1000 0) next same in
     there (To days start 1000 0) next (text ++ letter ∷ []) passed.1 (
       front,
       part,
@@ -305,9 +305,9 @@ step-next (Dash days start) next letter text same (front, part, words, begun, is
       none,
       ap (λ t. t ++ letter ∷ []) is ∙ append_assoc front part (letter ∷ []) ∙ ap (λ (l : ℕ). front ++ (part ++ l ∷ [])) (eqb-true letter 45 passed.0),
     )
-step-next (To days start unit digits) next letter text same (front, part, last, words, begun, so_far, is) =
-    step-to days start unit digits letter text front part last next words begun so_far is same
-step-next (Whole days start end) next letter text same pending = absurd (none-some next None refl same)
+step_next (To days start unit digits) next letter text same (front, part, last, words, begun, so_far, is) =
+    step_to days start unit digits letter text front part last next words begun so_far is same
+step_next (Whole days start end) next letter text same pending = absurd (none-some next None refl same)
 
 -- a simple string that ends
 pub record Ended (text : List ℕ) (simple : Simple) : Type 0 where
@@ -316,13 +316,13 @@ pub record Ended (text : List ℕ) (simple : Simple) : Type 0 where
   pub text_is : text ≡ spelled spelling
   pub simple_is : simple ≡ simple_of spelling
 
-ended-with : (days : Days) (hours : Option Hours) (front text : List ℕ) (simple : Simple) → AreHours hours → (words : Named' days front) → text ≡ front ++ hours_text hours
+ended_with : (days : Days) (hours : Option Hours) (front text : List ℕ) (simple : Simple) → AreHours hours → (words : Named' days front) → text ≡ front ++ hours_text hours
     → simple_at (place_behind days hours) ≡ Some simple → Ended text simple
-ended-with days hours front text simple are words is same = record {
+ended_with days hours front text simple are words is same = record {
   spelling = record { words = words.front.words; hours = hours };
   is = (words.some, are);
   text_is = is ∙ ap (λ t. t ++ hours_text hours) words.front.spelled;
-  simple_is = sym (same_Some (made days (option_map bounds_of hours)) simple (sym (simple-behind days hours are) ∙ same))
+  simple_is = sym (same_Some (made days (option_map bounds_of hours)) simple (sym (simple_behind days hours are) ∙ same))
       ∙ ap (λ (d : Days). made d (option_map bounds_of hours)) words.front.named;
 }
 
@@ -330,13 +330,13 @@ ends-at : (place : Place) (text : List ℕ) (simple : Simple) → Pending place 
 ends-at Start text simple pending same = absurd (none-some simple None refl same)
 ends-at (Letter days first) text simple pending same = absurd (none-some simple None refl same)
 ends-at (LettersAn days) text simple pending same = absurd (none-some simple None refl same)
-ends-at (Named days) text simple pending same = ended-with days None text text simple tt pending (sym (append-nil text)) same
+ends-at (Named days) text simple pending same = ended_with days None text text simple tt pending (sym (append-nil text)) same
 ends-at (From days unit digits) text simple pending same = absurd (none-some simple None refl same)
 ends-at (Dash days start) text simple pending same = absurd (none-some simple None refl same)
 ends-at (To days start unit digits) text simple pending same = absurd (none-some simple None refl same)
 ends-at (Whole days start end) text simple (front, part, last, words, begun, ended, is) same =
     let hours : Hours = record { from_hour = begun.hour; from_minute = begun.minute; to_hour = ended.hour; to_minute = ended.minute } in
-    ended-with days (Some hours) front text simple (begun.is, ended.is) words
+    ended_with days (Some hours) front text simple (begun.is, ended.is) words
     (is ∙ ap (λ p. front ++ (p ++ 45 ∷ last)) begun.spelled ∙ ap (λ l. front ++ ((two_digits begun.hour ++ two_digits begun.minute) ++ 45 ∷ l)) ended.spelled)
     (ap (λ (s : ℕ). simple_at (Whole days s (written ended.hour ended.minute))) (sym begun.value) ∙ ap (λ (e : ℕ). simple_at (Whole days start e)) (sym ended.value) ∙ same)
 
@@ -346,8 +346,8 @@ pub record Written (text : List ℕ) (simples : List Simple) : Type 0 where
   pub spells : Spells text spellings
   pub are : simples ≡ map simple_of spellings
 
-written-one : (text : List ℕ) (simple : Simple) (simples : List Simple) → Ended text simple → simple ∷ [] ≡ simples → Written text simples
-written-one text simple simples ended is = record {
+written_one : (text : List ℕ) (simple : Simple) (simples : List Simple) → Ended text simple → simple ∷ [] ≡ simples → Written text simples
+written_one text simple simples ended is = record {
   spellings = ended.spelling ∷ [];
   spells = (ended.is, ended.text_is);
   are = sym is ∙ ap (λ (s : Simple). s ∷ []) ended.simple_is;
@@ -363,22 +363,22 @@ written-more text letter rest simple more cuts ended behind (next ∷ others) sp
 }
 
 after-ok : (front : List Simple) (read : Result (List Simple) ℕ) (simples : List Simple) → after front 1 read ≡ Ok simples → (more : List Simple) × (read ≡ Ok more) × (front ++ more ≡ simples)
-after-ok front (Ok more) simples same = (more, refl, ok-same (front ++ more) simples same)
+after-ok front (Ok more) simples same = (more, refl, ok_same (front ++ more) simples same)
 after-ok front (Err at) simples same = absurd (err-ok (1 + at) simples same)
 
-ending-written : (place : Place) (text : List ℕ) (simples : List Simple) (o : Option Simple) → simple_at place ≡ o → Pending place text → ending o ≡ Ok simples → Written text simples
-ending-written place text simples None is pending same = absurd (err-ok 0 simples same)
-ending-written place text simples (Some simple) is pending same =
-    written-one text simple simples (ends-at place text simple pending is) (ok-same (simple ∷ []) simples same)
+ending_written : (place : Place) (text : List ℕ) (simples : List Simple) (o : Option Simple) → simple_at place ≡ o → Pending place text → ending o ≡ Ok simples → Written text simples
+ending_written place text simples None is pending same = absurd (err-ok 0 simples same)
+ending_written place text simples (Some simple) is pending same =
+    written_one text simple simples (ends-at place text simple pending is) (ok_same (simple ∷ []) simples same)
 
 abbrev pub a_step : Option Simple → Place → Found
 a_step simple next = record { simple = simple; next = next }
 
-cut-written : (letter : ℕ) (letters : List ℕ) (place : Place) (text : List ℕ) (simples : List Simple) (o : Option Simple) → simple_at place ≡ o → is_separator letter ≡ true → Pending place text
+cut_written : (letter : ℕ) (letters : List ℕ) (place : Place) (text : List ℕ) (simples : List Simple) (o : Option Simple) → simple_at place ≡ o → is_separator letter ≡ true → Pending place text
     → ((more : List Simple) → scan Start letters ≡ Ok more → Written letters more)
     → going_on (option_map (λ s. a_step (Some s) Start) o) (λ p. scan p letters) ≡ Ok simples → Written (text ++ letter ∷ letters) simples
-cut-written letter letters place text simples None is cuts pending read same = absurd (err-ok 0 simples same)
-cut-written letter letters place text simples (Some simple) is cuts pending read same =
+cut_written letter letters place text simples None is cuts pending read same = absurd (err-ok 0 simples same)
+cut_written letter letters place text simples (Some simple) is cuts pending read same =
     let rest = after-ok (simple ∷ []) (scan Start letters) simples same in
     let behind = read rest.0 rest.1 in
     subst (λ (all : List Simple). Written (text ++ letter ∷ letters) all) rest.2
@@ -392,20 +392,20 @@ next-written letter letters place text simples (Some next) is read same =
     let rest = after-ok [] (scan next letters) simples same in
     subst (λ (t : List ℕ). Written t simples) (append_assoc text (letter ∷ []) letters) (read next is (rest.1 ∙ ap (λ (m : List Simple). let r : Result (List Simple) ℕ = Ok m in r) rest.2))
 
-scan-written : (rest : List ℕ) (place : Place) (text : List ℕ) (simples : List Simple) → Pending place text → scan place rest ≡ Ok simples → Written (text ++ rest) simples
+scan_written : (rest : List ℕ) (place : Place) (text : List ℕ) (simples : List Simple) → Pending place text → scan place rest ≡ Ok simples → Written (text ++ rest) simples
 unfolding scan
-scan-written [] place text simples pending same =
-    subst (λ (t : List ℕ). Written t simples) (sym (append-nil text)) (ending-written place text simples (simple_at place) refl pending same)
-scan-written (letter ∷ letters) place text simples pending same =
+scan_written [] place text simples pending same =
+    subst (λ (t : List ℕ). Written t simples) (sym (append-nil text)) (ending_written place text simples (simple_at place) refl pending same)
+scan_written (letter ∷ letters) place text simples pending same =
     elim (cases_Bool (is_separator letter)) [
-      | inl cuts ↦ cut-written letter letters place text simples (simple_at place) refl cuts pending
-          (λ more read. scan-written letters Start [] more refl read)
+      | inl cuts ↦ cut_written letter letters place text simples (simple_at place) refl cuts pending
+          (λ more read. scan_written letters Start [] more refl read)
           (sym (ap (λ b. going_on (cond b (option_map (λ s. a_step (Some s) Start) (simple_at place)) (option_map (λ n. a_step None n) (next_place place letter))) (λ p. scan p letters)) cuts) ∙ same)
       | inr plain ↦ next-written letter letters place text simples (next_place place letter) refl
-          (λ next leads read. scan-written letters next (text ++ letter ∷ []) simples (step-next place next letter text leads pending) read)
+          (λ next leads read. scan_written letters next (text ++ letter ∷ []) simples (step_next place next letter text leads pending) read)
           (sym (ap (λ b. going_on (cond b (option_map (λ s. a_step (Some s) Start) (simple_at place)) (option_map (λ n. a_step None n) (next_place place letter))) (λ p. scan p letters)) plain) ∙ same)
     ]
 
 -- what is read is a list of simple strings
-pub reads-lists : (text : List ℕ) (simples : List Simple) → scan Start text ≡ Ok simples → Written text simples
-reads-lists text simples same = scan-written text Start [] simples refl same
+pub reads_lists : (text : List ℕ) (simples : List Simple) → scan Start text ≡ Ok simples → Written text simples
+reads_lists text simples same = scan_written text Start [] simples refl same

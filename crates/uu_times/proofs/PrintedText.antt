@@ -36,40 +36,40 @@ day-text word day (range ∷ runs) =
 abbrev pub text_on : List (ℕ × ℕ) → DayWord × ℕ → List ℕ
 text_on runs day = flat_map (λ range. part_text (word_name day.0) (on_day day.1 range)) runs
 
-days-text : (runs : List (ℕ × ℕ)) (days : List (DayWord × ℕ)) → behind 44 (map piece_text (flat_map (pieces_on runs) days)) ≡ flat_map (text_on runs) days
-days-text runs [] = refl
-days-text runs (day ∷ days) =
+days_text : (runs : List (ℕ × ℕ)) (days : List (DayWord × ℕ)) → behind 44 (map piece_text (flat_map (pieces_on runs) days)) ≡ flat_map (text_on runs) days
+days_text runs [] = refl
+days_text runs (day ∷ days) =
     ap (behind 44) (map-append piece_text (pieces_on runs day) (flat_map (pieces_on runs) days))
     ∙ flat_map-append (λ t. 44 ∷ t) (map piece_text (pieces_on runs day)) (map piece_text (flat_map (pieces_on runs) days))
     ∙ ap (λ t. t ++ behind 44 (map piece_text (flat_map (pieces_on runs) days))) (day-text day.0 day.1 runs)
-    ∙ ap (λ t. text_on runs day ++ t) (days-text runs days)
+    ∙ ap (λ t. text_on runs day ++ t) (days_text runs days)
 
 -- the pieces of words
-pub one-text : (start a : List ℕ) (runs : List (ℕ × ℕ)) (day : DayWord × ℕ) → a ≡ start ++ text_on runs day → a ≡ start ++ behind 44 (map piece_text (flat_map (pieces_on runs) (day ∷ [])))
-one-text start a runs day p = p ∙ ap (λ t. start ++ t) (sym (append-nil (text_on runs day))) ∙ ap (λ t. start ++ t) (sym (days-text runs (day ∷ [])))
+pub one_text : (start a : List ℕ) (runs : List (ℕ × ℕ)) (day : DayWord × ℕ) → a ≡ start ++ text_on runs day → a ≡ start ++ behind 44 (map piece_text (flat_map (pieces_on runs) (day ∷ [])))
+one_text start a runs day p = p ∙ ap (λ t. start ++ t) (sym (append-nil (text_on runs day))) ∙ ap (λ t. start ++ t) (sym (days_text runs (day ∷ [])))
 
-pub parts-text : (start a b c : List ℕ) (runs : List (ℕ × ℕ)) → a ≡ start ++ text_on runs (wk, 1) → b ≡ a ++ text_on runs (sa, 6) → c ≡ b ++ text_on runs (su, 0)
+pub parts_text : (start a b c : List ℕ) (runs : List (ℕ × ℕ)) → a ≡ start ++ text_on runs (wk, 1) → b ≡ a ++ text_on runs (sa, 6) → c ≡ b ++ text_on runs (su, 0)
     → c ≡ start ++ behind 44 (map piece_text (flat_map (pieces_on runs) weekdays_and_ends))
-parts-text start a b c runs p q r =
+parts_text start a b c runs p q r =
     r ∙ ap (λ t. t ++ text_on runs (su, 0)) (q ∙ ap (λ t. t ++ text_on runs (sa, 6)) p)
     ∙ three start (text_on runs (wk, 1)) (text_on runs (sa, 6)) (text_on runs (su, 0))
-    ∙ ap (λ t. start ++ t) (sym (days-text runs weekdays_and_ends))
+    ∙ ap (λ t. start ++ t) (sym (days_text runs weekdays_and_ends))
   where
     three : (s a b c : List ℕ) → (((s ++ a) ++ b) ++ c) ≡ s ++ (a ++ (b ++ (c ++ [])))
     three s a b c = sym (simp (append_assoc, append-nil) refl)
 
-pub groups-days : (runs : List (ℕ × ℕ)) → weekdays_alike runs ≡ false → groups_of runs ≡ days_of_week
+pub groups_days : (runs : List (ℕ × ℕ)) → weekdays_alike runs ≡ false → groups_of runs ≡ days_of_week
 unfolding groups_of
-groups-days runs apart = cond-false (weekdays_alike runs) (cond (ends_alike runs) ((any, 0) ∷ []) weekdays_and_ends) days_of_week apart
+groups_days runs apart = cond-false (weekdays_alike runs) (cond (ends_alike runs) ((any, 0) ∷ []) weekdays_and_ends) days_of_week apart
 
-pub groups-any : (runs : List (ℕ × ℕ)) → weekdays_alike runs ≡ true → ends_alike runs ≡ true → groups_of runs ≡ (any, 0) ∷ []
+pub groups_any : (runs : List (ℕ × ℕ)) → weekdays_alike runs ≡ true → ends_alike runs ≡ true → groups_of runs ≡ (any, 0) ∷ []
 unfolding groups_of
-groups-any runs alike ends =
+groups_any runs alike ends =
     cond-true (weekdays_alike runs) (cond (ends_alike runs) ((any, 0) ∷ []) weekdays_and_ends) days_of_week alike ∙ cond-true (ends_alike runs) ((any, 0) ∷ []) weekdays_and_ends ends
 
-pub groups-parts : (runs : List (ℕ × ℕ)) → weekdays_alike runs ≡ true → ends_alike runs ≡ false → groups_of runs ≡ weekdays_and_ends
+pub groups_parts : (runs : List (ℕ × ℕ)) → weekdays_alike runs ≡ true → ends_alike runs ≡ false → groups_of runs ≡ weekdays_and_ends
 unfolding groups_of
-groups-parts runs alike apart =
+groups_parts runs alike apart =
     cond-true (weekdays_alike runs) (cond (ends_alike runs) ((any, 0) ∷ []) weekdays_and_ends) days_of_week alike ∙ cond-false (ends_alike runs) ((any, 0) ∷ []) weekdays_and_ends apart
 
 -- the text of pieces, if these are the groups
@@ -78,10 +78,10 @@ pub grouped : (start text : List ℕ) (runs : List (ℕ × ℕ)) (days : List (D
 grouped start text runs days are is = is ∙ ap (λ (ds : List (DayWord × ℕ)). start ++ behind 44 (map piece_text (flat_map (pieces_on runs) ds))) (sym are)
 
 -- the pieces of a week
-pub week-text : (start a b c d e f g : List ℕ) (runs : List (ℕ × ℕ)) → a ≡ start ++ text_on runs (su, 0) → b ≡ a ++ text_on runs (mo, 1) → c ≡ b ++ text_on runs (tu, 2)
+pub week_text : (start a b c d e f g : List ℕ) (runs : List (ℕ × ℕ)) → a ≡ start ++ text_on runs (su, 0) → b ≡ a ++ text_on runs (mo, 1) → c ≡ b ++ text_on runs (tu, 2)
     → d ≡ c ++ text_on runs (we, 3) → e ≡ d ++ text_on runs (th, 4) → f ≡ e ++ text_on runs (fr, 5) → g ≡ f ++ text_on runs (sa, 6)
     → g ≡ start ++ behind 44 (map piece_text (flat_map (pieces_on runs) days_of_week))
-week-text start a b c d e f g runs p0 p1 p2 p3 p4 p5 p6 =
+week_text start a b c d e f g runs p0 p1 p2 p3 p4 p5 p6 =
     p6
     ∙ ap (λ t. t ++ text_on runs (sa, 6)) (p5
     ∙ ap (λ t. t ++ text_on runs (fr, 5)) (p4
@@ -90,67 +90,67 @@ week-text start a b c d e f g runs p0 p1 p2 p3 p4 p5 p6 =
     ∙ ap (λ t. t ++ text_on runs (tu, 2)) (p1
     ∙ ap (λ t. t ++ text_on runs (mo, 1)) p0)))))
     ∙ seven start (text_on runs (su, 0)) (text_on runs (mo, 1)) (text_on runs (tu, 2)) (text_on runs (we, 3)) (text_on runs (th, 4)) (text_on runs (fr, 5)) (text_on runs (sa, 6))
-    ∙ ap (λ t. start ++ t) (sym (days-text runs days_of_week))
+    ∙ ap (λ t. start ++ t) (sym (days_text runs days_of_week))
   where
     seven : (s a b c d e f g : List ℕ) → (((((((s ++ a) ++ b) ++ c) ++ d) ++ e) ++ f) ++ g) ≡ s ++ (a ++ (b ++ (c ++ (d ++ (e ++ (f ++ (g ++ [])))))))
     seven s a b c d e f g = sym (simp (append_assoc, append-nil) refl)
 
 -- a set without minutes, and one with some
-never-pieces : (list : List ℕ) (pieces : List Piece) → list ≡ behind 44 (map piece_text pieces) → length list < 1 → codes "Never" ≡ pieces_text pieces
-never-pieces list [] is short = refl
-never-pieces list (piece ∷ pieces) is short = absurd (omega (arith, ap length is))
+never_pieces : (list : List ℕ) (pieces : List Piece) → list ≡ behind 44 (map piece_text pieces) → length list < 1 → codes "Never" ≡ pieces_text pieces
+never_pieces list [] is short = refl
+never_pieces list (piece ∷ pieces) is short = absurd (omega (arith, ap length is))
 
-pub never-text : (list : List ℕ) (runs : List (ℕ × ℕ)) → list ≡ behind 44 (map piece_text (pieces_of runs)) → length list < 1 → codes "Never" ≡ time_text runs
+pub never_text : (list : List ℕ) (runs : List (ℕ × ℕ)) → list ≡ behind 44 (map piece_text (pieces_of runs)) → length list < 1 → codes "Never" ≡ time_text runs
 unfolding time_text
-never-text list runs is short = never-pieces list (pieces_of runs) is short
+never_text list runs is short = never_pieces list (pieces_of runs) is short
 
-some-pieces : (list : List ℕ) (pieces : List Piece) → list ≡ behind 44 (map piece_text pieces) → 1 ≤ length list → drop 1 list ≡ pieces_text pieces
-some-pieces list [] is some = absurd (omega (arith, ap length is))
-some-pieces list (piece ∷ pieces) is some = ap (drop 1) is
+some_pieces : (list : List ℕ) (pieces : List Piece) → list ≡ behind 44 (map piece_text pieces) → 1 ≤ length list → drop 1 list ≡ pieces_text pieces
+some_pieces list [] is some = absurd (omega (arith, ap length is))
+some_pieces list (piece ∷ pieces) is some = ap (drop 1) is
 
 pub some-text : (list : List ℕ) (runs : List (ℕ × ℕ)) → list ≡ behind 44 (map piece_text (pieces_of runs)) → 1 ≤ length list
     → take (length list - 1) (drop 1 list) ≡ time_text runs
 unfolding time_text
 some-text list runs is some =
-    take_all (length list - 1) (drop 1 list) (omega (arith, length-drop 1 list)) ∙ some-pieces list (pieces_of runs) is some
+    take_all (length list - 1) (drop 1 list) (omega (arith, length-drop 1 list)) ∙ some_pieces list (pieces_of runs) is some
 
 -- a text that was added
 pub extended : {E : Type 0} (result : Result (Unit {0}) E) (old new more wanted : List ℕ) → new ≡ cond (is_ok result) (old ++ more) old → more ≡ wanted → OnOk result (new ≡ old ++ wanted)
 extended (Ok done) old new more wanted is same = is ∙ ap (λ t. old ++ t) same
 extended (Err fault) old new more wanted is same = tt
 
-pub ok-later : {E P Q : Type 0} (result : Result (Unit {0}) E) → (P → Q) → OnOk result P → OnOk result Q
-ok-later (Ok done) later is = later is
-ok-later (Err fault) later is = tt
+pub ok_later : {E P Q : Type 0} (result : Result (Unit {0}) E) → (P → Q) → OnOk result P → OnOk result Q
+ok_later (Ok done) later is = later is
+ok_later (Err fault) later is = tt
 
 -- a system's lines
-pub times-text : (times : List Line) → flat_map line_text (map time_words times) ≡ flat_map (λ line. line_text (time_words line)) times
-times-text [] = refl
-times-text (line ∷ times) = ap (λ t. line_text (time_words line) ++ t) (times-text times)
+pub times_text : (times : List Line) → flat_map line_text (map time_words times) ≡ flat_map (λ line. line_text (time_words line)) times
+times_text [] = refl
+times_text (line ∷ times) = ap (λ t. line_text (time_words line) ++ t) (times_text times)
 
-pub system-grown : (system : System) (start a b c d : List ℕ) → a ≡ start ++ line_text (codes "system" ∷ system.name ∷ [])
+pub system_grown : (system : System) (start a b c d : List ℕ) → a ≡ start ++ line_text (codes "system" ∷ system.name ∷ [])
     → b ≡ a ++ line_text (codes "max-retries" ∷ decimal system.max_retries ∷ []) → c ≡ b ++ line_text (codes "success-wait" ∷ decimal system.success_wait ∷ [])
     → d ≡ c ++ flat_map (λ line. line_text (time_words line)) system.lines → d ≡ start ++ system_text system
-system-grown system start a b c d p q r s =
+system_grown system start a b c d p q r s =
     s ∙ ap (λ t. t ++ flat_map (λ line. line_text (time_words line)) system.lines) (r ∙ ap (λ t. t ++ line_text (codes "success-wait" ∷ decimal system.success_wait ∷ [])) (q ∙ ap (λ t. t ++ line_text (codes "max-retries" ∷ decimal system.max_retries ∷ [])) p))
     ∙ four start (line_text (codes "system" ∷ system.name ∷ [])) (line_text (codes "max-retries" ∷ decimal system.max_retries ∷ [])) (line_text (codes "success-wait" ∷ decimal system.success_wait ∷ []))
     (flat_map (λ line. line_text (time_words line)) system.lines)
-    ∙ ap (λ t. start ++ (line_text (codes "system" ∷ system.name ∷ []) ++ (line_text (codes "max-retries" ∷ decimal system.max_retries ∷ []) ++ (line_text (codes "success-wait" ∷ decimal system.success_wait ∷ []) ++ t)))) (sym (times-text system.lines))
+    ∙ ap (λ t. start ++ (line_text (codes "system" ∷ system.name ∷ []) ++ (line_text (codes "max-retries" ∷ decimal system.max_retries ∷ []) ++ (line_text (codes "success-wait" ∷ decimal system.success_wait ∷ []) ++ t)))) (sym (times_text system.lines))
   where
     four : (s a b c d : List ℕ) → ((((s ++ a) ++ b) ++ c) ++ d) ≡ s ++ (a ++ (b ++ (c ++ d)))
     four s a b c d = simp append_assoc
 
 -- the parts of one range more
-one-option : {Y : Type 0} (o : Option Y) → cons_option o [] ≡ option_to_list o
-one-option None = refl
-one-option (Some y) = refl
+one_option : {Y : Type 0} (o : Option Y) → cons_option o [] ≡ option_to_list o
+one_option None = refl
+one_option (Some y) = refl
 
-pub part-grow : {X Y : Type 0} (h : X → Option Y) (xs : List X) (i : ℕ) (d : X) (before after : List Y) (o : Option Y) → i < length xs → o ≡ h (get_or xs i d)
+pub part_grow : {X Y : Type 0} (h : X → Option Y) (xs : List X) (i : ℕ) (d : X) (before after : List Y) (o : Option Y) → i < length xs → o ≡ h (get_or xs i d)
     → before ≡ filter_map h (take i xs) → after ≡ before ++ option_to_list o → after ≡ filter_map h (take (i + 1) xs)
-part-grow {X} {Y} h xs i d before after o inside is so_far grown =
+part_grow {X} {Y} h xs i d before after o inside is so_far grown =
     grown
     ∙ ap (λ (t : List Y). t ++ option_to_list o) so_far
     ∙ ap (λ (p : Option Y). filter_map h (take i xs) ++ option_to_list p) is
-    ∙ ap (λ (t : List Y). filter_map h (take i xs) ++ t) (sym (one-option (h (get_or xs i d))))
+    ∙ ap (λ (t : List Y). filter_map h (take i xs) ++ t) (sym (one_option (h (get_or xs i d))))
     ∙ sym (filter_map-append h (take i xs) (get_or xs i d ∷ []))
     ∙ ap (filter_map h) (sym (take_more xs i d inside))

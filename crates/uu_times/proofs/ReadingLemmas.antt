@@ -9,17 +9,17 @@ use Rattle.uu_times.specs.Lines.{Numbered, joined}
 use Rattle.uu_times.specs.Internal.Reading.{Reading, Takes, line_read, lines_read}
 
 -- a line that is read
-pub reads-on : (reading next : Reading) (number : ℕ) (text : List ℕ) (all more : List Numbered) (whole : Result Reading TimeFault)
+pub reads_on : (reading next : Reading) (number : ℕ) (text : List ℕ) (all more : List Numbered) (whole : Result Reading TimeFault)
     → all ≡ record { number = number; line = text } ∷ more → line_read reading number text ≡ Ok next → lines_read reading all ≡ whole → lines_read next more ≡ whole
 unfolding lines_read
-reads-on reading next number text all more whole is read answer =
+reads_on reading next number text all more whole is read answer =
     ap (λ r. r >>= λ n. lines_read n more) (sym read) ∙ ap (lines_read reading) (sym is) ∙ answer
 
 -- a faulty line
-pub reads-fault : (reading : Reading) (number : ℕ) (text : List ℕ) (all more : List Numbered) (whole : Result Reading TimeFault) (fault : TimeFault)
+pub reads_fault : (reading : Reading) (number : ℕ) (text : List ℕ) (all more : List Numbered) (whole : Result Reading TimeFault) (fault : TimeFault)
     → all ≡ record { number = number; line = text } ∷ more → line_read reading number text ≡ Err fault → lines_read reading all ≡ whole → whole ≡ Err fault
 unfolding lines_read
-reads-fault reading number text all more whole fault is read answer =
+reads_fault reading number text all more whole fault is read answer =
     sym answer ∙ ap (lines_read reading) is ∙ ap (λ r. r >>= λ n. lines_read n more) read
 
 -- no more lines
@@ -29,11 +29,11 @@ unfolding lines_read joined
 reads-end reading number rest whole none answer = ap (λ (r : List ℕ). lines_read reading (joined number (lines r))) (sym none) ∙ answer
 
 -- a faulty line, or out of memory at it
-pub takes-fault : (fault : TimeFault) (reading next last : Reading) (number : ℕ) (text : List ℕ) (all more : List Numbered) (whole : Result Reading TimeFault)
+pub takes_fault : (fault : TimeFault) (reading next last : Reading) (number : ℕ) (text : List ℕ) (all more : List Numbered) (whole : Result Reading TimeFault)
     → all ≡ record { number = number; line = text } ∷ more → Takes (Err fault) next (line_read reading number text) → lines_read reading all ≡ whole
     → Takes (Err fault) last whole
-takes-fault Memory reading next last number text all more whole is takes answer = tt
-takes-fault fault reading next last number text all more whole is takes answer = reads-fault reading number text all more whole fault is takes answer
+takes_fault Memory reading next last number text all more whole is takes answer = tt
+takes_fault fault reading next last number text all more whole is takes answer = reads_fault reading number text all more whole fault is takes answer
 
 -- a fault that is passed on
 pub passed-on : (result : Result (Unit {0}) TimeFault) (last : Reading) (whole : Result Reading TimeFault) (fault : TimeFault)

@@ -110,17 +110,17 @@ weekday_found : (year : ℤ) (month week weekday : ℕ) (day : ℤ) → weekday 
 weekday_found year month week weekday day most is = elim (eqb_tells week 5) [
   | inl fifth ↦
       let of_week : ltb (days_in_month year month) (is.date + 7) ≡ true = subst (λ (b : Bool). cond b (ltb (days_in_month year month) (is.date + 7)) (ltb (7 * (week - 1)) is.date && leb is.date (7 * week)) ≡ true) fifth.0 is.week_is in
-      rw fifth.0 (by-last of_week)
+      rw fifth.0 (by_last of_week)
   | inr other ↦
       let of_week : ltb (7 * (week - 1)) is.date && leb is.date (7 * week) ≡ true = subst (λ (b : Bool). cond b (ltb (days_in_month year month) (is.date + 7)) (ltb (7 * (week - 1)) is.date && leb is.date (7 * week)) ≡ true) other.0 is.week_is in
-      rw other.0 (by-nth of_week)
+      rw other.0 (by_nth of_week)
 ]
   where
     number : sunday_number day ≡ weekday
     number = weekday_named day weekday is.weekday_is
 
-    by-last : ltb (days_in_month year month) (is.date + 7) ≡ true → last_weekday year month weekday ≡ day
-    by-last e =
+    by_last : ltb (days_in_month year month) (is.date + 7) ≡ true → last_weekday year month weekday ≡ day
+    by_last e =
         let near : days_in_month year month < is.date + 7 = grind (arith, nat_tests) in
         let within = is.last in
         let end = from_first year month is.date (days_in_month year month) is.first is.last in
@@ -129,8 +129,8 @@ weekday_found year month week weekday day most is = elim (eqb_tells week 5) [
         let steps : (sunday_number (days_from_civil year month (days_in_month year month)) + 7 - weekday) % 7 ≡ days_in_month year month - is.date = omega (arith, last, number) in
         rw steps (omega (arith, signed_arith, end_from))
 
-    by-nth : ltb (7 * (week - 1)) is.date && leb is.date (7 * week) ≡ true → nth_weekday year month week weekday ≡ day
-    by-nth e =
+    by_nth : ltb (7 * (week - 1)) is.date && leb is.date (7 * week) ≡ true → nth_weekday year month week weekday ≡ day
+    by_nth e =
         let above : 7 * (week - 1) < is.date = grind (arith, nat_tests) in
         let below : is.date ≤ 7 * week = grind (arith, nat_tests) in
         let here = from_first year month 1 is.date (omega arith) is.first in
@@ -142,8 +142,8 @@ weekday_found year month week weekday day most is = elim (eqb_tells week 5) [
 -- and there is one
 weekday_there : (year : ℤ) (month week weekday : ℕ) → 1 ≤ week → week ≤ 5 → weekday ≤ 6 → (day : ℤ) × IsWeekdayOf year month week weekday day
 weekday_there year month week weekday low high most = elim (eqb_tells week 5) [
-  | inl fifth ↦ by-last fifth.0
-  | inr other ↦ by-nth other.0 (omega (arith, other.1))
+  | inl fifth ↦ by_last fifth.0
+  | inr other ↦ by_nth other.0 (omega (arith, other.1))
 ]
   where
     days : (days_in_month year month ≤ 31) × (28 ≤ days_in_month year month)
@@ -155,8 +155,8 @@ weekday_there year month week weekday low high most = elim (eqb_tells week 5) [
     ahead : ℕ
     ahead = (weekday + 7 - sunday_number (days_from_civil year month 1)) % 7
 
-    by-last : (week == 5) ≡ true → (day : ℤ) × IsWeekdayOf year month week weekday day
-    by-last fifth =
+    by_last : (week == 5) ≡ true → (day : ℤ) × IsWeekdayOf year month week weekday day
+    by_last fifth =
         let date : ℕ = days_in_month year month - back in
         let within = days.1 in
         let near : back < 7 = omega arith in
@@ -174,8 +174,8 @@ weekday_there year month week weekday low high most = elim (eqb_tells week 5) [
           },
         )
 
-    by-nth : (week == 5) ≡ false → week < 5 → (day : ℤ) × IsWeekdayOf year month week weekday day
-    by-nth other before =
+    by_nth : (week == 5) ≡ false → week < 5 → (day : ℤ) × IsWeekdayOf year month week weekday day
+    by_nth other before =
         let date : ℕ = 1 + ahead + 7 * (week - 1) in
         let within = days.1 in
         let near : ahead < 7 = omega arith in

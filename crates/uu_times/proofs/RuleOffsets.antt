@@ -14,7 +14,7 @@ use Rattle.jiff_tz.specs.declared.posix.Dst.{Dst}
 use Rattle.jiff_tz.specs.declared.posix.DayTime.{DayTime}
 use Rattle.jiff_tz.proofs.YearLemmas.{years_within_is}
 use Rattle.uu_times.specs.Rule.{IsChange, ChangesInside, is_daylight, IsOfYear, IsInside, HasDay, IsOneDay}
-use Rattle.uu_times.specs.Zone.{offset_at, said}
+use Rattle.uu_times.specs.Zone.{offset_at, zone_view}
 use Rattle.uu_times.specs.declared.zone.Zone.{Zone}
 use Rattle.uu_times.proofs.RuleDays.{named_is, one_day}
 
@@ -93,7 +93,7 @@ window_is begin end second =
     outside = elim (int_le end second) as (λ t. int_le end second ≡ t → not (t && int_lt second begin) ≡ (int_le begin second || int_lt second end)) [
       | true ↦ λ e.
           let past : int_lt second end ≡ false = not_less second end (omega (arith, signed_arith)) in
-          rw past (by-begin (int_lt second begin) refl)
+          rw past (by_begin (int_lt second begin) refl)
       | false ↦ λ e.
           let before : int_lt second end ≡ true = less second end (omega (arith, signed_arith)) in
           rw before (sym (or_true (int_le begin second)))
@@ -107,9 +107,9 @@ window_is begin end second =
         or_false true = refl
         or_false false = refl
 
-        by-begin : (t : Bool) → int_lt second begin ≡ t → not t ≡ (int_le begin second || false)
-        by-begin true e = sym (or_false (int_le begin second) ∙ not_at_most begin second (omega (arith, signed_arith)))
-        by-begin false e = sym (or_false (int_le begin second) ∙ at_most begin second (omega (arith, signed_arith)))
+        by_begin : (t : Bool) → int_lt second begin ≡ t → not t ≡ (int_le begin second || false)
+        by_begin true e = sym (or_false (int_le begin second) ∙ not_at_most begin second (omega (arith, signed_arith)))
+        by_begin false e = sym (or_false (int_le begin second) ∙ at_most begin second (omega (arith, signed_arith)))
 
 -- the window of a year within which both changes lie
 window_found : (standard : Offset) (daylight : Dst) (year begin end : ℤ) → IsYear year → ChangesInside standard.seconds (dst_view daylight) year begin end
@@ -174,9 +174,9 @@ offset_found standard (Some d) daylight year begin end second says in_range insi
 
 -- ---- the law
 
-pub offset_by_rule : (zone : Zone) (daylight : DstText) → (said zone).dst ≡ Some daylight → (year begin end : ℤ) → IsYear year
-    → ChangesInside (said zone).std_seconds daylight year begin end → (second : ℕ) → IsOfYear year (pos second)
-    → offset_at zone second ≡ (if is_daylight begin end (pos second) then daylight.seconds else (said zone).std_seconds)
+pub offset_by_rule : (zone : Zone) (daylight : DstText) → (zone_view zone).dst ≡ Some daylight → (year begin end : ℤ) → IsYear year
+    → ChangesInside (zone_view zone).std_seconds daylight year begin end → (second : ℕ) → IsOfYear year (pos second)
+    → offset_at zone second ≡ (if is_daylight begin end (pos second) then daylight.seconds else (zone_view zone).std_seconds)
 unfolding offset_at
 offset_by_rule zone daylight says year begin end in_range inside second of_year =
     offset_found zone.rule.std_offset zone.rule.dst daylight year begin end second says in_range inside of_year
@@ -189,6 +189,6 @@ days_of (Some d) daylight says year =
     subst (λ (t : DstText). (HasDay year t.start.0 → IsOneDay year t.start.0) × (HasDay year t.finish.0 → IsOneDay year t.finish.0)) view
     (one_day year d.rule.start.date d.rule.start.date_in, one_day year d.rule.end.date d.rule.end.date_in)
 
-pub days_by_rule : (zone : Zone) (daylight : DstText) → (said zone).dst ≡ Some daylight → (year : ℤ)
+pub days_by_rule : (zone : Zone) (daylight : DstText) → (zone_view zone).dst ≡ Some daylight → (year : ℤ)
     → (HasDay year daylight.start.0 → IsOneDay year daylight.start.0) × (HasDay year daylight.finish.0 → IsOneDay year daylight.finish.0)
 days_by_rule zone daylight says year = days_of zone.rule.dst daylight says year

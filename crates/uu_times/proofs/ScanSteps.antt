@@ -9,10 +9,10 @@ use Rattle.uu_times.specs.Internal.Scan.{after, step, ending, going_on, simple_a
 use Rattle.uu_times.specs.Grammar.{lower}
 
 -- one byte, and then the rest
-pub scan-at : (place : Place) (text : List ℕ) (i : ℕ) → i < length text
+pub scan_at : (place : Place) (text : List ℕ) (i : ℕ) → i < length text
     → scan place (lower (drop i text)) ≡ going_on (step place (to_ascii_lowercase (get_or text i 0))) (λ next. scan next (lower (drop (i + 1) text)))
 unfolding scan
-scan-at place text i below = rw (drop-cons text i 0, add-one) refl
+scan_at place text i below = rw (drop-cons text i 0, add-one) refl
 
 -- at the end nothing is left
 pub scan-end : (place : Place) (text : List ℕ) (i : ℕ) → length text ≤ i → scan place (lower (drop i text)) ≡ ending (simple_at place)
@@ -29,7 +29,7 @@ after-after front found i (Err at) = ap Err (omega arith)
 pub stops_at : (front : List Simple) (place : Place) (text : List ℕ) (i letter : ℕ) (all : Result (List Simple) ℕ) → i < length text
     → after front i (scan place (lower (drop i text))) ≡ all → letter ≡ to_ascii_lowercase (get_or text i 0) → None ≡ step place letter → all ≡ Err i
 stops_at front place text i letter all below whole is stop =
-    sym whole ∙ ap (after front i) (scan-at place text i below
+    sym whole ∙ ap (after front i) (scan_at place text i below
     ∙ ap (λ b. going_on (step place b) (λ next. scan next (lower (drop (i + 1) text)))) (sym is)
     ∙ ap (λ s. going_on s (λ next. scan next (lower (drop (i + 1) text)))) (sym stop))
     ∙ ap Err (omega arith)
@@ -40,7 +40,7 @@ pub goes_on : (front : List Simple) (place : Place) (found : Found) (text : List
     → after (front ++ option_to_list found.simple) (i + 1) (scan found.next (lower (drop (i + 1) text))) ≡ all
 goes_on front place found text i letter all below whole is go =
     after-after front found.simple i (scan found.next (lower (drop (i + 1) text)))
-    ∙ ap (after front i) (sym (scan-at place text i below
+    ∙ ap (after front i) (sym (scan_at place text i below
     ∙ ap (λ b. going_on (step place b) (λ next. scan next (lower (drop (i + 1) text)))) (sym is)
     ∙ ap (λ s. going_on s (λ next. scan next (lower (drop (i + 1) text)))) (sym go)))
     ∙ whole

@@ -43,20 +43,20 @@ apart m first name greater is_first is_m =
     let same : m ≡ first = sym ((bytes_eq-Decides name m).0 is_m) ∙ (bytes_eq-Decides name first).0 is_first in
     false≢true (sym (ap is_eq greater) ∙ (is_eq-slice_cmp m first ∙ (bytes_eq-Decides m first).1 same))
 
-found-with_by : (entry : List ℕ × List (ℕ × ℕ)) (tables : Tables) (m : List ℕ) (windows : List (ℕ × ℕ)) (name : List ℕ) (order : Ordering) → slice_cmp nat_cmp m entry.0 ≡ order
+found_with_by : (entry : List ℕ × List (ℕ × ℕ)) (tables : Tables) (m : List ℕ) (windows : List (ℕ × ℕ)) (name : List ℕ) (order : Ordering) → slice_cmp nat_cmp m entry.0 ≡ order
     → found (adding tables m windows) name ≡ cond (bytes_eq name m) (Some windows) (found tables name)
     → found (adding (entry ∷ tables) m windows) name ≡ cond (bytes_eq name m) (Some windows) (found (entry ∷ tables) name)
-found-with_by entry tables m windows name Less is later =
+found_with_by entry tables m windows name Less is later =
     ap (λ o. found (match_ordering o ((m, windows) ∷ entry ∷ tables) ((entry.0, windows) ∷ tables) (entry ∷ adding tables m windows)) name) is
     ∙ found-first name (m, windows) (entry ∷ tables)
-found-with_by entry tables m windows name Equal is later =
+found_with_by entry tables m windows name Equal is later =
     let same : m ≡ entry.0 = (bytes_eq-Decides m entry.0).0 (sym (is_eq-slice_cmp m entry.0) ∙ ap is_eq is) in
     ap (λ o. found (match_ordering o ((m, windows) ∷ entry ∷ tables) ((entry.0, windows) ∷ tables) (entry ∷ adding tables m windows)) name) is
     ∙ found-first name (entry.0, windows) tables
     ∙ once (bytes_eq name entry.0) (Some windows) (Some entry.1) (found tables name)
     ∙ ap (λ k. cond (bytes_eq name k) (Some windows) (cond (bytes_eq name entry.0) (Some entry.1) (found tables name))) (sym same)
     ∙ ap (λ (o : Option (List (ℕ × ℕ))). cond (bytes_eq name m) (Some windows) o) (sym (found-first name entry tables))
-found-with_by entry tables m windows name Greater is later =
+found_with_by entry tables m windows name Greater is later =
     ap (λ o. found (match_ordering o ((m, windows) ∷ entry ∷ tables) ((entry.0, windows) ∷ tables) (entry ∷ adding tables m windows)) name) is
     ∙ found-first name entry (adding tables m windows)
     ∙ ap (λ (o : Option (List (ℕ × ℕ))). cond (bytes_eq name entry.0) (Some entry.1) o) later
@@ -64,33 +64,33 @@ found-with_by entry tables m windows name Greater is later =
     ∙ ap (λ (o : Option (List (ℕ × ℕ))). cond (bytes_eq name m) (Some windows) o) (sym (found-first name entry tables))
 
 -- what is found for a name if a timetable was added
-pub found-with : (tables : Tables) (m : List ℕ) (windows : List (ℕ × ℕ)) (name : List ℕ) → found (adding tables m windows) name ≡ cond (bytes_eq name m) (Some windows) (found tables name)
-found-with [] m windows name = found-first name (m, windows) []
-found-with (entry ∷ tables) m windows name = found-with_by entry tables m windows name (slice_cmp nat_cmp m entry.0) refl (found-with tables m windows name)
+pub found_with : (tables : Tables) (m : List ℕ) (windows : List (ℕ × ℕ)) (name : List ℕ) → found (adding tables m windows) name ≡ cond (bytes_eq name m) (Some windows) (found tables name)
+found_with [] m windows name = found-first name (m, windows) []
+found_with (entry ∷ tables) m windows name = found_with_by entry tables m windows name (slice_cmp nat_cmp m entry.0) refl (found_with tables m windows name)
 
-last-with : (b : Bool) (windows : List (ℕ × ℕ)) (before : Option (List (ℕ × ℕ))) (name other : List ℕ) (directives : List Directive) → bytes_eq name other ≡ b
+last_with : (b : Bool) (windows : List (ℕ × ℕ)) (before : Option (List (ℕ × ℕ))) (name other : List ℕ) (directives : List Directive) → bytes_eq name other ≡ b
     → last_or (cond b (Some windows) before) (filter_map (windows_named name) directives) ≡ last_or before (filter_map (windows_named name) (Table other windows ∷ directives))
-last-with true windows before name other directives is =
+last_with true windows before name other directives is =
     sym (ap (λ (t : Bool). last_or before (cons_option (cond t (Some windows) None) (filter_map (windows_named name) directives))) is)
-last-with false windows before name other directives is =
+last_with false windows before name other directives is =
     sym (ap (λ (t : Bool). last_or before (cons_option (cond t (Some windows) None) (filter_map (windows_named name) directives))) is)
 
 -- the last timetable of the name counts
-pub found-known : (tables : Tables) (directives : List Directive) (name : List ℕ) → found (known tables directives) name ≡ last_or (found tables name) (filter_map (windows_named name) directives)
-found-known tables [] name = refl
-found-known tables (Table other windows ∷ directives) name =
-    found-known (adding tables other windows) directives name
-    ∙ ap (λ (o : Option (List (ℕ × ℕ))). last_or o (filter_map (windows_named name) directives)) (found-with tables other windows name)
-    ∙ last-with (bytes_eq name other) windows (found tables name) name other directives refl
-found-known tables (Begin system ∷ directives) name = found-known tables directives name
-found-known tables (Time line ∷ directives) name = found-known tables directives name
-found-known tables (Retries number ∷ directives) name = found-known tables directives name
-found-known tables (SuccessWait seconds ∷ directives) name = found-known tables directives name
-found-known tables (Skip line ∷ directives) name = found-known tables directives name
+pub found_known : (tables : Tables) (directives : List Directive) (name : List ℕ) → found (known tables directives) name ≡ last_or (found tables name) (filter_map (windows_named name) directives)
+found_known tables [] name = refl
+found_known tables (Table other windows ∷ directives) name =
+    found_known (adding tables other windows) directives name
+    ∙ ap (λ (o : Option (List (ℕ × ℕ))). last_or o (filter_map (windows_named name) directives)) (found_with tables other windows name)
+    ∙ last_with (bytes_eq name other) windows (found tables name) name other directives refl
+found_known tables (Begin system ∷ directives) name = found_known tables directives name
+found_known tables (Time line ∷ directives) name = found_known tables directives name
+found_known tables (Retries number ∷ directives) name = found_known tables directives name
+found_known tables (SuccessWait seconds ∷ directives) name = found_known tables directives name
+found_known tables (Skip line ∷ directives) name = found_known tables directives name
 
-pub table-known : (tables : Tables) (directives : List Directive) (name : List ℕ) → IsTrue (is_table_name name)
+pub table_known : (tables : Tables) (directives : List Directive) (name : List ℕ) → IsTrue (is_table_name name)
     → table_at (known tables directives) name ≡ last_or (table_at tables name) (filter_map (windows_named (lower name)) directives)
-table-known tables directives name is =
+table_known tables directives name is =
     cond-true (is_table_name name) (found (known tables directives) (lower name)) None is
-    ∙ found-known tables directives (lower name)
+    ∙ found_known tables directives (lower name)
     ∙ ap (λ (o : Option (List (ℕ × ℕ))). last_or o (filter_map (windows_named (lower name)) directives)) (sym (cond-true (is_table_name name) (found tables (lower name)) None is))

@@ -119,13 +119,13 @@ directive_of tables line keyword arguments =
     else Ok (Skip line))))))
 
 -- a line without words says nothing
-abbrev pub said : Tables → ℕ → List (List ℕ) → Result (Option Directive) TimeFault
-said tables line [] = Ok None
-said tables line (keyword ∷ arguments) = directive_of tables line keyword arguments >>= λ directive. Ok (Some directive)
+abbrev pub words_say : Tables → ℕ → List (List ℕ) → Result (Option Directive) TimeFault
+words_say tables line [] = Ok None
+words_say tables line (keyword ∷ arguments) = directive_of tables line keyword arguments >>= λ directive. Ok (Some directive)
 
 -- what a joined line says
 abbrev pub line_says : Tables → ℕ → List ℕ → Result (Option Directive) TimeFault
-line_says tables line text = said tables line (words_of (uncommented text))
+line_says tables line text = words_say tables line (words_of (uncommented text))
 
 -- numbers are within their limits
 abbrev pub IsValid : Directive → Type 0

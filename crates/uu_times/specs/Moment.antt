@@ -23,6 +23,6 @@ abbrev pub week_minute : ℤ → ℤ
 week_minute shown = int_rem_euclid (int_div_euclid shown (pos 60) +ℤ pos 5760) (pos 10080)
 
 -- the date and the time of day at a second that a clock shows
-pub record Shows (local : DateTime) (shown : ℤ) : Type 0 where
+pub record IsDateTimeAt (local : DateTime) (shown : ℤ) : Type 0 where
   pub day : epoch_day local.date ≡ int_div_euclid shown (pos 86400)
   pub time : pos (time_nanos local.time) ≡ int_rem_euclid shown (pos 86400) *ℤ pos 1_000_000_000

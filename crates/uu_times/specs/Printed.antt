@@ -10,7 +10,7 @@ use Rattle.uu_names.specs.Text.{space, line_feed}
 use Rattle.uu_times.specs.declared.system.Line.{Line}
 use Rattle.uu_times.specs.Days.{day_minutes}
 use Rattle.uu_times.specs.Grammar.{DayWord, su, mo, tu, we, th, fr, sa, wk, any, Hours, hours_text}
-use Rattle.uu_times.specs.Ranges.{AreRuns}
+use Rattle.uu_times.specs.Ranges.{AreSeparateRanges}
 use Rattle.uu_times.specs.System.{System, AreWithinLimits}
 
 -- each text after a byte; and texts with the byte between them
@@ -145,7 +145,7 @@ sys_text systems = flat_map system_text systems
 
 -- what always holds of a time line and of a system
 abbrev pub IsLine : Line → Type 0
-IsLine line = (line.grade < grade_count) × AreRuns line.windows
+IsLine line = (line.grade < grade_count) × AreSeparateRanges line.windows
 
 abbrev pub IsSystem : System → Type 0
 IsSystem system =

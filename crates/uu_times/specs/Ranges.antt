@@ -21,8 +21,8 @@ AreRunsFrom start (range ∷ ranges) =
     (start ≤ range.0) × (range.0 ≤ range.1) × (range.1 < week_minutes) × AreRunsFrom (range.1 + 2) ranges
 
 -- ranges of week minutes in order, with at least one minute between two that is in none
-abbrev pub AreRuns : List (ℕ × ℕ) → Type 0
-AreRuns ranges = AreRunsFrom 0 ranges
+abbrev pub AreSeparateRanges : List (ℕ × ℕ) → Type 0
+AreSeparateRanges ranges = AreRunsFrom 0 ranges
 
 -- a minute put before the runs of later minutes
 abbrev pub onto_runs : ℕ → List (ℕ × ℕ) → List (ℕ × ℕ)

@@ -31,8 +31,8 @@ abbrev pub zone_of : List ℕ → Option TzText
 zone_of text = read_whole text
 
 -- what a zone's rule says
-abbrev pub said : Zone → TzText
-said zone = tz_view zone.rule
+abbrev pub zone_view : Zone → TzText
+zone_view zone = tz_view zone.rule
 
 -- the seconds that a zone's clock is ahead of UTC at a UTC second
 unfoldable pub offset_at : Zone → ℕ → ℤ

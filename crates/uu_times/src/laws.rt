@@ -3,7 +3,7 @@ ghost use Rattle.std.specs.Prelude.{◌≡◌, ◌<◌, ◌≤◌, [], ◌∷◌
 ghost use Rattle.std.specs.List.{filter_map, last_or};
 ghost use Rattle.uu_times.specs.Internal.Simples.{has_minute, simple_of};
 ghost use Rattle.uu_times.specs.Grammar.{Spelling, Spells, has_spelled, IsLongestFront, lower};
-ghost use Rattle.uu_times.specs.Ranges.{holds, AreRuns, maximal_runs};
+ghost use Rattle.uu_times.specs.Ranges.{holds, AreSeparateRanges, maximal_runs};
 ghost use Rattle.uu_times.specs.Internal.Scan.{list_of};
 ghost use Rattle.uu_times.specs.SysFile.{known, windows_named};
 ghost use Rattle.uu_times.specs.Tables.{Tables, is_table_name, table_at, predefined_strings, predefined_tables, time_of, IsReadAs, IsTimeString};
@@ -15,7 +15,7 @@ ghost use Rattle.uu_times.specs.Printed.{sys_text, system_text, IsSystem, NamesD
 ghost use Rattle.uu_times.specs.SysFile.{sys_file_of};
 ghost use Rattle.uu_times.specs.System.{System, AreWithinLimits};
 ghost use Rattle.uu_names.specs.Text.{most_text};
-ghost use Rattle.uu_times.specs.Zone.{offset_at, said};
+ghost use Rattle.uu_times.specs.Zone.{offset_at, zone_view};
 ghost use Rattle.uu_times.specs.declared.days.Simple.{Simple};
 ghost use Rattle.uu_times.specs.declared.zone.Zone.{Zone};
 ghost use Rattle.uu_times.specs.declared.directive.Directive.{Directive};
@@ -27,8 +27,8 @@ use crate::{SystemDef, Windows};
 /// runs of its union.
 pub fn sets_are_their_runs()
     ensures union { (set : ℕ → Bool) (minute : ℕ) → minute < 10080 → holds (maximal_runs set) minute ≡ set minute }
-    ensures apart { (set : ℕ → Bool) → AreRuns (maximal_runs set) }
-    ensures accepted { (ranges : List (ℕ × ℕ)) → AreRuns ranges → maximal_runs (holds ranges) ≡ ranges }
+    ensures apart { (set : ℕ → Bool) → AreSeparateRanges (maximal_runs set) }
+    ensures accepted { (ranges : List (ℕ × ℕ)) → AreSeparateRanges ranges → maximal_runs (holds ranges) ≡ ranges }
 {}
 
 /// The code reads from a text the simple strings that are written there, in any case of letters,
@@ -65,8 +65,8 @@ pub fn predefined_tables_are_read()
 /// What a zone says determines its clock. If it says no daylight saving time, the clock is always
 /// as far from UTC as its standard time. No clock is 26 hours or more from UTC.
 pub fn zones_are_what_they_say()
-    ensures same { (a b : Zone) → said a ≡ said b → (second : ℕ) → offset_at a second ≡ offset_at b second }
-    ensures standard { (zone : Zone) → (said zone).dst ≡ None → (second : ℕ) → offset_at zone second ≡ (said zone).std_seconds }
+    ensures same { (a b : Zone) → zone_view a ≡ zone_view b → (second : ℕ) → offset_at a second ≡ offset_at b second }
+    ensures standard { (zone : Zone) → (zone_view zone).dst ≡ None → (second : ℕ) → offset_at zone second ≡ (zone_view zone).std_seconds }
     ensures within { (zone : Zone) (second : ℕ) → IsOffsetSeconds (offset_at zone second) }
 {}
 
@@ -74,11 +74,11 @@ pub fn zones_are_what_they_say()
 /// both of its changes. (`ChangesInside` gives a rule for which this fails.) Each day that a rule
 /// names is one day of a year that has it.
 pub fn rules_mean_what_posix_says()
-    ensures days { (zone : Zone) (daylight : DstText) → (said zone).dst ≡ Some daylight → (year : ℤ)
+    ensures days { (zone : Zone) (daylight : DstText) → (zone_view zone).dst ≡ Some daylight → (year : ℤ)
         → (HasDay year daylight.start.0 → IsOneDay year daylight.start.0) × (HasDay year daylight.finish.0 → IsOneDay year daylight.finish.0) }
-    ensures offset { (zone : Zone) (daylight : DstText) → (said zone).dst ≡ Some daylight → (year begin end : ℤ) → IsYear year
-        → ChangesInside (said zone).std_seconds daylight year begin end → (second : ℕ) → IsOfYear year (pos second)
-        → offset_at zone second ≡ (if is_daylight begin end (pos second) then daylight.seconds else (said zone).std_seconds) }
+    ensures offset { (zone : Zone) (daylight : DstText) → (zone_view zone).dst ≡ Some daylight → (year begin end : ℤ) → IsYear year
+        → ChangesInside (zone_view zone).std_seconds daylight year begin end → (second : ℕ) → IsOfYear year (pos second)
+        → offset_at zone second ≡ (if is_daylight begin end (pos second) then daylight.seconds else (zone_view zone).std_seconds) }
 {}
 
 /// A sys file printed from systems is read as these systems, in their order, and no line is
@@ -90,7 +90,7 @@ pub fn printed_systems_are_read()
 
 /// A value of type [`Windows`] is a list of runs, in order and apart.
 pub fn windows_are_sound(windows: &Windows)
-    ensures { AreRuns windows.now }
+    ensures { AreSeparateRanges windows.now }
 {
     windows.ranges();
 }

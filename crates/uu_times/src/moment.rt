@@ -2,7 +2,7 @@
 ghost use Rattle.std.specs.Prelude.{◌≡◌, ◌<◌, ◌≤◌, ◌↔◌, ◌+ℤ◌, IfOk, IfErr, pos};
 ghost use Rattle.jiff_core.specs.Timestamp.{IsOffsetSeconds};
 ghost use Rattle.uu_times.specs.Ranges.{week_minutes};
-ghost use Rattle.uu_times.specs.Moment.{last_second, IsPast, local_second, week_minute, Shows};
+ghost use Rattle.uu_times.specs.Moment.{last_second, IsPast, local_second, week_minute, IsDateTimeAt};
 
 use crate::windows::WEEK;
 use crate::{TimeFault, Zone};
@@ -38,7 +38,7 @@ impl Moment {
     pub fn new(second: u64, zone: &Zone) -> Result<Moment, TimeFault>
         ensures second { IfOk result (λ moment. moment.second ≡ second) }
         ensures week { IfOk result (λ moment. pos moment.week ≡ week_minute (local_second zone.now second)) }
-        ensures local { IfOk result (λ moment. Shows moment.local (local_second zone.now second)) }
+        ensures local { IfOk result (λ moment. IsDateTimeAt moment.local (local_second zone.now second)) }
         ensures refused { (result ≡ Err TimeFault.MomentRange) ↔ IsPast second }
         ensures only { IfErr result (λ fault. fault ≡ TimeFault.MomentRange) }
     {

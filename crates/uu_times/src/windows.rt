@@ -1,6 +1,6 @@
 //! Sets of week minutes.
 ghost use Rattle.std.specs.Prelude.{◌≡◌, ◌↔◌, IfOk, IsNone, IfSome, IsTrue, []};
-ghost use Rattle.uu_times.specs.Ranges.{holds, AreRuns, maximal_runs};
+ghost use Rattle.uu_times.specs.Ranges.{holds, AreSeparateRanges, maximal_runs};
 
 use std::alloc::{AllocError, Global};
 use std::marker::Model;
@@ -21,13 +21,13 @@ pub struct Windows {
 
 impl Model for Windows {
     ghost use Rattle.std.specs.Prelude.{List, ℕ};
-    ghost use Rattle.uu_times.specs.Ranges.{AreRuns};
+    ghost use Rattle.uu_times.specs.Ranges.{AreSeparateRanges};
 
     ghost Value = { List (ℕ × ℕ) };
 
     ghost view = { λ w. w.runs.value.items };
 
-    ghost invariant = { λ w. AreRuns w.runs.value.items };
+    ghost invariant = { λ w. AreSeparateRanges w.runs.value.items };
 }
 
 impl Windows {
@@ -44,7 +44,7 @@ impl Windows {
     /// The maximal runs of the set: the first and the last minute of each, in order.
     pub fn ranges(&self) -> &[(u16, u16)]
         ensures value { result.now ≡ self.now }
-        ensures separate { AreRuns self.now }
+        ensures separate { AreSeparateRanges self.now }
         ensures maximal { result.now ≡ maximal_runs (holds self.now) }
     {
         self.runs.as_ref().as_slice()
@@ -53,7 +53,7 @@ impl Windows {
     /// The set of these maximal runs, or `None` if the list isn't of that form or exceeds the
     /// minute 10,079.
     pub fn from_ranges(alloc: Global, ranges: &[(u16, u16)]) -> Result<Option<Windows>, AllocError>
-        ensures refused { IfOk result (λ windows. IsNone windows ↔ (¬ AreRuns ranges.now)) }
+        ensures refused { IfOk result (λ windows. IsNone windows ↔ (¬ AreSeparateRanges ranges.now)) }
         ensures value { IfOk result (λ windows. IfSome windows (λ w. w ≡ ranges.now)) }
     {
         if !are_runs(ranges) {
@@ -67,7 +67,7 @@ impl Windows {
 impl Windows {
     /// The set of these runs.
     pub(crate) fn from_runs(alloc: Global, runs: Vec<(u16, u16)>) -> Result<Windows, AllocError>
-        requires { AreRuns runs.items }
+        requires { AreSeparateRanges runs.items }
         ensures { IfOk result (λ windows. windows ≡ runs.items) }
     {
         let runs = Rc::new(alloc, runs)?;
@@ -96,7 +96,7 @@ impl Clone for Windows {
 
 // Whether the ranges are in order, within the week and apart.
 fn are_runs(ranges: &[(u16, u16)]) -> bool
-    ensures { IsTrue result ↔ AreRuns ranges.now }
+    ensures { IsTrue result ↔ AreSeparateRanges ranges.now }
 {
     let mut start = 0;
     for (low, high) in ranges {

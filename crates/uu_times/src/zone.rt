@@ -2,8 +2,8 @@
 ghost use Rattle.std.specs.Prelude.{◌≡◌, ◌≤◌, ◌↔◌, ◌*ℤ◌, pos, ℕ, Some, IsNone, IfOk, IfErr};
 ghost use Rattle.jiff_core.specs.DateTime.{civil_nanos};
 ghost use Rattle.jiff_core.specs.Timestamp.{IsOffsetSeconds, nanos_of_seconds};
-ghost use Rattle.uu_times.specs.Moment.{last_second, local_second, Shows};
-ghost use Rattle.uu_times.specs.Zone.{IsFarOff, always, offset_at, said, zone_of};
+ghost use Rattle.uu_times.specs.Moment.{last_second, local_second, IsDateTimeAt};
+ghost use Rattle.uu_times.specs.Zone.{IsFarOff, always, offset_at, zone_view, zone_of};
 
 use crate::TimeFault;
 use jiff_core::civil::DateTime;
@@ -24,7 +24,7 @@ impl Zone {
     ///
     /// `OffsetRange` if the minutes aren't from -1439 to 1439.
     pub fn fixed(minutes: i32) -> Result<Zone, TimeFault>
-        ensures value { IfOk result (λ zone. said zone ≡ always minutes) }
+        ensures value { IfOk result (λ zone. zone_view zone ≡ always minutes) }
         ensures offset { IfOk result (λ zone. (second : ℕ) → offset_at zone second ≡ pos 60 *ℤ minutes) }
         ensures refused { (result ≡ Err TimeFault.OffsetRange) ↔ IsFarOff minutes }
         ensures only { IfErr result (λ fault. fault ≡ TimeFault.OffsetRange) }
@@ -46,7 +46,7 @@ impl Zone {
     ///
     /// `BadZone` if the text isn't such a rule.
     pub fn posix(text: &str) -> Result<Zone, TimeFault>
-        ensures value { IfOk result (λ zone. zone_of text.now ≡ Some (said zone)) }
+        ensures value { IfOk result (λ zone. zone_of text.now ≡ Some (zone_view zone)) }
         ensures refused { (result ≡ Err TimeFault.BadZone) ↔ IsNone (zone_of text.now) }
         ensures only { IfErr result (λ fault. fault ≡ TimeFault.BadZone) }
     {
@@ -69,7 +69,7 @@ impl Zone {
     pub fn local_time(&self, second: u64) -> DateTime
         requires { second ≤ last_second }
         ensures value { civil_nanos result ≡ nanos_of_seconds (local_second self.now second) }
-        ensures shows { Shows result (local_second self.now second) }
+        ensures shows { IsDateTimeAt result (local_second self.now second) }
     {
         self.offset(second).to_datetime(instant(second))
     }

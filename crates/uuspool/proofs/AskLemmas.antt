@@ -1,6 +1,6 @@
 -- How a line ends, and with which fault.
 use Rattle.std.proofs.Common.{inl, inr, ℕ, List, Result, Ok, Err, IfErr}
-use Rattle.uu_request.specs.Requests.{Asks, UnlessMemory}
+use Rattle.uu_request.specs.Requests.{LineAsks, UnlessMemory}
 use Rattle.uu_request.specs.declared.fault.RequestFault.{RequestFault}
 use Rattle.uu_request.specs.declared.fault.RequestFault.TheVariants as asking
 use Rattle.uu_request.specs.declared.request.Request.{Request}
@@ -9,7 +9,7 @@ use Rattle.uu_line.specs.declared.line.CommandLine.{CommandLine}
 use Rattle.uu_settings.specs.declared.settings.Settings.{Settings}
 use Rattle.uu_times.specs.declared.moment.Moment.{Moment}
 use Rattle.uuspool.specs.Faults.{fault_of_request}
-use Rattle.uuspool.specs.Served.{Ask, EndsAs, IsEarly, IsFaultOf, IsFaultOfLine, IsLate, IsMomentOf, second_of}
+use Rattle.uuspool.specs.Served.{WordsAsk, EndsAs, IsEarly, IsFaultOf, IsFaultOfLine, IsLate, IsMomentOf, second_of}
 use Rattle.uuspool.specs.declared.fault.Fault.{Fault}
 use Rattle.uuspool.specs.declared.fault.Fault.TheVariants as fault
 
@@ -60,7 +60,7 @@ ends_as (Err (fault.Bundle why)) Served Unchanged Other Still into over it = ove
 
 module _ (settings : Settings) (line : CommandLine) (at : Moment) (input : List ℕ) where
   -- a fault that comes with the calls of the spool
-  pub late_fault : (r : Result ℕ Fault) → IfErr r IsLate → ((request : Request) × Asks settings at input line (Ok request)) → IfErr r (IsFaultOfLine settings line at input)
+  pub late_fault : (r : Result ℕ Fault) → IfErr r IsLate → ((request : Request) × LineAsks settings at input line (Ok request)) → IfErr r (IsFaultOfLine settings line at input)
   late_fault (Ok status) late asked = tt
   late_fault (Err (fault.Store why)) late asked = (late, asked)
   late_fault (Err fault.Write) late asked = asked
@@ -75,7 +75,7 @@ module _ (settings : Settings) (line : CommandLine) (at : Moment) (input : List 
   late_fault (Err (fault.Bundle why)) late asked = absurd late
 
   -- a fault of what a line asks
-  pub asked_fault : (why : RequestFault) → (let answer : Result Request RequestFault = Err why in UnlessMemory (Asks settings at input line) answer)
+  pub asked_fault : (why : RequestFault) → (let answer : Result Request RequestFault = Err why in UnlessMemory (LineAsks settings at input line) answer)
       → IsFaultOfLine settings line at input (fault_of_request why)
   asked_fault asking.Input is = is
   asked_fault (asking.Time why) is = is
@@ -84,7 +84,7 @@ module _ (settings : Settings) (line : CommandLine) (at : Moment) (input : List 
 
   module _ (words : List (List ℕ)) (now : ℕ) (means : MeansLine words line) (moment : IsMomentOf settings (second_of line now) at) where
     -- words ask what their line asks
-    pub words_ask : (asked : Result Request RequestFault) → Asks settings at input line asked → Ask settings words now input asked
+    pub words_ask : (asked : Result Request RequestFault) → LineAsks settings at input line asked → WordsAsk settings words now input asked
     words_ask asked is = record { line = line; means = means; at = at; moment = moment; request = is }
 
     -- and a fault of their line is theirs

@@ -13,7 +13,7 @@ use Rattle.uu_store.specs.declared.spool.Spool.{Spool}
 use Rattle.uuspool.specs.Batch.{BreaksOff, EndsWith, IsBatch, IsNext, IsOfStream, IsRequestLine, IsUntold, answer_of, fault_answer, frame_of, most_requests}
 use Rattle.uuspool.specs.Internal.BatchSteps.{IsBatchStep}
 use Rattle.uuspool.specs.Faults.{status_of}
-use Rattle.uuspool.specs.ServedLines.{AllGoOn, AreLeft, AreServed, IsOneRun, Line, Serves, goes_on, left_fault}
+use Rattle.uuspool.specs.ServedLines.{AllGoOn, AreLeft, AreServed, IsOneRun, ServedLine, Serves, goes_on, left_fault}
 use Rattle.uuspool.specs.declared.batching.Step.{Step}
 use Rattle.uuspool.specs.declared.batching.Step.TheVariants as step
 use Rattle.uuspool.specs.declared.fault.Fault.{Fault}
@@ -32,39 +32,39 @@ not_false false is = sym is
 -- ---- one line more
 
 -- after some line the next is left
-abbrev pub SomeStops : List Line → Type 0
+abbrev pub SomeStops : List ServedLine → Type 0
 SomeStops [] = ⊥
 SomeStops (line ∷ lines) = (goes_on line.result ≡ false) ⊎ SomeStops lines
 
-left_more : (lines : List Line) (line : Line) → AreLeft lines → line.output ≡ [] → line.result ≡ Err left_fault → AreLeft (lines ++ line ∷ [])
+left_more : (lines : List ServedLine) (line : ServedLine) → AreLeft lines → line.output ≡ [] → line.result ≡ Err left_fault → AreLeft (lines ++ line ∷ [])
 left_more [] line left nothing is = (nothing, is, tt)
 left_more (first ∷ lines) line (a, b, left) nothing is = (a, b, left_more lines line left nothing is)
 
-off_more : (lines : List Line) (line : Line) → SomeStops lines → SomeStops (lines ++ line ∷ [])
+off_more : (lines : List ServedLine) (line : ServedLine) → SomeStops lines → SomeStops (lines ++ line ∷ [])
 off_more [] line off = absurd off
 off_more (first ∷ lines) line (inl stops) = inl stops
 off_more (first ∷ lines) line (inr later) = inr (off_more lines line later)
 
-off_now : (lines : List Line) (line : Line) → goes_on line.result ≡ false → SomeStops (lines ++ line ∷ [])
+off_now : (lines : List ServedLine) (line : ServedLine) → goes_on line.result ≡ false → SomeStops (lines ++ line ∷ [])
 off_now [] line stops = inl stops
 off_now (first ∷ lines) line stops = inr (off_now lines line stops)
 
-all_more : (P : Line → Type 0) (lines : List Line) (line : Line) → AllByRecursion P lines → P line → AllByRecursion P (lines ++ line ∷ [])
+all_more : (P : ServedLine → Type 0) (lines : List ServedLine) (line : ServedLine) → AllByRecursion P lines → P line → AllByRecursion P (lines ++ line ∷ [])
 all_more P [] line all here = (here, tt)
 all_more P (first ∷ lines) line (p, all) here = (p, all_more P lines line all here)
 
-one_counted : (lines : List Line) (line : Line) (count : ℕ) → length lines ≡ count → length (lines ++ line ∷ []) ≡ count + 1
+one_counted : (lines : List ServedLine) (line : ServedLine) (count : ℕ) → length lines ≡ count → length (lines ++ line ∷ []) ≡ count + 1
 one_counted lines line count counted = length-append lines (line ∷ []) ∙ ap (λ n. n + 1) counted
 
-folds_more : {C : Type 0} (R : C → Line → C → Type 0) (c : C) (lines : List Line) (d : C) (line : Line) (e : C) → FoldsTo R c lines d → R d line e → FoldsTo R c (lines ++ line ∷ []) e
+folds_more : {C : Type 0} (R : C → ServedLine → C → Type 0) (c : C) (lines : List ServedLine) (d : C) (line : ServedLine) (e : C) → FoldsTo R c lines d → R d line e → FoldsTo R c (lines ++ line ∷ []) e
 folds_more R c [] d line e same step = (e, subst (λ x. R x line e) (sym same) step, refl)
 folds_more R c (first ∷ lines) d line e (j, here, rest) step = (j, here, folds_more R j lines d line e rest step)
 
-flat_more : (f : Line → List ℕ) (lines : List Line) (line : Line) → flat_map f lines ++ f line ≡ flat_map f (lines ++ line ∷ [])
+flat_more : (f : ServedLine → List ℕ) (lines : List ServedLine) (line : ServedLine) → flat_map f lines ++ f line ≡ flat_map f (lines ++ line ∷ [])
 flat_more f lines line = ap (λ back. flat_map f lines ++ back) (sym (append-nil (f line))) ∙ sym (flat_map-append f lines (line ∷ []))
 
 module _ {S : Type 0} {g : Ghosts S} (settings : Settings) where
-  served_more : (lines : List Line) (line : Line) (old mid new : Spool S g) → AreServed settings lines old mid → AllGoOn lines → Serves settings line mid new → AreServed settings (lines ++ line ∷ []) old new
+  served_more : (lines : List ServedLine) (line : ServedLine) (old mid new : Spool S g) → AreServed settings lines old mid → AllGoOn lines → Serves settings line mid new → AreServed settings (lines ++ line ∷ []) old new
   served_more [] line old mid new same on serves =
       (new, subst (λ (m : Spool S g). Serves settings line m new) same serves, (λ goes. refl), (λ stops. (tt, refl)))
   served_more (first ∷ lines) line old mid new (m, here, rest, left) (goes, on) serves = (
@@ -75,7 +75,7 @@ module _ {S : Type 0} {g : Ghosts S} (settings : Settings) where
   )
 
   -- one of them stops, so the line is left like those after that one
-  unserved_more : (lines : List Line) (line : Line) (old mid new : Spool S g) → AreServed settings lines old mid → SomeStops lines
+  unserved_more : (lines : List ServedLine) (line : ServedLine) (old mid new : Spool S g) → AreServed settings lines old mid → SomeStops lines
       → line.output ≡ [] → line.result ≡ Err left_fault → new ≡ mid → AreServed settings (lines ++ line ∷ []) old new
   unserved_more [] line old mid new same off nothing is still = absurd off
   unserved_more (first ∷ lines) line old mid new (m, here, rest, left) off nothing is still = (
@@ -115,23 +115,23 @@ untold_behind held holds more before answer (fault.Bundle is) wrote none = none
 
 -- the requests that were answered so far, and whether after some line the next is left
 pub record SoFar {S : Type 0} {g : Ghosts S} {C : Type 0} (settings : Settings) (Tells : C → ℕ → C → Type 0) (failed : Bool) (count : ℕ) (clock later : C) (old new : Spool S g) (had left held holds : Option (List ℕ)) : Type 0 where
-  pub lines : List Line
+  pub lines : List ServedLine
   pub counted : length lines ≡ count
   pub served : AreServed settings lines old new
   pub on : failed ≡ false → AllGoOn lines
   pub off : failed ≡ true → SomeStops lines
   pub requests : AllByRecursion IsRequestLine lines
-  pub clock_told : FoldsTo (λ earlier (line : Line) later. Tells earlier line.now later) clock lines later
+  pub clock_told : FoldsTo (λ earlier (line : ServedLine) later. Tells earlier line.now later) clock lines later
   pub read : Consumes had left (flat_map frame_of lines)
   pub answered : Appends held holds (flat_map answer_of lines)
 
 -- after a line the next is served if those before it and it go on
-on_then : (failed goes : Bool) (lines : List Line) (line : Line) → (failed ≡ false → AllGoOn lines) → (failed ≡ true → line.result ≡ Err left_fault)
+on_then : (failed goes : Bool) (lines : List ServedLine) (line : ServedLine) → (failed ≡ false → AllGoOn lines) → (failed ≡ true → line.result ≡ Err left_fault)
     → goes ≡ goes_on line.result → goes ≡ true → AllGoOn (lines ++ line ∷ [])
-on_then false goes lines line on left is went = all_more (λ (l : Line). goes_on l.result ≡ true) lines line (on refl) (sym is ∙ went)
+on_then false goes lines line on left is went = all_more (λ (l : ServedLine). goes_on l.result ≡ true) lines line (on refl) (sym is ∙ went)
 on_then true goes lines line on left is went = absurd (true≢false (sym went ∙ is ∙ ap goes_on (left refl)))
 
-off_then : (failed goes : Bool) (lines : List Line) (line : Line) → (failed ≡ false → AllGoOn lines) → (failed ≡ true → SomeStops lines)
+off_then : (failed goes : Bool) (lines : List ServedLine) (line : ServedLine) → (failed ≡ false → AllGoOn lines) → (failed ≡ true → SomeStops lines)
     → goes ≡ goes_on line.result → goes ≡ false → SomeStops (lines ++ line ∷ [])
 off_then false goes lines line on off is stops = off_now lines line (sym is ∙ stops)
 off_then true goes lines line on off is stops = off_more lines line (off refl)
@@ -150,7 +150,7 @@ module _ {S : Type 0} {g : Ghosts S} {C : Type 0} (settings : Settings) (Tells :
     answered = Appends-nil held;
   }
 
-  lines_then : (failed : Bool) (lines : List Line) (line : Line) (clock later : C) (old mid new : Spool S g) → AreServed settings lines old mid → (failed ≡ false → AllGoOn lines) → (failed ≡ true → SomeStops lines)
+  lines_then : (failed : Bool) (lines : List ServedLine) (line : ServedLine) (clock later : C) (old mid new : Spool S g) → AreServed settings lines old mid → (failed ≡ false → AllGoOn lines) → (failed ≡ true → SomeStops lines)
       → IsNext settings Tells failed clock later mid new line → AreServed settings (lines ++ line ∷ []) old new
   lines_then false lines line clock later old mid new served on off next = served_more settings lines line old mid new served (on refl) (next.served refl)
   lines_then true lines line clock later old mid new served on off next =
@@ -167,12 +167,12 @@ module _ {S : Type 0} {g : Ghosts S} {C : Type 0} (settings : Settings) (Tells :
       on = λ no. on_then failed goes so.lines line so.on (λ was. (next.left was).1) is (on no);
       off = λ yes. off_then failed goes so.lines line so.on so.off is (fails yes);
       requests = all_more IsRequestLine so.lines line so.requests next.request;
-      clock_told = folds_more (λ earlier (l : Line) later. Tells earlier l.now later) clock so.lines now line later so.clock_told next.told;
+      clock_told = folds_more (λ earlier (l : ServedLine) later. Tells earlier l.now later) clock so.lines now line later so.clock_told next.told;
       read = subst (Consumes had rest) (flat_more frame_of so.lines line) (Consumes-trans had left rest (flat_map frame_of so.lines) (frame_of line) so.read consumes);
       answered = subst (Appends held more) (flat_more answer_of so.lines line) (Appends-trans held holds more (flat_map answer_of so.lines) (answer_of line) so.answered appends);
     }
 
-    module _ (law : (lines : List Line) (old new : Spool S g) → AreServed settings lines old new → IsOneRun settings lines old new) where
+    module _ (law : (lines : List ServedLine) (old new : Spool S g) → AreServed settings lines old new → IsOneRun settings lines old new) where
       -- the requests so far are all
       ended_so : (r : Result ℕ Fault) → new ≡ mid → IfOk r (EndsWith left rest (λ last. Appends held more (flat_map answer_of so.lines ++ last)))
           → IfErr r (λ why. BreaksOff so.lines left rest (λ front last. Appends held more (flat_map answer_of front ++ last)) why
@@ -212,7 +212,7 @@ module _ {S : Type 0} {g : Ghosts S} {C : Type 0} (settings : Settings) (Tells :
             served = served;
             run = law (so.lines ++ line ∷ []) old new served;
             requests = all_more IsRequestLine so.lines line so.requests next.request;
-            clock_told = (later, folds_more (λ earlier (l : Line) later. Tells earlier l.now later) clock so.lines now line later so.clock_told next.told);
+            clock_told = (later, folds_more (λ earlier (l : ServedLine) later. Tells earlier l.now later) clock so.lines now line later so.clock_told next.told);
             left = rest;
             read = subst (Consumes had rest) (flat_more frame_of so.lines line) (Consumes-trans had left rest (flat_map frame_of so.lines) (frame_of line) so.read consumes);
             answered = tt;
@@ -230,6 +230,6 @@ module _ {S : Type 0} {g : Ghosts S} {C : Type 0} (settings : Settings) (Tells :
   step_of_end (Ok (step.Answered goes)) why is still (same, appends) named = absurd (cc)
   step_of_end (Err fault) why is still none untold = inr (still, why, is, untold)
 
-  pub step_broken : (why : Fault) (line : Line) → IsUntold (answer_of line) (Appends held holds) why → IsNext settings Tells failed clock later old new line → Consumes had left (frame_of line)
+  pub step_broken : (why : Fault) (line : ServedLine) → IsUntold (answer_of line) (Appends held holds) why → IsNext settings Tells failed clock later old new line → Consumes had left (frame_of line)
       → (let r : Result Step Fault = Err why in IsBatchStep settings Tells failed clock later old new had left held holds r)
   step_broken why line untold next consumes = inl (line, next, consumes, untold)

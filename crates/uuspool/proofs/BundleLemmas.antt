@@ -2,7 +2,7 @@
 use Rattle.std.proofs.Common.{◌≡◌, ◌∙◌, ℕ, suc, ◌<◌, ◌≤◌, Bool, true, false, cond, List, [], ◌∷◌, ◌++◌, drop, get_or, length, map, Some, None, Result, ap, refl, subst, sym}
 use Rattle.std.proofs.lemmas.List.{drop_all, get_or-map, length-map}
 use Rattle.sqlite.specs.Store.{Ghosts}
-use Rattle.uu_bundle.specs.Bundles.{takes_job, with_job, with_jobs}
+use Rattle.uu_bundle.specs.Bundles.{takes_job, text_with_job, text_with_jobs}
 use Rattle.uu_bundle.specs.Texts.{end_text, record_text}
 use Rattle.uu_bundle.specs.declared.bundle.Parcel.{Parcel}
 use Rattle.uu_bundle.specs.declared.bundle.Record.TheVariants.{Job as JobRecord}
@@ -39,12 +39,12 @@ none_for_unknown false IsText is = tt
 -- ---- jobs one after the other
 
 -- one job more, if there is room for it, or none
-with_one : (text : List ℕ) (job : Parcel) (jobs : List Parcel) (added : Bool) → added ≡ takes_job text job → with_jobs text (job ∷ jobs) ≡ cond added (with_jobs (with_job text job) jobs) (with_job text job)
+with_one : (text : List ℕ) (job : Parcel) (jobs : List Parcel) (added : Bool) → added ≡ takes_job text job → text_with_jobs text (job ∷ jobs) ≡ cond added (text_with_jobs (text_with_job text job) jobs) (text_with_job text job)
 with_one text job jobs added is =
     let more = text ++ record_text (JobRecord job) in
-    subst (λ b. cond b (with_jobs more jobs) text ≡ cond added (with_jobs (cond b more text) jobs) (cond b more text)) is (go more added)
+    subst (λ b. cond b (text_with_jobs more jobs) text ≡ cond added (text_with_jobs (cond b more text) jobs) (cond b more text)) is (go more added)
   where
-    go : (more : List ℕ) (b : Bool) → cond b (with_jobs more jobs) text ≡ cond b (with_jobs (cond b more text) jobs) (cond b more text)
+    go : (more : List ℕ) (b : Bool) → cond b (text_with_jobs more jobs) text ≡ cond b (text_with_jobs (cond b more text) jobs) (cond b more text)
     go more true = refl
     go more false = refl
 
@@ -66,10 +66,10 @@ module _ (from : List ℕ) (it : Packing) (start : List ℕ) (jobs : List Job) w
 
   -- so far
   abbrev pub Adds : ℕ → List ℕ → State → Type 0
-  Adds i text s = with_jobs text (parcels_for from it (drop i jobs)) ≡ with_jobs start (parcels_for from it jobs)
+  Adds i text s = text_with_jobs text (parcels_for from it (drop i jobs)) ≡ text_with_jobs start (parcels_for from it jobs)
 
   abbrev pub Adding : ℕ → List ℕ → List ℕ → Job → State → Bool → Type 0
-  Adding i text more job s added = (added ≡ takes_job text (parcel_for from it.system it.spool job)) × (more ≡ with_job text (parcel_for from it.system it.spool job))
+  Adding i text more job s added = (added ≡ takes_job text (parcel_for from it.system it.spool job)) × (more ≡ text_with_job text (parcel_for from it.system it.spool job))
 
   -- the next job was read
   pub asked_for_one : {S : Type 0} {g : Ghosts S} (i : ℕ) (text more : List ℕ) (number : ℕ) (old mid new : Spool S g) (r : Result Bool StoreFault) (within : i < length jobs) → number ≡ (at_place jobs i within).0.number
@@ -83,19 +83,19 @@ module _ (from : List ℕ) (it : Packing) (start : List ℕ) (jobs : List Job) w
 
   -- it was added, or there was no room for it
   pub one_added : (i : ℕ) (text more : List ℕ) (within : i < length jobs) (s : State) (added : Bool) → Adds i text s → Adding i text more (at_place jobs i within).0 s added
-      → cond added (with_jobs more (parcels_for from it (drop (suc i) jobs))) more ≡ with_jobs start (parcels_for from it jobs)
+      → cond added (text_with_jobs more (parcels_for from it (drop (suc i) jobs))) more ≡ text_with_jobs start (parcels_for from it jobs)
   one_added i text more within s added adds adding =
       let found = at_place jobs i within in
       let behind = parcels_for from it (drop (suc i) jobs) in
-      ap (λ t. cond added (with_jobs t behind) t) adding.1
+      ap (λ t. cond added (text_with_jobs t behind) t) adding.1
       ∙ sym (with_one text (parcel found.0) behind added adding.0)
-      ∙ ap (λ js. with_jobs text (parcels_for from it js)) (sym found.1)
+      ∙ ap (λ js. text_with_jobs text (parcels_for from it js)) (sym found.1)
       ∙ adds
 
   -- there is nothing to add after the last
-  pub all_added : (i : ℕ) (text : List ℕ) (s : State) → length jobs ≤ i → Adds i text s → text ≡ with_jobs start (parcels_for from it jobs)
+  pub all_added : (i : ℕ) (text : List ℕ) (s : State) → length jobs ≤ i → Adds i text s → text ≡ text_with_jobs start (parcels_for from it jobs)
   all_added i text s past adds =
-      ap (λ js. with_jobs text (parcels_for from it js)) (sym (drop_all i jobs past)) ∙ adds
+      ap (λ js. text_with_jobs text (parcels_for from it js)) (sym (drop_all i jobs past)) ∙ adds
 
 -- jobs of these numbers
 abbrev pub Numbered : List ℕ → Type 0
@@ -118,8 +118,8 @@ asked_for_numbered numbers Is old new r asked =
 
 -- its front, the jobs for which there is room, and its end
 pub text_made : (from : List ℕ) (it : Packing) (lowest : ℕ) (s : State) (numbers given : List ℕ) (below : ℕ) (text more whole : List ℕ) (front : ℕ → List ℕ) → (packs : ArePacked it lowest s numbers below)
-    → given ≡ numbers → text ≡ front below → ((some : Numbered given) → AreThere some.0 s → more ≡ with_jobs text (parcels_for from it some.0)) → whole ≡ more ++ end_text
-    → whole ≡ with_jobs (front (below_of it.system s)) (parcels_for from it packs.jobs) ++ end_text
+    → given ≡ numbers → text ≡ front below → ((some : Numbered given) → AreThere some.0 s → more ≡ text_with_jobs text (parcels_for from it some.0)) → whole ≡ more ++ end_text
+    → whole ≡ text_with_jobs (front (below_of it.system s)) (parcels_for from it packs.jobs) ++ end_text
 text_made from it lowest s numbers given below text more whole front packs are begun added is =
     is ∙ ap (λ t. t ++ end_text) (added (packs.jobs, are ∙ packs.numbers_are) packs.there
-    ∙ ap (λ t. with_jobs t (parcels_for from it packs.jobs)) (begun ∙ ap front packs.below_is))
+    ∙ ap (λ t. text_with_jobs t (parcels_for from it packs.jobs)) (begun ∙ ap front packs.below_is))

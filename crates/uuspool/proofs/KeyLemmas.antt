@@ -9,7 +9,7 @@ use Rattle.std.proofs.lemmas.Cmp.{ranked}
 use Rattle.std.specs.Ordering.{MatchOrdering, is_eq, nat_cmp, ordering_then}
 use Rattle.std.specs.declared.cmp.Ordering.{Ordering}
 use Rattle.std.specs.declared.cmp.Ordering.TheVariants.{Less, Equal, Greater}
-use Rattle.uu_bundle.specs.Bundles.{records_text, with_refused}
+use Rattle.uu_bundle.specs.Bundles.{records_text, text_with_refused}
 use Rattle.uu_bundle.specs.Texts.{record_text}
 use Rattle.uu_bundle.specs.declared.bundle.Record.TheVariants.{No}
 use Rattle.uu_bundle.specs.declared.bundle.Refused.{Refused}
@@ -87,21 +87,21 @@ no_commands [] = refl
 no_commands (command ∷ commands) = refl
 
 -- nothing is added
-pub none_refused : (text : List ℕ) → text ≡ with_refused text []
+pub none_refused : (text : List ℕ) → text ≡ text_with_refused text []
 none_refused text = sym (append-nil text)
 
 -- first these, and then those
-refused_more : (text : List ℕ) (first then : List Refused) → with_refused (with_refused text first) then ≡ with_refused text (first ++ then)
+refused_more : (text : List ℕ) (first then : List Refused) → text_with_refused (text_with_refused text first) then ≡ text_with_refused text (first ++ then)
 refused_more text first then =
     append_assoc text (records_text (map No first)) (records_text (map No then))
     ∙ ap (λ records. text ++ records) (sym (ap records_text (map-append No first then) ∙ flat_map-append record_text (map No first) (map No then)))
 
 -- what one command more hands in
 pub refusals_more : (s : State) (text : List ℕ) (commands : List Command) (i : ℕ) (command : Command) → i < length commands → command ≡ get_or commands i command
-    → with_refused (with_refused text (refused_among (take i commands) s)) (refused_for command (verdict s command)) ≡ with_refused text (refused_among (take (i + 1) commands) s)
+    → text_with_refused (text_with_refused text (refused_among (take i commands) s)) (refused_for command (verdict s command)) ≡ text_with_refused text (refused_among (take (i + 1) commands) s)
 refusals_more s text commands i command inside is =
     refused_more text (refused_among (take i commands) s) (refused_for command (verdict s command))
-    ∙ ap (with_refused text)
+    ∙ ap (text_with_refused text)
     (ap (λ more. refused_among (take i commands) s ++ more) (sym (append-nil (refused_for command (verdict s command))))
     ∙ sym (ap (λ l. refused_among l s) (take_more commands i command inside ∙ ap (λ c. take i commands ++ c ∷ []) (sym is))
     ∙ flat_map-append (λ (c : Command). refused_for c (verdict s c)) (take i commands) (command ∷ [])))

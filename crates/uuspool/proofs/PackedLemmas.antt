@@ -8,7 +8,7 @@ use Rattle.std.proofs.lemmas.List.Sorted.{All-permutation}
 use Rattle.sqlite_keyed.proofs.ListLemmas.{filter-map}
 use Rattle.uu_names.specs.Grade.{grade_count}
 use Rattle.uu_names.specs.Name.{is_site_name, is_word}
-use Rattle.uu_bundle.specs.Bundles.{AreTaken, IsBundle, IsGiven, answer_text, answered, bundle_text, front_text, jobs_with_room, packed, takes_job, told_of, told_with_room, with_refused, most_told}
+use Rattle.uu_bundle.specs.Bundles.{AreTaken, IsBundle, IsGiven, answer_front_text, answer_bundle, bundle_text, front_text, jobs_with_room, packed_bundle, takes_job, told_of, told_with_room, text_with_refused, most_told}
 use Rattle.uu_bundle.specs.Texts.{IsHeading, IsRefused, heading_text, record_text}
 use Rattle.uu_bundle.specs.declared.bundle.Bundle.{Bundle}
 use Rattle.uu_bundle.specs.declared.bundle.Heading.{Heading}
@@ -81,16 +81,16 @@ module _ (own : List ℕ) (it : Packing) where
 
 -- ---- what is said
 
-said_told : (rows : List Taken) → map carried.told (map told_of rows) ≡ map handover.told_of rows
+said_told : (rows : List Taken) → map carried.told_job (map told_of rows) ≡ map handover.told_of rows
 said_told [] = refl
 said_told (row ∷ rows) = ap (λ told. handover.told_of row ∷ told) (said_told rows)
 
-said_jobs : (own system word : List ℕ) (jobs : List Job) → map carried.packed (map (parcel_for own system word) jobs) ≡ map (packed_of (bundle_crossing own system word).mark) jobs
+said_jobs : (own system word : List ℕ) (jobs : List Job) → map carried.packed_job (map (parcel_for own system word) jobs) ≡ map (packed_of (bundle_crossing own system word).mark) jobs
 said_jobs own system word [] = refl
 said_jobs own system word (job ∷ jobs) = ap (λ js. packed_of (bundle_crossing own system word).mark job ∷ js) (said_jobs own system word jobs)
 
 -- each row of a part of what was taken is among what the site has
-told_are_had : (taken part : List Taken) → ((P : Taken → Type 0) → All P taken → All P part) → All (Contains (map handover.told_of taken)) (map carried.told (map told_of part))
+told_are_had : (taken part : List Taken) → ((P : Taken → Type 0) → All P taken → All P part) → All (Contains (map handover.told_of taken)) (map carried.told_job (map told_of part))
 told_are_had taken part of_part =
     subst (All (Contains (map handover.told_of taken))) (sym (said_told part))
     (All-map (Contains (map handover.told_of taken)) handover.told_of part
@@ -177,16 +177,16 @@ module _ (own : List ℕ) (it : Packing) (s : State) (good : IsWellFormed s) whe
         from = from;
         to = to;
         below = below;
-        has = subst (λ rows. All (Contains (map handover.told_of (link_of s it.system).taken)) (map carried.told rows)) (sym has) (told_are_had (link_of s it.system).taken part of_part);
+        has = subst (λ rows. All (Contains (map handover.told_of (link_of s it.system).taken)) (map carried.told_job rows)) (sym has) (told_are_had (link_of s it.system).taken part of_part);
         waiting = going.0;
         are_waiting = some_wait fronts it.no_jobs lowest jobs going.0 are going.1;
-        jobs = ap (map carried.packed) (is ∙ going.2) ∙ said_jobs own it.system it.spool going.0;
+        jobs = ap (map carried.packed_job) (is ∙ going.2) ∙ said_jobs own it.system it.spool going.0;
       }
 
 -- ---- what is packed
 
 abbrev pub SoundBundle : Type 0
-SoundBundle = (heading : Heading) (taken : List Taken) (jobs : List Parcel) → IsHeading heading → AreTaken taken → All (IsGiven heading) jobs → IsBundle (packed heading taken jobs)
+SoundBundle = (heading : Heading) (taken : List Taken) (jobs : List Parcel) → IsHeading heading → AreTaken taken → All (IsGiven heading) jobs → IsBundle (packed_bundle heading taken jobs)
 
 pub packed_may_be_said : SoundBundle → Fronts → (own : List ℕ) (it : Packing) (s : State) (known : Bool) (output : List ℕ)
     → IsWellFormed s → IsTrue (is_site_name own) → IsTrue (is_site_name it.system) → IsTrue (is_word it.spool) → it.grade < grade_count → IsPacked known (IsBundleText own it s) output 0
@@ -223,7 +223,7 @@ module _ (system : List ℕ) (make : Packed → NewJob) (s : State) where
   same_kept p q same [] = refl
   same_kept p q same (x ∷ xs) = ap₂ (λ b rest. cond b (x ∷ rest) rest) (same x) (same_kept p q same xs)
 
-  told_is : (asked : List Packed) → map carried.told (map told_of (taken_among (map handed asked) (link_of s system).taken)) ≡ asked_of system s asked
+  told_is : (asked : List Packed) → map carried.told_job (map told_of (taken_among (map handed asked) (link_of s system).taken)) ≡ asked_of system s asked
   told_is asked =
       said_told (taken_among (map handed asked) (link_of s system).taken)
       ∙ ap (map handover.told_of) (same_kept (λ one. list_any (hands_in one) (map handed asked)) (λ one. is_asked asked (handover.told_of one)) (λ one. same_asked one asked) (link_of s system).taken)
@@ -247,20 +247,20 @@ module _ (system : List ℕ) (make : Packed → NewJob) (s : State) where
       numbered : IsNumbered packed
       numbered = All-head IsNumbered packed asked all
 
-      one : (reason : Option Refusal) → All IsRefused (refused_for (handed packed) reason)
+      one : (reason : Option Refusal) → All IsRefused (refused_for (handed packed_bundle) reason)
       one None = All-nil IsRefused
       one (Some reason) =
-          All-cons IsRefused (record { number = packed.parcel.number; mark = packed.mark; reason = reason }) [] (record { number = numbered.0; mark = numbered.1 }) (All-nil IsRefused)
+          All-cons IsRefused (record { number = packed_bundle.parcel.number; mark = packed_bundle.mark; reason = reason }) [] (record { number = numbered.0; mark = numbered.1 }) (All-nil IsRefused)
 
 abbrev pub SoundAnswer : Type 0
 SoundAnswer = (heading : Heading) (taken : List Taken) (refused : List Refused) (jobs : List Parcel) → IsHeading heading → AreTaken taken → All IsRefused refused → All (IsGiven heading) jobs
-    → IsBundle (answered heading taken refused jobs)
+    → IsBundle (answer_bundle heading taken refused jobs)
 
 pub answered_may_be_said : SoundAnswer → Fronts → (own : List ℕ) (it : Answering) (make : Packed → NewJob) (asked : List Packed) (s : State) (known : Bool) (output : List ℕ)
     → IsWellFormed s → IsTrue (is_site_name own) → IsTrue (is_site_name it.packing.system) → IsTrue (is_word it.packing.spool) → it.packing.grade < grade_count
     → it.commands ≡ map (handed it.packing.system make s) asked → All (IsNumbered it.packing.system make s) asked → IsPacked known (IsAnswerText own it s) output 0
     → (bundle : Bundle) × (output ≡ bundle_text bundle) × IsBundle bundle × (bundle.spool ≡ it.packing.spool)
-    × handover.IsAnswer own it.packing.system (bundle_crossing own it.packing.system it.packing.spool).mark make s asked (said_of bundle)
+    × handover.IsAnswerBundle own it.packing.system (bundle_crossing own it.packing.system it.packing.spool).mark make s asked (said_of bundle)
 answered_may_be_said sound fronts own it make asked s known output good from to spool grade commands numbered packs =
     let text = packed_text known (IsAnswerText own it s) output packs in
     let packing = it.packing in
@@ -280,9 +280,9 @@ answered_may_be_said sound fronts own it make asked s known output good from to 
           (given own packing s good lowest text.jobs text.are),
       refl,
       record {
-        said = said own packing s good fronts lowest text.jobs part refused (with_refused (answer_text heading part) refused) text.are (λ P all. All-filter hands P taken all)
+        said = said own packing s good fronts lowest text.jobs part refused (text_with_refused (answer_front_text heading part) refused) text.are (λ P all. All-filter hands P taken all)
             (answer_of own it s text.jobs) refl refl refl refl refl;
-        has = ap (λ cs. map carried.told (map told_of (taken_among cs taken))) commands ∙ told_is system make s asked;
+        has = ap (λ cs. map carried.told_job (map told_of (taken_among cs taken))) commands ∙ told_is system make s asked;
         refused = ap (λ cs. map carried.refused_job (refused_among cs s)) commands ∙ refused_is system make s asked;
       },
     )

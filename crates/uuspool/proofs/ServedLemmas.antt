@@ -22,9 +22,9 @@ use Rattle.uuspool.specs.declared.fault.Fault.{Fault}
 use Rattle.uuspool.specs.declared.fault.Fault.TheVariants as fault
 
 -- nothing was written
-pub Appends-nothing : (contents : Option (List ℕ)) → Appends contents contents []
-Appends-nothing None = tt
-Appends-nothing (Some bytes) = sym (append-nil bytes)
+pub Appends_nothing : (contents : Option (List ℕ)) → Appends contents contents []
+Appends_nothing None = tt
+Appends_nothing (Some bytes) = sym (append-nil bytes)
 
 -- a fault of printing
 abbrev pub IsOfPrinting : Fault → Type 0

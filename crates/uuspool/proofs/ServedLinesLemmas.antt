@@ -21,39 +21,39 @@ use Rattle.uu_settings.specs.declared.settings.Settings.{Settings}
 use Rattle.uu_request.specs.declared.request.Request.{Request}
 use Rattle.uu_request.specs.declared.request.Request.TheVariants.{Commands, Question, Settling, Unpacking}
 use Rattle.uuspool.proofs.ServedLemmas.{printed_as}
-use Rattle.uuspool.specs.Served.{AreCommandsOf, Ask, EndsAs, IsBrokenOff, IsEvery, IsFaultOf, IsOutput, IsPrinted, IsServed, answered_text, in_hand}
-use Rattle.uuspool.specs.ServedLines.{Asked, Line, AllGoOn, AreLeft, AreServed, goes_on, IsTold, IsToldAs, IsUnasked, AreTold, IsOneRun, NoneOnceLeft, commands_in, in_hand_of, last_in_hand, left_fault}
+use Rattle.uuspool.specs.Served.{AreCommandsOf, WordsAsk, EndsAs, IsBrokenOff, IsEvery, IsFaultOf, IsOutput, IsPrinted, IsServed, answered_text, in_hand}
+use Rattle.uuspool.specs.ServedLines.{ServedRequest, ServedLine, AllGoOn, AreLeft, AreServed, goes_on, IsTold, IsToldAs, IsUnasked, AreTold, IsOneRun, NoneOnceLeft, commands_asked, in_hand_of, last_in_hand, left_fault}
 use Rattle.uuspool.specs.declared.fault.Fault.{Fault}
 use Rattle.uuspool.specs.declared.fault.Fault.TheVariants as fault
 
 -- ---- lines that are left
 
-abbrev nones : List Line → List (Option Asked)
+abbrev nones : List ServedLine → List (Option ServedRequest)
 nones [] = []
 nones (line ∷ lines) = None ∷ nones lines
 
-nones_ask_nothing : (lines : List Line) → commands_in (nones lines) ≡ []
+nones_ask_nothing : (lines : List ServedLine) → commands_asked (nones lines) ≡ []
 nones_ask_nothing [] = refl
 nones_ask_nothing (line ∷ lines) = nones_ask_nothing lines
 
-left_are_told : (settings : Settings) (s : State) (lines : List Line) → AreLeft lines → AreTold settings s [] lines (nones lines)
+left_are_told : (settings : Settings) (s : State) (lines : List ServedLine) → AreLeft lines → AreTold settings s [] lines (nones lines)
 left_are_told settings s [] left = refl
 left_are_told settings s (line ∷ lines) (nothing, is, rest) =
     (record { nothing = nothing; why = left_fault; is = is; told = inr refl }, left_are_told settings s lines rest)
 
 -- they came to no request
-nones_are_none : (lines : List Line) → AllByRecursion (λ (it : Option Asked). it ≡ None) (nones lines)
+nones_are_none : (lines : List ServedLine) → AllByRecursion (λ (it : Option ServedRequest). it ≡ None) (nones lines)
 nones_are_none [] = tt
 nones_are_none (line ∷ lines) = (refl, nones_are_none lines)
 
-left_once : (lines : List Line) → NoneOnceLeft lines (nones lines)
+left_once : (lines : List ServedLine) → NoneOnceLeft lines (nones lines)
 left_once [] = tt
 left_once (line ∷ lines) = (λ stops. nones_are_none lines, left_once lines)
 
 -- ---- how many commands may be in hand
 
 -- lines that are left have none
-nones_have_none_in_hand : (n : ℕ) (lines : List Line) → last_in_hand n (nones lines) ≡ n
+nones_have_none_in_hand : (n : ℕ) (lines : List ServedLine) → last_in_hand n (nones lines) ≡ n
 nones_have_none_in_hand n [] = refl
 nones_have_none_in_hand n (line ∷ lines) = nones_have_none_in_hand n lines
 
@@ -80,8 +80,8 @@ module _ {S : Type 0} {g : Ghosts S} (one other : ℕ) where
   }
 
   -- and so may one of lines that came to no request
-  ran_with : (asked : List (Option Asked)) (old new : Spool S g) (replies : List Reply) (stopped : Option StoreFault)
-      → Ran (last_in_hand one asked) (commands_in asked) old new replies stopped → Ran (last_in_hand other asked) (commands_in asked) old new replies stopped
+  ran_with : (asked : List (Option ServedRequest)) (old new : Spool S g) (replies : List Reply) (stopped : Option StoreFault)
+      → Ran (last_in_hand one asked) (commands_asked asked) old new replies stopped → Ran (last_in_hand other asked) (commands_asked asked) old new replies stopped
   ran_with [] old new replies stopped ran = ran_of_none old new replies stopped ran
   ran_with (None ∷ asked) old new replies stopped ran = ran_with asked old new replies stopped ran
   ran_with (Some it ∷ asked) old new replies stopped ran = ran
@@ -143,8 +143,8 @@ on_err : (r : Result ℕ Fault) (X : Type 0) → X → OnErr r X
 on_err (Ok status) X x = tt
 on_err (Err why) X x = x
 
-module _ {S : Type 0} {g : Ghosts S} (settings : Settings) (s : State) (line : Line) (request : Request) (old mid : Spool S g)
-    (asks : Ask settings line.words line.now line.input (Ok request)) (it : IsServed settings request old mid (λ output. line.output ≡ output) line.result)
+module _ {S : Type 0} {g : Ghosts S} (settings : Settings) (s : State) (line : ServedLine) (request : Request) (old mid : Spool S g)
+    (asks : WordsAsk settings line.words line.now line.input (Ok request)) (it : IsServed settings request old mid (λ output. line.output ≡ output) line.result)
     (clean : db.HasCleanDisk (disk mid)) (shown : Shows old s) where
   told_so : IsTold settings s request it.replies line.output line.result
   told_so =
@@ -177,7 +177,7 @@ module _ {S : Type 0} {g : Ghosts S} (settings : Settings) (s : State) (line : L
     answers = on_err line.result _ (it.ran.from clean s shown).answers;
   }
 
-unasked : (settings : Settings) (line : Line) (why : Fault) → line.result ≡ Err why → line.output ≡ [] → IfErr line.result (IsFaultOf settings line.words line.now line.input)
+unasked : (settings : Settings) (line : ServedLine) (why : Fault) → line.result ≡ Err why → line.output ≡ [] → IfErr line.result (IsFaultOf settings line.words line.now line.input)
     → IsUnasked settings line
 unasked settings line why same nothing told = record {
   nothing = nothing;
@@ -216,10 +216,10 @@ module _ {S : Type 0} {g : Ghosts S} (settles : Settles S g) where
 
 module _ {S : Type 0} {g : Ghosts S} (joins : Joins S g) (settles : Settles S g) (settings : Settings) where
   -- the run has its own commands, replies and end, from which the rest follows
-  one_run_of : (lines : List Line) (old new : Spool S g) (asked : List (Option Asked)) (replies : List Reply) (stopped : Option StoreFault)
-      → NoneOnceLeft lines asked → Ran (in_hand_of asked) (commands_in asked) old new replies stopped
+  one_run_of : (lines : List ServedLine) (old new : Spool S g) (asked : List (Option ServedRequest)) (replies : List Reply) (stopped : Option StoreFault)
+      → NoneOnceLeft lines asked → Ran (in_hand_of asked) (commands_asked asked) old new replies stopped
       → (db.HasCleanDisk (disk new) → (s : State) → Shows old s → AreTold settings s replies lines asked)
-      → (stopped ≡ None → length replies ≡ length (commands_in asked)) → (AllGoOn lines → stopped ≡ None)
+      → (stopped ≡ None → length replies ≡ length (commands_asked asked)) → (AllGoOn lines → stopped ≡ None)
       → IsOneRun settings lines old new
   one_run_of lines old new asked replies stopped left ran told every went_on = record {
     asked = asked;
@@ -230,24 +230,24 @@ module _ {S : Type 0} {g : Ghosts S} (joins : Joins S g) (settles : Settles S g)
     told = told;
     every = every;
     shows = λ none clean s shown.
-        let enough : length (commands_in asked) ≤ length replies = omega (arith, every none) in
-        subst (λ commands. Shows new (state_after s commands)) (take_all (length replies) (commands_in asked) enough)
+        let enough : length (commands_asked asked) ≤ length replies = omega (arith, every none) in
+        subst (λ commands. Shows new (state_after s commands)) (take_all (length replies) (commands_asked asked) enough)
         ((ran.from clean s shown).shows (subst GoesOn (sym none) tt));
     went_on = went_on;
   }
 
-  module _ (line : Line) (lines : List Line) (old mid new : Spool S g) where
+  module _ (line : ServedLine) (lines : List ServedLine) (old mid new : Spool S g) where
     -- the line was done, and others were served after it
-    done_then : (request : Request) (status : ℕ) → line.result ≡ Ok status → Ask settings line.words line.now line.input (Ok request)
+    done_then : (request : Request) (status : ℕ) → line.result ≡ Ok status → WordsAsk settings line.words line.now line.input (Ok request)
         → IsServed settings request old mid (λ output. line.output ≡ output) line.result → IsOneRun settings lines mid new → IsOneRun settings (line ∷ lines) old new
     done_then request status same asks it rest =
         one_run_of (line ∷ lines) old new (Some here ∷ rest.asked) (it.replies ++ rest.replies) rest.stopped
         (λ stops. absurd (true≢false (sym (ap goes_on same) ∙ stops)), rest.left)
-        (joins (in_hand request) (last_in_hand (in_hand request) rest.asked) old mid new it.commands (commands_in rest.asked) it.replies rest.replies it.stopped rest.stopped
+        (joins (in_hand request) (last_in_hand (in_hand request) rest.asked) old mid new it.commands (commands_asked rest.asked) it.replies rest.replies it.stopped rest.stopped
         answered (subst GoesOn (sym none) tt) it.ran (ran_with 1 (in_hand request) rest.asked mid new rest.replies rest.stopped rest.ran))
         told every (λ all. rest.went_on all.1)
       where
-        here : Asked
+        here : ServedRequest
         here = record { request = request; commands = it.commands }
 
         none : it.stopped ≡ None
@@ -267,26 +267,26 @@ module _ {S : Type 0} {g : Ghosts S} (joins : Joins S g) (settles : Settles S g)
                   (rest.told clean (state_after s it.commands) (it.shows none early s shown)),
             )
 
-        every : rest.stopped ≡ None → length (it.replies ++ rest.replies) ≡ length (it.commands ++ commands_in rest.asked)
+        every : rest.stopped ≡ None → length (it.replies ++ rest.replies) ≡ length (it.commands ++ commands_asked rest.asked)
         every on =
-            omega (arith, answered, rest.every on, length-append it.replies rest.replies, length-append it.commands (commands_in rest.asked))
+            omega (arith, answered, rest.every on, length-append it.replies rest.replies, length-append it.commands (commands_asked rest.asked))
 
     -- the line came to no request, and others were served after it
     unasked_then : IsUnasked settings line → goes_on line.result ≡ true → mid ≡ old → IsOneRun settings lines mid new → IsOneRun settings (line ∷ lines) old new
     unasked_then none goes same rest =
         one_run_of (line ∷ lines) old new (None ∷ rest.asked) rest.replies rest.stopped
         (λ stops. absurd (true≢false (sym goes ∙ stops)), rest.left)
-        (subst (λ (m : Spool S g). Ran (in_hand_of rest.asked) (commands_in rest.asked) m new rest.replies rest.stopped) same rest.ran)
+        (subst (λ (m : Spool S g). Ran (in_hand_of rest.asked) (commands_asked rest.asked) m new rest.replies rest.stopped) same rest.ran)
         (λ clean s shown. (none, rest.told clean s (subst (λ (m : Spool S g). Shows m s) (sym same) shown)))
         rest.every (λ all. rest.went_on all.1)
 
     -- the line was the last that was served
-    done_last : (request : Request) → goes_on line.result ≡ false → Ask settings line.words line.now line.input (Ok request)
+    done_last : (request : Request) → goes_on line.result ≡ false → WordsAsk settings line.words line.now line.input (Ok request)
         → IsServed settings request old mid (λ output. line.output ≡ output) line.result → AreLeft lines → new ≡ mid → IsOneRun settings (line ∷ lines) old new
     done_last request stops asks it left same =
         one_run_of (line ∷ lines) old new (Some here ∷ nones lines) it.replies it.stopped
         (λ stops. nones_are_none lines, left_once lines)
-        (subst (λ hand. Ran hand (commands_in (Some here ∷ nones lines)) old new it.replies it.stopped) (sym (nones_have_none_in_hand (in_hand request) lines))
+        (subst (λ hand. Ran hand (commands_asked (Some here ∷ nones lines)) old new it.replies it.stopped) (sym (nones_have_none_in_hand (in_hand request) lines))
         (subst (λ commands. Ran (in_hand request) commands old new it.replies it.stopped) (sym alone)
         (subst (λ (n : Spool S g). Ran (in_hand request) it.commands old n it.replies it.stopped) (sym same) it.ran)))
         (λ clean s shown. (
@@ -297,10 +297,10 @@ module _ {S : Type 0} {g : Ghosts S} (joins : Joins S g) (settles : Settles S g)
         (λ none. all_answered (has_failed old) request it.commands it.replies it.stopped it.are it.every none ∙ ap length (sym alone))
         (λ all. absurd (true≢false (sym all.0 ∙ stops)))
       where
-        here : Asked
+        here : ServedRequest
         here = record { request = request; commands = it.commands }
 
-        alone : commands_in (Some here ∷ nones lines) ≡ it.commands
+        alone : commands_asked (Some here ∷ nones lines) ≡ it.commands
         alone = ap (λ rest. it.commands ++ rest) (nones_ask_nothing lines) ∙ append-nil it.commands
 
     -- the line came to no request, and the others were left
@@ -308,7 +308,7 @@ module _ {S : Type 0} {g : Ghosts S} (joins : Joins S g) (settles : Settles S g)
     unasked_last none same left still =
         one_run_of (line ∷ lines) old new (None ∷ nones lines) [] None
         (λ stops. nones_are_none lines, left_once lines)
-        (subst (λ hand. Ran hand (commands_in (nones lines)) old new [] None) (sym (nones_have_none_in_hand 1 lines))
+        (subst (λ hand. Ran hand (commands_asked (nones lines)) old new [] None) (sym (nones_have_none_in_hand 1 lines))
         (subst (λ commands. Ran 1 commands old new [] None) (sym (nones_ask_nothing lines))
         (subst (λ (n : Spool S g). Ran 1 [] old n [] None) (sym (still ∙ same)) (ran_nothing settles old))))
         (λ clean s shown. (none, left_are_told settings s lines left))
@@ -321,7 +321,7 @@ module _ {S : Type 0} {g : Ghosts S} (joins : Joins S g) (settles : Settles S g)
 
     -- by how the line ended
     one_more : (r : Result ℕ Fault) → line.result ≡ r
-        → EndsAs r ((request : Request) × Ask settings line.words line.now line.input (Ok request) × IsServed settings request old mid (λ output. line.output ≡ output) line.result)
+        → EndsAs r ((request : Request) × WordsAsk settings line.words line.now line.input (Ok request) × IsServed settings request old mid (λ output. line.output ≡ output) line.result)
         ((mid ≡ old) × (line.output ≡ []))
         → IfErr line.result (IsFaultOf settings line.words line.now line.input)
         → (goes_on r ≡ true → IsOneRun settings lines mid new) → (goes_on r ≡ false → AreLeft lines × (new ≡ mid)) → IsOneRun settings (line ∷ lines) old new
@@ -341,7 +341,7 @@ module _ {S : Type 0} {g : Ghosts S} (joins : Joins S g) (settles : Settles S g)
     one_more (Err (fault.Bundle why)) same (kept, nothing) told on off = early (fault.Bundle why) same (ap goes_on same) kept nothing told (on refl)
 
   -- lines that are served one after the other are one run
-  pub one_run : (lines : List Line) (old new : Spool S g) → AreServed settings lines old new → IsOneRun settings lines old new
+  pub one_run : (lines : List ServedLine) (old new : Spool S g) → AreServed settings lines old new → IsOneRun settings lines old new
   one_run [] old new same =
       one_run_of [] old new [] [] None tt (subst (λ (n : Spool S g). Ran 1 [] old n [] None) (sym same) (ran_nothing settles old)) (λ clean s shown. refl) (λ all. refl) (λ on. refl)
   one_run (line ∷ lines) old new (mid, serves, on, off) =

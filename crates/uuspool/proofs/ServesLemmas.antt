@@ -7,13 +7,13 @@ use Rattle.uu_times.specs.declared.moment.Moment.{Moment}
 use Rattle.uu_line.specs.Lines.{MeansLine}
 use Rattle.uu_line.specs.declared.line.CommandLine.{CommandLine}
 use Rattle.uu_settings.specs.declared.settings.Settings.{Settings}
-use Rattle.uu_request.specs.Requests.{Asks}
+use Rattle.uu_request.specs.Requests.{LineAsks}
 use Rattle.uu_request.specs.declared.request.Request.{Request}
 use Rattle.uu_store.specs.declared.spool.Spool.{Spool}
 use Rattle.uuspool.proofs.AskLemmas.{ends_as, words_ask}
-use Rattle.uuspool.proofs.ServedLemmas.{Appends-nothing, broken_as, printed_as}
-use Rattle.uuspool.specs.Served.{Ask, EndsAs, IsFaultOf, IsMomentOf, IsServed, answered_text, second_of}
-use Rattle.uuspool.specs.ServedLines.{Line, Serves}
+use Rattle.uuspool.proofs.ServedLemmas.{Appends_nothing, broken_as, printed_as}
+use Rattle.uuspool.specs.Served.{WordsAsk, EndsAs, IsFaultOf, IsMomentOf, IsServed, answered_text, second_of}
+use Rattle.uuspool.specs.ServedLines.{ServedLine, Serves}
 use Rattle.uuspool.specs.declared.fault.Fault.{Fault}
 
 -- known bytes grew by one text alone
@@ -46,26 +46,26 @@ served_as settings request old new written other r over it = record {
 pub words_end : {S : Type 0} {g : Ghosts S} (settings : Settings) (line : CommandLine) (at : Moment) (input : List ℕ) (words : List (List ℕ)) (now : ℕ)
     → MeansLine words line → IsMomentOf settings (second_of line now) at
     → (old new : Spool S g) (written : List ℕ → Type 0) (Unchanged : Type 0) (r : Result ℕ Fault)
-    → EndsAs r ((request : Request) × Asks settings at input line (Ok request) × IsServed settings request old new written r) Unchanged
-    → EndsAs r ((request : Request) × Ask settings words now input (Ok request) × IsServed settings request old new written r) Unchanged
+    → EndsAs r ((request : Request) × LineAsks settings at input line (Ok request) × IsServed settings request old new written r) Unchanged
+    → EndsAs r ((request : Request) × WordsAsk settings words now input (Ok request) × IsServed settings request old new written r) Unchanged
 words_end settings line at input words now means moment old new written Unchanged r =
-    ends_as r ((request : Request) × Asks settings at input line (Ok request) × IsServed settings request old new written r) Unchanged
-    ((request : Request) × Ask settings words now input (Ok request) × IsServed settings request old new written r) Unchanged
+    ends_as r ((request : Request) × LineAsks settings at input line (Ok request) × IsServed settings request old new written r) Unchanged
+    ((request : Request) × WordsAsk settings words now input (Ok request) × IsServed settings request old new written r) Unchanged
     (λ served. (served.0, words_ask settings line at input words now means moment (Ok served.0) served.1, served.2)) (λ kept. kept)
 
 -- a line whose output is what the known bytes grew by
-pub line_serves : {S : Type 0} {g : Ghosts S} (settings : Settings) (line : Line) (old new : Spool S g) (before after : Option (List ℕ)) (Still : Type 0)
+pub line_serves : {S : Type 0} {g : Ghosts S} (settings : Settings) (line : ServedLine) (old new : Spool S g) (before after : Option (List ℕ)) (Still : Type 0)
     → EndsAs line.result
-    ((request : Request) × Ask settings line.words line.now line.input (Ok request) × IsServed settings request old new (λ output. Appends before after output) line.result)
+    ((request : Request) × WordsAsk settings line.words line.now line.input (Ok request) × IsServed settings request old new (λ output. Appends before after output) line.result)
     ((new ≡ old) × Still)
     → (Still → after ≡ before) → IfErr line.result (IsFaultOf settings line.words line.now line.input) → IsSome before → Appends before after line.output
     → Serves settings line old new
 line_serves settings line old new before after Still ends still told known wrote = record {
   ends =
       ends_as line.result
-      ((request : Request) × Ask settings line.words line.now line.input (Ok request) × IsServed settings request old new (λ output. Appends before after output) line.result)
+      ((request : Request) × WordsAsk settings line.words line.now line.input (Ok request) × IsServed settings request old new (λ output. Appends before after output) line.result)
       ((new ≡ old) × Still)
-      ((request : Request) × Ask settings line.words line.now line.input (Ok request) × IsServed settings request old new (λ output. line.output ≡ output) line.result)
+      ((request : Request) × WordsAsk settings line.words line.now line.input (Ok request) × IsServed settings request old new (λ output. line.output ≡ output) line.result)
       ((new ≡ old) × (line.output ≡ []))
       (λ served. (
         served.0,
@@ -73,6 +73,6 @@ line_serves settings line old new before after Still ends still told known wrote
         served_as settings served.0 old new (λ output. Appends before after output) (λ output. line.output ≡ output) line.result
             (λ output done. one_text before after line.output output known wrote done) served.2,
       ))
-      (λ kept. (kept.0, one_text before after line.output [] known wrote (subst (λ a. Appends before a []) (sym (still kept.1)) (Appends-nothing before)))) ends;
+      (λ kept. (kept.0, one_text before after line.output [] known wrote (subst (λ a. Appends before a []) (sym (still kept.1)) (Appends_nothing before)))) ends;
   told = told;
 }

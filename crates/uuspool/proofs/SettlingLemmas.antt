@@ -24,7 +24,7 @@ use Rattle.uu_request.specs.declared.request.Settling.{Settling}
 use Rattle.uu_settings.specs.declared.settings.Settings.{Settings}
 use Rattle.uuspool.proofs.ServedLemmas.{chosen_so, failed_alone, marks_of_call, never_failed, noted_of_call, printed_as, printed_is_late}
 use Rattle.uuspool.proofs.ServedLinesLemmas.{Joins}
-use Rattle.uuspool.specs.Bundles.{IsSettled, as_told, is_refused_still, numbers_told, refused_still, release_of, rising, settled_by}
+use Rattle.uuspool.specs.Bundles.{IsSettleOutput, as_told, is_refused_still, numbers_told, refused_still, release_of, rising, settled_by}
 use Rattle.uuspool.specs.Internal.Asked.{IsAsked}
 use Rattle.uuspool.specs.Served.{AreCommandsOf, IsNoted, IsOfCall, IsPrinted, IsServed, Marks}
 use Rattle.uuspool.specs.declared.fault.Fault.{Fault}
@@ -90,7 +90,7 @@ refused_more from to word s refused one = filter-append (is_refused_still from t
 
 -- what the bundle comes to in a state
 abbrev pub IsFound : Settings → Settling → State → List Command → List ℕ → Type 0
-IsFound settings it s commands report = (commands ≡ release_of it.system (settled_by settings.name it s)) × IsSettled settings.name it s report
+IsFound settings it s commands report = (commands ≡ release_of it.system (settled_by settings.name it s)) × IsSettleOutput settings.name it s report
 
 module _ {S : Type 0} {g : Ghosts S} (settings : Settings) (it : Settling) (old : Spool S g) where
   -- the store gave a fault before there was a command
@@ -161,7 +161,7 @@ module _ {S : Type 0} {g : Ghosts S} (settings : Settings) (it : Settling) (old 
       ran = ran_all None ran;
       every = λ none. answered;
       printed = λ none. printed_as (λ output status. (output ≡ report) × (status ≡ 0)) _ written written r
-          (λ output status is. (tt, (λ clean s shown. (subst (IsSettled settings.name it s) (sym is.0) (asked.answer (clean_at None ran clean) s shown tt).0.1, is.1)))) (λ output wrote. wrote) printed;
+          (λ output status is. (tt, (λ clean s shown. (subst (IsSettleOutput settings.name it s) (sym is.0) (asked.answer (clean_at None ran clean) s shown tt).0.1, is.1)))) (λ output wrote. wrote) printed;
       shows = λ none clean s shown.
           let enough : length commands ≤ length replies = omega (arith, answered) in
           subst (λ done. spool.Shows new (state_after s done)) (take_all (length replies) commands enough) (((ran_all None ran).from clean s shown).shows tt);

@@ -17,7 +17,7 @@ use Rattle.uu_core.specs.Due.{AreInOrder, goes_before}
 use Rattle.uu_core.specs.State.{IsWellFormed, Job, State, head_of, is_job, job_at, same_text}
 use Rattle.uu_core.specs.declared.filter.Filter.{Filter}
 use Rattle.uu_core.specs.declared.job.JobHead.{JobHead}
-use Rattle.uu_questions.specs.Listing.{by_rank, fits, listed}
+use Rattle.uu_questions.specs.Listing.{by_rank, fits, listed_jobs}
 use Rattle.uu_request.specs.declared.request.Packing.{Packing}
 use Rattle.uuspool.specs.Bundles.{AreToGo, AreToGoUnless, mark_for}
 use Rattle.uuspool.specs.Internal.Asked.{is_job_told}
@@ -198,7 +198,7 @@ sorted_jobs system s = sort_by by_heads (filter (waits system) s.jobs)
 
 -- the job goes into a bundle, if there is room
 abbrev goes : Packing → ℕ → State → Job → Bool
-goes it lowest s job = is_to_go lowest (named_head it.after (listed (all_for it.system) s)) (head_of job)
+goes it lowest s job = is_to_go lowest (named_head it.after (listed_jobs (all_for it.system) s)) (head_of job)
 
 abbrev waiting_jobs : Packing → ℕ → State → List Job
 waiting_jobs it lowest s = filter (goes it lowest s) (sorted_jobs it.system s)
@@ -214,26 +214,26 @@ numbers_of : (jobs : List Job) → map (λ (head : JobHead). head.number) (map h
 numbers_of [] = refl
 numbers_of (job ∷ jobs) = ap (λ ns. job.number ∷ ns) (numbers_of jobs)
 
-heads_are : (system : List ℕ) (s : State) → listed (all_for system) s ≡ map head_of (sorted_jobs system s)
+heads_are : (system : List ℕ) (s : State) → listed_jobs (all_for system) s ≡ map head_of (sorted_jobs system s)
 heads_are system s = ap (sort_by by_rank) (filter-map (fits (all_for system)) head_of s.jobs) ∙ sort_by-map by_rank head_of (filter (waits system) s.jobs)
 
 module _ (it : Packing) (lowest : ℕ) (s : State) where
-  kept_heads : filter (is_to_go lowest (named_head it.after (listed (all_for it.system) s))) (listed (all_for it.system) s) ≡ map head_of (waiting_jobs it lowest s)
+  kept_heads : filter (is_to_go lowest (named_head it.after (listed_jobs (all_for it.system) s))) (listed_jobs (all_for it.system) s) ≡ map head_of (waiting_jobs it lowest s)
   kept_heads =
-      ap (filter (is_to_go lowest (named_head it.after (listed (all_for it.system) s)))) (heads_are it.system s)
-      ∙ filter-map (is_to_go lowest (named_head it.after (listed (all_for it.system) s))) head_of (sorted_jobs it.system s)
+      ap (filter (is_to_go lowest (named_head it.after (listed_jobs (all_for it.system) s)))) (heads_are it.system s)
+      ∙ filter-map (is_to_go lowest (named_head it.after (listed_jobs (all_for it.system) s))) head_of (sorted_jobs it.system s)
 
   -- their numbers are those of the heads
-  pub numbers_are : map (λ (head : JobHead). head.number) (heads_to_go it lowest (listed (all_for it.system) s)) ≡ map (λ (job : Job). job.number) (jobs_to_go it lowest s)
+  pub numbers_are : map (λ (head : JobHead). head.number) (heads_to_go it lowest (listed_jobs (all_for it.system) s)) ≡ map (λ (job : Job). job.number) (jobs_to_go it lowest s)
   numbers_are =
-      elim it.no_jobs as (λ b. map (λ (head : JobHead). head.number) (cond b [] (filter (is_to_go lowest (named_head it.after (listed (all_for it.system) s))) (listed (all_for it.system) s)))
+      elim it.no_jobs as (λ b. map (λ (head : JobHead). head.number) (cond b [] (filter (is_to_go lowest (named_head it.after (listed_jobs (all_for it.system) s))) (listed_jobs (all_for it.system) s)))
       ≡ map (λ (job : Job). job.number) (cond b [] (waiting_jobs it lowest s))) [
         | true ↦ refl
         | false ↦ ap (map (λ (head : JobHead). head.number)) kept_heads ∙ numbers_of (waiting_jobs it lowest s)
       ]
 
   -- the job that is named, and its head
-  named_is : IsWellFormed s → (after : Option ℕ) → named_head after (listed (all_for it.system) s) ≡ option_map head_of (named_job it.system after s)
+  named_is : IsWellFormed s → (after : Option ℕ) → named_head after (listed_jobs (all_for it.system) s) ≡ option_map head_of (named_job it.system after s)
   named_is good None = refl
   named_is good (Some number) =
       ap (find (λ (head : JobHead). head.number == number)) (heads_are it.system s)
@@ -259,7 +259,7 @@ module _ (it : Packing) (lowest : ℕ) (s : State) where
   behind_is None job = refl
   behind_is (Some first) job = refl
 
-  pub are_to_go : IsWellFormed s → AreInOrder (listed (all_for it.system) s) → AreToGo it lowest s (jobs_to_go it lowest s)
+  pub are_to_go : IsWellFormed s → AreInOrder (listed_jobs (all_for it.system) s) → AreToGo it lowest s (jobs_to_go it lowest s)
   are_to_go good order =
       elim it.no_jobs as (λ b. AreToGoUnless b it lowest s (cond b [] (waiting_jobs it lowest s))) [
         | true ↦ refl
@@ -267,7 +267,7 @@ module _ (it : Packing) (lowest : ℕ) (s : State) where
           these =
               subst (λ jobs. IsPermutation jobs (waiting_jobs it lowest s)) chosen
               (IsPermutation-sym _ _ (sorted_kept by_heads (goes it lowest s) (filter (waits it.system) s.jobs)));
-          in_order = subst AreInOrder kept_heads (AllPairs-filter (λ a b. goes_before a b ≡ true) (is_to_go lowest (named_head it.after (listed (all_for it.system) s))) (listed (all_for it.system) s) order);
+          in_order = subst AreInOrder kept_heads (AllPairs-filter (λ a b. goes_before a b ≡ true) (is_to_go lowest (named_head it.after (listed_jobs (all_for it.system) s))) (listed_jobs (all_for it.system) s) order);
         }
       ]
     where
@@ -293,7 +293,7 @@ module _ (it : Packing) (lowest : ℕ) (s : State) where
       ]
 
   -- and the least number is that of the first of them
-  pub below_is : IsWellFormed s → fold min s.next (map (λ (head : JobHead). head.number) (listed (all_for it.system) s)) ≡ below_of it.system s
+  pub below_is : IsWellFormed s → fold min s.next (map (λ (head : JobHead). head.number) (listed_jobs (all_for it.system) s)) ≡ below_of it.system s
   below_is good =
       ap (λ heads. fold min s.next (map (λ (head : JobHead). head.number) heads)) (heads_are it.system s)
       ∙ ap (fold min s.next) (numbers_of (sorted_jobs it.system s))

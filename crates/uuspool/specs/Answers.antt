@@ -15,7 +15,7 @@ use Rattle.uu_core.specs.declared.due.Due.{Due}
 use Rattle.uu_core.specs.declared.next_call.NextCall.{NextCall}
 use Rattle.uu_core.specs.declared.next_call.NextPoll.{NextPoll}
 use Rattle.uu_core.specs.declared.queue.Queue.{Queue}
-use Rattle.uu_questions.specs.Listing.{listed}
+use Rattle.uu_questions.specs.Listing.{listed_jobs}
 use Rattle.uu_settings.specs.declared.settings.Settings.{Settings}
 use Rattle.uu_report.specs.Reports.{IsJobLine, IsJobsReport, IsNextCallsReport, IsNextPollsReport, IsQueuesReport, IsStatusReport, due_text, line_of, links_text}
 use Rattle.uu_request.specs.declared.request.Question.{Question}
@@ -41,19 +41,19 @@ IsEntryShown (Some kept) output status = (entry : Entry) × IsEntry kept.bytes e
 
 -- what is printed for the answer, and the status
 abbrev pub IsAnswer : Settings → State → Question → List ℕ → ℕ → Type 0
-IsAnswer settings s (question.Jobs filter) output status = IsJobsReport settings.zone (listed filter s) output × (status ≡ 0)
+IsAnswer settings s (question.Jobs filter) output status = IsJobsReport settings.zone (listed_jobs filter s) output × (status ≡ 0)
 IsAnswer settings s (question.Job number) output status = IsShown settings.zone (job_at s number) output status
 IsAnswer settings s (question.Due at) output status =
     (dues : List Due) × AreDue s.systems (map head_of s.jobs) at dues × (output ≡ flat_map due_text dues) × (status ≡ 0)
-IsAnswer settings s (question.AllDue filter at) output status = (output ≡ flat_map due_text (all_due s.systems (listed filter s) at)) × (status ≡ 0)
+IsAnswer settings s (question.AllDue filter at) output status = (output ≡ flat_map due_text (all_due s.systems (listed_jobs filter s) at)) × (status ≡ 0)
 IsAnswer settings s (question.NextCalls filter at) output status =
-    (calls : List NextCall) × AreNextCalls settings.zone s.systems (listed filter s) at.second calls
+    (calls : List NextCall) × AreNextCalls settings.zone s.systems (listed_jobs filter s) at.second calls
     × IsNextCallsReport settings.zone at.second calls output × (status ≡ 0)
 IsAnswer settings s (question.NextPolls system at) output status =
     (polls : List NextPoll) × AreNextPolls settings.zone (picked system s.systems) at.second polls
     × IsNextPollsReport settings.zone at.second polls output × (status ≡ 0)
 IsAnswer settings s (question.Queues filter) output status =
-    (queues : List Queue) × AreQueues (listed filter s) queues × IsQueuesReport settings.zone queues output × (status ≡ 0)
+    (queues : List Queue) × AreQueues (listed_jobs filter s) queues × IsQueuesReport settings.zone queues output × (status ≡ 0)
 IsAnswer settings s question.Systems output status = IsStatusReport settings.zone s.systems output × (status ≡ 0)
 IsAnswer settings s (question.Definitions name) output status = (output ≡ sys_text (definitions_of name s.systems)) × (status ≡ 0)
 IsAnswer settings s (question.Entry host) output status = IsEntryShown (entry_at s host) output status

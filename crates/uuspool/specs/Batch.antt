@@ -11,22 +11,22 @@ use Rattle.uu_names.specs.Text.{most_text}
 use Rattle.uu_settings.specs.declared.settings.Settings.{Settings}
 use Rattle.uu_store.specs.declared.spool.Spool.{Spool}
 use Rattle.uuspool.specs.Faults.{errors_of_fault, named, output_of_fault, status_of}
-use Rattle.uuspool.specs.ServedLines.{AreServed, IsOneRun, Line, Serves, left_fault}
+use Rattle.uuspool.specs.ServedLines.{AreServed, IsOneRun, ServedLine, Serves, left_fault}
 use Rattle.uuspool.specs.declared.fault.Fault.{Fault}
 use Rattle.uuspool.specs.declared.fault.Fault.TheVariants as fault
 
 -- ---- a request and its answer
 
 -- the line of a request, with its result
-abbrev pub line_with : List (List ℕ) → ℕ → List ℕ → List ℕ → Result ℕ Fault → Line
+abbrev pub line_with : List (List ℕ) → ℕ → List ℕ → List ℕ → Result ℕ Fault → ServedLine
 line_with words now input output result = record { words = words; now = now; input = input; output = output; result = result }
 
 -- the line is that of a request, and its input is within the limit
-abbrev pub IsRequestLine : Line → Type 0
+abbrev pub IsRequestLine : ServedLine → Type 0
 IsRequestLine line = IsHead (length line.input) line.words × (length line.input ≤ most_text)
 
 -- the frame of a line's request
-abbrev pub frame_of : Line → List ℕ
+abbrev pub frame_of : ServedLine → List ℕ
 frame_of line = request_frame line.words line.input
 
 -- the program's status at an end
@@ -50,7 +50,7 @@ abbrev pub told_frame : List ℕ → Result ℕ Fault → List ℕ
 told_frame output end = answer_frame (end_status end) (output ++ end_output end) (end_errors end)
 
 -- the frame of a line's answer
-abbrev pub answer_of : Line → List ℕ
+abbrev pub answer_of : ServedLine → List ℕ
 answer_of line = told_frame line.output line.result
 
 -- ---- the stream's own faults
@@ -77,7 +77,7 @@ fault_answer why = told_frame [] (Err why)
 
 -- The line was served at the second that the clock gave, or it was left, because a line before it
 -- doesn't go on.
-pub record IsNext {S : Type 0} {g : Ghosts S} {C : Type 0} (settings : Settings) (Tells : C → ℕ → C → Type 0) (failed : Bool) (clock later : C) (old new : Spool S g) (line : Line) : Type 0 where
+pub record IsNext {S : Type 0} {g : Ghosts S} {C : Type 0} (settings : Settings) (Tells : C → ℕ → C → Type 0) (failed : Bool) (clock later : C) (old new : Spool S g) (line : ServedLine) : Type 0 where
   pub request : IsRequestLine line
   pub told : Tells clock line.now later
   pub served : failed ≡ false → Serves settings line old new
@@ -106,9 +106,9 @@ most_requests = 2 ^ 64 - 1
 -- How a batch breaks off: all lines except the last were answered, and writing its answer failed;
 -- or all were, and writing the answer to a fault of the stream failed. What was written is the
 -- answers of lines and then a text.
-abbrev pub BreaksOff : List Line → Option (List ℕ) → Option (List ℕ) → (Writes : List Line → List ℕ → Type 0) → Fault → Type 0
+abbrev pub BreaksOff : List ServedLine → Option (List ℕ) → Option (List ℕ) → (Writes : List ServedLine → List ℕ → Type 0) → Fault → Type 0
 BreaksOff lines left rest Writes why =
-    ((front : List Line) × (last : Line) × (lines ≡ front ++ last ∷ []) × IsUntold (answer_of last) (Writes front) why)
+    ((front : List ServedLine) × (last : ServedLine) × (lines ≡ front ++ last ∷ []) × IsUntold (answer_of last) (Writes front) why)
     ⊎ ((cause : Fault) × IsOfStream left rest cause × IsUntold (fault_answer cause) (Writes lines) why)
 
 -- The lines of the requests were served one after the other, with the clock read for each. If the
@@ -117,11 +117,11 @@ BreaksOff lines left rest Writes why =
 -- breaks off there: those before it were written, and a beginning of it. A batch has at most 2^64 -
 -- 1 lines. Once these are answered, it ends with a fault.
 pub record IsBatch {S : Type 0} {g : Ghosts S} {C : Type 0} (settings : Settings) (Tells : C → ℕ → C → Type 0) (clock : C) (old new : Spool S g) (input_before input_after output_before output_after : Option (List ℕ)) (result : Result ℕ Fault) : Type 0 where
-  pub lines : List Line
+  pub lines : List ServedLine
   pub served : AreServed settings lines old new
   pub run : IsOneRun settings lines old new
   pub requests : AllByRecursion IsRequestLine lines
-  pub clock_told : (last : C) × FoldsTo (λ earlier (line : Line) later. Tells earlier line.now later) clock lines last
+  pub clock_told : (last : C) × FoldsTo (λ earlier (line : ServedLine) later. Tells earlier line.now later) clock lines last
   pub left : Option (List ℕ)
   pub read : Consumes input_before left (flat_map frame_of lines)
   pub answered : IfOk result (EndsWith left input_after (λ last. Appends output_before output_after (flat_map answer_of lines ++ last)))

@@ -11,7 +11,7 @@ use Rattle.uu_core.specs.declared.command.Command.{Command}
 use Rattle.uu_core.specs.declared.command.Command.TheVariants.{QueueOnce, Release}
 use Rattle.uu_core.specs.declared.custody.Taken.{Taken}
 use Rattle.uu_core.specs.declared.refusal.Refusal.{Refusal}
-use Rattle.uu_bundle.specs.Bundles.{answered, bundle_text, packed, parcel_of}
+use Rattle.uu_bundle.specs.Bundles.{answer_bundle, bundle_text, packed_bundle, parcel_of}
 use Rattle.uu_bundle.specs.Marks.{mark_of}
 use Rattle.uu_bundle.specs.Texts.{marked_text}
 use Rattle.uu_bundle.specs.declared.bundle.Bundle.{Bundle}
@@ -52,7 +52,7 @@ parcels_for from it jobs = map (parcel_for from it.system it.spool) jobs
 -- it has as many of the neighbour's jobs that are kept as taken, and of the jobs that wait, as
 -- there is room for
 abbrev pub bundle_of : List ℕ → Packing → State → List Job → Bundle
-bundle_of from it s jobs = packed (heading_for from it s) (link_of s it.system).taken (parcels_for from it jobs)
+bundle_of from it s jobs = packed_bundle (heading_for from it s) (link_of s it.system).taken (parcels_for from it jobs)
 
 pub record IsBundleText (from : List ℕ) (it : Packing) (s : State) (text : List ℕ) : Type 0 where
   pub jobs : List Job
@@ -85,7 +85,7 @@ refused_among commands s = flat_map (λ command. refused_for command (verdict s 
 -- grade that the neighbour wants and of higher ones.
 abbrev pub answer_of : List ℕ → Answering → State → List Job → Bundle
 answer_of from it s jobs =
-    answered (heading_for from it.packing s) (taken_among it.commands (link_of s it.packing.system).taken) (refused_among it.commands s) (parcels_for from it.packing jobs)
+    answer_bundle (heading_for from it.packing s) (taken_among it.commands (link_of s it.packing.system).taken) (refused_among it.commands s) (parcels_for from it.packing jobs)
 
 pub record IsAnswerText (from : List ℕ) (it : Answering) (s : State) (text : List ℕ) : Type 0 where
   pub jobs : List Job
@@ -149,5 +149,5 @@ abbrev pub refused_still : List ℕ → List ℕ → List ℕ → List Refused �
 refused_still from to spool refused s = filter (is_refused_still from to spool s) refused
 
 -- what is reported for a bundle that is settled
-abbrev pub IsSettled : List ℕ → Settling → State → List ℕ → Type 0
-IsSettled from it s output = IsSettleReport it.system (settled_by from it s) (refused_still from it.system it.spool it.refused s) output
+abbrev pub IsSettleOutput : List ℕ → Settling → State → List ℕ → Type 0
+IsSettleOutput from it s output = IsSettleReport it.system (settled_by from it s) (refused_still from it.system it.spool it.refused s) output

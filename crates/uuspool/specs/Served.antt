@@ -3,7 +3,7 @@
 use Rattle.std.specs.Prelude.{◌≡◌, ◌≢◌, ◌↔◌, ◌⊎◌, ℕ, pos, Bool, true, false, IsTrue, Option, Some, None, MatchOption, List, [], Result, Ok, Err, IfErr, All, Contains, ⊤, unwrap_or, length, ◌+◌}
 use Rattle.sqlite.specs.Store.{Ghosts}
 use Rattle.sqlite.specs.State.{HasCleanDisk}
-use Rattle.uu_times.specs.Moment.{IsPast, Shows, local_second, week_minute}
+use Rattle.uu_times.specs.Moment.{IsPast, IsDateTimeAt, local_second, week_minute}
 use Rattle.uu_times.specs.declared.moment.Moment.{Moment}
 use Rattle.uu_times.specs.declared.fault.TimeFault.TheVariants.{MomentRange}
 use Rattle.uu_core.specs.State.{State}
@@ -24,13 +24,13 @@ use Rattle.uu_line.specs.declared.line.CommandLine.{CommandLine}
 use Rattle.uu_settings.specs.declared.settings.Settings.{Settings}
 use Rattle.uu_core.specs.declared.subject.Subject.{Subject}
 use Rattle.uu_report.specs.Outputs.{answers_text, output_text, replies_status}
-use Rattle.uu_request.specs.Requests.{Asks}
+use Rattle.uu_request.specs.Requests.{LineAsks}
 use Rattle.uu_request.specs.declared.fault.RequestFault.{RequestFault}
 use Rattle.uu_request.specs.declared.fault.RequestFault.TheVariants as asking
 use Rattle.uu_request.specs.declared.request.Request.{Request}
 use Rattle.uu_request.specs.declared.request.Request.TheVariants.{Commands, Question, Settling, Unpacking}
 use Rattle.uuspool.specs.Answers.{IsAnswer}
-use Rattle.uuspool.specs.Bundles.{IsSettled, numbers_told, release_of, settled_by}
+use Rattle.uuspool.specs.Bundles.{IsSettleOutput, numbers_told, release_of, settled_by}
 use Rattle.uuspool.specs.Lines.{IsAnswerTo}
 use Rattle.uuspool.specs.declared.fault.Fault.{Fault}
 use Rattle.uuspool.specs.declared.fault.Fault.TheVariants as fault
@@ -45,16 +45,16 @@ second_of line now = unwrap_or line.at now
 pub record IsMomentOf (settings : Settings) (instant : ℕ) (at : Moment) : Type 0 where
   pub second : at.second ≡ instant
   pub week : pos at.week ≡ week_minute (local_second settings.zone instant)
-  pub local : Shows at.local (local_second settings.zone instant)
+  pub local : IsDateTimeAt at.local (local_second settings.zone instant)
 
 -- what the words ask, with this input, at their second or, if they give none, at the second `now`;
 -- or why they ask nothing
-pub record Ask (settings : Settings) (words : List (List ℕ)) (now : ℕ) (input : List ℕ) (asked : Result Request RequestFault) : Type 0 where
+pub record WordsAsk (settings : Settings) (words : List (List ℕ)) (now : ℕ) (input : List ℕ) (asked : Result Request RequestFault) : Type 0 where
   pub line : CommandLine
   pub means : MeansLine words line
   pub at : Moment
   pub moment : IsMomentOf settings (second_of line now) at
-  pub request : Asks settings at input line asked
+  pub request : LineAsks settings at input line asked
 
 -- ---- from a request to its output
 
@@ -94,7 +94,7 @@ abbrev pub IsOutput : Settings → State → Request → List ℕ → ℕ → Ty
 IsOutput settings s (Commands list) output status =
     (output ≡ output_text list.subjects list.skipped (replies_to s list.commands)) × (status ≡ replies_status (replies_to s list.commands))
 IsOutput settings s (Question question) output status = IsAnswer settings s question output status
-IsOutput settings s (Settling it) output status = IsSettled settings.name it s output × (status ≡ 0)
+IsOutput settings s (Settling it) output status = IsSettleOutput settings.name it s output × (status ≡ 0)
 IsOutput settings s (Unpacking it) output status =
     (output ≡ output_text it.subjects it.skipped (replies_to s (commands_in it.bundle))) × (status ≡ replies_status (replies_to s (commands_in it.bundle)))
 
@@ -229,22 +229,22 @@ IsFaultOf settings words now input (fault.Name why) = IsAnswerTo words (Err (fau
 IsFaultOf settings words now input fault.TwoSystems = IsAnswerTo words (Err fault.TwoSystems)
 IsFaultOf settings words now input (fault.Time why) =
     ((why ≡ MomentRange) × ((line : CommandLine) × MeansLine words line × IsPast (second_of line now)))
-    ⊎ Ask settings words now input (Err (asking.Time why))
-IsFaultOf settings words now input fault.Input = Ask settings words now input (Err asking.Input)
-IsFaultOf settings words now input (fault.Bundle why) = Ask settings words now input (Err (asking.Bundle why))
+    ⊎ WordsAsk settings words now input (Err (asking.Time why))
+IsFaultOf settings words now input fault.Input = WordsAsk settings words now input (Err asking.Input)
+IsFaultOf settings words now input (fault.Bundle why) = WordsAsk settings words now input (Err (asking.Bundle why))
 IsFaultOf settings words now input fault.Memory = ⊤
 IsFaultOf settings words now input (fault.Settings why) = ⊥
 IsFaultOf settings words now input fault.Read = ⊥
-IsFaultOf settings words now input (fault.Store why) = IsOfCall why × ((request : Request) × Ask settings words now input (Ok request))
-IsFaultOf settings words now input fault.Write = (request : Request) × Ask settings words now input (Ok request)
+IsFaultOf settings words now input (fault.Store why) = IsOfCall why × ((request : Request) × WordsAsk settings words now input (Ok request))
+IsFaultOf settings words now input fault.Write = (request : Request) × WordsAsk settings words now input (Ok request)
 
 -- The faults of a line at its moment: its input is too large, or isn't a sys file or a bundle, or
 -- its request was asked of the spool. Out of memory may come instead of any.
 abbrev pub IsFaultOfLine : Settings → CommandLine → Moment → List ℕ → Fault → Type 0
-IsFaultOfLine settings line at input (fault.Time why) = Asks settings at input line (Err (asking.Time why))
-IsFaultOfLine settings line at input fault.Input = Asks settings at input line (Err asking.Input)
-IsFaultOfLine settings line at input (fault.Bundle why) = Asks settings at input line (Err (asking.Bundle why))
-IsFaultOfLine settings line at input (fault.Store why) = IsOfCall why × ((request : Request) × Asks settings at input line (Ok request))
-IsFaultOfLine settings line at input fault.Write = (request : Request) × Asks settings at input line (Ok request)
+IsFaultOfLine settings line at input (fault.Time why) = LineAsks settings at input line (Err (asking.Time why))
+IsFaultOfLine settings line at input fault.Input = LineAsks settings at input line (Err asking.Input)
+IsFaultOfLine settings line at input (fault.Bundle why) = LineAsks settings at input line (Err (asking.Bundle why))
+IsFaultOfLine settings line at input (fault.Store why) = IsOfCall why × ((request : Request) × LineAsks settings at input line (Ok request))
+IsFaultOfLine settings line at input fault.Write = (request : Request) × LineAsks settings at input line (Ok request)
 IsFaultOfLine settings line at input fault.Memory = ⊤
 IsFaultOfLine settings line at input _ = ⊥

@@ -16,13 +16,13 @@ use Rattle.uu_store.specs.declared.spool.Spool.{Spool}
 use Rattle.uu_frame.specs.Writing.{IsCut}
 use Rattle.uu_settings.specs.declared.settings.Settings.{Settings}
 use Rattle.uu_request.specs.declared.request.Request.{Request}
-use Rattle.uuspool.specs.Served.{AreChosen, AreCommandsOf, Ask, EndsAs, IsOutput, IsServed, IsFaultOf, answered_text, commands_of, in_hand}
+use Rattle.uuspool.specs.Served.{AreChosen, AreCommandsOf, WordsAsk, EndsAs, IsOutput, IsServed, IsFaultOf, answered_text, commands_of, in_hand}
 use Rattle.uuspool.specs.declared.fault.Fault.{Fault}
 use Rattle.uuspool.specs.declared.fault.Fault.TheVariants as fault
 
 -- a line: its words, the second if they give none, and its input; and its result: what was printed,
 -- and its status or its fault
-pub record Line : Type 0 where
+pub record ServedLine : Type 0 where
   pub words : List (List ℕ)
   pub now : ℕ
   pub input : List ℕ
@@ -30,9 +30,9 @@ pub record Line : Type 0 where
   pub result : Result ℕ Fault
 
 -- the line was served over a spool, as `serve` ends
-pub record Serves {S : Type 0} {g : Ghosts S} (settings : Settings) (line : Line) (old new : Spool S g) : Type 0 where
+pub record Serves {S : Type 0} {g : Ghosts S} (settings : Settings) (line : ServedLine) (old new : Spool S g) : Type 0 where
   pub ends : EndsAs line.result
-      ((request : Request) × Ask settings line.words line.now line.input (Ok request) × IsServed settings request old new (λ output. line.output ≡ output) line.result)
+      ((request : Request) × WordsAsk settings line.words line.now line.input (Ok request) × IsServed settings request old new (λ output. line.output ≡ output) line.result)
       ((new ≡ old) × (line.output ≡ []))
   pub told : IfErr line.result (IsFaultOf settings line.words line.now line.input)
 
@@ -50,13 +50,13 @@ abbrev pub left_fault : Fault
 left_fault = fault.Store store.Failed
 
 -- lines that are left: only that the spool failed was printed for them
-abbrev pub AreLeft : List Line → Type 0
+abbrev pub AreLeft : List ServedLine → Type 0
 AreLeft [] = ⊤
 AreLeft (line ∷ lines) = (line.output ≡ []) × (line.result ≡ Err left_fault) × AreLeft lines
 
 -- The lines were served one after the other. After a line that goes on the next is served.
 -- Otherwise the rest is left and touches nothing.
-abbrev pub AreServed : {S : Type 0} {g : Ghosts S} → Settings → List Line → Spool S g → Spool S g → Type 0
+abbrev pub AreServed : {S : Type 0} {g : Ghosts S} → Settings → List ServedLine → Spool S g → Spool S g → Type 0
 AreServed settings [] old new = new ≡ old
 AreServed {S} {g} settings (line ∷ lines) old new =
     (mid : Spool S g) × Serves settings line old mid
@@ -64,37 +64,37 @@ AreServed {S} {g} settings (line ∷ lines) old new =
     × (goes_on line.result ≡ false → AreLeft lines × (new ≡ mid))
 
 -- after each of the lines the next is served
-abbrev pub AllGoOn : List Line → Type 0
+abbrev pub AllGoOn : List ServedLine → Type 0
 AllGoOn = AllByRecursion (λ line. goes_on line.result ≡ true)
 
 -- ---- what the plain machine says
 
 -- what a line asked: its request, and the request's commands
-pub record Asked : Type 0 where
+pub record ServedRequest : Type 0 where
   pub request : Request
   pub commands : List Command
 
 -- the commands of the requests of lines
-abbrev pub commands_in : List (Option Asked) → List Command
-commands_in [] = []
-commands_in (None ∷ asked) = commands_in asked
-commands_in (Some it ∷ asked) = it.commands ++ commands_in asked
+abbrev pub commands_asked : List (Option ServedRequest) → List Command
+commands_asked [] = []
+commands_asked (None ∷ asked) = commands_asked asked
+commands_asked (Some it ∷ asked) = it.commands ++ commands_asked asked
 
 -- How many commands of the last request of these lines are carried out as one: those may be in hand
 -- if a stop comes. It is this number if they have no request.
-abbrev pub last_in_hand : ℕ → List (Option Asked) → ℕ
+abbrev pub last_in_hand : ℕ → List (Option ServedRequest) → ℕ
 last_in_hand none [] = none
 last_in_hand none (None ∷ asked) = last_in_hand none asked
 last_in_hand none (Some it ∷ asked) = last_in_hand (in_hand it.request) asked
 
-abbrev pub in_hand_of : List (Option Asked) → ℕ
+abbrev pub in_hand_of : List (Option ServedRequest) → ℕ
 in_hand_of asked = last_in_hand 1 asked
 
 -- Each line has an entry. After a line that doesn't go on, no line came to a request. So the
 -- commands in hand are those of the last request, and none was served after it.
-abbrev pub NoneOnceLeft : List Line → List (Option Asked) → Type 0
+abbrev pub NoneOnceLeft : List ServedLine → List (Option ServedRequest) → Type 0
 NoneOnceLeft [] [] = ⊤
-NoneOnceLeft (line ∷ lines) (it ∷ asked) = (goes_on line.result ≡ false → AllByRecursion (λ (later : Option Asked). later ≡ None) asked) × NoneOnceLeft lines asked
+NoneOnceLeft (line ∷ lines) (it ∷ asked) = (goes_on line.result ≡ false → AllByRecursion (λ (later : Option ServedRequest). later ≡ None) asked) × NoneOnceLeft lines asked
 NoneOnceLeft [] (it ∷ asked) = ⊥
 NoneOnceLeft (line ∷ lines) [] = ⊥
 
@@ -114,9 +114,9 @@ IsTold settings s request replies output (Err _) = ⊥
 -- a spool keeps, and its output is what the machine says in this state. If it didn't end with a
 -- status, it is the last line that was served, and the replies that are left are the machine's, to
 -- its commands.
-pub record IsToldAs (settings : Settings) (s : State) (replies : List Reply) (line : Line) (it : Asked) : Type 0 where
+pub record IsToldAs (settings : Settings) (s : State) (replies : List Reply) (line : ServedLine) (it : ServedRequest) : Type 0 where
   pub good : IsWellFormed s
-  pub asks : Ask settings line.words line.now line.input (Ok it.request)
+  pub asks : WordsAsk settings line.words line.now line.input (Ok it.request)
   pub are : AreCommandsOf it.request it.commands
   pub chosen : AreChosen it.commands (commands_of settings s it.request) line.result
   pub every : goes_on line.result ≡ true → length it.commands ≤ length replies
@@ -125,7 +125,7 @@ pub record IsToldAs (settings : Settings) (s : State) (replies : List Reply) (li
 
 -- the line has no request: nothing was printed, and its fault is that of its words, its moment or
 -- its input, or it was left
-pub record IsUnasked (settings : Settings) (line : Line) : Type 0 where
+pub record IsUnasked (settings : Settings) (line : ServedLine) : Type 0 where
   pub nothing : line.output ≡ []
   pub why : Fault
   pub is : line.result ≡ Err why
@@ -133,7 +133,7 @@ pub record IsUnasked (settings : Settings) (line : Line) : Type 0 where
 
 -- What the plain machine says about the lines from this state on, each in the state that the
 -- commands before it left. The replies are those to the lines' commands, line by line.
-abbrev pub AreTold : Settings → State → List Reply → List Line → List (Option Asked) → Type 0
+abbrev pub AreTold : Settings → State → List Reply → List ServedLine → List (Option ServedRequest) → Type 0
 AreTold settings s replies [] [] = replies ≡ []
 AreTold settings s replies (line ∷ lines) (None ∷ asked) = IsUnasked settings line × AreTold settings s replies lines asked
 AreTold settings s replies (line ∷ lines) (Some it ∷ asked) =
@@ -145,13 +145,13 @@ AreTold settings s replies (line ∷ lines) [] = ⊥
 -- The lines are one run of the commands of their requests: the output of each is what the machine
 -- says, and a stop leaves what the run says. If the store stopped none of them, every command was
 -- answered, and the spool shows the machine's state. This is so if each line goes on.
-pub record IsOneRun {S : Type 0} {g : Ghosts S} (settings : Settings) (lines : List Line) (old new : Spool S g) : Type 0 where
-  pub asked : List (Option Asked)
+pub record IsOneRun {S : Type 0} {g : Ghosts S} (settings : Settings) (lines : List ServedLine) (old new : Spool S g) : Type 0 where
+  pub asked : List (Option ServedRequest)
   pub left : NoneOnceLeft lines asked
   pub replies : List Reply
   pub stopped : Option StoreFault
-  pub ran : Ran (in_hand_of asked) (commands_in asked) old new replies stopped
+  pub ran : Ran (in_hand_of asked) (commands_asked asked) old new replies stopped
   pub told : HasCleanDisk (spool.disk new) → (s : State) → spool.Shows old s → AreTold settings s replies lines asked
-  pub every : stopped ≡ None → length replies ≡ length (commands_in asked)
-  pub shows : stopped ≡ None → HasCleanDisk (spool.disk new) → (s : State) → spool.Shows old s → spool.Shows new (state_after s (commands_in asked))
+  pub every : stopped ≡ None → length replies ≡ length (commands_asked asked)
+  pub shows : stopped ≡ None → HasCleanDisk (spool.disk new) → (s : State) → spool.Shows old s → spool.Shows new (state_after s (commands_asked asked))
   pub went_on : AllGoOn lines → stopped ≡ None

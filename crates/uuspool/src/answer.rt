@@ -13,7 +13,7 @@ ghost use Rattle.uu_core.specs.declared.next_call.NextCall.{NextCall as AnyCall}
 ghost use Rattle.uu_core.specs.declared.next_call.NextPoll.{NextPoll as AnyPoll};
 ghost use Rattle.uu_core.specs.declared.queue.Queue.{Queue as AnyQueue};
 ghost use Rattle.uu_store.specs.HandedOut.{IsBounded};
-ghost use Rattle.uu_questions.specs.Listing.{listed};
+ghost use Rattle.uu_questions.specs.Listing.{listed_jobs};
 ghost use Rattle.uu_report.specs.Reports.{IsJobLine, IsNextCallsReport, IsNextPollsReport, IsQueuesReport, due_text, line_of};
 ghost use Rattle.uu_request.specs.declared.request.Question.TheVariants as question;
 ghost use Rattle.uu_request.specs.declared.request.Request.TheVariants as request;
@@ -192,7 +192,7 @@ fn systems_and_jobs<S: Alter>(
 ) -> Result<(Vec<SystemRow>, Vec<JobHead>), StoreFault>
     ensures marked { MatchResult result (λ _. (has_failed spool.old ≡ false) × (has_failed spool.new ≡ false)) (IsFaultBetween (has_failed spool.old) (has_failed spool.new)) }
     ensures answer { HasCleanDisk (disk spool.new) → (s : _) → Shows spool.old s
-        → IfOk result (λ answer. (answer.0.items ≡ s.systems) × (answer.1.items ≡ listed filter.now s) × Shows spool.new s) }
+        → IfOk result (λ answer. (answer.0.items ≡ s.systems) × (answer.1.items ≡ listed_jobs filter.now s) × Shows spool.new s) }
     ensures ran { Ran 1 [] spool.old spool.new [] (fault_in result) }
     ensures failed { IsTrue (has_failed spool.old) → spool.new ≡ spool.old }
 {

@@ -4,7 +4,7 @@
 ghost use Rattle.std.specs.Prelude.{◌≡◌, ◌||◌, ◌++◌, ◌∷◌, [], ℕ, false, if◌then◌else◌, IfOk, OnOk, ⊤};
 ghost use Rattle.std.specs.BTreeSet.{contains};
 ghost use Rattle.std.specs.List.{list_any};
-ghost use Rattle.uu_bundle.specs.Bundles.{answer_text, with_refused};
+ghost use Rattle.uu_bundle.specs.Bundles.{answer_front_text, text_with_refused};
 ghost use Rattle.uu_core.specs.State.{link_of};
 ghost use Rattle.uu_core.specs.Verdict.{verdict};
 ghost use Rattle.uu_store.specs.Spool.{has_failed};
@@ -47,7 +47,7 @@ fn tell_taken<S: Alter>(
     spool: &mut Spool<S>,
 ) -> Result<Vec<u8>, StoreFault>
     ensures { IsAsked (λ s. ⊤)
-        (λ s text. text.items ≡ answer_text (heading_with own.now answering.now.packing below) (spec.taken_among answering.now.commands (link_of s answering.now.packing.system).taken))
+        (λ s text. text.items ≡ answer_front_text (heading_with own.now answering.now.packing below) (spec.taken_among answering.now.commands (link_of s answering.now.packing.system).taken))
         spool.old spool.new result }
 {
     let packing = &answering.packing;
@@ -124,7 +124,7 @@ fn add_refusals<S: Alter>(
     text: &mut Vec<u8>,
 ) -> Result<(), StoreFault>
     requires { has_failed spool.old ≡ false }
-    ensures { IsAsked (λ s. ⊤) (λ s done. text.new.items ≡ with_refused text.old.items (spec.refused_among commands.now s)) spool.old spool.new result }
+    ensures { IsAsked (λ s. ⊤) (λ s done. text.new.items ≡ text_with_refused text.old.items (spec.refused_among commands.now s)) spool.old spool.new result }
 {
     lines_are_one_run::<S>();
     for command in commands {
@@ -140,7 +140,7 @@ fn add_if_refused<S: Alter>(
     spool: &mut Spool<S>,
     text: &mut Vec<u8>,
 ) -> Result<(), StoreFault>
-    ensures { IsAsked (λ s. ⊤) (λ s done. text.new.items ≡ with_refused text.old.items (spec.refused_for command.now (verdict s command.now))) spool.old spool.new result }
+    ensures { IsAsked (λ s. ⊤) (λ s done. text.new.items ≡ text_with_refused text.old.items (spec.refused_for command.now (verdict s command.now))) spool.old spool.new result }
 {
     let reason = spool.refusal(alloc, command)?;
     add_reason(alloc, command, reason, text)?;
@@ -154,7 +154,7 @@ fn add_reason(
     reason: Option<Refusal>,
     text: &mut Vec<u8>,
 ) -> Result<(), AllocError>
-    ensures { OnOk result (text.new.items ≡ with_refused text.old.items (spec.refused_for command.now reason)) }
+    ensures { OnOk result (text.new.items ≡ text_with_refused text.old.items (spec.refused_for command.now reason)) }
 {
     match (command, reason) {
         (Command::QueueOnce(key, _), Some(reason)) => {

@@ -4,7 +4,7 @@
 ghost use Rattle.std.specs.Prelude.{◌≡◌, ℕ, min, List, Some, false, IfOk, map, ⊤, option_map};
 ghost use Rattle.std.specs.Io.KnownBytes.{Appends};
 ghost use Rattle.std.specs.List.{list_any};
-ghost use Rattle.uu_bundle.specs.Bundles.{front_text, takes_job, with_job, with_jobs};
+ghost use Rattle.uu_bundle.specs.Bundles.{front_text, takes_job, text_with_job, text_with_jobs};
 ghost use Rattle.uu_core.specs.State.{Job, has_system, is_system, job_at, link_of};
 ghost use Rattle.uu_request.specs.declared.request.Question.TheVariants as question;
 ghost use Rattle.uu_request.specs.declared.request.Request.TheVariants as request;
@@ -220,7 +220,7 @@ fn add_jobs<S: Alter>(
 ) -> Result<(), StoreFault>
     requires { has_failed spool.old ≡ false }
     ensures { (jobs : List Job) → numbers.now ≡ map (λ job. job.number) jobs
-        → IsAsked (AreThere jobs) (λ s done. text.new.items ≡ with_jobs text.old.items (parcels_for own.now packing.now jobs)) spool.old spool.new result }
+        → IsAsked (AreThere jobs) (λ s done. text.new.items ≡ text_with_jobs text.old.items (parcels_for own.now packing.now jobs)) spool.old spool.new result }
 {
     for number in numbers {
         if !add_one(alloc, own, packing, *number, spool, text)? {
@@ -240,7 +240,7 @@ fn add_one<S: Alter>(
     text: &mut Vec<u8>,
 ) -> Result<bool, StoreFault>
     ensures { (job : Job) → IsAsked (λ s. job_at s number ≡ Some job)
-        (λ s added. (added ≡ takes_job text.old.items (parcel_for own.now packing.now.system packing.now.spool job)) × (text.new.items ≡ with_job text.old.items (parcel_for own.now packing.now.system packing.now.spool job)))
+        (λ s added. (added ≡ takes_job text.old.items (parcel_for own.now packing.now.system packing.now.spool job)) × (text.new.items ≡ text_with_job text.old.items (parcel_for own.now packing.now.system packing.now.spool job)))
         spool.old spool.new result }
 {
     match spool.job(alloc, number) {

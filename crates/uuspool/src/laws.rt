@@ -6,7 +6,7 @@ ghost use Rattle.uu_names.specs.Name.{is_site_name, is_word};
 ghost use Rattle.uu_times.specs.declared.moment.Moment.{Moment};
 ghost use Rattle.uu_bundle.specs.Bundles.{IsBundle, bundle_text};
 ghost use Rattle.uu_bundle.specs.declared.bundle.Bundle.{Bundle};
-ghost use Rattle.uu_handover.specs.Bundles.{IsAnswer as IsTrueAnswer, IsSaid, Packed, key_for};
+ghost use Rattle.uu_handover.specs.Bundles.{IsAnswerBundle as IsTrueAnswer, IsSaid, Packed, key_for};
 ghost use Rattle.uu_core.specs.declared.command.Command.{Command};
 ghost use Rattle.uu_core.specs.declared.command.Command.TheVariants.{QueueOnce};
 ghost use Rattle.uu_core.specs.declared.command.Reply.TheVariants.{Number};
@@ -37,7 +37,7 @@ ghost use Rattle.uu_store.specs.declared.spool.Spool.{Spool};
 ghost use Rattle.uuspool.specs.Answers.{IsAnswer};
 ghost use Rattle.uuspool.specs.Bundles.{is_had};
 ghost use Rattle.uuspool.specs.Served.{IsOutput, commands_of};
-ghost use Rattle.uuspool.specs.ServedLines.{AreServed, IsOneRun, Line};
+ghost use Rattle.uuspool.specs.ServedLines.{AreServed, IsOneRun, ServedLine};
 
 use sqlite::Alter;
 use uu_bundle::laws::{pieces_make_a_bundle, pieces_make_an_answer};
@@ -52,7 +52,7 @@ use uu_store::laws::runs_are_one_run;
 /// left. The spool shows the machine's state, and a stop leaves what the run says. A spool that is
 /// left as it is ran no command.
 pub fn lines_are_one_run<S: Alter>()
-    ensures lines { (settings : Settings) (lines : List Line) (old new : Spool S S.Store) → AreServed settings lines old new → IsOneRun settings lines old new }
+    ensures lines { (settings : Settings) (lines : List ServedLine) (old new : Spool S S.Store) → AreServed settings lines old new → IsOneRun settings lines old new }
     ensures none { (spool : Spool S S.Store) → Ran 1 [] spool spool [] None }
 {
     runs_are_one_run::<S>();

@@ -7,8 +7,8 @@ ghost use Rattle.uu_line.specs.Lines.{MeansLine};
 ghost use Rattle.uu_report.specs.Outputs.{answers_text};
 ghost use Rattle.uu_request.specs.Requests as requests;
 ghost use Rattle.uu_request.specs.declared.request.Request.TheVariants as request;
-ghost use Rattle.uu_times.specs.Moment.{Shows, local_second};
-ghost use Rattle.uuspool.specs.Served.{Ask, EndsAs, IsEarly, IsFaultOf, IsFaultOfLine, IsMomentOf, IsPrintedEnd, IsServed, second_of};
+ghost use Rattle.uu_times.specs.Moment.{IsDateTimeAt, local_second};
+ghost use Rattle.uuspool.specs.Served.{WordsAsk, EndsAs, IsEarly, IsFaultOf, IsFaultOfLine, IsMomentOf, IsPrintedEnd, IsServed, second_of};
 ghost use Rattle.uuspool.specs.ServedLines.{Serves};
 
 use crate::answer::ask;
@@ -51,7 +51,7 @@ pub fn serve<S: Alter, W: Write>(
 ) -> Result<u8, Fault>
     // At each end the request of the words was served, or nothing changed.
     ensures ends { EndsAs result
-        ((request : _) × Ask settings.now (map string_bytes words.now) now input.now (Ok request)
+        ((request : _) × WordsAsk settings.now (map string_bytes words.now) now input.now (Ok request)
         × IsServed settings.now request spool.old spool.new (λ output. Appends (W.contents out.old) (W.contents out.new) output) result)
         ((spool.new ≡ spool.old) × (out.new ≡ out.old)) }
     ensures fault { IfErr result (IsFaultOf settings.now (map string_bytes words.now) now input.now) }
@@ -74,7 +74,7 @@ pub(crate) fn serve_words<S: Alter, W: Write>(
     out: &mut W,
 ) -> Result<u8, Fault>
     ensures ends { EndsAs result
-        ((request : _) × Ask settings.now (map string_bytes words.now) now input.items (Ok request)
+        ((request : _) × WordsAsk settings.now (map string_bytes words.now) now input.items (Ok request)
         × IsServed settings.now request spool.old spool.new (λ output. Appends (W.contents out.old) (W.contents out.new) output) result)
         ((spool.new ≡ spool.old) × (out.new ≡ out.old)) }
     ensures fault { IfErr result (IsFaultOf settings.now (map string_bytes words.now) now input.items) }
@@ -122,10 +122,10 @@ pub fn serve_line<S: Alter, W: Write>(
     spool: &mut Spool<S>,
     out: &mut W,
 ) -> Result<u8, Fault>
-    requires { Shows at.local (local_second settings.now.zone at.second) }
+    requires { IsDateTimeAt at.local (local_second settings.now.zone at.second) }
     // At each end the line's request was served, or nothing changed.
     ensures ends { EndsAs result
-        ((request : _) × requests.Asks settings.now at input.items line (Ok request)
+        ((request : _) × requests.LineAsks settings.now at input.items line (Ok request)
         × IsServed settings.now request spool.old spool.new (λ output. Appends (W.contents out.old) (W.contents out.new) output) result)
         ((spool.new ≡ spool.old) × (out.new ≡ out.old)) }
     ensures fault { IfErr result (IsFaultOfLine settings.now line at input.items) }

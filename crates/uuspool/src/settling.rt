@@ -8,7 +8,7 @@ ghost use Rattle.uu_handover.specs.Bundles.{is_settled};
 ghost use Rattle.uu_request.specs.declared.request.Request.TheVariants as request;
 ghost use Rattle.uu_store.specs.HandedOut.{job_with};
 ghost use Rattle.uu_store.specs.Spool.{has_failed};
-ghost use Rattle.uuspool.specs.Bundles.{IsSettled, mark_for};
+ghost use Rattle.uuspool.specs.Bundles.{IsSettleOutput, mark_for};
 ghost use Rattle.uuspool.specs.Bundles as spec;
 ghost use Rattle.uuspool.specs.Internal.Asked.{IsAsked, is_job_told};
 ghost use Rattle.uuspool.specs.Served.{AreCommandsOf, IsServed};
@@ -67,7 +67,7 @@ fn found_by<S: Alter>(
     settling: &Settling,
     spool: &mut Spool<S>,
 ) -> Result<Found, StoreFault>
-    ensures asked { IsAsked (λ s. ⊤) (λ s found. (found.commands.items ≡ spec.release_of settling.now.system (spec.settled_by own.now settling.now s)) × IsSettled own.now settling.now s found.report.items) spool.old spool.new result }
+    ensures asked { IsAsked (λ s. ⊤) (λ s found. (found.commands.items ≡ spec.release_of settling.now.system (spec.settled_by own.now settling.now s)) × IsSettleOutput own.now settling.now s found.report.items) spool.old spool.new result }
     ensures told { IfOk result (λ found. AreCommandsOf (request.Settling settling.now) found.commands.items) }
 {
     let numbers = settled_numbers(alloc, own, settling, spool)?;

@@ -20,13 +20,13 @@ use Rattle.uu_times.specs.declared.moment.Moment.{Moment}
 use Rattle.uu_line.specs.Lines.{MeansLine}
 use Rattle.uu_line.specs.declared.line.CommandLine.{CommandLine}
 use Rattle.uu_settings.specs.declared.settings.Settings.{Settings}
-use Rattle.uu_request.specs.Requests.{Asks}
+use Rattle.uu_request.specs.Requests.{LineAsks}
 use Rattle.uu_request.specs.declared.fault.RequestFault.{RequestFault}
 use Rattle.uu_request.specs.declared.fault.RequestFault.TheVariants as asking
 use Rattle.uu_request.specs.declared.request.Request.{Request}
 use Rattle.uuspool.specs.Batch.{BreaksOff, EndsWith, IsOfStream, IsUntold, answer_of, fault_answer, most_requests}
-use Rattle.uuspool.specs.Served.{Ask, EndsAs, IsFaultOf, IsFaultOfLine, IsMomentOf, IsServed, in_hand, second_of}
-use Rattle.uuspool.specs.ServedLines.{Line}
+use Rattle.uuspool.specs.Served.{WordsAsk, EndsAs, IsFaultOf, IsFaultOfLine, IsMomentOf, IsServed, in_hand, second_of}
+use Rattle.uuspool.specs.ServedLines.{ServedLine}
 use Rattle.uuspool.specs.declared.fault.Fault.{Fault}
 use Rattle.uuspool.specs.declared.fault.Fault.TheVariants as fault
 use Rattle.uuspool_main.specs.Stretch.{EndsBatch, EndsStretch, IsOfLine, IsOfRequest, IsOfWords, LetsGo, WasGiven}
@@ -94,7 +94,7 @@ module _ {S : Type 0} {g : Ghosts S} (settings : Settings) (begun ended : Spool 
 
   module _ (line : CommandLine) (at : Moment) (input : List ℕ) where
     module _ (words : List (List ℕ)) (now : ℕ) (means : MeansLine words line) (moment : IsMomentOf settings (second_of line now) at) where
-      words_ask : (asked : Result Request RequestFault) → Asks settings at input line asked → Ask settings words now input asked
+      words_ask : (asked : Result Request RequestFault) → LineAsks settings at input line asked → WordsAsk settings words now input asked
       words_ask asked is = record { line = line; means = means; at = at; moment = moment; request = is }
 
       words_fault : (r : Result ℕ Fault) → IfErr r (IsFaultOfLine settings line at input) → IfErr r (IsFaultOf settings words now input)
@@ -116,7 +116,7 @@ module _ {S : Type 0} {g : Ghosts S} (settings : Settings) (begun ended : Spool 
         → (words : List (List ℕ)) (now : ℕ) → MeansLine words line → IsMomentOf settings (second_of line now) at
         → IsOfWords settings begun ended words now input r exchange
     of_words r exchange (done, told) words now means moment = (
-      request_as (λ request. Asks settings at input line (Ok request)) (λ request. Ask settings words now input (Ok request))
+      request_as (λ request. LineAsks settings at input line (Ok request)) (λ request. WordsAsk settings words now input (Ok request))
           (λ request is. words_ask words now means moment (Ok request) is) r exchange done,
       words_fault words now means moment r told,
     )
@@ -143,7 +143,7 @@ of_stream left rest fault.Write it = absurd it
 of_stream left rest (fault.Bundle why) it = absurd it
 
 -- an answer could not be written, or there was no memory for it
-untold : (lines : List Line) (answer : List ℕ) (Writes : List ℕ → Type 0) (why : Fault) → IsUntold answer Writes why → EndsBatch lines (Err why)
+untold : (lines : List ServedLine) (answer : List ℕ) (Writes : List ℕ → Type 0) (why : Fault) → IsUntold answer Writes why → EndsBatch lines (Err why)
 untold lines answer Writes fault.Write it = tt
 untold lines answer Writes fault.Memory it = tt
 untold lines answer Writes (fault.Words text help) it = absurd it
@@ -156,7 +156,7 @@ untold lines answer Writes fault.TwoSystems it = absurd it
 untold lines answer Writes (fault.Store why) it = absurd it
 untold lines answer Writes (fault.Bundle why) it = absurd it
 
-module _ (lines : List Line) (left rest : Option (List ℕ)) (Writes : List Line → List ℕ → Type 0) (All : Type 0) where
+module _ (lines : List ServedLine) (left rest : Option (List ℕ)) (Writes : List ServedLine → List ℕ → Type 0) (All : Type 0) where
   pub batch_ended : (result : Result ℕ Fault) → IfOk result (EndsWith left rest (Writes lines))
       → IfErr result (λ why. BreaksOff lines left rest Writes why ⊎ ((why ≡ fault.Read) × (length lines ≡ most_requests) × All))
       → EndsBatch lines result

@@ -28,11 +28,11 @@ use Rattle.uu_times.specs.declared.moment.Moment.{Moment}
 use Rattle.uu_line.specs.Lines.{MeansLine}
 use Rattle.uu_line.specs.declared.line.CommandLine.{CommandLine}
 use Rattle.uu_settings.specs.declared.settings.Settings.{Settings}
-use Rattle.uu_request.specs.Requests.{Asks}
+use Rattle.uu_request.specs.Requests.{LineAsks}
 use Rattle.uu_request.specs.declared.request.Request.{Request}
-use Rattle.uuspool.specs.Served.{Ask, EndsAs, IsFaultOf, IsFaultOfLine, IsMomentOf, IsServed, in_hand, second_of}
+use Rattle.uuspool.specs.Served.{WordsAsk, EndsAs, IsFaultOf, IsFaultOfLine, IsMomentOf, IsServed, in_hand, second_of}
 use Rattle.uuspool.specs.Batch.{EndsWith, IsRequestLine, most_requests}
-use Rattle.uuspool.specs.ServedLines.{AreServed, IsOneRun, Line, commands_in, in_hand_of}
+use Rattle.uuspool.specs.ServedLines.{AreServed, IsOneRun, ServedLine, commands_asked, in_hand_of}
 use Rattle.uuspool.specs.declared.fault.Fault.{Fault}
 use Rattle.uuspool.specs.declared.fault.Fault.TheVariants as fault
 use Rattle.uuspool_main.specs.declared.stretch.Invocation.{Invocation}
@@ -71,7 +71,7 @@ WasGiven old new Is =
 -- How a batch of these lines may end: with status 0 or with that of a fault of the stream.
 -- Otherwise an answer could not be written, memory ran out, or the batch has no number for a
 -- further line.
-abbrev pub EndsBatch : List Line → Result ℕ Fault → Type 0
+abbrev pub EndsBatch : List ServedLine → Result ℕ Fault → Type 0
 EndsBatch lines (Ok status) = EndsWith None None (λ last. ⊤) status
 EndsBatch lines (Err fault.Write) = ⊤
 EndsBatch lines (Err fault.Memory) = ⊤
@@ -90,20 +90,20 @@ module _ {S : Type 0} {g : Ghosts S} (settings : Settings) (begun ended : Spool 
   -- the request is the line's at this moment, and a fault is one of the line
   abbrev pub IsOfLine : CommandLine → Moment → List ℕ → Result ℕ Fault → Exchange → Type 0
   IsOfLine line at input result exchange =
-      IsOfRequest (λ request. Asks settings at input line (Ok request)) result exchange × IfErr result (IsFaultOfLine settings line at input)
+      IsOfRequest (λ request. LineAsks settings at input line (Ok request)) result exchange × IfErr result (IsFaultOfLine settings line at input)
 
   -- the request is that of the words at this second, and a fault is one of the words
   abbrev pub IsOfWords : List (List ℕ) → ℕ → List ℕ → Result ℕ Fault → Exchange → Type 0
   IsOfWords words now input result exchange =
-      IsOfRequest (λ request. Ask settings words now input (Ok request)) result exchange × IfErr result (IsFaultOf settings words now input)
+      IsOfRequest (λ request. WordsAsk settings words now input (Ok request)) result exchange × IfErr result (IsFaultOf settings words now input)
 
   -- Lines of requests were served, and these are the commands of their requests and the replies.
   -- (Only `batch` says that they are those of standard input, and that the stream was at its end or
   -- had the fault.)
   abbrev pub IsOfLines : Result ℕ Fault → Exchange → Type 0
   IsOfLines result exchange =
-      (lines : List Line) × AllByRecursion IsRequestLine lines × AreServed settings lines begun ended
-      × (it : IsOneRun settings lines begun ended) × (exchange ≡ exchange_of (in_hand_of it.asked) (commands_in it.asked) it.replies it.stopped)
+      (lines : List ServedLine) × AllByRecursion IsRequestLine lines × AreServed settings lines begun ended
+      × (it : IsOneRun settings lines begun ended) × (exchange ≡ exchange_of (in_hand_of it.asked) (commands_asked it.asked) it.replies it.stopped)
       × EndsBatch lines result
 
   -- What the program was invoked for was done, and these are the commands and the replies of its

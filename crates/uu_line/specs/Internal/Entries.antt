@@ -75,7 +75,7 @@ HasSubcommand None = ⊥
 HasSubcommand (Some subcommand) = IsEntered subcommand.0 subcommand.1
 
 -- the entries of a line, with its subcommand
-pub record AreTaken (rows : List Row) (entered : Option (Text × List Row)) : Type 0 where
+pub record AreLineEntries (rows : List Row) (entered : Option (Text × List Row)) : Type 0 where
   pub texts : HaveTexts (codes "config" ∷ codes "as" ∷ []) rows
   pub second : AreNumbersUpTo most_second (texts_at (codes "at") rows)
   pub subcommand : HasSubcommand entered

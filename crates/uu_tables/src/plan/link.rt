@@ -17,7 +17,7 @@ use uu_core::{HandIn, Key, Mark, NewJob, Reply, Taken, decide_forget, decide_que
 use uu_names::SiteName;
 
 // The changes that add a job under this number, and with it the key of a neighbour's job.
-pub(super) fn take_in<'a>(
+pub(super) fn add_queued_once<'a>(
     alloc: Global,
     number: u32,
     from: &'a SiteName,
@@ -57,7 +57,7 @@ pub(crate) fn plan_queue_once<'a>(
 {
     match decide_queue_once(known, next, below, taken, key, job) {
         Ok(HandIn::First(number)) => {
-            let changes = take_in(alloc, number, &key.from, key.number, key.mark, job)?;
+            let changes = add_queued_once(alloc, number, &key.from, key.number, key.mark, job)?;
             Ok(Plan {
                 reply: Reply::Number(number),
                 changes,

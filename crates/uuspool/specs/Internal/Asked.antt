@@ -2,7 +2,7 @@
 use Rattle.std.specs.Prelude.{◌≡◌, ◌==◌, ◌&&◌, ℕ, Bool, true, false, IsTrue, List, [], map, Option, Some, None, Result, Ok, IfOk, All, ⊤}
 use Rattle.sqlite.specs.Store.{Ghosts}
 use Rattle.sqlite.specs.State.{HasCleanDisk}
-use Rattle.uu_bundle.specs.Bundles.{answer_text, with_refused}
+use Rattle.uu_bundle.specs.Bundles.{answer_front_text, text_with_refused}
 use Rattle.uu_bundle.specs.declared.bundle.Heading.{Heading}
 use Rattle.uu_handover.specs.Bundles.{below_of}
 use Rattle.uu_handover.specs.Custody.{parcel_of}
@@ -54,7 +54,7 @@ heading_with from it below = record { from = from; to = it.system; spool = it.sp
 -- the beginning of an answer
 abbrev pub answer_front : List ℕ → Answering → ℕ → State → List ℕ
 answer_front from it below s =
-    with_refused (answer_text (heading_with from it.packing below) (taken_among it.commands (link_of s it.packing.system).taken)) (refused_among it.commands s)
+    text_with_refused (answer_front_text (heading_with from it.packing below) (taken_among it.commands (link_of s it.packing.system).taken)) (refused_among it.commands s)
 
 -- there is a text if the system is known, and it is the bundle's
 abbrev pub IsBundleFor : Bool → (List ℕ → Type 0) → Option (List ℕ) → Type 0

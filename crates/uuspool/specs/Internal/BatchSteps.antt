@@ -5,7 +5,7 @@ use Rattle.sqlite.specs.Store.{Ghosts}
 use Rattle.uu_settings.specs.declared.settings.Settings.{Settings}
 use Rattle.uu_store.specs.declared.spool.Spool.{Spool}
 use Rattle.uuspool.specs.Batch.{EndsWith, IsNext, IsOfStream, IsUntold, answer_of, fault_answer, frame_of}
-use Rattle.uuspool.specs.ServedLines.{Line, goes_on}
+use Rattle.uuspool.specs.ServedLines.{ServedLine, goes_on}
 use Rattle.uuspool.specs.declared.batching.Step.{Step}
 use Rattle.uuspool.specs.declared.batching.Step.TheVariants as step
 use Rattle.uuspool.specs.declared.fault.Fault.{Fault}
@@ -14,9 +14,9 @@ module _ {S : Type 0} {g : Ghosts S} {C : Type 0} (settings : Settings) (Tells :
   -- a request was answered, or the stream ended; or writing the answer failed
   abbrev pub IsBatchStep : Result Step Fault → Type 0
   IsBatchStep (Ok (step.Answered on)) =
-      (line : Line) × IsNext settings Tells failed clock later old new line × Consumes input_before input_after (frame_of line) × Appends output_before output_after (answer_of line)
+      (line : ServedLine) × IsNext settings Tells failed clock later old new line × Consumes input_before input_after (frame_of line) × Appends output_before output_after (answer_of line)
       × (on ≡ goes_on line.result)
   IsBatchStep (Ok (step.Ended status)) = (new ≡ old) × EndsWith input_before input_after (Appends output_before output_after) status
   IsBatchStep (Err why) =
-      ((line : Line) × IsNext settings Tells failed clock later old new line × Consumes input_before input_after (frame_of line) × IsUntold (answer_of line) (Appends output_before output_after) why)
+      ((line : ServedLine) × IsNext settings Tells failed clock later old new line × Consumes input_before input_after (frame_of line) × IsUntold (answer_of line) (Appends output_before output_after) why)
       ⊎ ((new ≡ old) × (cause : Fault) × IsOfStream input_before input_after cause × IsUntold (fault_answer cause) (Appends output_before output_after) why)

@@ -19,13 +19,13 @@ returns-in-Other-clause-adopts g c =
     let a = state g.S.Store c.args.conn.now in
     adopts_other a (found_is a c.schema.result.now c.inspect_schema.result c.schema.ensures.value c.inspect_schema.ensures ∙ c.in-Other.is)
 
-pub returns-in-Nothing-clause-taken : goal.returns-in-Nothing-clause-taken
-returns-in-Nothing-clause-taken g c =
+pub returns-in-Nothing-clause-adopted : goal.returns-in-Nothing-clause-adopted
+returns-in-Nothing-clause-adopted g c =
     let a = state g.S.Store c.args.conn.now in
     taken_none a.now.schema c.create_tables.result (found_is a c.schema.result.now c.inspect_schema.result c.schema.ensures.value c.inspect_schema.ensures ∙ c.in-Nothing.is)
 
-pub returns-in-Spool-clause-taken : goal.returns-in-Spool-clause-taken
-returns-in-Spool-clause-taken g c =
+pub returns-in-Spool-clause-adopted : goal.returns-in-Spool-clause-adopted
+returns-in-Spool-clause-adopted g c =
     let a = state g.S.Store c.args.conn.now in
     taken_some a.now.schema c.in-Spool.tables c.adopt_spool.result (found_is a c.schema.result.now c.inspect_schema.result c.schema.ensures.value c.inspect_schema.ensures ∙ c.in-Spool.is) c.adopt_spool.ensures.half
 

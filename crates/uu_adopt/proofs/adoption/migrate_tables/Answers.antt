@@ -1,13 +1,13 @@
 use Rattle.std.proofs.Common.{refl, arith}
 use Rattle.sqlite.specs.Held.{state}
 use Rattle.uu_schema.specs.Held.{Migrates}
-use Rattle.uu_schema.specs.Schema.{site, site_of}
+use Rattle.uu_schema.specs.Schema.{spool_schema, schema_of}
 use Rattle.uu_adopt.proofs.Becoming.{becomes_ok, becomes_err, migrates_states, halted_unmade, halted_spared}
 use Rattle.uu_adopt.proofs.adoption.migrate_tables.Goals as goal
 
 pub returns-in-Ok-clause-makes : goal.returns-in-Ok-clause-makes
 returns-in-Ok-clause-makes g c = record {
-  becomes = becomes_ok (site_of c.args.from) site (Migrates c.args.from) _ (migrates_states c.args.from) (state g.S.Store c.args.conn.now) (state g.S.Store c.migrate.new.conn) c.migrate.result (rw c.in-Ok.is refl) c.migrate.ensures.whole;
+  becomes = becomes_ok (schema_of c.args.from) spool_schema (Migrates c.args.from) _ (migrates_states c.args.from) (state g.S.Store c.args.conn.now) (state g.S.Store c.migrate.new.conn) c.migrate.result (rw c.in-Ok.is refl) c.migrate.ensures.whole;
   unmade = tt;
   clean = c.migrate.ensures.whole.survives.clean;
 }
@@ -18,7 +18,7 @@ returns-in-Err-clause-makes g c =
     let b = state g.S.Store c.migrate.new.conn in
     let d = state g.S.Store c.halt_fault.new.conn in
     record {
-      becomes = becomes_err (site_of c.args.from) site (Migrates c.args.from) _ (migrates_states c.args.from) a b d c.migrate.result c.halt_fault.result (rw c.in-Err.is refl) c.migrate.ensures.whole c.halt_fault.ensures.memory c.halt_fault.ensures.survives;
+      becomes = becomes_err (schema_of c.args.from) spool_schema (Migrates c.args.from) _ (migrates_states c.args.from) a b d c.migrate.result c.halt_fault.result (rw c.in-Err.is refl) c.migrate.ensures.whole c.halt_fault.ensures.memory c.halt_fault.ensures.survives;
       unmade = halted_unmade a b d c.in-Err.halt c.migrate.result c.halt_fault.result c.in-Err.is c.halt_fault.ensures.fresh c.migrate.ensures.before c.halt_fault.ensures.commit c.halt_fault.ensures.survives;
       clean = omega (arith, c.migrate.ensures.whole.survives.clean, c.halt_fault.ensures.survives.clean);
     }

@@ -1,7 +1,7 @@
 use Rattle.std.proofs.Common.{◌∙◌, ap₂, codes, refl, subst}
 use Rattle.clap.specs.Words.{first_of, found_of, rows_of}
 use Rattle.clap.proofs.WalkLemmas.{first_value-rows}
-use Rattle.uu_line.specs.Lines.{Answers, MeansAnswer, answer_task, has_flag, texts_at}
+use Rattle.uu_line.specs.Lines.{AnswersUnlessMemory, MeansAnswer, answer_task, has_flag, texts_at}
 use Rattle.uu_line.proofs.LineLemmas.{meaning}
 use Rattle.uu_line.proofs.entered.answer_in.Goals as goal
 
@@ -15,5 +15,5 @@ returns c =
     let after = c.after_in-after.result in
     meaning (MeansAnswer rows) c.answer_task.result (answer_task sender onward grade (first_of (codes "spool") rows) after (has_flag (codes "no-jobs") rows))
     (sender, c.text_in-sender.ensures, (grade, c.text_in-grade.ensures, (after, c.after_in-after.ensures, refl)))
-    (subst (Answers c.answer_task.result)
+    (subst (AnswersUnlessMemory c.answer_task.result)
     (ap₂ (λ spool no_jobs. answer_task sender onward grade spool after no_jobs) (c.get_str-spool.ensures ∙ first_value-rows found (codes "spool")) c.has_flag-no_jobs.ensures) c.answer_task.ensures)

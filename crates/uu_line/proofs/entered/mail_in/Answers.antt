@@ -5,7 +5,7 @@ use Rattle.clap.specs.Words.{found_of, rows_of}
 use Rattle.clap.proofs.WalkLemmas.{first_value-rows}
 use Rattle.uu_names.specs.Path.{IsPathText}
 use Rattle.uu_line.specs.Lines.{texts_at}
-use Rattle.uu_line.specs.Lines.{Answers, IsBadAddress, MeansMailOn, MeansMailing, terms_of, mail_by}
+use Rattle.uu_line.specs.Lines.{AnswersUnlessMemory, IsBadAddress, MeansMailOn, MeansMailing, terms_of, mail_by}
 use Rattle.uu_line.specs.declared.fault.LineFault.TheVariants as fault
 use Rattle.uu_line.proofs.LineLemmas.{address_fault, err_weaker, meaning, texts_given}
 use Rattle.uu_line.proofs.entered.mail_in.Goals as goal
@@ -35,7 +35,7 @@ returns-in-Ok-paths_in c =
             (inl (subst (All IsPathText) given.3 c.in-Ok-paths_in.ensures.paths.1, refl)),
       ),
     )
-    (subst (λ texts. Answers c.mail_task.result (mail_by c.in-Ok.terms given.0 texts)) same answers)
+    (subst (λ texts. AnswersUnlessMemory c.mail_task.result (mail_by c.in-Ok.terms given.0 texts)) same answers)
 
 pub returns-in-Err-paths_in : goal.returns-in-Err-paths_in
 returns-in-Err-paths_in c =

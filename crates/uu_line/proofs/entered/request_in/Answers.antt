@@ -1,7 +1,7 @@
 use Rattle.std.proofs.Common.{◌∙◌, codes, refl, subst}
 use Rattle.clap.specs.Words.{first_of, found_of, rows_of}
 use Rattle.clap.proofs.WalkLemmas.{first_value-rows}
-use Rattle.uu_line.specs.Lines.{Answers, MeansFile, file_task}
+use Rattle.uu_line.specs.Lines.{AnswersUnlessMemory, MeansFile, file_task}
 use Rattle.uu_line.specs.declared.task.Task.TheVariants as task
 use Rattle.uu_line.proofs.LineLemmas.{meaning}
 use Rattle.uu_line.proofs.entered.request_in.Goals as goal
@@ -15,5 +15,5 @@ returns c =
     let rows = rows_of (found_of c.args.given.now) in
     meaning (MeansFile task.Request rows) c.request_task.result (file_task task.Request system source target grade (first_of (codes "once") rows))
     (system, c.text_in-system.ensures, (source, c.text_in-source.ensures, (target, c.text_in-target.ensures, (grade, c.text_in-grade.ensures, refl))))
-    (subst (λ once. Answers c.request_task.result (file_task task.Request system source target grade once))
+    (subst (λ once. AnswersUnlessMemory c.request_task.result (file_task task.Request system source target grade once))
     (c.get_str.ensures ∙ first_value-rows (found_of c.args.given.now) (codes "once")) c.request_task.ensures)

@@ -4,7 +4,7 @@ use Rattle.clap.specs.Words.{App, is_simple, is_simple_and_free, fault_of, match
 use Rattle.clap.specs.Kinds.{IsAmong}
 use Rattle.uu_line.specs.Commands.{program}
 use Rattle.uu_line.proofs.ProgramLemmas.{program_is_simple, program_is_free}
-use Rattle.uu_line.proofs.LineLemmas.{IsWordsOf-weaker}
+use Rattle.uu_line.proofs.LineLemmas.{IsWordsOf_weaker}
 use Rattle.uu_line.proofs.line.entries_of.Goals as goal
 
 pub returns-in-Ok-clause-entries : goal.returns-in-Ok-clause-entries
@@ -20,7 +20,7 @@ returns-in-Err-clause-refused c =
     let words = map string_bytes c.args.words.now in
     let same = c.in_ok-program_command.ensures in
     let kinds = c.in-Err.ensures.kinds (ap is_simple_and_free same ∙ program_is_free) in
-    IsWordsOf-weaker _ _ c.refused.result (λ kind (is, other). elim kinds [
+    IsWordsOf_weaker _ _ c.refused.result (λ kind (is, other). elim kinds [
       | inl memory ↦ absurd (other (is ∙ memory))
       | inr among ↦ subst (λ k. IsAmong k (fault_of program words)) (sym is) (subst (IsAmong (kind_of c.in-Err.error)) (ap (λ (a : App). fault_of a words) same) among)
     ]) c.refused.ensures

@@ -1,6 +1,6 @@
 use Rattle.std.proofs.Common.{◌≡◌, ◌&&◌, ap, sym, ◌∙◌, true, false, rules, drop}
 use Rattle.uu_map.specs.Split.{is_newline, begins_line, begins_entry}
-use Rattle.uu_map.proofs.Splits.{found_goes_on, found_begins, line-next, line-same, begins_line-next}
+use Rattle.uu_map.proofs.Splits.{found_goes_on, found_begins, line_next, line_same, begins_line_next}
 use Rattle.uu_map.proofs.splitter.entries_of.Goals as goal
 use Rattle.uu_map.proofs.splitter.entries_of.Goals.{then-begins_line+then-begins_entry+in_ok-end_entry, else-begins_line, else-begins_line-via-then-begins_line+else-begins_entry, else-begins_line-via-else-begins_line, then-begins_line-2, else-begins_line-2}
 
@@ -24,8 +24,8 @@ loop-at-preserved c =
             rw (w.entries-is, w.start-is) (found_goes_on text c.loop-at.entries.items c.loop-at.start at c.loop-at-test.true not_here old.found)
       ];
       line = elim c.if-begins_line-2.branch [
-        | then-begins_line-2 w ↦ w.line-is ∙ line-next text at c.loop-at.line c.loop-at-test.true (ap is_newline w.if-begins_line-2.true) old.line
-        | else-begins_line-2 w ↦ w.line-is ∙ line-same text at c.loop-at.line c.loop-at-test.true (search rules) old.line
+        | then-begins_line-2 w ↦ w.line-is ∙ line_next text at c.loop-at.line c.loop-at-test.true (ap is_newline w.if-begins_line-2.true) old.line
+        | else-begins_line-2 w ↦ w.line-is ∙ line_same text at c.loop-at.line c.loop-at-test.true (search rules) old.line
       ];
-      begins = begins_line-next text at;
+      begins = begins_line_next text at;
     }

@@ -6,7 +6,7 @@ use Rattle.uu_names.specs.declared.fault.NameFault.TheVariants.{NoEnvelope}
 use Rattle.uu_names.specs.ReturnPath.{raw_lines, Stops, first_marker, later_marker}
 use Rattle.uu_names.specs.Internal.NextLine.{BeginsWithSender}
 use Rattle.uu_names.specs.Path.{IsPathText, IsPathFault}
-use Rattle.uu_names.proofs.ReturnRuns.{fault-no_way}
+use Rattle.uu_names.proofs.ReturnRuns.{fault_no_way}
 use Rattle.uu_names.proofs.ReturnLoop.{HasRead, read_none, read_more, no_envelope, has_way, is_return_path, is_return_fault}
 use Rattle.uu_names.proofs.return_paths.return_path.Goals as goal
 
@@ -31,7 +31,7 @@ loop-found-preserved c =
 pub returns-then-body-eq0-clause-refused : goal.returns-then-body-eq0-clause-refused
 returns-then-body-eq0-clause-refused c =
     let stops = stopped c.args.message.now c.loop-found.marker.now c.loop-found.body c.in_default.ensures in
-    fault-no_way c.args.message.now NoEnvelope (no_envelope c.args.message.now _ _ _ c.loop-found.body c.loop-found.invariant stops c.if-body-eq0.true)
+    fault_no_way c.args.message.now NoEnvelope (no_envelope c.args.message.now _ _ _ c.loop-found.body c.loop-found.invariant stops c.if-body-eq0.true)
 
 pub returns-in_err-path-clause-fault : goal.returns-in_err-path-clause-fault
 returns-in_err-path-clause-fault c =
@@ -48,7 +48,7 @@ returns-in_err-path-clause-refused c =
     let text : c.deref.result.now ≡ c.loop-found.way.items ++ c.loop-found.user.now = c.deref.ensures.value ∙ c.in_ok-extend_from_slice-2.ensures.items in
     let p = err_from_is_err_and c.from_residual-in_err-path.result c.from_residual-in_err-path.ensures.1 in
     let fault = is_return_fault c.args.message.now _ _ c.loop-found.body c.in_err-path.field-0.0 way (subst (λ (t : List ℕ). IsPathFault t c.in_err-path.field-0.0) text c.in_err-path.ensures.fault) in
-    rw (p.1, p.2) (fault-no_way c.args.message.now c.in_err-path.field-0.0 fault)
+    rw (p.1, p.2) (fault_no_way c.args.message.now c.in_err-path.field-0.0 fault)
 
 pub returns-clause-path : goal.returns-clause-path
 returns-clause-path c =

@@ -6,7 +6,7 @@ use Rattle.std.proofs.lemmas.List.Sums.{suffix_len-le-length}
 use Rattle.uu_names.specs.Name.{is_site_name}
 use Rattle.uu_names.specs.ReturnPath.{is_no_space}
 use Rattle.uu_names.proofs.PathScan.{form_some}
-use Rattle.uu_names.proofs.ReturnSenders.{leading-from, is_read, ReadsAs, reads_as, remote}
+use Rattle.uu_names.proofs.ReturnSenders.{leading_from, is_read, ReadsAs, reads_as, remote}
 use Rattle.uu_names.proofs.return_paths.sender.Goals as goal
 use Rattle.uu_names.proofs.return_paths.sender.Goals.{then-is_empty-via-then-is_empty, then-is_empty-via-else-is_empty+then-not-ends_with, then-is_empty-via-else-is_empty+else-not-ends_with+then-not-is_site_name}
 
@@ -52,6 +52,6 @@ returns-then-is_empty c sender leading =
 pub returns : goal.returns
 returns c =
     let some : 0 < length c.split_at.result.0.now = grind (arith, nat_tests, c.is_empty.ensures, c.if-is_empty.false) in
-    leading-from c.args.marker.now c.args.line.now c.in_ok-rest.rest.now _ _ _ _ c.in_ok-user_len.user_len (length c.split_at.result.1.now - c.last_word_len.result)
+    leading_from c.args.marker.now c.args.line.now c.in_ok-rest.rest.now _ _ _ _ c.in_ok-user_len.user_len (length c.split_at.result.1.now - c.last_word_len.result)
     c.in_ok-rest.ensures.cases.0 c.in_ok-rest.ensures.cases.1 c.in_ok-user_len.ensures c.split_at.ensures.front c.split_at.ensures.back c.split_at-2.ensures.front c.split_at-2.ensures.back
     some (sym c.ends_with.ensures.value ∙ c.if-not-ends_with.false) (sym c.is_site_name.ensures ∙ c.if-not-is_site_name.false)

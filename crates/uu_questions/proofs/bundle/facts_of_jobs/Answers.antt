@@ -1,6 +1,6 @@
 use Rattle.std.proofs.Common.{◌∙◌, length, map, refl, ap, arith}
 use Rattle.std.proofs.lemmas.List.{take_all}
-use Rattle.uu_tables.specs.TakingPlans.{fact_of}
+use Rattle.uu_tables.specs.TakeInPlans.{fact_of}
 use Rattle.uu_questions.proofs.Asking.{asks_as, asks_both, asks_beside, asks_refused}
 use Rattle.uu_questions.proofs.Offers.{mapped_more, one_longer}
 use Rattle.uu_questions.proofs.bundle.facts_of_jobs.Goals as goal

@@ -1,7 +1,7 @@
 use Rattle.std.proofs.Common.{◌≡◌, map, take, length, Ok}
 use Rattle.std.specs.Prelude.{ℕ}
 use Rattle.uu_core.specs.State.{has_system}
-use Rattle.uu_tables.specs.TakingPlans.{fact_of}
+use Rattle.uu_tables.specs.TakeInPlans.{fact_of}
 use Rattle.uu_questions.specs.Answers.{Asks}
 use Rattle.uu_questions.proofs.bundle.facts_of_jobs.Given as goal
 

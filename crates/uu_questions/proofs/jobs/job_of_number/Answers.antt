@@ -2,7 +2,7 @@ use Rattle.std.proofs.Common.{◌≡◌, Ok, None, IfSome, length, option_map, s
 use Rattle.std.proofs.lemmas.Result.{IfOk-weaker}
 use Rattle.sqlite.specs.Held.{state}
 use Rattle.uu_core.specs.State.{job_at}
-use Rattle.uu_questions.specs.Listing.{handed_out, whole}
+use Rattle.uu_questions.specs.Listing.{handed_out, head_and_bytes}
 use Rattle.uu_questions.proofs.Answering.{then_answers, answers_as, answer_in, both_ok, none_ok, none_answered}
 use Rattle.uu_rows.proofs.Showing.{answered}
 use Rattle.uu_questions.proofs.JobBytes.{handed, not_there}
@@ -15,7 +15,7 @@ returns-clause-answers g c =
     let d = state g.S.Store c.bytes_of_job.new.conn in
     then_answers _ a b c.head_of_job.result c.head_of_job.ensures.answers (answered _ _ c.in_ok-head.was) _ d c.bytes_of_job.result c.bytes_of_job.ensures.answers _ c.whole_job.result (λ ok. answered _ _ c.in_ok-bytes.was)
     (λ s good h k. IfOk-weaker c.whole_job.result _ _
-    (λ found is. subst (λ o. option_map handed_out o ≡ option_map whole (job_at s c.args.number)) (sym is)
+    (λ found is. subst (λ o. option_map handed_out o ≡ option_map head_and_bytes (job_at s c.args.number)) (sym is)
     (handed s c.args.number c.in-Some.head c.in_ok-bytes.bytes good (sym c.in-Some.is ∙ answer_in _ c.head_of_job.result _ c.in_ok-head.was h) (answer_in _ c.bytes_of_job.result _ c.in_ok-bytes.was k)))
     c.whole_job.ensures.job)
 

@@ -5,7 +5,7 @@ use Rattle.sqlite.specs.Held.{state}
 use Rattle.sqlite.specs.Values.{bound}
 use Rattle.sqlite.specs.Given.{HasGiven}
 use Rattle.uu_schema.specs.Steps.{Stands, Ready}
-use Rattle.uu_schema.specs.Schema.{site}
+use Rattle.uu_schema.specs.Schema.{spool_schema}
 use Rattle.uu_questions.specs.Walks.{Took}
 use Rattle.uu_questions.proofs.walk.walk_rows.Given as goal
 
@@ -15,5 +15,5 @@ invariant-rows g l =
     let now = state g.S.Store l.rows.conn.now in
     (l.rows.conn.ghost_name ≡ l.initial.rows.conn.ghost_name)
     × (l.fn.conn.in_transaction ≡ false → l.rows.conn.now.in_transaction ≡ false)
-    × Survives old now (λ _. ¬ Ready site old)
-    × (HasCleanDisk now → Stands site old.now → (given : List Row) × HasGiven g.S.Store l.sql (bound l.params) l.rows.conn.now given × IsUnchanged old now × Took g.T.RowTaker.takes l.fn.taker given l.taker)
+    × Survives old now (λ _. ¬ Ready spool_schema old)
+    × (HasCleanDisk now → Stands spool_schema old.now → (given : List Row) × HasGiven g.S.Store l.sql (bound l.params) l.rows.conn.now given × IsUnchanged old now × Took g.T.RowTaker.takes l.fn.taker given l.taker)

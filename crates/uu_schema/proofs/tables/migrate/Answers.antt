@@ -1,6 +1,6 @@
 use Rattle.std.proofs.Common.{◌≡◌, subst, rules}
 use Rattle.uu_schema.specs.Statements.{Transacts}
-use Rattle.uu_schema.specs.Schema.{site, site_of}
+use Rattle.uu_schema.specs.Schema.{spool_schema, schema_of}
 use Rattle.uu_schema.specs.Held.{Migrates}
 use Rattle.uu_schema.proofs.Statements.{transacted, dropped}
 use Rattle.uu_schema.proofs.tables.migrate.Goals as goal
@@ -9,7 +9,7 @@ pub returns : goal.returns
 returns g c =
     let end = c.commit.new.self.0 in
     let same : end ≡ c.conn-2-1.given.0 = search rules in
-    subst (λ h. Transacts g.S.Store (site_of c.args.from) site (Migrates c.args.from) c.args.conn.now h c.map_err.result) same
+    subst (λ h. Transacts g.S.Store (schema_of c.args.from) spool_schema (Migrates c.args.from) c.args.conn.now h c.map_err.result) same
     (transacted c.args.conn.now c.transaction-tx.result.conn.now c.migrate_tables.new.tx.conn.now end c.transaction-tx.ensures.begun c.commit.ensures.ended (g.met.S.Store.settled end.store) c.commit.result c.map_err.result
     c.in_ok-migrate_tables.ensures.outcome c.commit.ensures.survives c.commit.ensures.ok c.commit.ensures.err (search rules) (λ error early. search rules))
 
@@ -17,6 +17,6 @@ pub returns-in_err-migrate_tables : goal.returns-in_err-migrate_tables
 returns-in_err-migrate_tables g c =
     let end = c.drop-tx.new.self.0 in
     let same : end ≡ c.conn-1.given.0 = search rules in
-    subst (λ h. Transacts g.S.Store (site_of c.args.from) site (Migrates c.args.from) c.args.conn.now h c.from_residual.result) same
+    subst (λ h. Transacts g.S.Store (schema_of c.args.from) spool_schema (Migrates c.args.from) c.args.conn.now h c.from_residual.result) same
     (dropped c.args.conn.now c.transaction-tx.result.conn.now c.migrate_tables.new.tx.conn.now end c.transaction-tx.ensures.begun c.drop-tx.ensures.ended (g.met.S.Store.settled end.store) c.from_residual.result c.from_residual.ensures.0
     c.migrate_tables.ensures.outcome.kept c.migrate_tables.ensures.outcome.survives c.drop-tx.ensures.undone c.drop-tx.ensures.survives)

@@ -1,5 +1,5 @@
 use Rattle.std.proofs.Common.{◌≡◌, subst, rules}
-use Rattle.uu_schema.specs.Schema.{site}
+use Rattle.uu_schema.specs.Schema.{spool_schema}
 use Rattle.uu_schema.specs.Statements.{Transacts}
 use Rattle.uu_schema.proofs.Statements.{transacted, dropped}
 use Rattle.uu_statements.specs.Makes.{MakesAll}
@@ -9,7 +9,7 @@ pub returns : goal.returns
 returns g c =
     let end = c.commit.new.self.0 in
     let same : end ≡ c.conn-2-1.given.0 = search rules in
-    subst (λ h. Transacts g.S.Store site site (MakesAll c.args.changes.now) c.args.conn.now h c.map_err.result) same
+    subst (λ h. Transacts g.S.Store spool_schema spool_schema (MakesAll c.args.changes.now) c.args.conn.now h c.map_err.result) same
     (transacted c.args.conn.now c.transaction-tx.result.conn.now c.write_all.new.tx.conn.now end c.transaction-tx.ensures.begun c.commit.ensures.ended (g.met.S.Store.settled end.store) c.commit.result c.map_err.result
     c.in_ok-write_all.ensures.outcome c.commit.ensures.survives c.commit.ensures.ok c.commit.ensures.err (search rules) (λ error early. search rules))
 
@@ -17,6 +17,6 @@ pub returns-in_err-write_all : goal.returns-in_err-write_all
 returns-in_err-write_all g c =
     let end = c.drop-tx.new.self.0 in
     let same : end ≡ c.conn-1.given.0 = search rules in
-    subst (λ h. Transacts g.S.Store site site (MakesAll c.args.changes.now) c.args.conn.now h c.from_residual.result) same
+    subst (λ h. Transacts g.S.Store spool_schema spool_schema (MakesAll c.args.changes.now) c.args.conn.now h c.from_residual.result) same
     (dropped c.args.conn.now c.transaction-tx.result.conn.now c.write_all.new.tx.conn.now end c.transaction-tx.ensures.begun c.drop-tx.ensures.ended (g.met.S.Store.settled end.store) c.from_residual.result c.from_residual.ensures.0
     c.write_all.ensures.outcome.kept c.write_all.ensures.outcome.survives c.drop-tx.ensures.undone c.drop-tx.ensures.survives)

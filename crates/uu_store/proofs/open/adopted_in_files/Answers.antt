@@ -5,19 +5,19 @@ use Rattle.uu_store.proofs.Opening.{started_shows, started_never_other, started_
 use Rattle.uu_store.proofs.open.adopted_in_files.Goals as goal
 
 pub returns-in-Ok-clause-started : goal.returns-in-Ok-clause-started
-returns-in-Ok-clause-started g c before found = record { opened = c.args.conn; found = found; adopted = c.in-Ok.ensures.taken.adopted; taken = c.in-Ok.ensures.taken.taken_by_tables; encoded = c.in-Ok.ensures.taken.encoded_before }
+returns-in-Ok-clause-started g c before found = record { opened = c.args.conn; found = found; adopted = c.in-Ok.ensures.adopted.adopted; taken = c.in-Ok.ensures.adopted.adopted_by_tables; encoded = c.in-Ok.ensures.adopted.encoded_before }
 
 pub returns-in-Ok-clause-shows : goal.returns-in-Ok-clause-shows
-returns-in-Ok-clause-shows g c before found = started_shows over_files before c.args.conn found c.in-Ok.spool c.in-Ok.ensures.taken.adopted
+returns-in-Ok-clause-shows g c before found = started_shows over_files before c.args.conn found c.in-Ok.spool c.in-Ok.ensures.adopted.adopted
 
 pub returns-in-Ok-clause-alone : goal.returns-in-Ok-clause-alone
 returns-in-Ok-clause-alone g c before found clean s keeps = c.in-Ok.ensures.alone s (returns-in-Ok-clause-shows g c before found clean s keeps)
 
 pub returns-in-Ok-clause-never_other : goal.returns-in-Ok-clause-never_other
-returns-in-Ok-clause-never_other g c before found = started_never_other over_files before c.args.conn found c.in-Ok.spool c.in-Ok.ensures.taken.adopted c.in-Ok.ensures.taken.taken_by_tables
+returns-in-Ok-clause-never_other g c before found = started_never_other over_files before c.args.conn found c.in-Ok.spool c.in-Ok.ensures.adopted.adopted c.in-Ok.ensures.adopted.adopted_by_tables
 
 pub returns-in-Ok-clause-left_same : goal.returns-in-Ok-clause-left_same
-returns-in-Ok-clause-left_same g c before found = started_same over_files before c.args.conn found c.in-Ok.spool c.in-Ok.ensures.taken.adopted c.in-Ok.ensures.taken.stop_when_taken
+returns-in-Ok-clause-left_same g c before found = started_same over_files before c.args.conn found c.in-Ok.spool c.in-Ok.ensures.adopted.adopted c.in-Ok.ensures.adopted.stop_when_adopted
 
 pub returns-in-Err-clause-named : goal.returns-in-Err-clause-named
 returns-in-Err-clause-named g c before found =

@@ -1,13 +1,13 @@
 use Rattle.uu_times.specs.Grammar.{lower}
-use Rattle.uu_times.proofs.GrammarFronts.{unread-longest, spelled-minutes}
-use Rattle.uu_times.proofs.GrammarLemmas.{lists-read}
-use Rattle.uu_times.proofs.GrammarReads.{reads-lists}
+use Rattle.uu_times.proofs.GrammarFronts.{unread_longest, spelled-minutes}
+use Rattle.uu_times.proofs.GrammarLemmas.{lists_read}
+use Rattle.uu_times.proofs.GrammarReads.{reads_lists}
 use Rattle.uu_times.proofs.laws.lists_are_what_is_written.Goals as goal
 
 pub returns : goal.returns
 returns c = record {
-  written = λ text spellings spells. lists-read (lower text) spellings spells;
-  read = λ text simples same. let found = reads-lists (lower text) simples same in (found.spellings, found.spells, found.are);
+  written = λ text spellings spells. lists_read (lower text) spellings spells;
+  read = λ text simples same. let found = reads_lists (lower text) simples same in (found.spellings, found.spells, found.are);
   minutes = spelled-minutes;
-  unread = unread-longest;
+  unread = unread_longest;
 }

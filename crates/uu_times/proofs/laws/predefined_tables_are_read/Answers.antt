@@ -1,5 +1,5 @@
-use Rattle.uu_times.proofs.Predefined.{all-read}
+use Rattle.uu_times.proofs.Predefined.{all_read}
 use Rattle.uu_times.proofs.laws.predefined_tables_are_read.Goals as goal
 
 pub returns : goal.returns
-returns c = all-read
+returns c = all_read

@@ -1,5 +1,5 @@
-use Rattle.uu_times.proofs.TableLemmas.{table-known}
+use Rattle.uu_times.proofs.TableLemmas.{table_known}
 use Rattle.uu_times.proofs.laws.the_last_timetable_counts.Goals as goal
 
 pub returns : goal.returns
-returns c = table-known
+returns c = table_known

@@ -2,7 +2,7 @@ use Rattle.std.proofs.Common.{◌≡◌, ◌+◌, ◌++◌, ◌∷◌, ℕ, List
 use Rattle.std.proofs.lemmas.Bool.{and_parts}
 use Rattle.std.specs.Str.Lines.{lines}
 use Rattle.uu_times.specs.Lines.{Numbered, is_continued, kept_part, joined_onto, joined}
-use Rattle.uu_times.proofs.LineLemmas.{joined-start, joined-more, joined-last, free-last}
+use Rattle.uu_times.proofs.LineLemmas.{joined_start, joined-more, joined_last, free_last}
 use Rattle.uu_times.proofs.lines.joined_line.Goals as goal
 
 pub loop-line-init : goal.loop-line-init
@@ -11,7 +11,7 @@ loop-line-init c =
     let rest = lines c.first_line.result.1.now in (
       λ number.
           ap (λ (front : List ℕ). joined_onto number front (joined (number + 0) (next ∷ rest))) c.new-line.ensures.items
-          ∙ joined-start number next rest
+          ∙ joined_start number next rest
           ∙ ap (joined number) (sym c.first_line.ensures.lines),
       omega arith,
     )
@@ -40,6 +40,6 @@ returns-clause-line c = λ number.
     let next = c.loop-line.next.now in
     let rest = c.loop-line.rest.now in
     sym (c.loop-line.invariant.0 number)
-    ∙ joined-last number before front next (lines rest) (free-last next rest (sym c.is_joined.ensures ∙ c.loop-line-test.false))
+    ∙ joined_last number before front next (lines rest) (free_last next rest (sym c.is_joined.ensures ∙ c.loop-line-test.false))
     ∙ ap (λ (items : List ℕ). let first : Numbered = record { number = number; line = items } in first ∷ joined (number + (before + 1)) (lines rest))
     (sym (c.in_ok-extend_from_slice-2.ensures.items ∙ ap (λ kept. front ++ kept) c.kept_part-2.ensures))

@@ -1,8 +1,8 @@
-use Rattle.uu_times.proofs.PrintedText.{parts-text, ok-later}
+use Rattle.uu_times.proofs.PrintedText.{parts_text, ok_later}
 use Rattle.uu_times.proofs.printed.push_parts.Goals as goal
 
 pub returns : goal.returns
 returns c =
-    ok-later c.push_day-3.result
-    (λ last. parts-text c.args.text.now.items c.push_day.new.text.items c.push_day-2.new.text.items c.push_day-3.new.text.items c.args.ranges.now c.in_ok-push_day.ensures c.in_ok-push_day-2.ensures last)
+    ok_later c.push_day-3.result
+    (λ last. parts_text c.args.text.now.items c.push_day.new.text.items c.push_day-2.new.text.items c.push_day-3.new.text.items c.args.ranges.now c.in_ok-push_day.ensures c.in_ok-push_day-2.ensures last)
     c.push_day-3.ensures

@@ -1,26 +1,26 @@
 use Rattle.std.proofs.Common.{sym, ◌∙◌, [], ◌∷◌}
 use Rattle.uu_times.specs.Grammar.{any}
 use Rattle.uu_times.specs.Printed.{days_of_week, weekdays_and_ends}
-use Rattle.uu_times.proofs.PrintedText.{ok-later, grouped, one-text, groups-days, groups-any, groups-parts}
+use Rattle.uu_times.proofs.PrintedText.{ok_later, grouped, one_text, groups_days, groups_any, groups_parts}
 use Rattle.uu_times.proofs.printed.push_week.Goals as goal
 
 pub returns-then-not-branch : goal.returns-then-not-branch
 returns-then-not-branch c =
-    ok-later c.push_days.result
-    (grouped c.args.text.now.items c.push_days.new.text.items c.args.ranges.now days_of_week (groups-days c.args.ranges.now (sym c.in_ok-weekdays_alike.ensures ∙ c.if-not-branch.true)))
+    ok_later c.push_days.result
+    (grouped c.args.text.now.items c.push_days.new.text.items c.args.ranges.now days_of_week (groups_days c.args.ranges.now (sym c.in_ok-weekdays_alike.ensures ∙ c.if-not-branch.true)))
     c.push_days.ensures
 
 pub returns-then-branch : goal.returns-then-branch
 returns-then-branch c =
-    ok-later c.push_day.result
+    ok_later c.push_day.result
     (λ last. grouped c.args.text.now.items c.push_day.new.text.items c.args.ranges.now ((any, 0) ∷ [])
-    (groups-any c.args.ranges.now (sym c.in_ok-weekdays_alike.ensures ∙ c.if-not-branch.false) (sym c.in_ok-ends_alike.ensures ∙ c.if-branch.true))
-    (one-text c.args.text.now.items c.push_day.new.text.items c.args.ranges.now (any, 0) last))
+    (groups_any c.args.ranges.now (sym c.in_ok-weekdays_alike.ensures ∙ c.if-not-branch.false) (sym c.in_ok-ends_alike.ensures ∙ c.if-branch.true))
+    (one_text c.args.text.now.items c.push_day.new.text.items c.args.ranges.now (any, 0) last))
     c.push_day.ensures
 
 pub returns : goal.returns
 returns c =
-    ok-later c.push_parts.result
+    ok_later c.push_parts.result
     (grouped c.args.text.now.items c.push_parts.new.text.items c.args.ranges.now weekdays_and_ends
-    (groups-parts c.args.ranges.now (sym c.in_ok-weekdays_alike.ensures ∙ c.if-not-branch.false) (sym c.in_ok-ends_alike.ensures ∙ c.if-branch.false)))
+    (groups_parts c.args.ranges.now (sym c.in_ok-weekdays_alike.ensures ∙ c.if-not-branch.false) (sym c.in_ok-ends_alike.ensures ∙ c.if-branch.false)))
     c.push_parts.ensures

@@ -5,7 +5,7 @@ use Rattle.std.proofs.lemmas.List.Elements.{All-more}
 use Rattle.uu_times.specs.System.{System}
 use Rattle.uu_times.specs.SysFile.{sys_file_of}
 use Rattle.uu_times.specs.Printed.{system_text, IsSystem}
-use Rattle.uu_times.proofs.PrintedSystems.{printed-read}
+use Rattle.uu_times.proofs.PrintedSystems.{printed_read}
 use Rattle.uu_times.proofs.PrintedText.{grow}
 use Rattle.uu_times.proofs.printed.write_sys.Goals as goal
 
@@ -21,4 +21,4 @@ loop-system-preserved c =
 pub returns-clause-read : goal.returns-clause-read
 returns-clause-read c =
     let whole = take_all c.loop-system.system-index c.args.systems.now c.loop-system-test.false in
-    λ differ. ap sys_file_of (c.loop-system.invariant.0 ∙ ap (flat_map system_text) whole) ∙ printed-read c.args.systems.now (subst (All IsSystem) whole c.loop-system.invariant.1) differ
+    λ differ. ap sys_file_of (c.loop-system.invariant.0 ∙ ap (flat_map system_text) whole) ∙ printed_read c.args.systems.now (subst (All IsSystem) whole c.loop-system.invariant.1) differ

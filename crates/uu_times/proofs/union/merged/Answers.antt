@@ -1,6 +1,6 @@
 use Rattle.std.proofs.Common.{◌-◌, ◌++◌, add-one, ap, drop, length, suc, take, ◌∙◌}
 use Rattle.uu_times.specs.Internal.Union.{merged_from, merged}
-use Rattle.uu_times.proofs.UnionLemmas.{goes-on, stands-apart}
+use Rattle.uu_times.proofs.UnionLemmas.{goes-on, stands_apart}
 use Rattle.uu_times.proofs.union.merged.Goals as goal
 use Rattle.uu_times.proofs.union.merged.Goals.{then-range-run, else-range-run+in_ok-push}
 
@@ -15,5 +15,5 @@ loop-range-preserved c =
           ∙ goes-on c.loop-range.runs.items c.loop-range.run rest i (0, 0) (merged c.args.sorted.now) c.loop-range-test.true w.if-range-run.true c.loop-range.invariant)
       | else-range-run+in_ok-push w ↦
           rw (add-one, w.runs-is, w.run-is, w.in_ok-push.ensures.items)
-          (stands-apart c.loop-range.runs.items c.loop-range.run rest i (0, 0) (merged c.args.sorted.now) c.loop-range-test.true w.if-range-run.false c.loop-range.invariant)
+          (stands_apart c.loop-range.runs.items c.loop-range.run rest i (0, 0) (merged c.args.sorted.now) c.loop-range-test.true w.if-range-run.false c.loop-range.invariant)
     ]

@@ -4,10 +4,10 @@ use Rattle.std.specs.Io.KnownBytes.{Appends}
 use Rattle.uu_core.specs.Due.{all_due}
 use Rattle.uu_core.specs.declared.job.JobHead.{JobHead}
 use Rattle.uu_core.specs.declared.system.SystemRow.{SystemRow}
-use Rattle.uu_questions.specs.Listing.{listed}
+use Rattle.uu_questions.specs.Listing.{listed_jobs}
 use Rattle.uu_report.specs.Reports.{due_text}
 use Rattle.uu_request.specs.declared.request.Question.TheVariants as question
-use Rattle.uuspool.proofs.ServedLemmas.{Answers, Appends-nothing, fault_goes_on, printed, question_served}
+use Rattle.uuspool.proofs.ServedLemmas.{Answers, Appends_nothing, fault_goes_on, printed, question_served}
 use Rattle.uuspool.proofs.answer.due_jobs.Goals as goal
 
 pub returns : goal.returns
@@ -24,7 +24,7 @@ returns g c =
     (λ output is clean s shown.
     let found = c.in_ok-systems.ensures.answer clean s shown in
     let systems : rows ≡ s.systems = c.deref.ensures.value ∙ found.0 in
-    let fitting : jobs ≡ listed c.args.filter.now s = c.deref-2.ensures.value ∙ found.1 in
+    let fitting : jobs ≡ listed_jobs c.args.filter.now s = c.deref-2.ensures.value ∙ found.1 in
     (is ∙ ap₂ (λ (all : List SystemRow) (heads : List JobHead). flat_map due_text (all_due all heads c.args.at.now)) systems fitting, refl))
     c.print.ensures.printed c.print.ensures.status c.print.ensures.fault c.print.ensures.cut c.print.ensures.nothing c.due_jobs_text.ensures)
 
@@ -33,4 +33,4 @@ returns-in_err-systems g c =
     let asked = c.in_err-systems.ensures in
     fault_goes_on c.args.settings.now (question.AllDue c.args.filter.now c.args.at.now) c.args.spool.now c.systems_and_jobs.new.spool
     (λ output. Appends (g.W.Write.contents c.args.out.now) (g.W.Write.contents c.args.out.now) output) c.from_residual.result c.in_err-systems.field-0.0 c.from_residual.ensures.1
-    asked.ran asked.marked asked.failed (Appends-nothing (g.W.Write.contents c.args.out.now))
+    asked.ran asked.marked asked.failed (Appends_nothing (g.W.Write.contents c.args.out.now))

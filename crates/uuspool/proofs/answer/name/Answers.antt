@@ -2,7 +2,7 @@ use Rattle.std.proofs.Common.{◌≡◌, ◌∷◌, [], List, ℕ, refl}
 use Rattle.std.specs.Io.KnownBytes.{Appends}
 use Rattle.uu_report.specs.Reports.{line_of}
 use Rattle.uu_request.specs.declared.request.Question.TheVariants as question
-use Rattle.uuspool.proofs.ServedLemmas.{Answers, Appends-nothing, fault_goes_on, printed, question_served}
+use Rattle.uuspool.proofs.ServedLemmas.{Answers, Appends_nothing, fault_goes_on, printed, question_served}
 use Rattle.uuspool.proofs.answer.name.Goals as goal
 
 pub returns : goal.returns
@@ -19,4 +19,4 @@ returns-in_err-next g c =
     let asked = c.in_err-next.ensures.question in
     fault_goes_on c.args.settings.now question.Name c.args.spool.now c.next.new.self
     (λ output. Appends (g.W.Write.contents c.args.out.now) (g.W.Write.contents c.args.out.now) output) c.from_residual.result c.in_err-next.field-0.0 c.from_residual.ensures.1
-    asked.ran asked.marked (λ had. (asked.failed had).1) (Appends-nothing (g.W.Write.contents c.args.out.now))
+    asked.ran asked.marked (λ had. (asked.failed had).1) (Appends_nothing (g.W.Write.contents c.args.out.now))

@@ -11,7 +11,7 @@ use Rattle.uu_request.specs.declared.request.Question.TheVariants as question
 use Rattle.uuspool.specs.Answers.{no_entry}
 use Rattle.uuspool.specs.declared.fault.Fault.TheVariants as fault
 use Rattle.uuspool.proofs.AnswerLemmas.{as_broken_off, entry_shown, has_fault, kept_is_readable, no_entry_shown}
-use Rattle.uuspool.proofs.ServedLemmas.{Answers, Appends-nothing, marked_is_of_call, marks_of_call, never_failed, noted_of_call, printed, question_served, question_unanswered}
+use Rattle.uuspool.proofs.ServedLemmas.{Answers, Appends_nothing, marked_is_of_call, marks_of_call, never_failed, noted_of_call, printed, question_served, question_unanswered}
 use Rattle.uuspool.proofs.answer.neighbours.Goals as goal
 
 pub returns-in-Ok : goal.returns-in-Ok
@@ -30,7 +30,7 @@ pub returns-in-Memory : goal.returns-in-Memory
 returns-in-Memory g c =
     question_served c.args.settings.now (question.Entry c.args.host.now) c.args.spool.now c.entry.new.self
     (λ output. Appends (g.W.Write.contents c.args.out.now) (g.W.Write.contents c.args.out.now) output) (Err fault.Memory) c.in-Ok-Some.ensures.question.ran c.in-Ok-Some.ensures.question.marked
-    (λ clean s shown. (c.in-Ok-Some.ensures.question.answer clean s shown).1) (Appends-nothing (g.W.Write.contents c.args.out.now))
+    (λ clean s shown. (c.in-Ok-Some.ensures.question.answer clean s shown).1) (Appends_nothing (g.W.Write.contents c.args.out.now))
 
 pub returns-in-Ok-None : goal.returns-in-Ok-None
 returns-in-Ok-None g c =
@@ -53,11 +53,11 @@ returns-in-Ok-Some g c =
     (sym (ap (option_map (λ (text : Vec ℕ Global). text.items)) c.in-Ok-Some.field-0-is) ∙ (c.in-Ok-Some.ensures.question.answer clean s shown).0)
     (subst (λ text. host_of text ≡ Err c.in-Err-read_entry.fault) c.deref.ensures.value
     (has_fault c.deref.result.now c.in-Err-read_entry.fault c.in-Err-read_entry.ensures.answer c.in_default.not-Memory))))
-    (never_failed _ c.in-Ok-Some.ensures.question.marked.0) tt (Appends-nothing (g.W.Write.contents c.args.out.now))
+    (never_failed _ c.in-Ok-Some.ensures.question.marked.0) tt (Appends_nothing (g.W.Write.contents c.args.out.now))
 
 pub returns : goal.returns
 returns g c =
     question_unanswered c.args.settings.now (question.Entry c.args.host.now) c.args.spool.now c.entry.new.self
     (λ output. Appends (g.W.Write.contents c.args.out.now) (g.W.Write.contents c.args.out.now) output) c.in-Err.fault
     c.in-Err.ensures.question.ran (marks_of_call _ _ c.in-Err.fault c.in-Err.ensures.question.marked) (noted_of_call c.args.spool.now c.entry.new.self c.in-Err.fault c.in-Err.ensures.question.marked) (λ had. (c.in-Err.ensures.question.failed had).1)
-    (marked_is_of_call _ _ c.in-Err.fault c.in-Err.ensures.question.marked) (Appends-nothing (g.W.Write.contents c.args.out.now))
+    (marked_is_of_call _ _ c.in-Err.fault c.in-Err.ensures.question.marked) (Appends_nothing (g.W.Write.contents c.args.out.now))

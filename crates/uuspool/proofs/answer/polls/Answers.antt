@@ -7,7 +7,7 @@ use Rattle.uu_core.specs.declared.next_call.NextPoll.{NextPoll}
 use Rattle.uu_core.specs.declared.system.SystemRow.{SystemRow}
 use Rattle.uu_report.specs.Reports.{IsNextPollsReport}
 use Rattle.uu_request.specs.declared.request.Question.TheVariants as question
-use Rattle.uuspool.proofs.ServedLemmas.{Answers, Appends-nothing, fault_goes_on, printed, question_served}
+use Rattle.uuspool.proofs.ServedLemmas.{Answers, Appends_nothing, fault_goes_on, printed, question_served}
 use Rattle.uuspool.proofs.answer.polls.Goals as goal
 
 pub returns : goal.returns
@@ -38,4 +38,4 @@ returns-in_err-rows g c =
     let asked = c.in_err-rows.ensures.question in
     fault_goes_on c.args.settings.now (question.NextPolls (option_copied c.args.system) c.args.at.now) c.args.spool.now c.systems.new.self
     (λ output. Appends (g.W.Write.contents c.args.out.now) (g.W.Write.contents c.args.out.now) output) c.from_residual.result c.in_err-rows.field-0.0 c.from_residual.ensures.1
-    asked.ran asked.marked (λ had. (asked.failed had).1) (Appends-nothing (g.W.Write.contents c.args.out.now))
+    asked.ran asked.marked (λ had. (asked.failed had).1) (Appends_nothing (g.W.Write.contents c.args.out.now))

@@ -2,7 +2,7 @@ use Rattle.std.proofs.Common.{◌≡◌, ◌∙◌, ◌++◌, List, ℕ, Some, a
 use Rattle.std.specs.Io.KnownBytes.{Appends}
 use Rattle.uu_request.specs.declared.request.Question.TheVariants as question
 use Rattle.uuspool.specs.Answers.{IsShown, no_job}
-use Rattle.uuspool.proofs.ServedLemmas.{Answers, Appends-nothing, marked_is_of_call, marks_of_call, noted_of_call, printed, question_served, question_unanswered}
+use Rattle.uuspool.proofs.ServedLemmas.{Answers, Appends_nothing, marked_is_of_call, marks_of_call, noted_of_call, printed, question_served, question_unanswered}
 use Rattle.uu_report.specs.Reports.{IsJobLine}
 use Rattle.uu_store.specs.HandedOut.{job_shown, job_with}
 use Rattle.uuspool.proofs.AnswerLemmas.{shown_head}
@@ -44,4 +44,4 @@ returns-in-Err g c =
     question_unanswered c.args.settings.now (question.Job c.args.number) c.args.spool.now c.job.new.self
     (λ output. Appends (g.W.Write.contents c.args.out.now) (g.W.Write.contents c.args.out.now) output) c.in-Err.fault
     c.in-Err.ensures.question.ran (marks_of_call _ _ c.in-Err.fault c.in-Err.ensures.question.marked) (noted_of_call c.args.spool.now c.job.new.self c.in-Err.fault c.in-Err.ensures.question.marked) (λ had. (c.in-Err.ensures.question.failed had).1)
-    (marked_is_of_call _ _ c.in-Err.fault c.in-Err.ensures.question.marked) (Appends-nothing (g.W.Write.contents c.args.out.now))
+    (marked_is_of_call _ _ c.in-Err.fault c.in-Err.ensures.question.marked) (Appends_nothing (g.W.Write.contents c.args.out.now))

@@ -1,7 +1,7 @@
 use Rattle.std.proofs.Common.{List, ℕ, refl, subst, ◌∙◌}
 use Rattle.std.specs.Io.KnownBytes.{Appends}
 use Rattle.uu_request.specs.declared.request.Question.TheVariants as question
-use Rattle.uuspool.proofs.ServedLemmas.{Answers, Appends-nothing, fault_goes_on, printed, question_served}
+use Rattle.uuspool.proofs.ServedLemmas.{Answers, Appends_nothing, fault_goes_on, printed, question_served}
 use Rattle.uu_report.specs.Reports.{IsStatusReport}
 use Rattle.uuspool.proofs.answer.status.Goals as goal
 
@@ -20,4 +20,4 @@ returns-in_err-systems g c =
     let asked = c.in_err-systems.ensures.question in
     fault_goes_on c.args.settings.now question.Systems c.args.spool.now c.systems.new.self
     (λ output. Appends (g.W.Write.contents c.args.out.now) (g.W.Write.contents c.args.out.now) output) c.from_residual.result c.in_err-systems.field-0.0 c.from_residual.ensures.1
-    asked.ran asked.marked (λ had. (asked.failed had).1) (Appends-nothing (g.W.Write.contents c.args.out.now))
+    asked.ran asked.marked (λ had. (asked.failed had).1) (Appends_nothing (g.W.Write.contents c.args.out.now))

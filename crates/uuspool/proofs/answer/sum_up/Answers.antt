@@ -5,7 +5,7 @@ use Rattle.uu_core.specs.declared.job.JobHead.{JobHead}
 use Rattle.uu_core.specs.declared.queue.Queue.{Queue}
 use Rattle.uu_report.specs.Reports.{IsQueuesReport}
 use Rattle.uu_request.specs.declared.request.Question.TheVariants as question
-use Rattle.uuspool.proofs.ServedLemmas.{Answers, Appends-nothing, fault_goes_on, printed, question_served}
+use Rattle.uuspool.proofs.ServedLemmas.{Answers, Appends_nothing, fault_goes_on, printed, question_served}
 use Rattle.uuspool.proofs.answer.sum_up.Goals as goal
 
 pub returns : goal.returns
@@ -25,4 +25,4 @@ returns-in_err-jobs g c =
     let asked = c.in_err-jobs.ensures.question in
     fault_goes_on c.args.settings.now (question.Queues c.args.filter.now) c.args.spool.now c.jobs.new.self
     (λ output. Appends (g.W.Write.contents c.args.out.now) (g.W.Write.contents c.args.out.now) output) c.from_residual.result c.in_err-jobs.field-0.0 c.from_residual.ensures.1
-    asked.ran asked.marked (λ had. (asked.failed had).1) (Appends-nothing (g.W.Write.contents c.args.out.now))
+    asked.ran asked.marked (λ had. (asked.failed had).1) (Appends_nothing (g.W.Write.contents c.args.out.now))

@@ -5,10 +5,10 @@ use Rattle.uu_core.specs.Order.{AreByName}
 use Rattle.uu_core.specs.declared.job.JobHead.{JobHead}
 use Rattle.uu_core.specs.declared.next_call.NextCall.{NextCall}
 use Rattle.uu_core.specs.declared.system.SystemRow.{SystemRow}
-use Rattle.uu_questions.specs.Listing.{listed}
+use Rattle.uu_questions.specs.Listing.{listed_jobs}
 use Rattle.uu_report.specs.Reports.{IsNextCallsReport}
 use Rattle.uu_request.specs.declared.request.Question.TheVariants as question
-use Rattle.uuspool.proofs.ServedLemmas.{Answers, Appends-nothing, fault_goes_on, printed, question_served}
+use Rattle.uuspool.proofs.ServedLemmas.{Answers, Appends_nothing, fault_goes_on, printed, question_served}
 use Rattle.uuspool.proofs.answer.when.Goals as goal
 
 pub returns : goal.returns
@@ -27,7 +27,7 @@ returns g c =
     (λ output is clean s shown.
     let found = c.in_ok-systems.ensures.answer clean s shown in
     let systems : rows ≡ s.systems = c.deref.ensures.value ∙ found.0 in
-    let fitting : jobs ≡ listed c.args.filter.now s = c.deref-2.ensures.value ∙ found.1 in
+    let fitting : jobs ≡ listed_jobs c.args.filter.now s = c.deref-2.ensures.value ∙ found.1 in
     let by_name = subst (AreByName (λ (row : SystemRow). row.def.name)) (sym systems) shown.encodes.holds.good.by_name in (
       is.0,
       subst (λ (heads : List JobHead). AreNextCalls zone s.systems heads second is.0) fitting (subst (λ (all : List SystemRow). AreNextCalls zone all jobs second is.0) systems (is.1 by_name)),
@@ -41,4 +41,4 @@ returns-in_err-systems g c =
     let asked = c.in_err-systems.ensures in
     fault_goes_on c.args.settings.now (question.NextCalls c.args.filter.now c.args.at.now) c.args.spool.now c.systems_and_jobs.new.spool
     (λ output. Appends (g.W.Write.contents c.args.out.now) (g.W.Write.contents c.args.out.now) output) c.from_residual.result c.in_err-systems.field-0.0 c.from_residual.ensures.1
-    asked.ran asked.marked asked.failed (Appends-nothing (g.W.Write.contents c.args.out.now))
+    asked.ran asked.marked asked.failed (Appends_nothing (g.W.Write.contents c.args.out.now))

@@ -4,7 +4,7 @@ use Rattle.uu_frame.specs.Frames.{IsHead, request_frame}
 use Rattle.uu_frame.specs.declared.request.Frame.{Frame}
 use Rattle.uu_names.specs.Text.{most_text}
 use Rattle.uuspool.specs.Batch.{IsRequestLine, frame_of, line_with}
-use Rattle.uuspool.specs.ServedLines.{Line}
+use Rattle.uuspool.specs.ServedLines.{ServedLine}
 use Rattle.uuspool.specs.declared.fault.Fault.TheVariants as fault
 use Rattle.uuspool.proofs.BatchLemmas.{began_within, step_broken, step_of_end}
 use Rattle.uuspool.proofs.batching.answer_next.Goals as goal
@@ -33,7 +33,7 @@ returns-in_default g c =
 pub returns-in-Ok : goal.returns-in-Ok
 returns-in-Ok g c =
     let answer = c.answer_to-answer.result in
-    let line : Line = line_with (map string_bytes c.in-Ok-Some.frame.words.items) c.in-Some.now c.in-Ok-Some.frame.input.items answer.output.items answer.end in
+    let line : ServedLine = line_with (map string_bytes c.in-Ok-Some.frame.words.items) c.in-Some.now c.in-Ok-Some.frame.input.items answer.output.items answer.end in
     let request : IsRequestLine line = (
       subst (λ (next : Option Frame). IfSome next (λ request. IsHead (length request.input.items) (map string_bytes request.words.items))) c.in-Ok-Some.field-0-is c.in-Ok-Some.ensures.head,
       subst (λ (next : Option Frame). IfSome next (λ request. length request.input.items ≤ most_text)) c.in-Ok-Some.field-0-is c.in-Ok-Some.ensures.limit,
@@ -57,7 +57,7 @@ returns-in-Ok g c =
 pub returns-in-Err-tell : goal.returns-in-Err-tell
 returns-in-Err-tell g c =
     let answer = c.answer_to-answer.result in
-    let line : Line = line_with (map string_bytes c.in-Ok-Some.frame.words.items) c.in-Some.now c.in-Ok-Some.frame.input.items answer.output.items answer.end in
+    let line : ServedLine = line_with (map string_bytes c.in-Ok-Some.frame.words.items) c.in-Some.now c.in-Ok-Some.frame.input.items answer.output.items answer.end in
     let request : IsRequestLine line = (
       subst (λ (next : Option Frame). IfSome next (λ request. IsHead (length request.input.items) (map string_bytes request.words.items))) c.in-Ok-Some.field-0-is c.in-Ok-Some.ensures.head,
       subst (λ (next : Option Frame). IfSome next (λ request. length request.input.items ≤ most_text)) c.in-Ok-Some.field-0-is c.in-Ok-Some.ensures.limit,

@@ -1,5 +1,5 @@
 use Rattle.std.proofs.Common.{◌≡◌, suc, ◌+◌, ◌<◌, ◌≤◌, Err, Ok, arith, cond, drop, get_or, length, subst, sym}
-use Rattle.uu_bundle.specs.Bundles.{with_jobs}
+use Rattle.uu_bundle.specs.Bundles.{text_with_jobs}
 use Rattle.uuspool.specs.Bundles.{parcels_for}
 use Rattle.uuspool.specs.Internal.Asked.{AreThere}
 use Rattle.uuspool.proofs.AskedLemmas.{asked_as, asked_goes_on}
@@ -23,7 +23,7 @@ loop-number-preserved g c = λ jobs are.
     (λ s done. Adds from it start jobs (i + 1) more s) c.in_ok-add_one.field-0 tt
     (λ s shown known was.
     subst (λ n. Adds from it start jobs n more s) (sym on)
-    (subst (λ b. cond b (with_jobs more (parcels_for from it (drop (suc i) jobs))) more ≡ with_jobs start (parcels_for from it jobs)) c.if-not-branch.false
+    (subst (λ b. cond b (text_with_jobs more (parcels_for from it (drop (suc i) jobs))) more ≡ text_with_jobs start (parcels_for from it jobs)) c.if-not-branch.false
     (one_added from it start jobs i text more within s c.in_ok-add_one.field-0 was.0 was.1)))
     (asked_for_one from it start jobs i text more number c.args.spool.now c.loop-number.spool c.add_one.new.spool (Ok c.in_ok-add_one.field-0) within
     (number_at c.args.numbers.now jobs i within are) (c.loop-number.invariant jobs are) (c.in_ok-add_one.ensures job))
@@ -40,9 +40,9 @@ returns-then-not-branch g c = λ jobs are.
     let within : i < length jobs = omega (arith, c.loop-number-test.true, as_many c.args.numbers.now jobs are) in
     let job = (at_place jobs i within).0 in
     asked_as (AreThere jobs) (λ s added. Adds from it start jobs i text s × Adding from it start jobs i text more job s added) c.args.spool.now c.add_one.new.spool
-    (λ s done. more ≡ with_jobs start (parcels_for from it jobs)) c.in_ok-add_one.field-0 tt
+    (λ s done. more ≡ text_with_jobs start (parcels_for from it jobs)) c.in_ok-add_one.field-0 tt
     (λ s shown known was.
-    subst (λ b. cond b (with_jobs more (parcels_for from it (drop (suc i) jobs))) more ≡ with_jobs start (parcels_for from it jobs)) c.if-not-branch.true
+    subst (λ b. cond b (text_with_jobs more (parcels_for from it (drop (suc i) jobs))) more ≡ text_with_jobs start (parcels_for from it jobs)) c.if-not-branch.true
     (one_added from it start jobs i text more within s c.in_ok-add_one.field-0 was.0 was.1))
     (asked_for_one from it start jobs i text more number c.args.spool.now c.loop-number.spool c.add_one.new.spool (Ok c.in_ok-add_one.field-0) within
     (number_at c.args.numbers.now jobs i within are) (c.loop-number.invariant jobs are) (c.in_ok-add_one.ensures job))
@@ -58,7 +58,7 @@ returns-in_err-add_one g c = λ jobs are.
     let number = get_or c.args.numbers.now i 0 in
     let within : i < length jobs = omega (arith, c.loop-number-test.true, as_many c.args.numbers.now jobs are) in
     let job = (at_place jobs i within).0 in
-    asked_goes_on (AreThere jobs) (λ s added. Adds from it start jobs i text s × Adding from it start jobs i text more job s added) (λ s done. more ≡ with_jobs start (parcels_for from it jobs)) c.args.spool.now c.add_one.new.spool
+    asked_goes_on (AreThere jobs) (λ s added. Adds from it start jobs i text s × Adding from it start jobs i text more job s added) (λ s done. more ≡ text_with_jobs start (parcels_for from it jobs)) c.args.spool.now c.add_one.new.spool
     c.from_residual.result c.in_err-add_one.field-0.0 c.from_residual.ensures.1
     (asked_for_one from it start jobs i text more number c.args.spool.now c.loop-number.spool c.add_one.new.spool (Err c.in_err-add_one.field-0.0) within
     (number_at c.args.numbers.now jobs i within are) (c.loop-number.invariant jobs are) (c.in_err-add_one.ensures job))
@@ -72,5 +72,5 @@ returns g c = λ jobs are.
     let text = c.loop-number.text.items in
     let past : length jobs ≤ i = omega (arith, c.loop-number-test.false, as_many c.args.numbers.now jobs are) in
     asked_as (AreThere jobs) (λ s done. Adds from it start jobs i text s) c.args.spool.now c.loop-number.spool
-    (λ s done. text ≡ with_jobs start (parcels_for from it jobs)) tt tt
+    (λ s done. text ≡ text_with_jobs start (parcels_for from it jobs)) tt tt
     (λ s shown known adds. all_added from it start jobs i text s past adds) (c.loop-number.invariant jobs are)

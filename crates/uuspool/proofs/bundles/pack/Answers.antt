@@ -9,7 +9,7 @@ use Rattle.uuspool.specs.Bundles.{IsBundleText, no_system}
 use Rattle.uuspool.specs.Internal.Asked.{IsBundleFor}
 use Rattle.uuspool.proofs.AskedLemmas.{marks_are_of_call}
 use Rattle.uuspool.proofs.BundleLemmas.{packed_known, packed_unknown}
-use Rattle.uuspool.proofs.ServedLemmas.{Answers, Appends-nothing, printed, question_served, question_unanswered}
+use Rattle.uuspool.proofs.ServedLemmas.{Answers, Appends_nothing, printed, question_served, question_unanswered}
 use Rattle.uuspool.proofs.bundles.pack.Goals as goal
 
 pub returns-in-Ok-Some : goal.returns-in-Ok-Some
@@ -45,4 +45,4 @@ returns-in-Err g c =
     let was = c.in-Err.ensures in
     question_unanswered c.args.settings.now (question.Pack c.args.packing.now) c.args.spool.now c.packed.new.spool
     (λ output. Appends (g.W.Write.contents c.args.out.now) (g.W.Write.contents c.args.out.now) output) c.in-Err.fault
-    was.ran was.marked (λ clean s shown kind same. was.noted clean s shown tt kind same) was.failed (marks_are_of_call _ _ c.in-Err.fault was.marked) (Appends-nothing (g.W.Write.contents c.args.out.now))
+    was.ran was.marked (λ clean s shown kind same. was.noted clean s shown tt kind same) was.failed (marks_are_of_call _ _ c.in-Err.fault was.marked) (Appends_nothing (g.W.Write.contents c.args.out.now))

@@ -4,7 +4,7 @@ use Rattle.uu_core.specs.Queues.{jobs_for}
 use Rattle.uu_core.specs.State.{head_of, same_text}
 use Rattle.uu_core.specs.declared.filter.Filter.{Filter}
 use Rattle.uu_core.specs.declared.job.JobHead.{JobHead}
-use Rattle.uu_questions.specs.Listing.{fits, listed}
+use Rattle.uu_questions.specs.Listing.{fits, listed_jobs}
 use Rattle.uuspool.proofs.laws.the_first_line_is_what_is_due.Goals as goal
 
 -- a job of the system matches if no user is given
@@ -22,7 +22,7 @@ pub returns : goal.returns
 returns c settings state name at output all status told good printed printed_all =
     let wanted : Filter = record { system = Some name; user = None } in
     let heads = map head_of state.jobs in
-    let own = listed wanted state in
+    let own = listed_jobs wanted state in
     let same : IsPermutation (jobs_for name heads) own = subst (λ (l : List JobHead). IsPermutation l own) (with_any_user name heads) (c.jobs_are_listed_in_order.ensures.same wanted state) in (
       printed.0,
       all_due state.systems own at,

@@ -3,7 +3,7 @@ use Rattle.std.proofs.lemmas.Result.{err_from_is_err_and}
 use Rattle.std.specs.Io.KnownBytes.{Appends}
 use Rattle.std.specs.String.{string_bytes}
 use Rattle.uu_request.specs.declared.request.Request.{Request}
-use Rattle.uuspool.specs.Served.{Ask, EndsAs, IsServed}
+use Rattle.uuspool.specs.Served.{WordsAsk, EndsAs, IsServed}
 use Rattle.uuspool.specs.ServedLines.{Serves}
 use Rattle.uuspool.specs.declared.fault.Fault.TheVariants as fault
 use Rattle.uuspool.proofs.ServesLemmas.{line_serves}
@@ -12,7 +12,7 @@ use Rattle.uuspool.proofs.serving.serve.Goals as goal
 pub returns-clause-ends : goal.returns-clause-ends
 returns-clause-ends g c =
     subst (λ input. EndsAs c.serve_words.result
-    ((request : Request) × Ask c.args.settings.now (map string_bytes c.args.words.now) c.args.now input (Ok request)
+    ((request : Request) × WordsAsk c.args.settings.now (map string_bytes c.args.words.now) c.args.now input (Ok request)
     × IsServed c.args.settings.now request c.args.spool.now c.serve_words.new.spool (λ output. Appends (g.W.Write.contents c.args.out.now) (g.W.Write.contents c.serve_words.new.out) output) c.serve_words.result)
     ((c.serve_words.new.spool ≡ c.args.spool.now) × (c.serve_words.new.out ≡ c.args.out.now)))
     c.in_ok-input.ensures.items c.serve_words.ensures.ends

@@ -1,5 +1,5 @@
 use Rattle.std.proofs.Common.{Ok, refl, subst, sym}
-use Rattle.uu_request.specs.Requests.{Asks}
+use Rattle.uu_request.specs.Requests.{LineAsks}
 use Rattle.uu_request.specs.declared.request.Request.{Request}
 use Rattle.uu_request.specs.declared.request.Request.TheVariants as request
 use Rattle.uuspool.specs.Served.{IsEarly, IsFaultOfLine}
@@ -10,7 +10,7 @@ pub returns-in-Ok-Commands-clause-ends : goal.returns-in-Ok-Commands-clause-ends
 returns-in-Ok-Commands-clause-ends g c =
     ends_served c.run.result _ _ c.run.ensures.late (
       request.Commands c.in-Ok-Commands.list,
-      subst (λ (r : Request). Asks c.args.settings.now c.args.at c.args.input.items c.args.line (Ok r)) c.in-Ok-Commands.field-0-is c.in-Ok-Commands.ensures,
+      subst (λ (r : Request). LineAsks c.args.settings.now c.args.at c.args.input.items c.args.line (Ok r)) c.in-Ok-Commands.field-0-is c.in-Ok-Commands.ensures,
       c.run.ensures,
     )
 
@@ -18,14 +18,14 @@ pub returns-in-Ok-Commands-clause-fault : goal.returns-in-Ok-Commands-clause-fau
 returns-in-Ok-Commands-clause-fault g c =
     late_fault c.args.settings.now c.args.line c.args.at c.args.input.items c.run.result c.run.ensures.late (
       request.Commands c.in-Ok-Commands.list,
-      subst (λ (r : Request). Asks c.args.settings.now c.args.at c.args.input.items c.args.line (Ok r)) c.in-Ok-Commands.field-0-is c.in-Ok-Commands.ensures,
+      subst (λ (r : Request). LineAsks c.args.settings.now c.args.at c.args.input.items c.args.line (Ok r)) c.in-Ok-Commands.field-0-is c.in-Ok-Commands.ensures,
     )
 
 pub returns-in-Ok-Question-clause-ends : goal.returns-in-Ok-Question-clause-ends
 returns-in-Ok-Question-clause-ends g c =
     ends_served c.ask.result _ _ c.ask.ensures.late (
       request.Question c.in-Ok-Question.question,
-      subst (λ (r : Request). Asks c.args.settings.now c.args.at c.args.input.items c.args.line (Ok r)) c.in-Ok-Question.field-0-is c.in-Ok-Question.ensures,
+      subst (λ (r : Request). LineAsks c.args.settings.now c.args.at c.args.input.items c.args.line (Ok r)) c.in-Ok-Question.field-0-is c.in-Ok-Question.ensures,
       c.ask.ensures,
     )
 
@@ -33,14 +33,14 @@ pub returns-in-Ok-Question-clause-fault : goal.returns-in-Ok-Question-clause-fau
 returns-in-Ok-Question-clause-fault g c =
     late_fault c.args.settings.now c.args.line c.args.at c.args.input.items c.ask.result c.ask.ensures.late (
       request.Question c.in-Ok-Question.question,
-      subst (λ (r : Request). Asks c.args.settings.now c.args.at c.args.input.items c.args.line (Ok r)) c.in-Ok-Question.field-0-is c.in-Ok-Question.ensures,
+      subst (λ (r : Request). LineAsks c.args.settings.now c.args.at c.args.input.items c.args.line (Ok r)) c.in-Ok-Question.field-0-is c.in-Ok-Question.ensures,
     )
 
 pub returns-in-Ok-Settling-clause-ends : goal.returns-in-Ok-Settling-clause-ends
 returns-in-Ok-Settling-clause-ends g c =
     ends_served c.settle.result _ _ c.settle.ensures.late (
       request.Settling c.in-Ok-Settling.settling,
-      subst (λ (r : Request). Asks c.args.settings.now c.args.at c.args.input.items c.args.line (Ok r)) c.in-Ok-Settling.field-0-is c.in-Ok-Settling.ensures,
+      subst (λ (r : Request). LineAsks c.args.settings.now c.args.at c.args.input.items c.args.line (Ok r)) c.in-Ok-Settling.field-0-is c.in-Ok-Settling.ensures,
       c.settle.ensures,
     )
 
@@ -48,14 +48,14 @@ pub returns-in-Ok-Settling-clause-fault : goal.returns-in-Ok-Settling-clause-fau
 returns-in-Ok-Settling-clause-fault g c =
     late_fault c.args.settings.now c.args.line c.args.at c.args.input.items c.settle.result c.settle.ensures.late (
       request.Settling c.in-Ok-Settling.settling,
-      subst (λ (r : Request). Asks c.args.settings.now c.args.at c.args.input.items c.args.line (Ok r)) c.in-Ok-Settling.field-0-is c.in-Ok-Settling.ensures,
+      subst (λ (r : Request). LineAsks c.args.settings.now c.args.at c.args.input.items c.args.line (Ok r)) c.in-Ok-Settling.field-0-is c.in-Ok-Settling.ensures,
     )
 
 pub returns-in-Ok-Unpacking-clause-ends : goal.returns-in-Ok-Unpacking-clause-ends
 returns-in-Ok-Unpacking-clause-ends g c =
     ends_served c.unpack.result _ _ c.unpack.ensures.late (
       request.Unpacking c.in-Ok-Unpacking.unpacking,
-      subst (λ (r : Request). Asks c.args.settings.now c.args.at c.args.input.items c.args.line (Ok r)) c.in-Ok-Unpacking.field-0-is c.in-Ok-Unpacking.ensures,
+      subst (λ (r : Request). LineAsks c.args.settings.now c.args.at c.args.input.items c.args.line (Ok r)) c.in-Ok-Unpacking.field-0-is c.in-Ok-Unpacking.ensures,
       c.unpack.ensures,
     )
 
@@ -63,7 +63,7 @@ pub returns-in-Ok-Unpacking-clause-fault : goal.returns-in-Ok-Unpacking-clause-f
 returns-in-Ok-Unpacking-clause-fault g c =
     late_fault c.args.settings.now c.args.line c.args.at c.args.input.items c.unpack.result c.unpack.ensures.late (
       request.Unpacking c.in-Ok-Unpacking.unpacking,
-      subst (λ (r : Request). Asks c.args.settings.now c.args.at c.args.input.items c.args.line (Ok r)) c.in-Ok-Unpacking.field-0-is c.in-Ok-Unpacking.ensures,
+      subst (λ (r : Request). LineAsks c.args.settings.now c.args.at c.args.input.items c.args.line (Ok r)) c.in-Ok-Unpacking.field-0-is c.in-Ok-Unpacking.ensures,
     )
 
 pub returns-in-Err-clause-ends : goal.returns-in-Err-clause-ends

@@ -2,7 +2,7 @@ use Rattle.std.proofs.Common.{◌≡◌, Err, ap, map, refl, subst, sym}
 use Rattle.std.proofs.lemmas.Result.{err_from_is_err_and}
 use Rattle.std.specs.Io.KnownBytes.{Appends}
 use Rattle.std.specs.String.{string_bytes}
-use Rattle.uu_times.specs.Moment.{Shows, local_second}
+use Rattle.uu_times.specs.Moment.{IsDateTimeAt, local_second}
 use Rattle.uuspool.proofs.AskLemmas.{ends_early, words_faults}
 use Rattle.uuspool.proofs.ServesLemmas.{line_serves, words_end}
 use Rattle.uuspool.proofs.serving.serve_words.Goals as goal
@@ -10,7 +10,7 @@ use Rattle.uuspool.proofs.serving.serve_words.Goals as goal
 pub serve_line-requires : goal.serve_line-requires
 serve_line-requires g c =
     let moment = c.in_ok-line.ensures.line.1 in
-    subst (λ second. Shows c.in_ok-line.at.local (local_second c.args.settings.now.zone second)) (sym moment.second) moment.local
+    subst (λ second. IsDateTimeAt c.in_ok-line.at.local (local_second c.args.settings.now.zone second)) (sym moment.second) moment.local
 
 pub returns-clause-ends : goal.returns-clause-ends
 returns-clause-ends g c =

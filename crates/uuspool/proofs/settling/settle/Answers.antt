@@ -7,7 +7,7 @@ use Rattle.uu_schema.specs.declared.fault.StoreFault.{StoreFault}
 use Rattle.uu_store.specs.Runs.{Ran}
 use Rattle.uu_store.specs.Spool.{IsFaultBetween, has_failed}
 use Rattle.uuspool.proofs.AskedLemmas.{asked_as, marks_are_of_call}
-use Rattle.uuspool.proofs.ServedLemmas.{Appends-nothing, marked_is_of_call, printed}
+use Rattle.uuspool.proofs.ServedLemmas.{Appends_nothing, marked_is_of_call, printed}
 use Rattle.uuspool.proofs.SettlingLemmas.{IsFound, settling_broken, settling_served, settling_unasked}
 use Rattle.uuspool.specs.declared.settling.Found.{Found}
 use Rattle.uuspool.proofs.settling.settle.Goals as goal
@@ -49,11 +49,11 @@ returns-in-Some g c =
     (asked_as (λ s. ⊤) (λ s (one : Found). IsFound settings it s one.commands.items one.report.items) c.args.spool.now mid (λ s (one : Found). IsFound settings it s commands report) found found (λ s shown known was. was) c.in-Ok.ensures.asked)
     c.in-Ok.ensures.told c.runs_are_one_run.ensures.joined why
     (subst (λ (stopped : Option StoreFault). Ran 1 commands mid new end.replies.items stopped) c.in-Some.is c.run-end.ensures.ran)
-    between (marked_is_of_call (has_failed mid) (has_failed new) why between) (Appends-nothing (g.W.Write.contents c.args.out.now))
+    between (marked_is_of_call (has_failed mid) (has_failed new) why between) (Appends_nothing (g.W.Write.contents c.args.out.now))
 
 pub returns-in-Err : goal.returns-in-Err
 returns-in-Err g c =
     let was = c.in-Err.ensures.asked in
     settling_unasked c.args.settings.now c.args.settling.now c.args.spool.now c.found_by.new.spool
     (λ output. Appends (g.W.Write.contents c.args.out.now) (g.W.Write.contents c.args.out.now) output) c.in-Err.fault
-    was.ran was.marked (λ clean s shown kind same. was.noted clean s shown tt kind same) was.failed (marks_are_of_call _ _ c.in-Err.fault was.marked) (Appends-nothing (g.W.Write.contents c.args.out.now))
+    was.ran was.marked (λ clean s shown kind same. was.noted clean s shown tt kind same) was.failed (marks_are_of_call _ _ c.in-Err.fault was.marked) (Appends_nothing (g.W.Write.contents c.args.out.now))

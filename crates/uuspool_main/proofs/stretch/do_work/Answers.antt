@@ -1,6 +1,6 @@
 use Rattle.std.proofs.Common.{◌≡◌, Ok, subst, sym}
-use Rattle.uu_request.specs.Requests.{Asks}
-use Rattle.uu_times.specs.Moment.{Shows, local_second}
+use Rattle.uu_request.specs.Requests.{LineAsks}
+use Rattle.uu_times.specs.Moment.{IsDateTimeAt, local_second}
 use Rattle.uu_store.specs.Exchanges.{exchange_of}
 use Rattle.uuspool_main.specs.Stretch.{HasMoment, IsOfLine, IsOfInvocation, WasGiven}
 use Rattle.uuspool_main.specs.declared.stretch.Invocation.{Invocation}
@@ -11,7 +11,7 @@ use Rattle.uuspool_main.proofs.stretch.do_work.Goals as goal
 pub serve_line-requires : goal.serve_line-requires
 serve_line-requires g c =
     let has : HasMoment c.args.settings.now (invocation.Line c.in-Line.line c.in-Line.at c.in-Line.input) = subst (HasMoment c.args.settings.now) c.in-Line.is c.requires in
-    subst (λ second. Shows c.in-Line.at.local (local_second c.args.settings.now.zone second)) (sym has.1.second) has.1.local
+    subst (λ second. IsDateTimeAt c.in-Line.at.local (local_second c.args.settings.now.zone second)) (sym has.1.second) has.1.local
 
 pub returns-in-Line : goal.returns-in-Line
 returns-in-Line g c =
@@ -23,7 +23,7 @@ returns-in-Line g c =
     let ended = c.serve_line.new.spool in
     subst (λ (what : Invocation). WasGiven begun ended (IsOfInvocation settings begun ended what c.serve_line.result)) (sym c.in-Line.is)
     (let (hand, commands, replies, stopped, ran, done) =
-    line_given settings begun ended (λ request. Asks settings at input line (Ok request)) _ (c.lines_are_one_run.ensures.none begun) c.serve_line.result c.serve_line.ensures.ends
+    line_given settings begun ended (λ request. LineAsks settings at input line (Ok request)) _ (c.lines_are_one_run.ensures.none begun) c.serve_line.result c.serve_line.ensures.ends
     in let is : IsOfLine settings begun ended line at input c.serve_line.result (exchange_of hand commands replies stopped) = (done, c.serve_line.ensures.fault) in
     (hand, commands, replies, stopped, ran, (is, of_words settings begun ended line at input c.serve_line.result (exchange_of hand commands replies stopped) is)))
 

@@ -15,12 +15,12 @@ returns-in-Ok c =
     let name = c.args.system.now in
     let numbers = c.args.jobs.now in
     let found = option_copied c.system_at-row.result in
-    done_accepted (state_of c.args.self.now) name c.args.at.now numbers found c.in_ok-heads.heads.items c.in-Ok.call c.drop_jobs.new.jobs.items (with_items c.args.self.now.systems c.set_call.new.rows).items
+    done_accepted (state_of c.args.self.now) name c.args.at.now numbers found c.in_ok-heads.heads.items c.in-Ok.call c.remove_jobs.new.jobs.items (with_items c.args.self.now.systems c.set_call.new.rows).items
     c.requires
     (c.system_at-row.ensures ∙ ap (find (is_system name)) c.as_slice-2.ensures.value)
     (c.in_ok-heads.ensures ∙ ap (map head_of) c.as_slice.ensures.value)
     (c.in-Ok.ensures ∙ ap (λ heads. decided (done_reasons (is_some found) name numbers heads) (done_call_of found c.args.at.now)) c.as_slice-3.ensures.value)
-    c.drop_jobs.ensures
+    c.remove_jobs.ensures
     (with_items_is c.args.self.now.systems c.set_call.new.rows (omega (arith, c.set_call.auto.rows, c.as_mut_slice.ensures.len)) ∙ c.set_call.ensures ∙ ap (change_call name (λ _. c.in-Ok.call)) c.as_mut_slice.ensures.value)
 
 pub returns : goal.returns

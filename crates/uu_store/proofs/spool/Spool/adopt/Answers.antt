@@ -4,15 +4,15 @@ use Rattle.uu_schema.specs.Encoded.{Leaves}
 use Rattle.uu_adopt.specs.Adoption.{StopsAs}
 use Rattle.uu_core.specs.State.{empty}
 use Rattle.uu_adopt.proofs.Settling.{adopt_creates, adopt_migrates}
-use Rattle.uu_store.specs.Taken.{IsTaken}
+use Rattle.uu_store.specs.Adopted.{IsAdoptedSpool}
 use Rattle.uu_store.proofs.Ending.{clean_before}
 use Rattle.uu_schema.specs.declared.fault.StoreFault.TheVariants.{Foreign}
 use Rattle.uu_adopt.proofs.Inspecting.{read_as, taken_as, refused_as, same_as, stops_as, unmade_as, not_ok, same_fault}
 use Rattle.uu_store.proofs.Adopting.{adopted_as, turned_away_as, remembers}
 use Rattle.uu_store.proofs.spool.Spool.adopt.Goals as goal
 
-pub returns-in-Ok-clause-taken : goal.returns-in-Ok-clause-taken
-returns-in-Ok-clause-taken g c =
+pub returns-in-Ok-clause-adopted : goal.returns-in-Ok-clause-adopted
+returns-in-Ok-clause-adopted g c =
     let a = state g.S.Store c.args.conn in
     let b = state g.S.Store c.adopt_database.new.conn in
     let spool = c.over.result in
@@ -20,8 +20,8 @@ returns-in-Ok-clause-taken g c =
     record {
       adopted = adopted_as g.S.Store c.args.conn c.adopt_database.new.conn spool same c.over.ensures.usable (rw c.in-Ok.is at c.adopt_database.ensures.adopts.spared) (rw c.in-Ok.is at c.adopt_database.ensures.adopts.migrates) (rw c.in-Ok.is at c.adopt_database.ensures.adopts.creates) c.adopt_database.ensures.adopts.clean;
       encoded_before = λ v clean stands. read_as a b v (rw c.in-Ok.is at (c.adopt_database.ensures.adopts.inspected v)) (clean_before spool c.adopt_database.new.conn same clean) stands;
-      taken_by_tables = rw c.in-Ok.is at c.adopt_database.ensures.taken;
-      stop_when_taken = λ clean rests. subst (λ h. StopsAs a (state g.S.Store h)) (sym same)
+      adopted_by_tables = rw c.in-Ok.is at c.adopt_database.ensures.adopted;
+      stop_when_adopted = λ clean rests. subst (λ h. StopsAs a (state g.S.Store h)) (sym same)
           (stops_as a b c.adopt_database.result (g.met.S.Store.settled c.args.conn.store) (clean_before spool c.adopt_database.new.conn same clean) rests c.adopt_database.ensures.adopts.spared c.adopt_database.ensures.adopts.migrates c.adopt_database.ensures.adopts.creates);
       stop_when_created = λ clean rests stands. subst (λ h. Leaves (state g.S.Store h) empty) (sym same)
           (adopt_creates a b (g.met.S.Store.settled c.adopt_database.new.conn.store) (clean_before spool c.adopt_database.new.conn same clean) rests (rw c.in-Ok.is at c.adopt_database.ensures.adopts.creates) stands);
@@ -48,7 +48,7 @@ returns-in-Err-clause-handed_back g c =
 
 pub returns-in-Ok-clause-remembers : goal.returns-in-Ok-clause-remembers
 returns-in-Ok-clause-remembers g c =
-    let taken : IsTaken c.args.conn c.over.result = returns-in-Ok-clause-taken g c in
+    let taken : IsAdoptedSpool c.args.conn c.over.result = returns-in-Ok-clause-adopted g c in
     remembers c.args.conn c.over.result taken.adopted (λ s before stretches led. c.no_answered_command_is_lost_over.ensures.commands s before stretches c.args.conn led)
     (λ s before stretches new number led acknowledged. c.no_answered_command_is_lost_over.ensures.jobs s before stretches c.args.conn new number led acknowledged)
     (λ s before stretches key new number led acknowledged. c.no_answered_command_is_lost_over.ensures.keys s before stretches c.args.conn key new number led acknowledged)

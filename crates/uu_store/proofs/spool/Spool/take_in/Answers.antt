@@ -15,7 +15,7 @@ returns-in-Ok g c =
     let new = c.carry_out_bundle.new.self in
     let r = c.carry_out_bundle.result in
     let usable = sym c.is_failed.ensures ∙ c.if-is_failed.false in
-    let asked = rw c.in-Ok.is at (question_told _ old c.told.new.self usable (g.met.S.Store.settled old.conn.store) _ usable c.facts_of_bundle-facts.result c.told.result c.told.ensures c.facts_of_bundle-facts.ensures.asks.answers) in
+    let asked = rw c.in-Ok.is at (question_told _ old c.told.new.self usable (g.met.S.Store.settled old.conn.store) _ usable c.facts_for_take_in-facts.result c.told.result c.told.ensures c.facts_for_take_in-facts.ensures.asks.answers) in
     let steps = λ (s : State). asked_before s _ _ _ c.in-Ok.facts old c.told.new.self new r asked (c.carry_out_bundle.ensures.step s) c.carry_out_bundle.ensures.clean in
     let settles = g.met.S.Store.settled new.conn.store in
     record {
@@ -37,7 +37,7 @@ returns-in-Err g c =
     let old = c.args.self.now in
     let new = c.told.new.self in
     let usable = sym c.is_failed.ensures ∙ c.if-is_failed.false in
-    let asked = rw c.in-Err.is at (question_told _ old c.told.new.self usable (g.met.S.Store.settled old.conn.store) _ usable c.facts_of_bundle-facts.result c.told.result c.told.ensures c.facts_of_bundle-facts.ensures.asks.answers) in
+    let asked = rw c.in-Err.is at (question_told _ old c.told.new.self usable (g.met.S.Store.settled old.conn.store) _ usable c.facts_for_take_in-facts.result c.told.result c.told.ensures c.facts_for_take_in-facts.ensures.asks.answers) in
     let steps = λ (s : State). unasked s _ _ _ old new c.in-Err.fault asked in
     let settles = g.met.S.Store.settled new.conn.store in
     record {

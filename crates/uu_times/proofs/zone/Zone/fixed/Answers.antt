@@ -1,6 +1,6 @@
 use Rattle.std.proofs.Common.{◌≡◌, ◌∙◌, refl, arith, pos, ◌*ℤ◌}
 use Rattle.std.proofs.lemmas.Int.{ints}
-use Rattle.uu_times.proofs.ZoneLemmas.{offset-fixed}
+use Rattle.uu_times.proofs.ZoneLemmas.{offset_fixed}
 use Rattle.uu_times.proofs.zone.Zone.fixed.Goals as goal
 
 pub returns-clause-value : goal.returns-clause-value
@@ -12,4 +12,4 @@ returns-clause-value c =
 pub returns-clause-offset : goal.returns-clause-offset
 returns-clause-offset c =
     let o = rw c.unwrap-offset.ensures at c.from_seconds.ensures.value in
-    λ second. offset-fixed _ second refl ∙ omega (arith, ints, o)
+    λ second. offset_fixed _ second refl ∙ omega (arith, ints, o)
