@@ -62,23 +62,28 @@ pub struct Bundle {
     pub stopped: Option<u32>,
 }
 
-/// What the first line says.
+/// What the first line of a bundle says. The fields are those of [`Bundle`].
 #[derive(Drop)]
 pub struct Heading {
+    /// The site that sends it.
     pub from: SiteName,
+    /// The site for which it is.
     pub to: SiteName,
+    /// Which of the sender's spools numbers its jobs.
     pub spool: Word,
+    /// The number below which the sender won't ask again for a job of its own.
     pub below: u32,
+    /// The grade of the answer.
     pub grade: Grade,
 }
 
 /// A record: what comes after the first line, one after the other.
 #[derive(Drop)]
 pub enum Record {
-    // The sender has this job of the receiver.
+    /// The sender has this job of the receiver.
     Has(Told),
-    // The sender won't take this job of the receiver.
+    /// The sender won't take this job of the receiver.
     No(Refused),
-    // A job of the sender.
+    /// A job of the sender.
     Job(Parcel),
 }

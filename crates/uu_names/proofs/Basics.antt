@@ -8,7 +8,7 @@ use Rattle.std.specs.Str.Lines.{lines_of_parts, strip_carriage_return}
 use Rattle.std.proofs.Math.Bool.{or-false, or_assoc}
 use Rattle.std.proofs.lemmas.Bool.{and_from, and_parts, both_ways, false_from_ne_true}
 use Rattle.std.proofs.lemmas.Cmp.{nat_list_cmp_total}
-use Rattle.std.proofs.lemmas.List.Elements.{All-cons, All-head, All-nil, All-tail, recursion_from_All}
+use Rattle.std.proofs.lemmas.List.Elements.{All-head, All-tail, recursion_from_All}
 
 -- ---- tests
 
@@ -154,16 +154,6 @@ passing_one p (y ∷ xs) e = by_test (p y) refl e (passing_one p xs)
     by_test : (t : Bool) → p y ≡ t → (t || list_any p xs) ≡ true → (list_any p xs ≡ true → (x : _) × Contains xs x × (p x ≡ true)) → (x : _) × Contains (y ∷ xs) x × (p x ≡ true)
     by_test true f e again = (y, first_of y xs, f)
     by_test false f e again = let r = again e in (r.0, later_of y r.0 xs r.1, r.2)
-
--- all fail the test, or one passes
-pub all_or_one : {X : Type 0} (p : X → Bool) (xs : List X) → All (λ x. p x ≡ false) xs ⊎ ((x : X) × Contains xs x × (p x ≡ true))
-all_or_one p [] = inl (All-nil (λ x. p x ≡ false))
-all_or_one {X} p (x ∷ xs) = by_test (p x) refl (all_or_one p xs)
-  where
-    by_test : (t : Bool) → p x ≡ t → All (λ x. p x ≡ false) xs ⊎ ((y : X) × Contains xs y × (p y ≡ true)) → All (λ x. p x ≡ false) (x ∷ xs) ⊎ ((y : X) × Contains (x ∷ xs) y × (p y ≡ true))
-    by_test true is rest = inr (x, first_of x xs, is)
-    by_test false is (inl none) = inl (All-cons (λ x. p x ≡ false) x xs is none)
-    by_test false is (inr one) = inr (one.0, later_of x one.0 xs one.1, one.2)
 
 pub one_mapped : {X Y : Type 0} (f : X → Y) (xs : List X) (y : Y) → map f xs ≡ y ∷ [] → (x : X) × (xs ≡ x ∷ []) × (f x ≡ y)
 one_mapped f [] y h = absurd (cc)
