@@ -147,9 +147,8 @@ is_full() {
 # fault. Then callers that hold it for their turn don't count, because this one takes the turn to
 # look.
 who_has() {
-    inode=$(stat -L -c %i -- "$1" 2>/dev/null) || return
     [ -z "${2-}" ] || { command exec 3>>"$desk/owner" && flock -w 5 3; } || return
-    find_lock || return
+    holder=$(holder_of "$1") || return
     # (for a lock of an open file the list names no process, or one that is gone)
     if [ ! -e "/proc/$holder" ]; then
         for opened in /proc/[0-9]*/fd/*; do
@@ -158,7 +157,7 @@ who_has() {
             break
         done
     fi
-    [ -e "/proc/$holder" ] || find_lock || return
+    [ -e "/proc/$holder" ] || holder=$(holder_of "$1") || return
     if { read -r name <"/proc/$holder/comm"; } 2>/dev/null; then
         say busy "$1" "$holder" "$name"
     else
@@ -173,15 +172,6 @@ is_locked_by() {
     done <"${1%/fd/*}/fdinfo/${1##*/}"
     return 1
 } 2>/dev/null
-
-# Whether a file is locked, and which process holds the lock.
-find_lock() {
-    holder=''
-    while read -r _ _ _ _ process place _; do
-        case $place in *":$inode") holder=$process ;; esac
-    done </proc/locks
-    [ -n "$holder" ]
-}
 
 # The causes for an answer.
 explain() {
