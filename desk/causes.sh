@@ -151,11 +151,13 @@ who_has() {
     holder=$(holder_of "$1") || return
     # (for a lock of an open file the list names no process, or one that is gone)
     if [ ! -e "/proc/$holder" ]; then
+        set +f
         for opened in /proc/[0-9]*/fd/*; do
             [ "$opened" -ef "$1" ] && is_locked_by "$opened" || continue
             holder=${opened#/proc/} holder=${holder%%/*}
             break
         done
+        set -f
     fi
     [ -e "/proc/$holder" ] || holder=$(holder_of "$1") || return
     if { read -r name <"/proc/$holder/comm"; } 2>/dev/null; then
@@ -204,7 +206,7 @@ explain_system() {
 
 explain_size() {
     # shellcheck disable=SC2086
-    set -f -- $arguments
+    set -- $arguments
     case $subcommand in
     'done') say jobs "$(($# - 1))" "$most_jobs" ;;
     exec) [ $# -le $((most_arguments + 2)) ] || say many "$(($# - 2))" "$most_arguments" ;;
@@ -315,7 +317,7 @@ explain_sys() {
 
 explain_skipped() {
     # shellcheck disable=SC2086
-    set -f -- $text
+    set -- $text
     while [ $# -ge 2 ]; do
         if [ "$1" = skipped ]; then
             sys_line "$2"
