@@ -1,6 +1,6 @@
 # shellcheck shell=sh disable=SC2034,SC2154,SC3013 # its names are those of uuspool
 # What only few lines of uuspool need: the causes of faults, room on a full disk, `init` and
-# `batch`.
+# `batch`. uuspool-desk finds causes by it, too, which needs $me, $folder, $newline and $causes.
 
 most_bytes=1048576 most_arguments=64 most_jobs=256
 ample=600000         # bytes of room that are enough for any change that brings no bytes
@@ -68,7 +68,7 @@ say() {
     form_of "$row"
     case $row in skipped | unknown_key | unlogged) row=warning ;; *) row=cause ;; esac
     # shellcheck disable=SC2059 # the table's forms
-    causes=$causes$(printf "uuspool: $row: $form" "$@")$newline
+    causes=$causes$(printf "$me: $row: $form" "$@")$newline
 }
 
 # ---- finding causes
