@@ -549,7 +549,7 @@ batch() {
     own_folder
     command exec 3>>"$desk/owner" || fail 5 'cannot write' cannot_make "$desk/owner"
     if ! flock -n 3; then
-        [ ! -s "$desk/now" ] || fail 2 'a batch is what the desk keeps open'
+        [ ! -s "$desk/now" ] || fail 2 'a batch is what the desk keeps open: end the desk first (systemctl stop uuspool-desk)'
         flock -w "$patience" 3 || fail 3 "no turn within $patience seconds" who_has "$file"
     fi
     ended=yes
