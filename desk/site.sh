@@ -1,8 +1,7 @@
 # shellcheck shell=sh disable=SC2034 # its users read the names
 # What commands share: finding the site, its log, who holds a lock, and the size of a piece.
 
-# A file that is too large for a job goes in pieces of so many bytes, the last of which may be
-# shorter.
+# A file that is too large for a job goes in pieces of so many bytes. The last piece may be shorter.
 piece_size=1000000
 
 # Finds the site: find_site [FILE], where FILE is that of -c. It sets
