@@ -1,6 +1,6 @@
 # shellcheck shell=sh disable=SC2034,SC2154,SC3013 # its names are those of uuspool
 # What only few lines of uuspool need: the causes of faults, room on a full disk, `init` and
-# `batch`.
+# `batch`. uuspool-desk finds causes by it, too, which needs $me, $folder, $newline and $causes.
 
 most_bytes=1048576 most_arguments=64 most_jobs=256
 ample=600000         # bytes of room that are enough for any change that brings no bytes
@@ -68,7 +68,7 @@ say() {
     form_of "$row"
     case $row in skipped | unknown_key | unlogged) row=warning ;; *) row=cause ;; esac
     # shellcheck disable=SC2059 # the table's forms
-    causes=$causes$(printf "uuspool: $row: $form" "$@")$newline
+    causes=$causes$(printf "$me: $row: $form" "$@")$newline
 }
 
 # ---- finding causes
@@ -147,18 +147,19 @@ is_full() {
 # fault. Then callers that hold it for their turn don't count, because this one takes the turn to
 # look.
 who_has() {
-    inode=$(stat -L -c %i -- "$1" 2>/dev/null) || return
     [ -z "${2-}" ] || { command exec 3>>"$desk/owner" && flock -w 5 3; } || return
-    find_lock || return
+    holder=$(holder_of "$1") || return
     # (for a lock of an open file the list names no process, or one that is gone)
     if [ ! -e "/proc/$holder" ]; then
+        set +f
         for opened in /proc/[0-9]*/fd/*; do
             [ "$opened" -ef "$1" ] && is_locked_by "$opened" || continue
             holder=${opened#/proc/} holder=${holder%%/*}
             break
         done
+        set -f
     fi
-    [ -e "/proc/$holder" ] || find_lock || return
+    [ -e "/proc/$holder" ] || holder=$(holder_of "$1") || return
     if { read -r name <"/proc/$holder/comm"; } 2>/dev/null; then
         say busy "$1" "$holder" "$name"
     else
@@ -173,15 +174,6 @@ is_locked_by() {
     done <"${1%/fd/*}/fdinfo/${1##*/}"
     return 1
 } 2>/dev/null
-
-# Whether a file is locked, and which process holds the lock.
-find_lock() {
-    holder=''
-    while read -r _ _ _ _ process place _; do
-        case $place in *":$inode") holder=$process ;; esac
-    done </proc/locks
-    [ -n "$holder" ]
-}
 
 # The causes for an answer.
 explain() {
@@ -214,7 +206,7 @@ explain_system() {
 
 explain_size() {
     # shellcheck disable=SC2086
-    set -f -- $arguments
+    set -- $arguments
     case $subcommand in
     'done') say jobs "$(($# - 1))" "$most_jobs" ;;
     exec) [ $# -le $((most_arguments + 2)) ] || say many "$(($# - 2))" "$most_arguments" ;;
@@ -325,7 +317,7 @@ explain_sys() {
 
 explain_skipped() {
     # shellcheck disable=SC2086
-    set -f -- $text
+    set -- $text
     while [ $# -ge 2 ]; do
         if [ "$1" = skipped ]; then
             sys_line "$2"
@@ -557,7 +549,7 @@ batch() {
     own_folder
     command exec 3>>"$desk/owner" || fail 5 'cannot write' cannot_make "$desk/owner"
     if ! flock -n 3; then
-        [ ! -s "$desk/now" ] || fail 2 'a batch is what the desk keeps open'
+        [ ! -s "$desk/now" ] || fail 2 'a batch is what the desk keeps open: end the desk first (systemctl stop uuspool-desk)'
         flock -w "$patience" 3 || fail 3 "no turn within $patience seconds" who_has "$file"
     fi
     ended=yes

@@ -1,5 +1,8 @@
 # shellcheck shell=sh disable=SC2034 # its users read the names
-# Finding the site: shared by uuspool, uuspool-desk and uulog.
+# What commands share: finding the site, its log, who holds a lock, and the size of a piece.
+
+# A file that is too large for a job goes in pieces of so many bytes. The last piece may be shorter.
+piece_size=1000000
 
 # Finds the site: find_site [FILE], where FILE is that of -c. It sets
 #   settings  the settings file
@@ -96,3 +99,19 @@ log_line() {
     case $logged in *[!\ -~]*) logged=$(printf %s "$logged" | tr -c ' -~' '?') ;; esac
     { printf '%s\n' "$logged" >>"$folder/log"; } 2>/dev/null || unlogged=yes
 }
+
+# Prints the process that holds a lock on a file. Fails if none does. /proc/locks names a file by
+# MAJOR:MINOR:INODE, and files of two devices may have the same inode number. If no mount has the
+# device that `stat` shows, as on btrfs, only the number is compared.
+holder_of() (
+    holder='' found=$(stat -L -c '%d %i' -- "$1" 2>/dev/null) || return
+    device=${found% *} place=${found#* }
+    major=$((device >> 8 & 4095)) minor=$((device & 255 | device >> 12 & 1048320))
+    if grep -q "^[0-9]* [0-9]* $major:$minor " /proc/self/mountinfo; then
+        place=$(printf '%02x:%02x:%s' "$major" "$minor" "$place")
+    fi
+    while read -r _ _ _ _ process its_place _; do
+        case :$its_place in *":$place") holder=$process ;; esac
+    done </proc/locks
+    [ -n "$holder" ] && printf '%s\n' "$holder"
+)
