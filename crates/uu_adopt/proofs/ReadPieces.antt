@@ -21,7 +21,7 @@ use Rattle.sqlite.specs.State as db
 use Rattle.sqlite_sql.specs.Ops.{unary}
 use Rattle.sqlite_keyed.proofs.ListLemmas.{map-map, map_same, ascending-map, ascending_weaker, all_map, all_weaker}
 use Rattle.sqlite_keyed.proofs.SortLemmas.{sorted_unique}
-use Rattle.sqlite_trees.proofs.ListLemmas.{all_permutation, pull_back}
+use Rattle.sqlite_trees.proofs.ListLemmas.{all-permutation, pull_back}
 use Rattle.uu_schema.specs.Steps.{Stands}
 use Rattle.uu_schema.proofs.Asks.{ordered}
 use Rattle.uu_schema.proofs.Rows.{all_stay}
@@ -151,7 +151,7 @@ module _ (v : Version) (a b : db.State) (rows : List Row) (stands : Stands (sche
       let rs = back.0 in
       let shows : map size_shown rs ≡ map size_cells (map (λ n. n.size) ns) =
       sym (map-map rest shown rs) ∙ ap (map rest) (sym back.2) ∙ map-map rest numbered_cells ns ∙ sym (map-map size_cells (λ n. n.size) ns) in
-      let made = built rs (map (λ n. n.size) ns) (all_permutation HasBytes table rs back.1 (piece_rows_are v a.now.trees stands.sound)) shows in
+      let made = built rs (map (λ n. n.size) ns) (all-permutation HasBytes table rs back.1 (piece_rows_are v a.now.trees stands.sound)) shows in
       record {
         ps = map piece_of rs;
         same = subst (λ l. IsPermutation l (map (columns piece_places) table)) (sym made.rows) (IsPermutation-map (columns piece_places) _ _ (IsPermutation-sym table rs back.1));

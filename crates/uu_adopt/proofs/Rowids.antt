@@ -19,7 +19,7 @@ use Rattle.sqlite.specs.Query.{IsAnswer}
 use Rattle.sqlite.specs.Program.{overlay}
 use Rattle.sqlite_keyed.specs.Lists.{insert_sorted, sort_by}
 use Rattle.sqlite_keyed.proofs.ListLemmas.{map-map, ascending-map, ascending_weaker}
-use Rattle.sqlite_trees.proofs.ListLemmas.{all_permutation, ascending_from_map, pull_back}
+use Rattle.sqlite_trees.proofs.ListLemmas.{all-permutation, ascending_from_map, pull_back}
 use Rattle.sqlite_typed.proofs.TestLemmas.{last_key}
 use Rattle.sqlite_rules.proofs.ListLemmas.{all_has, all_from}
 use Rattle.sqlite_rules.proofs.TableLemmas.{int_is}
@@ -123,7 +123,7 @@ ids_apart table rows moved it =
     let ordered : IsTable rs = ascending_from_map (λ u v. value_cmp u v ≡ Less) (λ (r : Row). column r 0) rs (subst (IsAscending (λ u v. value_cmp u v ≡ Less)) (sym cells) rising) in
     let away = IsPermutation-sym table rs back.1 in
     let apart = once rs ordered in
-    (all_permutation (λ r. IsTrue (is_int (rowid r))) rs table away (ints_are rs ids cells), λ x y j k. apart x y (has_moved table rs x back.1 j) (has_moved table rs y back.1 k))
+    (all-permutation (λ r. IsTrue (is_int (rowid r))) rs table away (ints_are rs ids cells), λ x y j k. apart x y (has_moved table rs x back.1 j) (has_moved table rs y back.1 k))
 
 -- ---- what the question on the rowids of a table says of its rows, both ways
 
@@ -142,7 +142,7 @@ module _ (tree : ℕ) (db : Trees) (rows : List Row) (bare : overlay db [] tree 
   )
 
   all_sorted : (order : Row → Row → Ordering) (P : Row → Type 0) (new : Row) (rs : List Row) → P new → AllByRecursion P rs → AllByRecursion P (insert_sorted order new rs)
-  all_sorted order P new rs h all = all_permutation P (new ∷ rs) (insert_sorted order new rs) (IsPermutation-sym _ _ (IsPermutation-insert_sorted order new rs)) (h, all)
+  all_sorted order P new rs h all = all-permutation P (new ∷ rs) (insert_sorted order new rs) (IsPermutation-sym _ _ (IsPermutation-insert_sorted order new rs)) (h, all)
 
   abbrev rowid_order : Row → Row → Ordering
   rowid_order x y = value_cmp (column x 0) (column y 0)
@@ -170,7 +170,7 @@ module _ (tree : ℕ) (db : Trees) (rows : List Row) (bare : overlay db [] tree 
   ids_held rs moved other numbered each =
       let back = IsPermutation-sym rs (db tree) moved in
       let apart = no_ties rs (λ x y j k. each x y (has_moved rs (db tree) x moved j) (has_moved rs (db tree) y moved k)) other in
-      let mine : AreNumbered rs = all_permutation (λ r. IsTrue (is_int (rowid r))) (db tree) rs back numbered in
+      let mine : AreNumbered rs = all-permutation (λ r. IsTrue (is_int (rowid r))) (db tree) rs back numbered in
       let ss = sort_by rowid_order rs in
       let is : rows ≡ map id_shown ss =
       answer_sorted tree [] (at_places (0 ∷ [])) (by_places (0 ∷ [])) db [] rows bare a rs (λ r. r) rowid_order (λ x y. last_key refl) apart

@@ -14,7 +14,7 @@ use Rattle.sqlite.specs.State as db
 use Rattle.sqlite_sql.specs.Ops.{unary}
 use Rattle.sqlite_sql.specs.Text.{length_of}
 use Rattle.sqlite_keyed.proofs.ListLemmas.{map-map, map_same, ascending-map, ascending_weaker, all_map}
-use Rattle.sqlite_trees.proofs.ListLemmas.{all_permutation, ascending_from_map, pull_back}
+use Rattle.sqlite_trees.proofs.ListLemmas.{all-permutation, ascending_from_map, pull_back}
 use Rattle.sqlite_typed.proofs.TestLemmas.{then_key, last_key}
 use Rattle.sqlite_value.proofs.OrderLemmas.{value_cmp-Int}
 use Rattle.uu_schema.specs.Steps.{Stands}
@@ -124,7 +124,7 @@ module _ (v : Version) (a b c : db.State) (rows ids : List Row) (stands : Stands
   finds_sizes (Some all) read = record {
     all = (
         let back = pull_back size_shown _ _ (subst (IsPermutation (map size_shown table)) read.rows_are moved) table refl in
-        let it = built back.0 all.items (all_permutation HasBytes table back.0 back.1 (piece_rows_are v a.now.trees stands.sound)) (sym back.2) in
+        let it = built back.0 all.items (all-permutation HasBytes table back.0 back.1 (piece_rows_are v a.now.trees stands.sound)) (sym back.2) in
         let apart = ids_found pieces.tree a.now.trees ids refl id_rows read.rowids in
         (map piece_of back.0, record { same = subst (λ l. IsPermutation l (map (columns piece_places) table)) (sym it.rows) (IsPermutation-map (columns piece_places) _ _ (IsPermutation-sym table back.0 back.1)); numbered = apart.0; once = apart.1 }, it.sizes, read.readable));
     only = λ ps good rise keyed. same_all size_cells size_back IsTypedSize (λ x g. size_returns x) all.items (map size_of ps) read.readable (all_map IsTypedSize size_of ps good) (sym read.rows_are ∙ only ps keyed.same rise);

@@ -19,7 +19,7 @@ use Rattle.sqlite_sql.specs.declared.ops.BinaryOp.TheVariants.{Compare, Is, Or}
 use Rattle.sqlite_sql.specs.declared.ops.CompareOp.TheVariants.{Eq}
 use Rattle.sqlite_keyed.specs.Lists.{sort_by}
 use Rattle.sqlite_keyed.proofs.ListLemmas.{ascending_weaker, ascending-filter, ascending-map, slice_get-filter}
-use Rattle.sqlite_trees.proofs.ListLemmas.{all_permutation}
+use Rattle.sqlite_trees.proofs.ListLemmas.{all-permutation}
 use Rattle.sqlite_typed.proofs.TestLemmas.{truth_or, at_ints, at_texts, at_or, at_is_null, then_term, last_term, then_key, last_key}
 use Rattle.sqlite_value.specs.Order.{value_cmp}
 use Rattle.sqlite_value.proofs.OrderLemmas.{value_cmp-Int}
@@ -88,7 +88,7 @@ all_kept P p (x ∷ xs) all = elim (p x) as (λ b. AllByRecursion P (cond b (x �
 
 all_sorted : (hs : List JobHead) → AllByRecursion IsTypedHead hs → AllByRecursion IsTypedHead (sort_by by_rank hs)
 all_sorted [] all = tt
-all_sorted (h ∷ hs) all = all_permutation IsTypedHead _ _ (IsPermutation-sym _ _ (IsPermutation-insert_sorted by_rank h (sort_by by_rank hs))) (all.0, all_sorted hs all.1)
+all_sorted (h ∷ hs) all = all-permutation IsTypedHead _ _ (IsPermutation-sym _ _ (IsPermutation-insert_sorted by_rank h (sort_by by_rank hs))) (all.0, all_sorted hs all.1)
 
 pub jobs_listed : (old new : db.State) (s : State) (f : Filter) (rows : List Row) → IsStateOf s old → db.Shown jobs_text (sought f) old new rows → (found : List JobHead) → AllByRecursion IsTypedHead found → rows ≡ map job_cells found → found ≡ listed_jobs f s
 jobs_listed old new s f rows of h found good read =

@@ -14,7 +14,7 @@ use Rattle.sqlite.specs.Tree.{IsAscending, rowid, has_rowid, without_rowid, put_
 use Rattle.sqlite.specs.View.{is_int}
 use Rattle.sqlite.specs.Edit.{is_taken}
 use Rattle.sqlite_value.proofs.OrderLemmas.{value_cmp_total}
-use Rattle.sqlite_trees.proofs.ListLemmas.{all_permutation, filter_same as filter_alike_on}
+use Rattle.sqlite_trees.proofs.ListLemmas.{all-permutation, filter_same as filter_alike_on}
 use Rattle.sqlite_rules.specs.Lists.{Has}
 use Rattle.sqlite_rules.proofs.ListLemmas.{all_has, all_from, has_filtered, has_kept}
 use Rattle.sqlite_rules.proofs.ProbeLemmas.{has_mapped, mapped_has}
@@ -98,7 +98,7 @@ module _ {K X : Type 0} (key : X → K) where
   moves : (xs ys : List X) → IsPermutation xs ys → Moves xs ys
   moves = along_permutation Moves
       (λ xs. (IsPermutation-refl xs, λ up. up))
-      (λ x xs ys h. (IsPermutation-cons x xs ys h.0, λ up. (all_permutation (λ b. key x ≢ key b) xs ys h.0 up.0, h.1 up.1)))
+      (λ x xs ys h. (IsPermutation-cons x xs ys h.0, λ up. (all-permutation (λ b. key x ≢ key b) xs ys h.0 up.0, h.1 up.1)))
       (λ x y xs. (IsPermutation-swap (x ∷ y ∷ xs) (y ∷ x ∷ xs) 0 1 (omega arith) (omega arith) refl, λ up. (((λ e. up.0.0 (sym e)), up.1.0), (up.0.1, up.1.1))))
       (λ xs ys zs h k. (IsPermutation-trans xs ys zs h.0 k.0, λ up. k.1 (h.1 up)))
 
@@ -148,7 +148,7 @@ module _ {K X : Type 0} (key : X → K) (cells : X → Row) (places : List ℕ) 
 
   -- what is true of all cells
   pub all_cells : (P : Row → Type 0) → ((x : X) → P (cells x)) → (xs : List X) (rows : List Row) → Keyed key cells places xs rows → AllByRecursion (λ r. P (columns places r)) rows
-  all_cells P each xs rows h = all_unmap P (columns places) rows (all_permutation P (map cells xs) (map (columns places) rows) h.same (all-map P cells each xs))
+  all_cells P each xs rows h = all_unmap P (columns places) rows (all-permutation P (map cells xs) (map (columns places) rows) h.same (all-map P cells each xs))
 
   pub one_more : (x : X) (xs : List X) (r : Row) (rows : List Row) → Keyed key cells places xs rows → columns places r ≡ cells x → IsTrue (is_int (rowid r)) → is_taken rows r ≡ false
       → ((y : X) (s : Row) → Has rows s → columns places s ≡ cells y → key y ≢ key x) → Keyed key cells places (x ∷ xs) (put_row r rows)
