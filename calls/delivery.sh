@@ -33,11 +33,12 @@ deliver() {
     esac
 }
 
-# The line of the command: sets $program, $flags and the neighbours.
+# The line of the command: sets $program, and $flags, its other words with a blank on each side.
 find_command() {
     [ -r "$etc/commands" ] || wait_for "there is no readable file $etc/commands" || return
-    while read -r name program flags; do
-        case $name in '#'*) ;; "$1") return 0 ;; esac
+    while read -r command program flags || [ -n "$command" ]; do
+        # shellcheck disable=SC2086 # words, which may have tabs between them
+        case $command in '#'*) ;; "$1") flags=" $(printf '%s ' $flags)" && return ;; esac
     done <"$etc/commands"
     refuse "$own has no command $1 for neighbours: $etc/commands has no line of it"
 }
@@ -45,16 +46,16 @@ find_command() {
 # Whether the sender may use it. Those of this site may.
 may_use() {
     users=$(printf '%s' "$flags" | sed 's/+[^ ]*//g')
-    case " $users " in *[!\ ]*) ;; *) return 0 ;; esac
-    case " $users " in *" ${sender:-$own} "*) return 0 ;; esac
+    case $users in *[!\ ]*) ;; *) return 0 ;; esac
+    case $users in *" ${sender:-$own} "*) return 0 ;; esac
     [ -z "$sender" ] || refuse "$own does not let $sender run $1: $etc/commands names other neighbours"
 }
 
 check_words() {
-    case " $flags " in *' +no-words '*) [ $# = 1 ] || refuse "$own lets $1 have no words" || return ;; esac
-    case " $flags " in *' +options '*) return 0 ;; esac
-    for word; do
-        case $word in -*) refuse "$own lets no word of $1 begin with a hyphen: $word" || return ;; esac
+    case $flags in *' +no-words '*) [ $# = 1 ] || refuse "$own lets $1 have no words" || return ;; esac
+    case $flags in *' +options '*) return 0 ;; esac
+    for argument; do
+        case $argument in -*) refuse "$own lets no word of $1 begin with a hyphen: $argument" || return ;; esac
     done
 }
 
@@ -79,8 +80,8 @@ run_command() {
 find_public() {
     public=${UUSPOOL_PUBLIC:-/var/spool/uucppublic}
     [ -r "$etc/public" ] || return 0
-    while read -r name folder; do
-        [ "$name" != "${sender:-$own}" ] || public=$folder
+    while read -r neighbour its_folder || [ -n "$neighbour" ]; do
+        [ "$neighbour" != "${sender:-$own}" ] || public=$its_folder
     done <"$etc/public"
 }
 
