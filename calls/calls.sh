@@ -51,7 +51,6 @@ enter_site() {
     # shellcheck disable=SC3067 # dash and bash have -O
     [ -O . ] || fail "$later" "$folder belongs to $(stat -c %U .): runuser -u $(stat -c %U .) -- ${0##*/} .."
     [ -s "$file" ] || fail "$not_set_up" "the spool $file is missing or empty: a lost one comes from a backup, and uuspool init makes the first one"
-    folder=$(pwd -P)
     if [ "$settings" = "$site/uuspool.toml" ]; then export UUSPOOL_DIR="$site"; fi
     mkdir -p calls deliver refused || fail "$later" "cannot write below $folder"
 }
@@ -78,10 +77,10 @@ one_line() {
 }
 
 ask_with() {
-    tries=5
+    asks_left=5
     until ask_once "$@"; do
-        case $status:$tries in [12]:* | *:0) return "$status" ;; esac
-        tries=$((tries - 1))
+        case $status:$asks_left in [12]:* | *:0) return "$status" ;; esac
+        asks_left=$((asks_left - 1))
         sleep 1
     done
 }
@@ -113,9 +112,9 @@ limited() {
     { timeout -k 10 "$@" <&3 3<&- 9>&- & } 3<&0
     child=$!
     wait "$child"
-    ended=$?
+    child_end=$?
     child=''
-    return "$ended"
+    return "$child_end"
 }
 
 # Lets a stop leave no running program and no folder.
