@@ -10,7 +10,7 @@ umask 077
 
 etc=${UUSPOOL_ETC:-/etc/uuspool}
 uuspool=$bin/uuspool
-me=${0##*/} own='' work='' child=''
+me=${0##*/} own='' owner='' work='' child=''
 usage=64 refused=69 later=75 not_set_up=78 # as in sysexits.h
 
 say() {
@@ -121,6 +121,41 @@ limited() {
 stop_cleanly() {
     trap 'if [ -n "$child" ]; then kill "$child" 2>/dev/null; fi; exit "$later"' HUP INT TERM
     trap 'if [ -n "$work" ]; then rm -rf -- "$work"; fi' EXIT
+}
+
+# Runs a program as the spool's user. $owner is its name, or '' if this process is that user's.
+as_owner() {
+    if [ -z "$owner" ] || [ "$(id -un)" = "$owner" ]; then "$@"; else runuser -u "$owner" -- "$@"; fi
+}
+
+# How to call a neighbour: find_carrier SYSTEM. It sets $entry, the file that says so, $carrier, a
+# program, and $its_words for it. The status is 1 if there is no such program, and $why says why.
+find_carrier() {
+    entry=$etc/calls/$1 carrier=$etc/calls/$1 its_words=$1
+    why="no readable file $entry says how to call $1: see uuspool-setup"
+    [ ! -h "$entry" ] || [ -e "$entry" ] || why="$entry is a link to $(readlink -- "$entry"), which isn't there"
+    [ -f "$entry" ] || return
+    ! as_owner test -x "$entry" || return 0
+    as_owner test -r "$entry" || return
+    # shellcheck disable=SC2046 # words, which may have tabs between them
+    read_entry "$1" $(grep -m 1 '^[^#]' "$entry")
+}
+
+# The words of such a file's line: read_entry SYSTEM CARRIER WORDS..
+read_entry() {
+    why="$entry is empty, so nothing says how to call $1"
+    [ $# -gt 1 ] || return
+    case $2 in */*) carrier=$2 ;; *) carrier=$lib/carriers/$2 ;; esac
+    why="$entry names the carrier $2, and there is no program $carrier"
+    its_words=$1
+    shift 2
+    its_words="$its_words $*"
+    as_owner test -x "$carrier" && [ ! -d "$carrier" ]
+}
+
+# The neighbours that no night calls.
+list_held() {
+    find "$folder/calls" -name '*.hold' -printf '%f\n' 2>/dev/null | sed 's/\.hold$//' | sort
 }
 
 # A folder for this process, not on the spool's disk, so that calls can empty a full one. Folders of
