@@ -92,7 +92,7 @@ explain_spool() {
         return
     fi
     [ -s "$work/said" ] || no_room
-    tr '\n' ' ' <"$work/said" | sed 's/uuspool: cause: //; s/ *$//' | plain
+    one_line <"$work/said" | plain
 }
 
 # Whether a bundle has a job. A job's bytes may look like one, but then it has one.

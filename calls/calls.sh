@@ -73,7 +73,7 @@ ask() {
 }
 
 one_line() {
-    printf '%s\n' "$1" | tr '\n' ' ' | sed 's/uuspool: cause: //; s/ *$//'
+    tr '\n' ' ' | sed 's/uuspool: cause: //; s/ *$//'
 }
 
 ask_with() {
@@ -90,7 +90,7 @@ ask_once() {
     shift
     said=$("$uuspool" "$@" <"$input" 2>&1)
     status=$?
-    case $status in [01]) ;; *) said=$(one_line "$said") ;; esac
+    case $status in [01]) ;; *) said=$(printf '%s\n' "$said" | one_line) ;; esac
     return "$status"
 }
 
