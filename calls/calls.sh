@@ -22,10 +22,12 @@ fail() {
     exit "$1"
 }
 
-# Adds a line to the site's log: note SYSTEM USER JOB HOW WORDS.., with `-` for a missing word.
+# Adds a line to the site's log: note SYSTEM USER JOB HOW WORDS.., with `-` for a missing word. If
+# the log can't be written, the line is printed, because nothing else keeps it.
 note() {
-    moment=''
+    moment='' unlogged=''
     log_line "$@"
+    [ -z "$unlogged" ] || say "$folder/log cannot be written, and lacks: $logged"
 }
 
 # A text from outside as one line of printable characters.
