@@ -36,8 +36,8 @@ take_bundle() {
     if grep -q ' refused NoSystem$' "$work/taken"; then
         fault="the sys file here has to define $own, this site's own name${onward:+, and $onward}"
     fi
-    while read -r _ word number reason; do
-        if [ "$word" = refused ]; then heed_refusal; fi
+    while read -r _ its_word its_number its_reason; do
+        if [ "$its_word" = refused ]; then heed_refusal; fi
     done <"$work/settled"
 }
 
@@ -45,32 +45,31 @@ take_bundle() {
 # job again, so the job gets another number. If this site's spool was put back or got another WORD,
 # the job may have come before, and then comes twice.
 heed_refusal() {
-    case $reason in
+    case $its_reason in
     Differs | Stale)
-        was=$number
         if requeue_refused; then
             requeued=$((requeued + 1))
-            note "$system" "$user" "$was" requeued "as $said, since $system has another job of this number ($reason)"
+            note "$system" "$user" "$its_number" requeued "as $said, since $system has another job of this number ($its_reason)"
         else
-            why="$system refuses job $number ($reason), and it cannot be queued anew: $said"
+            why="$system refuses job $next_number ($its_reason), and it cannot be queued anew: $said"
         fi
         ;;
-    TooLarge) show_job "$number" && refuse_job "it is too large for $system" ;;
+    TooLarge) show_job "$its_number" && refuse_job "it is too large for $system" ;;
     NoSystem) why="the sys file of $system has to define $system, its own name" ;;
-    *) why="the spool of $system refuses job $number: $reason" ;;
+    *) why="the spool of $system refuses job $its_number: $its_reason" ;;
     esac
 }
 
 # Queues it anew. The neighbour doesn't say up to which number it forgot all (Stale), so each bundle
 # of a call that says so passes twice as many numbers as the one before, by its first such job.
 requeue_refused() {
-    times=1
-    if [ "$reason:$passed" = Stale: ]; then
+    times=1 next_number=$its_number
+    if [ "$its_reason:$passed" = Stale: ]; then
         times=$((1 << (passes < 10 ? passes : 10))) passes=$((passes + 1)) passed=yes
     fi
-    while requeue "$number" "$system"; do
-        number=${queued#job } times=$((times - 1))
-        number=${number%%[!0-9]*}
+    while requeue "$next_number" "$system"; do
+        next_number=${queued#job } times=$((times - 1))
+        next_number=${next_number%%[!0-9]*}
         [ "$times" -gt 0 ] || return 0
     done
     return 1
@@ -93,7 +92,7 @@ explain_spool() {
         return
     fi
     [ -s "$work/said" ] || no_room
-    tr '\n' ' ' <"$work/said" | sed 's/uuspool: cause: //; s/ *$//' | plain
+    one_line <"$work/said" | plain
 }
 
 # Whether a bundle has a job. A job's bytes may look like one, but then it has one.

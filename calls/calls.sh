@@ -10,7 +10,7 @@ umask 077
 
 etc=${UUSPOOL_ETC:-/etc/uuspool}
 uuspool=$bin/uuspool
-me=${0##*/} own='' work='' child=''
+me=${0##*/} own='' owner='' work='' child=''
 usage=64 refused=69 later=75 not_set_up=78 # as in sysexits.h
 
 say() {
@@ -22,10 +22,12 @@ fail() {
     exit "$1"
 }
 
-# Adds a line to the site's log: note SYSTEM USER JOB HOW WORDS.., with `-` for a missing word.
+# Adds a line to the site's log: note SYSTEM USER JOB HOW WORDS.., with `-` for a missing word. If
+# the log can't be written, the line is printed, because nothing else keeps it.
 note() {
-    moment=''
+    moment='' unlogged=''
     log_line "$@"
+    [ -z "$unlogged" ] || say "$folder/log cannot be written, and lacks: $logged"
 }
 
 # A text from outside as one line of printable characters.
@@ -51,7 +53,6 @@ enter_site() {
     # shellcheck disable=SC3067 # dash and bash have -O
     [ -O . ] || fail "$later" "$folder belongs to $(stat -c %U .): runuser -u $(stat -c %U .) -- ${0##*/} .."
     [ -s "$file" ] || fail "$not_set_up" "the spool $file is missing or empty: a lost one comes from a backup, and uuspool init makes the first one"
-    folder=$(pwd -P)
     if [ "$settings" = "$site/uuspool.toml" ]; then export UUSPOOL_DIR="$site"; fi
     mkdir -p calls deliver refused || fail "$later" "cannot write below $folder"
 }
@@ -74,14 +75,14 @@ ask() {
 }
 
 one_line() {
-    printf '%s\n' "$1" | tr '\n' ' ' | sed 's/uuspool: cause: //; s/ *$//'
+    tr '\n' ' ' | sed 's/uuspool: cause: //; s/ *$//'
 }
 
 ask_with() {
-    tries=5
+    asks_left=5
     until ask_once "$@"; do
-        case $status:$tries in [12]:* | *:0) return "$status" ;; esac
-        tries=$((tries - 1))
+        case $status:$asks_left in [12]:* | *:0) return "$status" ;; esac
+        asks_left=$((asks_left - 1))
         sleep 1
     done
 }
@@ -91,7 +92,7 @@ ask_once() {
     shift
     said=$("$uuspool" "$@" <"$input" 2>&1)
     status=$?
-    case $status in [01]) ;; *) said=$(one_line "$said") ;; esac
+    case $status in [01]) ;; *) said=$(printf '%s\n' "$said" | one_line) ;; esac
     return "$status"
 }
 
@@ -113,15 +114,50 @@ limited() {
     { timeout -k 10 "$@" <&3 3<&- 9>&- & } 3<&0
     child=$!
     wait "$child"
-    ended=$?
+    child_end=$?
     child=''
-    return "$ended"
+    return "$child_end"
 }
 
 # Lets a stop leave no running program and no folder.
 stop_cleanly() {
     trap 'if [ -n "$child" ]; then kill "$child" 2>/dev/null; fi; exit "$later"' HUP INT TERM
     trap 'if [ -n "$work" ]; then rm -rf -- "$work"; fi' EXIT
+}
+
+# Runs a program as the spool's user. $owner is its name, or '' if this process is that user's.
+as_owner() {
+    if [ -z "$owner" ] || [ "$(id -un)" = "$owner" ]; then "$@"; else runuser -u "$owner" -- "$@"; fi
+}
+
+# How to call a neighbour: find_carrier SYSTEM. It sets $entry, the file that says so, $carrier, a
+# program, and $its_words for it. The status is 1 if there is no such program, and $why says why.
+find_carrier() {
+    entry=$etc/calls/$1 carrier=$etc/calls/$1 its_words=$1
+    why="no readable file $entry says how to call $1: see uuspool-setup"
+    [ ! -h "$entry" ] || [ -e "$entry" ] || why="$entry is a link to $(readlink -- "$entry"), which isn't there"
+    [ -f "$entry" ] || return
+    ! as_owner test -x "$entry" || return 0
+    as_owner test -r "$entry" || return
+    # shellcheck disable=SC2046 # words, which may have tabs between them
+    read_entry "$1" $(grep -m 1 '^[^#]' "$entry")
+}
+
+# The words of such a file's line: read_entry SYSTEM CARRIER WORDS..
+read_entry() {
+    why="$entry is empty, so nothing says how to call $1"
+    [ $# -gt 1 ] || return
+    case $2 in */*) carrier=$2 ;; *) carrier=$lib/carriers/$2 ;; esac
+    why="$entry names the carrier $2, and there is no program $carrier"
+    its_words=$1
+    shift 2
+    its_words="$its_words $*"
+    as_owner test -x "$carrier" && [ ! -d "$carrier" ]
+}
+
+# The neighbours that no night calls.
+list_held() {
+    find "$folder/calls" -name '*.hold' -printf '%f\n' 2>/dev/null | sed 's/\.hold$//' | sort
 }
 
 # A folder for this process, not on the spool's disk, so that calls can empty a full one. Folders of

@@ -6,12 +6,13 @@
 
 sendmail=${UUSPOOL_SENDMAIL:-/usr/sbin/sendmail}
 
-# The job, as `show` prints it. $shown has its line and bytes, and the variables have its fields.
+# The job, as `show` prints it. $shown has its line and bytes. $number, $its_system, $user, $grade,
+# $day, $hour, $size, $kind and $words are its fields.
 show_job() {
     shown=$work/$1 number=$1
     "$uuspool" show "$1" >"$shown" 2>"$work/said"
     case $? in
-    0) read -r _ system user grade day hour size kind words <"$shown" ;;
+    0) read -r _ its_system user grade day hour size kind words <"$shown" ;;
     1) return 1 ;;
     *) fail "$later" "job $1 cannot be shown: $(plain <"$work/said"; [ -s "$work/said" ] || no_room)" ;;
     esac
@@ -48,15 +49,15 @@ begin_move() {
 # What stays the same of the job in $shown while it waits. A new spool, which gives its numbers
 # again, has another word.
 name_job() {
-    printf '%s %s %s %s %s' "$(cat "$file-word" 2>/dev/null)" "$system" "$user" "$size" "$kind $words"
+    printf '%s %s %s %s %s' "$(cat "$file-word" 2>/dev/null)" "$its_system" "$user" "$size" "$kind $words"
 }
 
 # Queues it anew: finish_move SYSTEM WORDS. If it is refused, it waits for its system as before.
 finish_move() {
     if requeue "$number" "$1" "$2"; then
-        note "$1" "$user" "${queued#job }" moved "from $system, where it was job $number"
+        note "$1" "$user" "${queued#job }" moved "from $its_system, where it was job $number"
     elif [ -n "$queued" ] || [ "$status" -gt 2 ]; then
-        said="it may wait for both $system and $1 until the next call of one of them: $said"
+        said="it may wait for both $its_system and $1 until the next call of one of them: $said"
         return 1
     fi
     rm -f -- "moves/$number"
@@ -68,11 +69,11 @@ finish_move() {
 finish_moves() (
     [ -d moves ] || exit 0
     for moved in $(find moves -name '[0-9]*' -printf '%f\n'); do
-        { IFS= read -r named && read -r goal its_words; } 2>/dev/null <"moves/$moved" || continue
+        { IFS= read -r named && read -r goal goal_words; } 2>/dev/null <"moves/$moved" || continue
         if ! show_job "$moved" || [ "$(name_job)" != "$named" ]; then
             rm -f -- "moves/$moved"
-        elif [ "${1:-$goal}" = "$goal" ] || [ "$1" = "$system" ]; then
-            finish_move "$goal" "$its_words" || [ ! -e "moves/$moved" ] || fail "$later" "job $moved is half moved: $said"
+        elif [ "${1:-$goal}" = "$goal" ] || [ "$1" = "$its_system" ]; then
+            finish_move "$goal" "$goal_words" || [ ! -e "moves/$moved" ] || fail "$later" "job $moved is half moved: $said"
         fi
     done
 )
@@ -84,7 +85,7 @@ remove_job() {
 refuse_job() {
     reason=$(printf '%.500s' "$1" | tr -c ' -~' '?')
     if keep_job && send_letter && remove_job; then
-        note "$system" "$user" "$number" refused-for-good "$reason"
+        note "$its_system" "$user" "$number" refused-for-good "$reason"
     else
         say "job $number cannot be refused now, and waits: $said"
         return 1
@@ -118,7 +119,7 @@ $reason." >"$work/letter" || return
 write_letter() {
     printf 'From: MAILER-DAEMON (%s)\nTo: %s\nSubject: %s: %s\nAuto-Submitted: auto-replied\n\n' \
         "$own" "${user:-postmaster}" "$1" "$(printf '%.60s' "$kind $words")"
-    printf 'A job of yours, %s bytes for %s, %s:\n\n    %s %s\n%s\n\n' "$size" "$system" "$2" "$kind" "$words" "$3"
+    printf 'A job of yours, %s bytes for %s, %s:\n\n    %s %s\n%s\n\n' "$size" "$its_system" "$2" "$kind" "$words" "$3"
     printf 'It was queued at %s on %s at %s as job %s. It begins:\n\n' "$own" "$day" "$hour" "$number"
     tail -n +2 -- "$shown" | head -c 2000 | head -n 20 | tr -c ' -~\n\t' '?' | sed 's/^/> /'
 }
