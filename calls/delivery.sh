@@ -131,7 +131,7 @@ keep_piece() {
 # pieces stay only if that can be done later. Their lock is removed last.
 put_pieces() {
     whole=$pieces/whole count=0
-    while [ $((count * 1000000)) -lt "$2" ]; do
+    while [ $((count * piece_size)) -lt "$2" ]; do
         [ -e "$pieces/$count" ] || return 0
         count=$((count + 1))
     done
