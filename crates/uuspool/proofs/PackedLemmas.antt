@@ -247,10 +247,10 @@ module _ (system : List ℕ) (make : Packed → NewJob) (s : State) where
       numbered : IsNumbered packed
       numbered = All-head IsNumbered packed asked all
 
-      one : (reason : Option Refusal) → All IsRefused (refused_for (handed packed_bundle) reason)
+      one : (reason : Option Refusal) → All IsRefused (refused_for (handed packed) reason)
       one None = All-nil IsRefused
       one (Some reason) =
-          All-cons IsRefused (record { number = packed_bundle.parcel.number; mark = packed_bundle.mark; reason = reason }) [] (record { number = numbered.0; mark = numbered.1 }) (All-nil IsRefused)
+          All-cons IsRefused (record { number = packed.parcel.number; mark = packed.mark; reason = reason }) [] (record { number = numbered.0; mark = numbered.1 }) (All-nil IsRefused)
 
 abbrev pub SoundAnswer : Type 0
 SoundAnswer = (heading : Heading) (taken : List Taken) (refused : List Refused) (jobs : List Parcel) → IsHeading heading → AreTaken taken → All IsRefused refused → All (IsGiven heading) jobs
