@@ -11,7 +11,7 @@ use std::io::ErrorKind;
 use std::process::Abort;
 use std::rt::Files;
 use uu_store::Reply::{Done, Number};
-use uu_store::{Command, Reply, RunEnd, Spool, open_spool};
+use uu_store::{Command, Reply, RunEnd, Spool, StoreFault, open_spool};
 
 const FILE: &str = "stretches.db";
 
@@ -58,15 +58,21 @@ fn ended_and_let_go<S: Alter + Drop, F: Drop>(
     Some(end)
 }
 
-/// Gives a spool the commands, and closes its files. How they ended, if the files were closed.
-fn ended_and_closed<D: Disk + Drop, F: Drop>(
+/// Gives a spool the commands, and closes its files.
+fn run_and_close<D: Disk + Drop>(
     alloc: Global,
-    opened: Result<Spool<FileStore<D>>, F>,
+    spool: Spool<FileStore<D>>,
     commands: Vec<Command>,
-) -> Option<RunEnd> {
-    let mut spool = opened.ok()?;
+) -> (RunEnd, Result<sqlite::Files<D>, (StoreFault, FileStore<D>)>) {
+    let mut spool = spool;
     let end = spool.run(alloc, commands);
-    match spool.close() {
+    (end, spool.close())
+}
+
+/// How the commands ended, if the files were closed.
+fn ended_and_closed<E: Drop, G: Drop>(worked: (RunEnd, Result<G, E>)) -> Option<RunEnd> {
+    let (end, closed) = worked;
+    match closed {
         Ok(_files) => Some(end),
         Err(_) => None,
     }
@@ -82,7 +88,10 @@ fn worked_and_closed<T: Start>(
     start: T,
     commands: Vec<Command>,
 ) -> Option<RunEnd> {
-    ended_and_closed(host.alloc(), open_spool(host, FILE, start), commands)
+    match open_spool(host, FILE, start) {
+        Ok(spool) => ended_and_closed(run_and_close(host.alloc(), spool, commands)),
+        Err(_) => None,
+    }
 }
 
 /// A stretch gets these commands, and gives these replies.
@@ -111,7 +120,16 @@ fn expect_closed_stretch<T: Start>(
 
 /// The next job gets number 4.
 fn expect_next<T: Start>(rt: &impl Abort, host: &HostRuntime, start: T) {
-    expect_next_in(rt, host.alloc(), open_spool(host, FILE, start));
+    expect_next_in_files(rt, host.alloc(), open_spool(host, FILE, start));
+}
+
+/// The same for the result of an opening.
+fn expect_next_in_files<D: Disk + Drop, F: Drop>(
+    rt: &impl Abort,
+    alloc: Global,
+    opened: Result<Spool<FileStore<D>>, F>,
+) {
+    expect_next_in(rt, alloc, opened);
 }
 
 /// The same over any store.
